@@ -1,0 +1,23 @@
+use Rattle.foyer_policy.proofs.LinkedLemmas.{AreLists-Linked}
+use Rattle.std.proofs.Common.{◌≡◌, rules, arith, length, sym, ◌∙◌, ◌<◌, ap, Some, IsSome}
+use Rattle.slab.specs.Slab.{get, slab_len}
+use Rattle.foyer_policy.specs.Chain.{lists_of}
+use Rattle.foyer_policy.specs.Lists.{find}
+use Rattle.foyer_policy.proofs.LinkedLemmas.{contains_found, found_node, FoundNode}
+use Rattle.foyer_policy.proofs.lists.Lists.get.Goals as goal
+
+pub index-requires : goal.index-requires
+index-requires g c =
+    let i = c.self.inside in
+    let there : IsSome (find c.place.inside.node (lists_of i.nodes i.heads)) = search rules in
+    contains_found i.nodes i.heads i.tails (lists_of i.nodes i.heads) c.place.inside.node c.self.invariant.linked there
+
+pub returns-clause-value : goal.returns-clause-value
+returns-clause-value g c =
+    let i = c.self.inside in
+    let there : IsSome (find c.place.inside.node (lists_of i.nodes i.heads)) = search rules in
+    let f = found_node (get i.nodes) i.heads i.tails (lists_of i.nodes i.heads) c.place.inside.node c.index.result.now c.self.invariant.linked there c.index.ensures in
+    rw (← c.self.view_is, ← c.place.view_is) f.find_is
+
+pub returns-clause-apart : goal.returns-clause-apart
+returns-clause-apart g c = rw (← c.self.view_is) (AreLists-Linked (get c.self.inside.nodes) c.self.inside.heads c.self.inside.tails (lists_of c.self.inside.nodes c.self.inside.heads) g.row.N c.self.invariant.linked c.self.told)

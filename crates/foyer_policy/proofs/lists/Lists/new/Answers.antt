@@ -1,0 +1,17 @@
+use Rattle.std.proofs.Common.{None, [], ◌∙◌}
+use Rattle.std.specs.Prelude.{replicate}
+use Rattle.foyer_policy.proofs.LinkedLemmas.{Holds-new, Holds-again, lists_of-Holds, AreLists-Linked}
+use Rattle.std.proofs.lemmas.List.{length-replicate}
+use Rattle.foyer_policy.proofs.lists.Lists.new.Goals as goal
+
+pub invariant_of-result : goal.invariant_of-result
+invariant_of-result g c =
+    Holds-again c.new.result (replicate g.row.N None) (replicate g.row.N None) (replicate g.row.N []) (Holds-new c.new.result g.row.N c.new.ensures.empty)
+
+pub returns-clause-lists : goal.returns-clause-lists
+returns-clause-lists g c = lists_of-Holds c.new.result (replicate g.row.N None) (replicate g.row.N None) (replicate g.row.N []) (Holds-new c.new.result g.row.N c.new.ensures.empty)
+
+pub returns-clause-apart : goal.returns-clause-apart
+returns-clause-apart g c =
+    rw (lists_of-Holds c.new.result (replicate g.row.N None) (replicate g.row.N None) (replicate g.row.N []) (Holds-new c.new.result g.row.N c.new.ensures.empty))
+    (AreLists-Linked _ _ _ _ g.row.N (Holds-new c.new.result g.row.N c.new.ensures.empty).linked (simp length-replicate))

@@ -1,0 +1,34 @@
+use Rattle.foyer_policy.proofs.LinkedLemmas.{AreLists-Linked}
+use Rattle.std.proofs.Common.{◌≡◌, rules, arith, length, sym, ◌∙◌, ◌<◌, ap, Some, IsSome, get_or, None, subst, Option}
+use Rattle.slab.specs.Slab.{get, slab_len}
+use Rattle.foyer_policy.specs.Chain.{lists_of, walk}
+use Rattle.foyer_policy.specs.Lists.{find}
+use Rattle.foyer_policy.proofs.LinkedLemmas.{front_found, Front}
+use Rattle.foyer_policy.proofs.lists.Lists.pop_front.Goals as goal
+
+pub take_out-requires-clause-there : goal.take_out-requires-clause-there
+take_out-requires-clause-there g c =
+    let i = c.self.inside in
+    let lt : c.args.list < length (lists_of i.nodes i.heads) = omega (arith, c.self.invariant.linked.heads_len) in
+    let f = front_found (get i.nodes) i.heads i.tails (lists_of i.nodes i.heads) c.args.list c.in-Some.node c.self.invariant.linked lt c.in-Some.is in
+    rw f.there (search rules)
+
+pub returns-in-Some-clause-value : goal.returns-in-Some-clause-value
+returns-in-Some-clause-value g c =
+    let i = c.self.inside in
+    let lt : c.args.list < length (lists_of i.nodes i.heads) = omega (arith, c.self.invariant.linked.heads_len) in
+    let f = front_found (get i.nodes) i.heads i.tails (lists_of i.nodes i.heads) c.args.list c.in-Some.node c.self.invariant.linked lt c.in-Some.is in
+    rw (← c.self.view_is) (sym c.take_out.ensures.value ∙ f.there ∙ sym f.first)
+
+pub returns-in-Some-clause-lists : goal.returns-in-Some-clause-lists
+returns-in-Some-clause-lists g c =
+    let i = c.self.inside in
+    let lt : c.args.list < length (lists_of i.nodes i.heads) = omega (arith, c.self.invariant.linked.heads_len) in
+    let f = front_found (get i.nodes) i.heads i.tails (lists_of i.nodes i.heads) c.args.list c.in-Some.node c.self.invariant.linked lt c.in-Some.is in
+    rw (← c.self.view_is) (c.take_out.ensures.lists ∙ f.gone)
+
+pub returns-in-Some-clause-apart : goal.returns-in-Some-clause-apart
+returns-in-Some-clause-apart g c = rw (← c.self.view_is) (AreLists-Linked (get c.self.inside.nodes) c.self.inside.heads c.self.inside.tails (lists_of c.self.inside.nodes c.self.inside.heads) g.row.N c.self.invariant.linked c.self.told)
+
+pub returns-in-None-clause-apart : goal.returns-in-None-clause-apart
+returns-in-None-clause-apart g c = rw (← c.self.view_is) (AreLists-Linked (get c.self.inside.nodes) c.self.inside.heads c.self.inside.tails (lists_of c.self.inside.nodes c.self.inside.heads) g.row.N c.self.invariant.linked c.self.told)

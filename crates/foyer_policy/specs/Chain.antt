@@ -1,0 +1,65 @@
+-- How the nodes of a slab are linked.
+use Rattle.std.specs.Prelude.{◌≡◌, ◌==◌, ℕ, zero, suc, ◌+◌, ◌-◌, ◌<◌, List, [], ◌∷◌, ◌++◌, Option, Some, None, IsSome, length, map, sum_by, slice_index_or, slice_set, if◌then◌else◌, Bool, false}
+use Rattle.foyer_policy.specs.declared.lists.Node.{Node}
+use Rattle.slab.specs.Slab.{Slab, get, slab_len}
+use Rattle.foyer_policy.specs.Lists.{Lists, list_at, first_or, last_or, IsDistinct}
+
+-- whether an optional number is this one
+abbrev pub is_at : Option ℕ → ℕ → Bool
+is_at None q = false
+is_at (Some p) q = p == q
+
+-- the ends, where there is no node at this side
+abbrev pub end_set : Option ℕ → ℕ → Option ℕ → List (Option ℕ) → List (Option ℕ)
+end_set None k to ends = slice_set ends k to
+end_set (Some p) k to ends = ends
+
+module _ {T : Type 0} where
+  -- the entries from a node on, along the links, at most so many
+  abbrev pub walk_on : ℕ → Option (Node T) → (Option ℕ → List (ℕ × T)) → List (ℕ × T)
+  walk_on p None rest = []
+  walk_on p (Some node) rest = (p, node.value) ∷ rest node.after
+
+  abbrev pub walk : (ℕ → Option (Node T)) → ℕ → Option ℕ → List (ℕ × T)
+  walk f zero at = []
+  walk f (suc n) None = []
+  walk f (suc n) (Some p) = walk_on p (f p) (λ a. walk f n a)
+
+  -- the nodes of these entries are linked in their order, between these two
+  abbrev pub IsChain : (ℕ → Option (Node T)) → ℕ → Option ℕ → List (ℕ × T) → Option ℕ → Type 0
+  IsChain f k before [] after = Unit {0}
+  IsChain f k before (e ∷ es) after =
+      (f e.0 ≡ Some (record { value = e.1; list = k; before = before; after = first_or es after })) × IsChain f k (Some e.0) es after
+
+  -- the list k, with its head and its tail
+  pub record IsList (f : ℕ → Option (Node T)) (k : ℕ) (front back : Option ℕ) (l : List (ℕ × T)) : Type 0 where
+    pub head : front ≡ first_or l None
+    pub tail : back ≡ last_or l None
+    pub chain : IsChain f k None l None
+
+  -- the nodes, the heads and the tails are linked as these lists
+  pub record Linked (f : ℕ → Option (Node T)) (heads tails : List (Option ℕ)) (ls : List (List (ℕ × T))) : Type 0 where
+    pub heads_len : length heads ≡ length ls
+    pub tails_len : length tails ≡ length ls
+    pub each : (k : ℕ) → k < length ls → IsList f k (slice_index_or heads k None) (slice_index_or tails k None) (list_at ls k)
+    pub distinct : (k : ℕ) → k < length ls → IsDistinct (list_at ls k)
+
+  -- and there are no other nodes
+  pub record Holds (nodes : Slab (Node T)) (heads tails : List (Option ℕ)) (ls : List (List (ℕ × T))) : Type 0 where
+    pub linked : Linked (get nodes) heads tails ls
+    pub count : sum_by length ls ≡ slab_len nodes
+
+  abbrev pub lists_of : Slab (Node T) → List (Option ℕ) → List (List (ℕ × T))
+  lists_of nodes heads = map (walk (get nodes) (slab_len nodes)) heads
+
+  abbrev pub after_set : Option ℕ → Option (Node T) → Option (Node T)
+  after_set to None = None
+  after_set to (Some node) = Some (record { value = node.value; list = node.list; before = node.before; after = to })
+
+  abbrev pub before_set : Option ℕ → Option (Node T) → Option (Node T)
+  before_set to None = None
+  before_set to (Some node) = Some (record { value = node.value; list = node.list; before = to; after = node.after })
+
+  -- the nodes, the heads and the tails are lists
+  abbrev pub IsSound : Slab (Node T) → List (Option ℕ) → List (Option ℕ) → Type 0
+  IsSound nodes heads tails = Holds nodes heads tails (lists_of nodes heads)

@@ -1,0 +1,44 @@
+-- Refusals: what each reason has to do with, and its number.
+use Rattle.std.specs.Prelude.{ℕ}
+use Rattle.foyer_policy.specs.declared.error.ErrorKind.{ErrorKind}
+use Rattle.foyer_policy.specs.declared.error.ErrorKind.TheVariants.{Config, Memory, Limit, External, ChannelClosed as ClosedChannel, TaskCancelled as CancelledTask}
+use Rattle.foyer_policy.specs.declared.error.Reason.{Reason}
+use Rattle.foyer_policy.specs.declared.error.Reason.TheVariants.{NoShards, ZeroDenominator, RatioRange, RatioSum, NoRows, NoBuckets, NoMemory, Weight, Handles, Ids, Fetch, WrongKey, NoValue, ChannelClosed, TaskCancelled, Spent}
+
+-- what a reason has to do with
+abbrev pub kind_of : Reason → ErrorKind
+kind_of NoShards = Config
+kind_of ZeroDenominator = Config
+kind_of (RatioRange _) = Config
+kind_of RatioSum = Config
+kind_of NoRows = Config
+kind_of NoBuckets = Config
+kind_of NoMemory = Memory
+kind_of Weight = Limit
+kind_of Handles = Limit
+kind_of Ids = Limit
+kind_of (Fetch _) = External
+kind_of WrongKey = External
+kind_of NoValue = External
+kind_of ChannelClosed = ClosedChannel
+kind_of TaskCancelled = CancelledTask
+kind_of Spent = External
+
+-- the number of a refusal: 7 for F7
+abbrev pub number_of : Reason → ℕ
+number_of NoShards = 1
+number_of ZeroDenominator = 2
+number_of (RatioRange _) = 3
+number_of RatioSum = 4
+number_of NoRows = 5
+number_of NoBuckets = 6
+number_of NoMemory = 7
+number_of Weight = 8
+number_of Handles = 9
+number_of Ids = 10
+number_of (Fetch _) = 11
+number_of WrongKey = 12
+number_of NoValue = 13
+number_of ChannelClosed = 14
+number_of TaskCancelled = 15
+number_of Spent = 16

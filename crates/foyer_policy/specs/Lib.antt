@@ -1,0 +1,4 @@
+pub mod Errors
+pub mod Lists
+pub mod Chain
+pub mod Lends

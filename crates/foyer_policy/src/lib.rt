@@ -1,0 +1,10 @@
+//! Eviction policies over linked lists, and the types that all crates of the cache share.
+#![tactic(auto)]
+
+pub mod error;
+pub mod lists;
+pub mod types;
+
+pub use error::{Error, ErrorKind, Fault, Field, Reason, Result};
+pub use lists::{Lists, Place};
+pub use types::{Age, Event, Hint, Item, Key, Location, Ratio, Source, Value};

@@ -1,0 +1,289 @@
+
+
+ghost use Rattle.std.specs.Prelude.{◌≡◌, ◌≢◌, ℕ, ◌+◌, ◌-◌, ◌<◌, ◌≤◌, ◌∷◌, ◌++◌, [], List, Option, Some, None, OnOk, OnErr, IfOk, IfSome, IsSome, length, map, slice_index_or, slice_set, if◌then◌else◌, replicate, is_some};
+ghost use Rattle.std.specs.Option.{ForSome};
+ghost use Rattle.slab.specs.Slab.{get, slab_len, ContainsKey, HasRoomFor};
+ghost use Rattle.foyer_policy.specs.Lists.{list_at, first_or, find, find_in, first_value, rest, drop_place, with_value, moved, AreLists};
+ghost use Rattle.foyer_policy.specs.Chain.{is_at, after_set, before_set, end_set, lists_of, IsSound};
+
+use slab::Slab;
+use std::alloc::{AllocError, Global};
+use std::marker::Model;
+
+/// Names a node while it is in.
+#[derive(Clone, Copy, Debug, PartialEq, Eq)]
+pub struct Place {
+    node: usize,
+}
+
+impl Model for Place {
+    ghost use Rattle.std.specs.Prelude.{ℕ};
+
+    ghost Value = { ℕ };
+
+    ghost view = { λ p. p.node };
+
+    ghost inverse = { λ n. record { node = n } };
+}
+
+#[derive(Drop)]
+struct Node<T> {
+    value: T,
+    list: usize,
+    before: Option<usize>,
+    after: Option<usize>,
+}
+
+/// `N` lists of values named by places.
+#[derive(Drop)]
+pub struct Lists<T, const N: usize> {
+    nodes: Slab<Node<T>>,
+    heads: [Option<usize>; N],
+    tails: [Option<usize>; N],
+}
+
+impl<T, const N: usize> Model for Lists<T, N> {
+    ghost use Rattle.foyer_policy.specs.Lists.{Lists as State};
+
+    ghost Value = { State T };
+
+    ghost use Rattle.std.specs.Prelude.{◌≡◌, ◌-◌, length};
+    ghost use Rattle.slab.specs.Slab.{slab_len};
+    ghost use Rattle.foyer_policy.specs.Chain.{lists_of, IsSound};
+
+    ghost view = { λ l. record { lists = lists_of l.nodes l.heads; room = l.nodes.capacity - slab_len l.nodes } };
+
+    ghost invariant = { λ l. IsSound l.nodes l.heads l.tails };
+}
+
+fn set_after<T>(
+    nodes: &mut Slab<Node<T>>,
+    heads: &mut [Option<usize>],
+    list: usize,
+    at: Option<usize>,
+    to: Option<usize>,
+)
+    requires there { ForSome at (ContainsKey nodes.old) }
+    requires list { list < length heads.old }
+    ensures links { (q : ℕ) → get nodes.new q ≡ (if is_at at q then after_set to (get nodes.old q) else get nodes.old q) }
+    ensures len { slab_len nodes.new ≡ slab_len nodes.old }
+    ensures vacant { nodes.new.vacant_key ≡ nodes.old.vacant_key }
+    ensures capacity { nodes.new.capacity ≡ nodes.old.capacity }
+    ensures heads { heads.new ≡ end_set at list to heads.old }
+{
+    match at {
+        Some(at) => nodes[at].after = to,
+        None => heads[list] = to,
+    }
+}
+
+fn set_before<T>(
+    nodes: &mut Slab<Node<T>>,
+    tails: &mut [Option<usize>],
+    list: usize,
+    at: Option<usize>,
+    to: Option<usize>,
+)
+    requires there { ForSome at (ContainsKey nodes.old) }
+    requires list { list < length tails.old }
+    ensures links { (q : ℕ) → get nodes.new q ≡ (if is_at at q then before_set to (get nodes.old q) else get nodes.old q) }
+    ensures len { slab_len nodes.new ≡ slab_len nodes.old }
+    ensures vacant { nodes.new.vacant_key ≡ nodes.old.vacant_key }
+    ensures capacity { nodes.new.capacity ≡ nodes.old.capacity }
+    ensures tails { tails.new ≡ end_set at list to tails.old }
+{
+    match at {
+        Some(at) => nodes[at].before = to,
+        None => tails[list] = to,
+    }
+}
+
+fn link_back<T>(
+    nodes: &mut Slab<Node<T>>,
+    heads: &mut [Option<usize>],
+    tails: &mut [Option<usize>],
+    list: usize,
+    value: T,
+) -> usize
+    requires sound { IsSound nodes.old heads.old tails.old }
+    requires list { list < length heads.old }
+    requires room { HasRoomFor nodes.old 1 }
+    ensures sound { IsSound nodes.new heads.new tails.new }
+    ensures lists { lists_of nodes.new heads.new ≡ (let ls = lists_of nodes.old heads.old in slice_set ls list (list_at ls list ++ (result, value) ∷ [])) }
+    ensures next { result ≡ nodes.old.vacant_key }
+    ensures free { find result (lists_of nodes.old heads.old) ≡ None }
+    ensures len { slab_len nodes.new ≡ slab_len nodes.old + 1 }
+    ensures capacity { nodes.new.capacity ≡ nodes.old.capacity }
+{
+    let before = tails[list];
+    let node = nodes.insert_reserved(Node {
+        value,
+        list,
+        before,
+        after: None,
+    });
+    set_after(nodes, heads, list, before, Some(node));
+    tails[list] = Some(node);
+    node
+}
+
+fn take_out<T>(
+    nodes: &mut Slab<Node<T>>,
+    heads: &mut [Option<usize>],
+    tails: &mut [Option<usize>],
+    place: usize,
+) -> T
+    requires sound { IsSound nodes.old heads.old tails.old }
+    requires there { IsSome (find place (lists_of nodes.old heads.old)) }
+    ensures sound { IsSound nodes.new heads.new tails.new }
+    ensures value { find place (lists_of nodes.old heads.old) ≡ Some result }
+    ensures lists { lists_of nodes.new heads.new ≡ map (drop_place place) (lists_of nodes.old heads.old) }
+    ensures len { slab_len nodes.new + 1 ≡ slab_len nodes.old }
+    ensures room { HasRoomFor nodes.new 1 }
+    ensures next { nodes.new.vacant_key ≡ place }
+    ensures capacity { nodes.new.capacity ≡ nodes.old.capacity }
+{
+    let Node {
+        value,
+        list,
+        before,
+        after,
+    } = nodes.remove(place);
+    set_after(nodes, heads, list, before, after);
+    set_before(nodes, tails, list, after, before);
+    value
+}
+
+impl<T, const N: usize> Lists<T, N> {
+    ghost use Rattle.std.specs.Borrow.{sem};
+    ghost use Rattle.foyer_policy.specs.Lends.{lends_value};
+
+    pub fn new(alloc: Global) -> Self
+        ensures lists { result.lists ≡ replicate N [] }
+        ensures room { result.room ≡ 0 }
+        ensures apart { AreLists N result.lists }
+    {
+        Lists {
+            nodes: Slab::new(alloc),
+            heads: [None; N],
+            tails: [None; N],
+        }
+    }
+
+    pub fn reserve(&mut self, more: usize) -> Result<(), AllocError>
+        ensures room { OnOk result (more ≤ self.new.room) }
+        ensures lists { self.new.lists ≡ self.old.lists }
+        ensures kept { self.old.room ≤ self.new.room }
+        ensures apart { AreLists N self.old.lists }
+    {
+        self.nodes.reserve(more)
+    }
+
+    pub fn push_back(&mut self, list: usize, value: T) -> Place
+        requires list { list < N }
+        requires room { 0 < self.old.room }
+        ensures lists { self.new.lists ≡ slice_set self.old.lists list (list_at self.old.lists list ++ (result, value) ∷ []) }
+        ensures room { self.new.room + 1 ≡ self.old.room }
+        ensures free { find result self.old.lists ≡ None }
+        ensures apart { AreLists N self.old.lists }
+    {
+        let node = link_back(
+            &mut self.nodes,
+            &mut self.heads,
+            &mut self.tails,
+            list,
+            value,
+        );
+        Place { node }
+    }
+
+    pub fn remove(&mut self, place: Place) -> T
+        requires { IsSome (find place self.old.lists) }
+        ensures value { find place self.old.lists ≡ Some result }
+        ensures lists { self.new.lists ≡ map (drop_place place) self.old.lists }
+        ensures room { self.new.room ≡ self.old.room + 1 }
+        ensures apart { AreLists N self.old.lists }
+    {
+        take_out(
+            &mut self.nodes,
+            &mut self.heads,
+            &mut self.tails,
+            place.node,
+        )
+    }
+
+    pub fn front(&self, list: usize) -> Option<Place>
+        requires { list < N }
+        ensures place { result ≡ first_or (list_at self.now.lists list) None }
+        ensures apart { AreLists N self.now.lists }
+    {
+        match self.heads[list] {
+            Some(node) => Some(Place { node }),
+            None => None,
+        }
+    }
+
+    pub fn pop_front(&mut self, list: usize) -> Option<T>
+        requires { list < N }
+        ensures value { result ≡ first_value (list_at self.old.lists list) }
+        ensures lists { self.new.lists ≡ slice_set self.old.lists list (rest (list_at self.old.lists list)) }
+        ensures room { self.new.room ≡ self.old.room + (if is_some result then 1 else 0) }
+        ensures apart { AreLists N self.old.lists }
+    {
+        match self.heads[list] {
+            Some(node) => Some(take_out(&mut self.nodes, &mut self.heads, &mut self.tails, node)),
+            None => None,
+        }
+    }
+
+    pub fn get(&self, place: Place) -> &T
+        requires { IsSome (find place self.now.lists) }
+        ensures value { find place self.now.lists ≡ Some result.now }
+        ensures apart { AreLists N self.now.lists }
+    {
+        &self.nodes[place.node].value
+    }
+
+    pub fn move_back(&mut self, place: Place, list: usize)
+        requires list { list < N }
+        requires there { IsSome (find place self.old.lists) }
+        ensures lists { self.new.lists ≡ moved place list self.old.lists }
+        ensures room { self.new.room ≡ self.old.room }
+        ensures apart { AreLists N self.old.lists }
+    {
+        let value = take_out(
+            &mut self.nodes,
+            &mut self.heads,
+            &mut self.tails,
+            place.node,
+        );
+        link_back(
+            &mut self.nodes,
+            &mut self.heads,
+            &mut self.tails,
+            list,
+            value,
+        );
+    }
+
+    pub fn next(&self, place: Place) -> Option<Place>
+        requires { IsSome (find place self.now.lists) }
+        ensures place { (k : ℕ) (xs ys : _) (v : _) → list_at self.now.lists k ≡ xs ++ (place, v) ∷ ys → result ≡ first_or ys None }
+        ensures apart { AreLists N self.now.lists }
+    {
+        match self.nodes[place.node].after {
+            Some(node) => Some(Place { node }),
+            None => None,
+        }
+    }
+
+    pub fn get_mut(&mut self, place: Place) -> &mut T
+        requires { IsSome (find place self.old.lists) }
+        ensures* writes_back { sem 𝓛 (lends_value T.row N.row self.entry place result) }
+        ensures value { find place self.old.lists ≡ Some result.now }
+        ensures apart { AreLists N self.old.lists }
+    {
+        let node = &mut self.nodes[place.node];
+        &mut node.value
+    }
+}

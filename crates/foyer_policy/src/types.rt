@@ -1,0 +1,93 @@
+//! Types that every layer of the cache speaks of.
+
+ghost use Rattle.std.specs.Prelude.{◌≡◌};
+
+use std::hash::Hash;
+
+/// Why a record left.
+#[derive(Clone, Copy, Debug, PartialEq, Eq, Hash)]
+pub enum Event {
+    /// It was evicted to make room, or asked to leave by a predicate.
+    Evict,
+    /// A newer record took its key.
+    Replace,
+    /// Its key was removed.
+    Remove,
+    /// The cache was cleared.
+    Clear,
+}
+
+/// A hint to the policy, given with a record.
+#[derive(Clone, Copy, Debug, Default, PartialEq, Eq, Hash)]
+pub enum Hint {
+    /// The record has no special priority.
+    #[default]
+    Normal,
+    /// The record is to leave early.
+    Low,
+}
+
+/// Where a record is to be kept.
+#[derive(Clone, Copy, Debug, Default, PartialEq, Eq, Hash)]
+pub enum Location {
+    /// In memory and on disk.
+    #[default]
+    Default,
+    /// In memory alone.
+    InMem,
+    /// On disk alone.
+    OnDisk,
+}
+
+/// How old the disk's copy of a record is.
+#[derive(Clone, Copy, Debug, Default, PartialEq, Eq, Hash)]
+pub enum Age {
+    /// It was written lately.
+    #[default]
+    Fresh,
+    /// It is neither fresh nor old.
+    Young,
+    /// It is close to being dropped.
+    Old,
+}
+
+/// Where an entry came from.
+#[derive(Clone, Copy, Debug, PartialEq, Eq, Hash)]
+pub enum Source {
+    /// It was inserted, or fetched from outside.
+    Outer,
+    /// It was found in memory.
+    Memory,
+    /// It was read from disk.
+    Disk,
+}
+
+/// A share of a capacity: `num / den`.
+#[derive(Clone, Copy, Debug, PartialEq, Eq, Hash)]
+pub struct Ratio {
+    pub num: u32,
+    pub den: u32,
+}
+
+/// What a policy keeps of a record.
+#[derive(Clone, Copy, Debug, PartialEq, Eq, Hash)]
+pub struct Item {
+    /// The record's number, which its shard gives once.
+    pub id: u64,
+    /// The hash of the record's key.
+    pub hash: u64,
+    /// What the record counts against the capacity.
+    pub weight: usize,
+    /// The hint that came with the record.
+    pub hint: Hint,
+}
+
+/// A cache's key. Every fitting type is one.
+pub trait Key: Eq + Hash + Clone + Drop {}
+
+impl<T: Eq + Hash + Clone + Drop> Key for T {}
+
+/// A cache's value. Every fitting type is one.
+pub trait Value: Drop {}
+
+impl<T: Drop> Value for T {}
