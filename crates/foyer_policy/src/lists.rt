@@ -1,5 +1,3 @@
-
-
 ghost use Rattle.std.specs.Prelude.{◌≡◌, ◌≢◌, ℕ, ◌+◌, ◌-◌, ◌<◌, ◌≤◌, ◌∷◌, ◌++◌, [], List, Option, Some, None, OnOk, OnErr, IfOk, IfSome, IsSome, length, map, slice_index_or, slice_set, if◌then◌else◌, replicate, is_some};
 ghost use Rattle.std.specs.Option.{ForSome};
 ghost use Rattle.slab.specs.Slab.{get, slab_len, ContainsKey, HasRoomFor};

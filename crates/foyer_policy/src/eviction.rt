@@ -1,0 +1,163 @@
+//! What every eviction policy offers to the cache above it.
+
+ghost use Rattle.std.specs.Prelude.{◌≡◌, ◌≢◌, ◌↔◌, ℕ, ◌+◌, ◌<◌, ◌≤◌, ◌^◌, Option, Some, None, Ok, Err, OnOk, OnErr, IfOk, IfErr, IfSome, IfNone, IsSome, IsTrue, IsOk};
+ghost use Rattle.std.specs.Option.{option_copied};
+ghost use Rattle.foyer_policy.specs.Items.{weight_of, count_of, find_id, IsNewIn};
+ghost use Rattle.foyer_policy.specs.Policy.{Policy, IsPolicy, Pops, fault_in, without};
+ghost use Rattle.foyer_policy.specs.declared.types.Item.{Item};
+ghost use Rattle.foyer_policy.specs.declared.error.Reason.{Reason};
+ghost use Rattle.foyer_policy.specs.declared.error.Reason.TheVariants.{NoMemory};
+
+use crate::error::Result;
+use crate::lists::Place;
+use crate::types::Item;
+use std::alloc::Global;
+
+/// An eviction policy: it holds an [`Item`] for each record that is in, at a [`Place`], and says which
+/// leaves next.
+///
+/// Contracts see a policy's abstract `view`, and what each call makes of it by the policy's `model`,
+/// which meets the laws of `IsPolicy`. A `Place` that is passed names an item that is in.
+pub trait Eviction: Drop {
+    /// The policy's configuration.
+    type Config;
+
+    /// What the policy keeps beside an item.
+    type State;
+
+    ghost View: { Type 0 };
+
+    // what each call makes of a view
+    ghost model: { Policy View Self.Config };
+
+    ghost view: { Self → View };
+
+    // the item at a place
+    ghost at: { Self → ℕ → Option Item };
+
+    // for how many pushes there is room
+    ghost room: { Self → ℕ };
+
+    // there is room for a `clear`
+    ghost can_clear: { Self → Type 0 };
+
+    // how many records the last pop read
+    ghost looked: { Self → ℕ };
+
+    /// A policy that holds nothing. Refused with the configuration's first fault, F2 to F6, and else
+    /// only for want of memory.
+    fn new(alloc: Global, capacity: usize, config: &Self::Config) -> Result<Self>
+        ensures view { IfOk result (λ s. view s ≡ model.opening capacity config.now) }
+        ensures places { IfOk result (λ s. (p : ℕ) → at s p ≡ None) }
+        ensures looked { IfOk result (λ s. looked s ≡ 0) }
+        ensures accepted { OnOk result (model.fault config.now ≡ None) }
+        ensures refused { IfSome (model.fault config.now) (λ reason. result ≡ Err reason) }
+        ensures memory { IfErr result (λ e. model.fault config.now ≡ None → e ≡ NoMemory) };
+
+    /// Sets the capacity, and the configuration where one is given. It takes no memory. Refused with the
+    /// given configuration's first fault, and then nothing has changed.
+    fn update(&mut self, capacity: usize, config: Option<&Self::Config>) -> Result<()>
+        ensures accepted { fault_in model (option_copied config.entry) ≡ None → IsOk result }
+        ensures refused { IfSome (fault_in model (option_copied config.entry)) (λ reason. result ≡ Err reason) }
+        ensures view { OnOk result (view self.new ≡ model.update (view self.old) capacity (option_copied config.entry)) }
+        ensures err { OnErr result (view self.new ≡ view self.old) }
+        ensures places { (p : ℕ) → at self.new p ≡ at self.old p }
+        ensures room { room self.old ≤ room self.new }
+        ensures looked { looked self.new ≡ looked self.old };
+
+    /// Makes room for one push. Only memory can be missing (F7); nothing else changes.
+    fn reserve(&mut self) -> Result<()>
+        ensures room { OnOk result (0 < room self.new) }
+        ensures refused { IfErr result (λ e. e ≡ NoMemory) }
+        ensures view { view self.new ≡ view self.old }
+        ensures places { (p : ℕ) → at self.new p ≡ at self.old p }
+        ensures kept { room self.old ≤ room self.new }
+        ensures looked { looked self.new ≡ looked self.old };
+
+    /// Takes an item in. It asks for reserved room, a new id, and that all weights in it fit a `usize`
+    /// together; it takes no memory.
+    fn push(&mut self, item: Item) -> Place
+        requires room { 0 < room self.old }
+        requires new_id { IsNewIn item.id (model.order (view self.old)) }
+        requires fits { item.weight + weight_of (model.order (view self.old)) < 2 ^ 64 }
+        ensures view { view self.new ≡ model.push (view self.old) item }
+        ensures here { at self.new result ≡ Some item }
+        ensures was_free { at self.old result ≡ None }
+        ensures others { (p : ℕ) → p ≢ result → at self.new p ≡ at self.old p }
+        ensures looked { looked self.new ≡ looked self.old };
+
+    /// Takes the victim out, or answers none where every item is pinned. Memory can be missing (F7) only
+    /// where a policy remembers what left; then nothing has changed.
+    fn pop(&mut self) -> Result<Option<Item>>
+        ensures pops { IfOk result (λ found. Pops model (view self.old) found (view self.new)) }
+        ensures places { IfOk result (λ found. IfSome found (λ i. (p : ℕ) → at self.new p ≡ without i.id (at self.old p))) }
+        ensures none { IfOk result (λ found. IfNone found ((p : ℕ) → at self.new p ≡ at self.old p)) }
+        ensures looked { OnOk result (looked self.new ≡ model.looks (view self.old)) }
+        ensures room { room self.old ≤ room self.new }
+        ensures refused { IfErr result (λ e. e ≡ NoMemory) }
+        ensures err_view { OnErr result (view self.new ≡ view self.old) }
+        ensures err_places { OnErr result ((p : ℕ) → at self.new p ≡ at self.old p) }
+        ensures err_looked { OnErr result (looked self.new ≡ looked self.old) };
+
+    /// Takes the item at a place out. It takes no memory.
+    fn remove(&mut self, place: Place) -> Item
+        requires { IsSome (at self.old place) }
+        ensures item { at self.old place ≡ Some result }
+        ensures member { find_id result.id (model.order (view self.old)) ≡ Some result }
+        ensures view { view self.new ≡ model.remove (view self.old) result.id }
+        ensures places { (p : ℕ) → at self.new p ≡ without result.id (at self.old p) }
+        ensures room { room self.old ≤ room self.new }
+        ensures looked { looked self.new ≡ looked self.old };
+
+    /// Makes room for a `clear`. Only memory can be missing (F7); nothing else changes.
+    fn reserve_clear(&mut self) -> Result<()>
+        ensures can_clear { OnOk result (can_clear self.new) }
+        ensures refused { IfErr result (λ e. e ≡ NoMemory) }
+        ensures view { view self.new ≡ view self.old }
+        ensures places { (p : ℕ) → at self.new p ≡ at self.old p }
+        ensures kept { room self.old ≤ room self.new }
+        ensures looked { looked self.new ≡ looked self.old };
+
+    /// Takes every item out. It asks for the room of `reserve_clear`, and takes no memory.
+    fn clear(&mut self)
+        requires { can_clear self.old }
+        ensures view { view self.new ≡ model.clear (view self.old) }
+        ensures places { (p : ℕ) → at self.new p ≡ None }
+        ensures looked { looked self.new ≡ 0 };
+
+    /// Tells the policy that the item at a place is used. It takes no memory.
+    fn acquire(&mut self, place: Place)
+        requires { IsSome (at self.old place) }
+        ensures view { IfSome (at self.old place) (λ i. view self.new ≡ model.acquire (view self.old) i.id) }
+        ensures places { (p : ℕ) → at self.new p ≡ at self.old p }
+        ensures room { room self.old ≤ room self.new }
+        ensures looked { looked self.new ≡ looked self.old };
+
+    /// Tells the policy that the item at a place has no handle any more. It takes no memory.
+    fn release(&mut self, place: Place)
+        requires { IsSome (at self.old place) }
+        ensures view { IfSome (at self.old place) (λ i. view self.new ≡ model.release (view self.old) i.id) }
+        ensures places { (p : ℕ) → at self.new p ≡ at self.old p }
+        ensures room { room self.old ≤ room self.new }
+        ensures looked { looked self.new ≡ looked self.old };
+
+    /// The items that are in, in the policy's order. Only memory can be missing (F7).
+    fn order(&self) -> Result<Vec<Item>>
+        ensures items { IfOk result (λ items. items.items ≡ model.order (view self.now)) }
+        ensures refused { IfErr result (λ e. e ≡ NoMemory) };
+
+    /// The sum of the weights of the items that are pinned.
+    fn pinned_weight(&self) -> usize
+        ensures { result ≡ weight_of (model.pinned (view self.now)) };
+
+    /// Whether the item at a place is pinned.
+    fn is_pinned(&self, place: Place) -> bool
+        requires { IsSome (at self.now place) }
+        ensures { IfSome (at self.now place) (λ i. IsTrue result ↔ (0 < count_of i.id (model.pinned (view self.now)))) };
+
+    /// How many records the last `pop` read; 0 before any, after one that gave none, and after `clear`.
+    fn looks(&self) -> u128
+        ensures { result ≡ looked self.now };
+
+    ghost lawful: { IsPolicy model };
+}

@@ -1,0 +1,135 @@
+//! First in, first out.
+
+ghost use Rattle.std.specs.Prelude.{◌≡◌, [], ◌∷◌, map};
+
+use crate::error::{Error, Reason, Result};
+use crate::eviction::Eviction;
+use crate::lists::{Lists, Place};
+use crate::types::Item;
+use std::alloc::Global;
+use std::marker::Model;
+
+/// The configuration of a [`Fifo`], which has no parts.
+#[derive(Clone, Debug, Default, Drop)]
+pub struct FifoConfig {}
+
+/// What a [`Fifo`] keeps beside an item: nothing.
+#[derive(Debug, Default, Drop)]
+pub struct FifoState {}
+
+/// First in, first out: the record that came in first leaves first, used or not.
+#[derive(Drop)]
+pub struct Fifo {
+    queue: Lists<Item, 1>,
+    alloc: Global,
+}
+
+impl Model for Fifo {
+    ghost use Rattle.foyer_policy.specs.Lists.{Lists as Linked};
+    ghost use Rattle.foyer_policy.specs.declared.types.Item.{Item};
+
+    ghost Value = { Linked Item };
+
+    ghost use Rattle.std.specs.Prelude.{map};
+    ghost use Rattle.foyer_policy.specs.Lists.{list_at};
+    ghost use Rattle.foyer_policy.specs.Items.{HasIdsOnce};
+
+    ghost view = { λ f. f.queue };
+
+    ghost invariant = { λ f. HasIdsOnce (map (λ e. e.1) (list_at f.queue.lists 0)) };
+}
+
+impl Eviction for Fifo {
+    ghost use Rattle.std.specs.Prelude.{List, map};
+    ghost use Rattle.foyer_policy.specs.Lists.{list_at, find};
+    ghost use Rattle.foyer_policy.specs.declared.types.Item.{Item};
+    ghost use Rattle.foyer_policy.specs.declared.fifo.FifoConfig.{FifoConfig};
+    ghost use Rattle.foyer_policy.specs.Fifo.{fifo};
+    ghost use Rattle.foyer_policy.specs.FifoLaws.{fifo_lawful};
+
+    type Config = FifoConfig;
+
+    type State = FifoState;
+
+    ghost View = { List Item };
+
+    ghost model = { fifo FifoConfig };
+
+    ghost view = { λ f. map (λ e. e.1) (list_at f.lists 0) };
+
+    ghost at = { λ f p. find p f.lists };
+
+    ghost room = { λ f. f.room };
+
+    ghost can_clear = { λ f. Unit {0} };
+
+    ghost looked = { λ f. 0 };
+
+    ghost lawful = { fifo_lawful FifoConfig };
+
+    fn new(alloc: Global, _capacity: usize, _config: &FifoConfig) -> Result<Self> {
+        Ok(Fifo {
+            queue: Lists::new(alloc),
+            alloc,
+        })
+    }
+
+    fn update(&mut self, _capacity: usize, _config: Option<&FifoConfig>) -> Result<()> {
+        Ok(())
+    }
+
+    fn reserve(&mut self) -> Result<()> {
+        match self.queue.reserve(1) {
+            Ok(()) => Ok(()),
+            Err(_) => Err(Error::new(Reason::NoMemory)),
+        }
+    }
+
+    fn push(&mut self, item: Item) -> Place {
+        self.queue.push_back(0, item)
+    }
+
+    fn pop(&mut self) -> Result<Option<Item>> {
+        Ok(self.queue.pop_front(0))
+    }
+
+    fn remove(&mut self, place: Place) -> Item {
+        self.queue.remove(place)
+    }
+
+    fn reserve_clear(&mut self) -> Result<()> {
+        Ok(())
+    }
+
+    fn clear(&mut self) {
+        while self.queue.pop_front(0).is_some() {}
+    }
+
+    fn acquire(&mut self, _place: Place) {}
+
+    fn release(&mut self, _place: Place) {}
+
+    fn order(&self) -> Result<Vec<Item>> {
+        let mut items = Vec::new(self.alloc);
+        let mut next = self.queue.front(0);
+        while let Some(place) = next {
+            let Ok(()) = items.push(*self.queue.get(place)) else {
+                return Err(Error::new(Reason::NoMemory));
+            };
+            next = self.queue.next(place);
+        }
+        Ok(items)
+    }
+
+    fn pinned_weight(&self) -> usize {
+        0
+    }
+
+    fn is_pinned(&self, _place: Place) -> bool {
+        false
+    }
+
+    fn looks(&self) -> u128 {
+        0
+    }
+}
