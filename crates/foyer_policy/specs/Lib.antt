@@ -4,5 +4,6 @@ pub mod Lists
 pub mod Chain
 pub mod Lends
 pub mod Policy
+pub mod Properties
 pub mod Fifo
 pub mod FifoLaws

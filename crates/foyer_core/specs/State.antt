@@ -1,0 +1,86 @@
+-- A shard as maps.
+use Rattle.std.specs.Prelude.{◌≡◌, ℕ, ◌+◌, ◌<◌, ◌≤◌, ◌^◌, ◌⊎◌, List, Option, Some, None, Bool, true, false}
+use Rattle.foyer_policy.specs.Items.{weight_of, count_of, find_id, remove_id, HasIdsOnce}
+use Rattle.foyer_policy.specs.Policy.{Policy}
+use Rattle.foyer_policy.specs.Properties.{is_phantom, hint_or_normal}
+use Rattle.foyer_policy.specs.declared.types.Hint.{Hint}
+use Rattle.foyer_policy.specs.declared.types.Item.{Item}
+use Rattle.foyer_core.specs.declared.record.Data.{Data}
+use Rattle.foyer_core.specs.declared.record.Limits.{Limits}
+use Rattle.foyer_core.specs.Indexer.{same_key}
+use Rattle.foyer_core.specs.Values.{Rec}
+
+-- what a shard is over: when keys are equal, what its policy does, and what properties answer
+pub record Meaning (K P View C : Type 0) : Type 0 where
+  pub same : K → K → Bool
+  pub policy : Policy View C
+  pub hint : P → Option Hint
+  pub phantom : P → Option Bool
+
+-- a shard: its core's number, its capacity and limits, the policy's view, the index from hashed keys to
+-- ids, the records by id, and the next id
+pub record State (K V P View : Type 0) : Type 0 where
+  pub number : ℕ
+  pub capacity : ℕ
+  pub limits : Limits
+  pub view : View
+  pub index : (ℕ × K) → Option ℕ
+  pub records : ℕ → Option (Rec K V P)
+  pub next : ℕ
+
+-- the hashed key of a record
+abbrev pub key_of : {K V P : Type 0} → Data K V P → ℕ × K
+key_of d = (d.hash, d.key)
+
+-- what a key hits: the one definition of a hit
+abbrev pub hit : {K V P View : Type 0} → State K V P View → ℕ × K → Option ℕ
+hit s k = s.index k
+
+-- the list without the item of an id, where there is one
+abbrev pub without_own : Option ℕ → List Item → List Item
+without_own None items = items
+without_own (Some id) items = remove_id id items
+
+module _ {K V P View C : Type 0} (m : Meaning K P View C) where
+  -- what the policy keeps of a record
+  abbrev pub item_of : ℕ → Data K V P → Item
+  item_of id d = record { id = id; hash = d.hash; weight = d.weight; hint = hint_or_normal (m.hint d.properties) }
+
+  -- whether a record is phantom
+  abbrev pub is_phantom_record : Data K V P → Bool
+  is_phantom_record d = is_phantom (m.phantom d.properties)
+
+  -- the sum of the weights of what is in the index
+  abbrev pub usage_of : State K V P View → ℕ
+  usage_of s = weight_of (m.policy.order s.view)
+
+  -- the pinned weight of the records of other keys
+  abbrev pub pinned_beside : State K V P View → ℕ × K → ℕ
+  pinned_beside s k = weight_of (without_own (s.index k) (m.policy.pinned s.view))
+
+  -- what each shard keeps
+  pub record IsKept (s : State K V P View) : Type 0 where
+    -- the policy holds each id once, and each with its record's item; that record is in the index
+    pub once : HasIdsOnce (m.policy.order s.view)
+    pub placed : (i : Item) → find_id i.id (m.policy.order s.view) ≡ Some i
+        → (r : Rec K V P) × (s.records i.id ≡ Some r) × (r.resident ≡ true) × (s.index (key_of r.kept) ≡ Some i.id) × (i ≡ item_of i.id r.kept)
+
+    -- the policy holds what is in the index, under the key of its record
+    pub indexed : (k : ℕ × K) (id : ℕ) → s.index k ≡ Some id
+        → (0 < count_of id (m.policy.order s.view)) × ((r : Rec K V P) → s.records id ≡ Some r → same_key m.same k (key_of r.kept) ≡ true)
+    pub resident : (id : ℕ) (r : Rec K V P) → s.records id ≡ Some r → r.resident ≡ true → 0 < count_of id (m.policy.order s.view)
+    pub respects : (k q : ℕ × K) → same_key m.same k q ≡ true → s.index k ≡ s.index q
+
+    -- a record that is not in the index has a handle, and none has too many
+    pub needed : (id : ℕ) (r : Rec K V P) → s.records id ≡ Some r → (r.resident ≡ true) ⊎ (0 < r.handles)
+    pub limited : (id : ℕ) (r : Rec K V P) → s.records id ≡ Some r → r.handles ≤ s.limits.handles
+
+    -- what is pinned has a handle
+    pub pinned : (id : ℕ) (r : Rec K V P) → s.records id ≡ Some r → 0 < count_of id (m.policy.pinned s.view) → 0 < r.handles
+
+    -- no phantom record is in the index
+    pub plain : (id : ℕ) (r : Rec K V P) → s.records id ≡ Some r → r.resident ≡ true → is_phantom_record r.kept ≡ false
+
+    -- numbers in use are below the next one, and the usage fits a `usize`
+    pub fresh : (id : ℕ) (r : Rec K V P) → s.records id ≡ Some r → id < s.next
+    pub fits : usage_of s < 2 ^ 64

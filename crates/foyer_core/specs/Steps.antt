@@ -1,0 +1,132 @@
+-- The steps of a shard.
+use Rattle.std.specs.Prelude.{◌≡◌, ℕ, ◌+◌, ◌-◌, ◌<◌, ◌≤◌, ◌^◌, ◌==◌, ◌&&◌, not, List, [], ◌∷◌, ◌++◌, Option, Some, None, Result, Ok, Err, Bool, true, false, nat_eq, if◌then◌else◌, map, length}
+use Rattle.std.specs.Map.{update}
+use Rattle.foyer_policy.specs.Policy.{Policy, evicted, after_pops}
+use Rattle.foyer_policy.specs.declared.types.Item.{Item}
+use Rattle.foyer_policy.specs.declared.types.Event.{Event}
+use Rattle.foyer_policy.specs.declared.types.Event.TheVariants.{Evict, Replace}
+use Rattle.foyer_policy.specs.declared.types.Source.{Source}
+use Rattle.foyer_policy.specs.declared.types.Source.TheVariants.{Outer, Memory}
+use Rattle.foyer_policy.specs.declared.error.Reason.{Reason}
+use Rattle.foyer_policy.specs.declared.error.Reason.TheVariants.{Ids, Handles, Weight, NoMemory}
+use Rattle.foyer_core.specs.declared.record.Data.{Data}
+use Rattle.foyer_core.specs.Indexer.{same_key}
+use Rattle.foyer_core.specs.Values.{Rec, Gone, Held}
+use Rattle.foyer_core.specs.State.{Meaning, State, key_of, hit, item_of, is_phantom_record, pinned_beside}
+
+-- a record that is not in the index stays only while it has a handle
+abbrev pub outside : {K V P : Type 0} → Rec K V P → Option (Rec K V P)
+outside r = if r.handles == 0 then None else Some (record r { resident = false })
+
+-- what a leave tells of a record
+abbrev pub gone_of : {K V P : Type 0} → ℕ → Rec K V P → Gone K V P
+gone_of id r = record { id = id; kept = r.kept }
+
+-- an entry of a record
+abbrev pub entry_of : {K V P View : Type 0} → State K V P View → ℕ → Data K V P → Source → Held K V P
+entry_of s id d source = record { number = s.number; id = id; kept = d; source = source; left = true }
+
+-- the ids of items
+abbrev pub ids_of : List Item → List ℕ
+ids_of items = map (λ i. i.id) items
+
+module _ {K V P View C : Type 0} (m : Meaning K P View C) where
+  -- the record of this id is out of the index
+  abbrev pub after_out : State K V P View → ℕ → Rec K V P → State K V P View
+  after_out s id r = record s { index = update (same_key m.same) s.index (key_of r.kept) None; records = update nat_eq s.records id (outside r) }
+
+  -- The records of these ids leave for this reason, in this order, and the policy's view becomes `v`.
+  abbrev pub Leave : Event → List ℕ → State K V P View → List (Event × Gone K V P) → View → State K V P View → Type 0
+  Leave event [] old [] v new = new ≡ record old { view = v }
+  Leave event (id ∷ ids) old (l ∷ ls) v new =
+      (r : Rec K V P) × (old.records id ≡ Some r) × (l ≡ (event, gone_of id r)) × Leave event ids (after_out old id r) ls v new
+  Leave event [] old (l ∷ ls) v new = ⊥
+  Leave event (id ∷ ids) old [] v new = ⊥
+
+  -- some beginning of the evictions to a target: what want of memory leaves
+  pub record Evicting (target : ℕ) (old : State K V P View) (ls : List (Event × Gone K V P)) (new : State K V P View) : Type 0 where
+    pub left : List Item
+    pub rest : List Item
+    pub parts : left ++ rest ≡ evicted m.policy target old.view
+    pub leave : Leave Evict (ids_of left) old ls (after_pops m.policy (length left) old.view) new
+
+  -- all of them
+  abbrev pub Evicts : ℕ → State K V P View → List (Event × Gone K V P) → State K V P View → Type 0
+  Evicts target old ls new =
+      Leave Evict (ids_of (evicted m.policy target old.view)) old ls (after_pops m.policy (length (evicted m.policy target old.view)) old.view) new
+
+  -- the record of this id, where there is one, gives way to a newer one
+  abbrev pub GivesWay : Option ℕ → State K V P View → List (Event × Gone K V P) → State K V P View → Type 0
+  GivesWay None old ls new = (ls ≡ []) × (new ≡ old)
+  GivesWay (Some id) old ls new = Leave Replace (id ∷ []) old ls (m.policy.remove old.view id) new
+
+  -- a new record comes in, with one handle
+  abbrev pub after_push : State K V P View → Data K V P → State K V P View
+  after_push s d = record s {
+    view = m.policy.push s.view (item_of m s.next d);
+    index = update (same_key m.same) s.index (key_of d) (Some s.next);
+    records = update nat_eq s.records s.next (Some record { kept = d; handles = 1; resident = true });
+    next = s.next + 1;
+  }
+
+  -- An insert of a plain record that is not refused: the evictions to the capacity less its weight, then
+  -- its key's record, where it is still there, gives way, then the record comes in.
+  pub record Inserts (old : State K V P View) (d : Data K V P) (ls : List (Event × Gone K V P)) (entry : Held K V P) (new : State K V P View) : Type 0 where
+    pub evictions : List (Event × Gone K V P)
+    pub replaced : List (Event × Gone K V P)
+    pub mid : State K V P View
+    pub last : State K V P View
+    pub leaves : ls ≡ evictions ++ replaced
+    pub evicts : Evicts (old.capacity - d.weight) old evictions mid
+    pub gives_way : GivesWay (mid.index (key_of d)) mid replaced last
+    pub entry_is : entry ≡ entry_of old old.next d Outer
+    pub after : new ≡ after_push last d
+
+  -- An insert of a plain record that is refused: for a number, a handle or the weight before anything,
+  -- or for want of memory after some beginning of the evictions.
+  abbrev pub RefusesInsert : State K V P View → Data K V P → Reason → List (Event × Gone K V P) → State K V P View → Type 0
+  RefusesInsert old d Ids ls new = (old.limits.ids ≤ old.next) × (ls ≡ []) × (new ≡ old)
+  RefusesInsert old d Handles ls new = (old.next < old.limits.ids) × (old.limits.handles < 1) × (ls ≡ []) × (new ≡ old)
+  RefusesInsert old d Weight ls new =
+      (old.next < old.limits.ids) × (1 ≤ old.limits.handles) × (2 ^ 64 ≤ d.weight + pinned_beside m old (key_of d)) × (ls ≡ []) × (new ≡ old)
+  RefusesInsert old d NoMemory ls new =
+      (old.next < old.limits.ids) × (1 ≤ old.limits.handles) × (d.weight + pinned_beside m old (key_of d) < 2 ^ 64) × Evicting (old.capacity - d.weight) old ls new
+  RefusesInsert old d _ ls new = ⊥
+
+  -- one more handle of a record of the index, which the policy is told of
+  abbrev pub after_get : State K V P View → ℕ → Rec K V P → State K V P View
+  after_get s id r = record s { view = m.policy.acquire s.view id; records = update nat_eq s.records id (Some (record r { handles = r.handles + 1 })) }
+
+  -- What a get answers: nothing where the key hits nothing, else an entry, or a refusal: F9 at the limit
+  -- of handles, or F7 where the record could not be shared. A refused one changes nothing.
+  abbrev pub Gets : State K V P View → ℕ × K → Result (Option (Held K V P)) Reason → State K V P View → Type 0
+  Gets old k (Ok None) new = (hit old k ≡ None) × (new ≡ old)
+  Gets old k (Ok (Some entry)) new =
+      (r : Rec K V P) × (hit old k ≡ Some entry.id) × (old.records entry.id ≡ Some r) × (r.handles < old.limits.handles)
+      × (entry ≡ entry_of old entry.id r.kept Memory) × (new ≡ after_get old entry.id r)
+  Gets old k (Err Handles) new = (id : ℕ) × (r : Rec K V P) × (hit old k ≡ Some id) × (old.records id ≡ Some r) × (old.limits.handles ≤ r.handles) × (new ≡ old)
+  Gets old k (Err NoMemory) new = (id : ℕ) × (r : Rec K V P) × (hit old k ≡ Some id) × (old.records id ≡ Some r) × (r.handles < old.limits.handles) × (new ≡ old)
+  Gets old k (Err _) new = ⊥
+
+  -- the last handle is gone: what is in the index is released, and else forgotten
+  abbrev pub after_last : State K V P View → ℕ → Rec K V P → State K V P View
+  after_last s id r =
+      if r.resident
+      then record s { view = m.policy.release s.view id; records = update nat_eq s.records id (Some (record r { handles = 0 })) }
+      else record s { records = update nat_eq s.records id None }
+
+  -- one handle less
+  abbrev pub after_give_back : State K V P View → ℕ → Rec K V P → State K V P View
+  after_give_back s id r = if r.handles == 1 then after_last s id r else record s { records = update nat_eq s.records id (Some (record r { handles = r.handles - 1 })) }
+
+  -- a phantom record leaves with its last handle
+  abbrev pub last_leave : ℕ → Rec K V P → Option (Event × Gone K V P)
+  last_leave id r = if (r.handles == 1) && (not r.resident && is_phantom_record m r.kept) then Some (Evict, gone_of id r) else None
+
+  -- a handle is taken back
+  pub record GivesBack (old : State K V P View) (id : ℕ) (leave : Option (Event × Gone K V P)) (new : State K V P View) : Type 0 where
+    pub rec : Rec K V P
+    pub there : old.records id ≡ Some rec
+    pub held : 0 < rec.handles
+    pub leaves : leave ≡ last_leave id rec
+    pub after : new ≡ after_give_back old id rec

@@ -1,0 +1,40 @@
+-- What contracts see of a record, a slot, an entry and a leave.
+use Rattle.std.specs.Prelude.{ℕ, Bool, Option}
+use Rattle.foyer_policy.specs.declared.types.Source.{Source}
+use Rattle.foyer_core.specs.declared.record.Data.{Data}
+use Rattle.foyer_core.specs.declared.record.Flags.{Flags}
+
+-- a record: its data, its place in the policy, its handle count and its flags
+pub record Stored (K V P : Type 0) : Type 0 where
+  pub kept : Data K V P
+  pub place : Option ℕ
+  pub handles : ℕ
+  pub flags : Flags
+
+-- a slot: a record with its id, and whether it is in the index
+pub record Kept (K V P : Type 0) : Type 0 where
+  pub id : ℕ
+  pub kept : Data K V P
+  pub handles : ℕ
+  pub resident : Bool
+  pub place : Option ℕ
+
+-- an entry: a handle of the record of this id of the core of this number, where it came from, and
+-- whether it can still give its leave's share
+pub record Held (K V P : Type 0) : Type 0 where
+  pub number : ℕ
+  pub id : ℕ
+  pub kept : Data K V P
+  pub source : Source
+  pub left : Bool
+
+-- what left
+pub record Gone (K V P : Type 0) : Type 0 where
+  pub id : ℕ
+  pub kept : Data K V P
+
+-- what a shard holds under an id: the data, how many handles there are, and whether it is in the index
+pub record Rec (K V P : Type 0) : Type 0 where
+  pub kept : Data K V P
+  pub handles : ℕ
+  pub resident : Bool

@@ -1,0 +1,212 @@
+//! Entries, which are handles of records, and what left.
+
+ghost use Rattle.std.specs.Prelude.{◌≡◌, IsNone, None, Some, false, true, MatchOption, IfSome};
+ghost use Rattle.std.specs.Arc.{arc_value};
+
+use crate::record::Data;
+use foyer_policy::Source;
+use std::alloc::Global;
+use std::marker::Model;
+use std::sync::Arc;
+
+/// A record that left. It stays readable.
+#[derive(Drop)]
+pub struct Left<K, V, P> {
+    id: u64,
+    kept: Arc<Data<K, V, P>, Global>,
+}
+
+impl<K, V, P> Model for Left<K, V, P> {
+    ghost use Rattle.std.specs.Arc.{arc_value};
+    ghost use Rattle.foyer_core.specs.Values.{Gone};
+
+    ghost Value = { Gone K V P };
+
+    ghost view = { λ l. record { id = l.id; kept = arc_value l.kept } };
+}
+
+impl<K, V, P> Left<K, V, P> {
+    pub(crate) fn new(id: u64, share: Arc<Data<K, V, P>, Global>) -> Self
+        ensures { result ≡ record { id = id; kept = arc_value share } }
+    {
+        Left { id, kept: share }
+    }
+
+    /// The record's number, which its shard gave once.
+    pub fn id(&self) -> u64
+        ensures { result ≡ self.now.id }
+    {
+        self.id
+    }
+
+    /// The key.
+    pub fn key(&self) -> &K
+        ensures { result.now ≡ self.now.kept.key }
+    {
+        &self.kept.key
+    }
+
+    /// The value.
+    pub fn value(&self) -> &V
+        ensures { result.now ≡ self.now.kept.value }
+    {
+        &self.kept.value
+    }
+
+    /// What came with them.
+    pub fn properties(&self) -> &P
+        ensures { result.now ≡ self.now.kept.properties }
+    {
+        &self.kept.properties
+    }
+
+    /// The key's hash.
+    pub fn hash(&self) -> u64
+        ensures { result ≡ self.now.kept.hash }
+    {
+        self.kept.hash
+    }
+
+    /// What the record counted against the capacity.
+    pub fn weight(&self) -> usize
+        ensures { result ≡ self.now.kept.weight }
+    {
+        self.kept.weight
+    }
+}
+
+/// A handle of a record of a core. It must be spent: by `give_back` of that core, or by `discard` where the
+/// core is gone.
+pub struct CoreEntry<K, V, P> {
+    number: u64,
+    id: u64,
+    // Where the record was when the entry was made. It is a hint alone.
+    slot: usize,
+    kept: Arc<Data<K, V, P>, Global>,
+    left: Option<Arc<Data<K, V, P>, Global>>,
+    source: Source,
+}
+
+impl<K, V, P> Model for CoreEntry<K, V, P> {
+    ghost use Rattle.std.specs.Prelude.{◌≡◌, is_some};
+    ghost use Rattle.std.specs.Option.{ForSome};
+    ghost use Rattle.std.specs.Arc.{arc_value};
+    ghost use Rattle.foyer_core.specs.Values.{Held};
+
+    ghost Value = { Held K V P };
+
+    ghost view = { λ e. record { number = e.number; id = e.id; kept = arc_value e.kept; source = e.source; left = is_some e.left } };
+
+    ghost invariant = { λ e. ForSome e.left (λ share. arc_value share ≡ arc_value e.kept) };
+}
+
+impl<K: Drop, V: Drop, P: Drop> CoreEntry<K, V, P> {
+    pub(crate) fn new(
+        number: u64,
+        id: u64,
+        slot: usize,
+        share: Arc<Data<K, V, P>, Global>,
+        left: Arc<Data<K, V, P>, Global>,
+        source: Source,
+    ) -> Self
+        requires { arc_value left ≡ arc_value share }
+        ensures { result ≡ record { number = number; id = id; kept = arc_value share; source = source; left = true } }
+    {
+        CoreEntry {
+            number,
+            id,
+            slot,
+            kept: share,
+            left: Some(left),
+            source,
+        }
+    }
+
+    // The number of the core that made the entry.
+    pub(crate) fn number(&self) -> u64
+        ensures { result ≡ self.now.number }
+    {
+        self.number
+    }
+
+    // The record's id.
+    pub(crate) fn id(&self) -> u64
+        ensures { result ≡ self.now.id }
+    {
+        self.id
+    }
+
+    // Where the record may stand.
+    pub(crate) fn slot(&self) -> usize {
+        self.slot
+    }
+
+    /// The key's hash.
+    pub fn hash(&self) -> u64
+        ensures { result ≡ self.now.kept.hash }
+    {
+        self.kept.hash
+    }
+
+    /// The key.
+    pub fn key(&self) -> &K
+        ensures { result.now ≡ self.now.kept.key }
+    {
+        &self.kept.key
+    }
+
+    /// The value.
+    pub fn value(&self) -> &V
+        ensures { result.now ≡ self.now.kept.value }
+    {
+        &self.kept.value
+    }
+
+    /// What came with them.
+    pub fn properties(&self) -> &P
+        ensures { result.now ≡ self.now.kept.properties }
+    {
+        &self.kept.properties
+    }
+
+    /// What the record counts against the capacity.
+    pub fn weight(&self) -> usize
+        ensures { result ≡ self.now.kept.weight }
+    {
+        self.kept.weight
+    }
+
+    /// Where the entry came from.
+    pub fn source(&self) -> Source
+        ensures { result ≡ self.now.source }
+    {
+        self.source
+    }
+
+    /// What a leave of the record would show, from a share of its own. It is given once.
+    pub fn left(&mut self) -> Option<Left<K, V, P>>
+        ensures given { IfSome result (λ l. (self.old.left ≡ true) × (l ≡ record { id = self.old.id; kept = self.old.kept })) }
+        ensures once { IsNone result → self.old.left ≡ false }
+        ensures taken { self.new ≡ record self.old { left = false } }
+    {
+        match self.left.take() {
+            Some(share) => Some(Left {
+                id: self.id,
+                kept: share,
+            }),
+            None => None,
+        }
+    }
+
+    /// Ends an entry whose core is gone. No core changes.
+    pub fn discard(self) {
+        let CoreEntry {
+            number: _,
+            id: _,
+            slot: _,
+            kept: _,
+            left: _,
+            source: _,
+        } = self;
+    }
+}

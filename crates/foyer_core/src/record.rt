@@ -1,0 +1,281 @@
+//! Records: a key and a value with what the cache keeps beside them.
+
+ghost use Rattle.std.specs.Prelude.{◌≡◌, ◌+◌, ◌-◌, ◌<◌, ◌≤◌, ◌^◌, ◌↔◌, IfOk, OnErr, IfErr, true, false, IsTrue, Some, None, Ok};
+ghost use Rattle.std.specs.Arc.{arc_value};
+ghost use Rattle.foyer_policy.specs.declared.error.Reason.TheVariants.{Handles, NoMemory};
+ghost use Rattle.foyer_core.specs.Flags.{bits_of, union_of, Includes, with_flags};
+
+use foyer_policy::{Error, Place, Reason, Result};
+use std::alloc::Global;
+use std::marker::Model;
+use std::sync::Arc;
+
+/// What a record keeps of what was inserted.
+#[derive(Debug, Drop)]
+pub struct Data<K, V, P> {
+    /// The key.
+    pub key: K,
+    /// The value.
+    pub value: V,
+    /// What came with them.
+    pub properties: P,
+    /// The key's hash.
+    pub hash: u64,
+    /// What the record counts against the capacity.
+    pub weight: usize,
+}
+
+/// What a record is in: a set of `IN_INDEXER` and `IN_EVICTION`.
+#[derive(Clone, Copy, Debug, PartialEq, Eq, PartialOrd, Ord, Hash)]
+pub struct Flags {
+    in_eviction: bool,
+    in_indexer: bool,
+}
+
+impl Flags {
+    /// The record is in the index.
+    pub const IN_INDEXER: Flags = Flags {
+        in_eviction: false,
+        in_indexer: true,
+    };
+
+    /// The record is in the policy.
+    pub const IN_EVICTION: Flags = Flags {
+        in_eviction: true,
+        in_indexer: false,
+    };
+
+    /// 1 for `IN_INDEXER`, 2 for `IN_EVICTION`, and their sum for both.
+    pub fn bits(&self) -> u64
+        ensures { result ≡ bits_of self.now }
+    {
+        let indexer = if self.in_indexer { 1 } else { 0 };
+        let eviction = if self.in_eviction { 2 } else { 0 };
+        indexer + eviction
+    }
+
+    /// The flags of either.
+    pub fn union(self, other: Flags) -> Flags
+        ensures { result ≡ union_of self other }
+    {
+        Flags {
+            in_eviction: self.in_eviction || other.in_eviction,
+            in_indexer: self.in_indexer || other.in_indexer,
+        }
+    }
+}
+
+/// A record. Its data are shared with its entries and pieces.
+#[derive(Drop)]
+pub struct Record<K, V, P> {
+    kept: Arc<Data<K, V, P>, Global>,
+    state: Option<Place>,
+    refs: usize,
+    flags: Flags,
+}
+
+impl<K, V, P> Model for Record<K, V, P> {
+    ghost use Rattle.std.specs.Arc.{arc_value};
+    ghost use Rattle.foyer_core.specs.Values.{Stored};
+
+    ghost Value = { Stored K V P };
+
+    ghost view = { λ r. record { kept = arc_value r.kept; place = r.state; handles = r.refs; flags = r.flags } };
+}
+
+impl<K: Drop, V: Drop, P: Drop> Record<K, V, P> {
+    /// A record with no handle, which is in nothing. Only memory can be missing (F7).
+    pub fn new(alloc: Global, kept: Data<K, V, P>) -> Result<Self>
+        ensures made { IfOk result (λ r. (r.kept ≡ kept) × (r.place ≡ None) × (r.handles ≡ 0) × (bits_of r.flags ≡ 0)) }
+        ensures refused { IfErr result (λ e. e ≡ NoMemory) }
+    {
+        let Ok(kept) = Arc::new(alloc, kept) else {
+            return Err(Error::new(Reason::NoMemory));
+        };
+        Ok(Record {
+            kept,
+            state: None,
+            refs: 0,
+            flags: Flags {
+                in_eviction: false,
+                in_indexer: false,
+            },
+        })
+    }
+
+    /// The key.
+    pub fn key(&self) -> &K
+        ensures { result.now ≡ self.now.kept.key }
+    {
+        &self.kept.key
+    }
+
+    /// The value.
+    pub fn value(&self) -> &V
+        ensures { result.now ≡ self.now.kept.value }
+    {
+        &self.kept.value
+    }
+
+    /// What came with them.
+    pub fn properties(&self) -> &P
+        ensures { result.now ≡ self.now.kept.properties }
+    {
+        &self.kept.properties
+    }
+
+    /// The key's hash.
+    pub fn hash(&self) -> u64
+        ensures { result ≡ self.now.kept.hash }
+    {
+        self.kept.hash
+    }
+
+    /// What the record counts against the capacity.
+    pub fn weight(&self) -> usize
+        ensures { result ≡ self.now.kept.weight }
+    {
+        self.kept.weight
+    }
+
+    /// The record's place in the policy, while it is in.
+    pub fn state(&self) -> Option<Place>
+        ensures { result ≡ self.now.place }
+    {
+        self.state
+    }
+
+    /// How many handles the record has.
+    pub fn refs(&self) -> usize
+        ensures { result ≡ self.now.handles }
+    {
+        self.refs
+    }
+
+    /// Adds handles and answers their count, or is refused (F9) where the count would pass `limit`, and
+    /// changes nothing.
+    pub fn inc_refs(&mut self, n: usize, limit: usize) -> Result<usize>
+        ensures added { IfOk result (λ refs. (refs ≡ self.old.handles + n) × (refs ≤ limit) × (self.new ≡ record self.old { handles = self.old.handles + n })) }
+        ensures refused { IfErr result (λ e. (e ≡ Handles) × (limit < self.old.handles + n) × (self.new ≡ self.old)) }
+    {
+        if n > limit || self.refs > limit - n {
+            return Err(Error::new(Reason::Handles));
+        }
+        self.refs += n;
+        Ok(self.refs)
+    }
+
+    /// Takes handles away, at most as many as there are, and answers how many are left.
+    pub fn dec_refs(&mut self, n: usize) -> usize
+        requires { n ≤ self.old.handles }
+        ensures left { result ≡ self.old.handles - n }
+        ensures taken { self.new ≡ record self.old { handles = self.old.handles - n } }
+    {
+        self.refs -= n;
+        self.refs
+    }
+
+    /// Whether all these flags are set.
+    pub fn get_flags(&self, flags: Flags) -> bool
+        ensures { IsTrue result ↔ Includes self.now.flags flags }
+    {
+        (self.flags.in_indexer || !flags.in_indexer)
+            && (self.flags.in_eviction || !flags.in_eviction)
+    }
+
+    /// Sets these flags, or takes them off.
+    pub fn set_flags(&mut self, flags: Flags, on: bool)
+        ensures { self.new ≡ record self.old { flags = with_flags self.old.flags flags on } }
+    {
+        if flags.in_indexer {
+            self.flags.in_indexer = on;
+        }
+        if flags.in_eviction {
+            self.flags.in_eviction = on;
+        }
+    }
+
+    /// Says whether the record is in the index.
+    pub fn set_in_indexer(&mut self, on: bool)
+        ensures { self.new ≡ record self.old { flags = record self.old.flags { in_indexer = on } } }
+    {
+        self.flags.in_indexer = on;
+    }
+
+    /// Whether the record is in the index.
+    pub fn is_in_indexer(&self) -> bool
+        ensures { result ≡ self.now.flags.in_indexer }
+    {
+        self.flags.in_indexer
+    }
+
+    /// Says whether the record is in the policy.
+    pub fn set_in_eviction(&mut self, on: bool)
+        ensures { self.new ≡ record self.old { flags = record self.old.flags { in_eviction = on } } }
+    {
+        self.flags.in_eviction = on;
+    }
+
+    /// Whether the record is in the policy.
+    pub fn is_in_eviction(&self) -> bool
+        ensures { result ≡ self.now.flags.in_eviction }
+    {
+        self.flags.in_eviction
+    }
+
+    // The place that the policy gave, or none once the record is out.
+    pub(crate) fn set_state(&mut self, state: Option<Place>)
+        ensures { self.new ≡ record self.old { place = state } }
+    {
+        self.state = state;
+    }
+
+    // What the record keeps.
+    pub(crate) fn data(&self) -> &Data<K, V, P>
+        ensures { result.now ≡ self.now.kept }
+    {
+        &self.kept
+    }
+
+    // One more share of the data. Only memory can be missing.
+    pub(crate) fn share(&self) -> Result<Arc<Data<K, V, P>, Global>>
+        ensures kept { IfOk result (λ share. arc_value share ≡ self.now.kept) }
+        ensures refused { IfErr result (λ e. e ≡ NoMemory) }
+    {
+        match Arc::try_clone(&self.kept) {
+            Ok(share) => Ok(share),
+            Err(_) => Err(Error::new(Reason::NoMemory)),
+        }
+    }
+
+    // The data of a record that is let go.
+    pub(crate) fn into_data(self) -> Arc<Data<K, V, P>, Global>
+        ensures { arc_value result ≡ self.kept }
+    {
+        let Record { kept, .. } = self;
+        kept
+    }
+}
+
+/// The greatest numbers that a cache may give.
+#[derive(Clone, Copy, Debug, PartialEq, Eq)]
+pub struct Limits {
+    /// The greatest handle count of a record.
+    pub handles: usize,
+    /// A record id, fetch id or token is given only below this number.
+    pub ids: u64,
+}
+
+impl Default for Limits {
+    ghost use Rattle.std.specs.Prelude.{◌≡◌};
+
+    ghost is_default = { λ l. (l.handles ≡ 18446744073709551615) × (l.ids ≡ 18446744073709551615) };
+
+    /// No limit but those of the types.
+    fn default() -> Limits {
+        Limits {
+            handles: usize::MAX,
+            ids: u64::MAX,
+        }
+    }
+}
