@@ -4,6 +4,7 @@
 pub mod indexer;
 pub mod entry;
 pub mod record;
+mod records;
 mod slot;
 
 pub use indexer::Indexer;

@@ -1,0 +1,28 @@
+-- What contracts see of a shard's records.
+use Rattle.std.specs.Prelude.{ℕ, ◌<◌, Option, nat_eq}
+use Rattle.std.specs.HashMap.{get as get_key, spare}
+use Rattle.slab.specs.Slab.{get, HasRoomFor}
+use Rattle.foyer_core.specs.declared.records.Records.{Records}
+use Rattle.foyer_core.specs.Values.{Kept, Rec}
+use Rattle.foyer_core.specs.Table.{record_by, id_by}
+
+module _ {K V P : Type 0} where
+  -- what is in a slot
+  abbrev pub slot_in : Records K V P → ℕ → Option (Kept K V P)
+  slot_in t = get t.slots
+
+  -- the slot of an id
+  abbrev pub number_of : Records K V P → ℕ → Option ℕ
+  number_of t = get_key nat_eq t.ids
+
+  -- the record of an id
+  abbrev pub record_in : Records K V P → ℕ → Option (Rec K V P)
+  record_in t = record_by (slot_in t) (number_of t)
+
+  -- the id of a slot's record
+  abbrev pub id_in : Records K V P → ℕ → Option ℕ
+  id_in t = id_by (slot_in t)
+
+  -- one more record fits with no allocation
+  abbrev pub HasRoom : Records K V P → Type 0
+  HasRoom t = HasRoomFor t.slots 1 × (0 < spare t.ids)

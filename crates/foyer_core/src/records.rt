@@ -1,0 +1,173 @@
+//! The records of a shard: a slab of slots, and where each id stands.
+
+ghost use Rattle.std.specs.Prelude.{◌≡◌, ℕ, ◌+◌, ◌-◌, ◌<◌, ◌^◌, Option, Some, None, IfErr, IfOk, OnOk, OnErr, IsSomeAnd, IsSome, IsTrue, nat_eq, option_copied, true};
+ghost use Rattle.std.specs.HashMap.{get as get_key, spare};
+ghost use Rattle.std.specs.Map.{update};
+ghost use Rattle.slab.specs.Slab.{get};
+ghost use Rattle.foyer_policy.specs.declared.error.Reason.TheVariants.{NoMemory};
+ghost use Rattle.foyer_core.specs.Values.{Kept};
+ghost use Rattle.foyer_core.specs.Steps.{outside};
+ghost use Rattle.foyer_core.specs.Table.{IsTable, rec_of, slot_outside};
+
+use crate::entry::Left;
+use crate::slot::Slot;
+use foyer_policy::{Error, Place, Reason, Result};
+use slab::Slab;
+use std::alloc::Global;
+use std::collections::HashMap;
+
+/// A shard's records. A record is reached by its slot; where each id stands is asked only where a slot
+/// isn't known.
+#[derive(Drop)]
+pub struct Records<K: Drop, V: Drop, P: Drop> {
+    slots: Slab<Slot<K, V, P>>,
+    ids: HashMap<u64, usize>,
+    ghost agree: { IsTable (get slots) (get_key nat_eq ids) },
+}
+
+impl<K: Drop, V: Drop, P: Drop> Records<K, V, P> {
+    ghost use Rattle.foyer_core.specs.Records.{slot_in, number_of, record_in, id_in, HasRoom};
+
+    pub fn new(alloc: Global) -> Self
+        ensures slots { (n : ℕ) → slot_in result n ≡ None }
+        ensures ids { (id : ℕ) → number_of result id ≡ None }
+    {
+        Records {
+            slots: Slab::new(alloc),
+            ids: HashMap::new(alloc),
+        }
+    }
+
+    /// Makes room for one record. Only memory can be missing.
+    pub fn reserve(&mut self) -> Result<()>
+        ensures room { OnOk result (HasRoom self.new) }
+        ensures refused { IfErr result (λ e. e ≡ NoMemory) }
+        ensures slots { (n : ℕ) → slot_in self.new n ≡ slot_in self.old n }
+        ensures ids { (id : ℕ) → number_of self.new id ≡ number_of self.old id }
+    {
+        let Ok(()) = self.slots.reserve(1) else {
+            return Err(Error::new(Reason::NoMemory));
+        };
+        let Ok(()) = self.ids.reserve(1) else {
+            return Err(Error::new(Reason::NoMemory));
+        };
+        Ok(())
+    }
+
+    /// What is in a slot.
+    #[inline]
+    pub fn get(&self, slot: usize) -> Option<&Slot<K, V, P>>
+        ensures { option_copied result ≡ slot_in self.now slot }
+    {
+        self.slots.get(slot)
+    }
+
+    /// The slot of an id, which may be the one that is hinted.
+    #[inline]
+    pub fn find(&self, id: u64, hint: usize) -> Option<usize>
+        ensures { result ≡ number_of self.now id }
+    {
+        if let Some(slot) = self.slots.get(hint) {
+            if slot.id() == id {
+                return Some(hint);
+            }
+        }
+        self.ids.get(&id).copied()
+    }
+
+    /// Puts a record with a new id in, and answers its slot. It asks for room.
+    pub fn put(&mut self, slot: Slot<K, V, P>) -> usize
+        requires room { HasRoom self.old }
+        requires new { number_of self.old slot.id ≡ None }
+        ensures free { slot_in self.old result ≡ None }
+        ensures slots { (n : ℕ) → slot_in self.new n ≡ update nat_eq (slot_in self.old) result (Some slot) n }
+        ensures ids { (id : ℕ) → number_of self.new id ≡ update nat_eq (number_of self.old) slot.id (Some result) id }
+        ensures records { (id : ℕ) → record_in self.new id ≡ update nat_eq (record_in self.old) slot.id (Some (rec_of slot)) id }
+    {
+        let id = slot.id();
+        let place = self.slots.insert_reserved(slot);
+        name(&mut self.ids, id, place);
+        place
+    }
+
+    /// Counts one handle more.
+    pub fn add_handle(&mut self, slot: usize)
+        requires { IsSomeAnd (slot_in self.old slot) (λ s. s.handles + 1 < 2 ^ 64) }
+        ensures slots { (s : Kept K V P) → slot_in self.old slot ≡ Some s → (n : ℕ) → slot_in self.new n ≡ update nat_eq (slot_in self.old) slot (Some (record s { handles = s.handles + 1 })) n }
+        ensures records { (s : Kept K V P) → slot_in self.old slot ≡ Some s → (id : ℕ) → record_in self.new id ≡ update nat_eq (record_in self.old) s.id (Some (rec_of (record s { handles = s.handles + 1 }))) id }
+        ensures ids { (id : ℕ) → number_of self.new id ≡ number_of self.old id }
+        ensures room { HasRoom self.old → HasRoom self.new }
+    {
+        let Some(found) = self.slots.get_mut(slot) else {
+            unreachable!();
+        };
+        found.add_handle();
+    }
+
+    /// Counts one handle less.
+    pub fn take_handle(&mut self, slot: usize)
+        requires { IsSomeAnd (slot_in self.old slot) (λ s. 0 < s.handles) }
+        ensures slots { (s : Kept K V P) → slot_in self.old slot ≡ Some s → (n : ℕ) → slot_in self.new n ≡ update nat_eq (slot_in self.old) slot (Some (record s { handles = s.handles - 1 })) n }
+        ensures records { (s : Kept K V P) → slot_in self.old slot ≡ Some s → (id : ℕ) → record_in self.new id ≡ update nat_eq (record_in self.old) s.id (Some (rec_of (record s { handles = s.handles - 1 }))) id }
+        ensures ids { (id : ℕ) → number_of self.new id ≡ number_of self.old id }
+    {
+        let Some(found) = self.slots.get_mut(slot) else {
+            unreachable!();
+        };
+        let _ = found.take_handle();
+    }
+
+    /// The policy took a slot's record in, at this place.
+    pub fn set_place(&mut self, slot: usize, place: Place)
+        requires { IsSome (slot_in self.old slot) }
+        ensures slots { (s : Kept K V P) → slot_in self.old slot ≡ Some s → (n : ℕ) → slot_in self.new n ≡ update nat_eq (slot_in self.old) slot (Some (record s { place = Some place })) n }
+        ensures records { (id : ℕ) → record_in self.new id ≡ record_in self.old id }
+        ensures ids { (id : ℕ) → number_of self.new id ≡ number_of self.old id }
+    {
+        let Some(found) = self.slots.get_mut(slot) else {
+            unreachable!();
+        };
+        found.set_place(place);
+    }
+
+    /// Lets a slot's record go.
+    pub fn forget(&mut self, slot: usize) -> Slot<K, V, P>
+        requires { IsSome (slot_in self.old slot) }
+        ensures slot { slot_in self.old slot ≡ Some result }
+        ensures slots { (n : ℕ) → slot_in self.new n ≡ update nat_eq (slot_in self.old) slot None n }
+        ensures ids { (id : ℕ) → number_of self.new id ≡ update nat_eq (number_of self.old) result.id None id }
+        ensures records { (id : ℕ) → record_in self.new id ≡ update nat_eq (record_in self.old) result.id None id }
+        ensures room { HasRoom self.old → HasRoom self.new }
+    {
+        let found = self.slots.remove(slot);
+        let _ = self.ids.remove(&found.id());
+        found
+    }
+
+    /// A slot's record is out of the index and the policy: what leaves with it. It stays only while it has
+    /// a handle.
+    pub fn leave(&mut self, slot: usize) -> Left<K, V, P>
+        requires { IsSomeAnd (slot_in self.old slot) (λ s. s.resident ≡ true) }
+        ensures left { (s : Kept K V P) → slot_in self.old slot ≡ Some s → result ≡ record { id = s.id; kept = s.kept } }
+        ensures slots { (s : Kept K V P) → slot_in self.old slot ≡ Some s → (n : ℕ) → slot_in self.new n ≡ update nat_eq (slot_in self.old) slot (slot_outside s) n }
+        ensures records { (s : Kept K V P) → slot_in self.old slot ≡ Some s → (id : ℕ) → record_in self.new id ≡ update nat_eq (record_in self.old) s.id (outside (rec_of s)) id }
+        ensures room { HasRoom self.old → HasRoom self.new }
+    {
+        let Some(found) = self.slots.get_mut(slot) else {
+            unreachable!();
+        };
+        let left = found.leave();
+        if found.handles() == 0 {
+            let _ = self.forget(slot);
+        }
+        left
+    }
+}
+
+// An id names a slot. There is room for it.
+fn name(ids: &mut HashMap<u64, usize>, id: u64, slot: usize)
+    requires { 0 < spare ids.old }
+    ensures { (q : ℕ) → get_key nat_eq ids.new q ≡ update nat_eq (get_key nat_eq ids.old) id (Some slot) q }
+{
+    let _ = ids.insert(id, slot);
+}
