@@ -11,9 +11,9 @@ use Rattle.slab.proofs.SlabLemmas.{Updates-with_value}
 module _ {T : Type 0} where
   pub updates_at : (old new : Slab T) (key : ℕ) (slot : Option T) → Updates old new key slot → (q : ℕ) → get new q ≡ update nat_eq (get old) key slot q
   updates_at old new key slot u q = elim (eqb_tells q key) [
-      inl e ↦ subst (λ (x : ℕ). get new x ≡ update nat_eq (get old) key slot x) (sym e.1) (u.changed ∙ sym (update_here (get old) key slot))
+    | inl e ↦ subst (λ (x : ℕ). get new x ≡ update nat_eq (get old) key slot x) (sym e.1) (u.changed ∙ sym (update_here (get old) key slot))
     | inr e ↦ u.others q e.1 ∙ sym (update_apart (get old) key slot q e.1)
-    ]
+  ]
 
   there_is : (o : Option T) (x : T) → o ≡ Some x → IsSome o
   there_is o x h = rw h (search rules)

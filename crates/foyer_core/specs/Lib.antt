@@ -4,4 +4,6 @@ pub mod Values
 pub mod Table
 pub mod Records
 pub mod State
+pub mod Stored
+pub mod Shards
 pub mod Steps

@@ -1,12 +1,13 @@
 //! Records, the index, one shard and the sharded core of a cache.
 #![tactic(auto)]
 
-pub mod indexer;
 pub mod entry;
+pub mod indexer;
 pub mod record;
 mod records;
+pub mod shard;
 mod slot;
 
-pub use indexer::Indexer;
 pub use entry::{CoreEntry, Left};
+pub use indexer::Indexer;
 pub use record::{Data, Flags, Limits, Record};

@@ -126,4 +126,16 @@ impl<K: Drop, V: Drop, P: Drop> Slot<K, V, P> {
             None => unreachable!(),
         }
     }
+
+    /// What a record that is let go shows.
+    pub fn into_left(self) -> Left<K, V, P>
+        ensures { result ≡ record { id = self.id; kept = self.kept } }
+    {
+        let Slot {
+            id,
+            record,
+            leave: _,
+        } = self;
+        Left::new(id, record.into_data())
+    }
 }

@@ -10,8 +10,8 @@ use Rattle.foyer_core.proofs.records.Records.forget.Goals as goal
 pub invariant_of-self : goal.invariant_of-self
 invariant_of-self g c = record {
   agree = forget_table (slot_in c.args.self.now) (get c.remove-found.new.self) (number_of c.args.self.now) (get_key nat_eq c.remove.new.self) c.args.slot c.args.self.now.agree c.remove-found.result c.remove-found.ensures.value
-    (updates_at c.args.self.now.slots c.remove-found.new.self c.args.slot None c.remove-found.ensures.updates)
-    (subst (λ (n : ℕ). (q : ℕ) → get_key nat_eq c.remove.new.self q ≡ update nat_eq (number_of c.args.self.now) n None q) c.id.ensures c.remove.ensures.updates.0)
+      (updates_at c.args.self.now.slots c.remove-found.new.self c.args.slot None c.remove-found.ensures.updates)
+      (subst (λ (n : ℕ). (q : ℕ) → get_key nat_eq c.remove.new.self q ≡ update nat_eq (number_of c.args.self.now) n None q) c.id.ensures c.remove.ensures.updates.0);
 }
 
 pub returns-clause-records : goal.returns-clause-records

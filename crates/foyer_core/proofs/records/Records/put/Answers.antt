@@ -10,8 +10,8 @@ use Rattle.foyer_core.proofs.records.Records.put.Goals as goal
 pub invariant_of-self : goal.invariant_of-self
 invariant_of-self g c = record {
   agree = put_table (slot_in c.args.self.now) (get c.insert_reserved-place.new.self) (number_of c.args.self.now) (get_key nat_eq c.name.new.ids) c.insert_reserved-place.result c.args.self.now.agree c.args.slot c.insert_reserved-place.ensures.was_vacant c.requires.new
-    (updates_at c.args.self.now.slots c.insert_reserved-place.new.self c.insert_reserved-place.result (Some c.args.slot) c.insert_reserved-place.ensures.updates)
-    (subst (λ (n : ℕ). (q : ℕ) → get_key nat_eq c.name.new.ids q ≡ update nat_eq (number_of c.args.self.now) n (Some c.insert_reserved-place.result) q) c.id-id.ensures c.name.ensures)
+      (updates_at c.args.self.now.slots c.insert_reserved-place.new.self c.insert_reserved-place.result (Some c.args.slot) c.insert_reserved-place.ensures.updates)
+      (subst (λ (n : ℕ). (q : ℕ) → get_key nat_eq c.name.new.ids q ≡ update nat_eq (number_of c.args.self.now) n (Some c.insert_reserved-place.result) q) c.id-id.ensures c.name.ensures);
 }
 
 pub returns-clause-records : goal.returns-clause-records

@@ -1,0 +1,110 @@
+//! One shard of a cache: a policy, an index and records.
+
+ghost use Rattle.std.specs.Prelude.{◌≡◌, ◌≢◌, ◌⊎◌, ℕ, ◌+◌, ◌-◌, ◌<◌, ◌≤◌, ◌^◌, List, [], Option, Some, None, OnOk, OnErr, IfOk, IfErr, IfSome, IsTrue, is_some, MatchResult, Ok, Err, nat_eq, true, false};
+ghost use Rattle.foyer_policy.specs.Items.{weight_of};
+ghost use Rattle.foyer_core.specs.State.{IsKept};
+ghost use Rattle.foyer_core.specs.Stored.{meaning, state, IsStored};
+
+use crate::entry::{CoreEntry, Left};
+use crate::indexer::Indexer;
+use crate::record::Limits;
+use crate::records::Records;
+use foyer_policy::{Error, Event, Eviction, Key, Properties, Reason, Result, Source, Value};
+use std::alloc::Global;
+
+/// One shard of a cache. Contracts see its `State`: maps from hashed keys to ids and from ids to records.
+#[derive(Drop)]
+pub struct Shard<E: Eviction, K: Key, V: Value, P: Properties, I: Indexer<K>> {
+    eviction: E,
+    index: I,
+    records: Records<K, V, P>,
+    usage: usize,
+    capacity: usize,
+    number: u64,
+    next: u64,
+    limits: Limits,
+    ghost kept: { ∥ IsKept (meaning K.eq E.model P.hint_of P.phantom_of) (state number capacity limits (E.view eviction) (I.view index) records next) ∥₁ },
+    ghost stored: { IsStored (meaning K.eq E.model P.hint_of P.phantom_of) (E.at eviction) (I.view index) records },
+    ghost counted: { usage ≡ weight_of (E.model.order (E.view eviction)) },
+}
+
+impl<E: Eviction, K: Key, V: Value, P: Properties, I: Indexer<K>> Shard<E, K, V, P, I> {
+    ghost use Rattle.foyer_core.specs.Shards.{state_of, meaning_of};
+    ghost use Rattle.foyer_core.specs.State.{hit, usage_of};
+    ghost use Rattle.foyer_core.specs.Steps.{Gets, GivesBack};
+    ghost use Rattle.foyer_policy.specs.declared.error.Reason.TheVariants.{NoMemory};
+
+    /// A shard that holds nothing, over an empty index. `number` is its core's. Refused with the policy
+    /// configuration's first fault, and else only for want of memory (F7).
+    pub fn new(
+        alloc: Global,
+        number: u64,
+        capacity: usize,
+        limits: Limits,
+        config: &E::Config,
+        index: I,
+    ) -> Result<Self>
+        requires { (k : ℕ × K) → I.view index k ≡ None }
+        ensures number { IfOk result (λ s. (state_of s).number ≡ number) }
+        ensures capacity { IfOk result (λ s. (state_of s).capacity ≡ capacity) }
+        ensures limits { IfOk result (λ s. (state_of s).limits ≡ limits) }
+        ensures view { IfOk result (λ s. (state_of s).view ≡ E.model.opening capacity config.now) }
+        ensures index { IfOk result (λ s. (k : ℕ × K) → (state_of s).index k ≡ None) }
+        ensures records { IfOk result (λ s. (id : ℕ) → (state_of s).records id ≡ None) }
+        ensures next { IfOk result (λ s. (state_of s).next ≡ 0) }
+        ensures accepted { OnOk result (E.model.fault config.now ≡ None) }
+        ensures refused { IfSome (E.model.fault config.now) (λ reason. result ≡ Err reason) }
+        ensures memory { IfErr result (λ e. E.model.fault config.now ≡ None → e ≡ NoMemory) }
+    {
+        let eviction = E::new(alloc, capacity, config)?;
+        Ok(Shard {
+            eviction,
+            index,
+            records: Records::new(alloc),
+            usage: 0,
+            capacity,
+            number,
+            next: 0,
+            limits,
+        })
+    }
+
+    /// The sum of the weights of the records in the index.
+    pub fn usage(&self) -> usize
+        ensures { result ≡ usage_of (meaning_of self.now) (state_of self.now) }
+    {
+        self.usage
+    }
+
+    /// Whether a key has a record in the index. It takes no memory.
+    pub fn contains(&self, hash: u64, key: &K) -> bool
+        ensures { result ≡ is_some (hit (state_of self.now) (hash, key.now)) }
+    {
+        self.index.get(hash, key).is_some()
+    }
+
+    /// An entry of the key's record, where it is in the index, which counts as a handle and as a use.
+    /// Refused at the limit of handles (F9), or where the record could not be shared (F7); then nothing
+    /// has changed. It allocates nothing.
+    pub fn get(&mut self, hash: u64, key: &K) -> Result<Option<CoreEntry<K, V, P>>>
+        ensures gets { Gets (meaning_of self.old) (state_of self.old) (hash, key.now) result (state_of self.new) }
+    {
+        let Some(number) = self.index.get(hash, key) else {
+            return Ok(None);
+        };
+        let slot = number as usize;
+        let Some(found) = self.records.get(slot) else {
+            unreachable!();
+        };
+        if found.handles() >= self.limits.handles {
+            return Err(Error::new(Reason::Handles));
+        }
+        let Some(place) = found.place() else {
+            unreachable!();
+        };
+        let entry = found.entry(self.number, slot, Source::Memory)?;
+        self.records.add_handle(slot);
+        self.eviction.acquire(place);
+        Ok(Some(entry))
+    }
+}
