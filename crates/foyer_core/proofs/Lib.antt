@@ -1,0 +1,5 @@
+pub mod Found
+pub mod Keys
+pub mod Leaving
+pub mod Pushing
+pub mod Taken
