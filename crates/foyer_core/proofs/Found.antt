@@ -5,6 +5,7 @@ use Rattle.std.specs.List.{AllByRecursion}
 use Rattle.std.specs.List.Sorted.{IsPermutation}
 use Rattle.std.proofs.lemmas.Bool.Decides.{nat_tests}
 use Rattle.std.proofs.lemmas.List.Elements.{All-from_recursion, recursion_from_All}
+use Rattle.std.proofs.lemmas.List.Sums.{sum_by-cons}
 use Rattle.std.proofs.lemmas.List.Sorted.{All-permutation, sum_by-IsPermutation}
 use Rattle.foyer_policy.specs.Items.{count_of, IsNewIn, HasIdsOnce, remove_id, find_id}
 use Rattle.foyer_policy.specs.declared.types.Item.{Item}
@@ -81,3 +82,11 @@ found-remove_id id j k (x ∷ xs) once h = go (x.id == id) (x.id == k) refl refl
   go true false e f h rec = h
   go false true e f h rec = rw f at h
   go false false e f h rec = rec (rw f at h)
+
+-- whatever is counted, the rest without an item has at most as much
+pub sum-removed : (measure : Item → ℕ) (id : ℕ) (l : List Item) → sum_by measure (remove_id id l) ≤ sum_by measure l
+sum-removed f id [] = omega arith
+sum-removed f id (x ∷ xs) = go (x.id == id) (sum-removed f id xs) where
+  go : (b : Bool) → sum_by f (remove_id id xs) ≤ sum_by f xs → sum_by f (cond b xs (x ∷ remove_id id xs)) ≤ sum_by f (x ∷ xs)
+  go true rec = omega (arith, sum_by-cons f x xs)
+  go false rec = omega (arith, sum_by-cons f x xs, sum_by-cons f x (remove_id id xs))
