@@ -1,2 +1,13 @@
+pub mod Found
+pub mod Handles
+pub mod Holdings
+pub mod Keeps
+pub mod Keys
+pub mod Leaving
+pub mod Pushing
+pub mod ShardLemmas
 pub mod SlotLemmas
+pub mod States
+pub mod StoredLemmas
 pub mod TableLemmas
+pub mod Taken

@@ -36,6 +36,14 @@ key_of d = (d.hash, d.key)
 abbrev pub hit : {K V P View : Type 0} → State K V P View → ℕ × K → Option ℕ
 hit s k = s.index k
 
+-- how many handles there are of an id
+abbrev pub handles_of : {K V P : Type 0} → Option (Rec K V P) → ℕ
+handles_of None = 0
+handles_of (Some r) = r.handles
+
+abbrev pub handles_in : {K V P View : Type 0} → State K V P View → ℕ → ℕ
+handles_in s id = handles_of (s.records id)
+
 -- the list without the item of an id, where there is one
 abbrev pub without_own : Option ℕ → List Item → List Item
 without_own None items = items

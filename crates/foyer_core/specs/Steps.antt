@@ -1,7 +1,7 @@
 -- The steps of a shard.
 use Rattle.std.specs.Prelude.{◌≡◌, ℕ, ◌+◌, ◌-◌, ◌<◌, ◌≤◌, ◌^◌, ◌==◌, ◌&&◌, not, List, [], ◌∷◌, ◌++◌, Option, Some, None, Result, Ok, Err, Bool, true, false, nat_eq, if◌then◌else◌, map, length}
 use Rattle.std.specs.Map.{update}
-use Rattle.foyer_policy.specs.Policy.{Policy, evicted, after_pops}
+use Rattle.foyer_policy.specs.Policy.{Policy, victim, evicted, after_pops}
 use Rattle.foyer_policy.specs.declared.types.Item.{Item}
 use Rattle.foyer_policy.specs.declared.types.Event.{Event}
 use Rattle.foyer_policy.specs.declared.types.Event.TheVariants.{Evict, Replace}
@@ -25,6 +25,11 @@ gone_of id r = record { id = id; kept = r.kept }
 -- an entry of a record
 abbrev pub entry_of : {K V P View : Type 0} → State K V P View → ℕ → Data K V P → Source → Held K V P
 entry_of s id d source = record { number = s.number; id = id; kept = d; source = source; left = true }
+
+-- what gives way, as leaves
+abbrev pub replaced_leaves : {K V P : Type 0} → Option (Gone K V P) → List (Event × Gone K V P)
+replaced_leaves None = []
+replaced_leaves (Some g) = (Replace, g) ∷ []
 
 -- the ids of items
 abbrev pub ids_of : List Item → List ℕ
@@ -55,6 +60,16 @@ module _ {K V P View C : Type 0} (m : Meaning K P View C) where
   Evicts target old ls new =
       Leave Evict (ids_of (evicted m.policy target old.view)) old ls (after_pops m.policy (length (evicted m.policy target old.view)) old.view) new
 
+  -- one eviction: the next victim leaves
+  pub record EvictsOne (old : State K V P View) (gone : Gone K V P) (new : State K V P View) : Type 0 where
+    pub item : Item
+    pub view : View
+    pub rec : Rec K V P
+    pub popped : victim m.policy old.view ≡ Some (item, view)
+    pub there : old.records item.id ≡ Some rec
+    pub gone_is : gone ≡ gone_of item.id rec
+    pub after : new ≡ record (after_out old item.id rec) { view = view }
+
   -- the record of this id, where there is one, gives way to a newer one
   abbrev pub GivesWay : Option ℕ → State K V P View → List (Event × Gone K V P) → State K V P View → Type 0
   GivesWay None old ls new = (ls ≡ []) × (new ≡ old)
@@ -68,6 +83,12 @@ module _ {K V P View C : Type 0} (m : Meaning K P View C) where
     records = update nat_eq s.records s.next (Some record { kept = d; handles = 1; resident = true });
     next = s.next + 1;
   }
+
+  -- a new record comes in, and its key's record gives way
+  pub record Admits (old : State K V P View) (d : Data K V P) (replaced : Option (Gone K V P)) (new : State K V P View) : Type 0 where
+    pub last : State K V P View
+    pub gives_way : GivesWay (old.index (key_of d)) old (replaced_leaves replaced) last
+    pub after : new ≡ after_push last d
 
   -- An insert of a plain record that is not refused: the evictions to the capacity less its weight, then
   -- its key's record, where it is still there, gives way, then the record comes in.

@@ -136,6 +136,13 @@ impl<K: Drop, V: Drop, P: Drop> CoreEntry<K, V, P> {
         self.id
     }
 
+    // The record stands in this slot.
+    pub(crate) fn set_slot(&mut self, slot: usize)
+        ensures { self.new ≡ self.old }
+    {
+        self.slot = slot;
+    }
+
     // Where the record may stand.
     pub(crate) fn slot(&self) -> usize {
         self.slot

@@ -3,6 +3,7 @@
 
 pub mod entry;
 pub mod indexer;
+pub mod outcome;
 pub mod record;
 mod records;
 pub mod shard;
@@ -10,4 +11,5 @@ mod slot;
 
 pub use entry::{CoreEntry, Left};
 pub use indexer::Indexer;
+pub use outcome::{Answers, Inserted, Outcome, Refused, Waiting};
 pub use record::{Data, Flags, Limits, Record};

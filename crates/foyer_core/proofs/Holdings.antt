@@ -1,0 +1,26 @@
+-- What a shard holds, as lemmas take it.
+use Rattle.std.specs.declared.cmp.PartialEq.{Ghosts as EqGhosts}
+use Rattle.std.specs.declared.hash.Hash.{Ghosts as HashGhosts}
+use Rattle.std.specs.declared.clone.Clone.{Ghosts as CloneGhosts}
+use Rattle.std.specs.declared.default.Default.{Ghosts as DefaultGhosts}
+use Rattle.foyer_policy.specs.declared.eviction.Eviction.{Ghosts as EvictionGhosts}
+use Rattle.foyer_policy.specs.declared.properties.Properties.{Ghosts as PropertiesGhosts}
+use Rattle.foyer_core.specs.declared.indexer.Indexer.{Ghosts as IndexerGhosts}
+use Rattle.foyer_core.specs.declared.shard.Shard.{Shard}
+use Rattle.foyer_core.specs.Shards.{meaning_of}
+use Rattle.foyer_core.proofs.ShardLemmas.{Holding}
+
+module _ {E K V P I C S : Type 0} {e : EvictionGhosts E C S} {q : EqGhosts K} {h : HashGhosts K} {c : CloneGhosts K} {p : PropertiesGhosts P} {d : DefaultGhosts P} {i : IndexerGhosts I K} where
+  abbrev pub holding : (s : Shard E K V P I C S e q h c p d i) → Holding V (meaning_of s)
+  holding s = record {
+    at = e.at s.eviction;
+    keys = i.view s.index;
+    t = s.records;
+    number = s.number;
+    capacity = s.capacity;
+    limits = s.limits;
+    view = e.view s.eviction;
+    next = s.next;
+    kept = s.kept;
+    stored = s.stored;
+  }
