@@ -3,6 +3,7 @@ pub mod Handles
 pub mod Keeps
 pub mod Keys
 pub mod Leaving
+pub mod Popped
 pub mod Pushing
 pub mod States
 pub mod Taken
