@@ -1,3 +1,4 @@
+pub mod Evictions
 pub mod Found
 pub mod Handles
 pub mod Keeps
