@@ -3,6 +3,7 @@ pub mod Found
 pub mod Handles
 pub mod Keeps
 pub mod Keys
+pub mod Leaves
 pub mod Leaving
 pub mod Popped
 pub mod Pushing

@@ -30,6 +30,17 @@ module _ {V C : Type 0} (m : Policy V C) where
     go None is e rec = absurd (let f : m.pop v ≡ Some (i, x) = rw e at h in let g : ◌≡◌ {A = Option (Item × V)} None (Some (i, x)) = sym is ∙ f in cc)
     go (Some p) is e rec = rec p.1 e
 
+-- what stands first in the pops is the first pop, and the rest are the pops after it
+pub pops_first : {V C : Type 0} (m : Policy V C) → IsPolicy m → (v : V) (i : Item) (is : List Item) → i ∷ is ≡ pops m v → (w : V) × (m.pop v ≡ Some (i, w)) × (is ≡ pops m w)
+pops_first {V} m good v i is h = go (m.pop v) refl where
+  go : (o : Option (Item × V)) → m.pop v ≡ o → (w : V) × (m.pop v ≡ Some (i, w)) × (is ≡ pops m w)
+  go None e = absurd (let f : ◌≡◌ {A = List Item} (i ∷ is) [] = h ∙ victims_none m (length (m.order v)) v e in cc)
+  go (Some (j, w)) e =
+      let f : ◌≡◌ {A = List Item} (i ∷ is) (j ∷ pops m w) = h ∙ pops_some m good v w j e in
+      let first : j ≡ i = cc in
+      let more : is ≡ pops m w = cc in
+      (w, e ∙ ap (λ (x : Item). Some (x, w)) first, more)
+
 pub until_low : (t u : ℕ) (is : List Item) → u ≤ t → until t u is ≡ []
 until_low t u [] h = refl
 until_low t u (i ∷ is) h = grind (arith, nat_tests)
