@@ -9,3 +9,4 @@ pub mod Popped
 pub mod Pushing
 pub mod States
 pub mod Taken
+pub mod Weights
