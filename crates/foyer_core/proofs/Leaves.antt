@@ -44,23 +44,34 @@ module _ {K V P View C : Type 0} (m : Meaning K P View C) where
     pub index : (k : ℕ × K) (id : ℕ) → new.index k ≡ Some id → old.index k ≡ Some id
     pub records : (id : ℕ) (q : Rec K V P) → new.records id ≡ Some q → (o : Rec K V P) × (old.records id ≡ Some o) × (q.kept ≡ o.kept)
 
+  pub rests-rests : (old mid new : State K V P View) → Rests old mid → Rests mid new → Rests old new
+  rests-rests old mid new a b = record {
+    number = b.number ∙ a.number;
+    capacity = b.capacity ∙ a.capacity;
+    limits = b.limits ∙ a.limits;
+    next = b.next ∙ a.next;
+    index = λ k id h. a.index k id (b.index k id h);
+    records = λ id q h. let o = b.records id q h in let p = a.records id o.0 o.1 in (p.0, p.1, o.2 ∙ p.2);
+  }
+
   rests_same : (old new : State K V P View) (v : View) → new ≡ record old { view = v } → Rests old new
   rests_same old new v h = subst (Rests old) (sym h) record { number = refl; capacity = refl; limits = refl; next = refl; index = λ k id e. e; records = λ id q e. (q, e, refl) }
+
+  out_rests : (old : State K V P View) (i : ℕ) (r : Rec K V P) → old.records i ≡ Some r → Rests old (after_out m old i r)
+  out_rests old i r there = record {
+    number = refl;
+    capacity = refl;
+    limits = refl;
+    next = refl;
+    index = λ k id f. taken_from (same_key m.same) old.index (key_of r.kept) k id f;
+    records = λ id q f. out_data old i r there id q f;
+  }
 
   pub leave-rests : (e : Event) (ids : List ℕ) (old : State K V P View) (ls : List (Event × Gone K V P)) (v : View) (new : State K V P View) → Leave m e ids old ls v new → Rests old new
   leave-rests e [] old [] v new h = rests_same old new v h
   leave-rests e [] old (l ∷ ls) v new h = absurd h
   leave-rests e (i ∷ ids) old [] v new h = absurd h
-  leave-rests e (i ∷ ids) old (l ∷ ls) v new h = onward (leave-rests e ids (after_out m old i h.0) ls v new h.3) where
-    onward : Rests (after_out m old i h.0) new → Rests old new
-    onward rec = record {
-      number = rec.number;
-      capacity = rec.capacity;
-      limits = rec.limits;
-      next = rec.next;
-      index = λ k id f. taken_from (same_key m.same) old.index (key_of h.0.kept) k id (rec.index k id f);
-      records = λ id q f. let a = rec.records id q f in let b = out_data old i h.0 h.1 id a.0 a.1 in (b.0, b.1, a.2 ∙ b.2);
-    }
+  leave-rests e (i ∷ ids) old (l ∷ ls) v new h = rests-rests old (after_out m old i h.0) new (out_rests old i h.0 h.1) (leave-rests e ids (after_out m old i h.0) ls v new h.3)
 
   pub leave-view : (e : Event) (ids : List ℕ) (old : State K V P View) (ls : List (Event × Gone K V P)) (v : View) (new : State K V P View) → Leave m e ids old ls v new → new.view ≡ v
   leave-view e [] old [] v new h = ap (λ (s : State K V P View). s.view) h

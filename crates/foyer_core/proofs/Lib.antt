@@ -1,6 +1,7 @@
 pub mod Evictions
 pub mod Found
 pub mod Handles
+pub mod Inserted
 pub mod Keeps
 pub mod Keys
 pub mod Leaves
