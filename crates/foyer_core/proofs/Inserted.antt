@@ -16,7 +16,7 @@ use Rattle.foyer_core.specs.Steps.{after_out, after_push, gone_of, ids_of, Leave
 use Rattle.foyer_core.proofs.Found.{sum-removed}
 use Rattle.foyer_core.proofs.Keeps.{counted_there, indexed_there, removed_keeps, removed_absent, push_keeps, push_weight}
 use Rattle.foyer_core.proofs.Keys.{same_key_laws}
-use Rattle.foyer_core.proofs.Leaves.{Rests, rests-rests, leave-rests, leave-view, evicts_keeps}
+use Rattle.foyer_core.proofs.LeaveLemmas.{Rests, rests-rests, leave-rests, leave-view, evicts_keeps}
 use Rattle.foyer_core.proofs.Popped.{after_pops_pinned, evicted_ends}
 use Rattle.foyer_core.proofs.Weights.{removed_within, removed_new}
 

@@ -4,10 +4,11 @@ pub mod Handles
 pub mod Inserted
 pub mod Keeps
 pub mod Keys
-pub mod Leaves
+pub mod LeaveLemmas
 pub mod Leaving
 pub mod Popped
 pub mod Pushing
 pub mod States
+pub mod Stepped
 pub mod Taken
 pub mod Weights
