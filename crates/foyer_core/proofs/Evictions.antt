@@ -1,13 +1,12 @@
 -- Evictions, one record at a time.
-use Rattle.std.proofs.Common.{◌≡◌, ℕ, suc, ◌+◌, ◌-◌, ◌<◌, ◌≤◌, List, [], ◌∷◌, ◌++◌, Option, Some, None, length, map, refl, sym, ◌∙◌, ap, subst, subst₂, arith, add-one, append_assoc, append-nil, length-append}
-use Rattle.std.specs.Cmp.{IsEquivalence}
+use Rattle.std.proofs.Common.{◌≡◌, ℕ, suc, ◌+◌, ◌-◌, ◌<◌, ◌≤◌, List, [], ◌∷◌, ◌++◌, Some, None, length, refl, sym, ◌∙◌, ap, subst, subst₂, arith, append_assoc, append-nil, length-append}
 use Rattle.foyer_policy.specs.Items.{weight_of}
-use Rattle.foyer_policy.specs.Policy.{Policy, IsPolicy, pops, after_pops, until, evicted}
+use Rattle.foyer_policy.specs.Policy.{IsPolicy, pops, after_pops, until, evicted}
 use Rattle.foyer_policy.specs.declared.types.Item.{Item}
 use Rattle.foyer_policy.specs.declared.types.Event.{Event}
 use Rattle.foyer_policy.specs.declared.types.Event.TheVariants.{Evict}
 use Rattle.foyer_core.specs.Values.{Rec, Gone}
-use Rattle.foyer_core.specs.State.{Meaning, State, usage_of, IsKept}
+use Rattle.foyer_core.specs.State.{Meaning, State, usage_of}
 use Rattle.foyer_core.specs.Steps.{after_out, gone_of, ids_of, Leave, Evicting, Evicts}
 use Rattle.foyer_core.proofs.Popped.{pop_weight, pop_shorter, pops_some, victims_none, after_pops_more, until_low, until_more}
 

@@ -1,21 +1,17 @@
 -- A record whose handles change keeps what a shard keeps.
-use Rattle.std.proofs.Common.{◌≡◌, ◌≢◌, ℕ, ◌+◌, ◌-◌, ◌<◌, ◌≤◌, ◌⊎◌, inl, inr, List, ◌∷◌, Some, None, Option, Bool, true, false, true≢false, cond, nat_eq, refl, sym, ap, ◌∙◌, subst, arith}
-use Rattle.std.specs.Prelude.{◌==◌}
-use Rattle.std.specs.Cmp.{IsEquivalence}
+use Rattle.std.proofs.Common.{◌≡◌, ◌≢◌, ℕ, ◌<◌, ◌≤◌, ◌⊎◌, inl, inr, Some, None, Option, true, false, true≢false, nat_eq, refl, sym, ap, ◌∙◌, subst, arith}
 use Rattle.std.specs.Map.{update}
 use Rattle.std.specs.List.Sorted.{IsPermutation}
 use Rattle.std.proofs.lemmas.Map.{update_here, update_apart}
-use Rattle.std.proofs.lemmas.Bool.Decides.{eqb_tells, nat_tests}
-use Rattle.std.proofs.lemmas.List.Sorted.{sum_by_pushed, sum_by-IsPermutation, IsPermutation-sym, IsPermutation-refl}
-use Rattle.foyer_policy.specs.Items.{weight_of, count_of, HasIdsOnce, find_id, remove_id}
-use Rattle.foyer_policy.specs.Policy.{IsPolicy, PinsAtMost}
+use Rattle.std.proofs.lemmas.Bool.Decides.{eqb_tells}
+use Rattle.std.proofs.lemmas.List.Sorted.{sum_by-IsPermutation, IsPermutation-sym}
+use Rattle.foyer_policy.specs.Items.{count_of, HasIdsOnce, find_id}
 use Rattle.foyer_policy.specs.declared.types.Item.{Item}
-use Rattle.foyer_policy.proofs.ItemLemmas.{one_if, found-id, found-where, sum-remove_id}
+use Rattle.foyer_policy.proofs.ItemLemmas.{one_if}
 use Rattle.foyer_core.specs.declared.record.Data.{Data}
 use Rattle.foyer_core.specs.Indexer.{same_key}
 use Rattle.foyer_core.specs.Values.{Rec}
-use Rattle.foyer_core.specs.State.{Meaning, State, key_of, item_of, is_phantom_record, usage_of, hit, IsKept}
-use Rattle.foyer_core.specs.Steps.{after_get, after_last, after_give_back}
+use Rattle.foyer_core.specs.State.{Meaning, State, key_of, item_of, is_phantom_record, IsKept}
 use Rattle.foyer_core.proofs.Found.{found-permuted, once-permuted}
 
 -- what stands in a record's place: nothing, where it was not in the index, or the record with handles

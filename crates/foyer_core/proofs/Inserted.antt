@@ -1,5 +1,5 @@
 -- What an insert leaves: its usage fits, and its key finds it.
-use Rattle.std.proofs.Common.{◌≡◌, ◌≢◌, ℕ, zero, suc, ◌+◌, ◌-◌, ◌<◌, ◌≤◌, ◌^◌, max, ◌⊎◌, inl, inr, List, [], ◌∷◌, ◌++◌, Option, Some, None, Bool, true, false, length, refl, sym, ◌∙◌, ap, subst, arith}
+use Rattle.std.proofs.Common.{◌≡◌, ℕ, zero, suc, ◌+◌, ◌-◌, ◌<◌, ◌≤◌, ◌^◌, max, ◌⊎◌, inl, inr, List, [], ◌∷◌, Option, Some, None, true, false, length, refl, sym, ◌∙◌, ap, subst, arith}
 use Rattle.std.specs.Cmp.{IsEquivalence}
 use Rattle.std.proofs.lemmas.Map.{update_here}
 use Rattle.foyer_policy.specs.Items.{weight_of, count_of, IsNewIn, IsWithin, remove_id}
@@ -12,9 +12,9 @@ use Rattle.foyer_core.specs.declared.record.Data.{Data}
 use Rattle.foyer_core.specs.Indexer.{same_key}
 use Rattle.foyer_core.specs.Values.{Rec, Gone, Held}
 use Rattle.foyer_core.specs.State.{Meaning, State, key_of, hit, without_own, is_phantom_record, usage_of, pinned_beside, IsKept}
-use Rattle.foyer_core.specs.Steps.{after_out, after_push, gone_of, ids_of, Leave, Evicts, GivesWay, Inserts}
+use Rattle.foyer_core.specs.Steps.{after_out, after_push, ids_of, Evicts, GivesWay, Inserts}
 use Rattle.foyer_core.proofs.Found.{sum-removed}
-use Rattle.foyer_core.proofs.Keeps.{counted_there, indexed_there, removed_keeps, removed_absent, push_keeps, push_weight}
+use Rattle.foyer_core.proofs.Keeps.{counted_there, removed_keeps, removed_absent, push_keeps, push_weight}
 use Rattle.foyer_core.proofs.Keys.{same_key_laws}
 use Rattle.foyer_core.proofs.LeaveLemmas.{Rests, rests-rests, leave-rests, leave-view, evicts_keeps}
 use Rattle.foyer_core.proofs.Popped.{after_pops_pinned, evicted_ends}

@@ -1,19 +1,18 @@
 -- What leaves change, and what they do not.
-use Rattle.std.proofs.Common.{◌≡◌, ℕ, zero, suc, ◌+◌, ◌-◌, ◌<◌, ◌≤◌, inl, inr, List, [], ◌∷◌, ◌++◌, Option, Some, None, Bool, true, false, nat_eq, length, refl, sym, ◌∙◌, ap, subst, arith, append_assoc}
-use Rattle.std.specs.Prelude.{◌==◌}
+use Rattle.std.proofs.Common.{◌≡◌, ℕ, inl, inr, List, [], ◌∷◌, ◌++◌, Option, Some, None, Bool, true, false, length, refl, sym, ◌∙◌, ap, subst, append_assoc}
 use Rattle.std.specs.Cmp.{IsEquivalence}
 use Rattle.std.specs.Map.{update}
 use Rattle.std.proofs.lemmas.Map.{update_here, update_apart}
 use Rattle.std.proofs.lemmas.Bool.Decides.{eqb_tells}
 use Rattle.foyer_policy.specs.Items.{weight_of}
-use Rattle.foyer_policy.specs.Policy.{IsPolicy, pops, and_then, victims, view_or, after_pops, until, evicted}
+use Rattle.foyer_policy.specs.Policy.{IsPolicy, pops, after_pops, evicted}
 use Rattle.foyer_policy.specs.declared.types.Item.{Item}
 use Rattle.foyer_policy.specs.declared.types.Event.{Event}
 use Rattle.foyer_policy.specs.declared.types.Event.TheVariants.{Evict}
 use Rattle.foyer_core.specs.Indexer.{same_key}
 use Rattle.foyer_core.specs.Values.{Rec, Gone}
 use Rattle.foyer_core.specs.State.{Meaning, State, key_of, IsKept}
-use Rattle.foyer_core.specs.Steps.{outside, after_out, gone_of, ids_of, Leave, Evicting, Evicts}
+use Rattle.foyer_core.specs.Steps.{outside, after_out, ids_of, Leave, Evicting, Evicts}
 use Rattle.foyer_core.proofs.Keeps.{popped_keeps}
 use Rattle.foyer_core.proofs.Leaving.{outside_is}
 use Rattle.foyer_core.proofs.Popped.{pops_first, until_begins}

@@ -1,12 +1,12 @@
 -- The steps that a shard answers keep what it keeps.
-use Rattle.std.proofs.Common.{◌≡◌, ℕ, ◌-◌, List, Option, Result, Some, None, Ok, Err, sym, subst}
+use Rattle.std.proofs.Common.{ℕ, ◌-◌, List, Option, Result, Some, None, Ok, Err, sym, subst}
 use Rattle.std.specs.Cmp.{IsEquivalence}
 use Rattle.foyer_policy.specs.Policy.{IsPolicy}
 use Rattle.foyer_policy.specs.declared.types.Event.{Event}
 use Rattle.foyer_policy.specs.declared.error.Reason.{Reason}
 use Rattle.foyer_policy.specs.declared.error.Reason.TheVariants.{Ids, Handles, Weight, NoMemory}
 use Rattle.foyer_core.specs.declared.record.Data.{Data}
-use Rattle.foyer_core.specs.Values.{Rec, Gone, Held}
+use Rattle.foyer_core.specs.Values.{Gone, Held}
 use Rattle.foyer_core.specs.State.{Meaning, State, IsKept}
 use Rattle.foyer_core.specs.Steps.{Gets, GivesBack, RefusesInsert}
 use Rattle.foyer_core.proofs.Keeps.{get_keeps, give_back_keeps}
