@@ -1,6 +1,6 @@
 -- Items that are found by their ids, after a list is put in another order.
-use Rattle.std.proofs.Common.{◌≡◌, ◌≢◌, ℕ, ◌+◌, ◌<◌, ◌≤◌, Bool, true, false, cond, List, [], ◌∷◌, Some, None, refl, sym, ap, ◌∙◌, subst, arith, All}
-use Rattle.std.specs.Prelude.{◌==◌, ◌⊎◌, sum_by}
+use Rattle.std.proofs.Common.{◌≡◌, ◌≢◌, ℕ, ◌<◌, ◌≤◌, Bool, true, false, cond, List, [], ◌∷◌, Some, refl, sym, ap, ◌∙◌, subst, arith}
+use Rattle.std.specs.Prelude.{◌==◌, sum_by}
 use Rattle.std.specs.List.{AllByRecursion}
 use Rattle.std.specs.List.Sorted.{IsPermutation}
 use Rattle.std.proofs.lemmas.Bool.Decides.{nat_tests}
@@ -9,7 +9,7 @@ use Rattle.std.proofs.lemmas.List.Sums.{sum_by-cons}
 use Rattle.std.proofs.lemmas.List.Sorted.{All-permutation, sum_by-IsPermutation}
 use Rattle.foyer_policy.specs.Items.{count_of, IsNewIn, HasIdsOnce, remove_id, find_id}
 use Rattle.foyer_policy.specs.declared.types.Item.{Item}
-use Rattle.foyer_policy.proofs.ItemLemmas.{one_if, count-cons, count-same, found-id, found-where, once-head, once-tail, sum-remove_id}
+use Rattle.foyer_policy.proofs.ItemLemmas.{one_if, count-cons, found-id, found-where, once-head, once-tail, sum-remove_id}
 
 -- what is found is counted
 pub found-counted : (id : ℕ) (i : Item) (l : List Item) → find_id id l ≡ Some i → 0 < count_of id l

@@ -1,20 +1,17 @@
 -- A record whose handles change keeps what a shard keeps.
-use Rattle.std.proofs.Common.{◌≡◌, ◌≢◌, ℕ, ◌+◌, ◌-◌, ◌<◌, ◌≤◌, ◌⊎◌, inl, inr, List, ◌∷◌, Some, None, Option, Bool, true, false, true≢false, cond, nat_eq, refl, sym, ap, ◌∙◌, subst, arith}
-use Rattle.std.specs.Prelude.{◌==◌}
-use Rattle.std.specs.Cmp.{IsEquivalence}
+use Rattle.std.proofs.Common.{◌≡◌, ◌≢◌, ℕ, ◌<◌, ◌≤◌, ◌⊎◌, inl, inr, Some, None, Option, true, false, true≢false, nat_eq, refl, sym, ap, ◌∙◌, subst, arith}
 use Rattle.std.specs.Map.{update}
 use Rattle.std.specs.List.Sorted.{IsPermutation}
 use Rattle.std.proofs.lemmas.Map.{update_here, update_apart}
-use Rattle.std.proofs.lemmas.Bool.Decides.{eqb_tells, nat_tests}
-use Rattle.std.proofs.lemmas.List.Sorted.{sum_by_pushed, sum_by-IsPermutation, IsPermutation-sym, IsPermutation-refl}
-use Rattle.foyer_policy.specs.Items.{weight_of, count_of, HasIdsOnce, find_id, remove_id}
-use Rattle.foyer_policy.specs.Policy.{IsPolicy, PinsAtMost}
+use Rattle.std.proofs.lemmas.Bool.Decides.{eqb_tells}
+use Rattle.std.proofs.lemmas.List.Sorted.{sum_by-IsPermutation, IsPermutation-sym}
+use Rattle.foyer_policy.specs.Items.{count_of, HasIdsOnce, find_id}
 use Rattle.foyer_policy.specs.declared.types.Item.{Item}
-use Rattle.foyer_policy.proofs.ItemLemmas.{one_if, found-id, found-where, sum-remove_id}
+use Rattle.foyer_policy.proofs.ItemLemmas.{one_if}
+use Rattle.foyer_core.specs.declared.record.Data.{Data}
 use Rattle.foyer_core.specs.Indexer.{same_key}
 use Rattle.foyer_core.specs.Values.{Rec}
-use Rattle.foyer_core.specs.State.{Meaning, State, key_of, item_of, is_phantom_record, usage_of, hit, IsKept}
-use Rattle.foyer_core.specs.Steps.{after_get, after_last, after_give_back}
+use Rattle.foyer_core.specs.State.{Meaning, State, key_of, item_of, is_phantom_record, IsKept}
 use Rattle.foyer_core.proofs.Found.{found-permuted, once-permuted}
 
 -- what stands in a record's place: nothing, where it was not in the index, or the record with handles
@@ -75,21 +72,28 @@ module _ {K V P View C : Type 0} (m : Meaning K P View C) (s : State K V P View)
     | inr e ↦ (r, subst (λ (a : ℕ). s.records a ≡ Some r) (sym e.0) there, (stands.same q e.1).0, (stands.same q e.1).1)
     ]
 
-  changed_placed : (j : Item) → find_id j.id (m.policy.order v) ≡ Some j
-      → (q : Rec K V P) × (update nat_eq s.records id w j.id ≡ Some q) × (q.resident ≡ true) × (s.index (key_of q.kept) ≡ Some j.id) × (j ≡ item_of m j.id q.kept)
+  abbrev PlacedNow : Item → Type 0
+  PlacedNow j = (q : Rec K V P) × (update nat_eq s.records id w j.id ≡ Some q) × (q.resident ≡ true) × (s.index (key_of q.kept) ≡ Some j.id) × (j ≡ item_of m j.id q.kept)
+
+  placed_here : (j : Item) (q : Rec K V P) → j.id ≡ id → w ≡ Some q → r.resident ≡ true → s.index (key_of r.kept) ≡ Some j.id → j ≡ item_of m j.id r.kept → PlacedNow j
+  placed_here j q e is res under item =
+      let alike : q.kept ≡ r.kept = (stands.same q is).0 in
+      (
+        q,
+        subst (λ (a : ℕ). update nat_eq s.records id w a ≡ Some q) (sym e) (update_here s.records id w ∙ is),
+        (stands.same q is).1 ∙ res,
+        ap (λ (x : Data K V P). s.index (key_of x)) alike ∙ under,
+        item ∙ ap (λ (x : Data K V P). item_of m j.id x) (sym alike),
+      )
+
+  changed_placed : (j : Item) → find_id j.id (m.policy.order v) ≡ Some j → PlacedNow j
   changed_placed j h =
       let old = kept.placed j (found-permuted j.id j (m.policy.order v) (m.policy.order s.view) now_once back h) in
       elim (eqb_tells j.id id) [
         inl e ↦ (let same : old.0 ≡ r = cc (old.1, there, e.1) in
-          let n = stands.stays (sym (ap (λ (x : Rec K V P). x.resident) same) ∙ old.2) in
-          let alike : n.0.kept ≡ old.0.kept = (stands.same n.0 n.1).0 ∙ sym (ap (λ (x : Rec K V P). x.kept) same) in
-          (
-            n.0,
-            subst (λ (a : ℕ). update nat_eq s.records id w a ≡ Some n.0) (sym e.1) (update_here s.records id w ∙ n.1),
-            (stands.same n.0 n.1).1 ∙ (sym (ap (λ (x : Rec K V P). x.resident) same) ∙ old.2),
-            ap (λ x. s.index (key_of x)) alike ∙ old.3,
-            old.4 ∙ ap (λ x. item_of m j.id x) (sym alike),
-          ))
+          let res : r.resident ≡ true = subst (λ (x : Rec K V P). x.resident ≡ true) same old.2 in
+          let n = stands.stays res in
+          placed_here j n.0 e.1 n.1 res (subst (λ (x : Rec K V P). s.index (key_of x.kept) ≡ Some j.id) same old.3) (subst (λ (x : Rec K V P). j ≡ item_of m j.id x.kept) same old.4))
       | inr e ↦ (old.0, update_apart s.records id w j.id e.1 ∙ old.1, old.2, old.3, old.4)
       ]
 
@@ -97,7 +101,7 @@ module _ {K V P View C : Type 0} (m : Meaning K P View C) (s : State K V P View)
   change_keeps = record {
     once = now_once;
     placed = changed_placed;
-    indexed = λ k j h. (omega (arith, (kept.indexed k j h).0, same_count j), λ q e. let o = old_of j q e in ap (λ x. same_key m.same k (key_of x)) o.2 ∙ (kept.indexed k j h).1 o.0 o.1);
+    indexed = λ k j h. (omega (arith, (kept.indexed k j h).0, same_count j), λ q e. let o = old_of j q e in ap (λ (x : Data K V P). same_key m.same k (key_of x)) o.2 ∙ (kept.indexed k j h).1 o.0 o.1);
     resident = λ j q h res. let o = old_of j q h in omega (arith, same_count j, kept.resident j o.0 o.1 (sym o.3 ∙ res));
     respects = kept.respects;
     needed = λ j q h. elim (was j q h) [ inl e ↦ kept.needed j q e.1 | inr e ↦ stands.needed q e.1 ];
@@ -105,7 +109,7 @@ module _ {K V P View C : Type 0} (m : Meaning K P View C) (s : State K V P View)
     pinned = λ j q h pos. elim (was j q h) [
       inl e ↦ kept.pinned j q e.1 (pins j e.0 pos)
     | inr e ↦ stands.pinned q e.1 (subst (λ (a : ℕ). 0 < count_of a (m.policy.pinned v)) e.0 pos) ];
-    plain = λ j q h res. let o = old_of j q h in ap (λ x. is_phantom_record m x) o.2 ∙ kept.plain j o.0 o.1 (sym o.3 ∙ res);
+    plain = λ j q h res. let o = old_of j q h in ap (λ (x : Data K V P). is_phantom_record m x) o.2 ∙ kept.plain j o.0 o.1 (sym o.3 ∙ res);
     fresh = λ j q h. let o = old_of j q h in kept.fresh j o.0 o.1;
     fits = omega (arith, kept.fits, sum_by-IsPermutation (λ (i : Item). i.weight) (m.policy.order s.view) (m.policy.order v) perm);
   }

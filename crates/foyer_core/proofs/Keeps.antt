@@ -1,9 +1,8 @@
 -- What a kept state tells, and that each step keeps it.
-use Rattle.std.proofs.Common.{◌≡◌, ◌≢◌, ℕ, ◌+◌, ◌-◌, ◌<◌, ◌≤◌, ◌^◌, ◌⊎◌, inl, inr, List, [], ◌∷◌, Some, None, Option, Bool, true, false, cond, nat_eq, refl, sym, ap, ◌∙◌, subst, arith}
+use Rattle.std.proofs.Common.{◌≡◌, ◌≢◌, ℕ, ◌+◌, ◌-◌, ◌<◌, ◌≤◌, ◌^◌, inl, inr, List, [], Some, None, Option, Bool, true, false, cond, nat_eq, refl, sym, ap, ◌∙◌, subst, arith}
 use Rattle.std.specs.Prelude.{◌==◌}
 use Rattle.std.specs.Cmp.{IsEquivalence}
 use Rattle.std.specs.Map.{update}
-use Rattle.std.specs.List.Sorted.{IsPermutation}
 use Rattle.std.proofs.lemmas.Bool.Decides.{nat_tests}
 use Rattle.std.proofs.lemmas.List.Sorted.{sum_by_pushed, IsPermutation-refl}
 use Rattle.foyer_policy.specs.Items.{weight_of, count_of, IsNewIn, find_id, remove_id}
@@ -14,8 +13,8 @@ use Rattle.foyer_core.specs.declared.record.Data.{Data}
 use Rattle.foyer_core.specs.Indexer.{same_key}
 use Rattle.foyer_core.specs.Values.{Rec}
 use Rattle.foyer_core.specs.State.{Meaning, State, key_of, item_of, is_phantom_record, usage_of, hit, IsKept}
-use Rattle.foyer_core.specs.Steps.{after_out, after_push, after_get, after_last, after_give_back}
-use Rattle.foyer_core.proofs.Found.{found-counted, sum-removed}
+use Rattle.foyer_core.specs.Steps.{after_out, after_push, after_get, after_give_back}
+use Rattle.foyer_core.proofs.Found.{sum-removed}
 use Rattle.foyer_core.proofs.Handles.{stands_some, stands_none, change_keeps}
 use Rattle.foyer_core.proofs.Leaving as leaving
 use Rattle.foyer_core.proofs.Pushing as pushing

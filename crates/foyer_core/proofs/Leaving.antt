@@ -1,14 +1,14 @@
 -- A record that leaves keeps what a shard keeps.
-use Rattle.std.proofs.Common.{◌≡◌, ◌≢◌, ℕ, ◌+◌, ◌<◌, ◌≤◌, ◌⊎◌, inl, inr, Some, None, Option, Bool, true, false, true≢false, cond, nat_eq, ◌==◌, refl, sym, ap, ◌∙◌, subst, arith}
+use Rattle.std.proofs.Common.{◌≡◌, ◌≢◌, ℕ, ◌<◌, ◌⊎◌, inl, inr, Some, None, Option, Bool, true, false, true≢false, cond, ◌==◌, refl, sym, ap, ◌∙◌, subst, arith}
 use Rattle.std.specs.Cmp.{IsEquivalence}
 use Rattle.std.specs.Map.{update}
 use Rattle.std.proofs.lemmas.Map.{update_here, update_apart}
 use Rattle.std.proofs.lemmas.Bool.Decides.{eqb_tells, nat_tests}
-use Rattle.foyer_policy.specs.Items.{weight_of, count_of, find_id}
+use Rattle.foyer_policy.specs.Items.{count_of, find_id}
 use Rattle.foyer_policy.specs.declared.types.Item.{Item}
 use Rattle.foyer_core.specs.Indexer.{same_key}
 use Rattle.foyer_core.specs.Values.{Rec}
-use Rattle.foyer_core.specs.State.{Meaning, State, key_of, item_of, is_phantom_record, usage_of, IsKept}
+use Rattle.foyer_core.specs.State.{Meaning, State, key_of, item_of, is_phantom_record, IsKept}
 use Rattle.foyer_core.specs.Steps.{outside, after_out}
 use Rattle.foyer_core.proofs.Found.{found-counted}
 use Rattle.foyer_core.proofs.Keys.{same_key_laws}

@@ -1,7 +1,6 @@
 -- States with the same fields are one.
-use Rattle.std.proofs.Common.{◌≡◌, ℕ, Option, refl, sym, ap, ◌∙◌}
+use Rattle.std.proofs.Common.{◌≡◌, ℕ, Option, ap, ◌∙◌}
 use Rattle.std.proofs.Math.Path.{fun_ext, ap₂}
-use Rattle.foyer_core.specs.declared.record.Limits.{Limits}
 use Rattle.foyer_core.specs.Values.{Rec}
 use Rattle.foyer_core.specs.State.{State}
 
