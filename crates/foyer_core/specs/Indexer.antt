@@ -1,0 +1,10 @@
+-- What an index is to a shard: a map from hashed keys to numbers.
+use Rattle.std.specs.Prelude.{◌≡◌, ℕ, Bool, ◌==◌, ◌&&◌}
+use Rattle.std.specs.Cmp.{IsEquivalence, on_equiv, and_equiv, nat_eq_equiv}
+
+-- whether two hashed keys are one: the hashes are equal, and the keys are by eq
+abbrev pub same_key : {K : Type 0} → (K → K → Bool) → ℕ × K → ℕ × K → Bool
+same_key eq p q = (p.0 == q.0) && eq p.1 q.1
+
+pub same_key-equiv : {K : Type 0} {eq : K → K → Bool} → IsEquivalence eq → IsEquivalence (same_key eq)
+same_key-equiv laws = and_equiv (on_equiv (λ p. p.0) nat_eq_equiv) (on_equiv (λ p. p.1) laws)

@@ -1,0 +1,44 @@
+//! The index of a shard, from hashed keys to numbers.
+
+ghost use Rattle.std.specs.Prelude.{◌≡◌, ℕ, true, Some, None, IfOk, IfErr, OnOk, OnErr};
+ghost use Rattle.std.specs.Map.{update};
+ghost use Rattle.foyer_policy.specs.declared.error.Reason.TheVariants.{NoMemory};
+
+use foyer_policy::{Key, Result};
+
+mod group;
+
+/// A map from keys to numbers. A key always comes with its hash: the pair of both is looked up,
+/// keys being compared by `==`.
+pub trait Indexer<K: Key>: Drop {
+    ghost use Rattle.std.specs.Prelude.{◌≡◌, ℕ, Option, true};
+    ghost use Rattle.foyer_core.specs.Indexer.{same_key};
+
+    // the number under a hashed key
+    ghost view: { Self → (ℕ × K) → Option ℕ };
+
+    /// Puts a number under a key, and answers the number that was there.
+    fn insert(&mut self, hash: u64, key: K, id: u64) -> Result<Option<u64>>
+        ensures was { IfOk result (λ was. was ≡ view self.old (hash, key)) }
+        ensures view { OnOk result ((q : ℕ × K) → view self.new q ≡ update (same_key K.eq) (view self.old) (hash, key) (Some id) q) }
+        ensures refused { IfErr result (λ e. e ≡ NoMemory) }
+        ensures err { OnErr result ((q : ℕ × K) → view self.new q ≡ view self.old q) };
+
+    /// The number under a key.
+    fn get(&self, hash: u64, key: &K) -> Option<u64>
+        ensures { result ≡ view self.now (hash, key.now) };
+
+    /// Takes a key out, and answers the number that was under it. This takes no memory.
+    fn remove(&mut self, hash: u64, key: &K) -> Option<u64>
+        ensures was { result ≡ view self.old (hash, key.now) }
+        ensures view { (q : ℕ × K) → view self.new q ≡ update (same_key K.eq) (view self.old) (hash, key.now) None q };
+
+    ghost respects: { (s : Self) (p q : ℕ × K) → same_key K.eq p q ≡ true → view s p ≡ view s q };
+}
+
+pub(crate) fn put_and_take<K: Key, I: Indexer<K>>(index: &mut I, hash: u64, key: K, other: &K, id: u64) -> Result<Option<u64>>
+    ensures { IfOk result (λ was. K.eq key other.now ≡ true → was ≡ Some id) }
+{
+    index.insert(hash, key, id)?;
+    Ok(index.remove(hash, other))
+}
