@@ -7,6 +7,9 @@ ghost use Rattle.foyer_policy.specs.declared.error.Reason.TheVariants.{NoMemory}
 use foyer_policy::{Key, Result};
 
 mod group;
+pub mod hash_table;
+
+pub use hash_table::HashTableIndexer;
 
 /// A map from keys to numbers. A key always comes with its hash: the pair of both is looked up,
 /// keys being compared by `==`.

@@ -3,4 +3,4 @@
 
 pub mod indexer;
 
-pub use indexer::Indexer;
+pub use indexer::{HashTableIndexer, Indexer};
