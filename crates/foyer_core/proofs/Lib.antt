@@ -1,2 +1,3 @@
+pub mod DrainLemmas
 pub mod GroupLemmas
 pub mod NumberLemmas

@@ -15,7 +15,7 @@ pub use hash_table::HashTableIndexer;
 /// keys being compared by `==`.
 pub trait Indexer<K: Key>: Drop {
     ghost use Rattle.std.specs.Prelude.{◌≡◌, ℕ, Option, true};
-    ghost use Rattle.foyer_core.specs.Indexer.{same_key};
+    ghost use Rattle.foyer_core.specs.Indexer.{same_key, AreNumbersOf};
 
     // the number under a hashed key
     ghost view: { Self → (ℕ × K) → Option ℕ };
@@ -35,6 +35,14 @@ pub trait Indexer<K: Key>: Drop {
     fn remove(&mut self, hash: u64, key: &K) -> Option<u64>
         ensures was { result ≡ view self.old (hash, key.now) }
         ensures view { (q : ℕ × K) → view self.new q ≡ update (same_key K.eq) (view self.old) (hash, key.now) None q };
+
+    /// Takes every key out, and answers the numbers that were in, each once for each key that
+    /// had it, in any order.
+    fn drain(&mut self) -> Result<Vec<u64>>
+        ensures numbers { IfOk result (λ ids. AreNumbersOf K.eq (view self.old) ids.items) }
+        ensures view { OnOk result ((q : ℕ × K) → view self.new q ≡ None) }
+        ensures refused { IfErr result (λ e. e ≡ NoMemory) }
+        ensures err { OnErr result ((q : ℕ × K) → view self.new q ≡ view self.old q) };
 
     ghost respects: { (s : Self) (p q : ℕ × K) → same_key K.eq p q ≡ true → view s p ≡ view s q };
 }

@@ -1,12 +1,14 @@
 // The pairs of one hash.
 
-ghost use Rattle.std.specs.Prelude.{◌≡◌, ℕ, ◌+◌, ◌<◌, List, [], ◌∷◌, ◌++◌, true, false, IsSome, IfOk, OnOk, OnErr, Some, None, length, nat_lt, not, position};
-ghost use Rattle.std.specs.List.{IsDistinct};
-ghost use Rattle.std.specs.Map.{keys_of, lookup, update, remove_entry};
+ghost use Rattle.std.specs.Prelude.{◌≡◌, ℕ, ◌+◌, ◌<◌, List, [], ◌∷◌, ◌++◌, true, false, IsSome, IfOk, OnOk, OnErr, Some, None, length, nat_lt, nat_eq, not, position};
+ghost use Rattle.std.specs.List.{IsDistinct, flat_map};
+ghost use Rattle.std.specs.HashMap.{values, IsUnique};
+ghost use Rattle.std.specs.Map.{keys_of, values_of, lookup, update, remove_entry};
 ghost use Rattle.std.proofs.lemmas.Map.Keys.{IsDistinct-prop};
 ghost use Rattle.foyer_core.specs.Group.{pairs_of, is_many, put_pair};
 
 use std::alloc::{AllocError, Global};
+use std::collections::HashMap;
 use std::mem;
 
 // One pair stands inline. A vector is made only where two keys have one hash.
@@ -94,6 +96,36 @@ impl<K: Eq + Drop> Group<K> {
             }
         }
     }
+
+    // Appends the numbers.
+    pub(crate) fn append_to(&self, ids: &mut Vec<u64>) -> Result<(), AllocError>
+        ensures { OnOk result (ids.new.items ≡ ids.old.items ++ values_of (pairs_of self.now.pairs)) }
+    {
+        match &self.pairs {
+            Pairs::One(_, id) => ids.push(*id)?,
+            Pairs::Many(pairs) => {
+                for (_, id) in pairs {
+                    ids.push(*id)?;
+                }
+            }
+        }
+        Ok(())
+    }
+}
+
+// The numbers of all groups.
+pub(crate) fn numbers<K: Eq + Drop>(
+    alloc: Global,
+    table: &HashMap<u64, Group<K>>,
+) -> Result<Vec<u64>, AllocError>
+    ensures numbers { IfOk result (λ ids. ids.items ≡ flat_map (λ group. values_of (pairs_of group.pairs)) (values table.now)) }
+    ensures unique { OnOk result (IsUnique nat_eq table.now) }
+{
+    let mut ids = Vec::with_capacity(alloc, table.len())?;
+    for group in table.values() {
+        group.append_to(&mut ids)?;
+    }
+    Ok(ids)
 }
 
 // Where the pair of a key stands.

@@ -5,7 +5,7 @@ ghost use Rattle.std.specs.Map.{update};
 ghost use Rattle.foyer_policy.specs.declared.error.Reason.TheVariants.{NoMemory};
 
 use crate::indexer::Indexer;
-use crate::indexer::group::Group;
+use crate::indexer::group::{Group, numbers};
 use foyer_policy::{Error, Key, Reason, Result};
 use std::alloc::Global;
 use std::collections::HashMap;
@@ -70,5 +70,13 @@ impl<K: Key> Indexer<K> for HashTableIndexer<K> {
             group.remove(key);
         }
         Some(id)
+    }
+
+    fn drain(&mut self) -> Result<Vec<u64>> {
+        let Ok(ids) = numbers(self.alloc, &self.table) else {
+            return Err(Error::new(Reason::NoMemory));
+        };
+        self.table.clear();
+        Ok(ids)
     }
 }
