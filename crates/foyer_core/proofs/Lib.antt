@@ -1,3 +1,4 @@
 pub mod DrainLemmas
 pub mod GroupLemmas
+pub mod IndexerLemmas
 pub mod NumberLemmas

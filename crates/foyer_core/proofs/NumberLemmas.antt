@@ -21,9 +21,9 @@ module _ {K : Type 0} {g : Ghosts K} (eq : K → K → Bool) where
 
   -- one group changes by an update at a key: the numbers change by that at the hashed key
   pub number_at-updated : (old new : List (ℕ × Group K g)) (hash : ℕ) (key : K) (w : Option ℕ) (before after : Group K g)
-      → lookup (nat_eq hash) old ≡ Some before
+      → Some before ≡ lookup (nat_eq hash) old
       → ((h : ℕ) → lookup (nat_eq h) new ≡ cond (nat_eq hash h) (Some after) (lookup (nat_eq h) old))
       → ((k : K) → lookup (eq k) (pairs_of after.pairs) ≡ update eq (λ k. lookup (eq k) (pairs_of before.pairs)) key w k)
       → (q : ℕ × K) → number_in eq new q ≡ update (same_key eq) (number_in eq old) (hash, key) w q
   number_at-updated old new hash key w before after there put step q =
-      updated_by (lookup (nat_eq q.0) old) (lookup (nat_eq q.0) new) before after key w q (hash == q.0) (λ e. let same : hash ≡ q.0 = grind (arith, nat_tests) in rw (← same) there) (put q.0) step
+      updated_by (lookup (nat_eq q.0) old) (lookup (nat_eq q.0) new) before after key w q (hash == q.0) (λ e. let same : hash ≡ q.0 = grind (arith, nat_tests) in rw (← same) (sym there)) (put q.0) step

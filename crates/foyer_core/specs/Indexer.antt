@@ -8,8 +8,8 @@ use Rattle.std.specs.Cmp.{IsEquivalence, on_equiv, and_equiv, nat_eq_equiv}
 abbrev pub same_key : {K : Type 0} → (K → K → Bool) → ℕ × K → ℕ × K → Bool
 same_key eq p q = (p.0 == q.0) && eq p.1 q.1
 
-pub same_key-equiv : {K : Type 0} {eq : K → K → Bool} → IsEquivalence eq → IsEquivalence (same_key eq)
-same_key-equiv laws = and_equiv (on_equiv (λ p. p.0) nat_eq_equiv) (on_equiv (λ p. p.1) laws)
+pub same_key_equiv : {K : Type 0} {eq : K → K → Bool} → IsEquivalence eq → IsEquivalence (same_key eq)
+same_key_equiv laws = and_equiv (on_equiv (λ p. p.0) nat_eq_equiv) (on_equiv (λ p. p.1) laws)
 
 -- the numbers are those of the view, each once for each hashed key that has it
 pub record AreNumbersOf {K : Type 0} (eq : K → K → Bool) (view : ℕ × K → Option ℕ) (numbers : List ℕ) : Type 0 where

@@ -1,6 +1,6 @@
 //! The index of a shard, from hashed keys to numbers.
 
-ghost use Rattle.std.specs.Prelude.{◌≡◌, ℕ, true, Some, None, IfOk, IfErr, OnOk, OnErr};
+ghost use Rattle.std.specs.Prelude.{◌≡◌, ℕ, Some, None, IfOk, IfErr, OnOk, OnErr};
 ghost use Rattle.std.specs.Map.{update};
 ghost use Rattle.foyer_policy.specs.declared.error.Reason.TheVariants.{NoMemory};
 
@@ -47,9 +47,5 @@ pub trait Indexer<K: Key>: Drop {
     ghost respects: { (s : Self) (p q : ℕ × K) → same_key K.eq p q ≡ true → view s p ≡ view s q };
 }
 
-pub(crate) fn put_and_take<K: Key, I: Indexer<K>>(index: &mut I, hash: u64, key: K, other: &K, id: u64) -> Result<Option<u64>>
-    ensures { IfOk result (λ was. K.eq key other.now ≡ true → was ≡ Some id) }
-{
-    index.insert(hash, key, id)?;
-    Ok(index.remove(hash, other))
-}
+#[cfg(test)]
+mod tests;
