@@ -51,13 +51,7 @@ impl<K: Eq + Drop> Group<K> {
         ensures { result ≡ lookup (K.eq key.now) (pairs_of self.now.pairs) }
     {
         match &self.pairs {
-            Pairs::One(held, id) => {
-                if *key == *held {
-                    Some(*id)
-                } else {
-                    None
-                }
-            }
+            Pairs::One(held, id) => { if *key == *held { Some(*id) } else { None } }
             Pairs::Many(pairs) => find_among(pairs, key),
         }
     }
@@ -176,7 +170,12 @@ fn remove_among<K: Eq + Drop>(pairs: &mut Vec<(K, u64)>, key: &K)
 }
 
 // Puts a pair beside the only one.
-fn add_second<K: Drop>(pairs: &mut Pairs<K>, alloc: Global, key: K, id: u64) -> Result<(), AllocError>
+fn add_second<K: Drop>(
+    pairs: &mut Pairs<K>,
+    alloc: Global,
+    key: K,
+    id: u64,
+) -> Result<(), AllocError>
     requires { is_many pairs.old ≡ false }
     ensures ok { OnOk result (pairs_of pairs.new ≡ pairs_of pairs.old ++ (key, id) ∷ []) }
     ensures many { OnOk result (is_many pairs.new ≡ true) }

@@ -50,11 +50,71 @@ fn drained<K: Key, I: Indexer<K>>(index: &mut I) -> Result<Vec<u64>>
 }
 
 #[test]
-fn equal_keys_share_a_number(rt: HostRuntime) -> std::result::Result<(), Fail> {
+fn keys_of_one_hash_stay_apart(rt: HostRuntime) -> std::result::Result<(), Fail> {
+    let mut index = HashTableIndexer::new(rt.alloc());
+    for (key, id, was) in [
+        (10u64, 1u64, None),
+        (20, 2, None),
+        (30, 3, None),
+        (20, 4, Some(2)),
+    ] {
+        assert_eq!(rt; index.insert(7, key, id)?, was, "insert of {key}");
+    }
+    for (key, found) in [
+        (10u64, Some(1u64)),
+        (20, Some(4)),
+        (30, Some(3)),
+        (40, None),
+    ] {
+        assert_eq!(rt; index.get(7, &key), found, "get of {key}");
+        assert_eq!(rt; index.get(8, &key), None, "get of {key} by another hash");
+    }
+    for (key, taken) in [
+        (10u64, Some(1u64)),
+        (10, None),
+        (30, Some(3)),
+        (20, Some(4)),
+        (20, None),
+    ] {
+        assert_eq!(rt; index.remove(7, &key), taken, "remove of {key}");
+        assert_eq!(rt; index.get(7, &key), None, "get of {key} after");
+    }
+    assert_eq!(rt; index.insert(7, 10, 5)?, None);
+    assert_eq!(rt; index.get(7, &10), Some(5));
+    Ok(())
+}
+
+#[test]
+fn equal_texts_are_one_key(rt: HostRuntime) -> std::result::Result<(), Fail> {
     let mut index = HashTableIndexer::new(rt.alloc());
     let key = "a".to_string(rt.alloc())?;
     let equal = "a".to_string(rt.alloc())?;
     assert_eq!(rt; both(&index, 1, &key, &equal), (None, None));
-    assert_eq!(rt; put_and_take(&mut index, 1, key, &equal, 7)?, (Some(7), Some(7)));
+    assert_eq!(rt;
+        put_and_take(&mut index, 1, key, &equal, 7)?,
+        (Some(7), Some(7))
+    );
+    assert_eq!(rt; index.get(1, &equal), None);
+    Ok(())
+}
+
+#[test]
+fn drain_gives_each_number(rt: HostRuntime) -> std::result::Result<(), Fail> {
+    let mut index = HashTableIndexer::new(rt.alloc());
+    for key in 0..100u64 {
+        assert_eq!(rt; index.insert(key % 30, key, key)?, None);
+    }
+    for key in 40..100 {
+        assert_eq!(rt; index.remove(key % 30, &key), Some(key));
+    }
+    let mut ids = drained(&mut index)?;
+    ids.sort()?;
+    let mut wanted = Vec::new(rt.alloc());
+    for key in 0..40u64 {
+        wanted.push(key)?;
+        assert_eq!(rt; index.get(key % 30, &key), None);
+    }
+    assert_eq!(rt; ids, wanted);
+    assert_eq!(rt; index.drain()?.len(), 0);
     Ok(())
 }
