@@ -1,6 +1,6 @@
-//! The shards of the cache: the index of keys, records and the steps on them.
+//! The shards of the cache: the index from keys to records, and what stands on it.
 #![tactic(auto)]
 
-pub mod indexer;
+mod indexer;
 
 pub use indexer::{HashTableIndexer, Indexer};

@@ -21,7 +21,9 @@ enum Pairs<K> {
 #[derive(Drop)]
 pub(crate) struct Group<K: Eq> {
     pairs: Pairs<K>,
+    // no two keys are equal
     ghost distinct: { IsDistinct K.eq (keys_of (pairs_of pairs)) } by { IsDistinct-prop K.eq (keys_of (pairs_of pairs)) },
+    // a vector has two pairs or more
     ghost several: { is_many pairs ≡ nat_lt 1 (length (pairs_of pairs)) },
 }
 
@@ -61,6 +63,7 @@ impl<K: Eq + Drop> Group<K> {
     pub(crate) fn put(&mut self, alloc: Global, key: K, id: u64) -> Result<Option<u64>, AllocError>
         ensures was { IfOk result (λ was. was ≡ lookup (K.eq key) (pairs_of self.old.pairs)) }
         ensures put { OnOk result (pairs_of self.new.pairs ≡ put_pair (K.eq key) key id (pairs_of self.old.pairs)) }
+        ensures absent { OnErr result (lookup (K.eq key) (pairs_of self.old.pairs) ≡ None) }
         ensures err { OnErr result (pairs_of self.new.pairs ≡ pairs_of self.old.pairs) }
     {
         match &mut self.pairs {
@@ -112,7 +115,8 @@ pub(crate) fn numbers<K: Eq + Drop>(
     alloc: Global,
     table: &HashMap<u64, Group<K>>,
 ) -> Result<Vec<u64>, AllocError>
-    ensures numbers { IfOk result (λ ids. ids.items ≡ flat_map (λ group. values_of (pairs_of group.pairs)) (values table.now)) }
+    ensures numbers { IfOk result (λ ids.
+        ids.items ≡ flat_map (λ group. values_of (pairs_of group.pairs)) (values table.now)) }
     ensures unique { OnOk result (IsUnique nat_eq table.now) }
 {
     let mut ids = Vec::with_capacity(alloc, table.len())?;
@@ -144,6 +148,7 @@ fn put_among<K: Eq + Drop>(
 ) -> Result<Option<u64>, AllocError>
     ensures was { IfOk result (λ was. was ≡ lookup (K.eq key) pairs.old.items) }
     ensures put { OnOk result (pairs.new.items ≡ put_pair (K.eq key) key id pairs.old.items) }
+    ensures absent { OnErr result (lookup (K.eq key) pairs.old.items ≡ None) }
     ensures err { OnErr result (pairs.new.items ≡ pairs.old.items) }
 {
     match place_of(pairs, &key) {

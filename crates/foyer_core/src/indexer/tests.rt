@@ -18,7 +18,8 @@ fn put_and_take<K: Key, I: Indexer<K>>(
     ensures found { IfOk result (λ r. r.0 ≡ Some id) }
     ensures taken { IfOk result (λ r. r.1 ≡ Some id) }
     ensures gone { OnOk result (I.view index.new (hash, key) ≡ None) }
-    ensures others { OnOk result ((q : ℕ × K) → same_key K.eq (hash, key) q ≡ false → I.view index.new q ≡ I.view index.old q) }
+    ensures others { OnOk result ((q : ℕ × K) →
+        same_key K.eq (hash, key) q ≡ false → I.view index.new q ≡ I.view index.old q) }
 {
     let _ = index.insert(hash, key, id)?;
     let found = index.get(hash, equal);
@@ -41,9 +42,14 @@ fn both<K: Key, I: Indexer<K>>(
 
 // A drain gives the number of each key, and no other, and each once where no two keys share one.
 fn drained<K: Key, I: Indexer<K>>(index: &mut I) -> Result<Vec<u64>>
-    ensures each { IfOk result (λ ids. (q : ℕ × K) (n : ℕ) → I.view index.old q ≡ Some n → Contains ids.items n) }
-    ensures only { IfOk result (λ ids. (n : ℕ) → Contains ids.items n → (q : ℕ × K) × (I.view index.old q ≡ Some n)) }
-    ensures once { IfOk result (λ ids. ((p q : ℕ × K) (n : ℕ) → I.view index.old p ≡ Some n → I.view index.old q ≡ Some n → same_key K.eq p q ≡ true) → IsDistinct nat_eq ids.items) }
+    ensures each { IfOk result (λ ids. (q : ℕ × K) (n : ℕ) →
+        I.view index.old q ≡ Some n → Contains ids.items n) }
+    ensures only { IfOk result (λ ids. (n : ℕ) →
+        Contains ids.items n → (q : ℕ × K) × (I.view index.old q ≡ Some n)) }
+    ensures once { IfOk result (λ ids.
+        ((p q : ℕ × K) (n : ℕ) → I.view index.old p ≡ Some n → I.view index.old q ≡ Some n
+        → same_key K.eq p q ≡ true)
+        → IsDistinct nat_eq ids.items) }
     ensures gone { OnOk result ((q : ℕ × K) → I.view index.new q ≡ None) }
 {
     index.drain()

@@ -1,4 +1,4 @@
-use Rattle.std.proofs.Common.{ℕ, sym, ap, ◌∙◌, set}
+use Rattle.std.proofs.Common.{ℕ, rules, sym, ap, ◌∙◌, set}
 use Rattle.foyer_core.proofs.GroupLemmas.{first_at, missing_at}
 use Rattle.foyer_core.proofs.indexer.group.put_among.Goals as goal
 
@@ -20,3 +20,8 @@ returns-in_ok-push-in-None-clause-was g c =
 pub returns-in_ok-push-in-None-clause-put : goal.returns-in_ok-push-in-None-clause-put
 returns-in_ok-push-in-None-clause-put g c =
     c.in_ok-push-in-None.ensures.items ∙ sym ((rw c.deref.ensures.value at (missing_at (g.K.PartialEq.eq c.args.key) c.deref.result.now (sym c.in-None.ensures))).put c.args.key c.args.id)
+
+pub returns-in_err-push-in-None-clause-absent : goal.returns-in_err-push-in-None-clause-absent
+returns-in_err-push-in-None-clause-absent g c =
+    let none = (rw c.deref.ensures.value at (missing_at (g.K.PartialEq.eq c.args.key) c.deref.result.now (sym c.in-None.ensures))).none in
+    search (rules, none)
