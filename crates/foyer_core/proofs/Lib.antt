@@ -1,12 +1,16 @@
+pub mod DrainLemmas
 pub mod Evictions
 pub mod Found
+pub mod GroupLemmas
 pub mod Handles
 pub mod Holdings
+pub mod IndexerLemmas
 pub mod Inserted
 pub mod Keeps
 pub mod Keys
 pub mod LeaveLemmas
 pub mod Leaving
+pub mod NumberLemmas
 pub mod Popped
 pub mod Pushing
 pub mod ShardLemmas

@@ -1,5 +1,7 @@
 pub mod Flags
+pub mod Group
 pub mod Indexer
+pub mod Numbers
 pub mod Values
 pub mod Table
 pub mod Records

@@ -10,6 +10,6 @@ pub mod shard;
 mod slot;
 
 pub use entry::{CoreEntry, Left};
-pub use indexer::Indexer;
+pub use indexer::{HashTableIndexer, Indexer};
 pub use outcome::{Answers, Inserted, Outcome, Refused, Waiting};
 pub use record::{Data, Flags, Limits, Record};
