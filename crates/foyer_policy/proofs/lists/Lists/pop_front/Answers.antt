@@ -1,4 +1,4 @@
-use Rattle.foyer_policy.proofs.LinkedLemmas.{AreLists-Linked}
+use Rattle.foyer_policy.proofs.HoldsLemmas.{told_apart}
 use Rattle.std.proofs.Common.{◌≡◌, rules, arith, length, sym, ◌∙◌, ◌<◌, ap, Some, IsSome, get_or, None, subst, Option}
 use Rattle.slab.specs.Slab.{get, slab_len}
 use Rattle.foyer_policy.specs.Chain.{lists_of, walk}
@@ -28,7 +28,7 @@ returns-in-Some-clause-lists g c =
     rw (← c.self.view_is) (c.take_out.ensures.lists ∙ f.gone)
 
 pub returns-in-Some-clause-apart : goal.returns-in-Some-clause-apart
-returns-in-Some-clause-apart g c = rw (← c.self.view_is) (AreLists-Linked (get c.self.inside.nodes) c.self.inside.heads c.self.inside.tails (lists_of c.self.inside.nodes c.self.inside.heads) g.row.N c.self.invariant.linked c.self.told)
+returns-in-Some-clause-apart g c = told_apart c.self.view_is c.self.invariant c.self.told
 
 pub returns-in-None-clause-apart : goal.returns-in-None-clause-apart
-returns-in-None-clause-apart g c = rw (← c.self.view_is) (AreLists-Linked (get c.self.inside.nodes) c.self.inside.heads c.self.inside.tails (lists_of c.self.inside.nodes c.self.inside.heads) g.row.N c.self.invariant.linked c.self.told)
+returns-in-None-clause-apart g c = told_apart c.self.view_is c.self.invariant c.self.told
