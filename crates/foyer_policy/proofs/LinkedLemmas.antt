@@ -194,8 +194,9 @@ module _ {T : Type 0} where
         let e' : find p ls ≡ Some node.value = e ∙ ap Some x in
         let s : Found f p node.value ls = found f heads tails ls p node.value old e' in
         let n = s.node in
-        let w : node ≡ record { value = node.value; list = s.at.list; before = last_or s.at.front None; after = first_or s.at.back None } = cc in
-        record { at = s.at; list_is = ap (λ (m : Node T). m.list) w; before_is = ap (λ (m : Node T). m.before) w; after_is = ap (λ (m : Node T). m.after) w; find_is = e' }
+        let b : Node T = record { value = node.value; list = s.at.list; before = last_or s.at.front None; after = first_or s.at.back None } in
+        let w : node ≡ b = cc in
+        record { at = s.at; list_is = ap (λ (m : Node T). m.list) {y = b} w; before_is = ap (λ (m : Node T). m.before) {y = b} w; after_is = ap (λ (m : Node T). m.after) {y = b} w; find_is = e' }
 
   -- the front of a list
   pub record Front (ls : List (List (ℕ × T))) (k p : ℕ) : Type 0 where

@@ -299,10 +299,8 @@ impl<T, const N: usize> Lists<T, N> {
         ensures small { sum_by length self.now.lists < 2 ^ 64 }
         ensures apart { AreLists N self.now.lists }
     {
-        match self.heads[list] {
-            Some(node) => Some(Place { node }),
-            None => None,
-        }
+        let node = self.heads[list]?;
+        Some(Place { node })
     }
 
     /// The place of the value behind the one at `place` in its list, or `None` at the list's end.
@@ -314,10 +312,8 @@ impl<T, const N: usize> Lists<T, N> {
         ensures small { sum_by length self.now.lists < 2 ^ 64 }
         ensures apart { AreLists N self.now.lists }
     {
-        match self.nodes[place.node].after {
-            Some(node) => Some(Place { node }),
-            None => None,
-        }
+        let node = self.nodes[place.node].after?;
+        Some(Place { node })
     }
 
     /// The value at a place, which must hold one.
