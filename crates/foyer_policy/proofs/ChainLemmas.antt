@@ -1,11 +1,10 @@
 -- Chains of nodes: what relinking leaves.
-use Rattle.std.proofs.Common.{◌≡◌, ◌≢◌, ℕ, zero, suc, ◌+◌, ◌-◌, ◌<◌, ◌≤◌, Bool, true, false, cond, List, [], ◌∷◌, ◌++◌, Option, Some, None, length, refl, sym, ◌∙◌, ap, subst, arith, ◌⊎◌, inl, inr}
-use Rattle.std.specs.Prelude.{◌==◌, if◌then◌else◌}
+use Rattle.std.proofs.Common.{◌≡◌, ◌≢◌, ℕ, zero, suc, ◌≤◌, true, false, List, [], ◌∷◌, ◌++◌, Option, Some, None, length, refl, sym, ◌∙◌, ap, arith}
 use Rattle.std.proofs.lemmas.Bool.Decides.{nat_tests}
 use Rattle.foyer_policy.specs.declared.lists.Node.{Node}
-use Rattle.foyer_policy.specs.Lists.{list_at, first_or, last_or, find_in, drop_place, IsFree, IsDistinct}
+use Rattle.foyer_policy.specs.Lists.{first_or, last_or, IsFree, IsDistinct}
 use Rattle.foyer_policy.proofs.PlaceLemmas.{IsFree-append_left, IsFree-append_right}
-use Rattle.foyer_policy.specs.Chain.{walk, walk_on, IsChain, is_at, after_set, before_set}
+use Rattle.foyer_policy.specs.Chain.{walk, IsChain, is_at, after_set, before_set}
 
 pub is_at-same : (p : ℕ) → is_at (Some p) p ≡ true
 is_at-same p = grind (arith, nat_tests)

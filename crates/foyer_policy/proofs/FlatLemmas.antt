@@ -1,8 +1,8 @@
 -- The entries of all lists as one list.
-use Rattle.std.proofs.Common.{◌≡◌, ◌≢◌, ℕ, suc, ◌+◌, ◌<◌, List, [], ◌∷◌, ◌++◌, Option, Some, None, length, map, refl, sym, ◌∙◌, ap, arith, sum_by, length-append}
+use Rattle.std.proofs.Common.{◌≡◌, ℕ, suc, ◌<◌, List, [], ◌∷◌, ◌++◌, Option, Some, None, length, map, refl, ◌∙◌, ap, arith, sum_by, length-append}
 use Rattle.std.proofs.lemmas.List.Sums.{sum_by-cons}
 use Rattle.foyer_policy.specs.Lists.{list_at, find_in, find, or_else, drop_place, with_value, flat, IsFree, IsDistinct, AreLists}
-use Rattle.foyer_policy.proofs.PlaceLemmas.{IsFree-none, IsFree-append, IsDistinct-append, find_in-append, find_in-free, drop_place-free, drop_place-append_free, drop_place-append_found, with_value-free, with_value-append_free, with_value-append_found}
+use Rattle.foyer_policy.proofs.PlaceLemmas.{IsFree-none, IsFree-append, IsDistinct-append, find_in-append, drop_place-free, drop_place-append_free, drop_place-append_found, with_value-free, with_value-append_free, with_value-append_found}
 use Rattle.foyer_policy.proofs.ListsLemmas.{AreLists-rest}
 
 module _ {T : Type 0} where

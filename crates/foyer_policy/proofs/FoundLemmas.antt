@@ -1,15 +1,15 @@
 -- What is found at each place after a call of `Lists`, and that each place stands once.
-use Rattle.std.proofs.Common.{◌≡◌, ◌≢◌, ℕ, zero, suc, ◌+◌, ◌<◌, Bool, true, false, cond, List, [], ◌∷◌, ◌++◌, Option, Some, None, length, map, get_or, set, refl, sym, ◌∙◌, ap, arith, ◌⊎◌, inl, inr, length-set}
+use Rattle.std.proofs.Common.{◌≡◌, ◌≢◌, ℕ, zero, suc, ◌<◌, Bool, true, false, cond, List, [], ◌∷◌, ◌++◌, Option, Some, None, length, map, set, refl, sym, ◌∙◌, ap, arith, ◌⊎◌, inl, inr, length-set, IsSome, rules}
 use Rattle.std.specs.Prelude.{◌==◌, if◌then◌else◌}
 use Rattle.std.proofs.lemmas.List.{get_or-set_same, get_or-set_other}
 use Rattle.std.proofs.Math.ListN.{get_or-map, length-map}
 use Rattle.foyer_policy.specs.Lists.{list_at, find_in, find, or_else, drop_place, with_value, moved, IsFree, IsDistinct, AreLists}
-use Rattle.foyer_policy.proofs.PlaceLemmas.{place_is, place_differs, same_place, other_place, IsFree-none, find_in-free, with_value-free, IsDistinct-snoc, IsFree-append, find_in-snoc, IsFree-drop_place, IsDistinct-drop_place, dropped_is_free, find_in-drop_other, IsFree-with_value, IsDistinct-with_value, find_in-with_other, find_in-with_same}
-use Rattle.foyer_policy.proofs.ListsLemmas.{same_or_not, or_else-none, free_at}
+use Rattle.foyer_policy.proofs.PlaceLemmas.{place_is, place_differs, same_place, IsFree-none, find_in-free, with_value-free, IsDistinct-snoc, IsFree-append, find_in-snoc, IsFree-drop_place, IsDistinct-drop_place, dropped_is_free, find_in-drop_other, IsFree-with_value, IsDistinct-with_value, find_in-with_other, find_in-with_same}
+use Rattle.foyer_policy.proofs.ListsLemmas.{same_or_not, or_else-none, free_at, IsIn, is_in}
 
 module _ {T : Type 0} where
   -- a write
-  find-write_other : (p q : ℕ) (w : T) (ls : List (List (ℕ × T))) → p ≢ q → find q (map (with_value p w) ls) ≡ find q ls
+  pub find-write_other : (p q : ℕ) (w : T) (ls : List (List (ℕ × T))) → p ≢ q → find q (map (with_value p w) ls) ≡ find q ls
   find-write_other p q w [] ne = refl
   find-write_other p q w (l ∷ ls) ne = rw (find_in-with_other q p w l ne, find-write_other p q w ls ne) refl
 
@@ -26,6 +26,15 @@ module _ {T : Type 0} where
     go : (b : Bool) → (p == q) ≡ b → find q (map (with_value p w) ls) ≡ cond b (Some w) (find q ls)
     go true is = rw (← place_is p q is) (find-write_same p v w ls h)
     go false is = find-write_other p q w ls (place_differs p q is)
+
+  pub write_found : (p q : ℕ) (w : T) (ls : List (List (ℕ × T))) → IsSome (find q ls) → IsSome (find q (map (with_value p w) ls))
+  write_found p q w ls h = go (p == q) refl where
+    go : (b : Bool) → (p == q) ≡ b → IsSome (find q (map (with_value p w) ls))
+    go true is =
+        let e : p ≡ q = place_is p q is in
+        let i : IsIn q ls = is_in q ls h in
+        rw (e, find-write_same q i.value w ls i.found) (search rules)
+    go false is = rw (find-write_other p q w ls (place_differs p q is)) h
 
   -- a removal
   pub find-drop_other : (p q : ℕ) (ls : List (List (ℕ × T))) → p ≢ q → find q (map (drop_place p) ls) ≡ find q ls

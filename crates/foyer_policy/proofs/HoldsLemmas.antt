@@ -118,11 +118,12 @@ module _ {T : Type 0} where
   }
 
   -- what every call tells of the lists
-  pub apart : (nodes : Slab (Node T)) (heads tails : List (Option ℕ)) (n : ℕ) → Holds nodes heads tails (lists_of nodes heads) → length heads ≡ n → AreLists n (lists_of nodes heads)
-  apart nodes heads tails n h e = AreLists-Linked (get nodes) heads tails (lists_of nodes heads) n h.linked e
+  pub AreLists-Holds : (nodes : Slab (Node T)) (heads tails : List (Option ℕ)) (n : ℕ) → Holds nodes heads tails (lists_of nodes heads) → length heads ≡ n → AreLists n (lists_of nodes heads)
+  AreLists-Holds nodes heads tails n h e = AreLists-Linked (get nodes) heads tails (lists_of nodes heads) n h.linked e
 
-  pub small : (nodes : Slab (Node T)) (heads tails : List (Option ℕ)) → Holds nodes heads tails (lists_of nodes heads) → sum_by length (lists_of nodes heads) < 2 ^ 64
-  small nodes heads tails h = omega (arith, h.count, h.room, h.small)
+  pub AreLists-told : {nodes : Slab (Node T)} {heads tails : List (Option ℕ)} {n room : ℕ} {s : Lists T} → ◌≡◌ {A = Lists T} (record { lists = lists_of nodes heads; room = room }) s
+      → Holds nodes heads tails (lists_of nodes heads) → length heads ≡ n → AreLists n s.lists
+  AreLists-told {nodes} {heads} {tails} {n} e h told = rw (← e) (AreLists-Holds nodes heads tails n h told)
 
-  pub told_apart : {nodes : Slab (Node T)} {heads tails : List (Option ℕ)} {n room : ℕ} {s : Lists T} → ◌≡◌ {A = Lists T} (record { lists = lists_of nodes heads; room = room }) s → Holds nodes heads tails (lists_of nodes heads) → length heads ≡ n → AreLists n s.lists
-  told_apart {nodes} {heads} {tails} {n} e h told = rw (← e) (apart nodes heads tails n h told)
+  pub lengths_small : (nodes : Slab (Node T)) (heads tails : List (Option ℕ)) → Holds nodes heads tails (lists_of nodes heads) → sum_by length (lists_of nodes heads) < 2 ^ 64
+  lengths_small nodes heads tails h = omega (arith, h.count, h.room, h.small)

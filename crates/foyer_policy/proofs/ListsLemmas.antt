@@ -1,12 +1,11 @@
 -- All lists of values under places: where an entry stands, and what a call of `Lists` leaves.
-use Rattle.std.proofs.Common.{◌≡◌, ◌≢◌, ℕ, zero, suc, ◌+◌, ◌<◌, ◌≤◌, Bool, true, false, cond, List, [], ◌∷◌, ◌++◌, Option, Some, None, length, map, get_or, set, refl, sym, ◌∙◌, ap, arith, ◌⊎◌, inl, inr, ⊎_elim, sum_by, length-append, length-set, IsSome, rules}
-use Rattle.std.specs.Prelude.{◌==◌, if◌then◌else◌}
+use Rattle.std.proofs.Common.{◌≡◌, ◌≢◌, ℕ, zero, suc, ◌<◌, ◌≤◌, List, [], ◌∷◌, ◌++◌, Option, Some, None, length, map, get_or, set, refl, sym, ◌∙◌, ap, arith, ◌⊎◌, inl, inr, ⊎_elim, sum_by, length-append, length-set, IsSome, rules}
 use Rattle.std.proofs.lemmas.Bool.Decides.{eqb_tells, leb_tells}
 use Rattle.std.proofs.lemmas.List.{get_or-set_same, get_or-set_other, ext_get_or, set-get_or, set-set, get_or_past}
 use Rattle.std.proofs.lemmas.List.Sums.{get_or-le-sum_by}
 use Rattle.std.proofs.Math.ListN.{get_or-map, length-map}
 use Rattle.foyer_policy.specs.Lists.{list_at, first_or, find_in, find, or_else, rest, drop_place, with_value, moved, IsFree, IsDistinct, AreLists}
-use Rattle.foyer_policy.proofs.PlaceLemmas.{place_is, place_differs, same_place, IsFree-none, find_in-free, drop_place-free, with_value-free, find_in-mid, drop_place-mid, with_value-mid, IsDistinct-mid, IsDistinct-snoc, IsFree-append, find_in-snoc, IsFree-drop_place, IsDistinct-drop_place, dropped_is_free, find_in-drop_other, IsFree-with_value, IsDistinct-with_value, find_in-with_other, find_in-with_same, Split, split}
+use Rattle.foyer_policy.proofs.PlaceLemmas.{IsFree-none, find_in-free, drop_place-free, with_value-free, find_in-mid, drop_place-mid, with_value-mid, IsDistinct-mid, Split, split}
 
 pub same_or_not : (j k : ℕ) → (j ≡ k) ⊎ (j ≢ k)
 same_or_not j k = ⊎_elim (λ e. inl e.1) (λ e. inr e.1) (eqb_tells j k)
@@ -47,6 +46,18 @@ module _ {T : Type 0} where
       let m : Member p v ls = member p v ls h in
       let s : Split p v (list_at ls m.list) = split p v (list_at ls m.list) m.there in
       record { list = m.list; within = m.within; front = s.front; back = s.back; is = s.is }
+
+  -- a place that is in some list
+  pub record IsIn (p : ℕ) (ls : List (List (ℕ × T))) : Type 0 where
+    pub value : T
+    pub found : find p ls ≡ Some value
+    pub stands : Stands p value ls
+
+  pub is_in : (p : ℕ) (ls : List (List (ℕ × T))) → IsSome (find p ls) → IsIn p ls
+  is_in p ls h = go (find p ls) refl h where
+    go : (o : Option T) → find p ls ≡ o → IsSome o → IsIn p ls
+    go None e h = absurd (search rules)
+    go (Some v) e h = record { value = v; found = e; stands = stands p v ls e }
 
   -- a free place is in no list
   pub free_at : (p : ℕ) (ls : List (List (ℕ × T))) (k : ℕ) → find p ls ≡ None → IsFree p (list_at ls k)

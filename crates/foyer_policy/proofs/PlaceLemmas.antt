@@ -1,5 +1,5 @@
 -- One list of values under places: an entry is found, dropped and written.
-use Rattle.std.proofs.Common.{◌≡◌, ◌≢◌, ℕ, ◌+◌, Bool, true, false, cond, List, [], ◌∷◌, ◌++◌, Option, Some, None, IsSome, length, refl, sym, ◌∙◌, ap, arith, rules}
+use Rattle.std.proofs.Common.{◌≡◌, ◌≢◌, ℕ, ◌+◌, Bool, true, false, cond, List, [], ◌∷◌, ◌++◌, Option, Some, None, length, refl, sym, ◌∙◌, ap, arith}
 use Rattle.std.specs.Prelude.{◌==◌, if◌then◌else◌}
 use Rattle.std.proofs.lemmas.Bool.Decides.{nat_tests}
 use Rattle.foyer_policy.specs.Lists.{first_or, last_or, find_in, or_else, drop_place, with_value, IsFree, IsDistinct}
@@ -46,6 +46,16 @@ module _ {T : Type 0} where
           is = ap (λ r. e ∷ r) s.is;
           without = rw is (ap (λ r. e ∷ r) s.without);
         }
+
+  -- a list, where its first place is known
+  pub record Begins (p : ℕ) (l : List (ℕ × T)) : Type 0 where
+    pub value : T
+    pub back : List (ℕ × T)
+    pub is : l ≡ (p, value) ∷ back
+
+  pub begins : (p : ℕ) (l : List (ℕ × T)) → first_or l None ≡ Some p → Begins p l
+  begins p [] h = absurd cc
+  begins p (e ∷ es) h = let q : e.0 ≡ p = cc in record { value = e.1; back = es; is = rw (← q) refl }
 
   -- free places
   pub IsFree-append : (p : ℕ) (xs ys : List (ℕ × T)) → IsFree p xs → IsFree p ys → IsFree p (xs ++ ys)

@@ -1,8 +1,8 @@
 -- How the nodes of a slab are linked.
-use Rattle.std.specs.Prelude.{◌≡◌, ◌==◌, ℕ, zero, suc, ◌+◌, ◌^◌, ◌<◌, ◌≤◌, List, [], ◌∷◌, ◌++◌, Option, Some, None, IsSome, length, map, sum_by, slice_index_or, slice_set, if◌then◌else◌, Bool, false}
+use Rattle.std.specs.Prelude.{◌≡◌, ◌==◌, ℕ, zero, suc, ◌^◌, ◌<◌, ◌≤◌, List, [], ◌∷◌, Option, Some, None, length, map, sum_by, slice_index_or, slice_set, Bool, false}
 use Rattle.foyer_policy.specs.declared.lists.Node.{Node}
 use Rattle.slab.specs.Slab.{Slab, get, slab_len}
-use Rattle.foyer_policy.specs.Lists.{Lists, list_at, first_or, last_or, IsDistinct}
+use Rattle.foyer_policy.specs.Lists.{list_at, first_or, last_or, IsDistinct}
 
 -- whether an optional number is this one
 abbrev pub is_at : Option ℕ → ℕ → Bool

@@ -1,7 +1,6 @@
-use Rattle.foyer_policy.specs.Chain.{Holds, lists_of}
-use Rattle.std.proofs.Common.{◌≡◌, sym, ◌∙◌, rules, set, get_or, ◌++◌, ◌∷◌, [], Some, None}
-use Rattle.slab.specs.Slab.{get, slab_len}
-use Rattle.foyer_policy.specs.Lists.{list_at}
+use Rattle.foyer_policy.specs.Chain.{lists_of}
+use Rattle.std.proofs.Common.{◌∙◌}
+use Rattle.slab.specs.Slab.{get}
 use Rattle.foyer_policy.proofs.LinkedLemmas.{find-vacant}
 use Rattle.foyer_policy.proofs.HoldsLemmas.{tail_there, Holds-link, lists_of-Holds, Holds-again}
 use Rattle.foyer_policy.proofs.lists.link_back.Goals as goal

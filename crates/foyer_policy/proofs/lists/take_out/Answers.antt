@@ -1,6 +1,6 @@
-use Rattle.foyer_policy.specs.Chain.{Holds, lists_of}
-use Rattle.std.proofs.Common.{◌≡◌, sym, ◌∙◌, rules, arith, ap, ◌+◌, IsSome, map, sum_by, length}
-use Rattle.slab.specs.Slab.{get, slab_len}
+use Rattle.foyer_policy.specs.Chain.{lists_of}
+use Rattle.std.proofs.Common.{arith, map}
+use Rattle.slab.specs.Slab.{get}
 use Rattle.foyer_policy.specs.Lists.{drop_place}
 use Rattle.foyer_policy.proofs.LinkedLemmas.{find-node, list_in_heads, list_in_tails, before_there, after_there}
 use Rattle.foyer_policy.proofs.HoldsLemmas.{contains_found, taken, Holds-again, lists_of-Holds, some_after_set}

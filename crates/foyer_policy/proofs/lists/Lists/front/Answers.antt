@@ -2,7 +2,7 @@ use Rattle.std.proofs.Common.{◌<◌, length, rules, arith}
 use Rattle.slab.specs.Slab.{get}
 use Rattle.foyer_policy.specs.Chain.{lists_of}
 use Rattle.foyer_policy.proofs.LinkedLemmas.{front_found}
-use Rattle.foyer_policy.proofs.HoldsLemmas.{told_apart}
+use Rattle.foyer_policy.proofs.HoldsLemmas.{AreLists-told}
 use Rattle.foyer_policy.proofs.lists.Lists.front.Goals as goal
 
 pub returns-clause-there : goal.returns-clause-there
@@ -13,7 +13,7 @@ returns-clause-there g c =
     rw (← c.self.view_is, f.there) (search rules)
 
 pub returns-clause-apart : goal.returns-clause-apart
-returns-clause-apart g c = told_apart c.self.view_is c.self.invariant c.self.told
+returns-clause-apart g c = AreLists-told c.self.view_is c.self.invariant c.self.told
 
 pub returns-in_err-node-clause-apart : goal.returns-in_err-node-clause-apart
-returns-in_err-node-clause-apart g c = told_apart c.self.view_is c.self.invariant c.self.told
+returns-in_err-node-clause-apart g c = AreLists-told c.self.view_is c.self.invariant c.self.told

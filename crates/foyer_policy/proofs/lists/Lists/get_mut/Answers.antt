@@ -1,13 +1,13 @@
-use Rattle.foyer_policy.proofs.HoldsLemmas.{told_apart}
-use Rattle.std.proofs.Common.{◌≡◌, ℕ, rules, arith, length, sym, ◌∙◌, ◌<◌, ap, Some, IsSome, refl, List, ◌-◌}
+use Rattle.foyer_policy.proofs.HoldsLemmas.{AreLists-told}
+use Rattle.std.proofs.Common.{◌≡◌, ℕ, rules, arith, ap, Some, IsSome, refl, List, ◌-◌}
 use Rattle.std.proofs.lemmas.Grind.{common_steps}
 use Rattle.slab.specs.Slab.{Slab, get, slab_len, with_value as slab_with}
 use Rattle.slab.proofs.SlabLemmas.{Updates-with_value}
 use Rattle.foyer_policy.specs.declared.lists.Node.{Node}
 use Rattle.foyer_policy.specs.Chain.{lists_of}
-use Rattle.foyer_policy.specs.Lists.{find, with_value, Lists}
+use Rattle.foyer_policy.specs.Lists.{find, Lists}
 use Rattle.foyer_policy.proofs.LinkedLemmas.{found_node}
-use Rattle.foyer_policy.proofs.HoldsLemmas.{small, contains_found, Holds-write, Holds-again, lists_of-Holds}
+use Rattle.foyer_policy.proofs.HoldsLemmas.{lengths_small, contains_found, Holds-write, Holds-again, lists_of-Holds}
 use Rattle.foyer_policy.proofs.lists.Lists.get_mut.Goals as goal
 
 slab_len-write : {N : Type 0} (s : Slab N) (p : ℕ) (n w : N) → get s p ≡ Some n → slab_len (slab_with s p w) ≡ slab_len s
@@ -50,5 +50,5 @@ returns g c =
             (Updates-with_value i.nodes p m (contains_found i.nodes i.heads i.tails (lists_of i.nodes i.heads) p c.self.invariant.linked there)) len refl))
             (ap (λ l. i.nodes.capacity - l) len))),
       ),
-      record { writes_back = tt; value = rw (← c.self.view_is, ← c.place.view_is) f.find_is; small = rw (← c.self.view_is) (small i.nodes i.heads i.tails c.self.invariant); apart = told_apart c.self.view_is c.self.invariant c.self.told },
+      record { writes_back = tt; value = rw (← c.self.view_is, ← c.place.view_is) f.find_is; small = rw (← c.self.view_is) (lengths_small i.nodes i.heads i.tails c.self.invariant); apart = AreLists-told c.self.view_is c.self.invariant c.self.told },
     )

@@ -1,4 +1,4 @@
-use Rattle.std.proofs.Common.{None, [], ◌∙◌}
+use Rattle.std.proofs.Common.{None, []}
 use Rattle.std.specs.Prelude.{replicate}
 use Rattle.foyer_policy.proofs.LinkedLemmas.{AreLists-Linked}
 use Rattle.foyer_policy.proofs.HoldsLemmas.{Holds-new, Holds-again, lists_of-Holds}

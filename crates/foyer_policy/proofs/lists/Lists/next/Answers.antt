@@ -1,8 +1,8 @@
-use Rattle.foyer_policy.proofs.HoldsLemmas.{told_apart}
-use Rattle.std.proofs.Common.{◌≡◌, rules, arith, length, sym, ◌∙◌, ◌<◌, ap, Some, None, IsSome, ◌++◌, ◌∷◌, List, ℕ, Option}
-use Rattle.slab.specs.Slab.{get, slab_len}
+use Rattle.foyer_policy.proofs.HoldsLemmas.{AreLists-told}
+use Rattle.std.proofs.Common.{◌≡◌, rules, sym, ◌∙◌, IsSome, ◌++◌, ◌∷◌}
+use Rattle.slab.specs.Slab.{get}
 use Rattle.foyer_policy.specs.Chain.{lists_of}
-use Rattle.foyer_policy.specs.Lists.{find, list_at, first_or}
+use Rattle.foyer_policy.specs.Lists.{find, list_at}
 use Rattle.foyer_policy.proofs.LinkedLemmas.{after-node, after_found}
 use Rattle.foyer_policy.proofs.HoldsLemmas.{contains_found}
 use Rattle.foyer_policy.proofs.lists.Lists.next.Goals as goal
@@ -33,7 +33,7 @@ returns-clause-there g c =
     (after_found (get i.nodes) i.heads i.tails (lists_of i.nodes i.heads) c.place.inside.node c.in_ok-node.node c.index.result.now c.self.invariant.linked there c.index.ensures c.in_ok-node.was)
 
 pub returns-clause-apart : goal.returns-clause-apart
-returns-clause-apart g c = told_apart c.self.view_is c.self.invariant c.self.told
+returns-clause-apart g c = AreLists-told c.self.view_is c.self.invariant c.self.told
 
 pub returns-in_err-node-clause-apart : goal.returns-in_err-node-clause-apart
-returns-in_err-node-clause-apart g c = told_apart c.self.view_is c.self.invariant c.self.told
+returns-in_err-node-clause-apart g c = AreLists-told c.self.view_is c.self.invariant c.self.told

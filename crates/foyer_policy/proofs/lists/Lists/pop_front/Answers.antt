@@ -1,9 +1,8 @@
-use Rattle.foyer_policy.proofs.HoldsLemmas.{told_apart}
-use Rattle.std.proofs.Common.{◌≡◌, rules, arith, length, sym, ◌∙◌, ◌<◌, ap, Some, IsSome, get_or, None, subst, Option}
-use Rattle.slab.specs.Slab.{get, slab_len}
-use Rattle.foyer_policy.specs.Chain.{lists_of, walk}
-use Rattle.foyer_policy.specs.Lists.{find}
-use Rattle.foyer_policy.proofs.LinkedLemmas.{front_found, Front}
+use Rattle.foyer_policy.proofs.HoldsLemmas.{AreLists-told}
+use Rattle.std.proofs.Common.{rules, arith, length, sym, ◌∙◌, ◌<◌}
+use Rattle.slab.specs.Slab.{get}
+use Rattle.foyer_policy.specs.Chain.{lists_of}
+use Rattle.foyer_policy.proofs.LinkedLemmas.{front_found}
 use Rattle.foyer_policy.proofs.lists.Lists.pop_front.Goals as goal
 
 pub take_out-requires-clause-there : goal.take_out-requires-clause-there
@@ -28,7 +27,7 @@ returns-in-Some-clause-lists g c =
     rw (← c.self.view_is) (c.take_out.ensures.lists ∙ f.gone)
 
 pub returns-in-Some-clause-apart : goal.returns-in-Some-clause-apart
-returns-in-Some-clause-apart g c = told_apart c.self.view_is c.self.invariant c.self.told
+returns-in-Some-clause-apart g c = AreLists-told c.self.view_is c.self.invariant c.self.told
 
 pub returns-in-None-clause-apart : goal.returns-in-None-clause-apart
-returns-in-None-clause-apart g c = told_apart c.self.view_is c.self.invariant c.self.told
+returns-in-None-clause-apart g c = AreLists-told c.self.view_is c.self.invariant c.self.told

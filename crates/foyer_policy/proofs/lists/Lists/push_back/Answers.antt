@@ -1,7 +1,5 @@
-use Rattle.slab.specs.Slab.{get}
-use Rattle.foyer_policy.specs.Chain.{lists_of}
-use Rattle.foyer_policy.proofs.HoldsLemmas.{told_apart}
+use Rattle.foyer_policy.proofs.HoldsLemmas.{AreLists-told}
 use Rattle.foyer_policy.proofs.lists.Lists.push_back.Goals as goal
 
 pub returns-clause-apart : goal.returns-clause-apart
-returns-clause-apart g c = told_apart c.self.view_is c.self.invariant c.self.told
+returns-clause-apart g c = AreLists-told c.self.view_is c.self.invariant c.self.told

@@ -1,5 +1,5 @@
 use Rattle.std.proofs.Common.{ap, arith}
-use Rattle.foyer_policy.proofs.HoldsLemmas.{Holds-same, told_apart}
+use Rattle.foyer_policy.proofs.HoldsLemmas.{Holds-same, AreLists-told}
 use Rattle.foyer_policy.proofs.lists.Lists.reserve.Goals as goal
 
 pub invariant_of-self : goal.invariant_of-self
@@ -13,7 +13,7 @@ invariant_of-self-2 g c =
     (omega (arith, c.capacity.ensures.value)) c.self.invariant
 
 pub returns-then-capacity-len-clause-apart : goal.returns-then-capacity-len-clause-apart
-returns-then-capacity-len-clause-apart g c = told_apart c.self.view_is c.self.invariant c.self.told
+returns-then-capacity-len-clause-apart g c = AreLists-told c.self.view_is c.self.invariant c.self.told
 
 pub returns-clause-apart : goal.returns-clause-apart
-returns-clause-apart g c = told_apart c.self.view_is c.self.invariant c.self.told
+returns-clause-apart g c = AreLists-told c.self.view_is c.self.invariant c.self.told
