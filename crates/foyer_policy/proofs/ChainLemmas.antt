@@ -127,10 +127,6 @@ module _ {T : Type 0} where
     chain-link f g k p v (Some e.0) (x ∷ xs) r n d.1 h.1 c.1,
   )
 
-  pub first_or-append : (p : ℕ) (v : T) (l : List (ℕ × T)) (d : Option ℕ) → first_or (l ++ (p, v) ∷ []) d ≡ first_or l (Some p)
-  first_or-append p v [] d = refl
-  first_or-append p v (e ∷ es) d = refl
-
   pub last_or-append : (xs ys : List (ℕ × T)) (d : Option ℕ) → last_or (xs ++ ys) d ≡ last_or ys (last_or xs d)
   last_or-append [] ys d = refl
   last_or-append (e ∷ es) ys d = last_or-append es ys (Some e.0)

@@ -4,7 +4,7 @@ use Rattle.std.specs.Prelude.{◌==◌, if◌then◌else◌}
 use Rattle.std.proofs.lemmas.List.{get_or-set_same, get_or-set_other}
 use Rattle.std.proofs.Math.ListN.{get_or-map, length-map}
 use Rattle.foyer_policy.specs.Lists.{list_at, find_in, find, or_else, drop_place, with_value, moved, IsFree, IsDistinct, AreLists}
-use Rattle.foyer_policy.proofs.PlaceLemmas.{place_is, place_differs, same_place, IsFree-none, find_in-free, with_value-free, IsDistinct-snoc, IsFree-append, find_in-snoc, IsFree-drop_place, IsDistinct-drop_place, dropped_is_free, find_in-drop_other, IsFree-with_value, IsDistinct-with_value, find_in-with_other, find_in-with_same}
+use Rattle.foyer_policy.proofs.PlaceLemmas.{place_is, other_place, place_differs, same_place, IsFree-none, find_in-free, with_value-free, IsDistinct-snoc, IsFree-append, find_in-snoc, IsFree-drop_place, IsDistinct-drop_place, dropped_is_free, find_in-drop_other, IsFree-with_value, IsDistinct-with_value, find_in-with_other, find_in-with_same}
 use Rattle.foyer_policy.proofs.ListsLemmas.{same_or_not, or_else-none, free_at, IsIn, is_in}
 
 module _ {T : Type 0} where
@@ -41,7 +41,7 @@ module _ {T : Type 0} where
   find-drop_other p q [] ne = refl
   find-drop_other p q (l ∷ ls) ne = rw (find_in-drop_other q p l ne, find-drop_other p q ls ne) refl
 
-  find-drop_same : (p : ℕ) (ls : List (List (ℕ × T))) → ((k : ℕ) → k < length ls → IsDistinct (list_at ls k)) → find p (map (drop_place p) ls) ≡ None
+  pub find-drop_same : (p : ℕ) (ls : List (List (ℕ × T))) → ((k : ℕ) → k < length ls → IsDistinct (list_at ls k)) → find p (map (drop_place p) ls) ≡ None
   find-drop_same p [] d = refl
   find-drop_same p (l ∷ ls) d =
       let e : find_in p (drop_place p l) ≡ None = find_in-free p (drop_place p l) (dropped_is_free p l (d 0 (omega arith))) in
@@ -76,17 +76,26 @@ module _ {T : Type 0} where
     go true is = rw (none is) refl
     go false is = refl
 
+  pub find-push_same : (p : ℕ) (v : T) (ls : List (List (ℕ × T))) (k : ℕ) → find p ls ≡ None → k < length ls → find p (set ls k (list_at ls k ++ (p, v) ∷ [])) ≡ Some v
+  find-push_same p v ls k free lt = find-push p p v ls k free lt ∙ rw (same_place p) refl
+
+  pub find-push_other : (p q : ℕ) (v : T) (ls : List (List (ℕ × T))) (k : ℕ) → find p ls ≡ None → k < length ls → q ≢ p → find q (set ls k (list_at ls k ++ (p, v) ∷ [])) ≡ find q ls
+  find-push_other p q v ls k free lt ne = find-push p q v ls k free lt ∙ rw (other_place p q (λ e. ne (sym e))) refl
+
   -- a move: each place keeps its value
-  pub find-moved : (n p q : ℕ) (v : T) (ls : List (List (ℕ × T))) (k : ℕ) → AreLists n ls → find p ls ≡ Some v → k < length ls → find q (moved p k ls) ≡ find q ls
-  find-moved n p q v ls k sound h lt =
-      let rest = map (drop_place p) ls in
-      let gone : find p rest ≡ None = find-drop n p p ls sound ∙ rw (same_place p) refl in
-      let in_rest : k < length rest = rw length-map lt in
-      let pushed : find q (set rest k (list_at rest k ++ (p, v) ∷ [])) ≡ cond (p == q) (Some v) (find q rest) = find-push p q v rest k gone in_rest in
-      rw h (pushed ∙ ap (cond (p == q) (Some v)) (find-drop n p q ls sound) ∙ go (p == q) refl) where
+  pub find-back : (n p q : ℕ) (v : T) (ls : List (List (ℕ × T))) (k : ℕ) → AreLists n ls → find p ls ≡ Some v → k < length ls
+      → find q (set (map (drop_place p) ls) k (list_at (map (drop_place p) ls) k ++ (p, v) ∷ [])) ≡ find q ls
+  find-back n p q v ls k sound h lt =
+      let left = map (drop_place p) ls in
+      let free : find p left ≡ None = find-drop_same p ls sound.within in
+      let pushed : find q (set left k (list_at left k ++ (p, v) ∷ [])) ≡ cond (p == q) (Some v) (find q left) = find-push p q v left k free (rw length-map lt) in
+      pushed ∙ ap (cond (p == q) (Some v)) (find-drop n p q ls sound) ∙ go (p == q) refl where
         go : (b : Bool) → (p == q) ≡ b → cond b (Some v) (cond b None (find q ls)) ≡ find q ls
         go true is = rw (← place_is p q is) (sym h)
         go false is = refl
+
+  pub find-moved : (n p q : ℕ) (v : T) (ls : List (List (ℕ × T))) (k : ℕ) → AreLists n ls → find p ls ≡ Some v → k < length ls → find q (moved p k ls) ≡ find q ls
+  find-moved n p q v ls k sound h lt = rw h (find-back n p q v ls k sound h lt)
 
   -- the lists stay lists
   pub AreLists-write : (n p : ℕ) (w : T) (ls : List (List (ℕ × T))) → AreLists n ls → AreLists n (map (with_value p w) ls)
@@ -144,8 +153,4 @@ module _ {T : Type 0} where
         rw (get_or-set_other ls k j longer [] nj) (s.between i j q x li lj ne f')
 
   pub AreLists-moved : (n p : ℕ) (v : T) (ls : List (List (ℕ × T))) (k : ℕ) → AreLists n ls → find p ls ≡ Some v → k < length ls → AreLists n (moved p k ls)
-  AreLists-moved n p v ls k s h lt =
-      let rest = map (drop_place p) ls in
-      let gone : find p rest ≡ None = find-drop n p p ls s ∙ rw (same_place p) refl in
-      let in_rest : k < length rest = rw length-map lt in
-      rw h (AreLists-push n p v rest k (AreLists-drop n p ls s) gone in_rest)
+  AreLists-moved n p v ls k s h lt = rw h (AreLists-push n p v (map (drop_place p) ls) k (AreLists-drop n p ls s) (find-drop_same p ls s.within) (rw length-map lt))

@@ -1,9 +1,9 @@
 //! Linked lists of values over one block of nodes.
 
-ghost use Rattle.std.specs.Prelude.{◌≡◌, ◌≢◌, ℕ, ◌+◌, ◌-◌, ◌^◌, ◌<◌, ◌≤◌, ◌∷◌, ◌++◌, [], List, Option, Some, None, OnOk, OnErr, IfOk, IfErr, IfSome, IsOk, IsSome, length, map, sum_by, slice_index_or, slice_set, if◌then◌else◌, replicate, is_some};
+ghost use Rattle.std.specs.Prelude.{◌≡◌, ◌≢◌, ℕ, ◌+◌, ◌^◌, ◌<◌, ◌≤◌, ◌∷◌, ◌++◌, [], Some, None, OnOk, OnErr, IfErr, IfSome, IsOk, IsSome, length, map, sum_by, slice_set, if◌then◌else◌, replicate, is_some};
 ghost use Rattle.std.specs.Option.{ForSome};
 ghost use Rattle.slab.specs.Slab.{get, slab_len, ContainsKey, HasRoomFor};
-ghost use Rattle.foyer_policy.specs.Lists.{list_at, first_or, find, find_in, first_value, rest, drop_place, with_value, moved, AreLists};
+ghost use Rattle.foyer_policy.specs.Lists.{list_at, first_or, find, first_value, rest, drop_place, moved, AreLists};
 ghost use Rattle.foyer_policy.specs.Chain.{is_at, after_set, before_set, end_set, lists_of, IsSound};
 
 use crate::error::{Error, Reason, Result};
@@ -219,6 +219,8 @@ impl<T, const N: usize> Lists<T, N> {
         ensures lists { self.new.lists ≡ slice_set self.old.lists list (list_at self.old.lists list ++ (result, value) ∷ []) }
         ensures room { self.new.room + 1 ≡ self.old.room }
         ensures free { find result self.old.lists ≡ None }
+        ensures here { find result self.new.lists ≡ Some value }
+        ensures others { (q : ℕ) → q ≢ result → find q self.new.lists ≡ find q self.old.lists }
         ensures small { sum_by length self.new.lists < 2 ^ 64 }
         ensures apart { AreLists N self.old.lists }
     {
@@ -239,6 +241,7 @@ impl<T, const N: usize> Lists<T, N> {
         ensures value { result ≡ first_value (list_at self.old.lists list) }
         ensures lists { self.new.lists ≡ slice_set self.old.lists list (rest (list_at self.old.lists list)) }
         ensures room { self.new.room ≡ self.old.room + (if is_some result then 1 else 0) }
+        ensures others { (q : ℕ) → first_or (list_at self.old.lists list) None ≢ Some q → find q self.new.lists ≡ find q self.old.lists }
         ensures small { sum_by length self.old.lists < 2 ^ 64 }
         ensures apart { AreLists N self.old.lists }
     {
@@ -255,6 +258,8 @@ impl<T, const N: usize> Lists<T, N> {
         ensures value { find place self.old.lists ≡ Some result }
         ensures lists { self.new.lists ≡ map (drop_place place) self.old.lists }
         ensures room { self.new.room ≡ self.old.room + 1 }
+        ensures gone { find place self.new.lists ≡ None }
+        ensures others { (q : ℕ) → q ≢ place → find q self.new.lists ≡ find q self.old.lists }
         ensures small { sum_by length self.old.lists < 2 ^ 64 }
         ensures apart { AreLists N self.old.lists }
     {
@@ -273,6 +278,7 @@ impl<T, const N: usize> Lists<T, N> {
         requires there { IsSome (find place self.old.lists) }
         ensures lists { self.new.lists ≡ moved place list self.old.lists }
         ensures room { self.new.room ≡ self.old.room }
+        ensures places { (q : ℕ) → find q self.new.lists ≡ find q self.old.lists }
         ensures small { sum_by length self.old.lists < 2 ^ 64 }
         ensures apart { AreLists N self.old.lists }
     {
