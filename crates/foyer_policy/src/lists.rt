@@ -56,11 +56,14 @@ impl<T, const N: usize> Model for Lists<T, N> {
 
     ghost Value = { State T };
 
-    ghost use Rattle.std.specs.Prelude.{◌≡◌, ◌-◌, length};
+    ghost use Rattle.std.specs.Prelude.{◌-◌};
     ghost use Rattle.slab.specs.Slab.{slab_len};
     ghost use Rattle.foyer_policy.specs.Chain.{lists_of, IsSound};
 
-    ghost view = { λ l. record { lists = lists_of l.nodes l.heads; room = l.nodes.capacity - slab_len l.nodes } };
+    ghost view = { λ l. record {
+      lists = lists_of l.nodes l.heads;
+      room = l.nodes.capacity - slab_len l.nodes;
+    } };
 
     ghost invariant = { λ l. IsSound l.nodes l.heads l.tails };
 }
@@ -75,7 +78,8 @@ fn set_after<T>(
 )
     requires there { ForSome at (ContainsKey nodes.old) }
     requires list { list < length heads.old }
-    ensures links { (q : ℕ) → get nodes.new q ≡ (if is_at at q then after_set to (get nodes.old q) else get nodes.old q) }
+    ensures links { (q : ℕ) → get nodes.new q
+        ≡ (if is_at at q then after_set to (get nodes.old q) else get nodes.old q) }
     ensures len { slab_len nodes.new ≡ slab_len nodes.old }
     ensures vacant { nodes.new.vacant_key ≡ nodes.old.vacant_key }
     ensures capacity { nodes.new.capacity ≡ nodes.old.capacity }
@@ -97,7 +101,8 @@ fn set_before<T>(
 )
     requires there { ForSome at (ContainsKey nodes.old) }
     requires list { list < length tails.old }
-    ensures links { (q : ℕ) → get nodes.new q ≡ (if is_at at q then before_set to (get nodes.old q) else get nodes.old q) }
+    ensures links { (q : ℕ) → get nodes.new q
+        ≡ (if is_at at q then before_set to (get nodes.old q) else get nodes.old q) }
     ensures len { slab_len nodes.new ≡ slab_len nodes.old }
     ensures vacant { nodes.new.vacant_key ≡ nodes.old.vacant_key }
     ensures capacity { nodes.new.capacity ≡ nodes.old.capacity }
@@ -121,7 +126,9 @@ fn link_back<T>(
     requires list { list < length heads.old }
     requires room { HasRoomFor nodes.old 1 }
     ensures sound { IsSound nodes.new heads.new tails.new }
-    ensures lists { lists_of nodes.new heads.new ≡ (let ls = lists_of nodes.old heads.old in slice_set ls list (list_at ls list ++ (result, value) ∷ [])) }
+    ensures lists { lists_of nodes.new heads.new
+        ≡ (let ls = lists_of nodes.old heads.old in
+        slice_set ls list (list_at ls list ++ (result, value) ∷ [])) }
     ensures next { result ≡ nodes.old.vacant_key }
     ensures free { find result (lists_of nodes.old heads.old) ≡ None }
     ensures len { slab_len nodes.new ≡ slab_len nodes.old + 1 }
@@ -150,7 +157,8 @@ fn take_out<T>(
     requires there { IsSome (find place (lists_of nodes.old heads.old)) }
     ensures sound { IsSound nodes.new heads.new tails.new }
     ensures value { find place (lists_of nodes.old heads.old) ≡ Some result }
-    ensures lists { lists_of nodes.new heads.new ≡ map (drop_place place) (lists_of nodes.old heads.old) }
+    ensures lists { lists_of nodes.new heads.new
+        ≡ map (drop_place place) (lists_of nodes.old heads.old) }
     ensures len { slab_len nodes.new + 1 ≡ slab_len nodes.old }
     ensures room { HasRoomFor nodes.new 1 }
     ensures next { nodes.new.vacant_key ≡ place }
@@ -216,7 +224,8 @@ impl<T, const N: usize> Lists<T, N> {
     pub fn push_back(&mut self, list: usize, value: T) -> Place
         requires list { list < N }
         requires room { 0 < self.old.room }
-        ensures lists { self.new.lists ≡ slice_set self.old.lists list (list_at self.old.lists list ++ (result, value) ∷ []) }
+        ensures lists { self.new.lists
+            ≡ slice_set self.old.lists list (list_at self.old.lists list ++ (result, value) ∷ []) }
         ensures room { self.new.room + 1 ≡ self.old.room }
         ensures free { find result self.old.lists ≡ None }
         ensures here { find result self.new.lists ≡ Some value }
@@ -239,9 +248,11 @@ impl<T, const N: usize> Lists<T, N> {
     pub fn pop_front(&mut self, list: usize) -> Option<T>
         requires { list < N }
         ensures value { result ≡ first_value (list_at self.old.lists list) }
-        ensures lists { self.new.lists ≡ slice_set self.old.lists list (rest (list_at self.old.lists list)) }
+        ensures lists { self.new.lists
+            ≡ slice_set self.old.lists list (rest (list_at self.old.lists list)) }
         ensures room { self.new.room ≡ self.old.room + (if is_some result then 1 else 0) }
-        ensures others { (q : ℕ) → first_or (list_at self.old.lists list) None ≢ Some q → find q self.new.lists ≡ find q self.old.lists }
+        ensures others { (q : ℕ) → first_or (list_at self.old.lists list) None ≢ Some q
+            → find q self.new.lists ≡ find q self.old.lists }
         ensures small { sum_by length self.old.lists < 2 ^ 64 }
         ensures apart { AreLists N self.old.lists }
     {
@@ -313,7 +324,8 @@ impl<T, const N: usize> Lists<T, N> {
     /// The place must hold a value.
     pub fn next(&self, place: Place) -> Option<Place>
         requires { IsSome (find place self.now.lists) }
-        ensures place { (k : ℕ) (xs ys : _) (v : _) → list_at self.now.lists k ≡ xs ++ (place, v) ∷ ys → result ≡ first_or ys None }
+        ensures place { (k : ℕ) (xs ys : _) (v : _)
+            → list_at self.now.lists k ≡ xs ++ (place, v) ∷ ys → result ≡ first_or ys None }
         ensures there { IfSome result (λ p. IsSome (find p self.now.lists)) }
         ensures small { sum_by length self.now.lists < 2 ^ 64 }
         ensures apart { AreLists N self.now.lists }
