@@ -1,10 +1,10 @@
 -- Chains of nodes: what relinking leaves.
-use Rattle.std.proofs.Common.{◌≡◌, ◌≢◌, ℕ, zero, suc, ◌+◌, ◌-◌, ◌<◌, ◌≤◌, Bool, true, false, cond, List, [], ◌∷◌, ◌++◌, Option, Some, None, length, refl, sym, ◌∙◌, ap, subst, arith, ◌⊎◌, inl, inr}
-use Rattle.std.specs.Prelude.{◌==◌, if◌then◌else◌}
+use Rattle.std.proofs.Common.{◌≡◌, ◌≢◌, ℕ, zero, suc, ◌≤◌, true, false, List, [], ◌∷◌, ◌++◌, Option, Some, None, length, refl, sym, ◌∙◌, ap, arith}
 use Rattle.std.proofs.lemmas.Bool.Decides.{nat_tests}
 use Rattle.foyer_policy.specs.declared.lists.Node.{Node}
-use Rattle.foyer_policy.specs.Lists.{list_at, first_or, last_or, find_in, drop_place, IsFree, IsDistinct}
-use Rattle.foyer_policy.specs.Chain.{walk, walk_on, IsChain, is_at, after_set, before_set}
+use Rattle.foyer_policy.specs.Lists.{first_or, last_or, IsFree, IsDistinct}
+use Rattle.foyer_policy.proofs.PlaceLemmas.{IsFree-append_left, IsFree-append_right}
+use Rattle.foyer_policy.specs.Chain.{walk, IsChain, is_at, after_set, before_set}
 
 pub is_at-same : (p : ℕ) → is_at (Some p) p ≡ true
 is_at-same p = grind (arith, nat_tests)
@@ -76,14 +76,6 @@ module _ {T : Type 0} where
   Off-is_at None e l h = refl
   Off-is_at (Some p) e l h = let ne : p ≡ e.0 → ⊥ = λ r. h.0 (sym r) in grind (arith, nat_tests)
 
-  pub IsFree-append_left : (p : ℕ) (xs ys : List (ℕ × T)) → IsFree p (xs ++ ys) → IsFree p xs
-  IsFree-append_left p [] ys h = tt
-  IsFree-append_left p (x ∷ xs) ys h = (h.0, IsFree-append_left p xs ys h.1)
-
-  pub IsFree-append_right : (p : ℕ) (xs ys : List (ℕ × T)) → IsFree p (xs ++ ys) → IsFree p ys
-  IsFree-append_right p [] ys h = h
-  IsFree-append_right p (x ∷ xs) ys h = IsFree-append_right p xs ys h.1
-
   -- g is f but for p, whose neighbours are joined
   pub record Relinks (f g : ℕ → Option (Node T)) (p : ℕ) (nb na : Option ℕ) : Type 0 where
     pub others : (q : ℕ) → q ≢ p → is_at nb q ≡ false → is_at na q ≡ false → g q ≡ f q
@@ -135,48 +127,6 @@ module _ {T : Type 0} where
     chain-link f g k p v (Some e.0) (x ∷ xs) r n d.1 h.1 c.1,
   )
 
-  pub first_or-append : (p : ℕ) (v : T) (l : List (ℕ × T)) (d : Option ℕ) → first_or (l ++ (p, v) ∷ []) d ≡ first_or l (Some p)
-  first_or-append p v [] d = refl
-  first_or-append p v (e ∷ es) d = refl
-
   pub last_or-append : (xs ys : List (ℕ × T)) (d : Option ℕ) → last_or (xs ++ ys) d ≡ last_or ys (last_or xs d)
   last_or-append [] ys d = refl
   last_or-append (e ∷ es) ys d = last_or-append es ys (Some e.0)
-
-  pub IsFree-append : (p : ℕ) (xs ys : List (ℕ × T)) → IsFree p xs → IsFree p ys → IsFree p (xs ++ ys)
-  IsFree-append p [] ys h w = w
-  IsFree-append p (x ∷ xs) ys h w = (h.0, IsFree-append p xs ys h.1 w)
-
-  pub IsDistinct-snoc : (p : ℕ) (v : T) (l : List (ℕ × T)) → IsDistinct l → IsFree p l → IsDistinct (l ++ (p, v) ∷ [])
-  IsDistinct-snoc p v [] d h = (tt, tt)
-  IsDistinct-snoc p v (e ∷ es) d h = (IsFree-append e.0 es ((p, v) ∷ []) d.0 ((λ r. h.0 (sym r)), tt), IsDistinct-snoc p v es d.1 h.1)
-
-  -- a list, where one of its entries stands
-  pub record Split (p : ℕ) (v : T) (l : List (ℕ × T)) : Type 0 where
-    pub front : List (ℕ × T)
-    pub back : List (ℕ × T)
-    pub is : l ≡ front ++ (p, v) ∷ back
-    pub without : drop_place p l ≡ front ++ back
-
-  pub split : (p : ℕ) (v : T) (l : List (ℕ × T)) → find_in p l ≡ Some v → Split p v l
-  split p v [] h = absurd cc
-  split p v (e ∷ es) h = go (e.0 == p) refl (split p v es) where
-    go : (b : Bool) → (e.0 == p) ≡ b → (find_in p es ≡ Some v → Split p v es) → Split p v (e ∷ es)
-    go true is rec =
-        let q : e.0 ≡ p = grind (arith, nat_tests) in
-        let w : Some e.1 ≡ Some v = rw is at h in
-        let x : e.1 ≡ v = cc in
-        record {
-          front = [];
-          back = es;
-          is = rw (← q, ← x) refl;
-          without = rw is refl;
-        }
-    go false is rec =
-        let s : Split p v es = rec (rw is at h) in
-        record {
-          front = e ∷ s.front;
-          back = s.back;
-          is = ap (λ r. e ∷ r) s.is;
-          without = rw is (ap (λ r. e ∷ r) s.without);
-        }

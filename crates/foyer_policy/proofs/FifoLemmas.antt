@@ -8,7 +8,7 @@ use Rattle.foyer_policy.specs.Items.{IsNewIn, HasIdsOnce, remove_id, find_id}
 use Rattle.foyer_policy.specs.Policy.{without}
 use Rattle.foyer_policy.specs.declared.types.Item.{Item}
 use Rattle.foyer_policy.proofs.ItemLemmas.{once-remove_id, once-snoc, once-tail}
-use Rattle.foyer_policy.proofs.PlaceLemmas.{items, item_at, items-drop_place, item_at-drop_place, item_at-snoc, find_id-found}
+use Rattle.foyer_policy.proofs.ItemPlaces.{items, item_at, items-drop_place, item_at-drop_place, item_at-snoc, find_id-found}
 
 -- a list of one list
 single : {A : Type 0} (ls : List (List A)) → length ls ≡ 1 → ls ≡ get_or ls 0 [] ∷ []

@@ -1,8 +1,8 @@
 -- How the nodes of a slab are linked.
-use Rattle.std.specs.Prelude.{◌≡◌, ◌==◌, ℕ, zero, suc, ◌+◌, ◌-◌, ◌<◌, List, [], ◌∷◌, ◌++◌, Option, Some, None, IsSome, length, map, sum_by, slice_index_or, slice_set, if◌then◌else◌, Bool, false}
+use Rattle.std.specs.Prelude.{◌≡◌, ◌==◌, ℕ, zero, suc, ◌^◌, ◌<◌, ◌≤◌, List, [], ◌∷◌, Option, Some, None, length, map, sum_by, slice_index_or, slice_set, Bool, false}
 use Rattle.foyer_policy.specs.declared.lists.Node.{Node}
 use Rattle.slab.specs.Slab.{Slab, get, slab_len}
-use Rattle.foyer_policy.specs.Lists.{Lists, list_at, first_or, last_or, IsDistinct}
+use Rattle.foyer_policy.specs.Lists.{list_at, first_or, last_or, IsDistinct}
 
 -- whether an optional number is this one
 abbrev pub is_at : Option ℕ → ℕ → Bool
@@ -44,10 +44,12 @@ module _ {T : Type 0} where
     pub each : (k : ℕ) → k < length ls → IsList f k (slice_index_or heads k None) (slice_index_or tails k None) (list_at ls k)
     pub distinct : (k : ℕ) → k < length ls → IsDistinct (list_at ls k)
 
-  -- and there are no other nodes
+  -- and there are no other nodes, and the slab has slots for them
   pub record Holds (nodes : Slab (Node T)) (heads tails : List (Option ℕ)) (ls : List (List (ℕ × T))) : Type 0 where
     pub linked : Linked (get nodes) heads tails ls
     pub count : sum_by length ls ≡ slab_len nodes
+    pub room : slab_len nodes ≤ nodes.capacity
+    pub small : nodes.capacity < 2 ^ 64
 
   abbrev pub lists_of : Slab (Node T) → List (Option ℕ) → List (List (ℕ × T))
   lists_of nodes heads = map (walk (get nodes) (slab_len nodes)) heads

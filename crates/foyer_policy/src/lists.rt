@@ -1,15 +1,21 @@
-ghost use Rattle.std.specs.Prelude.{◌≡◌, ◌≢◌, ℕ, ◌+◌, ◌-◌, ◌<◌, ◌≤◌, ◌∷◌, ◌++◌, [], List, Option, Some, None, OnOk, OnErr, IfOk, IfSome, IsSome, length, map, slice_index_or, slice_set, if◌then◌else◌, replicate, is_some};
+//! Linked lists of values over one block of nodes.
+
+ghost use Rattle.std.specs.Prelude.{◌≡◌, ◌≢◌, ℕ, ◌+◌, ◌^◌, ◌<◌, ◌≤◌, ◌∷◌, ◌++◌, [], Some, None, OnOk, OnErr, IfErr, IfSome, IsOk, IsSome, length, map, sum_by, slice_set, if◌then◌else◌, replicate, is_some};
 ghost use Rattle.std.specs.Option.{ForSome};
 ghost use Rattle.slab.specs.Slab.{get, slab_len, ContainsKey, HasRoomFor};
-ghost use Rattle.foyer_policy.specs.Lists.{list_at, first_or, find, find_in, first_value, rest, drop_place, with_value, moved, AreLists};
+ghost use Rattle.foyer_policy.specs.Lists.{list_at, first_or, find, first_value, rest, drop_place, moved, AreLists};
 ghost use Rattle.foyer_policy.specs.Chain.{is_at, after_set, before_set, end_set, lists_of, IsSound};
 
+use crate::error::{Error, Reason, Result};
 use slab::Slab;
-use std::alloc::{AllocError, Global};
+use std::alloc::Global;
 use std::marker::Model;
 
-/// Names a node while it is in.
-#[derive(Clone, Copy, Debug, PartialEq, Eq)]
+#[cfg(test)]
+mod tests;
+
+/// Names a value of a [`Lists`] while it is in.
+#[derive(Clone, Copy, Debug, PartialEq, Eq, Hash)]
 pub struct Place {
     node: usize,
 }
@@ -32,7 +38,12 @@ struct Node<T> {
     after: Option<usize>,
 }
 
-/// `N` lists of values named by places.
+/// `N` lists of values, numbered from 0.
+///
+/// Each value has a place, by which it is read, moved and taken out in constant time. It keeps its
+/// place while it is in, also where it moves to another list; the place may be given again once the
+/// value is out. Only `reserve` takes memory: a value that comes in takes a room that was reserved,
+/// and gives it back when it leaves.
 #[derive(Drop)]
 pub struct Lists<T, const N: usize> {
     nodes: Slab<Node<T>>,
@@ -45,15 +56,19 @@ impl<T, const N: usize> Model for Lists<T, N> {
 
     ghost Value = { State T };
 
-    ghost use Rattle.std.specs.Prelude.{◌≡◌, ◌-◌, length};
+    ghost use Rattle.std.specs.Prelude.{◌-◌};
     ghost use Rattle.slab.specs.Slab.{slab_len};
     ghost use Rattle.foyer_policy.specs.Chain.{lists_of, IsSound};
 
-    ghost view = { λ l. record { lists = lists_of l.nodes l.heads; room = l.nodes.capacity - slab_len l.nodes } };
+    ghost view = { λ l. record {
+      lists = lists_of l.nodes l.heads;
+      room = l.nodes.capacity - slab_len l.nodes;
+    } };
 
     ghost invariant = { λ l. IsSound l.nodes l.heads l.tails };
 }
 
+// Sets what comes after the node `at`, or the list's head where there is no such node.
 fn set_after<T>(
     nodes: &mut Slab<Node<T>>,
     heads: &mut [Option<usize>],
@@ -63,7 +78,8 @@ fn set_after<T>(
 )
     requires there { ForSome at (ContainsKey nodes.old) }
     requires list { list < length heads.old }
-    ensures links { (q : ℕ) → get nodes.new q ≡ (if is_at at q then after_set to (get nodes.old q) else get nodes.old q) }
+    ensures links { (q : ℕ) → get nodes.new q
+        ≡ (if is_at at q then after_set to (get nodes.old q) else get nodes.old q) }
     ensures len { slab_len nodes.new ≡ slab_len nodes.old }
     ensures vacant { nodes.new.vacant_key ≡ nodes.old.vacant_key }
     ensures capacity { nodes.new.capacity ≡ nodes.old.capacity }
@@ -75,6 +91,7 @@ fn set_after<T>(
     }
 }
 
+// Sets what comes before the node `at`, or the list's tail where there is no such node.
 fn set_before<T>(
     nodes: &mut Slab<Node<T>>,
     tails: &mut [Option<usize>],
@@ -84,7 +101,8 @@ fn set_before<T>(
 )
     requires there { ForSome at (ContainsKey nodes.old) }
     requires list { list < length tails.old }
-    ensures links { (q : ℕ) → get nodes.new q ≡ (if is_at at q then before_set to (get nodes.old q) else get nodes.old q) }
+    ensures links { (q : ℕ) → get nodes.new q
+        ≡ (if is_at at q then before_set to (get nodes.old q) else get nodes.old q) }
     ensures len { slab_len nodes.new ≡ slab_len nodes.old }
     ensures vacant { nodes.new.vacant_key ≡ nodes.old.vacant_key }
     ensures capacity { nodes.new.capacity ≡ nodes.old.capacity }
@@ -96,6 +114,7 @@ fn set_before<T>(
     }
 }
 
+// Puts a value at the end of a list, and answers its node.
 fn link_back<T>(
     nodes: &mut Slab<Node<T>>,
     heads: &mut [Option<usize>],
@@ -107,7 +126,9 @@ fn link_back<T>(
     requires list { list < length heads.old }
     requires room { HasRoomFor nodes.old 1 }
     ensures sound { IsSound nodes.new heads.new tails.new }
-    ensures lists { lists_of nodes.new heads.new ≡ (let ls = lists_of nodes.old heads.old in slice_set ls list (list_at ls list ++ (result, value) ∷ [])) }
+    ensures lists { lists_of nodes.new heads.new
+        ≡ (let ls = lists_of nodes.old heads.old in
+        slice_set ls list (list_at ls list ++ (result, value) ∷ [])) }
     ensures next { result ≡ nodes.old.vacant_key }
     ensures free { find result (lists_of nodes.old heads.old) ≡ None }
     ensures len { slab_len nodes.new ≡ slab_len nodes.old + 1 }
@@ -125,6 +146,7 @@ fn link_back<T>(
     node
 }
 
+// Takes the value of a node out of its list.
 fn take_out<T>(
     nodes: &mut Slab<Node<T>>,
     heads: &mut [Option<usize>],
@@ -135,7 +157,8 @@ fn take_out<T>(
     requires there { IsSome (find place (lists_of nodes.old heads.old)) }
     ensures sound { IsSound nodes.new heads.new tails.new }
     ensures value { find place (lists_of nodes.old heads.old) ≡ Some result }
-    ensures lists { lists_of nodes.new heads.new ≡ map (drop_place place) (lists_of nodes.old heads.old) }
+    ensures lists { lists_of nodes.new heads.new
+        ≡ map (drop_place place) (lists_of nodes.old heads.old) }
     ensures len { slab_len nodes.new + 1 ≡ slab_len nodes.old }
     ensures room { HasRoomFor nodes.new 1 }
     ensures next { nodes.new.vacant_key ≡ place }
@@ -156,6 +179,7 @@ impl<T, const N: usize> Lists<T, N> {
     ghost use Rattle.std.specs.Borrow.{sem};
     ghost use Rattle.foyer_policy.specs.Lends.{lends_value};
 
+    /// Empty lists with no room, which take no memory.
     pub fn new(alloc: Global) -> Self
         ensures lists { result.lists ≡ replicate N [] }
         ensures room { result.room ≡ 0 }
@@ -168,21 +192,45 @@ impl<T, const N: usize> Lists<T, N> {
         }
     }
 
-    pub fn reserve(&mut self, more: usize) -> Result<(), AllocError>
+    /// Makes room for `more` values beside those that are in. No other call takes memory.
+    ///
+    /// # Errors
+    ///
+    /// [`Reason::NoMemory`] where the room is still less than `more`. The lists are as they were,
+    /// and the room is not less.
+    pub fn reserve(&mut self, more: usize) -> Result<()>
         ensures room { OnOk result (more ≤ self.new.room) }
         ensures lists { self.new.lists ≡ self.old.lists }
         ensures kept { self.old.room ≤ self.new.room }
+
+        // It is refused only where the room is less, and so never where there was room.
+        ensures refused { IfErr result (λ e. e ≡ Reason.NoMemory) }
+        ensures lacking { OnErr result (self.new.room < more) }
+        ensures had_room { more ≤ self.old.room → IsOk result }
+
+        ensures small { sum_by length self.old.lists < 2 ^ 64 }
         ensures apart { AreLists N self.old.lists }
     {
-        self.nodes.reserve(more)
+        // Whether memory came shows in the room.
+        let _ = self.nodes.reserve(more);
+        if self.nodes.capacity() - self.nodes.len() < more {
+            return Err(Error::new(Reason::NoMemory));
+        }
+        Ok(())
     }
 
+    /// Puts a value at the end of a list, and answers its place. `list` is below `N`, and a room
+    /// must be reserved, which the value takes.
     pub fn push_back(&mut self, list: usize, value: T) -> Place
         requires list { list < N }
         requires room { 0 < self.old.room }
-        ensures lists { self.new.lists ≡ slice_set self.old.lists list (list_at self.old.lists list ++ (result, value) ∷ []) }
+        ensures lists { self.new.lists
+            ≡ slice_set self.old.lists list (list_at self.old.lists list ++ (result, value) ∷ []) }
         ensures room { self.new.room + 1 ≡ self.old.room }
         ensures free { find result self.old.lists ≡ None }
+        ensures here { find result self.new.lists ≡ Some value }
+        ensures others { (q : ℕ) → q ≢ result → find q self.new.lists ≡ find q self.old.lists }
+        ensures small { sum_by length self.new.lists < 2 ^ 64 }
         ensures apart { AreLists N self.old.lists }
     {
         let node = link_back(
@@ -195,11 +243,35 @@ impl<T, const N: usize> Lists<T, N> {
         Place { node }
     }
 
+    /// Takes the first value of a list out, where there is one, and gives its room back. `list` is
+    /// below `N`.
+    pub fn pop_front(&mut self, list: usize) -> Option<T>
+        requires { list < N }
+        ensures value { result ≡ first_value (list_at self.old.lists list) }
+        ensures lists { self.new.lists
+            ≡ slice_set self.old.lists list (rest (list_at self.old.lists list)) }
+        ensures room { self.new.room ≡ self.old.room + (if is_some result then 1 else 0) }
+        ensures others { (q : ℕ) → first_or (list_at self.old.lists list) None ≢ Some q
+            → find q self.new.lists ≡ find q self.old.lists }
+        ensures small { sum_by length self.old.lists < 2 ^ 64 }
+        ensures apart { AreLists N self.old.lists }
+    {
+        match self.heads[list] {
+            Some(node) => Some(take_out(&mut self.nodes, &mut self.heads, &mut self.tails, node)),
+            None => None,
+        }
+    }
+
+    /// Takes the value at a place out of its list, and gives its room back. The place must hold a
+    /// value.
     pub fn remove(&mut self, place: Place) -> T
         requires { IsSome (find place self.old.lists) }
         ensures value { find place self.old.lists ≡ Some result }
         ensures lists { self.new.lists ≡ map (drop_place place) self.old.lists }
         ensures room { self.new.room ≡ self.old.room + 1 }
+        ensures gone { find place self.new.lists ≡ None }
+        ensures others { (q : ℕ) → q ≢ place → find q self.new.lists ≡ find q self.old.lists }
+        ensures small { sum_by length self.old.lists < 2 ^ 64 }
         ensures apart { AreLists N self.old.lists }
     {
         take_out(
@@ -210,43 +282,15 @@ impl<T, const N: usize> Lists<T, N> {
         )
     }
 
-    pub fn front(&self, list: usize) -> Option<Place>
-        requires { list < N }
-        ensures place { result ≡ first_or (list_at self.now.lists list) None }
-        ensures apart { AreLists N self.now.lists }
-    {
-        match self.heads[list] {
-            Some(node) => Some(Place { node }),
-            None => None,
-        }
-    }
-
-    pub fn pop_front(&mut self, list: usize) -> Option<T>
-        requires { list < N }
-        ensures value { result ≡ first_value (list_at self.old.lists list) }
-        ensures lists { self.new.lists ≡ slice_set self.old.lists list (rest (list_at self.old.lists list)) }
-        ensures room { self.new.room ≡ self.old.room + (if is_some result then 1 else 0) }
-        ensures apart { AreLists N self.old.lists }
-    {
-        match self.heads[list] {
-            Some(node) => Some(take_out(&mut self.nodes, &mut self.heads, &mut self.tails, node)),
-            None => None,
-        }
-    }
-
-    pub fn get(&self, place: Place) -> &T
-        requires { IsSome (find place self.now.lists) }
-        ensures value { find place self.now.lists ≡ Some result.now }
-        ensures apart { AreLists N self.now.lists }
-    {
-        &self.nodes[place.node].value
-    }
-
+    /// Moves the value at a place to the end of a list, which may be its own. It keeps its place.
+    /// The place must hold a value, and `list` is below `N`.
     pub fn move_back(&mut self, place: Place, list: usize)
         requires list { list < N }
         requires there { IsSome (find place self.old.lists) }
         ensures lists { self.new.lists ≡ moved place list self.old.lists }
         ensures room { self.new.room ≡ self.old.room }
+        ensures places { (q : ℕ) → find q self.new.lists ≡ find q self.old.lists }
+        ensures small { sum_by length self.old.lists < 2 ^ 64 }
         ensures apart { AreLists N self.old.lists }
     {
         let value = take_out(
@@ -264,21 +308,49 @@ impl<T, const N: usize> Lists<T, N> {
         );
     }
 
-    pub fn next(&self, place: Place) -> Option<Place>
-        requires { IsSome (find place self.now.lists) }
-        ensures place { (k : ℕ) (xs ys : _) (v : _) → list_at self.now.lists k ≡ xs ++ (place, v) ∷ ys → result ≡ first_or ys None }
+    /// The place of a list's first value, or `None` where the list is empty. `list` is below `N`.
+    pub fn front(&self, list: usize) -> Option<Place>
+        requires { list < N }
+        ensures place { result ≡ first_or (list_at self.now.lists list) None }
+        ensures there { IfSome result (λ p. IsSome (find p self.now.lists)) }
+        ensures small { sum_by length self.now.lists < 2 ^ 64 }
         ensures apart { AreLists N self.now.lists }
     {
-        match self.nodes[place.node].after {
-            Some(node) => Some(Place { node }),
-            None => None,
-        }
+        let node = self.heads[list]?;
+        Some(Place { node })
     }
 
+    /// The place of the value behind the one at `place` in its list, or `None` at the list's end.
+    /// The place must hold a value.
+    pub fn next(&self, place: Place) -> Option<Place>
+        requires { IsSome (find place self.now.lists) }
+        ensures place { (k : ℕ) (xs ys : _) (v : _)
+            → list_at self.now.lists k ≡ xs ++ (place, v) ∷ ys → result ≡ first_or ys None }
+        ensures there { IfSome result (λ p. IsSome (find p self.now.lists)) }
+        ensures small { sum_by length self.now.lists < 2 ^ 64 }
+        ensures apart { AreLists N self.now.lists }
+    {
+        let node = self.nodes[place.node].after?;
+        Some(Place { node })
+    }
+
+    /// The value at a place, which must hold one.
+    pub fn get(&self, place: Place) -> &T
+        requires { IsSome (find place self.now.lists) }
+        ensures value { find place self.now.lists ≡ Some result.now }
+        ensures small { sum_by length self.now.lists < 2 ^ 64 }
+        ensures apart { AreLists N self.now.lists }
+    {
+        &self.nodes[place.node].value
+    }
+
+    /// The value at a place for writing. The place must hold a value, and ends with the one that
+    /// was written last.
     pub fn get_mut(&mut self, place: Place) -> &mut T
         requires { IsSome (find place self.old.lists) }
         ensures* writes_back { sem 𝓛 (lends_value T.row N.row self.entry place result) }
         ensures value { find place self.old.lists ≡ Some result.now }
+        ensures small { sum_by length self.old.lists < 2 ^ 64 }
         ensures apart { AreLists N self.old.lists }
     {
         let node = &mut self.nodes[place.node];

@@ -1,8 +1,9 @@
-use Rattle.foyer_policy.specs.Chain.{Holds, lists_of}
-use Rattle.std.proofs.Common.{◌≡◌, sym, ◌∙◌, rules, arith, ap, ◌+◌, IsSome, map, sum_by, length}
-use Rattle.slab.specs.Slab.{get, slab_len}
+use Rattle.foyer_policy.specs.Chain.{lists_of}
+use Rattle.std.proofs.Common.{arith, map}
+use Rattle.slab.specs.Slab.{get}
 use Rattle.foyer_policy.specs.Lists.{drop_place}
-use Rattle.foyer_policy.proofs.LinkedLemmas.{contains_found, find-node, list_in_heads, list_in_tails, before_there, after_there, taken, Holds-again, lists_of-Holds, some_after_set}
+use Rattle.foyer_policy.proofs.LinkedLemmas.{find-node, list_in_heads, list_in_tails, before_there, after_there}
+use Rattle.foyer_policy.proofs.HoldsLemmas.{contains_found, taken, Holds-again, lists_of-Holds, some_after_set}
 use Rattle.foyer_policy.proofs.lists.take_out.Goals as goal
 
 pub remove-value-requires : goal.remove-value-requires
@@ -48,10 +49,10 @@ pub returns-clause-sound : goal.returns-clause-sound
 returns-clause-sound g c =
     Holds-again c.set_before.new.nodes c.set_after.new.heads c.set_before.new.tails (map (drop_place c.args.place) (lists_of c.args.nodes.now c.args.heads.now))
     (taken c.args.nodes.now c.remove-value.new.self c.set_after.new.nodes c.set_before.new.nodes c.args.heads.now c.args.tails.now c.set_after.new.heads c.set_before.new.tails c.args.place c.remove-value.result
-    c.requires.sound c.requires.there c.remove-value.ensures.value c.remove-value.ensures.updates c.set_after.ensures.links c.set_before.ensures.links (omega arith) c.set_after.ensures.heads c.set_before.ensures.tails)
+    c.requires.sound c.requires.there c.remove-value.ensures.value c.remove-value.ensures.updates c.set_after.ensures.links c.set_before.ensures.links (omega arith) (omega arith) c.set_after.ensures.heads c.set_before.ensures.tails)
 
 pub returns-clause-lists : goal.returns-clause-lists
 returns-clause-lists g c =
     lists_of-Holds c.set_before.new.nodes c.set_after.new.heads c.set_before.new.tails (map (drop_place c.args.place) (lists_of c.args.nodes.now c.args.heads.now))
     (taken c.args.nodes.now c.remove-value.new.self c.set_after.new.nodes c.set_before.new.nodes c.args.heads.now c.args.tails.now c.set_after.new.heads c.set_before.new.tails c.args.place c.remove-value.result
-    c.requires.sound c.requires.there c.remove-value.ensures.value c.remove-value.ensures.updates c.set_after.ensures.links c.set_before.ensures.links (omega arith) c.set_after.ensures.heads c.set_before.ensures.tails)
+    c.requires.sound c.requires.there c.remove-value.ensures.value c.remove-value.ensures.updates c.set_after.ensures.links c.set_before.ensures.links (omega arith) (omega arith) c.set_after.ensures.heads c.set_before.ensures.tails)

@@ -1,10 +1,19 @@
+use Rattle.std.proofs.Common.{◌<◌, length, rules, arith}
 use Rattle.slab.specs.Slab.{get}
 use Rattle.foyer_policy.specs.Chain.{lists_of}
-use Rattle.foyer_policy.proofs.LinkedLemmas.{AreLists-Linked}
+use Rattle.foyer_policy.proofs.LinkedLemmas.{front_found}
+use Rattle.foyer_policy.proofs.HoldsLemmas.{AreLists-told}
 use Rattle.foyer_policy.proofs.lists.Lists.front.Goals as goal
 
-pub returns-in-Some-clause-apart : goal.returns-in-Some-clause-apart
-returns-in-Some-clause-apart g c = rw (← c.self.view_is) (AreLists-Linked (get c.self.inside.nodes) c.self.inside.heads c.self.inside.tails (lists_of c.self.inside.nodes c.self.inside.heads) g.row.N c.self.invariant.linked c.self.told)
+pub returns-clause-there : goal.returns-clause-there
+returns-clause-there g c =
+    let i = c.self.inside in
+    let lt : c.args.list < length (lists_of i.nodes i.heads) = omega (arith, c.self.invariant.linked.heads_len) in
+    let f = front_found (get i.nodes) i.heads i.tails (lists_of i.nodes i.heads) c.args.list c.in_ok-node.node c.self.invariant.linked lt c.in_ok-node.was in
+    rw (← c.self.view_is, f.there) (search rules)
 
-pub returns-in-None-clause-apart : goal.returns-in-None-clause-apart
-returns-in-None-clause-apart g c = rw (← c.self.view_is) (AreLists-Linked (get c.self.inside.nodes) c.self.inside.heads c.self.inside.tails (lists_of c.self.inside.nodes c.self.inside.heads) g.row.N c.self.invariant.linked c.self.told)
+pub returns-clause-apart : goal.returns-clause-apart
+returns-clause-apart g c = AreLists-told c.self.view_is c.self.invariant c.self.told
+
+pub returns-in_err-node-clause-apart : goal.returns-in_err-node-clause-apart
+returns-in_err-node-clause-apart g c = AreLists-told c.self.view_is c.self.invariant c.self.told

@@ -1,9 +1,10 @@
-use Rattle.foyer_policy.proofs.LinkedLemmas.{AreLists-Linked}
-use Rattle.std.proofs.Common.{◌≡◌, rules, arith, length, sym, ◌∙◌, ◌<◌, ap, Some, IsSome}
-use Rattle.slab.specs.Slab.{get, slab_len}
+use Rattle.foyer_policy.proofs.HoldsLemmas.{AreLists-told}
+use Rattle.std.proofs.Common.{rules, IsSome}
+use Rattle.slab.specs.Slab.{get}
 use Rattle.foyer_policy.specs.Chain.{lists_of}
 use Rattle.foyer_policy.specs.Lists.{find}
-use Rattle.foyer_policy.proofs.LinkedLemmas.{contains_found, found_node, FoundNode}
+use Rattle.foyer_policy.proofs.LinkedLemmas.{found_node}
+use Rattle.foyer_policy.proofs.HoldsLemmas.{contains_found}
 use Rattle.foyer_policy.proofs.lists.Lists.get.Goals as goal
 
 pub index-requires : goal.index-requires
@@ -20,4 +21,4 @@ returns-clause-value g c =
     rw (← c.self.view_is, ← c.place.view_is) f.find_is
 
 pub returns-clause-apart : goal.returns-clause-apart
-returns-clause-apart g c = rw (← c.self.view_is) (AreLists-Linked (get c.self.inside.nodes) c.self.inside.heads c.self.inside.tails (lists_of c.self.inside.nodes c.self.inside.heads) g.row.N c.self.invariant.linked c.self.told)
+returns-clause-apart g c = AreLists-told c.self.view_is c.self.invariant c.self.told

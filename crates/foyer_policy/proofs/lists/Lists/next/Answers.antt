@@ -1,9 +1,10 @@
-use Rattle.foyer_policy.proofs.LinkedLemmas.{AreLists-Linked}
-use Rattle.std.proofs.Common.{◌≡◌, rules, arith, length, sym, ◌∙◌, ◌<◌, ap, Some, None, IsSome, ◌++◌, ◌∷◌, List, ℕ, Option}
-use Rattle.slab.specs.Slab.{get, slab_len}
+use Rattle.foyer_policy.proofs.HoldsLemmas.{AreLists-told}
+use Rattle.std.proofs.Common.{◌≡◌, rules, sym, ◌∙◌, IsSome, ◌++◌, ◌∷◌}
+use Rattle.slab.specs.Slab.{get}
 use Rattle.foyer_policy.specs.Chain.{lists_of}
-use Rattle.foyer_policy.specs.Lists.{find, list_at, first_or}
-use Rattle.foyer_policy.proofs.LinkedLemmas.{contains_found, after-node}
+use Rattle.foyer_policy.specs.Lists.{find, list_at}
+use Rattle.foyer_policy.proofs.LinkedLemmas.{after-node, after_found}
+use Rattle.foyer_policy.proofs.HoldsLemmas.{contains_found}
 use Rattle.foyer_policy.proofs.lists.Lists.next.Goals as goal
 
 pub index-requires : goal.index-requires
@@ -12,20 +13,27 @@ index-requires g c =
     let there : IsSome (find c.place.inside.node (lists_of i.nodes i.heads)) = search rules in
     contains_found i.nodes i.heads i.tails (lists_of i.nodes i.heads) c.place.inside.node c.self.invariant.linked there
 
-pub returns-in-Some-clause-place : goal.returns-in-Some-clause-place
-returns-in-Some-clause-place g c = λ k xs ys v h.
+pub returns-clause-place : goal.returns-clause-place
+returns-clause-place g c = λ k xs ys v h.
     let i = c.self.inside in
     let h' : list_at (lists_of i.nodes i.heads) k ≡ xs ++ (c.place.inside.node, v) ∷ ys = rw (← c.self.view_is, ← c.place.view_is) at h in
-    sym c.in-Some.is ∙ after-node (get i.nodes) i.heads i.tails (lists_of i.nodes i.heads) k c.place.inside.node v xs ys c.index.result.now c.self.invariant.linked h' c.index.ensures
+    sym c.in_ok-node.was ∙ after-node (get i.nodes) i.heads i.tails (lists_of i.nodes i.heads) k c.place.inside.node v xs ys c.index.result.now c.self.invariant.linked h' c.index.ensures
 
-pub returns-in-None-clause-place : goal.returns-in-None-clause-place
-returns-in-None-clause-place g c = λ k xs ys v h.
+pub returns-in_err-node-clause-place : goal.returns-in_err-node-clause-place
+returns-in_err-node-clause-place g c = λ k xs ys v h.
     let i = c.self.inside in
     let h' : list_at (lists_of i.nodes i.heads) k ≡ xs ++ (c.place.inside.node, v) ∷ ys = rw (← c.self.view_is, ← c.place.view_is) at h in
-    sym c.in-None.is ∙ after-node (get i.nodes) i.heads i.tails (lists_of i.nodes i.heads) k c.place.inside.node v xs ys c.index.result.now c.self.invariant.linked h' c.index.ensures
+    c.from_residual.ensures ∙ sym c.in_err-node.was ∙ after-node (get i.nodes) i.heads i.tails (lists_of i.nodes i.heads) k c.place.inside.node v xs ys c.index.result.now c.self.invariant.linked h' c.index.ensures
 
-pub returns-in-Some-clause-apart : goal.returns-in-Some-clause-apart
-returns-in-Some-clause-apart g c = rw (← c.self.view_is) (AreLists-Linked (get c.self.inside.nodes) c.self.inside.heads c.self.inside.tails (lists_of c.self.inside.nodes c.self.inside.heads) g.row.N c.self.invariant.linked c.self.told)
+pub returns-clause-there : goal.returns-clause-there
+returns-clause-there g c =
+    let i = c.self.inside in
+    let there : IsSome (find c.place.inside.node (lists_of i.nodes i.heads)) = search rules in
+    rw (← c.self.view_is)
+    (after_found (get i.nodes) i.heads i.tails (lists_of i.nodes i.heads) c.place.inside.node c.in_ok-node.node c.index.result.now c.self.invariant.linked there c.index.ensures c.in_ok-node.was)
 
-pub returns-in-None-clause-apart : goal.returns-in-None-clause-apart
-returns-in-None-clause-apart g c = rw (← c.self.view_is) (AreLists-Linked (get c.self.inside.nodes) c.self.inside.heads c.self.inside.tails (lists_of c.self.inside.nodes c.self.inside.heads) g.row.N c.self.invariant.linked c.self.told)
+pub returns-clause-apart : goal.returns-clause-apart
+returns-clause-apart g c = AreLists-told c.self.view_is c.self.invariant c.self.told
+
+pub returns-in_err-node-clause-apart : goal.returns-in_err-node-clause-apart
+returns-in_err-node-clause-apart g c = AreLists-told c.self.view_is c.self.invariant c.self.told

@@ -1,9 +1,10 @@
-use Rattle.foyer_policy.proofs.LinkedLemmas.{AreLists-Linked}
-use Rattle.std.proofs.Common.{◌≡◌, rules, arith, length, sym, ◌∙◌, ◌<◌, ap, Some, IsSome, get_or, None, subst, Option}
-use Rattle.slab.specs.Slab.{get, slab_len}
-use Rattle.foyer_policy.specs.Chain.{lists_of, walk}
-use Rattle.foyer_policy.specs.Lists.{find}
-use Rattle.foyer_policy.proofs.LinkedLemmas.{front_found, Front}
+use Rattle.foyer_policy.proofs.HoldsLemmas.{AreLists-told}
+use Rattle.std.proofs.Common.{◌≡◌, ◌≢◌, Some, None, rules, arith, length, sym, ap, ◌∙◌, ◌<◌}
+use Rattle.slab.specs.Slab.{get}
+use Rattle.foyer_policy.specs.Chain.{lists_of}
+use Rattle.foyer_policy.specs.Lists.{list_at, first_or}
+use Rattle.foyer_policy.proofs.FoundLemmas.{find-drop_other}
+use Rattle.foyer_policy.proofs.LinkedLemmas.{front_found}
 use Rattle.foyer_policy.proofs.lists.Lists.pop_front.Goals as goal
 
 pub take_out-requires-clause-there : goal.take_out-requires-clause-there
@@ -27,8 +28,18 @@ returns-in-Some-clause-lists g c =
     let f = front_found (get i.nodes) i.heads i.tails (lists_of i.nodes i.heads) c.args.list c.in-Some.node c.self.invariant.linked lt c.in-Some.is in
     rw (← c.self.view_is) (c.take_out.ensures.lists ∙ f.gone)
 
+pub returns-in-Some-clause-others : goal.returns-in-Some-clause-others
+returns-in-Some-clause-others g c = λ q ne.
+    let i = c.self.inside in
+    let ls = lists_of i.nodes i.heads in
+    let lt : c.args.list < length ls = omega (arith, c.self.invariant.linked.heads_len) in
+    let head = (c.self.invariant.linked.each c.args.list lt).head in
+    let first : first_or (list_at ls c.args.list) None ≡ Some c.in-Some.node = sym head ∙ c.in-Some.is in
+    let ne' : first_or (list_at ls c.args.list) None ≢ Some q = rw (← c.self.view_is) at ne in
+    rw (← c.self.view_is, c.take_out.ensures.lists) (find-drop_other c.in-Some.node q ls (λ e. ne' (first ∙ ap Some e)))
+
 pub returns-in-Some-clause-apart : goal.returns-in-Some-clause-apart
-returns-in-Some-clause-apart g c = rw (← c.self.view_is) (AreLists-Linked (get c.self.inside.nodes) c.self.inside.heads c.self.inside.tails (lists_of c.self.inside.nodes c.self.inside.heads) g.row.N c.self.invariant.linked c.self.told)
+returns-in-Some-clause-apart g c = AreLists-told c.self.view_is c.self.invariant c.self.told
 
 pub returns-in-None-clause-apart : goal.returns-in-None-clause-apart
-returns-in-None-clause-apart g c = rw (← c.self.view_is) (AreLists-Linked (get c.self.inside.nodes) c.self.inside.heads c.self.inside.tails (lists_of c.self.inside.nodes c.self.inside.heads) g.row.N c.self.invariant.linked c.self.told)
+returns-in-None-clause-apart g c = AreLists-told c.self.view_is c.self.invariant c.self.told

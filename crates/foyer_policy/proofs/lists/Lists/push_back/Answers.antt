@@ -1,7 +1,20 @@
-use Rattle.slab.specs.Slab.{get}
+use Rattle.std.proofs.Common.{◌<◌, length, arith}
 use Rattle.foyer_policy.specs.Chain.{lists_of}
-use Rattle.foyer_policy.proofs.LinkedLemmas.{AreLists-Linked}
+use Rattle.foyer_policy.proofs.FoundLemmas.{find-push_same, find-push_other}
+use Rattle.foyer_policy.proofs.HoldsLemmas.{AreLists-told}
 use Rattle.foyer_policy.proofs.lists.Lists.push_back.Goals as goal
 
+pub returns-clause-here : goal.returns-clause-here
+returns-clause-here g c =
+    let i = c.self.inside in
+    let lt : c.args.list < length (lists_of i.nodes i.heads) = omega (arith, c.self.invariant.linked.heads_len) in
+    rw c.link_back-node.ensures.lists (find-push_same c.link_back-node.result c.args.value (lists_of i.nodes i.heads) c.args.list c.link_back-node.ensures.free lt)
+
+pub returns-clause-others : goal.returns-clause-others
+returns-clause-others g c = λ q ne.
+    let i = c.self.inside in
+    let lt : c.args.list < length (lists_of i.nodes i.heads) = omega (arith, c.self.invariant.linked.heads_len) in
+    rw (← c.self.view_is, c.link_back-node.ensures.lists) (find-push_other c.link_back-node.result q c.args.value (lists_of i.nodes i.heads) c.args.list c.link_back-node.ensures.free lt ne)
+
 pub returns-clause-apart : goal.returns-clause-apart
-returns-clause-apart g c = rw (← c.self.view_is) (AreLists-Linked (get c.self.inside.nodes) c.self.inside.heads c.self.inside.tails (lists_of c.self.inside.nodes c.self.inside.heads) g.row.N c.self.invariant.linked c.self.told)
+returns-clause-apart g c = AreLists-told c.self.view_is c.self.invariant c.self.told
