@@ -2,3 +2,4 @@ pub mod Errors
 pub mod Lists
 pub mod Chain
 pub mod Lends
+pub mod Properties

@@ -1,0 +1,23 @@
+//! What every policy's state and configuration can do.
+
+use serde::{DeserializeOwned, Serialize};
+
+#[cfg(test)]
+mod tests;
+
+/// What a policy keeps beside an item. Every fitting type is one.
+pub trait State: Default + Drop + Send + Sync + 'static {}
+
+impl<T: Default + Drop + Send + Sync + 'static> State for T {}
+
+/// A policy's configuration, with its defaults, which can be written and read. Every fitting type
+/// is one.
+pub trait Config:
+    Clone + Default + Drop + Serialize + DeserializeOwned + Send + Sync + 'static
+{
+}
+
+impl<T: Clone + Default + Drop + Serialize + DeserializeOwned + Send + Sync + 'static> Config
+    for T
+{
+}
