@@ -3,3 +3,4 @@ pub mod Lists
 pub mod Chain
 pub mod Lends
 pub mod Properties
+pub mod Hash
