@@ -156,3 +156,7 @@ mod_hash_of-u64 n small =
     ap (λ bs. number_of_bytes bs % 2 ^ 64) (append-nil (le_bytes 8 n))
     ∙ ap (λ k. k % 2 ^ 64) (number_of_bytes-le_bytes n small)
     ∙ mod-eq_of_lt small
+
+-- what a `HashBuilder` that is a `ModHasher` gives a `u64`: that key
+pub hash_of-u64 : (n : ℕ) → n < 2 ^ 64 → (fold with_bytes no_digits (le_bytes 8 n ∷ [])).sum % 2 ^ 64 ≡ n
+hash_of-u64 n small = mod_hash_of (le_bytes 8 n ∷ []) ∙ mod_hash_of-u64 n small
