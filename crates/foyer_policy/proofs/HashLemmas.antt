@@ -1,11 +1,10 @@
 -- Numbers of keys: equal keys have equal ones, and what digits to base 256 come to.
-use Rattle.std.proofs.Common.{◌≡◌, ℕ, zero, suc, ◌+◌, ◌*◌, ◌%◌, ◌^◌, ◌<◌, Bool, true, List, [], ◌∷◌, ◌++◌, length, refl, sym, ◌∙◌, ap, ap₂, arith, lit<, add-one, length-append, append-nil, sum_by, get_or, take, drop}
+use Rattle.std.proofs.Common.{◌≡◌, ℕ, suc, ◌+◌, ◌*◌, ◌%◌, ◌^◌, ◌<◌, Bool, true, List, [], ◌∷◌, ◌++◌, length, refl, sym, ◌∙◌, ap, ap₂, arith, lit<, add-one, length-append, append-nil, sum_by, get_or, take, drop}
 use Rattle.std.proofs.Math.Nat.{add-mod-mod, mod-add-mod, mod-eq_of_lt, mod-mod, mul-one, mul-mod_left, zero-mul, mul_comm, mul_assoc, mul_left_comm, mul-add, pow-suc}
 use Rattle.std.proofs.lemmas.List.{take_more, take-append-drop}
-use Rattle.std.proofs.lemmas.List.Sums.{sum_by-cons, sum_by-append}
-use Rattle.std.proofs.lemmas.Nat.{mul-mod_first, mul-mod_second, mul-mod, pow-add, mod_below, from_le_bytes-to_le_bytes_8}
+use Rattle.std.proofs.lemmas.List.Sums.{sum_by-cons}
+use Rattle.std.proofs.lemmas.Nat.{mul-mod_first, pow-add, mod_below, from_le_bytes-to_le_bytes_8}
 use Rattle.std.specs.Hash.{le_bytes}
-use Rattle.std.specs.Int.{w64, from_le_bytes, to_le_bytes}
 use Rattle.std.specs.List.{enumerate_from, concat, fold}
 use Rattle.foyer_policy.specs.Hash.{Digits, number_of_bytes, no_digits, with_bytes}
 
@@ -44,7 +43,7 @@ number_of_bytes-append (x ∷ xs) ys =
     let here : number_of_bytes (x ∷ (xs ++ ys)) ≡ x + 256 * number_of_bytes (xs ++ ys) = number_of_bytes-cons x (xs ++ ys) in
     let one_on : number_of_bytes (x ∷ xs) ≡ x + 256 * number_of_bytes xs = number_of_bytes-cons x xs in
     let power : 256 ^ suc (length xs) * number_of_bytes ys ≡ 256 * (w * number_of_bytes ys) =
-            ap (λ n. n * number_of_bytes ys) (pow-suc 256 (length xs) ∙ mul_comm w 256) ∙ mul_assoc 256 w (number_of_bytes ys) in
+    ap (λ n. n * number_of_bytes ys) (pow-suc 256 (length xs) ∙ mul_comm w 256) ∙ mul_assoc 256 w (number_of_bytes ys) in
     here ∙ omega (arith, one_on, power, number_of_bytes-append xs ys)
 
 -- the bytes of a `u64` are its digits
@@ -72,13 +71,13 @@ with_bytes-append d xs ys =
     let m : ℕ = 2 ^ 64 in
     let w : ℕ = 256 ^ length xs in
     let worth : d.sum + d.place * number_of_bytes xs + d.place * w * number_of_bytes ys ≡ d.sum + d.place * number_of_bytes (xs ++ ys) =
-            regrouped d.sum d.place _ w _ _ (number_of_bytes-append xs ys) in
+    regrouped d.sum d.place _ w _ _ (number_of_bytes-append xs ys) in
     let places : d.place * w * 256 ^ length ys ≡ d.place * 256 ^ length (xs ++ ys) =
-            mul_assoc d.place w (256 ^ length ys)
-            ∙ ap (λ n. d.place * n) (sym (pow-add 256 (length xs) (length ys)) ∙ ap (λ n. 256 ^ n) (sym (length-append xs ys))) in
+    mul_assoc d.place w (256 ^ length ys)
+    ∙ ap (λ n. d.place * n) (sym (pow-add 256 (length xs) (length ys)) ∙ ap (λ n. 256 ^ n) (sym (length-append xs ys))) in
     ap₂ made_of
-        (mod_later (d.sum + d.place * number_of_bytes xs) (d.place * w) (number_of_bytes ys) m ∙ ap (λ n. n % m) worth)
-        (mul-mod_first (d.place * w) (256 ^ length ys) m ∙ ap (λ n. n % m) places)
+    (mod_later (d.sum + d.place * number_of_bytes xs) (d.place * w) (number_of_bytes ys) m ∙ ap (λ n. n % m) worth)
+    (mul-mod_first (d.place * w) (256 ^ length ys) m ∙ ap (λ n. n % m) places)
 
 drop_zero : (s p : ℕ) → s < 2 ^ 64 → (s + p * 0) % 2 ^ 64 ≡ s
 drop_zero s p small = let same : s + p * 0 ≡ s = omega arith in ap (λ n. n % 2 ^ 64) same ∙ mod-eq_of_lt small
@@ -90,8 +89,8 @@ drop_one p small = ap (λ n. n % 2 ^ 64) (mul-one p) ∙ mod-eq_of_lt small
 pub fold-with_bytes : (d : Digits) (writes : List (List ℕ)) → d.sum < 2 ^ 64 → d.place < 2 ^ 64 → fold with_bytes d writes ≡ with_bytes d (concat writes)
 fold-with_bytes d [] s p =
     ap₂ made_of
-        (sym (drop_zero d.sum d.place s))
-        (sym (drop_one d.place p))
+    (sym (drop_zero d.sum d.place s))
+    (sym (drop_one d.place p))
 fold-with_bytes d (w ∷ ws) s p =
     fold-with_bytes (with_bytes d w) ws (mod_below _ _ (lit< tt)) (mod_below _ _ (lit< tt)) ∙ with_bytes-append d w (concat ws)
 
@@ -112,15 +111,15 @@ pub with_bytes-u64 : (s p n : ℕ) → n < 2 ^ 64 → with_bytes (record { sum =
 unfolding le_bytes
 with_bytes-u64 s p n small =
     ap₂ made_of
-        (ap (λ k. (s + p * k) % 2 ^ 64) (number_of_bytes-le_bytes n small) ∙ ap (λ k. (s + k) % 2 ^ 64) (mul_comm p n) ∙ sym (add-mod-mod s (n * p) (2 ^ 64)))
-        (mul-mod_left p (2 ^ 64))
+    (ap (λ k. (s + p * k) % 2 ^ 64) (number_of_bytes-le_bytes n small) ∙ ap (λ k. (s + k) % 2 ^ 64) (mul_comm p n) ∙ sym (add-mod-mod s (n * p) (2 ^ 64)))
+    (mul-mod_left p (2 ^ 64))
 
 -- from the ninth byte on, none counts
 pub with_bytes-zero : (s : ℕ) (bs : List ℕ) → s < 2 ^ 64 → with_bytes (record { sum = s; place = 0 }) bs ≡ record { sum = s; place = 0 }
 with_bytes-zero s bs small =
     ap₂ made_of
-        (ap (λ k. (s + k) % 2 ^ 64) (zero-mul (number_of_bytes bs)) ∙ drop_zero s 0 small)
-        (ap (λ k. k % 2 ^ 64) (zero-mul (256 ^ length bs)))
+    (ap (λ k. (s + k) % 2 ^ 64) (zero-mul (number_of_bytes bs)) ∙ drop_zero s 0 small)
+    (ap (λ k. k % 2 ^ 64) (zero-mul (256 ^ length bs)))
 
 -- the step of a loop over the bytes
 pub with_bytes-more : (d : Digits) (s p : ℕ) (bs : List ℕ) (i : ℕ) → i < length bs → made_of s p ≡ with_bytes d (take i bs) → made_of ((s + (get_or bs i 0 * p) % 2 ^ 64) % 2 ^ 64) ((p * 256) % 2 ^ 64) ≡ with_bytes d (take (i + 1) bs)

@@ -6,18 +6,12 @@ use serde::{DeserializeOwned, Serialize};
 mod tests;
 
 /// What a policy keeps beside an item. Every fitting type is one.
-pub trait State: Default + Drop + Send + Sync + 'static {}
+pub trait State: Default + Drop + 'static {}
 
-impl<T: Default + Drop + Send + Sync + 'static> State for T {}
+impl<T: Default + Drop + 'static> State for T {}
 
 /// A policy's configuration, with its defaults, which can be written and read. Every fitting type
 /// is one.
-pub trait Config:
-    Clone + Default + Drop + Serialize + DeserializeOwned + Send + Sync + 'static
-{
-}
+pub trait Config: Clone + Default + Drop + Serialize + DeserializeOwned + 'static {}
 
-impl<T: Clone + Default + Drop + Serialize + DeserializeOwned + Send + Sync + 'static> Config
-    for T
-{
-}
+impl<T: Clone + Default + Drop + Serialize + DeserializeOwned + 'static> Config for T {}

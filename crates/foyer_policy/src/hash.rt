@@ -10,9 +10,8 @@ use std::marker::Model;
 #[cfg(test)]
 mod tests;
 
-/// Gives each key a number, and equal keys equal numbers. Every `BuildHasher` that may be shared
-/// among threads is one.
-pub trait HashBuilder: Drop + Send + Sync + 'static {
+/// Gives each key a number, and equal keys equal numbers. Every `BuildHasher` is one.
+pub trait HashBuilder: Drop + 'static {
     // The number of a key that makes these writes to a hasher.
     ghost hash_of: { Self → List (List ℕ) → ℕ };
 
@@ -25,7 +24,7 @@ pub trait HashBuilder: Drop + Send + Sync + 'static {
     ghost fits: { (s : Self) (writes : List (List ℕ)) → hash_of s writes < 2 ^ 64 };
 }
 
-impl<S: BuildHasher + Drop + Send + Sync + 'static> HashBuilder for S {
+impl<S: BuildHasher + Drop + 'static> HashBuilder for S {
     ghost hash_of = { λ s writes. S.Hasher.finish (fold S.Hasher.write (S.build_hasher s) writes) % 2 ^ 64 };
 
     ghost use Rattle.std.proofs.lemmas.Nat.{mod_below};
@@ -91,7 +90,9 @@ impl Hasher for ModHasher {
             if self.place == 0 {
                 return;
             }
-            self.sum = self.sum.wrapping_add((byte as u64).wrapping_mul(self.place));
+            self.sum = self
+                .sum
+                .wrapping_add((byte as u64).wrapping_mul(self.place));
             self.place = self.place.wrapping_mul(256);
         }
     }

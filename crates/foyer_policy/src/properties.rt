@@ -11,11 +11,14 @@ use crate::types::{Age, Hint, Location};
 mod tests;
 
 /// The properties of a record. A type answers what it keeps, and `None` for what it does not.
-pub trait Properties: Default + Drop + Send + Sync + 'static {
+pub trait Properties: Default + Drop + 'static {
     // What each question is answered with.
     ghost phantom_of: { Self → Option Bool };
+
     ghost hint_of: { Self → Option Hint };
+
     ghost location_of: { Self → Option Location };
+
     ghost age_of: { Self → Option Age };
 
     // The properties with another answer to `phantom`.
@@ -55,7 +58,10 @@ pub trait Properties: Default + Drop + Send + Sync + 'static {
 
     // The phantom answer is the one that was given, and the other answers stay.
     ghost phantom_given: { (p : Self) (b : Bool) → phantom_of (with_phantom_of p b) ≡ Some b };
+
     ghost hint_stays: { (p : Self) (b : Bool) → hint_of (with_phantom_of p b) ≡ hint_of p };
+
     ghost location_stays: { (p : Self) (b : Bool) → location_of (with_phantom_of p b) ≡ location_of p };
+
     ghost age_stays: { (p : Self) (b : Bool) → age_of (with_phantom_of p b) ≡ age_of p };
 }

@@ -84,17 +84,17 @@ pub struct Item {
 }
 
 /// A cache's key. Every fitting type is one.
-pub trait Key: Eq + Hash + Clone + Drop + Send + Sync + 'static {}
+pub trait Key: Eq + Hash + Clone + Drop + 'static {}
 
-impl<T: Eq + Hash + Clone + Drop + Send + Sync + 'static> Key for T {}
+impl<T: Eq + Hash + Clone + Drop + 'static> Key for T {}
 
 /// A cache's value. Every fitting type is one.
-pub trait Value: Drop + Send + Sync + 'static {}
+pub trait Value: Drop + 'static {}
 
-impl<T: Drop + Send + Sync + 'static> Value for T {}
+impl<T: Drop + 'static> Value for T {}
 
 /// Is told of the records that leave a cache.
-pub trait EventListener: Drop + Send + Sync + 'static {
+pub trait EventListener: Drop + 'static {
     /// The cache's key.
     type Key;
 

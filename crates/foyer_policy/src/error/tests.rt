@@ -54,7 +54,10 @@ fn numbers(rt: HostRuntime) -> std::result::Result<(), Fail> {
 fn texts(rt: HostRuntime) -> std::result::Result<(), Fail> {
     let alloc = rt.alloc();
     let range = Error::new(Reason::RatioRange(Field::SmallQueue));
-    assert_eq!(rt; range.to_string(alloc)?.as_str(), "a ratio is out of its range: SmallQueue");
+    assert_eq!(rt;
+        range.to_string(alloc)?.as_str(),
+        "a ratio is out of its range: SmallQueue"
+    );
     let fetch = Error::new(Reason::Fetch(fault(alloc)?)).clone()?;
     assert_eq!(rt;
         fetch.to_string(alloc)?.as_str(),

@@ -4,7 +4,10 @@ use std::test::Fail;
 #[test]
 fn numbers_of_keys(rt: HostRuntime) -> std::result::Result<(), Fail> {
     let text = String::from_str(rt.alloc(), "ab")?;
-    assert_eq!(rt; mod_hash_of_u64(0x0102_0304_0506_0708), 0x0102_0304_0506_0708);
+    assert_eq!(rt;
+        mod_hash_of_u64(0x0102_0304_0506_0708),
+        0x0102_0304_0506_0708
+    );
     assert_eq!(rt; mod_hash(&258u16), 258);
     assert_eq!(rt; mod_hash(&7usize), 7);
     assert_eq!(rt; mod_hash(&-1i8), 255);

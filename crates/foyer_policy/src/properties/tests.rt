@@ -13,13 +13,21 @@ impl Properties for Small {
     ghost use Rattle.std.specs.Prelude.{None, Some, refl};
 
     ghost phantom_of = { λ p. p.phantom };
+
     ghost hint_of = { λ p. p.hint };
+
     ghost location_of = { λ _. None };
+
     ghost age_of = { λ _. None };
+
     ghost with_phantom_of = { λ p b. record p { phantom = Some b } };
+
     ghost phantom_given = { λ _ _. refl };
+
     ghost hint_stays = { λ _ _. refl };
+
     ghost location_stays = { λ _ _. refl };
+
     ghost age_stays = { λ _ _. refl };
 
     fn with_phantom(mut self, phantom: bool) -> Small {

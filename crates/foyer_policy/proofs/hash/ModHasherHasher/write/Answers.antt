@@ -1,4 +1,3 @@
-use Rattle.std.proofs.Common.{sym, ◌∙◌, ap}
 use Rattle.foyer_policy.proofs.HashLemmas.{with_bytes-more, with_bytes-spent}
 use Rattle.foyer_policy.proofs.hash.ModHasherHasher.write.Goals as goal
 
