@@ -1,5 +1,7 @@
 -- Refusals: what each reason has to do with, and its number.
-use Rattle.std.specs.Prelude.{ℕ}
+use Rattle.std.specs.Prelude.{◌≡◌, ℕ}
+use Rattle.std.specs.Arc.{arc_value}
+use Rattle.foyer_policy.specs.declared.error.Fault.{Fault}
 use Rattle.foyer_policy.specs.declared.error.ErrorKind.{ErrorKind}
 use Rattle.foyer_policy.specs.declared.error.ErrorKind.TheVariants.{Config, Memory, Limit, External, ChannelClosed as ClosedChannel, TaskCancelled as CancelledTask}
 use Rattle.foyer_policy.specs.declared.error.Reason.{Reason}
@@ -42,3 +44,16 @@ number_of NoValue = 13
 number_of ChannelClosed = 14
 number_of TaskCancelled = 15
 number_of Spent = 16
+
+-- the same reason, and for a fetch a fault with the same content
+abbrev pub SameReason : Reason → Reason → Type 0
+SameReason (Fetch fault) copy = IsFetchOf (arc_value fault) copy where
+  IsFetchOf : Fault → Reason → Type 0
+  IsFetchOf content (Fetch other) = arc_value other ≡ content
+  IsFetchOf content _ = ⊥
+SameReason reason copy = copy ≡ reason
+
+-- a reason that holds nothing shared
+abbrev pub HasNoFault : Reason → Type 0
+HasNoFault (Fetch _) = ⊥
+HasNoFault _ = Unit {0}

@@ -43,5 +43,6 @@ fifo_lawful C = record {
   update_credit = λ v capacity config. omega arith;
   clear_order = λ v. refl;
   clear_pops = λ v. refl;
+  clear_credit = λ v. omega arith;
   clear_empty = λ v h. sym h;
 }

@@ -1,9 +1,10 @@
-pub mod Errors
-pub mod Items
-pub mod Lists
 pub mod Chain
-pub mod Lends
-pub mod Policy
-pub mod Properties
+pub mod Errors
 pub mod Fifo
 pub mod FifoLaws
+pub mod Hash
+pub mod Items
+pub mod Lends
+pub mod Lists
+pub mod Policy
+pub mod Properties

@@ -130,4 +130,5 @@ module _ {V C : Type 0} (m : Policy V C) where
     -- clear is pop until none, and then an empty pin list
     pub clear_order : (v : V) → m.order (m.clear v) ≡ []
     pub clear_pops : (v : V) → m.clear v ≡ m.clear (after_all_pops m v)
+    pub clear_credit : (v : V) → m.credit (m.clear v) ≤ m.credit v
     pub clear_empty : (v : V) → m.order v ≡ [] → m.clear v ≡ v

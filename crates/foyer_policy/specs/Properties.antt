@@ -1,14 +1,12 @@
--- What a record's properties mean where they give no answer.
-use Rattle.std.specs.Prelude.{Option, Some, None, Bool, true, false}
+-- What a missing answer of a record's properties counts as.
+use Rattle.std.specs.Prelude.{Bool, false, Option, unwrap_or}
 use Rattle.foyer_policy.specs.declared.types.Hint.{Hint}
 use Rattle.foyer_policy.specs.declared.types.Hint.TheVariants.{Normal}
 
--- whether a record is phantom: a missing answer says no
+-- whether the record is a phantom: only where its properties say so
 abbrev pub is_phantom : Option Bool → Bool
-is_phantom None = false
-is_phantom (Some b) = b
+is_phantom answer = unwrap_or answer false
 
--- a record's hint: a missing one is the normal one
+-- the hint to the policy, which is normal where none was given
 abbrev pub hint_or_normal : Option Hint → Hint
-hint_or_normal None = Normal
-hint_or_normal (Some h) = h
+hint_or_normal answer = unwrap_or answer Normal

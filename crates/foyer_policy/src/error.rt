@@ -3,10 +3,13 @@
 ghost use Rattle.std.specs.Prelude.{◌≡◌};
 ghost use Rattle.foyer_policy.specs.Errors.{kind_of};
 
-use std::alloc::Global;
+use std::alloc::{AllocError, AllocFailed, Global};
 use std::marker::Model;
 use std::sync::Arc;
 use thiserror::Error as ThisError;
+
+#[cfg(test)]
+mod tests;
 
 /// What a refusal has to do with.
 #[derive(Clone, Copy, Debug, PartialEq, Eq, Hash)]
@@ -39,14 +42,14 @@ pub enum Field {
 }
 
 /// What a fetch failed with.
-#[derive(Debug, Drop)]
+#[derive(Clone, Debug, Drop)]
 pub struct Fault {
     pub code: u64,
     pub message: String,
 }
 
 /// Why a call was refused.
-#[derive(Debug, Drop, ThisError)]
+#[derive(Clone, Debug, Drop, ThisError)]
 pub enum Reason {
     #[error("the cache has no shards")]
     NoShards,
@@ -101,6 +104,42 @@ impl Model for Error {
     ghost view = { λ e. e.reason };
 
     ghost invariant = { λ e. e.kind ≡ kind_of e.reason };
+}
+
+impl Clone for Error {
+    ghost use Rattle.foyer_policy.specs.Errors.{SameReason, HasNoFault};
+
+    ghost is_clone = { SameReason };
+
+    ghost is_infallible = { HasNoFault };
+
+    /// The same refusal again. A fault is shared, which is refused where its count is full.
+    fn clone(&self) -> std::result::Result<Error, AllocError> {
+        Ok(Error {
+            kind: self.kind,
+            reason: self.reason.clone()?,
+        })
+    }
+}
+
+impl From<AllocError> for Error {
+    ghost use Rattle.foyer_policy.specs.declared.error.Reason.TheVariants.{NoMemory};
+
+    ghost from_gives = { λ _ e. e ≡ NoMemory };
+
+    fn from(_refused: AllocError) -> Error {
+        Error::new(Reason::NoMemory)
+    }
+}
+
+impl<T: Drop> From<AllocFailed<T>> for Error {
+    ghost use Rattle.foyer_policy.specs.declared.error.Reason.TheVariants.{NoMemory};
+
+    ghost from_gives = { λ _ e. e ≡ NoMemory };
+
+    fn from(_refused: AllocFailed<T>) -> Error {
+        Error::from(AllocError)
+    }
 }
 
 /// What a call of this crate answers.

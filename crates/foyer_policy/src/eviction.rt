@@ -8,6 +8,7 @@ ghost use Rattle.foyer_policy.specs.declared.types.Item.{Item};
 ghost use Rattle.foyer_policy.specs.declared.error.Reason.{Reason};
 ghost use Rattle.foyer_policy.specs.declared.error.Reason.TheVariants.{NoMemory};
 
+use crate::config::{Config, State};
 use crate::error::Result;
 use crate::lists::Place;
 use crate::types::Item;
@@ -20,10 +21,10 @@ use std::alloc::Global;
 /// which meets the laws of `IsPolicy`. A `Place` that is passed names an item that is in.
 pub trait Eviction: Drop {
     /// The policy's configuration.
-    type Config;
+    type Config: Config;
 
     /// What the policy keeps beside an item.
-    type State;
+    type State: State;
 
     ghost View: { Type 0 };
 

@@ -6,11 +6,12 @@ use crate::error::{Error, Reason, Result};
 use crate::eviction::Eviction;
 use crate::lists::{Lists, Place};
 use crate::types::Item;
+use serde::{Deserialize, Serialize};
 use std::alloc::Global;
 use std::marker::Model;
 
 /// The configuration of a [`Fifo`], which has no parts.
-#[derive(Clone, Debug, Default, Drop)]
+#[derive(Clone, Debug, Default, Drop, Serialize, Deserialize)]
 pub struct FifoConfig {}
 
 /// What a [`Fifo`] keeps beside an item: nothing.

@@ -1,16 +1,18 @@
-//! What a record has beside its key and value.
+//! What comes with a record: whether it is a phantom, its hint, its place and its age.
 
-ghost use Rattle.std.specs.Prelude.{◌≡◌, Some};
+ghost use Rattle.std.specs.Prelude.{◌≡◌, Bool, Option, Some};
+ghost use Rattle.foyer_policy.specs.declared.types.Age.{Age};
+ghost use Rattle.foyer_policy.specs.declared.types.Hint.{Hint};
+ghost use Rattle.foyer_policy.specs.declared.types.Location.{Location};
 
 use crate::types::{Age, Hint, Location};
 
-/// Properties of a record.
-pub trait Properties: Default + Drop {
-    ghost use Rattle.std.specs.Prelude.{Option, Bool};
-    ghost use Rattle.foyer_policy.specs.declared.types.Hint.{Hint};
-    ghost use Rattle.foyer_policy.specs.declared.types.Location.{Location};
-    ghost use Rattle.foyer_policy.specs.declared.types.Age.{Age};
+#[cfg(test)]
+mod tests;
 
+/// The properties of a record. A type answers what it keeps, and `None` for what it does not.
+pub trait Properties: Default + Drop + 'static {
+    // What each question is answered with.
     ghost phantom_of: { Self → Option Bool };
 
     ghost hint_of: { Self → Option Hint };
@@ -19,12 +21,47 @@ pub trait Properties: Default + Drop {
 
     ghost age_of: { Self → Option Age };
 
-    fn with_phantom(self, phantom: bool) -> Self
-        ensures { phantom_of result ≡ Some phantom };
+    // The properties with another answer to `phantom`.
+    ghost with_phantom_of: { Self → Bool → Self };
 
+    /// The same properties, which answer `phantom` with this.
+    fn with_phantom(self, phantom: bool) -> Self
+        ensures { result ≡ with_phantom_of self phantom };
+
+    /// Whether the record is never to be indexed, and leaves with its last handle.
     fn phantom(&self) -> Option<bool>
         ensures { result ≡ phantom_of self.now };
 
+    /// The properties with a hint, where the type keeps one.
+    fn with_hint(self, hint: Hint) -> Self
+        ensures { phantom_of result ≡ phantom_of self };
+
+    /// The hint to the policy.
     fn hint(&self) -> Option<Hint>
         ensures { result ≡ hint_of self.now };
+
+    /// The properties with a location, where the type keeps one.
+    fn with_location(self, location: Location) -> Self
+        ensures { phantom_of result ≡ phantom_of self };
+
+    /// Where the record is to be kept.
+    fn location(&self) -> Option<Location>
+        ensures { result ≡ location_of self.now };
+
+    /// The properties with an age, where the type keeps one.
+    fn with_age(self, age: Age) -> Self
+        ensures { phantom_of result ≡ phantom_of self };
+
+    /// How old the disk's copy of the record is.
+    fn age(&self) -> Option<Age>
+        ensures { result ≡ age_of self.now };
+
+    // The phantom answer is the one that was given, and the other answers stay.
+    ghost phantom_given: { (p : Self) (b : Bool) → phantom_of (with_phantom_of p b) ≡ Some b };
+
+    ghost hint_stays: { (p : Self) (b : Bool) → hint_of (with_phantom_of p b) ≡ hint_of p };
+
+    ghost location_stays: { (p : Self) (b : Bool) → location_of (with_phantom_of p b) ≡ location_of p };
+
+    ghost age_stays: { (p : Self) (b : Bool) → age_of (with_phantom_of p b) ≡ age_of p };
 }

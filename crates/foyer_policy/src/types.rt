@@ -2,6 +2,7 @@
 
 ghost use Rattle.std.specs.Prelude.{◌≡◌};
 
+use serde::{Deserialize, Serialize};
 use std::hash::Hash;
 
 /// Why a record left.
@@ -63,7 +64,7 @@ pub enum Source {
 }
 
 /// A share of a capacity: `num / den`.
-#[derive(Clone, Copy, Debug, PartialEq, Eq, Hash)]
+#[derive(Clone, Copy, Debug, PartialEq, Eq, Hash, Serialize, Deserialize)]
 pub struct Ratio {
     pub num: u32,
     pub den: u32,
@@ -83,11 +84,23 @@ pub struct Item {
 }
 
 /// A cache's key. Every fitting type is one.
-pub trait Key: Eq + Hash + Clone + Drop {}
+pub trait Key: Eq + Hash + Clone + Drop + 'static {}
 
-impl<T: Eq + Hash + Clone + Drop> Key for T {}
+impl<T: Eq + Hash + Clone + Drop + 'static> Key for T {}
 
 /// A cache's value. Every fitting type is one.
-pub trait Value: Drop {}
+pub trait Value: Drop + 'static {}
 
-impl<T: Drop> Value for T {}
+impl<T: Drop + 'static> Value for T {}
+
+/// Is told of the records that leave a cache.
+pub trait EventListener: Drop + 'static {
+    /// The cache's key.
+    type Key;
+
+    /// The cache's value.
+    type Value;
+
+    /// Is called once for each record that left, with the reason why it did.
+    fn on_leave(&self, event: Event, key: &Self::Key, value: &Self::Value);
+}

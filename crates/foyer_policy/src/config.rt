@@ -1,0 +1,17 @@
+//! What every policy's state and configuration can do.
+
+use serde::{DeserializeOwned, Serialize};
+
+#[cfg(test)]
+mod tests;
+
+/// What a policy keeps beside an item. Every fitting type is one.
+pub trait State: Default + Drop + 'static {}
+
+impl<T: Default + Drop + 'static> State for T {}
+
+/// A policy's configuration, with its defaults, which can be written and read. Every fitting type
+/// is one.
+pub trait Config: Clone + Default + Drop + Serialize + DeserializeOwned + 'static {}
+
+impl<T: Clone + Default + Drop + Serialize + DeserializeOwned + 'static> Config for T {}
