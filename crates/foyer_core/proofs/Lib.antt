@@ -5,7 +5,7 @@ pub mod GroupLemmas
 pub mod Handles
 pub mod Holdings
 pub mod IndexerLemmas
-pub mod Inserted
+pub mod InsertLemmas
 pub mod Keeps
 pub mod Keys
 pub mod LeaveLemmas

@@ -1,11 +1,11 @@
 -- What a shard's fields tell of its state, and its steps on them.
-use Rattle.std.proofs.Common.{◌≡◌, ◌≢◌, ℕ, ◌+◌, ◌-◌, ◌<◌, ◌≤◌, Option, Some, None, Bool, true, false, nat_eq, refl, sym, ◌∙◌, ap, subst}
+use Rattle.std.proofs.Common.{◌≡◌, ◌≢◌, ℕ, ◌+◌, ◌-◌, ◌<◌, ◌≤◌, Option, Some, None, Bool, true, false, length, nat_eq, refl, sym, ◌∙◌, ap, subst}
 use Rattle.std.proofs.Math.Logic.{∥∥₁_elim, ∥∥₁_map}
 use Rattle.std.proofs.Props.{props}
 use Rattle.std.specs.Prelude.{option_and_then, is_some}
 use Rattle.std.specs.Cmp.{IsEquivalence}
 use Rattle.std.specs.Map.{update}
-use Rattle.std.proofs.lemmas.List.Sorted.{sum_by-IsPermutation}
+use Rattle.std.proofs.lemmas.List.Sorted.{sum_by-IsPermutation, length_permutation}
 use Rattle.foyer_policy.specs.Items.{weight_of}
 use Rattle.foyer_policy.specs.Policy.{IsPolicy}
 use Rattle.foyer_policy.specs.declared.types.Item.{Item}
@@ -82,3 +82,9 @@ module _ {K V P View C : Type 0} (m : Meaning K P View C) (laws : IsEquivalence 
 
       pub got_counted : (usage : ℕ) → usage ≡ weight_of (m.policy.order view) → usage ≡ weight_of (m.policy.order view')
       got_counted usage h = h ∙ sym (∥∥₁_elim kept (hlevel props) got_weight)
+
+      got_length : IsKept m now → length (m.policy.order view') ≡ length (m.policy.order view)
+      got_length k' = ap (λ (v : View). length (m.policy.order v)) viewed ∙ (let e : length (m.policy.order view) ≡ length (m.policy.order (m.policy.acquire view x.id)) = length_permutation (m.policy.order view) (m.policy.order (m.policy.acquire view x.id)) (good.acquire_order view x.id k'.once) in sym e)
+
+      pub got_entries : (entries : ℕ) → entries ≡ length (m.policy.order view) → entries ≡ length (m.policy.order view')
+      got_entries entries h = h ∙ sym (∥∥₁_elim kept (hlevel props) got_length)

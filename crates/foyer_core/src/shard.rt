@@ -1,6 +1,6 @@
 //! One shard of a cache: a policy, an index and records.
 
-ghost use Rattle.std.specs.Prelude.{◌≡◌, ◌≢◌, ◌⊎◌, ◌↔◌, ℕ, ◌+◌, ◌-◌, ◌<◌, ◌≤◌, ◌^◌, List, [], Option, Some, None, OnOk, OnErr, IfOk, IfErr, IfSome, IfNone, IsSome, IsSomeAnd, IsTrue, is_some, option_and_then, MatchResult, Ok, Err, nat_eq, true, false, vec_len, vec_capacity};
+ghost use Rattle.std.specs.Prelude.{◌≡◌, ◌≢◌, ◌⊎◌, ◌↔◌, ℕ, ◌+◌, ◌-◌, ◌<◌, ◌≤◌, ◌^◌, List, [], Option, Some, None, OnOk, OnErr, IfOk, IfErr, IfSome, IfNone, IsSome, IsSomeAnd, IsTrue, is_some, option_and_then, length, MatchResult, Ok, Err, nat_eq, true, false, vec_len, vec_capacity};
 ghost use Rattle.std.specs.Option.{ForSome};
 ghost use Rattle.std.specs.Map.{update};
 ghost use Rattle.foyer_policy.specs.Policy.{without};
@@ -33,19 +33,23 @@ pub struct Shard<E: Eviction, K: Key, V: Value, P: Properties, I: Indexer<K>> {
     index: I,
     records: Records<K, V, P>,
     usage: usize,
+    entries: u64,
     capacity: usize,
     number: u64,
     next: u64,
     limits: Limits,
     ghost kept: { ∥ IsKept (meaning K.eq E.model P.hint_of P.phantom_of) (state number capacity limits (E.view eviction) (I.view index) records next) ∥₁ },
     ghost stored: { IsStored (meaning K.eq E.model P.hint_of P.phantom_of) (E.at eviction) (I.view index) records },
-    ghost counted: { usage ≡ weight_of (E.model.order (E.view eviction)) },
+    ghost weighed: { usage ≡ weight_of (E.model.order (E.view eviction)) },
+    ghost counted: { entries ≡ length (E.model.order (E.view eviction)) },
+    ghost numbered: { entries ≤ next },
 }
 
 impl<E: Eviction, K: Key, V: Value, P: Properties, I: Indexer<K>> Shard<E, K, V, P, I> {
     ghost use Rattle.foyer_core.specs.Shards.{state_of, meaning_of};
     ghost use Rattle.foyer_core.specs.State.{hit, usage_of, handles_in, pinned_beside, key_of};
-    ghost use Rattle.foyer_core.specs.Steps.{Gets, GivesBack, Inserts, RefusesInsert, Evicts, Evicting, EvictsOne, GivesWay, Admits};
+    ghost use Rattle.foyer_core.specs.Steps.{Gets, GivesBack, Inserts, RefusesInsert, Evicts, Evicting, EvictsOne, GivesWay, Admits, entry_of};
+    ghost use Rattle.foyer_policy.specs.declared.types.Source.TheVariants.{Outer};
 
     /// A shard that holds nothing, over an empty index. `number` is its core's. Refused with the policy
     /// configuration's first fault, and else only for want of memory (F7).
@@ -75,6 +79,7 @@ impl<E: Eviction, K: Key, V: Value, P: Properties, I: Indexer<K>> Shard<E, K, V,
             index,
             records: Records::new(alloc),
             usage: 0,
+            entries: 0,
             capacity,
             number,
             next: 0,
@@ -87,6 +92,13 @@ impl<E: Eviction, K: Key, V: Value, P: Properties, I: Indexer<K>> Shard<E, K, V,
         ensures { result ≡ usage_of (meaning_of self.now) (state_of self.now) }
     {
         self.usage
+    }
+
+    /// How many records are in the index.
+    pub fn entries(&self) -> u64
+        ensures { result ≡ length (E.model.order (state_of self.now).view) }
+    {
+        self.entries
     }
 
     /// Whether a key has a record in the index. It takes no memory.
@@ -174,19 +186,18 @@ impl<E: Eviction, K: Key, V: Value, P: Properties, I: Indexer<K>> Shard<E, K, V,
         None
     }
 
-    /// Takes a plain record in, under `key`, which equals its own, and answers an entry of it and what left:
-    /// records are evicted until the capacity has room for it, or nothing more leaves, and then the key's
-    /// record gives way. Refused, in this order, where no id is left (F10), the handle would pass the limit
+    /// Takes a plain record in, and answers an entry of it and what left: records are evicted until the
+    /// capacity has room for it, or nothing more leaves, and then the key's record gives way. A clone of the
+    /// key must equal it. Refused, in this order, where no id is left (F10), the handle would pass the limit
     /// (F9), the weight and the pinned weight of other keys pass a `usize` (F8), and then nothing has
     /// changed; or for want of memory (F7), and then some beginning of the evictions has left, which the
     /// refusal hands out.
     pub fn emplace(
         &mut self,
         alloc: Global,
-        key: K,
         kept: Data<K, V, P>,
     ) -> std::result::Result<(CoreEntry<K, V, P>, Vec<(Event, Left<K, V, P>)>), Refused<K, V, P>>
-        requires same { K.eq key kept.key ≡ true }
+        requires clones { (k c : K) → K.is_clone k c → K.eq c k ≡ true }
         requires plain { is_phantom (P.phantom_of kept.properties) ≡ false }
         ensures inserted { MatchResult result
             (λ made. Inserts (meaning_of self.old) (state_of self.old) kept made.1.items made.0 (state_of self.new))
@@ -196,13 +207,8 @@ impl<E: Eviction, K: Key, V: Value, P: Properties, I: Indexer<K>> Shard<E, K, V,
             return Err(Refused::new(reason, Vec::new(alloc)));
         }
         let target = self.capacity.saturating_sub(kept.weight);
-        let slot = match self.make_room(alloc, kept) {
-            Ok(slot) => slot,
-            Err(_) => return Err(Refused::new(Reason::NoMemory, Vec::new(alloc))),
-        };
-        let mut entry = match slot.entry(self.number, 0, Source::Outer) {
-            Ok(entry) => entry,
-            Err(_) => return Err(Refused::new(Reason::NoMemory, Vec::new(alloc))),
+        let Ok((key, slot, mut entry)) = self.prepare(alloc, kept) else {
+            return Err(Refused::new(Reason::NoMemory, Vec::new(alloc)));
         };
         let mut leaves = match self.evict_to(alloc, target) {
             Ok(leaves) => leaves,
@@ -273,17 +279,26 @@ impl<E: Eviction, K: Key, V: Value, P: Properties, I: Indexer<K>> Shard<E, K, V,
         }
     }
 
-    // Makes room for one record, and makes that record.
-    fn make_room(&mut self, alloc: Global, kept: Data<K, V, P>) -> Result<Slot<K, V, P>>
+    // Makes room for one record, and makes that record, a clone of its key and an entry of it.
+    fn prepare(
+        &mut self,
+        alloc: Global,
+        kept: Data<K, V, P>,
+    ) -> Result<(K, Slot<K, V, P>, CoreEntry<K, V, P>)>
         ensures same { state_of self.new ≡ state_of self.old }
-        ensures slot { IfOk result (λ s. s ≡ record { id = self.old.next; kept = kept; handles = 1; resident = true; place = None }) }
-        ensures room { OnOk result (HasRoom self.new.records × (0 < E.room self.new.eviction)) }
+        ensures key { IfOk result (λ made. K.is_clone kept.key made.0) }
+        ensures slot { IfOk result (λ made. made.1 ≡ record { id = self.old.next; kept = kept; handles = 1; resident = true; place = None }) }
+        ensures entry { IfOk result (λ made. made.2 ≡ entry_of (state_of self.old) self.old.next kept Outer) }
+        ensures room { OnOk result (HasRoom self.new.records) }
+        ensures policy_room { OnOk result (0 < E.room self.new.eviction) }
     {
+        let key = kept.key.clone()?;
         self.records.reserve()?;
         self.eviction.reserve()?;
         let mut slot = Slot::new(alloc, kept, self.next)?;
         slot.add_handle();
-        Ok(slot)
+        let entry = slot.entry(self.number, 0, Source::Outer)?;
+        Ok((key, slot, entry))
     }
 
     // One eviction.
@@ -306,6 +321,7 @@ impl<E: Eviction, K: Key, V: Value, P: Properties, I: Indexer<K>> Shard<E, K, V,
         let data = found.data();
         let _ = self.index.remove(data.hash, &data.key);
         self.usage -= item.weight;
+        self.entries -= 1;
         Ok(Some(self.records.leave(slot)))
     }
 
@@ -366,6 +382,9 @@ impl<E: Eviction, K: Key, V: Value, P: Properties, I: Indexer<K>> Shard<E, K, V,
             }
         };
         let (gone, replaced) = give_way(&mut self.eviction, &mut self.records, was);
+        if replaced.is_some() {
+            self.entries -= 1;
+        }
         self.usage -= gone;
         let place = self.eviction.push(Item {
             id,
@@ -375,6 +394,7 @@ impl<E: Eviction, K: Key, V: Value, P: Properties, I: Indexer<K>> Shard<E, K, V,
         });
         self.records.set_place(number, place);
         self.usage += weight;
+        self.entries += 1;
         self.next += 1;
         Ok((number, replaced))
     }

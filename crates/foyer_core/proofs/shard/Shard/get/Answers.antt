@@ -9,7 +9,7 @@ use Rattle.foyer_core.specs.Table.{rec_of}
 use Rattle.foyer_core.specs.Records.{slot_in}
 use Rattle.foyer_core.proofs.StoredLemmas.{none_not, err_is, place_is, count_stored}
 use Rattle.foyer_core.proofs.Holdings.{holding}
-use Rattle.foyer_core.proofs.ShardLemmas.{hits, found, resident, placed, got_after, got_kept, got_counted}
+use Rattle.foyer_core.proofs.ShardLemmas.{hits, found, resident, placed, got_after, got_kept, got_counted, got_entries}
 use Rattle.foyer_core.proofs.shard.Shard.get.Goals as goal
 
 pub unreachable-requires : goal.unreachable-requires
@@ -70,7 +70,9 @@ invariant_of-self g c =
     record {
       kept = got_kept m g.met.K.Eq.laws g.met.E.Eviction.lawful (holding s) (c.args.hash, c.args.key.now) c.in-Some.number led x there c.add_handle.new.self (g.E.Eviction.view c.acquire.new.self) viewed write c.add_handle.ensures.ids (omega (arith, c.handles.ensures, c.if-handles-self.false));
       stored = count_stored m (g.E.Eviction.at s.eviction) (g.I.Indexer.view s.index) s.records (g.E.Eviction.at c.acquire.new.self) c.add_handle.new.self c.in-Some.number (x.handles + 1) x there write c.add_handle.ensures.ids c.acquire.ensures.places s.stored;
-      counted = got_counted m g.met.K.Eq.laws g.met.E.Eviction.lawful (holding s) (c.args.hash, c.args.key.now) c.in-Some.number led x there c.add_handle.new.self (g.E.Eviction.view c.acquire.new.self) viewed write c.add_handle.ensures.ids s.usage s.counted;
+      weighed = got_counted m g.met.K.Eq.laws g.met.E.Eviction.lawful (holding s) (c.args.hash, c.args.key.now) c.in-Some.number led x there c.add_handle.new.self (g.E.Eviction.view c.acquire.new.self) viewed write c.add_handle.ensures.ids s.usage s.weighed;
+      counted = got_entries m g.met.K.Eq.laws g.met.E.Eviction.lawful (holding s) (c.args.hash, c.args.key.now) c.in-Some.number led x there c.add_handle.new.self (g.E.Eviction.view c.acquire.new.self) viewed write c.add_handle.ensures.ids s.entries s.counted;
+      numbered = s.numbered;
     }
 
 pub returns : goal.returns
