@@ -94,9 +94,6 @@ fold-with_bytes d [] s p =
 fold-with_bytes d (w ∷ ws) s p =
     fold-with_bytes (with_bytes d w) ws (mod_below _ _ (lit< tt)) (mod_below _ _ (lit< tt)) ∙ with_bytes-append d w (concat ws)
 
-pub with_bytes-nil : (s p : ℕ) → s < 2 ^ 64 → p < 2 ^ 64 → with_bytes (record { sum = s; place = p }) [] ≡ record { sum = s; place = p }
-with_bytes-nil s p small low = ap₂ made_of (drop_zero s p small) (drop_one p low)
-
 -- one byte more
 pub with_bytes-one : (s p b : ℕ) → with_bytes (record { sum = s; place = p }) (b ∷ []) ≡ record { sum = (s + (b * p) % 2 ^ 64) % 2 ^ 64; place = (p * 256) % 2 ^ 64 }
 with_bytes-one s p b = ap₂ made_of (later s p b) refl where
