@@ -84,7 +84,7 @@ module _ {K V P View C : Type 0} (m : Meaning K P View C) (laws : IsEquivalence 
       got_counted usage h = h ∙ sym (∥∥₁_elim kept (hlevel props) got_weight)
 
       got_length : IsKept m now → length (m.policy.order view') ≡ length (m.policy.order view)
-      got_length k' = ap (λ (v : View). length (m.policy.order v)) viewed ∙ (let e : length (m.policy.order view) ≡ length (m.policy.order (m.policy.acquire view x.id)) = length_permutation (m.policy.order view) (m.policy.order (m.policy.acquire view x.id)) (good.acquire_order view x.id k'.once) in sym e)
+      got_length k' = ap (λ (v : View). length (m.policy.order v)) viewed ∙ length_permutation (m.policy.order view) (m.policy.order (m.policy.acquire view x.id)) (good.acquire_order view x.id k'.once)
 
       pub got_entries : (entries : ℕ) → entries ≡ length (m.policy.order view) → entries ≡ length (m.policy.order view')
       got_entries entries h = h ∙ sym (∥∥₁_elim kept (hlevel props) got_length)
