@@ -1,6 +1,8 @@
 pub mod DrainLemmas
+pub mod AdmitLemmas
 pub mod Evictions
 pub mod Found
+pub mod GaveLemmas
 pub mod GroupLemmas
 pub mod Handles
 pub mod Holdings

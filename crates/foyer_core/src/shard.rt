@@ -382,10 +382,8 @@ impl<E: Eviction, K: Key, V: Value, P: Properties, I: Indexer<K>> Shard<E, K, V,
             }
         };
         let (gone, replaced) = give_way(&mut self.eviction, &mut self.records, was);
-        if replaced.is_some() {
-            self.entries -= 1;
-        }
         self.usage -= gone;
+        self.entries -= replaced.is_some() as u64;
         let place = self.eviction.push(Item {
             id,
             hash,
