@@ -13,7 +13,7 @@ use Rattle.foyer_policy.proofs.ItemLemmas.{one_if, new-head, new-tail, found-id,
 use Rattle.foyer_core.specs.Values.{Kept}
 use Rattle.foyer_core.specs.Table.{rec_of}
 use Rattle.foyer_core.specs.Records.{slot_in}
-use Rattle.foyer_core.specs.State.{Meaning, IsKept, item_of, pinned_beside, without_own}
+use Rattle.foyer_core.specs.State.{Meaning, State, IsKept, item_of, pinned_beside, without_own}
 use Rattle.foyer_core.proofs.Found.{sum-removed}
 use Rattle.foyer_core.proofs.Keeps.{resident_in}
 use Rattle.foyer_core.proofs.ShardLemmas.{Holding, now, hits, found, resident}
@@ -74,3 +74,10 @@ module _ {K P V View C : Type 0} (m : Meaning K P View C) (laws : IsEquivalence 
 
   pub own_free_weight : ¬ (0 < count_of x.id (m.policy.pinned o.view)) → 0 + pinned_beside m (now m laws good o) k ≡ weight_of (m.policy.pinned o.view)
   own_free_weight none = omega (arith, beside, no_weight x.id (m.policy.pinned o.view) none)
+
+-- the pinned weight of other keys is at most all of it
+pub beside_at_most : {K V P View C : Type 0} (m : Meaning K P View C) (s : State K V P View) (k : ℕ × K) → pinned_beside m s k ≤ weight_of (m.policy.pinned s.view)
+beside_at_most m s k = go (s.index k) where
+  go : (own : Option ℕ) → weight_of (without_own own (m.policy.pinned s.view)) ≤ weight_of (m.policy.pinned s.view)
+  go None = omega arith
+  go (Some id) = sum-removed (λ (i : Item). i.weight) id (m.policy.pinned s.view)
