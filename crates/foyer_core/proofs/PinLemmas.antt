@@ -44,12 +44,15 @@ module _ (xs ys : List Item) (once : HasIdsOnce ys) (within : IsWithin xs ys) (i
   within_once : HasIdsOnce xs
   within_once j = omega (arith, within (one_if j), once j)
 
+  -- so it measures at most as much, whatever is measured
+  at_most : (f : Item → ℕ) (j : Item) → find_id id xs ≡ Some j → f j ≤ f i
+  at_most f j there = omega (arith, within (only f id), only_found f id j xs within_once there, only_found f id i ys once here)
+
   own_weight : 0 < count_of id xs → i.weight + weight_of (remove_id id xs) ≡ weight_of xs
   own_weight pos =
       let j = found-where id xs pos in
-      let below : j.0.weight ≤ i.weight = omega (arith, within (only (λ (x : Item). x.weight) id), only_found (λ (x : Item). x.weight) id j.0 xs within_once j.1, only_found (λ (x : Item). x.weight) id i ys once here) in
-      let above : i.weight - j.0.weight ≤ i.weight - i.weight =
-        omega (arith, within (only (λ (x : Item). i.weight - x.weight) id), only_found (λ (x : Item). i.weight - x.weight) id j.0 xs within_once j.1, only_found (λ (x : Item). i.weight - x.weight) id i ys once here) in
+      let below : j.0.weight ≤ i.weight = at_most (λ (x : Item). x.weight) j.0 j.1 in
+      let above : i.weight - j.0.weight ≤ i.weight - i.weight = at_most (λ (x : Item). i.weight - x.weight) j.0 j.1 in
       omega (arith, sum-remove_id (λ (x : Item). x.weight) id j.0 xs j.1)
 
 -- without an id that has no item, the weight is the same
