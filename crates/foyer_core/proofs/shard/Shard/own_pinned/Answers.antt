@@ -1,6 +1,5 @@
-use Rattle.std.proofs.Common.{◌≡◌, ◌<◌, ◌+◌, ℕ, Some, None, refl, sym, ◌∙◌, ap, subst, arith, rules}
-use Rattle.std.specs.Prelude.{IfSome, IsSome, is_some}
-use Rattle.foyer_core.specs.Shards.{meaning_of, state_of}
+use Rattle.std.proofs.Common.{◌≡◌, Some, None, sym, ◌∙◌, rules}
+use Rattle.foyer_core.specs.Shards.{meaning_of}
 use Rattle.foyer_core.specs.Records.{slot_in}
 use Rattle.foyer_core.proofs.StoredLemmas.{none_not, place_is}
 use Rattle.foyer_core.proofs.Holdings.{holding}
