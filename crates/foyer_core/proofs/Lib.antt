@@ -14,6 +14,7 @@ pub mod NumberLemmas
 pub mod PinLemmas
 pub mod Popped
 pub mod Pushing
+pub mod RefusalLemmas
 pub mod ShardLemmas
 pub mod SlotLemmas
 pub mod States
