@@ -14,8 +14,10 @@ pub mod LeaveLemmas
 pub mod LeftLemmas
 pub mod Leaving
 pub mod NumberLemmas
+pub mod PinLemmas
 pub mod Popped
 pub mod Pushing
+pub mod RefusalLemmas
 pub mod ShardLemmas
 pub mod SlotLemmas
 pub mod States

@@ -256,7 +256,8 @@ impl<E: Eviction, K: Key, V: Value, P: Properties, I: Indexer<K>> Shard<E, K, V,
         ensures { IsTrue result ↔ (weight + pinned_beside (meaning_of self.now) (state_of self.now) (hash, key.now) < 2 ^ 64) }
     {
         let pinned = self.eviction.pinned_weight();
-        weight <= usize::MAX - pinned || weight <= usize::MAX - (pinned - self.own_pinned(hash, key))
+        weight <= usize::MAX - pinned
+            || weight <= usize::MAX - (pinned - self.own_pinned(hash, key))
     }
 
     // The weight of a key's record, where that is pinned.
@@ -272,11 +273,8 @@ impl<E: Eviction, K: Key, V: Value, P: Properties, I: Indexer<K>> Shard<E, K, V,
         let Some(place) = found.place() else {
             unreachable!();
         };
-        if self.eviction.is_pinned(place) {
-            found.data().weight
-        } else {
-            0
-        }
+        let pinned = self.eviction.is_pinned(place);
+        if pinned { found.data().weight } else { 0 }
     }
 
     // Makes room for one record, and makes that record, a clone of its key and an entry of it.
