@@ -11,6 +11,7 @@ pub mod Keys
 pub mod LeaveLemmas
 pub mod Leaving
 pub mod NumberLemmas
+pub mod Opening
 pub mod Popped
 pub mod Pushing
 pub mod ShardLemmas
