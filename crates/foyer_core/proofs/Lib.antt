@@ -14,6 +14,7 @@ pub mod NumberLemmas
 pub mod Opening
 pub mod Popped
 pub mod Pushing
+pub mod Reserving
 pub mod ShardLemmas
 pub mod SlotLemmas
 pub mod States
