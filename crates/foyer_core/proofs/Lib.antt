@@ -1,5 +1,6 @@
 pub mod DrainLemmas
 pub mod Evictions
+pub mod Forgetting
 pub mod Found
 pub mod GroupLemmas
 pub mod Handles
