@@ -2,6 +2,7 @@ pub mod DrainLemmas
 pub mod Evictions
 pub mod Forgetting
 pub mod Found
+pub mod GivingBack
 pub mod GroupLemmas
 pub mod Handles
 pub mod Holdings
