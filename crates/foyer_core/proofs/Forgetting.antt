@@ -8,18 +8,17 @@ use Rattle.std.specs.Map.{update}
 use Rattle.std.proofs.lemmas.Map.{update_here, update_apart}
 use Rattle.std.proofs.lemmas.Bool.Decides.{eqb_tells}
 use Rattle.foyer_policy.specs.Policy.{IsPolicy}
-use Rattle.foyer_policy.specs.declared.types.Item.{Item}
 use Rattle.foyer_policy.specs.declared.types.Event.{Event}
 use Rattle.foyer_policy.specs.declared.types.Event.TheVariants.{Evict}
 use Rattle.foyer_core.specs.declared.records.Records.{Records}
 use Rattle.foyer_core.specs.Values.{Kept, Gone}
 use Rattle.foyer_core.specs.Table.{rec_of}
 use Rattle.foyer_core.specs.Records.{slot_in, record_in, id_in}
-use Rattle.foyer_core.specs.State.{Meaning, State, IsKept, item_of, is_phantom_record}
+use Rattle.foyer_core.specs.State.{Meaning, IsKept, is_phantom_record}
 use Rattle.foyer_core.specs.Stored.{IsStored, state}
 use Rattle.foyer_core.specs.Steps.{GivesBack, after_give_back, last_leave}
 use Rattle.foyer_core.proofs.Keeps.{give_back_keeps}
-use Rattle.foyer_core.proofs.ShardLemmas.{Holding, now_of, resident, found}
+use Rattle.foyer_core.proofs.ShardLemmas.{Holding, now_of, resident}
 use Rattle.foyer_core.proofs.States.{same_state}
 use Rattle.foyer_core.proofs.StoredLemmas.{slot_record}
 
@@ -60,10 +59,10 @@ module _ {K V P View C : Type 0} (m : Meaning K P View C) (laws : IsEquivalence 
 
       after_is : after_give_back m (now_of o) x.id (rec_of x) ≡ record (now_of o) { records = update nat_eq (record_in t) x.id None }
       after_is = ap₂ (λ (a b : Bool). cond a
-        (cond b
+          (cond b
           (record (now_of o) { view = m.policy.release view x.id; records = update nat_eq (record_in t) x.id (Some (record { kept = x.kept; handles = 0; resident = x.resident })) })
           (record (now_of o) { records = update nat_eq (record_in t) x.id None }))
-        (record (now_of o) { records = update nat_eq (record_in t) x.id (Some (record (rec_of x) { handles = x.handles - 1 })) })) is_one out
+          (record (now_of o) { records = update nat_eq (record_in t) x.id (Some (record (rec_of x) { handles = x.handles - 1 })) })) is_one out
 
       forgot_after : state number capacity limits view keys t' next ≡ after_give_back m (now_of o) x.id (rec_of x)
       forgot_after = same_state (state number capacity limits view keys t' next) (record (now_of o) { records = update nat_eq (record_in t) x.id None }) refl refl refl refl forgot_hit records refl ∙ sym after_is

@@ -1,5 +1,5 @@
 -- A shard that takes a handle back, of a record that stays.
-use Rattle.std.proofs.Common.{◌≡◌, ℕ, ◌+◌, ◌-◌, ◌<◌, ◌==◌, ◌&&◌, Option, Some, None, Bool, true, false, cond, length, nat_eq, refl, sym, ◌∙◌, ap, subst, arith}
+use Rattle.std.proofs.Common.{◌≡◌, ℕ, ◌-◌, ◌<◌, ◌==◌, ◌&&◌, Option, Some, None, Bool, true, false, cond, length, nat_eq, refl, sym, ◌∙◌, ap, subst, arith}
 use Rattle.std.proofs.Math.Logic.{∥∥₁_elim, ∥∥₁_map}
 use Rattle.std.proofs.Math.Path.{ap₂}
 use Rattle.std.proofs.Props.{props}
@@ -14,8 +14,8 @@ use Rattle.foyer_policy.specs.declared.types.Item.{Item}
 use Rattle.foyer_policy.specs.declared.types.Event.{Event}
 use Rattle.foyer_policy.specs.declared.types.Event.TheVariants.{Evict}
 use Rattle.foyer_core.specs.declared.records.Records.{Records}
-use Rattle.foyer_core.specs.Values.{Kept, Rec, Gone}
-use Rattle.foyer_core.specs.Table.{rec_of, id_by}
+use Rattle.foyer_core.specs.Values.{Kept, Gone}
+use Rattle.foyer_core.specs.Table.{rec_of}
 use Rattle.foyer_core.specs.Records.{slot_in, number_of, record_in}
 use Rattle.foyer_core.specs.State.{Meaning, State, IsKept, is_phantom_record}
 use Rattle.foyer_core.specs.Stored.{IsStored, state}
@@ -78,7 +78,7 @@ module _ {K V P View C : Type 0} (m : Meaning K P View C) (laws : IsEquivalence 
 
       pub took_gives : (id : ℕ) → number_of t id ≡ Some n → GivesBack m (now_of o) id None (state number capacity limits view keys t' next)
       took_gives = stays_gives view (omega arith) took_after (let gone : Event × Gone K V P = (Evict, record { id = x.id; kept = x.kept }) in
-        sym (ap (λ (b : Bool). cond (b && (not x.resident && is_phantom_record m x.kept)) (Some gone) None) not_one))
+          sym (ap (λ (b : Bool). cond (b && (not x.resident && is_phantom_record m x.kept)) (Some gone) None) not_one))
 
     -- it was the last one, of a record in the index
     module _ (one : x.handles ≡ 1) (res : x.resident ≡ true) (view' : View) (viewed : view' ≡ m.policy.release view x.id) where
@@ -90,15 +90,15 @@ module _ {K V P View C : Type 0} (m : Meaning K P View C) (laws : IsEquivalence 
 
       released_after : state number capacity limits view' keys t' next ≡ after_give_back m (now_of o) x.id (rec_of x)
       released_after = took_state view' ∙ ap₂ with_left viewed none_left ∙ sym (ap₂ (λ (a b : Bool). cond a
-        (cond b (with_left (m.policy.release view x.id) 0) (record (now_of o) { records = update nat_eq (record_in t) x.id None }))
-        (with_left view (x.handles - 1))) is_one res)
+          (cond b (with_left (m.policy.release view x.id) 0) (record (now_of o) { records = update nat_eq (record_in t) x.id None }))
+          (with_left view (x.handles - 1))) is_one res)
 
       pub released_kept : ∥ IsKept m (state number capacity limits view' keys t' next) ∥₁
       released_kept = stays_kept view' (omega (arith, one)) released_after
 
       pub released_gives : (id : ℕ) → number_of t id ≡ Some n → GivesBack m (now_of o) id None (state number capacity limits view' keys t' next)
       released_gives = stays_gives view' (omega (arith, one)) released_after (let gone : Event × Gone K V P = (Evict, record { id = x.id; kept = x.kept }) in
-        sym (ap₂ (λ (a b : Bool). cond (a && (not b && is_phantom_record m x.kept)) (Some gone) None) is_one res))
+          sym (ap₂ (λ (a b : Bool). cond (a && (not b && is_phantom_record m x.kept)) (Some gone) None) is_one res))
 
       weight_same : IsKept m (now_of o) → weight_of (m.policy.order view') ≡ weight_of (m.policy.order view)
       weight_same k = ap (λ (v : View). weight_of (m.policy.order v)) viewed ∙ sum_by-IsPermutation (λ (i : Item). i.weight) (m.policy.order view) (m.policy.order (m.policy.release view x.id)) (good.release_order view x.id k.once)

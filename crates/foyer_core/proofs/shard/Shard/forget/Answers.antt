@@ -1,4 +1,4 @@
-use Rattle.std.proofs.Common.{◌≡◌, Option, Some, None, Bool, true, false, refl, sym, ◌∙◌, ap, subst}
+use Rattle.std.proofs.Common.{◌≡◌, true, false, sym, ◌∙◌, ap}
 use Rattle.foyer_policy.specs.Properties.{is_phantom}
 use Rattle.foyer_core.specs.Shards.{meaning_of}
 use Rattle.foyer_core.proofs.Holdings.{holding}

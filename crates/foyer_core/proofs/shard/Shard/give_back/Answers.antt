@@ -1,4 +1,4 @@
-use Rattle.std.proofs.Common.{◌≡◌, ℕ, ◌<◌, Some, None, refl, sym, ◌∙◌, ap, subst, arith, rules, true}
+use Rattle.std.proofs.Common.{◌≡◌, ℕ, Some, None, refl, sym, ◌∙◌, ap, subst, arith, rules, true}
 use Rattle.foyer_core.specs.Shards.{meaning_of, state_of}
 use Rattle.foyer_core.specs.Steps.{GivesBack}
 use Rattle.foyer_core.specs.Records.{slot_in, number_of}
@@ -38,18 +38,20 @@ returns-then-handles-gt1-clause-taken g c =
     let x = c.in-Some-get.found.now in
     let there : slot_in s.records c.in-Some.slot ≡ Some x = sym (rw c.in-Some-get.is at c.get.ensures) in
     let t = c.take_handle.new.self in
-    let write = c.take_handle.ensures.slots x there in
-    (omega (arith, c.number.ensures, c.if-number-self.false),
-     took_gives m g.met.K.Eq.laws g.met.E.Eviction.lawful (holding s) c.in-Some.slot x there t write c.take_handle.ensures.ids (omega (arith, c.handles-handles.ensures, c.if-handles-gt1.true)) c.args.entry.id named)
+    let write = c.take_handle.ensures.slots x there in (
+      omega (arith, c.number.ensures, c.if-number-self.false),
+      took_gives m g.met.K.Eq.laws g.met.E.Eviction.lawful (holding s) c.in-Some.slot x there t write c.take_handle.ensures.ids (omega (arith, c.handles-handles.ensures, c.if-handles-gt1.true)) c.args.entry.id named,
+    )
 
 pub returns-then-not-is_resident-clause-taken : goal.returns-then-not-is_resident-clause-taken
 returns-then-not-is_resident-clause-taken g c =
     let s = c.args.self.now in
     let named : number_of s.records c.args.entry.id ≡ Some c.in-Some.slot = sym (ap (number_of s.records) c.id.ensures) ∙ sym c.find.ensures ∙ c.in-Some.is in
     let x = c.in-Some-get.found.now in
-    let there : slot_in s.records c.in-Some.slot ≡ Some x = sym (rw c.in-Some-get.is at c.get.ensures) in
-    (omega (arith, c.number.ensures, c.if-number-self.false),
-     subst (λ (id : ℕ). GivesBack (meaning_of s) (state_of s) id c.forget.result (state_of c.forget.new.self)) (named_id s.records c.args.entry.id c.in-Some.slot named x there) (c.forget.ensures x there))
+    let there : slot_in s.records c.in-Some.slot ≡ Some x = sym (rw c.in-Some-get.is at c.get.ensures) in (
+      omega (arith, c.number.ensures, c.if-number-self.false),
+      subst (λ (id : ℕ). GivesBack (meaning_of s) (state_of s) id c.forget.result (state_of c.forget.new.self)) (named_id s.records c.args.entry.id c.in-Some.slot named x there) (c.forget.ensures x there),
+    )
 
 pub unreachable-requires-in_default-place : goal.unreachable-requires-in_default-place
 unreachable-requires-in_default-place g c =
@@ -102,6 +104,7 @@ returns-clause-taken g c =
     let view = g.E.Eviction.view c.release.new.self in
     let viewed : view ≡ m.policy.release (g.E.Eviction.view s.eviction) x.id = rw at at c.release.ensures.view in
     let t = c.take_handle-2.new.self in
-    let write = c.take_handle-2.ensures.slots x there in
-    (omega (arith, c.number.ensures, c.if-number-self.false),
-     released_gives m g.met.K.Eq.laws g.met.E.Eviction.lawful (holding s) c.in-Some.slot x there t write c.take_handle-2.ensures.ids one res view viewed c.args.entry.id named)
+    let write = c.take_handle-2.ensures.slots x there in (
+      omega (arith, c.number.ensures, c.if-number-self.false),
+      released_gives m g.met.K.Eq.laws g.met.E.Eviction.lawful (holding s) c.in-Some.slot x there t write c.take_handle-2.ensures.ids one res view viewed c.args.entry.id named,
+    )
