@@ -11,6 +11,11 @@ use Rattle.foyer_policy.specs.Fifo.{fifo}
 use Rattle.foyer_policy.specs.declared.types.Item.{Item}
 use Rattle.foyer_policy.proofs.ItemLemmas.{one_if, count-cons, count-other, found-id, sum-remove_id, once-remove_id, once-head, once-tail, new-cons}
 
+pub mod Cleared
+pub mod Evicted
+pub mod Found
+pub mod Repeated
+
 -- once taken out, an id is new
 pub new-remove_id : (id : ℕ) (l : List Item) → HasIdsOnce l → IsNewIn id (remove_id id l)
 new-remove_id id [] once = refl
