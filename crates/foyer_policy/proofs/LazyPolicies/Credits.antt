@@ -1,0 +1,1 @@
+-- Dictionaries that look too much, or grant themselves credit.

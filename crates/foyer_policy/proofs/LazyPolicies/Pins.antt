@@ -1,0 +1,1 @@
+-- Dictionaries that pin and unpin what they should not.
