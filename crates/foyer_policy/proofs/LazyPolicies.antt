@@ -9,7 +9,6 @@ use Rattle.foyer_policy.specs.Fifo.{fifo, take_first}
 use Rattle.foyer_policy.specs.declared.types.Item.{Item}
 use Rattle.foyer_policy.specs.declared.types.Hint.TheVariants.{Normal}
 use Rattle.foyer_policy.proofs.ItemLemmas.{once-snoc}
-
 pub mod Credits
 pub mod Orders
 pub mod Pins

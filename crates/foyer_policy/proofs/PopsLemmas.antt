@@ -10,7 +10,6 @@ use Rattle.foyer_policy.specs.Policy.{Policy, IsPolicy, and_then, victims, pops,
 use Rattle.foyer_policy.specs.Fifo.{fifo}
 use Rattle.foyer_policy.specs.declared.types.Item.{Item}
 use Rattle.foyer_policy.proofs.ItemLemmas.{one_if, count-cons, count-other, found-id, sum-remove_id, once-remove_id, once-head, once-tail, new-cons}
-
 pub mod Cleared
 pub mod Evicted
 pub mod Found
@@ -168,8 +167,8 @@ module _ {V C : Type 0} (m : Policy V C) (law : IsPolicy m) (v : V) where
 
   pub acquire_pins : (j id : ℕ) → j ≢ id → HasIdsOnce (m.order v) → count_of j (m.pinned (m.acquire v id)) ≡ count_of j (m.pinned v)
   acquire_pins j id apart once = elim (law.acquire_pinned v id once) [
-      inl same ↦ ap (count_of j) same
+    | inl same ↦ ap (count_of j) same
     | inr more ↦
         let other : more.0.id ≢ j = (λ e. apart (sym e ∙ found-id id more.0 (m.order v) more.1)) in
         sum_by-IsPermutation (one_if j) (more.0 ∷ m.pinned v) (m.pinned (m.acquire v id)) more.2 ∙ count-other j more.0 (m.pinned v) other
-    ]
+  ]

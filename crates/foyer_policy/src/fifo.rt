@@ -133,3 +133,6 @@ impl Eviction for Fifo {
         0
     }
 }
+
+#[cfg(test)]
+mod tests;

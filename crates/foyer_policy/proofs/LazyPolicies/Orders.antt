@@ -134,9 +134,9 @@ pub not-remove_reorders : IsPolicy remove_reorders → ⊥
 not-remove_reorders law =
     let e : ◌≡◌ {A = List Item} (item 2 ∷ item 1 ∷ []) (item 1 ∷ item 2 ∷ []) = law.remove_order (item 0 ∷ item 1 ∷ item 2 ∷ []) 0 in
     omega (arith, ap (λ (l : List Item). first_id l) e) where
-  first_id : List Item → ℕ
-  first_id [] = 0
-  first_id (i ∷ is) = i.id
+      first_id : List Item → ℕ
+      first_id [] = 0
+      first_id (i ∷ is) = i.id
 
 -- an acquire that drops its item
 abbrev pub acquire_drops : Policy (List Item) Plain

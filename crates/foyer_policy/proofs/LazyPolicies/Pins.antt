@@ -82,9 +82,9 @@ acquire_pins_all = record pinning { acquire = λ v id. ([], v.0 ++ v.1) }
 
 pub not-acquire_pins_all : IsPolicy acquire_pins_all → ⊥
 not-acquire_pins_all law = elim (law.acquire_pinned (item 0 ∷ item 1 ∷ [], []) 0 once_pair) [
-    inl same ↦ (let e : ◌≡◌ {A = List Item} (item 0 ∷ item 1 ∷ []) [] = same in cc)
+  | inl same ↦ (let e : ◌≡◌ {A = List Item} (item 0 ∷ item 1 ∷ []) [] = same in cc)
   | inr more ↦ omega (arith, length_permutation (more.0 ∷ []) (item 0 ∷ item 1 ∷ []) more.2)
-  ]
+]
 
 -- an acquire that pins a neighbour
 abbrev pub acquire_pins_neighbour : Policy (List Item × List Item) Plain
@@ -92,11 +92,11 @@ acquire_pins_neighbour = record pinning { acquire = λ v id. or_stay (find_id (i
 
 pub not-acquire_pins_neighbour : IsPolicy acquire_pins_neighbour → ⊥
 not-acquire_pins_neighbour law = elim (law.acquire_pinned (item 0 ∷ item 1 ∷ [], []) 0 once_pair) [
-    inl same ↦ (let e : ◌≡◌ {A = List Item} (item 1 ∷ []) [] = same in cc)
+  | inl same ↦ (let e : ◌≡◌ {A = List Item} (item 1 ∷ []) [] = same in cc)
   | inr more ↦
       let id : more.0.id ≡ 0 = found-id 0 more.0 (item 0 ∷ item 1 ∷ []) more.1 in
       omega (arith, sum_by-IsPermutation (λ (i : Item). i.id) (more.0 ∷ []) (item 1 ∷ []) more.2)
-  ]
+]
 
 -- an acquire that unpins the others
 abbrev pub acquire_unpins : Policy (List Item × List Item) Plain
@@ -104,9 +104,9 @@ acquire_unpins = record pinning { acquire = λ v id. (v.0 ++ v.1, []) }
 
 pub not-acquire_unpins : IsPolicy acquire_unpins → ⊥
 not-acquire_unpins law = elim (law.acquire_pinned ([], item 0 ∷ []) 1 (once_alone (item 0))) [
-    inl same ↦ (let e : ◌≡◌ {A = List Item} [] (item 0 ∷ []) = same in cc)
+  | inl same ↦ (let e : ◌≡◌ {A = List Item} [] (item 0 ∷ []) = same in cc)
   | inr more ↦ omega (arith, length_permutation (more.0 ∷ item 0 ∷ []) [] more.2)
-  ]
+]
 
 -- a release that unpins all
 abbrev pub release_unpins_all : Policy (List Item × List Item) Plain

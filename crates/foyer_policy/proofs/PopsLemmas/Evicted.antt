@@ -37,18 +37,18 @@ IsShortestBeginning-until t u (i ∷ is) = go (nat_le u t) refl (IsShortestBegin
         reaches = elim rec.reaches [ inl h ↦ inl (omega (arith, sum_by-cons (λ (j : Item). j.weight) i (until t (u - i.weight) is))) | inr h ↦ inr (ap (λ r. i ∷ r) h) ];
         shortest = later more;
       } where
-    later : t < u → (n : ℕ) → n < length (i ∷ until t (u - i.weight) is) → t + weight_of (take n (i ∷ is)) < u
-    later more zero h = omega arith
-    later more (suc n) h = omega (arith, rec.shortest n (omega arith), sum_by-cons (λ (j : Item). j.weight) i (take n is))
+        later : t < u → (n : ℕ) → n < length (i ∷ until t (u - i.weight) is) → t + weight_of (take n (i ∷ is)) < u
+        later more zero h = omega arith
+        later more (suc n) h = omega (arith, rec.shortest n (omega arith), sum_by-cons (λ (j : Item). j.weight) i (take n is))
 
 no_longer : (target usage : ℕ) (xs ys all : List Item) → IsShortestBeginning target usage xs all → IsShortestBeginning target usage ys all → length ys ≤ length xs
 no_longer t u xs ys all a b = elim (cases_lt (length xs) (length ys)) [
-    inl h ↦ elim a.reaches [
-        inl done ↦ (let w : weight_of xs ≡ weight_of (take (length xs) all) = ap weight_of a.begins in absurd (omega (arith, w, done, b.shortest (length xs) h)))
-      | inr whole ↦ absurd (omega (arith, ap length whole, ap length b.begins, length-take (length ys) all))
-      ]
-  | inr h ↦ h
+  | inl h ↦ elim a.reaches [
+    | inl done ↦ (let w : weight_of xs ≡ weight_of (take (length xs) all) = ap weight_of a.begins in absurd (omega (arith, w, done, b.shortest (length xs) h)))
+    | inr whole ↦ absurd (omega (arith, ap length whole, ap length b.begins, length-take (length ys) all))
   ]
+  | inr h ↦ h
+]
 
 -- there is one shortest beginning
 pub one_shortest_beginning : (target usage : ℕ) (xs ys all : List Item) → IsShortestBeginning target usage xs all → IsShortestBeginning target usage ys all → xs ≡ ys
@@ -95,23 +95,23 @@ module _ {V C : Type 0} (m : Policy V C) (law : IsPolicy m) (target : ℕ) where
   -- after them the usage is at most the target, or no pop gives an item
   pub evicted-reaches : (v : V) → (weight_of (m.order (after_pops m (length (evicted m target v)) v)) ≤ target) ⊎ (m.pop (after_pops m (length (evicted m target v)) v) ≡ None)
   evicted-reaches v = elim (IsShortestBeginning-evicted v).reaches [
-      inl h ↦ inl (omega (arith, evicted-weight v))
+    | inl h ↦ inl (omega (arith, evicted-weight v))
     | inr h ↦ inr (subst (λ (l : List Item). m.pop (after_pops m (length l) v) ≡ None) (sym h) (pops-all v))
-    ]
+  ]
 
   -- or, in weights: at most the target, or what is pinned
   pub evicted-bound : (v : V) → (weight_of (m.order (after_pops m (length (evicted m target v)) v)) ≤ target) ⊎ (weight_of (m.order (after_pops m (length (evicted m target v)) v)) ≡ weight_of (m.pinned v))
   evicted-bound v = elim (evicted-reaches v) [
-      inl h ↦ inl h
+    | inl h ↦ inl h
     | inr h ↦ inr (none_weight m law (after_pops m (length (evicted m target v)) v) h ∙ ap weight_of (after_pops-pinned m law (length (evicted m target v)) v))
-    ]
+  ]
 
   -- what is left is then all pinned
   pub evicted-left : (v : V) → target < weight_of (m.order (after_pops m (length (evicted m target v)) v)) → IsWithin (m.order (after_pops m (length (evicted m target v)) v)) (m.pinned v)
   evicted-left v more = elim (evicted-reaches v) [
-      inl h ↦ absurd (omega arith)
+    | inl h ↦ absurd (omega arith)
     | inr h ↦ subst (λ (l : List Item). IsWithin (m.order (after_pops m (length (evicted m target v)) v)) l) (after_pops-pinned m law (length (evicted m target v)) v) (law.pop_none (after_pops m (length (evicted m target v)) v) h)
-    ]
+  ]
 
   -- an eviction goes on by one pop
   pub evict_more : (usage : ℕ) (v w : V) (i : Item) (told all : List Item) → target < usage → m.pop v ≡ Some (i, w)
