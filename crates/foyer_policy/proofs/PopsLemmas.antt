@@ -13,6 +13,7 @@ use Rattle.foyer_policy.proofs.ItemLemmas.{one_if, count-cons, count-other, foun
 pub mod Cleared
 pub mod Evicted
 pub mod Found
+pub mod Parts
 pub mod Repeated
 
 -- once taken out, an id is new
