@@ -1,13 +1,10 @@
--- Pop by pop: what repeated pops give and leave, for every lawful policy.
-use Rattle.std.proofs.Common.{◌≡◌, ◌≢◌, ℕ, zero, suc, ◌+◌, ◌-◌, ◌<◌, ◌≤◌, Bool, true, false, cond, List, [], ◌∷◌, ◌++◌, Option, Some, None, length, take, drop, refl, sym, ◌∙◌, ap, subst, arith, add-one, append_assoc, inl, inr}
-use Rattle.std.specs.Prelude.{◌==◌, ◌⊎◌, sum_by, nat_le}
-use Rattle.std.specs.List.Sorted.{IsPermutation}
+-- One call of a lawful policy: what it does to sums over the items, to ids, to pins and to the pops.
+use Rattle.std.proofs.Common.{◌≡◌, ◌≢◌, ℕ, zero, suc, ◌+◌, ◌-◌, ◌≤◌, Bool, true, false, cond, List, [], ◌∷◌, Option, Some, None, length, refl, sym, ◌∙◌, ap, subst, arith, add-one, inl, inr}
+use Rattle.std.specs.Prelude.{◌==◌, sum_by}
 use Rattle.std.proofs.lemmas.Bool.Decides.{nat_tests}
-use Rattle.std.proofs.lemmas.List.Sums.{sum_by-cons}
-use Rattle.std.proofs.lemmas.List.Sorted.{IsPermutation-refl, IsPermutation-cons, IsPermutation-trans, sum_by-IsPermutation, sum_by_popped, sum_by_pushed, length_permutation}
-use Rattle.foyer_policy.specs.Items.{weight_of, count_of, IsNewIn, HasIdsOnce, IsWithin, remove_id, find_id}
-use Rattle.foyer_policy.specs.Policy.{Policy, IsPolicy, and_then, victims, pops, view_or, after_pops, after_all_pops}
-use Rattle.foyer_policy.specs.Fifo.{fifo}
+use Rattle.std.proofs.lemmas.List.Sorted.{sum_by-IsPermutation, sum_by_popped, sum_by_pushed, length_permutation}
+use Rattle.foyer_policy.specs.Items.{weight_of, count_of, IsNewIn, HasIdsOnce, remove_id, find_id}
+use Rattle.foyer_policy.specs.Policy.{Policy, IsPolicy, victims, pops, view_or, after_pops}
 use Rattle.foyer_policy.specs.declared.types.Item.{Item}
 use Rattle.foyer_policy.proofs.ItemLemmas.{one_if, count-cons, count-other, found-id, sum-remove_id, once-remove_id, once-head, once-tail, new-cons}
 pub mod Cleared

@@ -1,5 +1,5 @@
 -- Dictionaries that look too much, or grant themselves credit.
-use Rattle.std.proofs.Common.{ℕ, ◌+◌, ◌≤◌, List, [], ◌∷◌, ◌++◌, Option, Some, None, length, refl, arith}
+use Rattle.std.proofs.Common.{ℕ, ◌+◌, List, [], ◌∷◌, ◌++◌, None, length, refl, arith}
 use Rattle.foyer_policy.specs.Items.{remove_id}
 use Rattle.foyer_policy.specs.Policy.{Policy, IsPolicy}
 use Rattle.foyer_policy.specs.Fifo.{take_first}

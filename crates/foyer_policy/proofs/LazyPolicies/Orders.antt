@@ -1,12 +1,12 @@
 -- Dictionaries that lose, invent, keep or rearrange items.
-use Rattle.std.proofs.Common.{◌≡◌, ℕ, suc, ◌+◌, ◌≤◌, List, [], ◌∷◌, ◌++◌, Option, Some, None, length, take, reverse, refl, sym, ◌∙◌, ap, arith}
+use Rattle.std.proofs.Common.{◌≡◌, ℕ, ◌+◌, List, [], ◌∷◌, ◌++◌, Option, Some, None, take, reverse, refl, ap, arith}
 use Rattle.std.specs.Prelude.{sum_by}
 use Rattle.std.proofs.lemmas.List.Sorted.{length_permutation, sum_by-IsPermutation}
-use Rattle.foyer_policy.specs.Items.{HasIdsOnce, remove_id}
+use Rattle.foyer_policy.specs.Items.{remove_id}
 use Rattle.foyer_policy.specs.Policy.{Policy, IsPolicy}
 use Rattle.foyer_policy.specs.Fifo.{take_first}
 use Rattle.foyer_policy.specs.declared.types.Item.{Item}
-use Rattle.foyer_policy.proofs.LazyPolicies.{Plain, item, queue, remembering, first_and, once_alone, once_pair}
+use Rattle.foyer_policy.proofs.LazyPolicies.{Plain, item, queue, remembering, first_and, once_alone}
 
 -- a new policy that holds an item
 abbrev pub opens_full : Policy (List Item) Plain

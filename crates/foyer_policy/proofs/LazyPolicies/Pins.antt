@@ -1,6 +1,5 @@
 -- Dictionaries that pin or unpin what they should not.
-use Rattle.std.proofs.Common.{◌≡◌, ℕ, ◌+◌, ◌≤◌, List, [], ◌∷◌, ◌++◌, Option, Some, None, length, refl, sym, ◌∙◌, ap, arith, inl, inr}
-use Rattle.std.specs.Prelude.{sum_by}
+use Rattle.std.proofs.Common.{◌≡◌, ◌+◌, List, [], ◌∷◌, ◌++◌, Option, None, refl, arith, inl, inr}
 use Rattle.std.proofs.lemmas.List.Sorted.{length_permutation, sum_by-IsPermutation}
 use Rattle.foyer_policy.specs.Items.{remove_id, find_id}
 use Rattle.foyer_policy.specs.Policy.{Policy, IsPolicy}

@@ -1,15 +1,14 @@
 -- Pops that are repeated: what they give and what they leave, for every lawful policy.
-use Rattle.std.proofs.Common.{◌≡◌, ◌≢◌, ℕ, zero, suc, ◌+◌, ◌-◌, ◌<◌, ◌≤◌, Bool, true, false, cond, List, [], ◌∷◌, ◌++◌, Option, Some, None, length, take, drop, refl, sym, ◌∙◌, ap, subst, arith, add-one, append_assoc, inl, inr}
-use Rattle.std.specs.Prelude.{◌==◌, ◌⊎◌, sum_by, nat_le}
+use Rattle.std.proofs.Common.{◌≡◌, ℕ, zero, suc, ◌+◌, ◌<◌, ◌≤◌, ◌∷◌, ◌++◌, Option, Some, None, length, take, refl, ◌∙◌, ap, arith}
+use Rattle.std.specs.Prelude.{sum_by}
 use Rattle.std.specs.List.Sorted.{IsPermutation}
 use Rattle.std.proofs.lemmas.List.Sums.{sum_by-cons}
 use Rattle.std.proofs.lemmas.List.Sorted.{IsPermutation-refl, IsPermutation-cons, IsPermutation-trans}
-use Rattle.foyer_policy.specs.Items.{weight_of, count_of, IsNewIn, HasIdsOnce, IsWithin}
+use Rattle.foyer_policy.specs.Items.{weight_of, count_of, IsNewIn, HasIdsOnce}
 use Rattle.foyer_policy.specs.Policy.{Policy, IsPolicy, and_then, victims, pops, view_or, after_pops, after_all_pops}
-use Rattle.foyer_policy.specs.Fifo.{fifo}
 use Rattle.foyer_policy.specs.declared.types.Item.{Item}
 use Rattle.foyer_policy.proofs.ItemLemmas.{one_if}
-use Rattle.foyer_policy.proofs.PopsLemmas.{after_pops-keeps, victims-none, after_pops-none, pops-none, pops-some, pop_sum, pop_count, pop_weight, pop_shorter, pop_once, none_sum}
+use Rattle.foyer_policy.proofs.PopsLemmas.{after_pops-keeps, pops-none, pops-some, pop_sum, pop_shorter, none_sum}
 
 module _ {V C : Type 0} (m : Policy V C) (law : IsPolicy m) where
   -- some pops give the beginning of all of them

@@ -74,14 +74,14 @@ fn each_call<'a, E: Eviction>(rt: &impl Abort, policy: &'a mut E, config: &E::Co
 }
 
 #[test]
-fn answers_each_call(rt: HostRuntime) -> Tested {
+fn answers_each_call_under_the_bound(rt: HostRuntime) -> Tested {
     let config = FifoConfig {};
     let mut policy = Fifo::new(rt.alloc(), 16, &config)?;
     each_call(&rt, &mut policy, &config)
 }
 
 #[test]
-fn answers_each_call_of_its_own(rt: HostRuntime) -> Tested {
+fn answers_each_call_alone(rt: HostRuntime) -> Tested {
     let mut policy = Fifo::new(rt.alloc(), 16, &FifoConfig {})?;
     policy.update(1, None)?;
     policy.update(2, Some(&FifoConfig {}))?;
