@@ -134,3 +134,6 @@ impl Eviction for Fifo {
         0
     }
 }
+
+#[cfg(test)]
+mod tests;
