@@ -11,6 +11,7 @@ use Rattle.foyer_policy.specs.declared.types.Hint.TheVariants.{Normal}
 use Rattle.foyer_policy.proofs.ItemLemmas.{once-snoc}
 pub mod Credits
 pub mod Orders
+pub mod Pinning
 pub mod Pins
 
 -- the only configuration
@@ -70,17 +71,14 @@ module _ {X : Type 0} (start : X) (popped : X → Item → X) (credit : X → �
   popped-none [] x h = λ f. omega arith
   popped-none (j ∷ js) x h = absurd cc
 
-  cleared : (xs : List Item) (x : X) → queue_beside.clear (xs, x) ≡ queue_beside.clear (after_pops queue_beside (length xs) (xs, x))
-  cleared [] x = refl
-  cleared (j ∷ js) x = cleared js (popped x j)
-
-  cleared-nothing : (xs : List Item) (x : X) → xs ≡ [] → queue_beside.clear (xs, x) ≡ (xs, x)
-  cleared-nothing [] x h = refl
-  cleared-nothing (j ∷ js) x h = absurd cc
+  all_popped : (xs : List Item) (x : X) → after_pops queue_beside (length xs) (xs, x) ≡ ([], fold popped x xs)
+  all_popped [] x = refl
+  all_popped (j ∷ js) x = all_popped js (popped x j)
 
   pub queue_beside_lawful : credit start ≡ 0 → ((x : X) (i : Item) → credit (popped x i) ≤ credit x) → IsPolicy queue_beside
   queue_beside_lawful nothing less = record {
     opening_order = λ capacity c accepted. refl;
+    fault_kind = λ c reason h. absurd cc;
     opening_credit = λ capacity c accepted. nothing;
     pinned_within = λ v f. omega arith;
     push_order = λ v i. IsPermutation-sym (v.0 ++ i ∷ []) (i ∷ v.0) (IsPermutation-to_front v.0 i);
@@ -88,13 +86,12 @@ module _ {X : Type 0} (start : X) (popped : X → Item → X) (credit : X → �
     push_credit = λ v i. omega arith;
     pop_order = λ v w i h. rw ((popped-is v.0 v.1 w i h).0) (IsPermutation-refl (i ∷ w.0));
     pop_pinned = λ v w i h. refl;
-    pop_free = λ v w i h once. refl;
     pop_none = λ v h. popped-none v.0 v.1 h;
     pop_looks = λ v w i h. omega (arith, ap credit (popped-is v.0 v.1 w i h).1, less v.1 i);
     pop_credit = λ v w i h. omega (arith, ap credit (popped-is v.0 v.1 w i h).1, less v.1 i);
     none_looks = λ v h. refl;
     remove_order = λ v id. refl;
-    remove_pinned = λ v id. refl;
+    remove_pinned = λ v id once. refl;
     remove_credit = λ v id. omega arith;
     acquire_order = λ v id once. IsPermutation-refl v.0;
     acquire_pinned = λ v id once. inl refl;
@@ -105,9 +102,7 @@ module _ {X : Type 0} (start : X) (popped : X → Item → X) (credit : X → �
     update_order = λ v capacity config once. IsPermutation-refl v.0;
     update_pinned = λ v capacity config. refl;
     update_credit = λ v capacity config. omega arith;
-    clear_order = λ v. refl;
-    clear_pops = λ v. cleared v.0 v.1;
-    clear_empty = λ v h. cleared-nothing v.0 v.1 h;
+    clear_is = λ v. rw (all_popped v.0 v.1) refl;
   }
 
 -- a queue beside a number, the credit

@@ -83,6 +83,12 @@ module _ {V C : Type 0} (m : Policy V C) (law : IsPolicy m) (v w : V) (i : Item)
   pub pop_new : HasIdsOnce (m.order v) → IsNewIn i.id (m.order w)
   pop_new once = (let e : one_if i.id i ≡ 1 = grind (arith, nat_tests) in omega (arith, pop_count i.id, once i.id))
 
+  -- no pop gives what is pinned
+  pub pop_free : HasIdsOnce (m.order v) → IsNewIn i.id (m.pinned v)
+  pop_free once =
+      let kept : count_of i.id (m.pinned v) ≤ count_of i.id (m.order w) = rw (← law.pop_pinned v w i h) (law.pinned_within w (one_if i.id)) in
+      omega (arith, kept, pop_new once)
+
   pub pops-some : pops m v ≡ i ∷ pops m w
   pops-some = rw (pop_shorter, add-one) (victims-some m (length (m.order w)) v w i h)
 
@@ -153,8 +159,8 @@ module _ {V C : Type 0} (m : Policy V C) (law : IsPolicy m) (v : V) where
   none_weight h = none_sum h (λ i. i.weight)
 
   -- the pins of other ids stay
-  pub remove_pins : (j id : ℕ) → j ≢ id → count_of j (m.pinned (m.remove v id)) ≡ count_of j (m.pinned v)
-  remove_pins j id apart = rw (law.remove_pinned v id) (count-remove_other j id (m.pinned v) apart)
+  pub remove_pins : (j id : ℕ) → j ≢ id → HasIdsOnce (m.order v) → count_of j (m.pinned (m.remove v id)) ≡ count_of j (m.pinned v)
+  remove_pins j id apart once = rw (law.remove_pinned v id once) (count-remove_other j id (m.pinned v) apart)
 
   pub release_pins : (j id : ℕ) → j ≢ id → HasIdsOnce (m.order v) → count_of j (m.pinned (m.release v id)) ≡ count_of j (m.pinned v)
   release_pins j id apart once = rw (law.release_pinned v id once) (count-remove_other j id (m.pinned v) apart)

@@ -175,7 +175,7 @@ abbrev pub clear_keeps : Policy (List Item) Plain
 clear_keeps = record queue { clear = λ v. v }
 
 pub not-clear_keeps : IsPolicy clear_keeps → ⊥
-not-clear_keeps law = (let e : ◌≡◌ {A = List Item} (item 0 ∷ []) [] = law.clear_order (item 0 ∷ []) in cc)
+not-clear_keeps law = (let e : ◌≡◌ {A = List Item} (item 0 ∷ []) [] = law.clear_is (item 0 ∷ []) in cc)
 
 -- a clear that does not remember what its pops would have given
 abbrev pub clear_feeds_nothing : Policy (List Item × List Item) Plain
@@ -183,7 +183,7 @@ clear_feeds_nothing = record remembering { clear = λ v. ([], v.1) }
 
 pub not-clear_feeds_nothing : IsPolicy clear_feeds_nothing → ⊥
 not-clear_feeds_nothing law =
-    let e : ◌≡◌ {A = List Item} [] (item 0 ∷ []) = ap (λ (v : List Item × List Item). v.1) (law.clear_pops (item 0 ∷ [], [])) in cc
+    let e : ◌≡◌ {A = List Item} [] (item 0 ∷ []) = ap (λ (v : List Item × List Item). v.1) (law.clear_is (item 0 ∷ [], [])) in cc
 
 -- a clear that forgets what was remembered
 abbrev pub clear_forgets : Policy (List Item × List Item) Plain
@@ -191,4 +191,4 @@ clear_forgets = record remembering { clear = λ v. ([], []) }
 
 pub not-clear_forgets : IsPolicy clear_forgets → ⊥
 not-clear_forgets law =
-    let e : ◌≡◌ {A = List Item} [] (item 0 ∷ []) = ap (λ (v : List Item × List Item). v.1) (law.clear_empty ([], item 0 ∷ []) refl) in cc
+    let e : ◌≡◌ {A = List Item} [] (item 0 ∷ []) = ap (λ (v : List Item × List Item). v.1) (law.clear_is ([], item 0 ∷ [])) in cc

@@ -48,7 +48,7 @@ abbrev pub pop_gives_pinned : Policy (List Item × List Item) Plain
 pop_gives_pinned = record pinning { pop = λ v. first_and (take_first v.1) (λ i rest. (v.0, rest)) }
 
 pub not-pop_gives_pinned : IsPolicy pop_gives_pinned → ⊥
-not-pop_gives_pinned law = omega (arith, law.pop_free ([], item 0 ∷ []) ([], []) (item 0) refl (once_alone (item 0)))
+not-pop_gives_pinned law = (let e : ◌≡◌ {A = List Item} [] (item 0 ∷ []) = law.pop_pinned ([], item 0 ∷ []) ([], []) (item 0) refl in cc)
 
 -- a pop that gives none while anything is pinned
 abbrev unless_pinned : List Item → Option (Item × (List Item × List Item)) → Option (Item × (List Item × List Item))
@@ -66,14 +66,14 @@ abbrev pub remove_unpins : Policy (List Item × List Item) Plain
 remove_unpins = record pinning { remove = λ v id. (remove_id id (v.0 ++ v.1), []) }
 
 pub not-remove_unpins : IsPolicy remove_unpins → ⊥
-not-remove_unpins law = (let e : ◌≡◌ {A = List Item} [] (item 1 ∷ []) = law.remove_pinned (item 0 ∷ [], item 1 ∷ []) 0 in cc)
+not-remove_unpins law = (let e : ◌≡◌ {A = List Item} [] (item 1 ∷ []) = law.remove_pinned (item 0 ∷ [], item 1 ∷ []) 0 once_pair in cc)
 
 -- a remove that spares what is pinned
 abbrev pub remove_spares_pinned : Policy (List Item × List Item) Plain
 remove_spares_pinned = record pinning { remove = λ v id. (remove_id id v.0, v.1) }
 
 pub not-remove_spares_pinned : IsPolicy remove_spares_pinned → ⊥
-not-remove_spares_pinned law = (let e : ◌≡◌ {A = List Item} (item 0 ∷ []) [] = law.remove_pinned ([], item 0 ∷ []) 0 in cc)
+not-remove_spares_pinned law = (let e : ◌≡◌ {A = List Item} (item 0 ∷ []) [] = law.remove_pinned ([], item 0 ∷ []) 0 (once_alone (item 0)) in cc)
 
 -- an acquire that pins all
 abbrev pub acquire_pins_all : Policy (List Item × List Item) Plain
