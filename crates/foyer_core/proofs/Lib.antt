@@ -1,5 +1,6 @@
 pub mod AdmitLemmas
 pub mod DrainLemmas
+pub mod Emplaced
 pub mod Evictions
 pub mod Forgetting
 pub mod Found
