@@ -1,6 +1,7 @@
 //! Records, the index, one shard and the sharded core of a cache.
 #![tactic(auto)]
 
+pub mod cache_core;
 pub mod config;
 pub mod entry;
 pub mod indexer;
@@ -12,6 +13,7 @@ pub mod shard;
 mod slot;
 pub mod weighter;
 
+pub use cache_core::CacheCore;
 pub use config::RawCacheConfig;
 pub use entry::{CoreEntry, Left};
 pub use indexer::{HashTableIndexer, Indexer};
