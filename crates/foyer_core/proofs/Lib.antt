@@ -9,6 +9,7 @@ pub mod InsertLemmas
 pub mod Keeps
 pub mod Keys
 pub mod LeaveLemmas
+pub mod LeftLemmas
 pub mod Leaving
 pub mod NumberLemmas
 pub mod Popped
