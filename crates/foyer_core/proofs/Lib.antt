@@ -1,3 +1,4 @@
+pub mod CoreLemmas
 pub mod DrainLemmas
 pub mod Evictions
 pub mod Found
