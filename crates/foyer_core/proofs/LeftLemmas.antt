@@ -14,7 +14,7 @@ use Rattle.foyer_core.specs.declared.record.Limits.{Limits}
 use Rattle.foyer_core.specs.declared.records.Records.{Records}
 use Rattle.foyer_core.specs.Values.{Kept, Rec, Gone}
 use Rattle.foyer_core.specs.Indexer.{same_key}
-use Rattle.foyer_core.specs.Table.{rec_of, slot_outside}
+use Rattle.foyer_core.specs.Table.{rec_of, slot_outside, id_by}
 use Rattle.foyer_core.specs.Records.{slot_in, number_of, record_in, id_in}
 use Rattle.foyer_core.specs.State.{Meaning, State, IsKept, key_of, item_of}
 use Rattle.foyer_core.specs.Steps.{after_out, outside}
@@ -40,6 +40,11 @@ outside_out {K} {V} {P} x y h = go (x.handles == 0) h where
 without-other : (id : ℕ) (i : Item) → i.id ≢ id → without id (Some i) ≡ Some i
 without-other id i n = elim (eqb_tells i.id id) [ inl e ↦ absurd (n e.1) | inr e ↦ rw e.0 refl ]
 
+-- `IsStored`, of slots as a function
+pub record IsStoredBy {K V P View C : Type 0} (m : Meaning K P View C) (at : ℕ → Option Item) (keys : ℕ × K → Option ℕ) (slots : ℕ → Option (Kept K V P)) : Type 0 where
+  pub led : (q : ℕ × K) (n : ℕ) → keys q ≡ Some n → is_some (slots n) ≡ true
+  pub placed : (n : ℕ) (s : Kept K V P) → slots n ≡ Some s → s.resident ≡ true → option_and_then at s.place ≡ Some (item_of m s.id s.kept)
+
 module _ {K V P View C : Type 0} (m : Meaning K P View C) (laws : IsEquivalence m.same) (good : IsPolicy m.policy) (o : Holding V m) where
   open o use {at, keys, t, number, capacity, limits, view, next, kept, stored}
 
@@ -57,9 +62,9 @@ module _ {K V P View C : Type 0} (m : Meaning K P View C) (laws : IsEquivalence 
     pub under : (q : ℕ × K) → keys q ≡ Some n → same_key m.same (key_of x.kept) q ≡ true
     under q led = ∥∥₁_elim kept (hlevel props) (λ k'. under_by k' q led)
 
-    module _ (t' : Records K V P) (write : (q : ℕ) → slot_in t' q ≡ update nat_eq (slot_in t) n (slot_outside x) q) (at' : ℕ → Option Item) (same : (p : ℕ) → at' p ≡ without x.id (at p))
+    module _ (f' : ℕ → Option (Kept K V P)) (write : (q : ℕ) → f' q ≡ update nat_eq (slot_in t) n (slot_outside x) q) (at' : ℕ → Option Item) (same : (p : ℕ) → at' p ≡ without x.id (at p))
         (keys' : ℕ × K → Option ℕ) (gone : (q : ℕ × K) → keys' q ≡ update (same_key m.same) keys (key_of x.kept) None q) where
-      other : (j : ℕ) → j ≢ n → slot_in t' j ≡ slot_in t j
+      other : (j : ℕ) → j ≢ n → f' j ≡ slot_in t j
       other j apart = write j ∙ update_apart (slot_in t) n (slot_outside x) j apart
 
       -- a key that still leads somewhere leads to another slot, and led there before
@@ -69,20 +74,20 @@ module _ {K V P View C : Type 0} (m : Meaning K P View C) (laws : IsEquivalence 
         go true e h = absurd cc
         go false e h = (h, λ is. let u = under q (h ∙ ap (λ (a : ℕ). Some a) is) in absurd cc)
 
-      pub left_index : (q : ℕ × K) → option_and_then (id_in t') (keys' q) ≡ update (same_key m.same) (λ (p : ℕ × K). option_and_then (id_in t) (keys p)) (key_of x.kept) None q
-      left_index q = ap (option_and_then (id_in t')) (gone q) ∙ go (same_key m.same (key_of x.kept) q) refl (keys q) refl where
-        go : (b : Bool) → same_key m.same (key_of x.kept) q ≡ b → (w : Option ℕ) → keys q ≡ w → option_and_then (id_in t') (cond b None w) ≡ cond b None (option_and_then (id_in t) w)
+      pub left_index : (q : ℕ × K) → option_and_then (id_by f') (keys' q) ≡ update (same_key m.same) (λ (p : ℕ × K). option_and_then (id_in t) (keys p)) (key_of x.kept) None q
+      left_index q = ap (option_and_then (id_by f')) (gone q) ∙ go (same_key m.same (key_of x.kept) q) refl (keys q) refl where
+        go : (b : Bool) → same_key m.same (key_of x.kept) q ≡ b → (w : Option ℕ) → keys q ≡ w → option_and_then (id_by f') (cond b None w) ≡ cond b None (option_and_then (id_in t) w)
         go true e w is = refl
         go false e None is = refl
         go false e (Some j) is =
             let apart : j ≢ n = (λ same. let u = under q (is ∙ ap (λ (a : ℕ). Some a) same) in absurd cc) in
             ap (option_map (λ (s : Kept K V P). s.id)) (other j apart)
 
-      pub left_stored : IsStored m at' keys' t'
+      pub left_stored : IsStoredBy m at' keys' f'
       left_stored = record {
         led = λ q j h. let l = led_still q j h in ap is_some (other j l.1) ∙ stored.led q j l.0;
         placed = λ j y h res. elim (eqb_tells j n) [
-            inl e ↦ (let out : slot_outside x ≡ Some y = sym (write n ∙ update_here (slot_in t) n (slot_outside x)) ∙ ap (slot_in t') (sym e.1) ∙ h in
+            inl e ↦ (let out : slot_outside x ≡ Some y = sym (write n ∙ update_here (slot_in t) n (slot_outside x)) ∙ ap f' (sym e.1) ∙ h in
               let f = outside_out x y out in absurd cc)
           | inr e ↦ (let was : slot_in t j ≡ Some y = sym (other j e.1) ∙ h in
               let old = stored.placed j y was res in
@@ -145,14 +150,14 @@ module _ {K V P View C : Type 0} (m : Meaning K P View C) (laws : IsEquivalence 
         same_x p = same p ∙ ap (λ (id : ℕ). without id (at p)) (sym victim_id)
 
         pub victim_after : state number capacity limits v keys' t' next ≡ record (after_out m now i.id (rec_of x)) { view = v }
-        victim_after = same_state (state number capacity limits v keys' t' next) (record (after_out m now i.id (rec_of x)) { view = v }) refl refl refl refl (left_index n x there t' write at' same_x keys' gone)
+        victim_after = same_state (state number capacity limits v keys' t' next) (record (after_out m now i.id (rec_of x)) { view = v }) refl refl refl refl (left_index n x there (slot_in t') write at' same_x keys' gone)
             (λ id. recs id ∙ ap (λ (a : ℕ). update nat_eq (record_in t) a (outside (rec_of x)) id) victim_id) refl
 
         pub victim_kept : ∥ IsKept m (state number capacity limits v keys' t' next) ∥₁
         victim_kept = ∥∥₁_map kept (λ k'. subst (IsKept m) (sym victim_after) (popped_keeps m laws good now k' i v popped (rec_of x) rec_there))
 
         pub victim_stored : IsStored m at' keys' t'
-        victim_stored = left_stored n x there t' write at' same_x keys' gone
+        victim_stored = (let l = left_stored n x there (slot_in t') write at' same_x keys' gone in record { led = l.led; placed = l.placed })
 
         pub victim_record : now.records i.id ≡ Some (rec_of x)
         victim_record = rec_there
