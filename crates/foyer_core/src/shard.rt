@@ -157,7 +157,7 @@ impl<E: Eviction, K: Key, V: Value, P: Properties, I: Indexer<K>> Shard<E, K, V,
             unreachable!();
         };
         let handles = found.handles();
-        if handles <= 1 {
+        if handles == 0 {
             return Err(entry);
         }
         entry.discard();
