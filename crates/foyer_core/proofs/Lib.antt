@@ -1,4 +1,5 @@
 pub mod AdmitLemmas
+pub mod CoreLemmas
 pub mod DrainLemmas
 pub mod Emplaced
 pub mod Evictions

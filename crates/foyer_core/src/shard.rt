@@ -26,6 +26,8 @@ use foyer_policy::{
 };
 use std::alloc::Global;
 
+mod handles;
+
 /// One shard of a cache. Contracts see its `State`: maps from hashed keys to ids and from ids to records.
 #[derive(Drop)]
 pub struct Shard<E: Eviction, K: Key, V: Value, P: Properties, I: Indexer<K>> {
