@@ -1,0 +1,28 @@
+//! The lines that a program reads, and the numbers that it prints. Nothing here allocates.
+
+mod number;
+mod parse;
+
+pub use number::number_of;
+pub use parse::line_of;
+
+/// A line of commands. Words are parted by spaces, and numbers are decimal.
+#[derive(Clone, Copy, Debug, PartialEq, Eq)]
+pub enum Line {
+    /// A line without words.
+    Blank,
+    /// `insert K V [W]`. A line that leaves out W means the weight 1.
+    Insert {
+        key: u64,
+        value: u64,
+        weight: usize,
+    },
+    /// `get K`.
+    Get(u64),
+    /// `contains K`.
+    Contains(u64),
+    /// `drop N`, of a handle's number.
+    Drop(u64),
+    /// Any other line.
+    Bad,
+}
