@@ -1,2 +1,5 @@
 pub mod NumberLemmas
+pub mod PrintLemmas
 pub mod WordLemmas
+pub mod LineLemmas
+pub mod KeptLemmas

@@ -1,5 +1,5 @@
 -- When a word is a number.
-use Rattle.std.proofs.Common.{◌≡◌, ℕ, ◌+◌, ◌-◌, ◌^◌, ◌<◌, ◌≤◌, ◌*◌, le-ltb, take_all, Bool, true, false, cond, ◌&&◌, List, length, get_or, take, Some, None, refl, sym, ap, ◌∙◌, subst, arith, ltb, leb, ltb-true, leb-true, lt-ltb, le-leb}
+use Rattle.std.proofs.Common.{◌≡◌, ℕ, ◌+◌, ◌-◌, ◌^◌, ◌<◌, ◌≤◌, ◌*◌, le-ltb, take_all, Bool, true, false, cond, ◌&&◌, List, length, get_or, take, Some, None, IfSome, refl, sym, ap, ◌∙◌, subst, arith, ltb, leb, ltb-true, leb-true, lt-ltb, le-leb}
 use Rattle.std.specs.Char.{digit_value}
 use Rattle.std.specs.Int.{IsInRange}
 use Rattle.std.specs.Str.{all_ascii_digits}
@@ -81,3 +81,12 @@ number_of-read word i value some short read front =
     let whole : take i word ≡ word = take_all i word read in
     let is : value ≡ digits_value 10 word = front.value_is ∙ ap (digits_value 10) whole in
     ap Some is ∙ sym (number_of-number word (record { some = some; short = short; digits = subst (AllDigits 10) whole front.digits; small = subst (λ v. v < 2 ^ 64) is front.small }))
+
+-- a number is short
+pub number_of-short : (word : List ℕ) → IfSome (number_of word) (λ _. length word ≤ 20)
+unfolding number_of
+number_of-short word = at (is_number word) (λ e. (IsNumber-from_test word e).short)
+  where
+    at : (b : Bool) → (b ≡ true → length word ≤ 20) → IfSome (cond b (Some (digits_value 10 word)) None) (λ _. length word ≤ 20)
+    at true h = h refl
+    at false h = tt

@@ -1,1 +1,4 @@
 pub mod Text
+pub mod Print
+pub mod Kept
+pub mod Reading

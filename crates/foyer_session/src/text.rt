@@ -1,10 +1,15 @@
 //! The lines that a program reads, and the numbers that it prints. Nothing here allocates.
 
+mod kept;
 mod number;
 mod parse;
+mod print;
+mod scan;
 
 pub use number::number_of;
 pub use parse::line_of;
+pub use print::{write_number, write_out, write_wide_number};
+pub use scan::read_line;
 
 /// A line of commands. Words are parted by spaces, and numbers are decimal.
 #[derive(Clone, Copy, Debug, PartialEq, Eq)]
