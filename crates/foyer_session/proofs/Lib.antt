@@ -3,3 +3,4 @@ pub mod PrintLemmas
 pub mod WordLemmas
 pub mod LineLemmas
 pub mod KeptLemmas
+pub mod ReadLemmas

@@ -56,17 +56,16 @@ fn read_cut_line<R: BufRead>(reader: &mut R) -> io::Result<Option<Line>>
     let mut kept = Kept::new();
     let mut is_started = false;
     for _turn in 0..u64::MAX {
-        match read_part(reader, &mut kept) {
-            Ok(Part::Nothing) => {}
-            Ok(Part::Open) => is_started = true,
-            Ok(Part::Closed) => return Ok(Some(kept.line())),
-            Ok(Part::End) => {
-                if is_started {
-                    return Ok(Some(kept.line()));
-                }
-                return Ok(None);
-            }
+        let part = match read_part(reader, &mut kept) {
+            Ok(part) => part,
             Err(e) => return Err(e),
+        };
+        match part {
+            Part::Nothing => {}
+            Part::Open => is_started = true,
+            Part::Closed => return Ok(Some(kept.line())),
+            Part::End if is_started => return Ok(Some(kept.line())),
+            Part::End => return Ok(None),
         }
     }
     Err(io::Error::from(ErrorKind::Other))
