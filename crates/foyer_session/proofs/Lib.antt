@@ -4,3 +4,4 @@ pub mod WordLemmas
 pub mod LineLemmas
 pub mod KeptLemmas
 pub mod ReadLemmas
+pub mod Joins

@@ -1,9 +1,9 @@
 -- The lines that the program reads.
-use Rattle.std.specs.Prelude.{ℕ, ◌==◌, ◌^◌, ◌&&◌, List, [], ◌∷◌, length, filter, Option, Some, None, option_map, option_and_then, nat_lt, nat_le, if◌then◌else◌, bytes_eq, codes}
+use Rattle.std.specs.Prelude.{◌≡◌, ℕ, ◌==◌, ◌^◌, ◌&&◌, List, [], ◌∷◌, length, filter, Option, Some, None, option_map, option_and_then, nat_lt, nat_le, if◌then◌else◌, bytes_eq, codes}
 use Rattle.std.specs.List.{slice_split}
 use Rattle.std.specs.Str.{all_ascii_digits}
 use Rattle.std.specs.Str.Parse.{digits_value}
-use Rattle.std.specs.Io.BufRead.{first_piece}
+use Rattle.std.specs.Io.BufRead.{first_piece, drop_through}
 use Rattle.foyer_session.specs.declared.text.Line.{Line}
 use Rattle.foyer_session.specs.declared.text.Line.TheVariants.{Blank, Insert, Get, Contains, Drop, Bad}
 
@@ -56,3 +56,8 @@ line_of bytes = line_of_words (words bytes)
 abbrev pub next_line : List ℕ → Option Line
 next_line [] = None
 next_line (b ∷ bs) = Some (line_of (first_piece 10 (b ∷ bs)))
+
+-- these are the first lines of the input, and this is left after them
+abbrev pub Lines : List ℕ → List Line → List ℕ → Type 0
+Lines input [] rest = rest ≡ input
+Lines input (line ∷ lines) rest = (next_line input ≡ Some line) × Lines (drop_through 10 input) lines rest
