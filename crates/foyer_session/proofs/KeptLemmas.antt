@@ -1,7 +1,6 @@
 -- What may be left out of a line.
-use Rattle.std.proofs.Common.{◌≡◌, ◌≢◌, ℕ, zero, suc, ◌+◌, ◌<◌, ◌≤◌, Bool, true, false, not, ◌&&◌, eqb, List, [], ◌∷◌, ◌++◌, length, take, set, refl, sym, ap, ◌∙◌, subst, arith, ⊎_elim, append_assoc, true≢false, length-append, length-take-le}
+use Rattle.std.proofs.Common.{◌≡◌, ◌≢◌, ℕ, suc, ◌<◌, ◌≤◌, true, not, ◌&&◌, eqb, List, [], ◌∷◌, ◌++◌, length, refl, sym, ap, ◌∙◌, subst, arith, ⊎_elim, append_assoc, true≢false}
 use Rattle.std.proofs.lemmas.Bool.{cases_eq, and_parts, and_from, and_left, and_right, not-true, not_from_false, eq-eqb, ne_eqb}
-use Rattle.std.proofs.lemmas.List.{take_more_set}
 use Rattle.foyer_session.specs.declared.text.Line.TheVariants.{Bad}
 use Rattle.foyer_session.specs.Text.{words, line_of, line_of_words}
 use Rattle.foyer_session.specs.Kept.{StandsFor, last_after, is_tight_after}

@@ -1,10 +1,9 @@
 -- Lines that are bad for their length.
-use Rattle.std.proofs.Common.{◌≡◌, ◌≢◌, ℕ, zero, suc, ◌+◌, ◌*◌, ◌<◌, ◌≤◌, Bool, true, false, cond, not, ◌&&◌, eqb, List, [], ◌∷◌, ◌++◌, length, Option, Some, None, IfSome, option_map, option_and_then, bytes_eq, codes, refl, sym, ap, ◌∙◌, subst, arith, ⊎_elim}
-use Rattle.std.proofs.lemmas.Bool.{false_from_ne_true, cases_eq, and_parts, eq-eqb}
+use Rattle.std.proofs.Common.{◌≡◌, ℕ, suc, ◌+◌, ◌*◌, ◌<◌, ◌≤◌, false, List, [], ◌∷◌, length, Option, Some, None, IfSome, option_map, option_and_then, bytes_eq, codes, refl, ap, arith}
+use Rattle.std.proofs.lemmas.Bool.{false_from_ne_true}
 use Rattle.std.proofs.lemmas.Slice.Eq.{bytes_eq-Decides}
 use Rattle.foyer_session.specs.declared.text.Line.TheVariants.{Bad}
-use Rattle.foyer_session.specs.Text.{words, number_of, numbers_of, line_with_one, line_with_two, line_with_three, line_with, line_of_words, line_of}
-use Rattle.foyer_session.specs.Kept.{is_tight_after}
+use Rattle.foyer_session.specs.Text.{number_of, numbers_of, line_with_one, line_with_two, line_with_three, line_with, line_of_words}
 use Rattle.foyer_session.proofs.NumberLemmas.{number_of-short}
 
 bytes_eq-long : (word name : List ℕ) → length name < length word → bytes_eq word name ≡ false

@@ -1,13 +1,9 @@
 -- Texts and digits that are written piece by piece.
-use Rattle.std.proofs.Common.{◌≡◌, ℕ, zero, suc, ◌+◌, ◌-◌, ◌*◌, ◌/◌, ◌%◌, ◌^◌, ◌<◌, ◌≤◌, List, [], ◌∷◌, ◌++◌, Some, None, Option, Result, Ok, Err, length, take, drop, set, decimal, refl, sym, ap, ◌∙◌, subst, arith, append_assoc, append-nil, length-append, length-drop, length-set}
-use Rattle.std.specs.Io.KnownBytes.{Appends, Keeps}
-use Rattle.std.specs.Str.Parse.{digits_value}
-use Rattle.std.proofs.KnownBytes.{Appends-nil, Appends-trans, Appends-kept}
-use Rattle.std.proofs.lemmas.List.{take_all, drop_all, drop-set, drop-append-le, take_rest}
-use Rattle.std.proofs.lemmas.Fmt.{decimal_is_IsNumeral, decimal_is_IsNumeral_wide, decimal_digit, decimal_step_wide, length-decimal-le, length-decimal-le_wide}
+use Rattle.std.proofs.Common.{◌≡◌, ℕ, zero, suc, ◌+◌, ◌-◌, ◌/◌, ◌%◌, ◌^◌, ◌<◌, ◌≤◌, List, [], ◌∷◌, ◌++◌, Some, length, take, drop, set, decimal, refl, sym, ap, ◌∙◌, arith, append_assoc, append-nil, length-append, length-drop, length-set}
+use Rattle.std.proofs.lemmas.List.{drop_all, drop-set, take_rest}
+use Rattle.std.proofs.lemmas.Fmt.{decimal_is_IsNumeral, decimal_is_IsNumeral_wide, decimal_digit, decimal_step_wide, length-decimal-le}
 use Rattle.foyer_session.specs.Text.{number_of}
-use Rattle.foyer_session.specs.Print.{WritesText}
-use Rattle.foyer_session.proofs.NumberLemmas.{IsNumber, number_of-number}
+use Rattle.foyer_session.proofs.NumberLemmas.{number_of-number}
 
 -- what is printed of a number is read as it
 pub number_of-decimal : (n : ℕ) → n < 2 ^ 64 → number_of (decimal n) ≡ Some n

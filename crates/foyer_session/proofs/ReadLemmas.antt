@@ -1,5 +1,5 @@
 -- A line that is read part by part.
-use Rattle.std.proofs.Common.{◌≡◌, ◌≢◌, ℕ, zero, suc, ◌+◌, ◌-◌, ◌<◌, ◌≤◌, Bool, true, false, cond, ◌&&◌, eqb, List, [], ◌∷◌, ◌++◌, Option, Some, None, IfSome, Result, Ok, Err, OnErr, All, length, get_or, take, drop, refl, sym, ap, ◌∙◌, subst, arith, append_assoc, append-nil, length-append, lt-ltb, true≢false}
+use Rattle.std.proofs.Common.{◌≡◌, ◌≢◌, ℕ, ◌+◌, ◌-◌, ◌<◌, ◌≤◌, Bool, true, false, List, [], ◌∷◌, ◌++◌, Option, Some, None, IfSome, Result, Ok, Err, OnErr, length, get_or, take, refl, sym, ap, ◌∙◌, subst, arith, append_assoc, append-nil, length-append, lt-ltb, true≢false}
 use Rattle.std.specs.Io.{StartsWith}
 use Rattle.std.specs.Io.KnownBytes.{Keeps, Consumes, IsAtEnd}
 use Rattle.std.specs.Io.BufRead.{take_through, drop_through, ends_with_byte, strip_last, first_piece, DropsThrough, DropsConsumable}
@@ -22,16 +22,16 @@ first_piece-closed front rest whole =
     let here : get_or (front ++ 10 ∷ []) (length (front ++ 10 ∷ []) - 1) 0 ≡ 10 = ap (λ k. get_or (front ++ 10 ∷ []) k 0) last ∙ get_or_push front 10 0 (length front) refl in
     let ends : ends_with_byte 10 (front ++ 10 ∷ []) ≡ true = and_from _ _ (lt-ltb 0 (length (front ++ 10 ∷ [])) (omega (arith, len))) (eq-eqb _ 10 here) in
     ap (strip_last 10) (take_through-append 10 front (10 ∷ rest) whole) ∙ cond-true (ends_with_byte 10 (front ++ 10 ∷ [])) _ _ ends
-        ∙ take_at front (10 ∷ []) _ (sym last)
+    ∙ take_at front (10 ∷ []) _ (sym last)
 
 -- the bytes of a line that the input ends
 first_piece-open : (front : List ℕ) → HasNoEnd front → first_piece 10 front ≡ front
 first_piece-open front whole =
     let all : take_through 10 front ≡ front = ap (take_through 10) (sym (append-nil front)) ∙ take_through-append 10 front [] whole ∙ append-nil front in
     let stays : ends_with_byte 10 front ≡ false = false_from_ne_true _ (λ e.
-        let (some, last) = and_parts _ _ e in
-        let pos = ltb-true 0 (length front) some in
-        All-get_or (λ b. b ≢ 10) front (length front - 1) 0 (omega (arith, pos)) whole (eqb-true _ 10 last)) in
+    let (some, last) = and_parts _ _ e in
+    let pos = ltb-true 0 (length front) some in
+    All-get_or (λ b. b ≢ 10) front (length front - 1) 0 (omega (arith, pos)) whole (eqb-true _ 10 last)) in
     ap (strip_last 10) all ∙ cond-false (ends_with_byte 10 front) _ _ stays
 
 next_line-some : (input : List ℕ) → 0 < length input → next_line input ≡ Some (line_of (first_piece 10 input))
@@ -160,4 +160,4 @@ pub line-whole : (known now then : Option (List ℕ)) (limit : Option ℕ) (byte
 line-whole known now then limit bytes end front at_end keeps fits whole inside is drops =
     let moved = Consumes_shown known now then limit bytes (end + 1) (omega arith) front at_end keeps fits drops in
     line-closed known known then [] (take end bytes) false (take end bytes) (so_far-none known) whole
-        (subst (Consumes known then) (take_closed bytes end inside is) moved.0) (StandsFor-refl (take end bytes))
+    (subst (Consumes known then) (take_closed bytes end inside is) moved.0) (StandsFor-refl (take end bytes))

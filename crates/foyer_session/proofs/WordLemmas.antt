@@ -1,5 +1,5 @@
 -- The words of a list of bytes.
-use Rattle.std.proofs.Common.{◌≡◌, ◌≢◌, ℕ, zero, suc, ◌+◌, ◌<◌, ◌≤◌, Bool, true, false, cond, nat_lt, List, [], ◌∷◌, ◌++◌, length, get_or, take, drop, filter, All, refl, sym, ap, ◌∙◌, subst, arith, eqb, ltb, lt-ltb, eq-eqb, ne_eqb, get_or-drop, take-append-drop, append-nil, ⊎_elim, ap₂, ◌-◌, length-drop}
+use Rattle.std.proofs.Common.{◌≡◌, ◌≢◌, ℕ, zero, suc, ◌+◌, ◌<◌, ◌≤◌, Bool, true, false, cond, nat_lt, List, [], ◌∷◌, ◌++◌, length, get_or, take, drop, filter, All, refl, sym, ap, ◌∙◌, arith, eqb, lt-ltb, ne_eqb, get_or-drop, take-append-drop, ⊎_elim, ap₂, ◌-◌, length-drop}
 use Rattle.std.specs.List.{slice_split, onto_first}
 use Rattle.std.proofs.lemmas.List.{drop_more, drop_all, take_all, take_rest, length-take-le, nil_from_length}
 use Rattle.std.proofs.lemmas.Bool.{cases_lt, eqb-false}
@@ -70,9 +70,9 @@ words-first bytes n some within h end = ⊎_elim more last (cases_lt n (length b
     more lt =
         let rest : drop n bytes ≡ 32 ∷ drop (n + 1) bytes = drop_more bytes n 0 lt ∙ ap (λ b. b ∷ drop (n + 1) bytes) (end lt) in
         ap words (sym (take-append-drop n bytes) ∙ ap (λ l. take n bytes ++ l) rest)
-            ∙ words-append_space (take n bytes) (drop (n + 1) bytes)
-            ∙ ap (λ l. l ++ words (drop (n + 1) bytes)) (words-word (take n bytes) long h)
-            ∙ ap (λ l. take n bytes ∷ l) (sym (words-space (drop (n + 1) bytes)) ∙ ap words (sym rest))
+        ∙ words-append_space (take n bytes) (drop (n + 1) bytes)
+        ∙ ap (λ l. l ++ words (drop (n + 1) bytes)) (words-word (take n bytes) long h)
+        ∙ ap (λ l. take n bytes ∷ l) (sym (words-space (drop (n + 1) bytes)) ∙ ap words (sym rest))
 
     last : length bytes ≤ n → words bytes ≡ take n bytes ∷ words (drop n bytes)
     last le =

@@ -17,11 +17,7 @@ pub enum Line {
     /// A line without words.
     Blank,
     /// `insert K V [W]`. A line that leaves out W means the weight 1.
-    Insert {
-        key: u64,
-        value: u64,
-        weight: usize,
-    },
+    Insert { key: u64, value: u64, weight: usize },
     /// `get K`.
     Get(u64),
     /// `contains K`.
@@ -31,3 +27,6 @@ pub enum Line {
     /// Any other line.
     Bad,
 }
+
+#[cfg(test)]
+mod tests;

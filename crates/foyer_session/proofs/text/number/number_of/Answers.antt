@@ -1,4 +1,4 @@
-use Rattle.std.proofs.Common.{sym, arith, rules, eqb-true, ◌∙◌}
+use Rattle.std.proofs.Common.{sym, arith, eqb-true, ◌∙◌}
 use Rattle.foyer_session.proofs.NumberLemmas.{number_of-other, number_of-stopped, number_of-read, IsFront-more}
 use Rattle.foyer_session.proofs.text.number.number_of.Goals as goal
 

@@ -1,4 +1,4 @@
-use Rattle.std.proofs.Common.{sym, ap, length, ◌∙◌, arith, rules, eqb-true}
+use Rattle.std.proofs.Common.{sym, ap, length, ◌∙◌, eqb-true}
 use Rattle.foyer_session.proofs.WordLemmas.{words-spaces, words-next, slice_rest, some_from_test}
 use Rattle.foyer_session.proofs.text.parse.next_word.Goals as goal
 
@@ -10,5 +10,5 @@ returns-then-is_empty-clause-none c =
 pub returns-clause-some : goal.returns-clause-some
 returns-clause-some c =
     words-next c.spaces_len.result c.len_before.result c.args.bytes.now _ c.split_at.result.0.now c.split_at.result.1.now
-        (slice_rest c.spaces_len.result c.args.bytes.now) c.spaces_len.ensures.spaces c.spaces_len.ensures.end (some_from_test _ _ c.is_empty.ensures c.if-is_empty.false)
-        c.len_before.ensures.within c.len_before.ensures.before c.len_before.ensures.end c.split_at.ensures.front c.split_at.ensures.back
+    (slice_rest c.spaces_len.result c.args.bytes.now) c.spaces_len.ensures.spaces c.spaces_len.ensures.end (some_from_test _ _ c.is_empty.ensures c.if-is_empty.false)
+    c.len_before.ensures.within c.len_before.ensures.before c.len_before.ensures.end c.split_at.ensures.front c.split_at.ensures.back

@@ -1,5 +1,5 @@
 use Rattle.std.proofs.Common.{arith}
-use Rattle.foyer_session.proofs.PrintLemmas.{Fills-none, Fills-more, Fills-last}
+use Rattle.foyer_session.proofs.PrintLemmas.{Fills-none, Fills-more}
 use Rattle.foyer_session.proofs.text.print.fill_wide_digits.Goals as goal
 
 pub loop-front-init : goal.loop-front-init

@@ -1,4 +1,4 @@
-use Rattle.std.proofs.Common.{◌≡◌, length, take, arith, sym, length-drop}
+use Rattle.std.proofs.Common.{arith, sym, length-drop}
 use Rattle.std.proofs.KnownBytes.{Appends-trans, Appends-kept}
 use Rattle.foyer_session.proofs.PrintLemmas.{take_on, slice_from}
 use Rattle.foyer_session.proofs.text.print.write_out.Goals as goal
@@ -10,13 +10,13 @@ loop-turn-preserved g c =
     let at = c.loop-turn.at in
     let so_far = c.loop-turn.invariant in
     elim c.match-write.branch [
-      in-Ok w ↦
-        let e = rw (slice_from at text) at w.in-Ok.ensures in
-        rw w.at-is record {
-          within = omega (arith, e.bound, length-drop at text, so_far.within);
-          written = rw (sym (take_on at w.in-Ok.n text so_far.within)) (Appends-trans (g.W.Write.contents c.args.writer.now) (g.W.Write.contents c.loop-turn.writer) (g.W.Write.contents c.write.new.self) _ _ so_far.written e.bytes);
-        }
-    | in-Err+else-ne w ↦ rw w.at-is record {
+      | in-Ok w ↦
+          let e = rw (slice_from at text) at w.in-Ok.ensures in
+          rw w.at-is record {
+            within = omega (arith, e.bound, length-drop at text, so_far.within);
+            written = rw (sym (take_on at w.in-Ok.n text so_far.within)) (Appends-trans (g.W.Write.contents c.args.writer.now) (g.W.Write.contents c.loop-turn.writer) (g.W.Write.contents c.write.new.self) _ _ so_far.written e.bytes);
+          }
+      | in-Err+else-ne w ↦ rw w.at-is record {
         within = so_far.within;
         written = Appends-kept (g.W.Write.contents c.args.writer.now) (g.W.Write.contents c.loop-turn.writer) (g.W.Write.contents c.write.new.self) _ so_far.written w.in-Err.ensures.bytes;
       }

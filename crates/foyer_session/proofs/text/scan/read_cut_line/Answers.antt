@@ -1,5 +1,4 @@
-use Rattle.std.proofs.Common.{◌≡◌, Option, Some, IfSome, sym, subst}
-use Rattle.foyer_session.specs.Text.{next_line}
+use Rattle.std.proofs.Common.{subst}
 use Rattle.foyer_session.specs.Reading.{TakesPart}
 use Rattle.foyer_session.proofs.ReadLemmas.{so_far-kept, so_far-more, line-closed, line-ended, IsLine-same}
 use Rattle.foyer_session.proofs.text.scan.read_cut_line.Goals as goal
@@ -28,9 +27,9 @@ returns-in-End-clause-rest g c =
 pub loop-turn-preserved : goal.loop-turn-preserved
 loop-turn-preserved g c = elim c.match-part.branch [
   | in-Nothing w ↦
-    let (keeps, same) = subst (TakesPart _ _ _ _) w.in-Nothing.is c.in-Ok.ensures.taken in
-    rw w.is_started-is (so_far-kept _ _ _ _ _ _ c.loop-turn.invariant keeps same)
+      let (keeps, same) = subst (TakesPart _ _ _ _) w.in-Nothing.is c.in-Ok.ensures.taken in
+      rw w.is_started-is (so_far-kept _ _ _ _ _ _ c.loop-turn.invariant keeps same)
   | in-Open w ↦
-    let (text, more, whole, consumes, stands) = subst (TakesPart _ _ _ _) w.in-Open.is c.in-Ok.ensures.taken in
-    rw w.is_started-is (so_far-more _ _ _ _ _ _ text c.loop-turn.invariant more whole consumes stands)
+      let (text, more, whole, consumes, stands) = subst (TakesPart _ _ _ _) w.in-Open.is c.in-Ok.ensures.taken in
+      rw w.is_started-is (so_far-more _ _ _ _ _ _ text c.loop-turn.invariant more whole consumes stands)
 ]

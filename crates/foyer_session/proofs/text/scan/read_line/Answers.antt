@@ -14,7 +14,7 @@ returns-clause-line g c =
     let filled = subst (FillKeeps _ (g.R.Read.remaining rested) (g.R.BufRead.consumable_len rested)) c.in-Ok.is c.fill_buf.follows.holds-at-none in
     let inside : end.result < length chunk = omega (arith, end.ensures.within, c.if-end-chunk.false) in
     IsLine-same (g.R.Read.remaining c.args.reader.now) c.line_of-line.ensures
-        (line-whole _ _ _ _ chunk end.result c.in-Ok.ensures.front c.in-Ok.ensures.end filled.0 filled.1 end.ensures.before inside (end.ensures.end inside) c.consume.ensures.bytes).line
+    (line-whole _ _ _ _ chunk end.result c.in-Ok.ensures.front c.in-Ok.ensures.end filled.0 filled.1 end.ensures.before inside (end.ensures.end inside) c.consume.ensures.bytes).line
 
 pub returns-clause-rest : goal.returns-clause-rest
 returns-clause-rest g c =

@@ -1,8 +1,7 @@
-use Rattle.std.proofs.Common.{◌≡◌, ◌<◌, ◌+◌, ◌-◌, ◌++◌, take, length, length-take-le, subst, arith}
+use Rattle.std.proofs.Common.{◌<◌, ◌+◌, take, length, length-take-le, subst, arith}
 use Rattle.std.specs.Io.KnownBytes.{Consumes}
 use Rattle.std.specs.Io.BufRead.{FillKeeps}
 use Rattle.std.proofs.BufReadLemmas.{Consumes_shown}
-use Rattle.foyer_session.specs.Kept.{StandsFor}
 use Rattle.foyer_session.proofs.ReadLemmas.{take_closed}
 use Rattle.foyer_session.proofs.WordLemmas.{some_from_test}
 use Rattle.foyer_session.proofs.text.scan.read_part.Goals as goal

@@ -1,4 +1,4 @@
-use Rattle.std.proofs.Common.{◌≡◌, ◌<◌, ◌∷◌, [], ◌++◌, Bool, true, not, ◌&&◌, eqb, length, take, sym, ap, ◌∙◌, subst, arith, length-take-le}
+use Rattle.std.proofs.Common.{◌≡◌, ◌<◌, ◌∷◌, [], ◌++◌, true, not, ◌&&◌, eqb, length, take, sym, ap, ◌∙◌, subst, arith, length-take-le}
 use Rattle.std.proofs.lemmas.List.{take_more_set}
 use Rattle.foyer_session.specs.Kept.{StandsFor, last_after, is_tight_after}
 use Rattle.foyer_session.proofs.KeptLemmas.{StandsFor-space, StandsFor-full, apart_by_last, apart_by_byte, last_after-push, is_tight_after-push}
