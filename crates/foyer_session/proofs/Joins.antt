@@ -2,6 +2,7 @@
 use Rattle.std.proofs.Common.{◌≡◌, ℕ, zero, suc, ◌+◌, List, [], ◌∷◌, ◌++◌, Option, Some, None, IfSome, Result, Ok, Err, length, take, refl, sym, ap, ◌∙◌, subst, arith, append_assoc, append-nil}
 use Rattle.std.specs.Io.KnownBytes.{Appends}
 use Rattle.std.specs.Io.BufRead.{drop_through, DropsThrough}
+use Rattle.std.proofs.Math.Seq.{take-append-add}
 use Rattle.std.proofs.KnownBytes.{Appends-nil, Appends-trans}
 use Rattle.std.proofs.lemmas.List.{take_all}
 use Rattle.foyer_session.specs.declared.text.Line.{Line}
@@ -11,10 +12,6 @@ use Rattle.foyer_session.specs.Told.{Told, ToldOf, TellsAll, TellsPart}
 
 -- ---- pieces of a text
 
-take-over : (xs ys : List ℕ) (n : ℕ) → take (length xs + n) (xs ++ ys) ≡ xs ++ take n ys
-take-over [] ys n = let e : 0 + n ≡ n = omega arith in rw e refl
-take-over (x ∷ xs) ys n = let e : suc (length xs) + n ≡ suc (length xs + n) = omega arith in rw e (ap (λ zs. x ∷ zs) (take-over xs ys n))
-
 -- a beginning of the front is one of the whole
 take-front : (xs ys : List ℕ) (n : ℕ) → (m : ℕ) × (take n xs ≡ take m (xs ++ ys))
 take-front xs ys zero = (0, refl)
@@ -23,7 +20,7 @@ take-front (x ∷ xs) ys (suc n) = let (m, is) = take-front xs ys n in (suc m, a
 
 -- a piece was written, and a beginning of the rest
 pub AppendsFront-after : (a b c : Option (List ℕ)) (xs ys : List ℕ) → Appends a b xs → AppendsFront b c ys → AppendsFront a c (xs ++ ys)
-AppendsFront-after a b c xs ys h (n, k) = (length xs + n, rw (take-over xs ys n) (Appends-trans a b c xs (take n ys) h k))
+AppendsFront-after a b c xs ys h (n, k) = (length xs + n, rw (take-append-add xs ys n) (Appends-trans a b c xs (take n ys) h k))
 
 -- a beginning of a piece was written, and nothing of the rest
 pub AppendsFront-append : (a b : Option (List ℕ)) (xs ys : List ℕ) → AppendsFront a b xs → AppendsFront a b (xs ++ ys)

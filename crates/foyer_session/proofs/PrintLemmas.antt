@@ -1,6 +1,6 @@
 -- Texts and digits that are written piece by piece.
-use Rattle.std.proofs.Common.{◌≡◌, ℕ, zero, suc, ◌+◌, ◌-◌, ◌/◌, ◌%◌, ◌^◌, ◌<◌, ◌≤◌, List, [], ◌∷◌, ◌++◌, Some, length, take, drop, set, decimal, refl, sym, ap, ◌∙◌, arith, append_assoc, append-nil, length-append, length-drop, length-set}
-use Rattle.std.proofs.lemmas.List.{drop_all, drop-set, take_rest}
+use Rattle.std.proofs.Common.{◌≡◌, ℕ, ◌+◌, ◌-◌, ◌/◌, ◌%◌, ◌^◌, ◌<◌, ◌≤◌, List, [], ◌∷◌, ◌++◌, Some, length, drop, set, decimal, sym, ap, ◌∙◌, arith, append_assoc, append-nil, length-append, length-drop, length-set}
+use Rattle.std.proofs.lemmas.List.{drop_all, drop-set}
 use Rattle.std.proofs.lemmas.Fmt.{decimal_is_IsNumeral, decimal_is_IsNumeral_wide, decimal_digit, decimal_step_wide, length-decimal-le}
 use Rattle.foyer_session.specs.Text.{number_of}
 use Rattle.foyer_session.proofs.NumberLemmas.{number_of-number}
@@ -60,13 +60,3 @@ Fills-more number front start buffer fits f more =
 pub Fills-last : (number front start : ℕ) (buffer : List ℕ) → Fills number front start buffer → front < 10 → drop (start - 1) (set buffer (start - 1) (48 + front)) ≡ decimal number
 Fills-last number front start buffer f last =
     drop-written start (48 + front) buffer f.within f.room ∙ ap (λ l. l ++ drop start buffer) (sym (decimal_digit front last)) ∙ sym f.text
-
--- a beginning of the rest after the first i
-pub take_on : (i n : ℕ) (xs : List ℕ) → i ≤ length xs → take i xs ++ take n (drop i xs) ≡ take (i + n) xs
-take_on zero n xs le = let e : 0 + n ≡ n = omega arith in rw e refl
-take_on (suc i) n [] le = absurd (omega arith)
-take_on (suc i) n (x ∷ xs) le = let e : suc i + n ≡ suc (i + n) = omega arith in rw e (ap (λ ys. x ∷ ys) (take_on i n xs (omega arith)))
-
--- the text from a place on, as a slice has it
-pub slice_from : (i : ℕ) (xs : List ℕ) → take (length xs - i) (drop i xs) ≡ drop i xs
-slice_from i xs = take_rest xs i

@@ -140,11 +140,7 @@ line-ended known now then kept next is_started s started end keeps same = at kno
           rest = left ∙ ap Some (sym (ap (drop_through 10) is ∙ drop_through-open s.done s.whole));
         }
 
--- the reader failed
-pub stops_within : (known now then : Option (List ℕ)) (kept : List ℕ) (is_started : Bool) → ReadSoFar known now kept is_started → Keeps now then → StopsWithin known then
-stops_within known now then kept is_started s keeps = (s.done, s.whole, Consumes-kept known now then s.done s.consumes keeps)
-
--- it failed after a call that took nothing
+-- the reader failed after a call that took nothing
 pub stops_later : {T E : Type 0} (known now then : Option (List ℕ)) (result : Result T E) → Keeps known now → OnErr result (StopsWithin now then) → OnErr result (StopsWithin known then)
 stops_later known now then (Ok x) keeps h = tt
 stops_later known now then (Err e) keeps (part, whole, consumes) =

@@ -1,7 +1,7 @@
 -- The words of a list of bytes.
-use Rattle.std.proofs.Common.{◌≡◌, ◌≢◌, ℕ, zero, suc, ◌+◌, ◌<◌, ◌≤◌, Bool, true, false, cond, nat_lt, List, [], ◌∷◌, ◌++◌, length, get_or, take, drop, filter, All, refl, sym, ap, ◌∙◌, arith, eqb, lt-ltb, ne_eqb, get_or-drop, take-append-drop, ⊎_elim, ap₂, ◌-◌, length-drop}
+use Rattle.std.proofs.Common.{◌≡◌, ◌≢◌, ℕ, zero, suc, ◌+◌, ◌<◌, ◌≤◌, Bool, true, false, cond, nat_lt, List, [], ◌∷◌, ◌++◌, length, get_or, take, drop, filter, All, refl, sym, ap, ◌∙◌, arith, eqb, lt-ltb, ne_eqb, get_or-drop, take-append-drop, ⊎_elim, ap₂, length-drop}
 use Rattle.std.specs.List.{slice_split, onto_first}
-use Rattle.std.proofs.lemmas.List.{drop_more, drop_all, take_all, take_rest, length-take-le, nil_from_length}
+use Rattle.std.proofs.lemmas.List.{drop_more, drop_all, take_all, length-take-le, nil_from_length}
 use Rattle.std.proofs.lemmas.Bool.{cases_lt, eqb-false}
 use Rattle.std.proofs.lemmas.List.Elements.{All-nil, All-cons, All-head, All-tail, All-weaker, filter-append}
 use Rattle.std.proofs.lemmas.List.Splits.{slice_split-cons_no, slice_split_none, length-slice_split}
@@ -78,10 +78,6 @@ words-first bytes n some within h end = ⊎_elim more last (cases_lt n (length b
     last le =
         let whole : take n bytes ≡ bytes = take_all n bytes le in
         ap words (sym whole) ∙ words-word (take n bytes) long h ∙ ap (λ l. take n bytes ∷ l) (sym words-nil ∙ ap words (sym (drop_all n bytes le)))
-
--- the bytes from a place on, as a slice has them
-pub slice_rest : (i : ℕ) (bytes : List ℕ) → take (length bytes - i) (drop i bytes) ≡ drop i bytes
-slice_rest i bytes = take_rest bytes i
 
 -- spaces alone
 pub words-spaces : (i : ℕ) (bytes : List ℕ) → All (λ b. b ≡ 32) (take i bytes) → length (drop i bytes) ≡ 0 → words bytes ≡ []

@@ -24,13 +24,14 @@ pub(super) struct Kept {
 
 impl Model for Kept {
     ghost use Rattle.std.specs.Prelude.{◌≡◌, ℕ, ◌≤◌, List, take, true};
+    ghost use Rattle.foyer_session.specs.declared.text.kept.TheConstants.{MOST};
     ghost use Rattle.foyer_session.specs.Kept.{last_after, is_tight_after};
 
     ghost Value = { List ℕ };
 
     ghost view = { λ k. take k.len k.bytes };
 
-    ghost invariant = { λ k. (k.len ≤ 85) × (k.last ≡ last_after 32 (take k.len k.bytes))
+    ghost invariant = { λ k. (k.len ≤ MOST) × (k.last ≡ last_after 32 (take k.len k.bytes))
         × (is_tight_after 32 (take k.len k.bytes) ≡ true) };
 }
 

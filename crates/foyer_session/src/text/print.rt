@@ -1,16 +1,20 @@
 //! Texts and numbers for a writer.
 
-ghost use Rattle.std.specs.Prelude.{◌≡◌, ℕ, ◌-◌, ◌^◌, ◌<◌, ◌≤◌, ◌++◌, length, drop, take, decimal, Some};
+ghost use Rattle.std.specs.Prelude.{◌≡◌, ◌≢◌, ◌≤◌, IfErr, decimal, drop, length};
+ghost use Rattle.std.specs.IoError.{error_kind};
 ghost use Rattle.foyer_session.specs.Text.{number_of};
 ghost use Rattle.foyer_session.specs.Print.{WritesText};
 
 use std::io;
 use std::io::{ErrorKind, Write};
 
-/// Writes a text. It retries after an interruption, and fails where the writer does or takes no byte.
-/// At `Err` a beginning of the text was written.
+/// Writes a text. At `Err` a beginning of it was written.
+///
+/// It goes on after an interruption, and fails only where the writer fails or takes no byte, or after
+/// 2^64 calls.
 pub fn write_out<W: Write>(writer: &mut W, text: &[u8]) -> io::Result<()>
-    ensures { WritesText (W.contents writer.old) (W.contents writer.new) result text.now }
+    ensures text { WritesText (W.contents writer.old) (W.contents writer.new) result text.now }
+    ensures retried { IfErr result (λ e. error_kind e ≢ ErrorKind.Interrupted) }
 {
     let mut at = 0;
     for _turn in 0..u64::MAX {
@@ -30,9 +34,11 @@ pub fn write_out<W: Write>(writer: &mut W, text: &[u8]) -> io::Result<()>
     Err(io::Error::from(ErrorKind::Other))
 }
 
-/// Writes a number in decimal, with no leading zero. At `Err` a beginning of it was written.
+/// Writes a number in decimal, with no leading zeros, so that `number_of` reads it back. It fails as
+/// `write_out` does.
 pub fn write_number<W: Write>(writer: &mut W, number: u64) -> io::Result<()>
     ensures text { WritesText (W.contents writer.old) (W.contents writer.new) result (decimal number) }
+    ensures retried { IfErr result (λ e. error_kind e ≢ ErrorKind.Interrupted) }
     ensures read_back { number_of (decimal number) ≡ Some number }
 {
     let mut digits = [0; 20];
@@ -42,7 +48,8 @@ pub fn write_number<W: Write>(writer: &mut W, number: u64) -> io::Result<()>
 
 /// Writes a number of up to 128 bits, as `write_number` does.
 pub fn write_wide_number<W: Write>(writer: &mut W, number: u128) -> io::Result<()>
-    ensures { WritesText (W.contents writer.old) (W.contents writer.new) result (decimal number) }
+    ensures text { WritesText (W.contents writer.old) (W.contents writer.new) result (decimal number) }
+    ensures retried { IfErr result (λ e. error_kind e ≢ ErrorKind.Interrupted) }
 {
     if let Ok(number) = u64::try_from(number) {
         return write_number(writer, number);

@@ -13,10 +13,10 @@ use super::parse::{len_before, line_of};
 use std::io;
 use std::io::{BufRead, ErrorKind};
 
-/// Reads the next line, or `None` at the end of the input. A line ends at a byte 10 or at the end.
+/// Reads the next line, which a byte 10 or the end of the input ends. At the end it gives `None`.
 ///
-/// It retries after an interruption, and fails where the reader does, or after 2^64 tries. It then has
-/// taken some bytes of the line, but not its end.
+/// It goes on after an interruption, and fails only where the reader fails, or after 2^64 calls. At
+/// `Err` some bytes of the line may have been taken, but not its end.
 pub fn read_line<R: BufRead>(reader: &mut R) -> io::Result<Option<Line>>
     ensures line { IfOk result (λ line. IfSome (R.remaining reader.old)
         (λ input. line ≡ next_line input)) }
@@ -46,6 +46,8 @@ pub fn read_line<R: BufRead>(reader: &mut R) -> io::Result<Option<Line>>
 }
 
 // Reads the next line as `read_line` does, by one part after another.
+#[cold]
+#[inline(never)]
 fn read_cut_line<R: BufRead>(reader: &mut R) -> io::Result<Option<Line>>
     ensures line { IfOk result (λ line. IfSome (R.remaining reader.old)
         (λ input. line ≡ next_line input)) }
