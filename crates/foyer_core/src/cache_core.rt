@@ -46,8 +46,7 @@ impl<
     S: HashBuilder,
     W: Weighter<K, V>,
     N: Drop,
-> CacheCore<E, K, V, P, S, W, N>
-{
+> CacheCore<E, K, V, P, S, W, N> {
     ghost use Rattle.foyer_core.specs.Core.{IsNewCore};
     ghost use Rattle.foyer_core.specs.Cores.{core_of, meaning_of_core};
 
@@ -88,8 +87,7 @@ impl<
     W: Weighter<K, V>,
     N: Drop,
     I: Indexer<K>,
-> CacheCore<E, K, V, P, S, W, N, I>
-{
+> CacheCore<E, K, V, P, S, W, N, I> {
     ghost use Rattle.foyer_core.specs.Core.{AtShard, AnswersNobody, InsertsWeighed, Owns, hit_in, usage_of_core, entries_of_core};
     ghost use Rattle.foyer_core.specs.Cores.{core_of, meaning_of_core};
     ghost use Rattle.foyer_core.specs.Steps.{Gets, GivesBack};
