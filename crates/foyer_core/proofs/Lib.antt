@@ -1,6 +1,7 @@
 pub mod AdmitLemmas
 pub mod CoreLemmas
 pub mod DrainLemmas
+pub mod Emplaced
 pub mod Evictions
 pub mod Forgetting
 pub mod Found
