@@ -80,6 +80,14 @@ fn found(rt: &impl Abort, core: &mut Core, key: u64) -> Entry {
     }
 }
 
+// An entry that the core does not own comes back.
+fn returned(rt: &impl Abort, core: &mut Core, entry: Entry) -> Entry {
+    match core.give_back(entry) {
+        Ok(_) => panic!(rt; "another core's entry was taken"),
+        Err(entry) => entry,
+    }
+}
+
 // Puts a value in and lets its entry go: what left, as reasons and keys.
 fn leaves_of(
     rt: &impl Abort,
@@ -87,11 +95,11 @@ fn leaves_of(
     core: &mut Core,
     key: u64,
 ) -> std::result::Result<Vec<(Event, u64)>, Fail> {
-    let (entry, leaves) = put(rt, core, key, 10 * key);
+    let (entry, leaves) = put(rt, core, key, key.wrapping_mul(10));
     release(rt, core, entry);
     let mut told = Vec::new(alloc);
     for (event, left) in &leaves {
-        assert_eq!(rt; *left.value(), 10 * *left.key());
+        assert_eq!(rt; *left.value(), left.key().wrapping_mul(10));
         told.push((*event, *left.key()))?;
     }
     Ok(told)
@@ -163,10 +171,8 @@ fn a_core_owns_its_entries_alone(rt: HostRuntime) -> std::result::Result<(), Fai
     let (entry, _) = put(&rt, &mut one, 1, 10);
     let (other, _) = put(&rt, &mut two, 1, 20);
     assert!(rt; one.owns(&entry) && !two.owns(&entry) && two.owns(&other) && !one.owns(&other));
-    match two.give_back(entry) {
-        Ok(_) => assert!(rt; false, "another core's entry was taken"),
-        Err(entry) => release(&rt, &mut one, entry),
-    }
+    let entry = returned(&rt, &mut two, entry);
+    release(&rt, &mut one, entry);
     release(&rt, &mut two, other);
     Ok(())
 }
