@@ -183,6 +183,7 @@ fn gets_find_what_was_inserted(rt: HostRuntime) -> std::result::Result<(), Fail>
     assert_eq!(rt; core.capacity(), 100);
     assert_eq!(rt; core.shards(), 1);
     assert_eq!(rt; core.hash(&7), 7);
+    assert_eq!(rt; HashBuilder::hash_one(core.hash_builder(), &7u64), 7);
     for key in 0..100 {
         assert!(rt; leaves_of(&rt, rt.alloc(), &mut core, key)?.is_empty());
     }
