@@ -1,6 +1,4 @@
 use Rattle.std.proofs.lemmas.Result.{IfOk-weaker}
-use Rattle.foyer_core.specs.Core.{AtShard}
-use Rattle.foyer_core.specs.Cores.{core_of}
 use Rattle.foyer_core.specs.Shards.{meaning_of, state_of}
 use Rattle.foyer_core.specs.Steps.{GivesBack}
 use Rattle.foyer_core.proofs.CoreLemmas.{at_one}

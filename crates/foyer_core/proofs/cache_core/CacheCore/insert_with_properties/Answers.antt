@@ -1,8 +1,6 @@
-use Rattle.std.proofs.Common.{Ok, Err}
-use Rattle.foyer_core.specs.Cores.{core_of, meaning_of_core}
-use Rattle.foyer_core.specs.Core.{InsertsAnswering, InsertsWeighed}
+use Rattle.foyer_core.specs.Cores.{core_of}
+use Rattle.foyer_core.specs.Core.{InsertsWeighed}
 use Rattle.foyer_core.specs.Shards.{meaning_of, state_of}
-use Rattle.foyer_core.specs.Steps.{Inserts, RefusesInsert}
 use Rattle.foyer_core.proofs.CoreLemmas.{inserts_one}
 use Rattle.foyer_core.proofs.StoredLemmas.{err_is}
 use Rattle.foyer_core.proofs.cache_core.CacheCore.insert_with_properties.Goals as goal
