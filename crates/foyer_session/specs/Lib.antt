@@ -1,0 +1,5 @@
+pub mod Text
+pub mod Print
+pub mod Kept
+pub mod Reading
+pub mod Told
