@@ -7,7 +7,7 @@ use Rattle.foyer_policy.specs.declared.types.Event.{Event}
 use Rattle.foyer_policy.specs.declared.types.Event.TheVariants.{Evict}
 use Rattle.foyer_core.specs.Values.{Rec, Gone}
 use Rattle.foyer_core.specs.State.{Meaning, State, usage_of}
-use Rattle.foyer_core.specs.Steps.{after_out, gone_of, ids_of, Leave, Evicting, Evicts}
+use Rattle.foyer_core.specs.Steps.{EvictsOne, after_out, gone_of, ids_of, Leave, Evicting, Evicts}
 use Rattle.foyer_core.proofs.Popped.{pop_weight, pop_shorter, pops_some, victims_none, after_pops_more, until_low, until_more}
 
 module _ {K V P View C : Type 0} (m : Meaning K P View C) where
@@ -84,3 +84,11 @@ module _ {K V P View C : Type 0} (m : Meaning K P View C) where
           (Leave-snoc Evict (ids_of h.left) old ls (after_pops m.policy (length h.left) old.view) now i.id r v h.leave there);
         view = more_view;
       }
+
+-- one eviction more
+pub begun-evicts : {K V P View C : Type 0} (m : Meaning K P View C) (good : IsPolicy m.policy) (target : ℕ) (old : State K V P View) (ls : List (Event × Gone K V P)) (now : State K V P View)
+    → Begun m target old ls now → target < usage_of m now → (gone : Gone K V P) (new : State K V P View) → EvictsOne m now gone new → Begun m target old (ls ++ (Evict, gone) ∷ []) new
+begun-evicts {K} {V} {P} {View} m good target old ls now begun above gone new e =
+    subst (λ (g : Gone K V P). Begun m target old (ls ++ (Evict, g) ∷ []) new) (sym e.gone_is)
+      (subst (λ (s : State K V P View). Begun m target old (ls ++ (Evict, gone_of e.item.id e.rec) ∷ []) s) (sym e.after)
+        (begun-more m good target old ls now begun above e.item e.view e.popped e.rec e.there))

@@ -79,12 +79,12 @@ module _ {K V P View C : Type 0} (m : Meaning K P View C) (laws : IsEquivalence 
 
       pub removed_keeps : IsKept m (record (after_out m s id r) { view = m.policy.remove s.view id })
       removed_keeps = leaving.leave_keeps m laws s kept (item_of m id r.kept) (m.policy.remove s.view id) r there remove_takes (λ j pos.
-          let e : count_of j (m.policy.pinned (m.policy.remove s.view id)) ≡ count_of j (remove_id id (m.policy.pinned s.view)) = ap (count_of j) (good.remove_pinned s.view id) in
+          let e : count_of j (m.policy.pinned (m.policy.remove s.view id)) ≡ count_of j (remove_id id (m.policy.pinned s.view)) = ap (count_of j) (good.remove_pinned s.view id kept.once) in
           omega (arith, sum-removed (one_if j) id (m.policy.pinned s.view)))
 
       pub removed_absent : (after_out m s id r).index k ≡ None
       removed_absent = leaving.leave_absent m laws s kept (item_of m id r.kept) (m.policy.remove s.view id) r there remove_takes (λ j pos.
-          let e : count_of j (m.policy.pinned (m.policy.remove s.view id)) ≡ count_of j (remove_id id (m.policy.pinned s.view)) = ap (count_of j) (good.remove_pinned s.view id) in
+          let e : count_of j (m.policy.pinned (m.policy.remove s.view id)) ≡ count_of j (remove_id id (m.policy.pinned s.view)) = ap (count_of j) (good.remove_pinned s.view id kept.once) in
           omega (arith, sum-removed (one_if j) id (m.policy.pinned s.view))) k under
 
   pub push_new : (s : State K V P View) → IsKept m s → IsNewIn s.next (m.policy.order s.view)

@@ -1,6 +1,12 @@
+pub mod AdmitLemmas
+pub mod CoreLemmas
 pub mod DrainLemmas
+pub mod Emplaced
 pub mod Evictions
+pub mod Forgetting
 pub mod Found
+pub mod GaveLemmas
+pub mod GivingBack
 pub mod GroupLemmas
 pub mod Handles
 pub mod Holdings
@@ -10,9 +16,14 @@ pub mod Keeps
 pub mod Keys
 pub mod LeaveLemmas
 pub mod Leaving
+pub mod LeftLemmas
 pub mod NumberLemmas
+pub mod Opening
+pub mod PinLemmas
 pub mod Popped
 pub mod Pushing
+pub mod RefusalLemmas
+pub mod Reserving
 pub mod ShardLemmas
 pub mod SlotLemmas
 pub mod States

@@ -27,5 +27,5 @@ module _ {K V P View C : Type 0} (m : Meaning K P View C) (laws : IsEquivalence 
   refused_insert_keeps old kept d Ids ls new h = subst (IsKept m) (sym h.2) kept
   refused_insert_keeps old kept d Handles ls new h = subst (IsKept m) (sym h.3) kept
   refused_insert_keeps old kept d Weight ls new h = subst (IsKept m) (sym h.4) kept
-  refused_insert_keeps old kept d NoMemory ls new h = evicting_keeps m laws good (old.capacity - d.weight) old ls new kept h.3
+  refused_insert_keeps old kept d NoMemory ls new h = evicting_keeps m laws good (old.capacity - d.weight) old ls new kept h.1
   refused_insert_keeps old kept d _ ls new h = absurd h

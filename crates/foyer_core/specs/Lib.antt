@@ -1,3 +1,5 @@
+pub mod Core
+pub mod Cores
 pub mod Flags
 pub mod Group
 pub mod Indexer

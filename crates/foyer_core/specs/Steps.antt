@@ -90,9 +90,14 @@ module _ {K V P View C : Type 0} (m : Meaning K P View C) where
     pub gives_way : GivesWay (old.index (key_of d)) old (replaced_leaves replaced) last
     pub after : new ≡ after_push last d
 
+  -- there is a number for the record, a handle may be, and its weight fits beside what is pinned
+  abbrev pub MayInsert : State K V P View → Data K V P → Type 0
+  MayInsert old d = (old.next < old.limits.ids) × (1 ≤ old.limits.handles) × (d.weight + pinned_beside m old (key_of d) < 2 ^ 64)
+
   -- An insert of a plain record that is not refused: the evictions to the capacity less its weight, then
   -- its key's record, where it is still there, gives way, then the record comes in.
   pub record Inserts (old : State K V P View) (d : Data K V P) (ls : List (Event × Gone K V P)) (entry : Held K V P) (new : State K V P View) : Type 0 where
+    pub may : MayInsert old d
     pub evictions : List (Event × Gone K V P)
     pub replaced : List (Event × Gone K V P)
     pub mid : State K V P View
@@ -110,8 +115,7 @@ module _ {K V P View C : Type 0} (m : Meaning K P View C) where
   RefusesInsert old d Handles ls new = (old.next < old.limits.ids) × (old.limits.handles < 1) × (ls ≡ []) × (new ≡ old)
   RefusesInsert old d Weight ls new =
       (old.next < old.limits.ids) × (1 ≤ old.limits.handles) × (2 ^ 64 ≤ d.weight + pinned_beside m old (key_of d)) × (ls ≡ []) × (new ≡ old)
-  RefusesInsert old d NoMemory ls new =
-      (old.next < old.limits.ids) × (1 ≤ old.limits.handles) × (d.weight + pinned_beside m old (key_of d) < 2 ^ 64) × Evicting (old.capacity - d.weight) old ls new
+  RefusesInsert old d NoMemory ls new = MayInsert old d × Evicting (old.capacity - d.weight) old ls new
   RefusesInsert old d _ ls new = ⊥
 
   -- one more handle of a record of the index, which the policy is told of

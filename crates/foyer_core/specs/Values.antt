@@ -1,5 +1,6 @@
 -- What contracts see of a record, a slot, an entry and a leave.
 use Rattle.std.specs.Prelude.{ℕ, Bool, Option}
+use Rattle.foyer_policy.specs.declared.types.Hint.{Hint}
 use Rattle.foyer_policy.specs.declared.types.Source.{Source}
 use Rattle.foyer_core.specs.declared.record.Data.{Data}
 use Rattle.foyer_core.specs.declared.record.Flags.{Flags}
@@ -38,3 +39,8 @@ pub record Rec (K V P : Type 0) : Type 0 where
   pub kept : Data K V P
   pub handles : ℕ
   pub resident : Bool
+
+-- what `CacheProperties` answer
+pub record Answered : Type 0 where
+  pub phantom : Option Bool
+  pub hint : Hint

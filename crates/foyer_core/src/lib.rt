@@ -1,15 +1,23 @@
 //! Records, the index, one shard and the sharded core of a cache.
 #![tactic(auto)]
 
+pub mod cache_core;
+pub mod config;
 pub mod entry;
 pub mod indexer;
 pub mod outcome;
+pub mod properties;
 pub mod record;
 mod records;
 pub mod shard;
 mod slot;
+pub mod weighter;
 
+pub use cache_core::CacheCore;
+pub use config::RawCacheConfig;
 pub use entry::{CoreEntry, Left};
 pub use indexer::{HashTableIndexer, Indexer};
 pub use outcome::{Answers, Inserted, Outcome, Refused, Waiting};
+pub use properties::CacheProperties;
 pub use record::{Data, Flags, Limits, Record};
+pub use weighter::{UnitWeighter, Weighter};

@@ -26,6 +26,8 @@ use foyer_policy::{
 };
 use std::alloc::Global;
 
+mod handles;
+
 /// One shard of a cache. Contracts see its `State`: maps from hashed keys to ids and from ids to records.
 #[derive(Drop)]
 pub struct Shard<E: Eviction, K: Key, V: Value, P: Properties, I: Indexer<K>> {
@@ -180,7 +182,7 @@ impl<E: Eviction, K: Key, V: Value, P: Properties, I: Indexer<K>> Shard<E, K, V,
         ensures { (s : Kept K V P) → slot_in self.old.records slot ≡ Some s → GivesBack (meaning_of self.old) (state_of self.old) s.id result (state_of self.new) }
     {
         let gone = self.records.forget(slot);
-        if gone.data().properties.phantom() == Some(true) {
+        if gone.data().properties.phantom().unwrap_or(false) {
             return Some((Event::Evict, gone.into_left()));
         }
         None
@@ -256,7 +258,8 @@ impl<E: Eviction, K: Key, V: Value, P: Properties, I: Indexer<K>> Shard<E, K, V,
         ensures { IsTrue result ↔ (weight + pinned_beside (meaning_of self.now) (state_of self.now) (hash, key.now) < 2 ^ 64) }
     {
         let pinned = self.eviction.pinned_weight();
-        weight <= usize::MAX - pinned || weight <= usize::MAX - (pinned - self.own_pinned(hash, key))
+        weight <= usize::MAX - pinned
+            || weight <= usize::MAX - (pinned - self.own_pinned(hash, key))
     }
 
     // The weight of a key's record, where that is pinned.
@@ -272,11 +275,8 @@ impl<E: Eviction, K: Key, V: Value, P: Properties, I: Indexer<K>> Shard<E, K, V,
         let Some(place) = found.place() else {
             unreachable!();
         };
-        if self.eviction.is_pinned(place) {
-            found.data().weight
-        } else {
-            0
-        }
+        let pinned = self.eviction.is_pinned(place);
+        if pinned { found.data().weight } else { 0 }
     }
 
     // Makes room for one record, and makes that record, a clone of its key and an entry of it.
@@ -382,10 +382,8 @@ impl<E: Eviction, K: Key, V: Value, P: Properties, I: Indexer<K>> Shard<E, K, V,
             }
         };
         let (gone, replaced) = give_way(&mut self.eviction, &mut self.records, was);
-        if replaced.is_some() {
-            self.entries -= 1;
-        }
         self.usage -= gone;
+        self.entries -= replaced.is_some() as u64;
         let place = self.eviction.push(Item {
             id,
             hash,

@@ -1,8 +1,8 @@
 -- First in, first out is a policy.
-use Rattle.std.proofs.Common.{◌≡◌, ℕ, zero, suc, ◌+◌, ◌≤◌, List, [], ◌∷◌, ◌++◌, Option, Some, None, length, refl, sym, ◌∙◌, ap, arith, inl}
+use Rattle.std.proofs.Common.{◌≡◌, List, [], ◌∷◌, ◌++◌, Some, None, refl, ap, arith, inl}
 use Rattle.std.proofs.lemmas.List.Sorted.{IsPermutation-refl, IsPermutation-sym, IsPermutation-to_front}
 use Rattle.foyer_policy.specs.Items.{IsWithin}
-use Rattle.foyer_policy.specs.Policy.{Policy, IsPolicy, after_pops, after_all_pops}
+use Rattle.foyer_policy.specs.Policy.{IsPolicy, after_all_pops}
 use Rattle.foyer_policy.specs.Fifo.{fifo, take_first}
 use Rattle.foyer_policy.specs.declared.types.Item.{Item}
 
@@ -14,9 +14,14 @@ take_first-none : (v : List Item) → take_first v ≡ None → IsWithin v []
 take_first-none [] h = λ f. omega arith
 take_first-none (x ∷ xs) h = absurd cc
 
+all_pops : (C : Type 0) (v : List Item) → after_all_pops (fifo C) v ≡ []
+all_pops C [] = refl
+all_pops C (i ∷ is) = all_pops C is
+
 pub fifo_lawful : (C : Type 0) → IsPolicy (fifo C)
 fifo_lawful C = record {
   opening_order = λ capacity c accepted. refl;
+  fault_kind = λ c reason h. absurd cc;
   opening_credit = λ capacity c accepted. refl;
   pinned_within = λ v f. omega arith;
   push_order = λ v i. IsPermutation-sym (v ++ i ∷ []) (i ∷ v) (IsPermutation-to_front v i);
@@ -24,13 +29,12 @@ fifo_lawful C = record {
   push_credit = λ v i. omega arith;
   pop_order = λ v w i h. rw (take_first-is v w i h) (IsPermutation-refl (i ∷ w));
   pop_pinned = λ v w i h. refl;
-  pop_free = λ v w i h once. refl;
   pop_none = take_first-none;
   pop_looks = λ v w i h. omega arith;
   pop_credit = λ v w i h. omega arith;
   none_looks = λ v h. refl;
   remove_order = λ v id. refl;
-  remove_pinned = λ v id. refl;
+  remove_pinned = λ v id once. refl;
   remove_credit = λ v id. omega arith;
   acquire_order = λ v id once. IsPermutation-refl v;
   acquire_pinned = λ v id once. inl refl;
@@ -41,8 +45,5 @@ fifo_lawful C = record {
   update_order = λ v capacity config once. IsPermutation-refl v;
   update_pinned = λ v capacity config. refl;
   update_credit = λ v capacity config. omega arith;
-  clear_order = λ v. refl;
-  clear_pops = λ v. refl;
-  clear_credit = λ v. omega arith;
-  clear_empty = λ v h. sym h;
+  clear_is = λ v. rw (all_pops C v) refl;
 }

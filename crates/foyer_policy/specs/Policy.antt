@@ -1,9 +1,11 @@
 -- What an eviction policy does, over an abstract view, and the laws that code above a policy may use.
-use Rattle.std.specs.Prelude.{◌≡◌, ◌≢◌, ◌==◌, ℕ, zero, suc, ◌+◌, ◌-◌, ◌≤◌, ◌⊎◌, List, [], ◌∷◌, Option, Some, None, option_and_then, length, nat_le, if◌then◌else◌}
+use Rattle.std.specs.Prelude.{◌≡◌, ◌==◌, ℕ, zero, suc, ◌+◌, ◌-◌, ◌≤◌, ◌⊎◌, List, [], ◌∷◌, Option, Some, None, option_and_then, length, nat_le, if◌then◌else◌}
 use Rattle.std.specs.List.Sorted.{IsPermutation}
-use Rattle.foyer_policy.specs.Items.{weight_of, count_of, IsNewIn, HasIdsOnce, IsWithin, remove_id, find_id}
+use Rattle.foyer_policy.specs.Items.{weight_of, HasIdsOnce, IsWithin, remove_id, find_id}
 use Rattle.foyer_policy.specs.declared.types.Item.{Item}
 use Rattle.foyer_policy.specs.declared.error.Reason.{Reason}
+use Rattle.foyer_policy.specs.declared.error.ErrorKind.TheVariants.{Config}
+use Rattle.foyer_policy.specs.Errors.{kind_of}
 
 -- A policy's meaning, over a view V and a configuration C: what each call makes of a view.
 -- Records are named by their ids.
@@ -91,10 +93,17 @@ module _ {V C : Type 0} (m : Policy V C) where
       (m.pinned w ≡ m.pinned v)
       ⊎ ((i : Item) × (find_id id (m.order v) ≡ Some i) × IsPermutation (i ∷ m.pinned v) (m.pinned w))
 
+  -- the view once each of these was removed
+  abbrev pub removed : List Item → V → V
+  removed [] v = v
+  removed (i ∷ is) v = removed is (m.remove v i.id)
+
   -- the laws that code above a policy may use
   pub record IsPolicy : Type 0 where
     -- a new policy holds nothing
     pub opening_order : (capacity : ℕ) (c : C) → m.fault c ≡ None → m.order (m.opening capacity c) ≡ []
+    -- a configuration is refused for its own fault
+    pub fault_kind : (c : C) (reason : Reason) → m.fault c ≡ Some reason → kind_of reason ≡ Config
     pub opening_credit : (capacity : ℕ) (c : C) → m.fault c ≡ None → m.credit (m.opening capacity c) ≡ 0
     -- what is pinned is in
     pub pinned_within : (v : V) → IsWithin (m.pinned v) (m.order v)
@@ -102,10 +111,9 @@ module _ {V C : Type 0} (m : Policy V C) where
     pub push_order : (v : V) (i : Item) → IsPermutation (i ∷ m.order v) (m.order (m.push v i))
     pub push_pinned : (v : V) (i : Item) → m.pinned (m.push v i) ≡ m.pinned v
     pub push_credit : (v : V) (i : Item) → m.credit (m.push v i) ≤ m.credit v
-    -- pop takes one item out, never a pinned one, and is none only where all are pinned
+    -- pop takes one item out and no pin, so never a pinned item, and is none only where all are pinned
     pub pop_order : (v w : V) (i : Item) → m.pop v ≡ Some (i, w) → IsPermutation (m.order v) (i ∷ m.order w)
     pub pop_pinned : (v w : V) (i : Item) → m.pop v ≡ Some (i, w) → m.pinned w ≡ m.pinned v
-    pub pop_free : (v w : V) (i : Item) → m.pop v ≡ Some (i, w) → HasIdsOnce (m.order v) → IsNewIn i.id (m.pinned v)
     pub pop_none : (v : V) → m.pop v ≡ None → IsWithin (m.order v) (m.pinned v)
     -- its readings are paid for, and one that gives none has none
     pub pop_looks : (v w : V) (i : Item) → m.pop v ≡ Some (i, w) → m.looks v + m.credit w ≤ m.credit v + 1
@@ -113,7 +121,7 @@ module _ {V C : Type 0} (m : Policy V C) where
     pub none_looks : (v : V) → m.pop v ≡ None → m.looks v ≡ 0
     -- remove takes its item out alone, with its pin, and keeps the rest in order
     pub remove_order : (v : V) (id : ℕ) → m.order (m.remove v id) ≡ remove_id id (m.order v)
-    pub remove_pinned : (v : V) (id : ℕ) → m.pinned (m.remove v id) ≡ remove_id id (m.pinned v)
+    pub remove_pinned : (v : V) (id : ℕ) → HasIdsOnce (m.order v) → m.pinned (m.remove v id) ≡ remove_id id (m.pinned v)
     pub remove_credit : (v : V) (id : ℕ) → m.credit (m.remove v id) ≤ m.credit v
     -- acquire rearranges, pins at most its item and adds at most 1 to the credit
     pub acquire_order : (v : V) (id : ℕ) → HasIdsOnce (m.order v) → IsPermutation (m.order v) (m.order (m.acquire v id))
@@ -127,8 +135,5 @@ module _ {V C : Type 0} (m : Policy V C) where
     pub update_order : (v : V) (capacity : ℕ) (config : Option C) → HasIdsOnce (m.order v) → IsPermutation (m.order v) (m.order (m.update v capacity config))
     pub update_pinned : (v : V) (capacity : ℕ) (config : Option C) → m.pinned (m.update v capacity config) ≡ m.pinned v
     pub update_credit : (v : V) (capacity : ℕ) (config : Option C) → m.credit (m.update v capacity config) ≤ m.credit v
-    -- clear is pop until none, and then an empty pin list
-    pub clear_order : (v : V) → m.order (m.clear v) ≡ []
-    pub clear_pops : (v : V) → m.clear v ≡ m.clear (after_all_pops m v)
-    pub clear_credit : (v : V) → m.credit (m.clear v) ≤ m.credit v
-    pub clear_empty : (v : V) → m.order v ≡ [] → m.clear v ≡ v
+    -- clear is pop until none, and then a remove of each item that is left, which is pinned
+    pub clear_is : (v : V) → m.clear v ≡ removed (m.order (after_all_pops m v)) (after_all_pops m v)

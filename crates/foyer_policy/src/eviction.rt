@@ -42,6 +42,9 @@ pub trait Eviction: Drop {
     // there is room for a `clear`
     ghost can_clear: { Self → Type 0 };
 
+    // a pop may want memory, as where the policy remembers what left
+    ghost pop_wants_memory: { Type 0 };
+
     // how many records the last pop read
     ghost looked: { Self → ℕ };
 
@@ -96,6 +99,7 @@ pub trait Eviction: Drop {
         ensures looked { OnOk result (looked self.new ≡ model.looks (view self.old)) }
         ensures room { room self.old ≤ room self.new }
         ensures refused { IfErr result (λ e. e ≡ NoMemory) }
+        ensures granted { OnErr result pop_wants_memory }
         ensures err_view { OnErr result (view self.new ≡ view self.old) }
         ensures err_places { OnErr result ((p : ℕ) → at self.new p ≡ at self.old p) }
         ensures err_looked { OnErr result (looked self.new ≡ looked self.old) };

@@ -64,6 +64,8 @@ impl Eviction for Fifo {
 
     ghost can_clear = { λ f. Unit {0} };
 
+    ghost pop_wants_memory = { ⊥ };
+
     ghost looked = { λ f. 0 };
 
     ghost lawful = { fifo_lawful FifoConfig };
@@ -134,3 +136,6 @@ impl Eviction for Fifo {
         0
     }
 }
+
+#[cfg(test)]
+mod tests;

@@ -1,0 +1,47 @@
+-- What an insert has done, from the steps that it took.
+use Rattle.std.proofs.Common.{◌≡◌, ℕ, ◌+◌, ◌-◌, ◌<◌, ◌≤◌, ◌^◌, List, [], ◌++◌, Option, length, refl, sym, ◌∙◌, ap, subst, append-nil}
+use Rattle.std.specs.Cmp.{IsEquivalence}
+use Rattle.foyer_policy.specs.Policy.{IsPolicy, after_pops, evicted}
+use Rattle.foyer_policy.specs.declared.types.Event.{Event}
+use Rattle.foyer_policy.specs.declared.types.Event.TheVariants.{Evict}
+use Rattle.foyer_policy.specs.declared.types.Source.TheVariants.{Outer}
+use Rattle.foyer_policy.specs.declared.types.Item.{Item}
+use Rattle.foyer_policy.specs.declared.error.Reason.TheVariants.{NoMemory}
+use Rattle.foyer_core.specs.declared.record.Data.{Data}
+use Rattle.foyer_core.specs.Values.{Gone, Held}
+use Rattle.foyer_core.specs.State.{Meaning, State, key_of, pinned_beside, usage_of, IsKept}
+use Rattle.foyer_core.specs.Steps.{ids_of, entry_of, replaced_leaves, Leave, Evicting, Evicts, GivesWay, Admits, MayInsert, Inserts, RefusesInsert}
+use Rattle.foyer_core.proofs.InsertLemmas.{fits_after}
+use Rattle.foyer_core.proofs.LeaveLemmas.{Rests, leave-rests}
+
+module _ {K V P View C : Type 0} (m : Meaning K P View C) (old : State K V P View) (d : Data K V P) where
+  module _ (target : ℕ) (evictions : List (Event × Gone K V P)) (mid : State K V P View) (evicts : Evicts m target old evictions mid) where
+    pub evicts_rests : Rests m old mid
+    evicts_rests = leave-rests m Evict (ids_of (evicted m.policy target old.view)) old evictions (after_pops m.policy (length (evicted m.policy target old.view)) old.view) mid evicts
+
+    -- all of the evictions are a beginning of them
+    pub evicts_begin : Evicting m target old evictions mid
+    evicts_begin = record { left = evicted m.policy target old.view; rest = []; parts = append-nil (evicted m.policy target old.view); leave = evicts }
+
+  module _ (may : MayInsert m old d) where
+    pub emplaced : (evictions : List (Event × Gone K V P)) (mid : State K V P View) → Evicts m (old.capacity - d.weight) old evictions mid
+        → (replaced : Option (Gone K V P)) (new : State K V P View) → Admits m mid d replaced new → Inserts m old d (evictions ++ replaced_leaves replaced) (entry_of old old.next d Outer) new
+    emplaced evictions mid evicts replaced new admits = record {
+      may = may;
+      evictions = evictions;
+      replaced = replaced_leaves replaced;
+      mid = mid;
+      last = admits.last;
+      leaves = refl;
+      evicts = evicts;
+      gives_way = admits.gives_way;
+      entry_is = refl;
+      after = admits.after;
+    }
+
+    pub wants_memory : (ls : List (Event × Gone K V P)) (new : State K V P View) → Evicting m (old.capacity - d.weight) old ls new → RefusesInsert m old d NoMemory ls new
+    wants_memory ls new h = (may, h)
+
+    -- nothing left yet
+    pub wants_memory_first : RefusesInsert m old d NoMemory [] old
+    wants_memory_first = wants_memory [] old record { left = []; rest = evicted m.policy (old.capacity - d.weight) old.view; parts = refl; leave = refl }

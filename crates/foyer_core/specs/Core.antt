@@ -1,0 +1,98 @@
+-- A core as a list of shards.
+use Rattle.std.specs.Prelude.{◌≡◌, ℕ, ◌+◌, ◌/◌, ◌%◌, ◌<◌, List, [], Option, Some, None, option_and_then, Result, Ok, Err, IsSomeAnd, if◌then◌else◌, nat_lt, length, slice_get, slice_set, sum_by}
+use Rattle.foyer_core.specs.declared.config.RawCacheConfig.{RawCacheConfig}
+use Rattle.foyer_core.specs.declared.outcome.Answers.{Answers}
+use Rattle.foyer_core.specs.declared.outcome.Inserted.{Inserted}
+use Rattle.foyer_core.specs.declared.outcome.Outcome.{Outcome}
+use Rattle.foyer_core.specs.declared.outcome.Outcome.TheVariants.{Entries}
+use Rattle.foyer_core.specs.declared.outcome.Refused.{Refused}
+use Rattle.foyer_core.specs.declared.record.Data.{Data}
+use Rattle.foyer_core.specs.declared.record.Limits.{Limits}
+use Rattle.foyer_core.specs.State.{Meaning, State, hit, handles_in, usage_of}
+use Rattle.foyer_core.specs.Steps.{Inserts, RefusesInsert}
+use Rattle.foyer_core.specs.Values.{Held}
+
+-- a core: its capacity, what gives its keys their hashes and its records their weights, and its shards
+pub record Core (K V P View S W : Type 0) : Type 0 where
+  pub capacity : ℕ
+  pub hash_builder : S
+  pub weighter : W
+  pub shards : List (State K V P View)
+
+-- the number of the shard of a hash
+abbrev pub shard_of : {K V P View S W : Type 0} → Core K V P View S W → ℕ → ℕ
+shard_of core hash = hash % length core.shards
+
+-- the shard of a hash
+abbrev pub shard_at : {K V P View S W : Type 0} → Core K V P View S W → ℕ → Option (State K V P View)
+shard_at core hash = slice_get core.shards (shard_of core hash)
+
+-- what a hashed key hits, in its shard
+abbrev pub hit_in : {K V P View S W : Type 0} → Core K V P View S W → ℕ × K → Option ℕ
+hit_in core k = option_and_then (λ s. hit s k) (shard_at core k.0)
+
+-- an entry is this core's where the shard of its hash has its number and a handle of its id
+abbrev pub Owns : {K V P View S W : Type 0} → Core K V P View S W → Held K V P → Type 0
+Owns core entry = IsSomeAnd (shard_at core entry.kept.hash) (λ s. (entry.number ≡ s.number) × (0 < handles_in s entry.id))
+
+-- the shard of a hash makes a step, and all else stays
+pub record AtShard {K V P View S W : Type 0} (step : State K V P View → State K V P View → Type 0) (hash : ℕ) (old new : Core K V P View S W) : Type 0 where
+  pub before : State K V P View
+  pub after : State K V P View
+  pub there : shard_at old hash ≡ Some before
+  pub stepped : step before after
+  pub rest : new ≡ record old { shards = slice_set old.shards (shard_of old hash) after }
+
+-- what each of some shards gets of a capacity
+abbrev pub share_of : ℕ → ℕ → ℕ → ℕ
+share_of capacity shards i = capacity / shards + (if nat_lt i (capacity % shards) then 1 else 0)
+
+-- nobody waited for an answer
+abbrev pub entries_in : {K V P : Type 0} → Outcome K V P → Option (List (Held K V P))
+entries_in (Entries entries) = Some entries.items
+entries_in _ = None
+
+abbrev pub AnswersNobody : {K V P N : Type 0} → Answers K V P N → Type 0
+AnswersNobody answers = (answers.waiters.items ≡ []) × (entries_in answers.outcome ≡ Some [])
+
+module _ {K V P View C : Type 0} (m : Meaning K P View C) where
+  -- the sum of the weights of what is in the index, over all shards
+  abbrev pub usage_of_core : {S W : Type 0} → Core K V P View S W → ℕ
+  usage_of_core core = sum_by (usage_of m) core.shards
+
+  -- how many records are in the index, over all shards
+  abbrev pub entries_of_core : {S W : Type 0} → Core K V P View S W → ℕ
+  entries_of_core core = sum_by (λ s. length (m.policy.order s.view)) core.shards
+
+  -- a new shard holds nothing
+  pub record IsNewShard (config : C) (number capacity : ℕ) (limits : Limits) (s : State K V P View) : Type 0 where
+    pub numbered : s.number ≡ number
+    pub capacity_is : s.capacity ≡ capacity
+    pub limits_are : s.limits ≡ limits
+    pub view_is : s.view ≡ m.policy.opening capacity config
+    pub nothing_indexed : (k : ℕ × K) → s.index k ≡ None
+    pub no_records : (id : ℕ) → s.records id ≡ None
+    pub starts : s.next ≡ 0
+
+  -- a new core: its shards hold nothing, and share the capacity
+  pub record IsNewCore {S W : Type 0} (config : RawCacheConfig C S W) (core : Core K V P View S W) : Type 0 where
+    pub capacity_is : core.capacity ≡ config.capacity
+    pub hash_builder_is : core.hash_builder ≡ config.hash_builder
+    pub weighter_is : core.weighter ≡ config.weighter
+    pub counted : length core.shards ≡ config.shards
+    pub each : (i : ℕ) (s : State K V P View) → slice_get core.shards i ≡ Some s
+        → IsNewShard config.eviction_config config.number (share_of config.capacity config.shards i) config.limits s
+
+  -- what an insert of a plain record makes of its shard, and answers
+  abbrev pub InsertsAnswering : {N : Type 0} → State K V P View → Data K V P → Result (Inserted K V P N) (Refused K V P) → State K V P View → Type 0
+  InsertsAnswering old d (Ok made) new = Inserts m old d made.leaves.items made.entry new
+  InsertsAnswering old d (Err refused) new = RefusesInsert m old d refused.error refused.leaves.items new
+
+  -- an insert of a plain record, with a weight that the weighter may give it, in the shard of its hash
+  pub record InsertsWeighed {S W N : Type 0} (weighs : ℕ → Type 0) (hash : ℕ) (key : K) (value : V) (properties : P)
+      (result : Result (Inserted K V P N) (Refused K V P)) (old new : Core K V P View S W) : Type 0 where
+    pub weight : ℕ
+    pub weighed : weighs weight
+    pub inserts : AtShard
+        (λ s t. InsertsAnswering s (record { key = key; value = value; properties = properties; hash = hash; weight = weight }) result t)
+        hash old new
