@@ -1,4 +1,9 @@
 //! Sessions over a cache, and the text that a program reads and prints.
 #![tactic(auto)]
 
+pub mod command;
+pub mod session;
 pub mod text;
+
+pub use command::{Answer, Answers, Command, Leaves, Reply};
+pub use session::Session;
