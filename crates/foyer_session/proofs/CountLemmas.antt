@@ -78,7 +78,7 @@ module _ {K V P View C : Type 0} (m : Meaning K P View C) where
   refused_alike old d Ids ls new h = alike_refl old new h.2
   refused_alike old d Handles ls new h = alike_refl old new h.3
   refused_alike old d Weight ls new h = alike_refl old new h.4
-  refused_alike old d NoMemory ls new h = evicting_alike (old.capacity - d.weight) old ls new h.3
+  refused_alike old d NoMemory ls new h = evicting_alike (old.capacity - d.weight) old ls new h.1
   refused_alike old d _ ls new h = absurd h
 
   inserted_alike : (old : State K V P View) (d : Data K V P) (ls : List (Event × Gone K V P)) (entry : Held K V P) (new : State K V P View) (h : Inserts m old d ls entry new) → Alike old h.last

@@ -1,6 +1,5 @@
 -- What a shard keeps, as a session uses it.
-use Rattle.std.proofs.Common.{◌≡◌, ℕ, zero, suc, ◌<◌, List, [], ◌∷◌, Option, Some, None, Ok, true, false, Bool, refl, sym, ap, ◌∙◌, subst, arith, ◌==◌, ◌&&◌}
-use Rattle.std.specs.Prelude.{slice_get}
+use Rattle.std.proofs.Common.{◌≡◌, ℕ, ◌<◌, List, Option, Some, None, Ok, true, false, Bool, refl, sym, ap, ◌∙◌, subst, arith, ◌==◌, ◌&&◌}
 use Rattle.std.proofs.lemmas.Bool.Decides.{nat_tests}
 use Rattle.foyer_core.specs.declared.record.Data.{Data}
 use Rattle.foyer_core.specs.Indexer.{same_key}
@@ -28,11 +27,6 @@ module _ {K V P View C : Type 0} (m : Meaning K P View C) (s : State K V P View)
       let e : (k.0 == h.0.kept.hash) ≡ true = first_holds (k.0 == h.0.kept.hash) (m.same k.1 h.0.kept.key) same in
       let alike : entry.kept.hash ≡ h.0.kept.hash = ap (λ (x : Held K V P). x.kept.hash) h.4 in
       grind (arith, nat_tests)
-
--- the only element of a list
-pub only_element : {A : Type 0} (x s : A) (i : ℕ) → slice_get (x ∷ []) i ≡ Some s → x ≡ s
-only_element x s zero h = cc
-only_element x s (suc i) h = absurd cc
 
 module _ {K V P View C : Type 0} (m : Meaning K P View C) (s : State K V P View) (kept : IsKept m s) where
   -- nor of the id of a record that came in

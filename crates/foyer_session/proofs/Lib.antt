@@ -10,3 +10,4 @@ pub mod OwnLemmas
 pub mod StepLemmas
 pub mod FoundLemmas
 pub mod RunLemmas
+pub mod CoreLemmas

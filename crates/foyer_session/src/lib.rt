@@ -2,8 +2,10 @@
 #![tactic(auto)]
 
 pub mod command;
+pub mod fifo_session;
 pub mod session;
 pub mod text;
 
 pub use command::{Answer, Answers, Command, Leaves, Reply};
+pub use fifo_session::run_fifo;
 pub use session::Session;

@@ -253,3 +253,6 @@ fn spend_nobody<K: Drop, V: Drop, P: Drop>(answers: foyer_core::Answers<K, V, P,
         Outcome::Fault(_) => {}
     }
 }
+
+#[cfg(test)]
+mod tests;

@@ -1,12 +1,11 @@
 use Rattle.std.proofs.Math.Logic.{∥∥₁_elim, ∥∥₁_map}
 use Rattle.std.proofs.Props.{props}
-use Rattle.std.proofs.Common.{subst, ◌∙◌, refl}
+use Rattle.std.proofs.Common.{◌∙◌, refl}
 use Rattle.foyer_core.specs.Cores.{core_of}
-use Rattle.foyer_core.specs.Shards.{state_of}
-use Rattle.foyer_core.specs.State.{IsKept}
 use Rattle.foyer_session.specs.Sessions.{session_of, meaning_of_session}
 use Rattle.foyer_session.specs.Step.{data_of}
-use Rattle.foyer_session.proofs.FoundLemmas.{new_unused, only_element}
+use Rattle.foyer_session.proofs.CoreLemmas.{kept_at}
+use Rattle.foyer_session.proofs.FoundLemmas.{new_unused}
 use Rattle.foyer_session.proofs.StepLemmas.{inserted_owns, refused_owns}
 use Rattle.foyer_session.proofs.session.Session.insert.Goals as goal
 
@@ -17,10 +16,9 @@ invariant_of-self g c =
     let did = c.in-Ok.ensures.inserted in
     let d = data_of m (λ builder key. g.S.HashBuilder.hash_of builder (g.K.Hash.hash_input key)) g.W.Weighter.weighs (session_of s) c.args.key c.args.value c.args.properties did.weight in
     let made = c.in-Ok.inserted in
-    let is = only_element (state_of s.core.shard) did.inserts.before _ did.inserts.there in
-    record { owns = rw c.hand_out-handle.ensures.handles (∥∥₁_elim s.core.shard.kept (hlevel props) (λ k. ∥∥₁_map s.owns (λ o.
+    record { owns = rw c.hand_out-handle.ensures.handles (∥∥₁_elim (kept_at s.core d.hash did.inserts.before did.inserts.there) (hlevel props) (λ k. ∥∥₁_map s.owns (λ o.
       inserted_owns m (core_of s.core) (core_of c.insert_with_properties.new.self) s.handles.items o d made.leaves.items made.entry did.inserts
-        (new_unused m did.inserts.before (subst (IsKept m) is k) d made.leaves.items made.entry did.inserts.after did.inserts.stepped)))) }
+        (new_unused m did.inserts.before k d made.leaves.items made.entry did.inserts.after did.inserts.stepped)))) }
 
 pub invariant_of-self-in-Err-1 : goal.invariant_of-self-in-Err-1
 invariant_of-self-in-Err-1 g c =
