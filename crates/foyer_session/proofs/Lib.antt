@@ -1,0 +1,13 @@
+pub mod NumberLemmas
+pub mod PrintLemmas
+pub mod WordLemmas
+pub mod LineLemmas
+pub mod KeptLemmas
+pub mod ReadLemmas
+pub mod Joins
+pub mod CountLemmas
+pub mod OwnLemmas
+pub mod StepLemmas
+pub mod FoundLemmas
+pub mod RunLemmas
+pub mod CoreLemmas

@@ -1,0 +1,9 @@
+pub mod Text
+pub mod Print
+pub mod Kept
+pub mod Reading
+pub mod Told
+pub mod Step
+pub mod Run
+pub mod Owns
+pub mod Sessions

@@ -1,0 +1,24 @@
+-- A session's struct as a state.
+use Rattle.std.specs.declared.cmp.PartialEq.{Ghosts as EqGhosts}
+use Rattle.std.specs.declared.hash.Hash.{Ghosts as HashGhosts}
+use Rattle.std.specs.declared.clone.Clone.{Ghosts as CloneGhosts}
+use Rattle.std.specs.declared.default.Default.{Ghosts as DefaultGhosts}
+use Rattle.foyer_policy.specs.declared.eviction.Eviction.{Ghosts as EvictionGhosts}
+use Rattle.foyer_policy.specs.declared.properties.Properties.{Ghosts as PropertiesGhosts}
+use Rattle.foyer_policy.specs.declared.hash.HashBuilder.{Ghosts as HashBuilderGhosts}
+use Rattle.foyer_core.specs.declared.weighter.Weighter.{Ghosts as WeighterGhosts}
+use Rattle.foyer_core.specs.declared.indexer.Indexer.{Ghosts as IndexerGhosts}
+use Rattle.foyer_core.specs.Cores.{core_of, meaning_of_core}
+use Rattle.foyer_core.specs.State.{Meaning}
+use Rattle.foyer_session.specs.declared.session.Session.{Session}
+use Rattle.foyer_session.specs.Step.{SessionState}
+
+module _ {E K V P S W I C X : Type 0} {e : EvictionGhosts E C X} {e1 : CloneGhosts C} {e2 : DefaultGhosts C} {e3 : _} {e4 : DefaultGhosts X}
+    {q : EqGhosts K} {h : HashGhosts K} {c : CloneGhosts K} {p : PropertiesGhosts P} {d : DefaultGhosts P} {b : HashBuilderGhosts S} {w : WeighterGhosts W K V} {i : IndexerGhosts I K} where
+  -- what contracts see of a session
+  abbrev pub session_of : Session E K V P S W I C X e e1 e2 e3 e4 q h c p d b w i → SessionState K V P e.View S W
+  session_of s = record { core = core_of s.core; handles = s.handles.items }
+
+  -- what a session is over
+  abbrev pub meaning_of_session : Session E K V P S W I C X e e1 e2 e3 e4 q h c p d b w i → Meaning K P e.View C
+  meaning_of_session s = meaning_of_core s.core

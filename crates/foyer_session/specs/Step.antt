@@ -1,0 +1,97 @@
+-- What a session may do.
+use Rattle.std.specs.Prelude.{◌≡◌, ◌≢◌, ℕ, List, [], ◌∷◌, ◌++◌, Option, Some, None, Bool, true, false, Result, Ok, Err, is_some, length, slice_get, slice_set}
+use Rattle.std.specs.Option.{option_flatten}
+use Rattle.foyer_policy.specs.Properties.{is_phantom}
+use Rattle.foyer_policy.specs.declared.types.Event.{Event}
+use Rattle.foyer_policy.specs.declared.types.Location.{Location}
+use Rattle.foyer_policy.specs.declared.types.Location.TheVariants.{OnDisk}
+use Rattle.foyer_core.specs.declared.record.Data.{Data}
+use Rattle.foyer_core.specs.Values.{Gone, Held}
+use Rattle.foyer_core.specs.State.{Meaning, State}
+use Rattle.foyer_core.specs.Steps.{Inserts, RefusesInsert, Gets, GivesBack}
+use Rattle.foyer_core.specs.Core.{Core, AtShard, hit_in}
+use Rattle.foyer_session.specs.declared.command.Answer.{Answer}
+use Rattle.foyer_session.specs.declared.command.Answer.TheVariants.{Entry, Found, Missing, Yes, No, Done, NotHeld, Refused}
+use Rattle.foyer_session.specs.declared.command.Command.{Command}
+use Rattle.foyer_session.specs.declared.command.Command.TheVariants.{Insert, Get, Contains, Drop}
+
+-- a core with the handles that were handed out, in order, each held or gone
+pub record SessionState (K V P View S W : Type 0) : Type 0 where
+  pub core : Core K V P View S W
+  pub handles : List (Option (Held K V P))
+
+-- the held handle of a number
+abbrev pub held_at : {K V P : Type 0} → List (Option (Held K V P)) → ℕ → Option (Held K V P)
+held_at handles n = option_flatten (slice_get handles n)
+
+-- what an answer tells of the record of a handle
+abbrev pub record_of : {K V P : Type 0} → Held K V P → Gone K V P
+record_of entry = record { id = entry.id; kept = entry.kept }
+
+-- the leave of a handle that was given back, where there is one
+abbrev pub leaves_of : {A : Type 0} → Option A → List A
+leaves_of None = []
+leaves_of (Some leave) = leave ∷ []
+
+-- an insert has properties that make a plain record
+abbrev pub IsPlain : {K V P : Type 0} → (P → Option Bool) → (P → Option Location) → Command K V P → Type 0
+IsPlain phantom location (Insert k v p) = (is_phantom (phantom p) ≡ false) × (location p ≢ Some OnDisk)
+IsPlain phantom location _ = Unit {0}
+
+-- one more handle is handed out under this number, with what tells its record
+pub record HandsOut {K V P View S W : Type 0} (old : SessionState K V P View S W) (number : ℕ) (told : Gone K V P) (entry : Held K V P) (new : SessionState K V P View S W) : Type 0 where
+  pub numbered : number ≡ length old.handles
+  pub tells : told ≡ record_of entry
+  pub handles : new.handles ≡ old.handles ++ Some (record entry { left = false }) ∷ []
+
+-- `hash` is what a hash builder gives a key, and `weighs` is what a weighter may answer.
+module _ {K V P View C S W : Type 0} (m : Meaning K P View C) (hash : S → K → ℕ) (weighs : W → K → V → ℕ → Type 0) where
+  -- the hash of a key
+  abbrev pub hash_in : SessionState K V P View S W → K → ℕ
+  hash_in s k = hash s.core.hash_builder k
+
+  -- what comes in
+  abbrev pub data_of : SessionState K V P View S W → K → V → P → ℕ → Data K V P
+  data_of s k v p weight = record { key = k; value = v; properties = p; hash = hash_in s k; weight = weight }
+
+  -- what an insert answers, what leaves, and the state then
+  abbrev pub InsertStep : SessionState K V P View S W → K → V → P → Answer K V P → List (Event × Gone K V P) → SessionState K V P View S W → Type 0
+  InsertStep old k v p (Entry number told answers) leaves new =
+      (weight : ℕ) × (entry : Held K V P) × weighs old.core.weighter k v weight
+      × AtShard (λ s t. Inserts m s (data_of old k v p weight) leaves entry t) (hash_in old k) old.core new.core
+      × HandsOut old number told entry new × (answers ≡ [])
+  InsertStep old k v p (Refused reason) leaves new =
+      (weight : ℕ) × weighs old.core.weighter k v weight
+      × AtShard (λ s t. RefusesInsert m s (data_of old k v p weight) reason leaves t) (hash_in old k) old.core new.core
+      × (new.handles ≡ old.handles)
+  InsertStep old k v p _ leaves new = ⊥
+
+  abbrev pub GetStep : SessionState K V P View S W → K → Answer K V P → List (Event × Gone K V P) → SessionState K V P View S W → Type 0
+  GetStep old k (Found number told) leaves new =
+      (entry : Held K V P)
+      × AtShard (λ s t. Gets m s (hash_in old k, k) (Ok (Some entry)) t) (hash_in old k) old.core new.core
+      × HandsOut old number told entry new × (leaves ≡ [])
+  GetStep old k Missing leaves new = (hit_in old.core (hash_in old k, k) ≡ None) × (leaves ≡ []) × (new ≡ old)
+  GetStep old k (Refused reason) leaves new =
+      AtShard (λ s t. Gets m s (hash_in old k, k) (Err reason) t) (hash_in old k) old.core new.core × (leaves ≡ []) × (new ≡ old)
+  GetStep old k _ leaves new = ⊥
+
+  abbrev pub ContainsStep : SessionState K V P View S W → K → Answer K V P → List (Event × Gone K V P) → SessionState K V P View S W → Type 0
+  ContainsStep old k Yes leaves new = (is_some (hit_in old.core (hash_in old k, k)) ≡ true) × (leaves ≡ []) × (new ≡ old)
+  ContainsStep old k No leaves new = (is_some (hit_in old.core (hash_in old k, k)) ≡ false) × (leaves ≡ []) × (new ≡ old)
+  ContainsStep old k _ leaves new = ⊥
+
+  abbrev pub DropStep : SessionState K V P View S W → ℕ → Answer K V P → List (Event × Gone K V P) → SessionState K V P View S W → Type 0
+  DropStep old n Done leaves new =
+      (entry : Held K V P) × (leave : Option (Event × Gone K V P)) × (held_at old.handles n ≡ Some entry)
+      × AtShard (λ s t. GivesBack m s entry.id leave t) entry.kept.hash old.core new.core
+      × (new.handles ≡ slice_set old.handles n None) × (leaves ≡ leaves_of leave)
+  DropStep old n NotHeld leaves new = (held_at old.handles n ≡ None) × (leaves ≡ []) × (new ≡ old)
+  DropStep old n _ leaves new = ⊥
+
+  -- what a session answers to a command, what leaves, and the state then
+  abbrev pub Step : SessionState K V P View S W → Command K V P → Answer K V P → List (Event × Gone K V P) → SessionState K V P View S W → Type 0
+  Step old (Insert k v p) answer leaves new = InsertStep old k v p answer leaves new
+  Step old (Get k) answer leaves new = GetStep old k answer leaves new
+  Step old (Contains k) answer leaves new = ContainsStep old k answer leaves new
+  Step old (Drop n) answer leaves new = DropStep old n answer leaves new

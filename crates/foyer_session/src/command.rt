@@ -1,0 +1,135 @@
+//! What a session is asked, and what it answers.
+
+ghost use Rattle.std.specs.Prelude.{◌≡◌};
+
+use foyer_core::Left;
+use foyer_policy::{Error, Event};
+use std::marker::Model;
+
+/// What a session is asked. It names a handle by its number: handles are numbered from 0 in the order in
+/// which they were handed out.
+#[derive(Debug, Drop)]
+pub enum Command<K, V, P> {
+    /// Takes a record of this key, value and properties in.
+    Insert(K, V, P),
+    /// Asks for a handle of the key's record.
+    Get(K),
+    /// Asks whether the key has a record.
+    Contains(K),
+    /// Gives the handle of this number back.
+    Drop(u64),
+}
+
+/// The waiters that an insert answered: each waiter's token, with the number of the handle that it got.
+#[derive(Debug, Drop)]
+pub struct Answers {
+    items: Vec<(u64, u64)>,
+}
+
+impl Model for Answers {
+    ghost use Rattle.std.specs.Prelude.{ℕ, List};
+
+    ghost Value = { List (ℕ × ℕ) };
+
+    ghost view = { λ a. a.items.items };
+}
+
+impl Answers {
+    pub(crate) fn new(items: Vec<(u64, u64)>) -> Self
+        ensures { result ≡ items.items }
+    {
+        Answers { items }
+    }
+
+    /// The tokens and the numbers, in the order of the waiters.
+    pub fn as_slice(&self) -> &[(u64, u64)]
+        ensures { result.now ≡ self.now }
+    {
+        self.items.as_slice()
+    }
+}
+
+/// What left, in order.
+#[derive(Drop)]
+pub struct Leaves<K, V, P> {
+    items: Vec<(Event, Left<K, V, P>)>,
+}
+
+impl<K, V, P> Model for Leaves<K, V, P> {
+    ghost use Rattle.std.specs.Prelude.{List};
+    ghost use Rattle.foyer_policy.specs.declared.types.Event.{Event};
+    ghost use Rattle.foyer_core.specs.Values.{Gone};
+
+    ghost Value = { List (Event × Gone K V P) };
+
+    ghost view = { λ l. l.items.items };
+}
+
+impl<K, V, P> Leaves<K, V, P> {
+    pub(crate) fn new(items: Vec<(Event, Left<K, V, P>)>) -> Self
+        ensures { result ≡ items.items }
+    {
+        Leaves { items }
+    }
+
+    /// The records that left, each with the reason why.
+    pub fn as_slice(&self) -> &[(Event, Left<K, V, P>)]
+        ensures { result.now ≡ self.now }
+    {
+        self.items.as_slice()
+    }
+}
+
+/// What a session answers to a command, beside what left.
+#[derive(Drop)]
+pub enum Answer<K, V, P> {
+    /// To `Insert`: the record came in.
+    Entry {
+        /// The number of its handle.
+        handle: u64,
+        /// The record.
+        record: Left<K, V, P>,
+        /// The key's waiters, who got handles as well.
+        answers: Answers,
+    },
+    /// To `Get`: the key has a record.
+    Found {
+        /// The number of the new handle.
+        handle: u64,
+        /// The record.
+        record: Left<K, V, P>,
+    },
+    /// To `Get`: the key has no record.
+    Missing,
+    /// To `Contains`: the key has a record.
+    Yes,
+    /// To `Contains`: the key has no record.
+    No,
+    /// To `Drop`: the handle was given back.
+    Done,
+    /// To `Drop`: no held handle has this number. Nothing has changed.
+    NotHeld,
+    /// To `Insert` or `Get`: why it was refused.
+    Refused(Error),
+}
+
+/// What a session answers to a command.
+#[derive(Drop)]
+pub struct Reply<K, V, P> {
+    /// The answer.
+    pub answer: Answer<K, V, P>,
+    /// What left.
+    pub leaves: Leaves<K, V, P>,
+}
+
+impl<K, V, P> Reply<K, V, P> {
+    pub(crate) fn new(answer: Answer<K, V, P>, leaves: Vec<(Event, Left<K, V, P>)>) -> Self
+        ensures answer { result.answer ≡ answer }
+        ensures leaves { result.leaves ≡ leaves.items }
+    {
+        Reply {
+            answer,
+            leaves: Leaves::new(leaves),
+        }
+    }
+}

@@ -1,0 +1,11 @@
+//! Sessions over a cache, and the text that a program reads and prints.
+#![tactic(auto)]
+
+pub mod command;
+pub mod fifo_session;
+pub mod session;
+pub mod text;
+
+pub use command::{Answer, Answers, Command, Leaves, Reply};
+pub use fifo_session::run_fifo;
+pub use session::Session;

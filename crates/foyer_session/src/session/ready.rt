@@ -1,0 +1,68 @@
+//! Commands that nothing can be missing for.
+
+ghost use Rattle.std.specs.Prelude.{◌≡◌, ℕ, ◌<◌, IfOk, IfErr, map, vec_len, vec_capacity};
+ghost use Rattle.foyer_policy.specs.declared.error.Reason.TheVariants.{NoMemory};
+ghost use Rattle.foyer_session.specs.declared.command.Command.TheVariants.{Drop as GiveBack};
+
+use crate::command::Command;
+use foyer_core::Left;
+use foyer_policy::{Error, Event, Reason, Result};
+use std::alloc::Global;
+
+/// A command, with room for the leave that it may have.
+#[derive(Drop)]
+pub struct Ready<K: Drop, V: Drop, P: Drop> {
+    pub command: Command<K, V, P>,
+    pub leaves: Vec<(Event, Left<K, V, P>)>,
+    pub ghost empty: { vec_len leaves ≡ 0 },
+    pub ghost room: { (number : ℕ) → command ≡ GiveBack number → 0 < vec_capacity leaves },
+}
+
+impl<K: Drop, V: Drop, P: Drop> Ready<K, V, P> {
+    /// Makes that room. Only memory can be missing (F7).
+    pub fn new(alloc: Global, command: Command<K, V, P>) -> Result<Self>
+        ensures command { IfOk result (λ ready. ready.command ≡ command) }
+        ensures refused { IfErr result (λ e. e ≡ NoMemory) }
+    {
+        let leaves = room_for(alloc, &command)?;
+        Ok(Ready { command, leaves })
+    }
+}
+
+// An empty list, with room for the leave that the command may have.
+fn room_for<K: Drop, V: Drop, P: Drop>(
+    alloc: Global,
+    command: &Command<K, V, P>,
+) -> Result<Vec<(Event, Left<K, V, P>)>>
+    ensures empty { IfOk result (λ leaves. vec_len leaves ≡ 0) }
+    ensures room { IfOk result (λ leaves. (number : ℕ) → command.now ≡ GiveBack number → 0 < vec_capacity leaves) }
+    ensures refused { IfErr result (λ e. e ≡ NoMemory) }
+{
+    match command {
+        Command::Drop(_) => match Vec::with_capacity(alloc, 1) {
+            Ok(leaves) => Ok(leaves),
+            Err(_) => Err(Error::new(Reason::NoMemory)),
+        },
+        Command::Insert(_, _, _) | Command::Get(_) | Command::Contains(_) => Ok(Vec::new(alloc)),
+    }
+}
+
+/// Makes that room for each of the commands.
+pub fn ready_all<K: Drop, V: Drop, P: Drop>(
+    alloc: Global,
+    commands: Vec<Command<K, V, P>>,
+) -> Result<Vec<Ready<K, V, P>>>
+    ensures commands { IfOk result (λ all. map (λ ready. ready.command) all.items ≡ commands.items) }
+    ensures refused { IfErr result (λ e. e ≡ NoMemory) }
+{
+    let Ok(mut all) = Vec::with_capacity(alloc, commands.len()) else {
+        return Err(Error::new(Reason::NoMemory));
+    };
+    for command in commands {
+        let ready = Ready::new(alloc, command)?;
+        let Ok(()) = all.push(ready) else {
+            return Err(Error::new(Reason::NoMemory));
+        };
+    }
+    Ok(all)
+}

@@ -1,0 +1,32 @@
+//! The lines that a program reads, and the numbers that it prints. Nothing here allocates.
+
+mod kept;
+mod number;
+mod parse;
+mod print;
+mod scan;
+
+pub use number::number_of;
+pub use parse::line_of;
+pub use print::{write_number, write_out, write_wide_number};
+pub use scan::read_line;
+
+/// A line of commands. Words are parted by spaces, and numbers are decimal.
+#[derive(Clone, Copy, Debug, PartialEq, Eq)]
+pub enum Line {
+    /// A line without words.
+    Blank,
+    /// `insert K V [W]`. A line that leaves out W means the weight 1.
+    Insert { key: u64, value: u64, weight: usize },
+    /// `get K`.
+    Get(u64),
+    /// `contains K`.
+    Contains(u64),
+    /// `drop N`, of a handle's number.
+    Drop(u64),
+    /// Any other line.
+    Bad,
+}
+
+#[cfg(test)]
+mod tests;

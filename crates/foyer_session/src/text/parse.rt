@@ -1,0 +1,132 @@
+//! A line as a command.
+
+ghost use Rattle.std.specs.Prelude.{◌≡◌, ◌≢◌, ◌<◌, ◌≤◌, ◌∷◌, [], All, IfSome, IfNone, bytes_eq, length, slice_index, take};
+ghost use Rattle.foyer_session.specs.Text.{words, line_of, line_with_one, line_with_two, line_with_three};
+
+use super::Line;
+use super::number::number_of;
+
+/// The line that these bytes are; they do not have the byte 10 that ended it.
+pub fn line_of(line: &[u8]) -> Line
+    ensures { result ≡ line_of line.now }
+{
+    let Some((verb, rest)) = next_word(line) else {
+        return Line::Blank;
+    };
+    let Some((word, rest)) = next_word(rest) else {
+        return Line::Bad;
+    };
+    let Some(first) = number_of(word) else {
+        return Line::Bad;
+    };
+    let Some((word, rest)) = next_word(rest) else {
+        return with_one(verb, first);
+    };
+    let Some(second) = number_of(word) else {
+        return Line::Bad;
+    };
+    let Some((word, rest)) = next_word(rest) else {
+        return with_two(verb, first, second);
+    };
+    let Some(third) = number_of(word) else {
+        return Line::Bad;
+    };
+    match next_word(rest) {
+        None => with_three(verb, first, second, third),
+        Some(_) => Line::Bad,
+    }
+}
+
+// The line of a first word and one number.
+#[tactic(auto, unfolding(crate::specs::Text::line_with_one))]
+fn with_one(verb: &[u8], number: u64) -> Line
+    ensures { result ≡ line_with_one verb.now number }
+{
+    if is_word(verb, b"get") {
+        Line::Get(number)
+    } else if is_word(verb, b"contains") {
+        Line::Contains(number)
+    } else if is_word(verb, b"drop") {
+        Line::Drop(number)
+    } else {
+        Line::Bad
+    }
+}
+
+// The line of a first word and two numbers.
+#[tactic(auto, unfolding(crate::specs::Text::line_with_two))]
+fn with_two(verb: &[u8], first: u64, second: u64) -> Line
+    ensures { result ≡ line_with_two verb.now first second }
+{
+    if is_word(verb, b"insert") {
+        Line::Insert {
+            key: first,
+            value: second,
+            weight: 1,
+        }
+    } else {
+        Line::Bad
+    }
+}
+
+// The line of a first word and three numbers.
+#[tactic(auto, unfolding(crate::specs::Text::line_with_three))]
+fn with_three(verb: &[u8], first: u64, second: u64, third: u64) -> Line
+    ensures { result ≡ line_with_three verb.now first second third }
+{
+    if is_word(verb, b"insert") {
+        Line::Insert {
+            key: first,
+            value: second,
+            weight: third as usize,
+        }
+    } else {
+        Line::Bad
+    }
+}
+
+fn is_word(word: &[u8], name: &[u8]) -> bool
+    ensures { result ≡ bytes_eq word.now name.now }
+{
+    word == name
+}
+
+// The first word, and what follows it.
+fn next_word(bytes: &[u8]) -> Option<(&[u8], &[u8])>
+    ensures none { IfNone result (words bytes.now ≡ []) }
+    ensures some { IfSome result (λ r. words bytes.now ≡ r.0.now ∷ words r.1.now) }
+{
+    let bytes = &bytes[spaces_len(bytes)..];
+    if bytes.is_empty() {
+        return None;
+    }
+    Some(bytes.split_at(len_before(bytes, b' ')))
+}
+
+// How many spaces the bytes begin with.
+fn spaces_len(bytes: &[u8]) -> usize
+    ensures within { result ≤ length bytes.now }
+    ensures spaces { All (λ b. b ≡ 32) (take result bytes.now) }
+    ensures end { result < length bytes.now → slice_index bytes.now result ≢ 32 }
+{
+    for (i, byte) in bytes.iter().enumerate() {
+        if *byte != b' ' {
+            return i;
+        }
+    }
+    bytes.len()
+}
+
+/// How many bytes come before the first `byte`, or before the end.
+pub(super) fn len_before(bytes: &[u8], byte: u8) -> usize
+    ensures within { result ≤ length bytes.now }
+    ensures before { All (λ b. b ≢ byte) (take result bytes.now) }
+    ensures end { result < length bytes.now → slice_index bytes.now result ≡ byte }
+{
+    for (i, other) in bytes.iter().enumerate() {
+        if *other == byte {
+            return i;
+        }
+    }
+    bytes.len()
+}
