@@ -10,17 +10,15 @@ use Rattle.std.proofs.lemmas.Map.{update_here, update_apart}
 use Rattle.std.proofs.lemmas.List.Sorted.{length_permutation}
 use Rattle.foyer_policy.specs.Items.{weight_of, IsNewIn, remove_id, find_id}
 use Rattle.foyer_policy.specs.Policy.{IsPolicy, without}
-use Rattle.foyer_policy.specs.declared.types.Event.TheVariants.{Replace}
 use Rattle.foyer_policy.specs.declared.types.Item.{Item}
 use Rattle.foyer_core.specs.declared.record.Data.{Data}
-use Rattle.foyer_core.specs.declared.record.Limits.{Limits}
 use Rattle.foyer_core.specs.declared.records.Records.{Records}
-use Rattle.foyer_core.specs.Values.{Kept, Rec, Gone}
+use Rattle.foyer_core.specs.Values.{Kept, Gone}
 use Rattle.foyer_core.specs.Indexer.{same_key}
 use Rattle.foyer_core.specs.Table.{rec_of, slot_outside, id_by}
 use Rattle.foyer_core.specs.Records.{slot_in, number_of, record_in, id_in}
 use Rattle.foyer_core.specs.State.{Meaning, State, IsKept, key_of, item_of, usage_of, is_phantom_record}
-use Rattle.foyer_core.specs.Steps.{after_out, after_push, outside, gone_of, GivesWay, Admits, replaced_leaves}
+use Rattle.foyer_core.specs.Steps.{after_out, after_push, outside, GivesWay, Admits, replaced_leaves}
 use Rattle.foyer_core.specs.Stored.{IsStored, state}
 use Rattle.foyer_core.proofs.Keeps.{indexed_there, removed_keeps, removed_weight, push_new, push_keeps, push_weight}
 use Rattle.foyer_core.proofs.Keys.{same_key_laws}
@@ -37,17 +35,17 @@ Tells a b = (((a == b) ≡ true) × (a ≡ b)) ⊎ (((a == b) ≡ false) × (a �
 -- a second write over a first
 over : {A : Type 0} (f : ℕ → Option A) (n : ℕ) (a b : Option A) (q : ℕ) → update nat_eq (update nat_eq f n a) n b q ≡ update nat_eq f n b q
 over f n a b q = elim (eqb_tells q n) [
-    inl e ↦ subst (λ (x : ℕ). update nat_eq (update nat_eq f n a) n b x ≡ update nat_eq f n b x) (sym e.1) (update_here (update nat_eq f n a) n b ∙ sym (update_here f n b))
+  | inl e ↦ subst (λ (x : ℕ). update nat_eq (update nat_eq f n a) n b x ≡ update nat_eq f n b x) (sym e.1) (update_here (update nat_eq f n a) n b ∙ sym (update_here f n b))
   | inr e ↦ update_apart (update nat_eq f n a) n b q e.1 ∙ update_apart f n a q e.1 ∙ sym (update_apart f n b q e.1)
-  ]
+]
 
 -- writes at two places, in either order
 swapped : {A : Type 0} (f : ℕ → Option A) (n k : ℕ) (a b : Option A) → n ≢ k → (q : ℕ) → update nat_eq (update nat_eq f n a) k b q ≡ update nat_eq (update nat_eq f k b) n a q
 swapped f n k a b apart q = elim (eqb_tells q n) [
-    inl e ↦ subst (λ (x : ℕ). update nat_eq (update nat_eq f n a) k b x ≡ update nat_eq (update nat_eq f k b) n a x) (sym e.1)
+  | inl e ↦ subst (λ (x : ℕ). update nat_eq (update nat_eq f n a) k b x ≡ update nat_eq (update nat_eq f k b) n a x) (sym e.1)
       (update_apart (update nat_eq f n a) k b n apart ∙ update_here f n a ∙ sym (update_here (update nat_eq f k b) n a))
   | inr e ↦ again (eqb_tells q k) e.1
-  ] where
+] where
   again : Tells q k → q ≢ n → update nat_eq (update nat_eq f n a) k b q ≡ update nat_eq (update nat_eq f k b) n a q
   again (inl e) other = subst (λ (x : ℕ). update nat_eq (update nat_eq f n a) k b x ≡ update nat_eq (update nat_eq f k b) n a x) (sym e.1)
       (update_here (update nat_eq f n a) k b ∙ sym (update_apart (update nat_eq f k b) n a k (λ h. apart (sym h)) ∙ update_here f k b))
@@ -138,11 +136,11 @@ module _ {K V P View C : Type 0} (m : Meaning K P View C) (laws : IsEquivalence 
       pub admit_stored : IsStored m at3 keys3 t3
       admit_stored = record {
         led = λ q j h. elim (eqb_tells j n) [
-            inl e ↦ ap is_some (ap (slot_in t3) e.1 ∙ new_here)
+          | inl e ↦ ap is_some (ap (slot_in t3) e.1 ∙ new_here)
           | inr e ↦ led_on (same_key m.same (key_of d) q) q j e.1 (sym (led3 q) ∙ h)
         ];
         placed = λ j y h res. elim (eqb_tells j n) [
-            inl e ↦ (let same : placed_at next d p ≡ y = (let x : Some (placed_at next d p) ≡ Some y = sym new_here ∙ ap (slot_in t3) (sym e.1) ∙ h in cc) in
+          | inl e ↦ (let same : placed_at next d p ≡ y = (let x : Some (placed_at next d p) ≡ Some y = sym new_here ∙ ap (slot_in t3) (sym e.1) ∙ h in cc) in
               subst (λ (z : Kept K V P). option_and_then at3 z.place ≡ Some (item_of m z.id z.kept)) same here3)
           | inr e ↦ place_on y.place (item_of m y.id y.kept) (base.stored'.placed j y (sym (new_other j e.1) ∙ h) res)
         ];
@@ -154,7 +152,7 @@ module _ {K V P View C : Type 0} (m : Meaning K P View C) (laws : IsEquivalence 
         place_on : (w : Option ℕ) (i : Item) → option_and_then at' w ≡ Some i → option_and_then at3 w ≡ Some i
         place_on None i h = h
         place_on (Some a) i h = elim (eqb_tells a p) [
-            inl e ↦ (let x : None ≡ Some i = sym free3 ∙ ap at' (sym e.1) ∙ h in absurd cc)
+          | inl e ↦ (let x : None ≡ Some i = sym free3 ∙ ap at' (sym e.1) ∙ h in absurd cc)
           | inr e ↦ others3 a e.1 ∙ h
         ]
 
@@ -217,8 +215,10 @@ module _ {K V P View C : Type 0} (m : Meaning K P View C) (laws : IsEquivalence 
           (rec_of y, slot_record m at keys t old y there, refl, refl)
 
       pub old_weight : (usage : ℕ) → usage ≡ weight_of (m.policy.order view) → (y.kept.weight ≤ usage) × (usage - y.kept.weight ≡ usage_of m last_of)
-      old_weight usage h = (∥∥₁_elim kept (hlevel props) (λ k'. omega (arith, removed_weight m laws good now k' (key_of d) y.id hits_old (rec_of y) (slot_record m at keys t old y there))),
-        ∥∥₁_elim kept (hlevel props) (λ k'. omega (arith, removed_weight m laws good now k' (key_of d) y.id hits_old (rec_of y) (slot_record m at keys t old y there))))
+      old_weight usage h = (
+        ∥∥₁_elim kept (hlevel props) (λ k'. omega (arith, removed_weight m laws good now k' (key_of d) y.id hits_old (rec_of y) (slot_record m at keys t old y there))),
+        ∥∥₁_elim kept (hlevel props) (λ k'. omega (arith, removed_weight m laws good now k' (key_of d) y.id hits_old (rec_of y) (slot_record m at keys t old y there))),
+      )
 
       shorter_by : IsKept m now → length (m.policy.order last_of.view) + 1 ≡ length (m.policy.order view)
       shorter_by k' =
@@ -257,9 +257,9 @@ module _ {K V P View C : Type 0} (m : Meaning K P View C) (laws : IsEquivalence 
 
         slots_none : (q : ℕ) → slot_in t3 q ≡ update nat_eq (slot_in t) n (Some (placed_at next d p)) q
         slots_none q = slots3 q ∙ elim (eqb_tells q n) [
-            inl e ↦ subst (λ (x : ℕ). update nat_eq (slot_in t2) n (Some (placed_at next d p)) x ≡ update nat_eq (slot_in t) n (Some (placed_at next d p)) x) (sym e.1) (update_here (slot_in t2) n (Some (placed_at next d p)) ∙ sym (update_here (slot_in t) n (Some (placed_at next d p))))
+          | inl e ↦ subst (λ (x : ℕ). update nat_eq (slot_in t2) n (Some (placed_at next d p)) x ≡ update nat_eq (slot_in t) n (Some (placed_at next d p)) x) (sym e.1) (update_here (slot_in t2) n (Some (placed_at next d p)) ∙ sym (update_here (slot_in t) n (Some (placed_at next d p))))
           | inr e ↦ update_apart (slot_in t2) n (Some (placed_at next d p)) q e.1 ∙ slots2 q ∙ slots1 q ∙ update_apart (slot_in t) n (Some x0) q e.1 ∙ sym (update_apart (slot_in t) n (Some (placed_at next d p)) q e.1)
-          ]
+        ]
 
         viewed_none : view3 ≡ m.policy.push now.view (item_of m next d)
         viewed_none = viewed3 ∙ ap (λ (v : View). m.policy.push v (item_of m next d)) same2
@@ -280,10 +280,10 @@ module _ {K V P View C : Type 0} (m : Meaning K P View C) (laws : IsEquivalence 
           (slots2 : (q : ℕ) → slot_in t2 q ≡ update nat_eq (slot_in t1) old (slot_outside y) q) (recs2 : (id : ℕ) → record_in t2 id ≡ update nat_eq (record_in t1) y.id (outside (rec_of y)) id) where
         slots_some : (q : ℕ) → slot_in t3 q ≡ update nat_eq (update nat_eq (slot_in t) old (slot_outside y)) n (Some (placed_at next d p)) q
         slots_some q = slots3 q ∙ elim (eqb_tells q n) [
-            inl e ↦ subst (λ (x : ℕ). update nat_eq (slot_in t2) n (Some (placed_at next d p)) x ≡ update nat_eq (update nat_eq (slot_in t) old (slot_outside y)) n (Some (placed_at next d p)) x) (sym e.1)
+          | inl e ↦ subst (λ (x : ℕ). update nat_eq (slot_in t2) n (Some (placed_at next d p)) x ≡ update nat_eq (update nat_eq (slot_in t) old (slot_outside y)) n (Some (placed_at next d p)) x) (sym e.1)
               (update_here (slot_in t2) n (Some (placed_at next d p)) ∙ sym (update_here (update nat_eq (slot_in t) old (slot_outside y)) n (Some (placed_at next d p))))
           | inr e ↦ update_apart (slot_in t2) n (Some (placed_at next d p)) q e.1 ∙ slots2 q ∙ under_old q e.1 (eqb_tells q old) ∙ sym (update_apart (update nat_eq (slot_in t) old (slot_outside y)) n (Some (placed_at next d p)) q e.1)
-          ] where
+        ] where
           under_old : (q : ℕ) → q ≢ n → Tells q old → update nat_eq (slot_in t1) old (slot_outside y) q ≡ update nat_eq (slot_in t) old (slot_outside y) q
           under_old q apart (inl e) = subst (λ (x : ℕ). update nat_eq (slot_in t1) old (slot_outside y) x ≡ update nat_eq (slot_in t) old (slot_outside y) x) (sym e.1) (update_here (slot_in t1) old (slot_outside y) ∙ sym (update_here (slot_in t) old (slot_outside y)))
           under_old q apart (inr e) = update_apart (slot_in t1) old (slot_outside y) q e.1 ∙ slots1 q ∙ update_apart (slot_in t) n (Some x0) q apart ∙ sym (update_apart (slot_in t) old (slot_outside y) q e.1)
@@ -292,7 +292,7 @@ module _ {K V P View C : Type 0} (m : Meaning K P View C) (laws : IsEquivalence 
         recs_some id = recs3 id ∙ recs2 id ∙ outer id (eqb_tells id y.id) ∙ swapped (record_in t) next y.id (Some record { kept = d; handles = 1; resident = true }) (outside (rec_of y)) (λ e. id_apart old led y there at2 places2 (sym e)) id where
           outer : (id : ℕ) → Tells id y.id → update nat_eq (record_in t1) y.id (outside (rec_of y)) id ≡ update nat_eq (update nat_eq (record_in t) next (Some record { kept = d; handles = 1; resident = true })) y.id (outside (rec_of y)) id
           outer id (inl e) = subst (λ (x : ℕ). update nat_eq (record_in t1) y.id (outside (rec_of y)) x ≡ update nat_eq (update nat_eq (record_in t) next (Some record { kept = d; handles = 1; resident = true })) y.id (outside (rec_of y)) x) (sym e.1)
-            (update_here (record_in t1) y.id (outside (rec_of y)) ∙ sym (update_here (update nat_eq (record_in t) next (Some record { kept = d; handles = 1; resident = true })) y.id (outside (rec_of y))))
+              (update_here (record_in t1) y.id (outside (rec_of y)) ∙ sym (update_here (update nat_eq (record_in t) next (Some record { kept = d; handles = 1; resident = true })) y.id (outside (rec_of y))))
           outer id (inr e) = update_apart (record_in t1) y.id (outside (rec_of y)) id e.1 ∙ recs1 id ∙ sym (update_apart (update nat_eq (record_in t) next (Some record { kept = d; handles = 1; resident = true })) y.id (outside (rec_of y)) id e.1)
 
         viewed_some : view3 ≡ m.policy.push (m.policy.remove view y.id) (item_of m next d)
@@ -312,9 +312,9 @@ module _ {K V P View C : Type 0} (m : Meaning K P View C) (laws : IsEquivalence 
               kept3 = admit_kept slots keys2 at2 last base t3 p keys1 at3 view3 slots_some recs_some led3 here3 free3 others3 viewed_some plain (fits (replaced_leaves (Some record { id = y.id; kept = y.kept })) last way) handle;
               stored3 = admit_stored slots keys2 at2 last base t3 p keys1 at3 view3 slots_some recs_some led3 here3 free3 others3 viewed_some;
               weighed3 = (let w : weight_of (m.policy.order view3) ≡ d.weight + usage_of m last = ap (λ (v : View). weight_of (m.policy.order v)) viewed_some ∙ push_weight m laws good last d in
-                let u = old_weight old led y there at2 places2 usage hu in omega (arith, u.0, u.1));
+                  let u = old_weight old led y there at2 places2 usage hu in omega (arith, u.0, u.1));
               counted3 = (let w : length (m.policy.order view3) ≡ length (m.policy.order (m.policy.remove view y.id)) + 1 = ap (λ (v : View). length (m.policy.order v)) viewed_some ∙ pushed_length (m.policy.remove view y.id) (item_of m next d) in
-                let u = old_entries old led y there at2 places2 entries he in omega (arith, u.0, u.1));
+                  let u = old_entries old led y there at2 places2 entries he in omega (arith, u.0, u.1));
             }
 
   -- a record that was put in and is let go again
@@ -330,14 +330,14 @@ module _ {K V P View C : Type 0} (m : Meaning K P View C) (laws : IsEquivalence 
   unput d n free t1 x0 slots1 recs1 id t' keys' x there slots recs same =
       let same_x : x0 ≡ x = (let e : Some x0 ≡ Some x = sym (slots1 n ∙ update_here (slot_in t) n (Some x0)) ∙ there in cc) in
       let whole : (q : ℕ) → slot_in t' q ≡ slot_in t q = (λ q. slots q ∙ elim (eqb_tells q n) [
-          inl e ↦ subst (λ (a : ℕ). update nat_eq (slot_in t1) n None a ≡ slot_in t a) (sym e.1) (update_here (slot_in t1) n None ∙ sym free)
+        | inl e ↦ subst (λ (a : ℕ). update nat_eq (slot_in t1) n None a ≡ slot_in t a) (sym e.1) (update_here (slot_in t1) n None ∙ sym free)
         | inr e ↦ update_apart (slot_in t1) n None q e.1 ∙ slots1 q ∙ update_apart (slot_in t) n (Some x0) q e.1
-        ]) in
+      ]) in
       let none : record_in t next ≡ None = ap (λ (w : Option ℕ). option_map rec_of (option_and_then (slot_in t) w)) next_free in
       let records : (i : ℕ) → record_in t' i ≡ record_in t i = (λ i. recs i ∙ ap (λ (y : Kept K V P). update nat_eq (record_in t1) y.id None i) (sym same_x) ∙ ap (λ (a : ℕ). update nat_eq (record_in t1) a None i) id ∙ elim (eqb_tells i next) [
-          inl e ↦ subst (λ (a : ℕ). update nat_eq (record_in t1) next None a ≡ record_in t a) (sym e.1) (update_here (record_in t1) next None ∙ sym none)
+        | inl e ↦ subst (λ (a : ℕ). update nat_eq (record_in t1) next None a ≡ record_in t a) (sym e.1) (update_here (record_in t1) next None ∙ sym none)
         | inr e ↦ update_apart (record_in t1) next None i e.1 ∙ recs1 i ∙ ap (λ (a : ℕ). update nat_eq (record_in t) a (Some (rec_of x0)) i) id ∙ update_apart (record_in t) next (Some (rec_of x0)) i e.1
-        ]) in
+      ]) in
       let state_same : state number capacity limits view keys' t' next ≡ now = same_state (state number capacity limits view keys' t' next) now refl refl refl refl (λ q. ap (option_and_then (id_in t')) (same q) ∙ ids q (keys q)) records refl in
       record {
         same0 = state_same;
@@ -347,9 +347,9 @@ module _ {K V P View C : Type 0} (m : Meaning K P View C) (laws : IsEquivalence 
           placed = λ j y h res. stored.placed j y (sym (whole j) ∙ h) res;
         };
       } where
-    ids : (q : ℕ × K) (w : Option ℕ) → option_and_then (id_in t') w ≡ option_and_then (id_in t) w
-    ids q None = refl
-    ids q (Some j) = ap (option_map (λ (s : Kept K V P). s.id)) (slots j ∙ elim (eqb_tells j n) [
-        inl e ↦ subst (λ (a : ℕ). update nat_eq (slot_in t1) n None a ≡ slot_in t a) (sym e.1) (update_here (slot_in t1) n None ∙ sym free)
-      | inr e ↦ update_apart (slot_in t1) n None j e.1 ∙ slots1 j ∙ update_apart (slot_in t) n (Some x0) j e.1
-      ])
+        ids : (q : ℕ × K) (w : Option ℕ) → option_and_then (id_in t') w ≡ option_and_then (id_in t) w
+        ids q None = refl
+        ids q (Some j) = ap (option_map (λ (s : Kept K V P). s.id)) (slots j ∙ elim (eqb_tells j n) [
+          | inl e ↦ subst (λ (a : ℕ). update nat_eq (slot_in t1) n None a ≡ slot_in t a) (sym e.1) (update_here (slot_in t1) n None ∙ sym free)
+          | inr e ↦ update_apart (slot_in t1) n None j e.1 ∙ slots1 j ∙ update_apart (slot_in t) n (Some x0) j e.1
+        ])

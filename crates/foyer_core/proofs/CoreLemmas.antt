@@ -1,5 +1,5 @@
 -- A core of one shard.
-use Rattle.std.proofs.Common.{◌≡◌, ℕ, zero, suc, ◌%◌, List, [], ◌∷◌, Some, Result, refl, sym, subst, arith}
+use Rattle.std.proofs.Common.{◌≡◌, ℕ, zero, suc, [], ◌∷◌, Some, Result, refl, sym, subst, arith}
 use Rattle.std.proofs.Math.Nat.{div-one, mod-one}
 use Rattle.std.specs.Prelude.{slice_get}
 use Rattle.foyer_core.specs.declared.config.RawCacheConfig.{RawCacheConfig}

@@ -1,6 +1,6 @@
 -- The numbers of all groups, in the groups' order, are those of the table.
-use Rattle.std.proofs.Common.{◌≡◌, ℕ, List, [], ◌∷◌, ◌++◌, Bool, true, false, cond, Some, None, refl, sym, ap, ◌∙◌, ◌==◌, nat_eq, arith}
-use Rattle.std.specs.Prelude.{Option, option_and_then, ◌&&◌}
+use Rattle.std.proofs.Common.{◌≡◌, ℕ, List, [], ◌∷◌, ◌++◌, Bool, true, false, cond, Some, None, refl, sym, ap, ◌∙◌, ◌==◌, nat_eq}
+use Rattle.std.specs.Prelude.{Option, option_and_then}
 use Rattle.std.specs.Cmp.{nat_eq_equiv}
 use Rattle.std.specs.List.{IsDistinct, AllByRecursion, flat_map}
 use Rattle.std.specs.Map.{keys_of, values_of, lookup}
@@ -8,7 +8,7 @@ use Rattle.std.specs.declared.cmp.PartialEq.{Ghosts}
 use Rattle.std.proofs.lemmas.List.{map-append}
 use Rattle.std.proofs.lemmas.Map.{lookup-none}
 use Rattle.std.proofs.lemmas.Map.Entries.{none_past_head}
-use Rattle.std.proofs.lemmas.Map.Keys.{IsDistinct-head, IsDistinct-tail}
+use Rattle.std.proofs.lemmas.Map.Keys.{IsDistinct-tail}
 use Rattle.foyer_core.specs.declared.indexer.group.Group.{Group}
 use Rattle.foyer_core.specs.Group.{pairs_of}
 use Rattle.foyer_core.specs.Indexer.{same_key, AreNumbersOf}

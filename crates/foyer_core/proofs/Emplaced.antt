@@ -1,17 +1,14 @@
 -- What an insert has done, from the steps that it took.
-use Rattle.std.proofs.Common.{◌≡◌, ℕ, ◌+◌, ◌-◌, ◌<◌, ◌≤◌, ◌^◌, List, [], ◌++◌, Option, length, refl, sym, ◌∙◌, ap, subst, append-nil}
-use Rattle.std.specs.Cmp.{IsEquivalence}
-use Rattle.foyer_policy.specs.Policy.{IsPolicy, after_pops, evicted}
+use Rattle.std.proofs.Common.{ℕ, ◌-◌, List, [], ◌++◌, Option, length, refl, append-nil}
+use Rattle.foyer_policy.specs.Policy.{after_pops, evicted}
 use Rattle.foyer_policy.specs.declared.types.Event.{Event}
 use Rattle.foyer_policy.specs.declared.types.Event.TheVariants.{Evict}
 use Rattle.foyer_policy.specs.declared.types.Source.TheVariants.{Outer}
-use Rattle.foyer_policy.specs.declared.types.Item.{Item}
 use Rattle.foyer_policy.specs.declared.error.Reason.TheVariants.{NoMemory}
 use Rattle.foyer_core.specs.declared.record.Data.{Data}
-use Rattle.foyer_core.specs.Values.{Gone, Held}
-use Rattle.foyer_core.specs.State.{Meaning, State, key_of, pinned_beside, usage_of, IsKept}
-use Rattle.foyer_core.specs.Steps.{ids_of, entry_of, replaced_leaves, Leave, Evicting, Evicts, GivesWay, Admits, MayInsert, Inserts, RefusesInsert}
-use Rattle.foyer_core.proofs.InsertLemmas.{fits_after}
+use Rattle.foyer_core.specs.Values.{Gone}
+use Rattle.foyer_core.specs.State.{Meaning, State}
+use Rattle.foyer_core.specs.Steps.{ids_of, entry_of, replaced_leaves, Evicting, Evicts, Admits, MayInsert, Inserts, RefusesInsert}
 use Rattle.foyer_core.proofs.LeaveLemmas.{Rests, leave-rests}
 
 module _ {K V P View C : Type 0} (m : Meaning K P View C) (old : State K V P View) (d : Data K V P) where

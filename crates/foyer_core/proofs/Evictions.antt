@@ -60,8 +60,8 @@ module _ {K V P View C : Type 0} (m : Meaning K P View C) where
       more_told =
           let less : usage_of m now - i.weight ≡ weight_of (m.policy.order v) = omega (arith, pop_weight m.policy good now.view v i popped) in
           let next : until target (usage_of m now) (pops m.policy now.view) ≡ i ∷ until target (weight_of (m.policy.order v)) (pops m.policy v) =
-            ap (until target (usage_of m now)) (pops_some m.policy good now.view v i popped) ∙ until_more target (usage_of m now) i (pops m.policy v) above
-            ∙ ap (λ (n : ℕ). i ∷ until target n (pops m.policy v)) less in
+          ap (until target (usage_of m now)) (pops_some m.policy good now.view v i popped) ∙ until_more target (usage_of m now) i (pops m.policy v) above
+          ∙ ap (λ (n : ℕ). i ∷ until target n (pops m.policy v)) less in
           append_assoc h.left (i ∷ []) (until target (weight_of (m.policy.order v)) (pops m.policy v)) ∙ ap (λ (l : List Item). h.left ++ l) (sym next) ∙ h.told
 
       more_view : v ≡ after_pops m.policy (length (h.left ++ i ∷ [])) old.view
@@ -81,7 +81,7 @@ module _ {K V P View C : Type 0} (m : Meaning K P View C) where
         left = h.left ++ i ∷ [];
         told = more_told;
         leave = subst₂ (λ (ids : List ℕ) (w : View). Leave m Evict ids old (ls ++ (Evict, gone_of i.id r) ∷ []) w (record (after_out m now i.id r) { view = v })) more_ids more_view
-          (Leave-snoc Evict (ids_of h.left) old ls (after_pops m.policy (length h.left) old.view) now i.id r v h.leave there);
+            (Leave-snoc Evict (ids_of h.left) old ls (after_pops m.policy (length h.left) old.view) now i.id r v h.leave there);
         view = more_view;
       }
 
@@ -90,5 +90,5 @@ pub begun-evicts : {K V P View C : Type 0} (m : Meaning K P View C) (good : IsPo
     → Begun m target old ls now → target < usage_of m now → (gone : Gone K V P) (new : State K V P View) → EvictsOne m now gone new → Begun m target old (ls ++ (Evict, gone) ∷ []) new
 begun-evicts {K} {V} {P} {View} m good target old ls now begun above gone new e =
     subst (λ (g : Gone K V P). Begun m target old (ls ++ (Evict, g) ∷ []) new) (sym e.gone_is)
-      (subst (λ (s : State K V P View). Begun m target old (ls ++ (Evict, gone_of e.item.id e.rec) ∷ []) s) (sym e.after)
-        (begun-more m good target old ls now begun above e.item e.view e.popped e.rec e.there))
+    (subst (λ (s : State K V P View). Begun m target old (ls ++ (Evict, gone_of e.item.id e.rec) ∷ []) s) (sym e.after)
+    (begun-more m good target old ls now begun above e.item e.view e.popped e.rec e.there))

@@ -1,6 +1,6 @@
 -- What a key's record, where it had one, leaves behind as it gives way to a new one.
-use Rattle.std.proofs.Common.{◌≡◌, ◌≢◌, ℕ, ◌+◌, ◌-◌, ◌<◌, ◌≤◌, ◌^◌, List, [], ◌∷◌, Option, Some, None, Bool, true, false, cond, length, nat_eq, refl, sym, ◌∙◌, ap, subst, inl, inr, arith, rules}
-use Rattle.std.specs.Prelude.{option_and_then, is_some, ◌⊎◌, IsSome, IsSomeAnd, ◌==◌, ◌&&◌}
+use Rattle.std.proofs.Common.{◌≡◌, ◌≢◌, ℕ, ◌+◌, ◌-◌, ◌<◌, ◌≤◌, ◌^◌, [], Option, Some, None, Bool, true, false, cond, length, nat_eq, refl, sym, ◌∙◌, ap, subst, inl, inr, arith, rules}
+use Rattle.std.specs.Prelude.{option_and_then, is_some, ◌⊎◌, IsSome, IsSomeAnd, ◌==◌}
 use Rattle.std.proofs.lemmas.Bool.Decides.{nat_tests}
 use Rattle.std.proofs.Math.Logic.{∥∥₁_elim}
 use Rattle.std.proofs.Props.{props}
@@ -13,14 +13,13 @@ use Rattle.foyer_policy.specs.Policy.{IsPolicy, without}
 use Rattle.foyer_policy.specs.declared.types.Item.{Item}
 use Rattle.foyer_core.specs.declared.record.Data.{Data}
 use Rattle.foyer_core.specs.declared.records.Records.{Records}
-use Rattle.foyer_core.specs.Values.{Kept, Rec, Gone}
+use Rattle.foyer_core.specs.Values.{Kept, Gone}
 use Rattle.foyer_core.specs.Indexer.{same_key}
 use Rattle.foyer_core.specs.Table.{rec_of, slot_outside}
 use Rattle.foyer_core.specs.Records.{slot_in, record_in, id_in}
 use Rattle.foyer_core.specs.State.{Meaning, State, IsKept, key_of, item_of, usage_of, is_phantom_record}
 use Rattle.foyer_core.specs.Steps.{GivesWay, outside}
 use Rattle.foyer_core.proofs.Keeps.{push_new}
-use Rattle.foyer_core.proofs.Keys.{update_alike, same_key_laws}
 use Rattle.foyer_core.proofs.ShardLemmas.{Holding, now_of, resident}
 use Rattle.foyer_core.proofs.StoredLemmas.{some_of}
 use Rattle.foyer_core.proofs.AdmitLemmas.{Admitted, MayPush, placed_at, base_some, last_of, gives_way_some, old_weight, old_entries, admitted_none, admitted_some}
@@ -85,7 +84,7 @@ module _ {K V P View C : Type 0} (m : Meaning K P View C) (laws : IsEquivalence 
         (none : was ≡ None → (result ≡ (0, None)) × (view2 ≡ view)) (none_slots : was ≡ None → (q : ℕ) → slot_in t2 q ≡ slot_in t1 q)
         (none_records : was ≡ None → (id : ℕ) → record_in t2 id ≡ record_in t1 id) (none_places : was ≡ None → (p : ℕ) → at2 p ≡ at p)
         (some : (k : ℕ) (s : Kept K V P) (i : Item) → was ≡ Some k → slot_in t1 k ≡ Some s → option_and_then at s.place ≡ Some i
-          → (result ≡ (i.weight, Some record { id = s.id; kept = s.kept })) × (view2 ≡ m.policy.remove view i.id))
+        → (result ≡ (i.weight, Some record { id = s.id; kept = s.kept })) × (view2 ≡ m.policy.remove view i.id))
         (some_slots : (k : ℕ) (s : Kept K V P) → was ≡ Some k → slot_in t1 k ≡ Some s → (q : ℕ) → slot_in t2 q ≡ update nat_eq (slot_in t1) k (slot_outside s) q)
         (some_records : (k : ℕ) (s : Kept K V P) → was ≡ Some k → slot_in t1 k ≡ Some s → (id : ℕ) → record_in t2 id ≡ update nat_eq (record_in t1) s.id (outside (rec_of s)) id)
         (some_places : (k : ℕ) (s : Kept K V P) (i : Item) → was ≡ Some k → slot_in t1 k ≡ Some s → option_and_then at s.place ≡ Some i → (p : ℕ) → at2 p ≡ without i.id (at p)) where
@@ -160,8 +159,10 @@ module _ {K V P View C : Type 0} (m : Meaning K P View C) (laws : IsEquivalence 
       gave_lighter usage entries hu he = go gave where
         go : Gave gone replaced t2 at2 view2 → (gone ≤ usage) × (cond (is_some replaced) 1 0 ≤ entries)
         go (inl g) = (omega (arith, g.gone_is), rw g.replaced_is (omega arith))
-        go (inr g) = ((let u = old_weight m laws good o d n free g.old g.led g.y g.there at2 g.places usage hu in omega (arith, u.0, g.gone_is)),
-          rw g.replaced_is (old_entries m laws good o d n free g.old g.led g.y g.there at2 g.places entries he).0)
+        go (inr g) = (
+          (let u = old_weight m laws good o d n free g.old g.led g.y g.there at2 g.places usage hu in omega (arith, u.0, g.gone_is)),
+          rw g.replaced_is (old_entries m laws good o d n free g.old g.led g.y g.there at2 g.places entries he).0,
+        )
 
       -- the new usage fits
       pub gave_fits : (usage : ℕ) → usage ≡ weight_of (m.policy.order view) → ((ls : _) (last : State K V P View) → GivesWay m (now.index (key_of d)) now ls last → usage_of m last + d.weight < 2 ^ 64) → usage - gone + d.weight < 2 ^ 64
@@ -189,10 +190,10 @@ module _ {K V P View C : Type 0} (m : Meaning K P View C) (laws : IsEquivalence 
           go : Gave gone replaced t2 at2 view2 → Admitted m laws good o d n free replaced (usage - gone) (entries - cond (is_some replaced) 1 0) view3 keys1 t3 at3
           go (inl g) = rw (g.replaced_is, g.gone_is) (admitted_none m laws good o d n free t1 t2 t3 x0 x0_is p keys1 at2 at3 view2 view3 slots1 recs1 led1 slots3 recs3 here3 free3 others3 viewed3 plain handle fits
               g.led g.viewed g.slots g.recs g.places (usage - 0) (entries - 0) (hu' g.led) (he' g.led)) where
-            hu' : keys (key_of d) ≡ None → usage - 0 ≡ weight_of (m.policy.order view)
-            hu' e = omega arith
+                hu' : keys (key_of d) ≡ None → usage - 0 ≡ weight_of (m.policy.order view)
+                hu' e = omega arith
 
-            he' : keys (key_of d) ≡ None → entries - 0 ≡ length (m.policy.order view)
-            he' e = omega arith
+                he' : keys (key_of d) ≡ None → entries - 0 ≡ length (m.policy.order view)
+                he' e = omega arith
           go (inr g) = rw (g.replaced_is, g.gone_is) (admitted_some m laws good o d n free t1 t2 t3 x0 x0_is p keys1 at2 at3 view2 view3 slots1 recs1 led1 slots3 recs3 here3 free3 others3 viewed3 plain handle fits
               g.old g.led g.y g.there g.places g.viewed g.slots g.recs usage entries hu he)

@@ -1,6 +1,6 @@
 -- The pairs of one hash: where the pair of a key stands, and what a put and a removal keep.
-use Rattle.std.proofs.Common.{◌≡◌, ℕ, suc, ◌+◌, ◌<◌, ◌≤◌, List, [], ◌∷◌, ◌++◌, length, get_or, set, Bool, true, false, cond, Some, None, refl, sym, ap, ◌∙◌, subst, arith, add-one, one-add}
-use Rattle.std.specs.Prelude.{Option, Result, Ok, Err, OnOk, OnErr, nat_lt, not, slice_set, remove, position}
+use Rattle.std.proofs.Common.{◌≡◌, ℕ, suc, ◌+◌, ◌<◌, ◌≤◌, List, [], ◌∷◌, ◌++◌, length, get_or, set, Bool, true, false, cond, Some, None, refl, sym, ap, ◌∙◌, subst, arith, one-add}
+use Rattle.std.specs.Prelude.{Option, Result, Ok, Err, OnOk, OnErr, nat_lt, not, remove, position}
 use Rattle.std.specs.Cmp.{IsEquivalence}
 use Rattle.std.specs.List.{IsDistinct, AllByRecursion, position_or_len}
 use Rattle.std.specs.Map.{keys_of, lookup, remove_entry, update}

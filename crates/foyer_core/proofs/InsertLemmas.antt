@@ -39,8 +39,7 @@ module _ {K V P View C : Type 0} (m : Meaning K P View C) (laws : IsEquivalence 
     go : (o : Option ℕ) → old.index k ≡ o → GivesWay m o old ls new → IsKept m new × (new.index k ≡ None)
     go None e h = (subst (IsKept m) (sym h.1) kept, ap (λ (s : State K V P View). s.index k) h.1 ∙ e)
     go (Some id) e h =
-        let g = gave_way id old ls new h in
-        (
+        let g = gave_way id old ls new h in (
           subst (IsKept m) (sym g.2) (removed_keeps m laws good old kept k id e g.0 g.1),
           ap (λ (s : State K V P View). s.index k) g.2 ∙ removed_absent m laws good old kept k id e g.0 g.1,
         )
@@ -65,9 +64,9 @@ module _ {K V P View C : Type 0} (m : Meaning K P View C) (laws : IsEquivalence 
     -- the target is met, or all that is left was pinned before
     ended : (usage_of m mid ≤ target) ⊎ IsWithin (m.policy.order mid.view) (m.policy.pinned old.view)
     ended = elim (evicted_ends m.policy good target old.view) [
-        inl e ↦ inl (rw mid_view e)
+      | inl e ↦ inl (rw mid_view e)
       | inr e ↦ (let none : m.policy.pop mid.view ≡ None = rw mid_view e in inr (subst (IsWithin (m.policy.order mid.view)) mid_pinned (good.pop_none mid.view none)))
-      ]
+    ]
 
     -- a pinned record is still under its key
     pinned_stays : (k : ℕ × K) (id : ℕ) → old.index k ≡ Some id → mid.index k ≡ None → IsNewIn id (m.policy.pinned old.view)
@@ -91,16 +90,16 @@ module _ {K V P View C : Type 0} (m : Meaning K P View C) (laws : IsEquivalence 
         go None e h =
             let same : usage_of m last ≡ usage_of m mid = ap (usage_of m) h.1 in
             elim ended [
-              inl low ↦ inl (omega arith)
-            | inr within ↦ inr (omega (arith, within (λ (i : Item). i.weight), none e (old.index k) refl))
+              | inl low ↦ inl (omega arith)
+              | inr within ↦ inr (omega (arith, within (λ (i : Item). i.weight), none e (old.index k) refl))
             ]
         go (Some id) e h =
             let g = gave_way id mid replaced last h in
             let same : usage_of m last ≡ weight_of (remove_id id (m.policy.order mid.view)) = ap (usage_of m) g.2 ∙ ap weight_of (good.remove_order mid.view id) in
             let own : pinned_beside m old k ≡ weight_of (remove_id id (m.policy.pinned old.view)) = ap (λ (o : Option ℕ). weight_of (without_own o (m.policy.pinned old.view))) (rests.index k id e) in
             elim ended [
-              inl low ↦ inl (omega (arith, sum-removed (λ (i : Item). i.weight) id (m.policy.order mid.view)))
-            | inr within ↦ inr (omega (arith, removed_within id (m.policy.order mid.view) (m.policy.pinned old.view) mid_kept.once within))
+              | inl low ↦ inl (omega (arith, sum-removed (λ (i : Item). i.weight) id (m.policy.order mid.view)))
+              | inr within ↦ inr (omega (arith, removed_within id (m.policy.order mid.view) (m.policy.pinned old.view) mid_kept.once within))
             ]
 
   -- so the record's weight is within a `usize`
@@ -108,9 +107,9 @@ module _ {K V P View C : Type 0} (m : Meaning K P View C) (laws : IsEquivalence 
       → (replaced : List (Event × Gone K V P)) (last : State K V P View) → GivesWay m (mid.index (key_of d)) mid replaced last
       → d.weight + pinned_beside m old (key_of d) < 2 ^ 64 → old.capacity < 2 ^ 64 → d.weight < 2 ^ 64 → usage_of m last + d.weight < 2 ^ 64
   fits_after old kept d evictions mid evicts replaced last way room capacity weight = elim (left_over (old.capacity - d.weight) old kept evictions mid evicts (key_of d) replaced last way) [
-      inl low ↦ omega arith
+    | inl low ↦ omega arith
     | inr low ↦ omega arith
-    ]
+  ]
 
   module _ (old : State K V P View) (kept : IsKept m old) (d : Data K V P) (ls : List (Event × Gone K V P)) (entry : Held K V P) (new : State K V P View) (inserts : Inserts m old d ls entry new) where
     before_push : Rests m old inserts.last
@@ -124,8 +123,8 @@ module _ {K V P View C : Type 0} (m : Meaning K P View C) (laws : IsEquivalence 
     usage_after =
         let same : usage_of m new ≡ d.weight + usage_of m inserts.last = ap (usage_of m) inserts.after ∙ push_weight m laws good inserts.last d in
         elim (left_over (old.capacity - d.weight) old kept inserts.evictions inserts.mid inserts.evicts (key_of d) inserts.replaced inserts.last inserts.gives_way) [
-          inl low ↦ omega arith
-        | inr low ↦ omega (arith, beside (old.index (key_of d)))
+          | inl low ↦ omega arith
+          | inr low ↦ omega (arith, beside (old.index (key_of d)))
         ]
       where
         beside : (o : Option ℕ) → weight_of (without_own o (m.policy.pinned old.view)) ≤ weight_of (m.policy.pinned old.view)
@@ -138,8 +137,8 @@ module _ {K V P View C : Type 0} (m : Meaning K P View C) (laws : IsEquivalence 
         let n : inserts.last.next ≡ old.next = before_push.next in
         let one : Rec K V P = record { kept = d; handles = 1; resident = true } in
         subst (λ (s : State K V P View). (hit s (key_of d) ≡ Some old.next) × (s.records old.next ≡ Some one)) (sym inserts.after)
-          (subst (λ (a : ℕ). (hit (after_push m inserts.last d) (key_of d) ≡ Some a) × ((after_push m inserts.last d).records a ≡ Some one)) n
-            (rw ((same_key_laws m.same laws).refl (key_of d)), update_here inserts.last.records inserts.last.next (Some one)))
+        (subst (λ (a : ℕ). (hit (after_push m inserts.last d) (key_of d) ≡ Some a) × ((after_push m inserts.last d).records a ≡ Some one)) n
+        (rw ((same_key_laws m.same laws).refl (key_of d)), update_here inserts.last.records inserts.last.next (Some one)))
 
     -- and what a shard keeps is kept
     pub inserts_keeps : is_phantom_record m d ≡ false → d.weight + pinned_beside m old (key_of d) < 2 ^ 64 → old.capacity < 2 ^ 64 → d.weight < 2 ^ 64 → 1 ≤ old.limits.handles → IsKept m new

@@ -28,8 +28,7 @@ module _ {K V P View C : Type 0} (m : Meaning K P View C) (laws : IsEquivalence 
       let j = found-where id (m.policy.order s.view) pos in
       let same : j.0.id ≡ id = found-id id j.0 (m.policy.order s.view) j.1 in
       let old = kept.placed j.0 (subst (λ (a : ℕ). find_id a (m.policy.order s.view) ≡ Some j.0) (sym same) j.1) in
-      let item : j.0 ≡ item_of m id old.0.kept = old.4 ∙ ap (λ (a : ℕ). item_of m a old.0.kept) same in
-      (
+      let item : j.0 ≡ item_of m id old.0.kept = old.4 ∙ ap (λ (a : ℕ). item_of m a old.0.kept) same in (
         old.0,
         subst (λ (a : ℕ). s.records a ≡ Some old.0) same old.1,
         old.2,
@@ -72,7 +71,7 @@ module _ {K V P View C : Type 0} (m : Meaning K P View C) (laws : IsEquivalence 
           let same : t.0 ≡ r = cc (t.1, there) in
           let here : find_id id (m.policy.order s.view) ≡ Some (item_of m id r.kept) = t.4 ∙ ap (λ (q : Rec K V P). Some (item_of m id q.kept)) same in
           subst (λ (l : List Item). TakesOut (m.policy.order s.view) l (item_of m id r.kept)) (sym (good.remove_order s.view id))
-            (taken_by_remove_id (m.policy.order s.view) (item_of m id r.kept) kept.once here)
+          (taken_by_remove_id (m.policy.order s.view) (item_of m id r.kept) kept.once here)
 
       pub removed_weight : weight_of (m.policy.order (m.policy.remove s.view id)) + r.kept.weight ≡ weight_of (m.policy.order s.view)
       removed_weight = remove_takes.weight
@@ -111,35 +110,37 @@ module _ {K V P View C : Type 0} (m : Meaning K P View C) (laws : IsEquivalence 
       → r.handles < s.limits.handles → IsKept m (after_get m s id r)
   get_keeps s kept k id r under there room =
       change_keeps m s kept id r there (m.policy.acquire s.view id) (Some (record r { handles = r.handles + 1 })) (good.acquire_order s.view id kept.once) (acquired_pins s kept id)
-        (stands_some s.limits.handles (count_of id (m.policy.pinned (m.policy.acquire s.view id))) r (r.handles + 1) (inr (omega arith)) (omega arith) (λ pos. omega arith))
+      (stands_some s.limits.handles (count_of id (m.policy.pinned (m.policy.acquire s.view id))) r (r.handles + 1) (inr (omega arith)) (omega arith) (λ pos. omega arith))
 
   -- release takes the pin of its record, and no other
   released_pins : (s : State K V P View) → IsKept m s → (id j : ℕ) → 0 < count_of j (m.policy.pinned (m.policy.release s.view id)) → (j ≢ id) × (0 < count_of j (m.policy.pinned s.view))
   released_pins s kept id j pos =
       let e : count_of j (m.policy.pinned (m.policy.release s.view id)) ≡ count_of j (remove_id id (m.policy.pinned s.view)) = ap (count_of j) (good.release_pinned s.view id kept.once) in
       let here : 0 < count_of j (m.policy.pinned s.view) = omega (arith, sum-removed (one_if j) id (m.policy.pinned s.view)) in
-      let within : count_of j (m.policy.pinned s.view) ≤ count_of j (m.policy.order s.view) = good.pinned_within s.view (one_if j) in
-      (λ same. absurd (
-        let found = found-where id (m.policy.pinned s.view) (subst (λ (a : ℕ). 0 < count_of a (m.policy.pinned s.view)) same here) in
-        let is : found.0.id ≡ j = found-id id found.0 (m.policy.pinned s.view) found.1 ∙ sym same in
-        let one : one_if j found.0 ≡ 1 = (let t : (found.0.id == j) ≡ true = grind (arith, nat_tests) in rw t refl) in
-        omega (arith, sum-remove_id (one_if j) id found.0 (m.policy.pinned s.view) found.1, kept.once j)), here)
+      let within : count_of j (m.policy.pinned s.view) ≤ count_of j (m.policy.order s.view) = good.pinned_within s.view (one_if j) in (
+        λ same. absurd (
+            let found = found-where id (m.policy.pinned s.view) (subst (λ (a : ℕ). 0 < count_of a (m.policy.pinned s.view)) same here) in
+            let is : found.0.id ≡ j = found-id id found.0 (m.policy.pinned s.view) found.1 ∙ sym same in
+            let one : one_if j found.0 ≡ 1 = (let t : (found.0.id == j) ≡ true = grind (arith, nat_tests) in rw t refl) in
+            omega (arith, sum-remove_id (one_if j) id found.0 (m.policy.pinned s.view) found.1, kept.once j)),
+        here,
+      )
 
   pub give_back_keeps : (s : State K V P View) → IsKept m s → (id : ℕ) (r : Rec K V P) → s.records id ≡ Some r → 0 < r.handles → IsKept m (after_give_back m s id r)
   give_back_keeps s kept id r there held = go (r.handles == 1) r.resident refl refl where
     go : (b c : Bool) → (r.handles == 1) ≡ b → r.resident ≡ c → IsKept m (cond b
         (cond c
-          (record s { view = m.policy.release s.view id; records = update nat_eq s.records id (Some (record r { handles = 0 })) })
-          (record s { records = update nat_eq s.records id None }))
+        (record s { view = m.policy.release s.view id; records = update nat_eq s.records id (Some (record r { handles = 0 })) })
+        (record s { records = update nat_eq s.records id None }))
         (record s { records = update nat_eq s.records id (Some (record r { handles = r.handles - 1 })) }))
     go true true e f = change_keeps m s kept id r there (m.policy.release s.view id) (Some (record r { handles = 0 })) (good.release_order s.view id kept.once)
-      (λ j apart pos. (released_pins s kept id j pos).1)
-      (stands_some s.limits.handles (count_of id (m.policy.pinned (m.policy.release s.view id))) r 0 (inl f) (omega arith) (λ pos. absurd ((released_pins s kept id id pos).0 refl)))
+        (λ j apart pos. (released_pins s kept id j pos).1)
+        (stands_some s.limits.handles (count_of id (m.policy.pinned (m.policy.release s.view id))) r 0 (inl f) (omega arith) (λ pos. absurd ((released_pins s kept id id pos).0 refl)))
     go true false e f = change_keeps m s kept id r there s.view None (IsPermutation-refl (m.policy.order s.view)) (λ j apart pos. pos) (stands_none s.limits.handles (count_of id (m.policy.pinned s.view)) r f)
     go false c e f =
         let more : 0 < r.handles - 1 = grind (arith, nat_tests) in
         change_keeps m s kept id r there s.view (Some (record r { handles = r.handles - 1 })) (IsPermutation-refl (m.policy.order s.view)) (λ j apart pos. pos)
-          (stands_some s.limits.handles (count_of id (m.policy.pinned s.view)) r (r.handles - 1) (inr more) (omega (arith, kept.limited id r there)) (λ pos. more))
+        (stands_some s.limits.handles (count_of id (m.policy.pinned s.view)) r (r.handles - 1) (inr more) (omega (arith, kept.limited id r there)) (λ pos. more))
 
   -- a new shard's state
   pub opened_keeps : (s : State K V P View) (capacity : ℕ) (config : C) → m.policy.fault config ≡ None → s.view ≡ m.policy.opening capacity config

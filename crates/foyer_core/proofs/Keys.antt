@@ -23,7 +23,7 @@ same_key_laws same laws = record {
   refl = λ p. ap₂ (λ a b. a && b) (nat_refl p.0) (laws.refl p.1);
   symm = λ p q. ap₂ (λ a b. a && b) (nat_symm p.0 q.0) (laws.symm p.1 q.1);
   congr = λ p q r h. let e = both (p.0 == q.0) (same p.1 q.1) h in
-    ap₂ (λ a b. a && b) (nat_congr p.0 q.0 r.0 e.0) (laws.congr p.1 q.1 r.1 e.1);
+      ap₂ (λ a b. a && b) (nat_congr p.0 q.0 r.0 e.0) (laws.congr p.1 q.1 r.1 e.1);
 }
 
 -- to put under a key is to put under one that is equal

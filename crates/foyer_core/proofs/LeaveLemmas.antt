@@ -29,10 +29,10 @@ module _ {K V P View C : Type 0} (m : Meaning K P View C) where
   out_data : (s : State K V P View) (i : ℕ) (r : Rec K V P) → s.records i ≡ Some r → (id : ℕ) (q : Rec K V P) → (after_out m s i r).records id ≡ Some q
       → (o : Rec K V P) × (s.records id ≡ Some o) × (q.kept ≡ o.kept)
   out_data s i r there id q h = elim (eqb_tells id i) [
-      inl e ↦ (let now : outside r ≡ Some q = sym (update_here s.records i (outside r)) ∙ subst (λ (a : ℕ). (after_out m s i r).records a ≡ Some q) (e.1) h in
+    | inl e ↦ (let now : outside r ≡ Some q = sym (update_here s.records i (outside r)) ∙ subst (λ (a : ℕ). (after_out m s i r).records a ≡ Some q) (e.1) h in
         (r, subst (λ (a : ℕ). s.records a ≡ Some r) (sym e.1) there, ap (λ (x : Rec K V P). x.kept) (outside_is r q now).1))
     | inr e ↦ (q, sym (update_apart s.records i (outside r) id e.1) ∙ h, refl)
-    ]
+  ]
 
   -- what any leaves do not change
   pub record Rests (old new : State K V P View) : Type 0 where
@@ -97,7 +97,7 @@ module _ {K V P View C : Type 0} (m : Meaning K P View C) where
         let p = pops_first m.policy good old.view i (is ++ rest) parts in
         let onward : Leave m Evict (ids_of is) (after_out m old i.id h.0) ls (after_pops m.policy (length is) p.0) new = rw p.1 at h.3 in
         leave_pops_keep is rest (record (after_out m old i.id h.0) { view = p.0 }) ls new (popped_keeps m laws good old kept i p.0 p.1 h.0 h.1) p.2
-          (leave_any_view Evict (ids_of is) (after_out m old i.id h.0) p.0 ls (after_pops m.policy (length is) p.0) new onward)
+        (leave_any_view Evict (ids_of is) (after_out m old i.id h.0) p.0 ls (after_pops m.policy (length is) p.0) new onward)
 
     pub evicting_keeps : (target : ℕ) (old : State K V P View) (ls : List (Event × Gone K V P)) (new : State K V P View) → IsKept m old → Evicting m target old ls new → IsKept m new
     evicting_keeps target old ls new kept h =

@@ -61,17 +61,16 @@ module _ {K V P View C : Type 0} (m : Meaning K P View C) (laws : IsEquivalence 
   stayed : (id : ℕ) (q : Rec K V P) → (after_out m s i.id r).records id ≡ Some q
       → ((id ≢ i.id) × (s.records id ≡ Some q)) ⊎ ((id ≡ i.id) × (0 < r.handles) × (q ≡ record r { resident = false }))
   stayed id q h = elim (eqb_tells id i.id) [
-      inl e ↦ (let now : outside r ≡ Some q = sym (update_here s.records i.id (outside r)) ∙ subst (λ (a : ℕ). (after_out m s i.id r).records a ≡ Some q) (e.1) h in
+    | inl e ↦ (let now : outside r ≡ Some q = sym (update_here s.records i.id (outside r)) ∙ subst (λ (a : ℕ). (after_out m s i.id r).records a ≡ Some q) (e.1) h in
         let o = outside_is r q now in inr (e.1, o.0, o.1))
     | inr e ↦ inl (e.1, sym (update_apart s.records i.id (outside r) id e.1) ∙ h)
-    ]
+  ]
 
   left_placed : (j : Item) → find_id j.id (m.policy.order v) ≡ Some j
       → (q : Rec K V P) × ((after_out m s i.id r).records j.id ≡ Some q) × (q.resident ≡ true) × ((after_out m s i.id r).index (key_of q.kept) ≡ Some j.id) × (j ≡ item_of m j.id q.kept)
   left_placed j h =
       let apart : j.id ≢ i.id = leaving_apart j.id j h in
-      let old = kept.placed j (out.finds j.id j h) in
-      (
+      let old = kept.placed j (out.finds j.id j h) in (
         old.0,
         update_apart s.records i.id (outside r) j.id apart ∙ old.1,
         old.2,
@@ -84,23 +83,22 @@ module _ {K V P View C : Type 0} (m : Meaning K P View C) (laws : IsEquivalence 
   left_indexed k id h =
       let b = before (same_key m.same) s.index (key_of r.kept) k id (same_key m.same (key_of r.kept) k) refl h in
       let old = kept.indexed k id b.0 in
-      let apart : id ≢ i.id = λ e. absurd (let t : same_key m.same k (key_of r.kept) ≡ true = old.1 r (rw e there) in true≢false (sym t ∙ keys.symm k (key_of r.kept) ∙ b.1)) in
-      (
+      let apart : id ≢ i.id = λ e. absurd (let t : same_key m.same k (key_of r.kept) ≡ true = old.1 r (rw e there) in true≢false (sym t ∙ keys.symm k (key_of r.kept) ∙ b.1)) in (
         omega (arith, out.others id apart, old.0),
         λ q e. elim (stayed id q e) [ inl f ↦ old.1 q f.1 | inr f ↦ absurd (apart f.0) ],
       )
 
   left_resident : (id : ℕ) (q : Rec K V P) → (after_out m s i.id r).records id ≡ Some q → q.resident ≡ true → 0 < count_of id (m.policy.order v)
   left_resident id q h res = elim (stayed id q h) [
-      inl f ↦ omega (arith, out.others id f.0, kept.resident id q f.1 res)
+    | inl f ↦ omega (arith, out.others id f.0, kept.resident id q f.1 res)
     | inr f ↦ absurd (let e : ◌≡◌ {A = Bool} false true = sym (ap (λ (x : Rec K V P). x.resident) f.2) ∙ res in cc)
-    ]
+  ]
 
   left_plain : (id : ℕ) (q : Rec K V P) → (after_out m s i.id r).records id ≡ Some q → q.resident ≡ true → is_phantom_record m q.kept ≡ false
   left_plain id q h res = elim (stayed id q h) [
-      inl f ↦ kept.plain id q f.1 res
+    | inl f ↦ kept.plain id q f.1 res
     | inr f ↦ absurd (let e : ◌≡◌ {A = Bool} false true = sym (ap (λ (x : Rec K V P). x.resident) f.2) ∙ res in cc)
-    ]
+  ]
 
   left_handles : (q : Rec K V P) → q ≡ record r { resident = false } → q.handles ≡ r.handles
   left_handles q e = ap (λ (x : Rec K V P). x.handles) e

@@ -1,8 +1,8 @@
 -- A record that leaves its slot's place in the index and the policy: what the fields stand for then.
-use Rattle.std.proofs.Common.{◌≡◌, ◌≢◌, ℕ, ◌+◌, ◌-◌, ◌<◌, ◌≤◌, Option, Some, None, Bool, true, false, cond, length, nat_eq, refl, sym, ◌∙◌, ap, subst, inl, inr, arith}
+use Rattle.std.proofs.Common.{◌≡◌, ◌≢◌, ℕ, ◌-◌, ◌≤◌, Option, Some, None, Bool, true, false, cond, length, nat_eq, refl, sym, ◌∙◌, ap, subst, inl, inr, arith}
 use Rattle.std.proofs.Math.Logic.{∥∥₁_elim, ∥∥₁_map}
 use Rattle.std.proofs.Props.{props}
-use Rattle.std.specs.Prelude.{option_and_then, option_map, is_some, ◌==◌, if◌then◌else◌}
+use Rattle.std.specs.Prelude.{option_and_then, option_map, is_some, ◌==◌}
 use Rattle.std.specs.Cmp.{IsEquivalence}
 use Rattle.std.specs.Map.{update}
 use Rattle.std.proofs.lemmas.Bool.Decides.{eqb_tells}
@@ -10,7 +10,6 @@ use Rattle.std.proofs.lemmas.Map.{update_here, update_apart}
 use Rattle.foyer_policy.specs.Items.{weight_of}
 use Rattle.foyer_policy.specs.Policy.{IsPolicy, without}
 use Rattle.foyer_policy.specs.declared.types.Item.{Item}
-use Rattle.foyer_core.specs.declared.record.Limits.{Limits}
 use Rattle.foyer_core.specs.declared.records.Records.{Records}
 use Rattle.foyer_core.specs.Values.{Kept, Rec, Gone}
 use Rattle.foyer_core.specs.Indexer.{same_key}
@@ -24,7 +23,7 @@ use Rattle.foyer_core.proofs.Keys.{same_key_laws}
 use Rattle.foyer_core.proofs.Evictions.{popped_shorter}
 use Rattle.foyer_core.proofs.States.{same_state}
 use Rattle.foyer_core.proofs.ShardLemmas.{Holding, now_of}
-use Rattle.foyer_core.proofs.StoredLemmas.{index_is, slot_record, some_of}
+use Rattle.foyer_core.proofs.StoredLemmas.{index_is, slot_record}
 use Rattle.foyer_core.proofs.TableLemmas.{id_by-some, id_by-there}
 
 some_one : (a b : ℕ) → Some a ≡ Some b → a ≡ b
@@ -87,7 +86,7 @@ module _ {K V P View C : Type 0} (m : Meaning K P View C) (laws : IsEquivalence 
       left_stored = record {
         led = λ q j h. let l = led_still q j h in ap is_some (other j l.1) ∙ stored.led q j l.0;
         placed = λ j y h res. elim (eqb_tells j n) [
-            inl e ↦ (let out : slot_outside x ≡ Some y = sym (write n ∙ update_here (slot_in t) n (slot_outside x)) ∙ ap f' (sym e.1) ∙ h in
+          | inl e ↦ (let out : slot_outside x ≡ Some y = sym (write n ∙ update_here (slot_in t) n (slot_outside x)) ∙ ap f' (sym e.1) ∙ h in
               let f = outside_out x y out in absurd cc)
           | inr e ↦ (let was : slot_in t j ≡ Some y = sym (other j e.1) ∙ h in
               let old = stored.placed j y was res in

@@ -1,7 +1,6 @@
 -- The numbers of a hash table of groups, as its groups change.
-use Rattle.std.proofs.Common.{◌≡◌, ℕ, List, [], ◌∷◌, Bool, true, false, cond, Some, None, refl, sym, ap, ◌∙◌, arith, ◌==◌, nat_eq}
+use Rattle.std.proofs.Common.{◌≡◌, ℕ, List, Bool, true, false, cond, Some, refl, sym, arith, ◌==◌, nat_eq}
 use Rattle.std.specs.Prelude.{Option, option_and_then, ◌&&◌}
-use Rattle.std.specs.HashMap.{HashMap, get}
 use Rattle.std.specs.Map.{lookup, update}
 use Rattle.std.specs.declared.cmp.PartialEq.{Ghosts}
 use Rattle.std.proofs.lemmas.Bool.Decides.{nat_tests}

@@ -50,11 +50,11 @@ module _ {K V P View C : Type 0} (m : Meaning K P View C) (laws : IsEquivalence 
 
   new_once : HasIdsOnce (m.policy.order (after_push m s d).view)
   new_once id = elim (eqb_tells s.next id) [
-      inl e ↦ (let one : one_if id new_item ≡ 1 = rw (e.0) refl in
+    | inl e ↦ (let one : one_if id new_item ≡ 1 = rw (e.0) refl in
         let none : count_of id (m.policy.order s.view) ≡ 0 = subst (λ (a : ℕ). count_of a (m.policy.order s.view) ≡ 0) (e.1) (next_new m s kept) in
         omega (arith, counts id))
     | inr e ↦ (let none : one_if id new_item ≡ 0 = rw (e.0) refl in omega (arith, counts id, kept.once id))
-    ]
+  ]
 
   out : TakesOut (m.policy.order (after_push m s d).view) (m.policy.order s.view) new_item
   out = taken_by_permutation (m.policy.order (after_push m s d).view) (m.policy.order s.view) new_item new_once (IsPermutation-sym _ _ adds)
@@ -73,10 +73,10 @@ module _ {K V P View C : Type 0} (m : Meaning K P View C) (laws : IsEquivalence 
   -- and what is under an id
   record_was : (id : ℕ) (q : Rec K V P) → (after_push m s d).records id ≡ Some q → ((id ≡ s.next) × (q ≡ new_record)) ⊎ ((id ≢ s.next) × (s.records id ≡ Some q))
   record_was id q h = elim (eqb_tells id s.next) [
-      inl e ↦ (let now : ◌≡◌ {A = Option (Rec K V P)} (Some new_record) (Some q) =
-          sym (update_here s.records s.next (Some new_record)) ∙ subst (λ (a : ℕ). (after_push m s d).records a ≡ Some q) (e.1) h in inl (e.1, cc (now)))
+    | inl e ↦ (let now : ◌≡◌ {A = Option (Rec K V P)} (Some new_record) (Some q) =
+        sym (update_here s.records s.next (Some new_record)) ∙ subst (λ (a : ℕ). (after_push m s d).records a ≡ Some q) (e.1) h in inl (e.1, cc (now)))
     | inr e ↦ inr (e.1, sym (update_apart s.records s.next (Some new_record) id e.1) ∙ h)
-    ]
+  ]
 
   in_next : 0 < count_of s.next (m.policy.order (after_push m s d).view)
   in_next = found-counted s.next new_item (m.policy.order (after_push m s d).view) out.here
@@ -95,25 +95,28 @@ module _ {K V P View C : Type 0} (m : Meaning K P View C) (laws : IsEquivalence 
 
   pushed_placed : (j : Item) → find_id j.id (m.policy.order (after_push m s d).view) ≡ Some j → PlacedNow j
   pushed_placed j h = elim (eqb_tells j.id s.next) [
-      inl e ↦ (let found : find_id s.next (m.policy.order (after_push m s d).view) ≡ Some j = subst (λ (a : ℕ). find_id a (m.policy.order (after_push m s d).view) ≡ Some j) (e.1) h in
+    | inl e ↦ (let found : find_id s.next (m.policy.order (after_push m s d).view) ≡ Some j = subst (λ (a : ℕ). find_id a (m.policy.order (after_push m s d).view) ≡ Some j) (e.1) h in
         let same : new_item ≡ j = cc (out.here, found) in
         subst PlacedNow same placed_new)
     | inr e ↦ (let old = kept.placed j (stays_found (m.policy.order (after_push m s d).view) (m.policy.order s.view) new_item out j.id j e.1 h) in
         let apart : same_key m.same (key_of d) (key_of old.0.kept) ≡ false = differs (key_of old.0.kept) j.id (same_key m.same (key_of d) (key_of old.0.kept)) refl old.3 in
         (old.0, update_apart s.records s.next (Some new_record) j.id e.1 ∙ old.1, old.2, rw apart old.3, old.4))
-    ]
+  ]
 
   pushed_indexed : (k : ℕ × K) (id : ℕ) → (after_push m s d).index k ≡ Some id
       → (0 < count_of id (m.policy.order (after_push m s d).view)) × ((q : Rec K V P) → (after_push m s d).records id ≡ Some q → same_key m.same k (key_of q.kept) ≡ true)
   pushed_indexed k id h = elim (index_was k id (same_key m.same (key_of d) k) refl h) [
-      inl e ↦ (in_next_as id e.0, λ q there. elim (record_was id q there) [
-          inl f ↦ ap (λ (x : Rec K V P). same_key m.same k (key_of x.kept)) (f.1) ∙ (keys.symm k (key_of d) ∙ e.1)
+    | inl e ↦ (
+      in_next_as id e.0,
+      λ q there. elim (record_was id q there) [
+        | inl f ↦ ap (λ (x : Rec K V P). same_key m.same k (key_of x.kept)) (f.1) ∙ (keys.symm k (key_of d) ∙ e.1)
         | inr f ↦ absurd (f.0 e.0)
-        ])
+      ],
+    )
     | inr e ↦ (let old = kept.indexed k id e in
         let apart = apart_of_next id old.0 in
         (omega (arith, out.others id apart, old.0), λ q there. elim (record_was id q there) [ inl f ↦ absurd (apart f.0) | inr f ↦ old.1 q f.1 ]))
-    ]
+  ]
 
   -- a pin is of a record that was there before
   pushed_pinned : (id : ℕ) → 0 < count_of id (m.policy.pinned (after_push m s d).view) → 0 < count_of id (m.policy.pinned s.view)

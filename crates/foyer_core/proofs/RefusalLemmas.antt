@@ -1,5 +1,5 @@
 -- What a refusal of an insert, or none, tells.
-use Rattle.std.proofs.Common.{◌≡◌, ℕ, ◌+◌, ◌<◌, ◌≤◌, ◌^◌, ◌⊎◌, ◌↔◌, ◌∙◌, inl, inr, [], Option, Some, None, refl, sym, ap, subst, arith}
+use Rattle.std.proofs.Common.{◌≡◌, ◌+◌, ◌<◌, ◌≤◌, ◌^◌, ◌⊎◌, ◌↔◌, ◌∙◌, inl, inr, [], Option, Some, None, refl, sym, ap, subst, arith}
 use Rattle.foyer_policy.specs.declared.error.Reason.{Reason}
 use Rattle.foyer_policy.specs.declared.error.Reason.TheVariants.{Ids, Handles, Weight}
 use Rattle.foyer_core.specs.declared.record.Data.{Data}

@@ -1,8 +1,7 @@
 -- What a shard's fields tell of its state, and its steps on them.
-use Rattle.std.proofs.Common.{◌≡◌, ◌≢◌, ℕ, ◌+◌, ◌-◌, ◌<◌, ◌≤◌, Option, Some, None, Bool, true, false, length, nat_eq, refl, sym, ◌∙◌, ap, subst}
+use Rattle.std.proofs.Common.{◌≡◌, ℕ, ◌+◌, ◌<◌, Option, Some, true, length, nat_eq, refl, sym, ◌∙◌, ap, subst}
 use Rattle.std.proofs.Math.Logic.{∥∥₁_elim, ∥∥₁_map}
 use Rattle.std.proofs.Props.{props}
-use Rattle.std.specs.Prelude.{option_and_then, is_some}
 use Rattle.std.specs.Cmp.{IsEquivalence}
 use Rattle.std.specs.Map.{update}
 use Rattle.std.proofs.lemmas.List.Sorted.{sum_by-IsPermutation, length_permutation}
@@ -13,7 +12,7 @@ use Rattle.foyer_core.specs.declared.record.Limits.{Limits}
 use Rattle.foyer_core.specs.declared.records.Records.{Records}
 use Rattle.foyer_core.specs.Values.{Kept, Rec}
 use Rattle.foyer_core.specs.Table.{rec_of}
-use Rattle.foyer_core.specs.Records.{slot_in, number_of, record_in, id_in}
+use Rattle.foyer_core.specs.Records.{slot_in, number_of}
 use Rattle.foyer_core.specs.State.{Meaning, State, IsKept, item_of}
 use Rattle.foyer_core.specs.Stored.{IsStored, state}
 use Rattle.foyer_core.specs.Steps.{after_get}

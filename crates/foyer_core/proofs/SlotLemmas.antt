@@ -1,11 +1,11 @@
 -- A slab as a function from slots.
-use Rattle.std.proofs.Common.{◌≡◌, ℕ, Option, Some, None, nat_eq, refl, sym, ◌∙◌, ap, subst, inl, inr, rules, arith}
-use Rattle.std.specs.Prelude.{IsSome, option_copied, option_map}
+use Rattle.std.proofs.Common.{◌≡◌, ℕ, Option, Some, nat_eq, sym, ◌∙◌, subst, inl, inr, rules, arith}
+use Rattle.std.specs.Prelude.{IsSome}
 use Rattle.std.specs.Map.{update}
 use Rattle.std.proofs.lemmas.Map.{update_here, update_apart}
 use Rattle.std.proofs.lemmas.Bool.Decides.{eqb_tells}
 use Rattle.std.proofs.lemmas.Grind.{common_steps}
-use Rattle.slab.specs.Slab.{Slab, get, ContainsKey, Updates, with_value, slab_len, HasRoomFor}
+use Rattle.slab.specs.Slab.{Slab, get, Updates, with_value, slab_len, HasRoomFor}
 use Rattle.slab.proofs.SlabLemmas.{Updates-with_value}
 
 module _ {T : Type 0} where

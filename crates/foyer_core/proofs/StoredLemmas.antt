@@ -1,15 +1,15 @@
 -- How a shard's fields go on standing for its state.
-use Rattle.std.proofs.Common.{◌≡◌, ◌≢◌, ℕ, ◌<◌, Option, Some, None, Bool, true, false, nat_eq, refl, sym, ◌∙◌, ap, subst, inl, inr}
-use Rattle.std.specs.Prelude.{option_map, option_and_then, ◌==◌, is_some, IsSome, Result, Ok, Err, IsErrAnd}
+use Rattle.std.proofs.Common.{◌≡◌, ℕ, Option, Some, None, true, nat_eq, refl, sym, ◌∙◌, ap, subst, inl, inr}
+use Rattle.std.specs.Prelude.{option_and_then, is_some, Result, Ok, Err, IsErrAnd}
 use Rattle.std.specs.Map.{update}
 use Rattle.std.proofs.lemmas.Map.{update_here, update_apart}
 use Rattle.std.proofs.lemmas.Bool.Decides.{eqb_tells}
 use Rattle.foyer_policy.specs.declared.types.Item.{Item}
 use Rattle.foyer_core.specs.declared.records.Records.{Records}
-use Rattle.foyer_core.specs.Values.{Kept, Rec}
+use Rattle.foyer_core.specs.Values.{Kept}
 use Rattle.foyer_core.specs.Table.{rec_of}
 use Rattle.foyer_core.specs.Records.{slot_in, number_of, record_in, id_in}
-use Rattle.foyer_core.specs.State.{Meaning, State, item_of}
+use Rattle.foyer_core.specs.State.{Meaning, item_of}
 use Rattle.foyer_core.specs.Stored.{IsStored}
 use Rattle.foyer_core.proofs.TableLemmas.{id_by-some, record_there, write_ids, with_handles}
 
@@ -56,22 +56,22 @@ module _ {K V P View C : Type 0} (m : Meaning K P View C) (at : ℕ → Option I
     -- a slot now was there before, but for its handles
     was : (k : ℕ) (x : Kept K V P) → slot_in t' k ≡ Some x → (y : Kept K V P) × (slot_in t k ≡ Some y) × (x ≡ with_handles y x.handles)
     was k x is = elim (eqb_tells k n) [
-        inl e ↦ (let now : Some (with_handles s h) ≡ Some x = sym (write n ∙ update_here (slot_in t) n (Some (with_handles s h))) ∙ ap (slot_in t') (sym e.1) ∙ is in
+      | inl e ↦ (let now : Some (with_handles s h) ≡ Some x = sym (write n ∙ update_here (slot_in t) n (Some (with_handles s h))) ∙ ap (slot_in t') (sym e.1) ∙ is in
           let x_is : with_handles s h ≡ x = cc in
           (s, ap (slot_in t) e.1 ∙ there, subst (λ (z : Kept K V P). z ≡ with_handles s z.handles) x_is refl))
       | inr e ↦ (x, sym (write k ∙ update_apart (slot_in t) n (Some (with_handles s h)) k e.1) ∙ is, refl)
-      ]
+    ]
 
     pub count_stored : IsStored m at keys t → IsStored m at' keys t'
     count_stored stored = record {
       led = λ q k is. elim (eqb_tells k n) [
-        inl e ↦ ap is_some (ap (slot_in t') e.1 ∙ write n ∙ update_here (slot_in t) n (Some (with_handles s h)))
-      | inr e ↦ ap is_some (write k ∙ update_apart (slot_in t) n (Some (with_handles s h)) k e.1) ∙ stored.led q k is
+        | inl e ↦ ap is_some (ap (slot_in t') e.1 ∙ write n ∙ update_here (slot_in t) n (Some (with_handles s h)))
+        | inr e ↦ ap is_some (write k ∙ update_apart (slot_in t) n (Some (with_handles s h)) k e.1) ∙ stored.led q k is
       ];
       placed = λ k x is res.
-        let y = was k x is in
-        let old = stored.placed k y.0 y.1 (sym (ap (λ (z : Kept K V P). z.resident) y.2) ∙ res) in
-        and_then_same at' at x.place same ∙ ap (λ (z : Kept K V P). option_and_then at z.place) y.2 ∙ old ∙ ap (λ (z : Kept K V P). Some (item_of m z.id z.kept)) (sym y.2);
+          let y = was k x is in
+          let old = stored.placed k y.0 y.1 (sym (ap (λ (z : Kept K V P). z.resident) y.2) ∙ res) in
+          and_then_same at' at x.place same ∙ ap (λ (z : Kept K V P). option_and_then at z.place) y.2 ∙ old ∙ ap (λ (z : Kept K V P). Some (item_of m z.id z.kept)) (sym y.2);
     } where
       and_then_same : (f g : ℕ → Option Item) (o : Option ℕ) → ((p : ℕ) → f p ≡ g p) → option_and_then f o ≡ option_and_then g o
       and_then_same f g None h = refl

@@ -1,10 +1,10 @@
 -- Records by slot and by id: what a change of one slot makes of them.
-use Rattle.std.proofs.Common.{◌≡◌, ◌≢◌, ℕ, Option, Some, None, Bool, true, false, nat_eq, refl, sym, ◌∙◌, ap, subst, inl, inr}
+use Rattle.std.proofs.Common.{◌≡◌, ◌≢◌, ℕ, Option, Some, None, true, false, nat_eq, refl, sym, ◌∙◌, ap, subst, inl, inr}
 use Rattle.std.specs.Prelude.{option_map, option_and_then, ◌==◌, is_some}
 use Rattle.std.specs.Map.{update}
 use Rattle.std.proofs.lemmas.Map.{update_here, update_apart}
 use Rattle.std.proofs.lemmas.Bool.Decides.{eqb_tells}
-use Rattle.foyer_core.specs.Values.{Kept, Rec}
+use Rattle.foyer_core.specs.Values.{Kept}
 use Rattle.foyer_core.specs.Table.{IsTable, rec_of, id_by, record_by}
 
 some_one : (a b : ℕ) → Some a ≡ Some b → a ≡ b

@@ -11,7 +11,6 @@ use Rattle.foyer_policy.proofs.ItemLemmas.{new-head, new-tail, once-head, once-t
 abbrev weighs_but : ℕ → Item → ℕ
 weighs_but id i = cond (i.id == id) 0 i.weight
 
-
 but_le : (id : ℕ) (l : List Item) → sum_by (weighs_but id) l ≤ weight_of l
 but_le id [] = omega arith
 but_le id (x ∷ xs) = go (x.id == id) refl (but_le id xs) where

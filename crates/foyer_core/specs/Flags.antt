@@ -1,5 +1,5 @@
 -- Sets of flags.
-use Rattle.std.specs.Prelude.{◌≡◌, ℕ, ◌+◌, Bool, true, false, if◌then◌else◌, ◌||◌}
+use Rattle.std.specs.Prelude.{◌≡◌, ℕ, ◌+◌, Bool, true, if◌then◌else◌, ◌||◌}
 use Rattle.foyer_core.specs.declared.record.Flags.{Flags}
 
 -- 1 for the index, 2 for the policy

@@ -1,5 +1,5 @@
 -- A shard as maps.
-use Rattle.std.specs.Prelude.{◌≡◌, ℕ, ◌+◌, ◌<◌, ◌≤◌, ◌^◌, ◌⊎◌, List, Option, Some, None, Bool, true, false}
+use Rattle.std.specs.Prelude.{◌≡◌, ℕ, ◌<◌, ◌≤◌, ◌^◌, ◌⊎◌, List, Option, Some, None, Bool, true, false}
 use Rattle.foyer_policy.specs.Items.{weight_of, count_of, find_id, remove_id, HasIdsOnce}
 use Rattle.foyer_policy.specs.Policy.{Policy}
 use Rattle.foyer_policy.specs.Properties.{is_phantom, hint_or_normal}

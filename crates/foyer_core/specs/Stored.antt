@@ -1,5 +1,5 @@
 -- How a shard's fields stand for its state.
-use Rattle.std.specs.Prelude.{◌≡◌, ℕ, Option, Some, None, option_and_then, is_some, Bool, true}
+use Rattle.std.specs.Prelude.{◌≡◌, ℕ, Option, Some, option_and_then, is_some, Bool, true}
 use Rattle.foyer_policy.specs.Policy.{Policy}
 use Rattle.foyer_policy.specs.declared.types.Hint.{Hint}
 use Rattle.foyer_policy.specs.declared.types.Item.{Item}

@@ -16,8 +16,9 @@ use foyer_policy::{Event, Eviction, HashBuilder, Key, Properties, Result, Value}
 use std::alloc::Global;
 use std::marker::PhantomData;
 
-/// The records of a cache, found by their keys, in one thread's hands. `N` is what waits for an answer.
-/// Contracts see a `Core`: its shards, and what gives its keys their hashes and its records their weights.
+/// The records of a cache, found by their keys, in one thread's hands. `N` is what waits for an answer, and
+/// `I` the index of each shard. Contracts see a `Core`: its shards, and what gives its keys their hashes and
+/// its records their weights.
 #[derive(Drop)]
 pub struct CacheCore<
     E: Eviction,
@@ -35,6 +36,7 @@ pub struct CacheCore<
     hash_builder: S,
     weighter: W,
     alloc: Global,
+    // Nothing waits for an answer yet.
     waiters: PhantomData<N>,
 }
 
@@ -46,8 +48,7 @@ impl<
     S: HashBuilder,
     W: Weighter<K, V>,
     N: Drop,
-> CacheCore<E, K, V, P, S, W, N>
-{
+> CacheCore<E, K, V, P, S, W, N> {
     ghost use Rattle.foyer_core.specs.Core.{IsNewCore};
     ghost use Rattle.foyer_core.specs.Cores.{core_of, meaning_of_core};
 
@@ -88,9 +89,8 @@ impl<
     W: Weighter<K, V>,
     N: Drop,
     I: Indexer<K>,
-> CacheCore<E, K, V, P, S, W, N, I>
-{
-    ghost use Rattle.foyer_core.specs.Core.{AtShard, AnswersNobody, InsertsWeighed, Owns, hit_in, usage_of_core, entries_of_core};
+> CacheCore<E, K, V, P, S, W, N, I> {
+    ghost use Rattle.foyer_core.specs.Core.{AnswersNobody, AtShard, InsertsWeighed, Owns, entries_of_core, hit_in, usage_of_core};
     ghost use Rattle.foyer_core.specs.Cores.{core_of, meaning_of_core};
     ghost use Rattle.foyer_core.specs.Steps.{Gets, GivesBack};
 
@@ -125,14 +125,23 @@ impl<
     /// The hash of a key. Equal keys have equal ones.
     pub fn hash(&self, key: &K) -> u64
         ensures hash { result ≡ S.hash_of (core_of self.now).hash_builder (K.hash_input key.now) }
-        ensures equal_keys { (other : K) → IsTrue (K.eq key.now other) → S.hash_of (core_of self.now).hash_builder (K.hash_input other) ≡ result }
+        ensures equal_keys { (other : K) → IsTrue (K.eq key.now other)
+            → S.hash_of (core_of self.now).hash_builder (K.hash_input other) ≡ result }
     {
         self.hash_builder.hash_one(key)
     }
 
+    /// What gives the keys their hashes.
+    pub fn hash_builder(&self) -> &S
+        ensures { result.now ≡ (core_of self.now).hash_builder }
+    {
+        &self.hash_builder
+    }
+
     /// Whether a get finds a record under the key. It takes no memory.
     pub fn contains(&self, key: &K) -> bool
-        ensures { let hash = S.hash_of (core_of self.now).hash_builder (K.hash_input key.now) in result ≡ is_some (hit_in (core_of self.now) (hash, key.now)) }
+        ensures { let hash = S.hash_of (core_of self.now).hash_builder (K.hash_input key.now) in
+            result ≡ is_some (hit_in (core_of self.now) (hash, key.now)) }
     {
         self.shard.contains(self.hash(key), key)
     }
@@ -142,7 +151,8 @@ impl<
     /// It allocates nothing.
     pub fn get(&mut self, key: &K) -> Result<Option<CoreEntry<K, V, P>>>
         ensures { let hash = S.hash_of (core_of self.old).hash_builder (K.hash_input key.now) in
-            AtShard (λ s t. Gets (meaning_of_core self.old) s (hash, key.now) result t) hash (core_of self.old) (core_of self.new) }
+            AtShard (λ s t. Gets (meaning_of_core self.old) s (hash, key.now) result t)
+            hash (core_of self.old) (core_of self.new) }
     {
         let hash = self.hash(key);
         self.shard.get(hash, key)
@@ -158,7 +168,9 @@ impl<
         requires plain { (p : P) → P.is_default p → is_phantom (P.phantom_of p) ≡ false }
         requires in_memory { (p : P) → P.is_default p → P.location_of p ≢ Some OnDisk }
         ensures inserted { let hash = S.hash_of (core_of self.old).hash_builder (K.hash_input key) in
-            (p : P) × P.is_default p × InsertsWeighed (meaning_of_core self.old) (W.weighs (core_of self.old).weighter key value) hash key value p result (core_of self.old) (core_of self.new) }
+            (p : P) × P.is_default p
+            × InsertsWeighed (meaning_of_core self.old) (W.weighs (core_of self.old).weighter key value)
+            hash key value p result (core_of self.old) (core_of self.new) }
         ensures answers { IfOk result (λ made. AnswersNobody made.answers) }
     {
         self.insert_with_properties(key, value, P::default())
@@ -180,7 +192,8 @@ impl<
         requires plain { is_phantom (P.phantom_of properties) ≡ false }
         requires in_memory { P.location_of properties ≢ Some OnDisk }
         ensures inserted { let hash = S.hash_of (core_of self.old).hash_builder (K.hash_input key) in
-            InsertsWeighed (meaning_of_core self.old) (W.weighs (core_of self.old).weighter key value) hash key value properties result (core_of self.old) (core_of self.new) }
+            InsertsWeighed (meaning_of_core self.old) (W.weighs (core_of self.old).weighter key value)
+            hash key value properties result (core_of self.old) (core_of self.new) }
         ensures answers { IfOk result (λ made. AnswersNobody made.answers) }
     {
         let hash = self.hash(&key);
@@ -218,7 +231,9 @@ impl<
         entry: CoreEntry<K, V, P>,
     ) -> std::result::Result<Option<(Event, Left<K, V, P>)>, CoreEntry<K, V, P>>
         ensures owned { IsOk result ↔ Owns (core_of self.old) entry }
-        ensures taken { IfOk result (λ leave. AtShard (λ s t. GivesBack (meaning_of_core self.old) s entry.id leave t) entry.kept.hash (core_of self.old) (core_of self.new)) }
+        ensures taken { IfOk result (λ leave.
+            AtShard (λ s t. GivesBack (meaning_of_core self.old) s entry.id leave t)
+            entry.kept.hash (core_of self.old) (core_of self.new)) }
         ensures returned { IfErr result (λ e. e ≡ entry) }
         ensures err { OnErr result (core_of self.new ≡ core_of self.old) }
     {

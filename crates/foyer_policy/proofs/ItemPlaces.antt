@@ -1,6 +1,6 @@
 -- Items under places: what is taken out by its place is taken out by its id.
-use Rattle.std.proofs.Common.{◌≡◌, ◌≢◌, ℕ, ◌+◌, Bool, true, false, cond, List, [], ◌∷◌, ◌++◌, Option, Some, None, map, refl, sym, ◌∙◌, ap, arith}
-use Rattle.std.specs.Prelude.{◌==◌, if◌then◌else◌, is_some}
+use Rattle.std.proofs.Common.{◌≡◌, ◌≢◌, ℕ, Bool, true, false, cond, List, [], ◌∷◌, ◌++◌, Option, Some, None, map, refl, sym, ap, arith}
+use Rattle.std.specs.Prelude.{◌==◌, is_some}
 use Rattle.std.proofs.lemmas.Bool.Decides.{nat_tests}
 use Rattle.foyer_policy.specs.Lists.{drop_place, IsFree, IsDistinct}
 use Rattle.foyer_policy.specs.Items.{IsNewIn, HasIdsOnce, remove_id, find_id}

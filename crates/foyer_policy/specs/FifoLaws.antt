@@ -1,8 +1,8 @@
 -- First in, first out is a policy.
-use Rattle.std.proofs.Common.{◌≡◌, ℕ, zero, suc, ◌+◌, ◌≤◌, List, [], ◌∷◌, ◌++◌, Option, Some, None, length, refl, sym, ◌∙◌, ap, arith, inl}
+use Rattle.std.proofs.Common.{◌≡◌, List, [], ◌∷◌, ◌++◌, Some, None, refl, ap, arith, inl}
 use Rattle.std.proofs.lemmas.List.Sorted.{IsPermutation-refl, IsPermutation-sym, IsPermutation-to_front}
 use Rattle.foyer_policy.specs.Items.{IsWithin}
-use Rattle.foyer_policy.specs.Policy.{Policy, IsPolicy, after_pops, after_all_pops}
+use Rattle.foyer_policy.specs.Policy.{IsPolicy, after_all_pops}
 use Rattle.foyer_policy.specs.Fifo.{fifo, take_first}
 use Rattle.foyer_policy.specs.declared.types.Item.{Item}
 

@@ -1,7 +1,7 @@
 -- What an eviction policy does, over an abstract view, and the laws that code above a policy may use.
-use Rattle.std.specs.Prelude.{◌≡◌, ◌≢◌, ◌==◌, ℕ, zero, suc, ◌+◌, ◌-◌, ◌≤◌, ◌⊎◌, List, [], ◌∷◌, Option, Some, None, option_and_then, length, nat_le, if◌then◌else◌}
+use Rattle.std.specs.Prelude.{◌≡◌, ◌==◌, ℕ, zero, suc, ◌+◌, ◌-◌, ◌≤◌, ◌⊎◌, List, [], ◌∷◌, Option, Some, None, option_and_then, length, nat_le, if◌then◌else◌}
 use Rattle.std.specs.List.Sorted.{IsPermutation}
-use Rattle.foyer_policy.specs.Items.{weight_of, count_of, IsNewIn, HasIdsOnce, IsWithin, remove_id, find_id}
+use Rattle.foyer_policy.specs.Items.{weight_of, HasIdsOnce, IsWithin, remove_id, find_id}
 use Rattle.foyer_policy.specs.declared.types.Item.{Item}
 use Rattle.foyer_policy.specs.declared.error.Reason.{Reason}
 use Rattle.foyer_policy.specs.declared.error.ErrorKind.TheVariants.{Config}

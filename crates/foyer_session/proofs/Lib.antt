@@ -5,3 +5,9 @@ pub mod LineLemmas
 pub mod KeptLemmas
 pub mod ReadLemmas
 pub mod Joins
+pub mod CountLemmas
+pub mod OwnLemmas
+pub mod StepLemmas
+pub mod FoundLemmas
+pub mod RunLemmas
+pub mod CoreLemmas

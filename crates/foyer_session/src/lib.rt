@@ -2,6 +2,12 @@
 #![tactic(auto)]
 
 pub mod command;
+pub mod fifo_session;
 pub mod session;
 pub mod simulate;
 pub mod text;
+
+pub use command::{Answer, Answers, Command, Leaves, Reply};
+pub use fifo_session::run_fifo;
+pub use session::Session;
+pub use simulate::{SimArgs, SimPolicy, SimValue, SimWeighter, sim_args, simulate};

@@ -7,6 +7,7 @@ ghost use Rattle.foyer_policy.specs.declared.types.Location.TheVariants.{OnDisk}
 ghost use Rattle.foyer_core.specs.Core.{AnswersNobody};
 ghost use Rattle.foyer_core.specs.Cores.{core_of};
 ghost use Rattle.foyer_session.specs.Owns.{OwnsHandles};
+ghost use Rattle.foyer_session.specs.Step.{leaves_of};
 
 use crate::command::{Answer, Answers, Command, Leaves, Reply};
 use foyer_core::{CacheCore, HashTableIndexer, Indexer, Inserted, Left, Outcome, Refused, Weighter};
@@ -205,7 +206,7 @@ impl<
     fn give_back(
         &mut self,
         number: u64,
-        mut leaves: Vec<(Event, Left<K, V, P>)>,
+        leaves: Vec<(Event, Left<K, V, P>)>,
     ) -> Reply<K, V, P>
         requires empty { vec_len leaves ≡ 0 }
         requires room { 0 < vec_capacity leaves }
@@ -217,15 +218,28 @@ impl<
             return Reply::new(Answer::NotHeld, leaves);
         };
         match self.core.give_back(entry) {
-            Ok(Some(leave)) => leaves.push_reserved(leave),
-            Ok(None) => {}
+            Ok(leave) => Reply::new(Answer::Done, with_leave(leaves, leave)),
             Err(entry) => {
                 entry.discard();
-                unreachable!();
+                unreachable!()
             }
         }
-        Reply::new(Answer::Done, leaves)
     }
+}
+
+// The leave in the list, where there is one.
+fn with_leave<K: Drop, V: Drop, P: Drop>(
+    mut leaves: Vec<(Event, Left<K, V, P>)>,
+    leave: Option<(Event, Left<K, V, P>)>,
+) -> Vec<(Event, Left<K, V, P>)>
+    requires empty { vec_len leaves ≡ 0 }
+    requires room { 0 < vec_capacity leaves }
+    ensures { result.items ≡ leaves_of leave }
+{
+    if let Some(leave) = leave {
+        leaves.push_reserved(leave);
+    }
+    leaves
 }
 
 // Nobody waited.
@@ -239,3 +253,6 @@ fn spend_nobody<K: Drop, V: Drop, P: Drop>(answers: foyer_core::Answers<K, V, P,
         Outcome::Fault(_) => {}
     }
 }
+
+#[cfg(test)]
+mod tests;

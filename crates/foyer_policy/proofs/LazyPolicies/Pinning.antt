@@ -1,17 +1,16 @@
 -- A queue beside a pin list is a policy.
-use Rattle.std.proofs.Common.{◌≡◌, ◌≢◌, ℕ, zero, suc, ◌+◌, ◌<◌, ◌≤◌, Bool, true, false, cond, List, [], ◌∷◌, ◌++◌, Option, Some, None, length, refl, sym, ◌∙◌, ap, subst, arith, inl, inr, append_assoc}
-use Rattle.std.specs.Prelude.{◌==◌, sum_by}
+use Rattle.std.proofs.Common.{◌≡◌, ℕ, zero, suc, true, List, [], ◌∷◌, ◌++◌, Option, Some, None, length, refl, sym, ap, subst, arith, inl, inr, append_assoc}
+use Rattle.std.specs.Prelude.{◌==◌}
 use Rattle.std.specs.List.Sorted.{IsPermutation}
 use Rattle.std.proofs.lemmas.Bool.Decides.{nat_tests}
-use Rattle.std.proofs.lemmas.List.Sums.{sum_by-append, sum_by-cons}
-use Rattle.std.proofs.lemmas.List.Sorted.{IsPermutation-refl, IsPermutation-sym, IsPermutation-trans, IsPermutation-cons, IsPermutation-to_front, IsPermutation-middle, IsPermutation-append_left, IsPermutation-append_right}
+use Rattle.std.proofs.lemmas.List.Sums.{sum_by-append}
+use Rattle.std.proofs.lemmas.List.Sorted.{IsPermutation-refl, IsPermutation-sym, IsPermutation-trans, IsPermutation-to_front, IsPermutation-middle, IsPermutation-append_left, IsPermutation-append_right}
 use Rattle.foyer_policy.specs.Items.{IsNewIn, HasIdsOnce, IsWithin, remove_id, find_id}
-use Rattle.foyer_policy.specs.Policy.{Policy, IsPolicy, PinsAtMost, after_pops, removed}
-use Rattle.foyer_policy.specs.Fifo.{take_first}
+use Rattle.foyer_policy.specs.Policy.{IsPolicy, PinsAtMost, after_pops, removed}
 use Rattle.foyer_policy.specs.declared.types.Item.{Item}
 use Rattle.foyer_policy.proofs.ItemLemmas.{one_if, count-same}
 use Rattle.foyer_policy.proofs.PopsLemmas.Parts.{IsPermutation-remove_id, remove_id-none, find_id-front, remove_id-front, remove_id-back, find_id-one_part}
-use Rattle.foyer_policy.proofs.LazyPolicies.{Plain, pinning, first_and, or_stay}
+use Rattle.foyer_policy.proofs.LazyPolicies.{pinning, or_stay}
 
 pop-is : (xs ps : List Item) (w : List Item × List Item) (i : Item) → pinning.pop (xs, ps) ≡ Some (i, w) → (xs ≡ i ∷ w.0) × (w.1 ≡ ps)
 pop-is [] ps w i h = absurd cc

@@ -1,9 +1,8 @@
 -- What a clear leaves, for every lawful policy, and first in first out in its own words.
-use Rattle.std.proofs.Common.{◌≡◌, true, ◌==◌, ℕ, zero, suc, ◌+◌, ◌<◌, ◌≤◌, List, [], ◌∷◌, Option, Some, None, length, drop, refl, sym, ◌∙◌, ap, subst, arith}
-use Rattle.std.specs.Prelude.{sum_by}
+use Rattle.std.proofs.Common.{◌≡◌, true, ◌==◌, ℕ, zero, suc, ◌≤◌, List, [], ◌∷◌, length, drop, refl, sym, ◌∙◌, ap, subst, arith}
 use Rattle.std.proofs.lemmas.List.Sums.{sum_by-cons}
 use Rattle.foyer_policy.specs.Items.{remove_id, weight_of, IsWithin}
-use Rattle.foyer_policy.specs.Policy.{Policy, IsPolicy, removed, victims, pops, after_pops, after_all_pops, until, evicted}
+use Rattle.foyer_policy.specs.Policy.{Policy, IsPolicy, removed, pops, after_pops, after_all_pops, until, evicted}
 use Rattle.foyer_policy.specs.Fifo.{fifo}
 use Rattle.foyer_policy.specs.declared.types.Item.{Item}
 use Rattle.std.proofs.lemmas.Bool.Decides.{nat_tests}

@@ -1,6 +1,6 @@
 //! The handles that a session handed out.
 
-ghost use Rattle.std.specs.Prelude.{◌≡◌, ℕ, ◌<◌, ◌++◌, ◌∷◌, [], Some, None, true, false, IfNone, slice_set, vec_len, vec_capacity};
+ghost use Rattle.std.specs.Prelude.{◌≡◌, ℕ, ◌<◌, ◌++◌, ◌∷◌, [], Some, None, true, false, IfNone, length, slice_set, vec_len, vec_capacity};
 ghost use Rattle.foyer_session.specs.Step.{held_at, record_of};
 
 use foyer_core::{CoreEntry, Left};
@@ -51,7 +51,7 @@ pub fn hand_out<K: Drop, V: Drop, P: Drop>(
 ) -> (u64, Left<K, V, P>)
     requires room { vec_len handles.old < vec_capacity handles.old }
     requires untold { entry.left ≡ true }
-    ensures number { result.0 ≡ vec_len handles.old }
+    ensures number { result.0 ≡ length handles.old.items }
     ensures record { result.1 ≡ record_of entry }
     ensures handles { handles.new.items ≡ handles.old.items ++ Some (record entry { left = false }) ∷ [] }
     ensures capacity { vec_capacity handles.new ≡ vec_capacity handles.old }

@@ -1,4 +1,3 @@
-use Rattle.std.proofs.Common.{ap, subst}
 use Rattle.foyer_core.specs.Shards.{meaning_of, state_of}
 use Rattle.foyer_core.specs.Steps.{Gets}
 use Rattle.foyer_core.proofs.CoreLemmas.{at_one}
@@ -9,4 +8,4 @@ returns g c =
     let s = c.args.self.now in
     let hash = g.S.HashBuilder.hash_of s.hash_builder (g.K.Hash.hash_input c.args.key.now) in
     at_one s.capacity s.hash_builder s.weighter hash (λ a b. Gets (meaning_of s.shard) a (hash, c.args.key.now) c.get.result b) (state_of s.shard) (state_of c.get.new.self)
-        (rw c.hash-hash.ensures.hash at c.get.ensures.gets)
+    (rw c.hash-hash.ensures.hash at c.get.ensures.gets)

@@ -1,4 +1,4 @@
-use Rattle.std.proofs.Common.{◌≡◌, ℕ, ap, subst, nat_eq, None}
+use Rattle.std.proofs.Common.{◌≡◌, ℕ, subst, nat_eq, None}
 use Rattle.std.specs.Map.{update}
 use Rattle.foyer_core.specs.Records.{slot_in, number_of}
 use Rattle.slab.specs.Slab.{get}

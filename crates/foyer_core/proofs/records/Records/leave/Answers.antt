@@ -1,7 +1,7 @@
-use Rattle.std.proofs.Common.{◌≡◌, ℕ, Some, None, refl, sym, ◌∙◌, ap, subst, nat_eq, false}
+use Rattle.std.proofs.Common.{◌≡◌, Some, refl, sym, ◌∙◌, ap, nat_eq, false}
 use Rattle.std.specs.Prelude.{◌==◌}
 use Rattle.std.specs.Map.{update}
-use Rattle.foyer_core.specs.Values.{Kept, Rec}
+use Rattle.foyer_core.specs.Values.{Kept}
 use Rattle.foyer_core.specs.Steps.{outside}
 use Rattle.foyer_core.specs.Table.{rec_of}
 use Rattle.foyer_core.specs.Records.{slot_in, number_of, record_in}

@@ -1,9 +1,8 @@
-use Rattle.std.proofs.Common.{◌≡◌, ◌≤◌, ◌-◌, ◌+◌, ℕ, Some, None, true, refl, sym, ◌∙◌, ap, subst, arith, rules}
-use Rattle.std.specs.Prelude.{IsSomeAnd, Option, is_some}
+use Rattle.std.proofs.Common.{◌≡◌, ℕ, Some, None, true, sym, ◌∙◌, subst, arith}
+use Rattle.std.specs.Prelude.{IsSomeAnd, Option}
 use Rattle.foyer_policy.specs.Policy.{Pops, without}
 use Rattle.foyer_core.specs.Values.{Kept}
-use Rattle.foyer_core.specs.Shards.{meaning_of, state_of}
-use Rattle.foyer_core.specs.Steps.{EvictsOne}
+use Rattle.foyer_core.specs.Shards.{meaning_of}
 use Rattle.foyer_core.specs.Table.{rec_of}
 use Rattle.foyer_core.specs.Records.{slot_in, number_of}
 use Rattle.foyer_core.proofs.StoredLemmas.{none_not}

@@ -1,11 +1,8 @@
-use Rattle.std.proofs.Common.{◌≡◌, ◌<◌, ◌≤◌, ◌+◌, ℕ, List, [], ◌∷◌, ◌++◌, Some, None, length, arith, refl, sym, ◌∙◌, ap, subst}
-use Rattle.std.specs.Prelude.{IfSome, IfNone}
-use Rattle.foyer_policy.specs.declared.types.Event.{Event}
-use Rattle.foyer_core.specs.Values.{Gone}
+use Rattle.std.proofs.Common.{◌≡◌, ◌<◌, ◌≤◌, ℕ, [], arith, ap, subst}
 use Rattle.foyer_core.specs.State.{usage_of}
-use Rattle.foyer_core.specs.Steps.{EvictsOne, Evicts, Evicting}
+use Rattle.foyer_core.specs.Steps.{EvictsOne}
 use Rattle.foyer_core.specs.Shards.{meaning_of, state_of}
-use Rattle.foyer_core.proofs.Evictions.{Begun, begun-start, begun-evicts, begun-refused, begun-low, begun-none, popped_shorter}
+use Rattle.foyer_core.proofs.Evictions.{begun-start, begun-evicts, begun-refused, begun-low, begun-none, popped_shorter}
 use Rattle.foyer_core.proofs.shard.Shard.evict_to.Goals as goal
 
 pub returns-in_default-clause-refused : goal.returns-in_default-clause-refused
@@ -29,7 +26,7 @@ loop-self-preserved g c =
     let above : c.args.target < usage_of m (state_of c.loop-self.self) = subst (λ (n : ℕ). c.args.target < n) c.loop-self.self.weighed c.loop-self-test.true in
     record {
       begun = rw (c.push_reserved.ensures.items, c.reserve-in-loop-self.ensures.items)
-        (begun-evicts m g.met.E.Eviction.lawful c.args.target (state_of c.args.self.now) c.loop-self.leaves.items (state_of c.loop-self.self) inv.begun above c.in-Ok-Some.left (state_of c.evict_one.new.self) e);
+          (begun-evicts m g.met.E.Eviction.lawful c.args.target (state_of c.args.self.now) c.loop-self.leaves.items (state_of c.loop-self.self) inv.begun above c.in-Ok-Some.left (state_of c.evict_one.new.self) e);
       one_more = omega (arith, c.in-Ok-reserve.ensures.ok);
       room = λ r. c.in-Ok-Some.ensures.room (inv.room r);
       policy_room = omega (arith, c.in-Ok-Some.ensures.policy_room, inv.policy_room);

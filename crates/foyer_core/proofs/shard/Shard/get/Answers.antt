@@ -1,9 +1,5 @@
-use Rattle.std.proofs.Common.{◌≡◌, ◌<◌, ◌+◌, ℕ, Some, None, refl, sym, ◌∙◌, ap, subst, arith, rules}
-use Rattle.std.specs.Prelude.{IfSome, IsSome, is_some}
-use Rattle.foyer_policy.specs.declared.types.Item.{Item}
-use Rattle.foyer_core.specs.Values.{Held}
+use Rattle.std.proofs.Common.{◌≡◌, ◌+◌, Some, None, refl, sym, ◌∙◌, arith, rules}
 use Rattle.foyer_core.specs.Shards.{meaning_of, state_of}
-use Rattle.foyer_core.specs.State.{item_of}
 use Rattle.foyer_core.specs.Steps.{Gets}
 use Rattle.foyer_core.specs.Table.{rec_of}
 use Rattle.foyer_core.specs.Records.{slot_in}
@@ -24,10 +20,16 @@ returns-then-handles-self g c =
     let x = c.in-Some-get.found.now in
     let there : slot_in s.records c.in-Some.number ≡ Some x = sym (rw c.in-Some-get.is at c.get-2.ensures) in
     let led = sym c.get.ensures ∙ c.in-Some.is in
-    rw c.new.ensures record { gets = (x.id, rec_of x,
-      hits (meaning_of s) g.met.K.Eq.laws g.met.E.Eviction.lawful (holding s) (c.args.hash, c.args.key.now) c.in-Some.number led x there,
-      found (meaning_of s) g.met.K.Eq.laws g.met.E.Eviction.lawful (holding s) (c.args.hash, c.args.key.now) c.in-Some.number led x there,
-      omega (arith, c.handles.ensures, c.if-handles-self.true), refl) }
+    rw c.new.ensures record {
+      gets = (
+        x.id,
+        rec_of x,
+        hits (meaning_of s) g.met.K.Eq.laws g.met.E.Eviction.lawful (holding s) (c.args.hash, c.args.key.now) c.in-Some.number led x there,
+        found (meaning_of s) g.met.K.Eq.laws g.met.E.Eviction.lawful (holding s) (c.args.hash, c.args.key.now) c.in-Some.number led x there,
+        omega (arith, c.handles.ensures, c.if-handles-self.true),
+        refl,
+      );
+    }
 
 pub unreachable-requires-in_default-place : goal.unreachable-requires-in_default-place
 unreachable-requires-in_default-place g c =
@@ -43,11 +45,17 @@ returns-in_err-entry g c =
     let x = c.in-Some-get.found.now in
     let there : slot_in s.records c.in-Some.number ≡ Some x = sym (rw c.in-Some-get.is at c.get-2.ensures) in
     let led = sym c.get.ensures ∙ c.in-Some.is in
-    record { gets = err_is c.from_residual.result c.in_err-entry.field-0.0 (λ r. Gets (meaning_of s) (state_of s) (c.args.hash, c.args.key.now) r (state_of s)) c.from_residual.ensures.1
-      (rw c.in_err-entry.ensures.refused (x.id, rec_of x,
-        hits (meaning_of s) g.met.K.Eq.laws g.met.E.Eviction.lawful (holding s) (c.args.hash, c.args.key.now) c.in-Some.number led x there,
-        found (meaning_of s) g.met.K.Eq.laws g.met.E.Eviction.lawful (holding s) (c.args.hash, c.args.key.now) c.in-Some.number led x there,
-        omega (arith, c.handles.ensures, c.if-handles-self.false), refl)) }
+    record {
+      gets = err_is c.from_residual.result c.in_err-entry.field-0.0 (λ r. Gets (meaning_of s) (state_of s) (c.args.hash, c.args.key.now) r (state_of s)) c.from_residual.ensures.1
+          (rw c.in_err-entry.ensures.refused (
+            x.id,
+            rec_of x,
+            hits (meaning_of s) g.met.K.Eq.laws g.met.E.Eviction.lawful (holding s) (c.args.hash, c.args.key.now) c.in-Some.number led x there,
+            found (meaning_of s) g.met.K.Eq.laws g.met.E.Eviction.lawful (holding s) (c.args.hash, c.args.key.now) c.in-Some.number led x there,
+            omega (arith, c.handles.ensures, c.if-handles-self.false),
+            refl,
+          ));
+    }
 
 pub acquire-requires : goal.acquire-requires
 acquire-requires g c =
@@ -85,8 +93,13 @@ returns g c =
     let at = placed m g.met.K.Eq.laws g.met.E.Eviction.lawful (holding s) (c.args.hash, c.args.key.now) c.in-Some.number led x there c.in-Some-place.place (sym c.place.ensures ∙ c.in-Some-place.is) in
     let viewed : g.E.Eviction.view c.acquire.new.self ≡ m.policy.acquire (g.E.Eviction.view s.eviction) x.id = rw at at c.acquire.ensures.view in
     let write = c.add_handle.ensures.slots x there in
-    rw c.in_ok-entry.ensures.entry record { gets = (rec_of x,
-      hits m g.met.K.Eq.laws g.met.E.Eviction.lawful (holding s) (c.args.hash, c.args.key.now) c.in-Some.number led x there,
-      found m g.met.K.Eq.laws g.met.E.Eviction.lawful (holding s) (c.args.hash, c.args.key.now) c.in-Some.number led x there,
-      omega (arith, c.handles.ensures, c.if-handles-self.false), refl,
-      got_after m g.met.K.Eq.laws g.met.E.Eviction.lawful (holding s) (c.args.hash, c.args.key.now) c.in-Some.number led x there c.add_handle.new.self (g.E.Eviction.view c.acquire.new.self) viewed write c.add_handle.ensures.ids) }
+    rw c.in_ok-entry.ensures.entry record {
+      gets = (
+        rec_of x,
+        hits m g.met.K.Eq.laws g.met.E.Eviction.lawful (holding s) (c.args.hash, c.args.key.now) c.in-Some.number led x there,
+        found m g.met.K.Eq.laws g.met.E.Eviction.lawful (holding s) (c.args.hash, c.args.key.now) c.in-Some.number led x there,
+        omega (arith, c.handles.ensures, c.if-handles-self.false),
+        refl,
+        got_after m g.met.K.Eq.laws g.met.E.Eviction.lawful (holding s) (c.args.hash, c.args.key.now) c.in-Some.number led x there c.add_handle.new.self (g.E.Eviction.view c.acquire.new.self) viewed write c.add_handle.ensures.ids,
+      );
+    }

@@ -1,7 +1,5 @@
-use Rattle.std.proofs.Common.{◌≡◌, Some, None, arith, ap, sym, ◌∙◌, subst, rules, lit<, ◌++◌, ◌∷◌, [], Option}
-use Rattle.std.specs.Prelude.{IsSome}
-use Rattle.foyer_policy.specs.Lists.{list_at, find}
-use Rattle.foyer_policy.specs.declared.types.Item.{Item}
+use Rattle.std.proofs.Common.{◌≡◌, Some, arith, ap, sym, ◌∙◌, rules, lit<}
+use Rattle.foyer_policy.specs.Lists.{list_at}
 use Rattle.foyer_policy.proofs.FifoLemmas.{Walk, walk-on, walk-there, find-first}
 use Rattle.foyer_policy.proofs.fifo.FifoEviction.order.Goals as goal
 

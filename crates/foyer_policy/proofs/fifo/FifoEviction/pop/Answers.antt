@@ -1,4 +1,3 @@
-use Rattle.std.proofs.Common.{◌≡◌}
 use Rattle.foyer_policy.proofs.FifoLemmas.{pop-places, pop-keeps}
 use Rattle.foyer_policy.proofs.fifo.FifoEviction.pop.Goals as goal
 

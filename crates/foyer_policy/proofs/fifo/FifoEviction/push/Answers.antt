@@ -1,4 +1,3 @@
-use Rattle.std.proofs.Common.{◌≡◌, rules}
 use Rattle.foyer_policy.proofs.FifoLemmas.{push-here, push-others, push-once}
 use Rattle.foyer_policy.proofs.fifo.FifoEviction.push.Goals as goal
 

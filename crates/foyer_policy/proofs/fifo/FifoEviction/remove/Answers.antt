@@ -1,4 +1,4 @@
-use Rattle.std.proofs.Common.{◌≡◌, rules, ap, ◌∙◌, length, map, arith, get_or, [], sym}
+use Rattle.std.proofs.Common.{◌≡◌, ap, ◌∙◌, length, get_or, []}
 use Rattle.std.proofs.lemmas.List.{length-map}
 use Rattle.std.proofs.Math.ListN.{get_or-map}
 use Rattle.foyer_policy.specs.Lists.{list_at, drop_place}

@@ -1,4 +1,3 @@
-use Rattle.std.proofs.Common.{refl}
 use Rattle.foyer_core.proofs.GroupLemmas.{IsDistinct-one}
 use Rattle.foyer_core.proofs.indexer.group.Group.one.Goals as goal
 

@@ -1,4 +1,4 @@
-use Rattle.std.proofs.Common.{◌≡◌, length, sym, ◌∙◌}
+use Rattle.std.proofs.Common.{◌≡◌, length, ◌∙◌}
 use Rattle.foyer_core.proofs.GroupLemmas.{IsDistinct-one, taken_keeps}
 use Rattle.foyer_core.proofs.indexer.group.Group.remove.Goals as goal
 

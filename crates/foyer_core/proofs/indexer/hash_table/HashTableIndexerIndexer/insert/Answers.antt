@@ -1,5 +1,4 @@
-use Rattle.std.proofs.Common.{rules, Some, sym, ◌∙◌, arith}
-use Rattle.std.proofs.lemmas.Grind.{common_steps}
+use Rattle.std.proofs.Common.{rules, Some, sym, ◌∙◌}
 use Rattle.foyer_core.proofs.GroupLemmas.{lookup-put_pair}
 use Rattle.foyer_core.proofs.NumberLemmas.{number_at-updated}
 use Rattle.foyer_core.proofs.indexer.hash_table.HashTableIndexerIndexer.insert.Goals as goal
