@@ -1,5 +1,5 @@
 -- Texts that are written piece by piece, and a program's loop over lines, of which it writes a text for each.
-use Rattle.std.proofs.Common.{◌≡◌, ℕ, zero, suc, ◌+◌, List, [], ◌∷◌, ◌++◌, Option, Some, None, IfSome, Result, Ok, Err, length, take, refl, sym, ap, ◌∙◌, subst, arith, append_assoc, append-nil}
+use Rattle.std.proofs.Common.{◌≡◌, ℕ, zero, suc, ◌+◌, List, [], ◌∷◌, ◌++◌, Option, Some, None, IfSome, Result, Ok, Err, IsErr, length, take, refl, sym, ap, ◌∙◌, subst, arith, append_assoc, append-nil}
 use Rattle.std.specs.Io.KnownBytes.{Appends}
 use Rattle.std.specs.Io.BufRead.{drop_through, DropsThrough}
 use Rattle.std.proofs.Math.Seq.{take-append-add}
@@ -103,3 +103,8 @@ module _ {S : Type 0} (Answers : S → Line → List ℕ → S → Type 0) where
   SoFar-breaks old mid new (Some input) now then held holds last line more (rest, text, known, told, wrote) is drops a w =
       let here : Some line ≡ next_line rest = subst (λ o. IfSome o (λ xs. Some line ≡ next_line xs)) known is in
       (drop_through 10 rest, text ++ more, ToldOf-push old input rest text mid line more new told (sym here) a, AppendsFront-after held holds last text more wrote w)
+
+-- a call that failed wrote a beginning
+pub WritesText-stops : {T E : Type 0} (a b : Option (List ℕ)) (result : Result T E) (xs : List ℕ) → IsErr result → AppendsFront a b xs → WritesText a b result xs
+WritesText-stops a b (Ok x) xs h k = absurd cc
+WritesText-stops a b (Err e) xs h k = k

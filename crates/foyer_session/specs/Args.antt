@@ -1,8 +1,8 @@
 -- The arguments of the program.
 use Rattle.std.specs.Prelude.{ℕ, ◌==◌, ◌&&◌, List, [], ◌∷◌, Option, Some, None, option_and_then, if◌then◌else◌, bytes_eq, codes}
 use Rattle.foyer_session.specs.Text.{number_of}
-use Rattle.foyer_session.specs.declared.simulate.args.SimArgs.{SimArgs}
-use Rattle.foyer_session.specs.declared.simulate.args.SimPolicy.TheVariants.{Fifo}
+use Rattle.foyer_session.specs.declared.sim.args.SimArgs.{SimArgs}
+use Rattle.foyer_session.specs.declared.sim.args.SimPolicy.TheVariants.{Fifo}
 
 -- a capacity and one shard
 abbrev pub fifo_args : ℕ → ℕ → Option SimArgs

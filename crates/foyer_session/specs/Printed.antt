@@ -6,7 +6,7 @@ use Rattle.foyer_policy.specs.Errors.{number_of}
 use Rattle.foyer_core.specs.Values.{Gone}
 use Rattle.foyer_session.specs.declared.command.Answer.{Answer}
 use Rattle.foyer_session.specs.declared.command.Answer.TheVariants.{Entry, Found, Missing, Yes, No, Done, NotHeld, Refused}
-use Rattle.foyer_session.specs.declared.simulate.value.SimValue.{SimValue}
+use Rattle.foyer_session.specs.declared.sim.value.SimValue.{SimValue}
 
 -- why a record left
 abbrev pub event_text : Event → List ℕ
@@ -25,17 +25,21 @@ handle_text number = codes "h" ++ decimal number
 
 -- a handle with the value of its record: `h3 21`
 abbrev pub found_text : ℕ → ℕ → List ℕ
-found_text number value = handle_text number ++ codes " " ++ decimal value
+found_text number value = handle_text number ++ (codes " " ++ decimal value)
 
 module _ {P : Type 0} where
   -- what left: `evict 1=10`
   abbrev pub leave_text : Event × Gone ℕ SimValue P → List ℕ
-  leave_text leave = event_text leave.0 ++ decimal leave.1.kept.key ++ codes "=" ++ decimal leave.1.kept.value.value
+  leave_text leave = event_text leave.0 ++ (decimal leave.1.kept.key ++ (codes "=" ++ decimal leave.1.kept.value.value))
 
-  -- each of more leaves, after a comma
+  -- one more leave, after a comma
+  abbrev pub next_text : Event × Gone ℕ SimValue P → List ℕ
+  next_text leave = codes ", " ++ leave_text leave
+
+  -- more leaves
   abbrev pub more_text : List (Event × Gone ℕ SimValue P) → List ℕ
   more_text [] = []
-  more_text (leave ∷ leaves) = codes ", " ++ leave_text leave ++ more_text leaves
+  more_text (leave ∷ leaves) = next_text leave ++ more_text leaves
 
   -- all that left, in order
   abbrev pub leaves_text : List (Event × Gone ℕ SimValue P) → List ℕ
@@ -56,4 +60,4 @@ module _ {P : Type 0} where
   -- the end of a printed line, after the answer
   abbrev pub rest_text : List (Event × Gone ℕ SimValue P) → ℕ → ℕ → List ℕ
   rest_text leaves usage entries =
-      codes " | " ++ leaves_text leaves ++ codes " | usage " ++ decimal usage ++ codes " entries " ++ decimal entries ++ codes "\n"
+      codes " | " ++ (leaves_text leaves ++ (codes " | usage " ++ (decimal usage ++ (codes " entries " ++ (decimal entries ++ codes "\n")))))

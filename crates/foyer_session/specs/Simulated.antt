@@ -8,7 +8,7 @@ use Rattle.foyer_core.specs.Core.{usage_of_core, entries_of_core}
 use Rattle.foyer_session.specs.declared.command.Answer.{Answer}
 use Rattle.foyer_session.specs.declared.command.Command.{Command}
 use Rattle.foyer_session.specs.declared.command.Command.TheVariants.{Insert, Get, Contains, Drop}
-use Rattle.foyer_session.specs.declared.simulate.value.SimValue.{SimValue}
+use Rattle.foyer_session.specs.declared.sim.value.SimValue.{SimValue}
 use Rattle.foyer_session.specs.declared.text.Line.{Line}
 use Rattle.foyer_session.specs.declared.text.Line.TheVariants.{Blank, Insert as InsertLine, Get as GetLine, Contains as ContainsLine, Drop as DropLine, Bad}
 use Rattle.foyer_session.specs.Printed.{answer_text, refusal_text, rest_text}

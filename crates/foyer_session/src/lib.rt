@@ -4,10 +4,10 @@
 pub mod command;
 pub mod fifo_session;
 pub mod session;
-pub mod simulate;
+pub mod sim;
 pub mod text;
 
 pub use command::{Answer, Answers, Command, Leaves, Reply};
 pub use fifo_session::run_fifo;
 pub use session::Session;
-pub use simulate::{SimArgs, SimPolicy, SimValue, SimWeighter, sim_args, simulate};
+pub use sim::{SimArgs, SimPolicy, SimValue, SimWeighter, sim_args, simulate};

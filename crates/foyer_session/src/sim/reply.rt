@@ -3,7 +3,7 @@
 ghost use Rattle.std.specs.Prelude.{◌≡◌};
 ghost use Rattle.foyer_policy.specs.Errors.{number_of};
 ghost use Rattle.foyer_session.specs.Print.{WritesText};
-ghost use Rattle.foyer_session.specs.Printed.{answer_text, event_text, found_text, handle_text, leave_text, leaves_text, refusal_text, rest_text};
+ghost use Rattle.foyer_session.specs.Printed.{answer_text, event_text, found_text, handle_text, leave_text, leaves_text, more_text, next_text, refusal_text, rest_text};
 
 use super::value::SimValue;
 use crate::command::Answer;
@@ -79,15 +79,35 @@ fn write_leaves<W: Write, P>(
 ) -> io::Result<()>
     ensures { WritesText (W.contents writer.old) (W.contents writer.new) result (leaves_text leaves.now) }
 {
-    let Some((leave, more)) = leaves.split_first() else {
+    let Some((first, more)) = leaves.split_first() else {
         return write_out(writer, b"-");
     };
-    write_leave(writer, leave.0, &leave.1)?;
-    for leave in more {
-        write_out(writer, b", ")?;
-        write_leave(writer, leave.0, &leave.1)?;
+    write_leave(writer, first.0, &first.1)?;
+    write_more(writer, more)
+}
+
+// Writes more leaves, each after a comma.
+fn write_more<W: Write, P>(
+    writer: &mut W,
+    leaves: &[(Event, Left<u64, SimValue, P>)],
+) -> io::Result<()>
+    ensures { WritesText (W.contents writer.old) (W.contents writer.new) result (more_text leaves.now) }
+{
+    for leave in leaves {
+        write_next(writer, leave.0, &leave.1)?;
     }
     Ok(())
+}
+
+fn write_next<W: Write, P>(
+    writer: &mut W,
+    event: Event,
+    left: &Left<u64, SimValue, P>,
+) -> io::Result<()>
+    ensures { WritesText (W.contents writer.old) (W.contents writer.new) result (next_text (event, left.now)) }
+{
+    write_out(writer, b", ")?;
+    write_leave(writer, event, left)
 }
 
 fn write_leave<W: Write, P>(

@@ -1,6 +1,6 @@
 //! The arguments of the program.
 
-ghost use Rattle.std.specs.Prelude.{◌≡◌};
+ghost use Rattle.std.specs.Prelude.{◌≡◌, map, string_bytes};
 ghost use Rattle.foyer_session.specs.Args.{args_of};
 
 use crate::text::number_of;
@@ -26,7 +26,7 @@ pub struct SimArgs {
 /// The arguments that these words are: the name of a policy, a capacity and a number of shards. One shard
 /// is all that a cache may have so far.
 pub fn sim_args(words: &[String]) -> Option<SimArgs>
-    ensures { result ≡ args_of words.now }
+    ensures { result ≡ args_of (map string_bytes words.now) }
 {
     let [policy, capacity, shards] = words else {
         return None;
