@@ -22,12 +22,13 @@ sim_weighs weighter key value weight = weight ≡ value.weight
 abbrev pub plain : Answered
 plain = record { phantom = None; hint = Normal }
 
--- `hash` is what a hash builder gives a key.
-module _ {View C S W : Type 0} (m : Meaning ℕ Answered View C) (hash : S → ℕ → ℕ) where
+module _ {View C S W : Type 0} (m : Meaning ℕ Answered View C) where
   -- a printed line: the answer, what left, and usage and entries then
   abbrev pub line_text : List ℕ → List (Event × Gone ℕ SimValue Answered) → SessionState ℕ SimValue Answered View S W → List ℕ
   line_text answer leaves s = answer ++ rest_text leaves (usage_of_core m s.core) (entries_of_core m s.core)
 
+-- `hash` is what a hash builder gives a key.
+module _ {View C S W : Type 0} (m : Meaning ℕ Answered View C) (hash : S → ℕ → ℕ) where
   -- a command is a step, or is refused for want of memory before it is made
   abbrev pub CommandTold : SessionState ℕ SimValue Answered View S W → Command ℕ SimValue Answered → List ℕ → SessionState ℕ SimValue Answered View S W → Type 0
   CommandTold old command text new =
