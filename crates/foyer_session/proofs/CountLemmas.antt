@@ -38,16 +38,17 @@ outside_handles r false is = rw is refl
 put_handles : {K V P : Type 0} (f : ℕ → Option (Rec K V P)) (id : ℕ) (w : Option (Rec K V P)) (j : ℕ)
     → ((j ≡ id) × (handles_of (update nat_eq f id w j) ≡ handles_of w)) ⊎ ((j ≢ id) × (handles_of (update nat_eq f id w j) ≡ handles_of (f j)))
 put_handles {K} {V} {P} f id w j = elim (eqb_tells j id) [
-    inl h ↦ inl (h.1, subst (λ (x : ℕ). handles_of (update nat_eq f id w x) ≡ handles_of w) (sym h.1) (ap (λ (x : Option (Rec K V P)). handles_of x) (update_here f id w)))
+  | inl h ↦ inl (h.1, subst (λ (x : ℕ). handles_of (update nat_eq f id w x) ≡ handles_of w) (sym h.1) (ap (λ (x : Option (Rec K V P)). handles_of x) (update_here f id w)))
   | inr h ↦ inr (h.1, ap (λ (x : Option (Rec K V P)). handles_of x) (update_apart f id w j h.1))
-  ]
+]
 
 module _ {K V P View C : Type 0} (m : Meaning K P View C) where
   out_alike : (s : State K V P View) (id : ℕ) (r : Rec K V P) → s.records id ≡ Some r → Alike s (after_out m s id r)
   out_alike s id r there = record {
     handles = λ j. elim (put_handles s.records id (outside r) j) [
-      inl h ↦ h.1 ∙ outside_handles r (r.handles == 0) refl ∙ sym (ap (λ (x : Option (Rec K V P)). handles_of x) (subst (λ (x : ℕ). s.records x ≡ Some r) (sym h.0) there))
-    | inr h ↦ h.1 ];
+      | inl h ↦ h.1 ∙ outside_handles r (r.handles == 0) refl ∙ sym (ap (λ (x : Option (Rec K V P)). handles_of x) (subst (λ (x : ℕ). s.records x ≡ Some r) (sym h.0) there))
+      | inr h ↦ h.1
+    ];
     next = refl;
     number = refl;
   }
@@ -88,9 +89,9 @@ module _ {K V P View C : Type 0} (m : Meaning K P View C) where
   -- the count of a record that comes in, under an id of which there is no handle
   push_counts : (s : State K V P View) (d : Data K V P) (held : ℕ → ℕ) → handles_in s s.next ≡ 0 → Counts s held → Counts (after_push m s d) (one_more held s.next)
   push_counts s d held none h j = elim (put_handles s.records s.next (Some record { kept = d; handles = 1; resident = true }) j) [
-      inl e ↦ (let c = h j in let was : handles_in s j ≡ 0 = subst (λ (x : ℕ). handles_in s x ≡ 0) (sym e.0) none in let one : handles_in (after_push m s d) j ≡ 1 = e.1 in grind (arith, nat_tests))
+    | inl e ↦ (let c = h j in let was : handles_in s j ≡ 0 = subst (λ (x : ℕ). handles_in s x ≡ 0) (sym e.0) none in let one : handles_in (after_push m s d) j ≡ 1 = e.1 in grind (arith, nat_tests))
     | inr e ↦ (let same : handles_in (after_push m s d) j ≡ handles_in s j = e.1 in let c = h j in let ne = e.0 in grind (arith, nat_tests))
-    ]
+  ]
 
   alike_counts : (old new : State K V P View) (held : ℕ → ℕ) → Alike old new → Counts old held → Counts new held
   alike_counts old new held a h j = omega (arith, h j, a.handles j)
@@ -102,7 +103,7 @@ module _ {K V P View C : Type 0} (m : Meaning K P View C) where
       let id : entry.id ≡ h.last.next = ap (λ (x : Held K V P). x.id) h.entry_is ∙ sym a.next in
       let was : handles_in h.last h.last.next ≡ 0 = a.handles h.last.next ∙ subst (λ (x : ℕ). handles_in old x ≡ 0) id none in
       subst (λ (x : State K V P View). Counts x (one_more held entry.id)) (sym h.after)
-        (subst (λ (x : ℕ). Counts (after_push m h.last d) (one_more held x)) (sym id) (push_counts h.last d held was (alike_counts old h.last held a counts)))
+      (subst (λ (x : ℕ). Counts (after_push m h.last d) (one_more held x)) (sym id) (push_counts h.last d held was (alike_counts old h.last held a counts)))
 
   pub inserts_number : (old : State K V P View) (d : Data K V P) (ls : List (Event × Gone K V P)) (entry : Held K V P) (new : State K V P View)
       → Inserts m old d ls entry new → new.number ≡ old.number
@@ -122,25 +123,25 @@ module _ {K V P View C : Type 0} (m : Meaning K P View C) where
   count_handles s t id r w there is j =
       let now : handles_in t j ≡ handles_of (update nat_eq s.records id w j) = ap (λ (f : ℕ → Option (Rec K V P)). handles_of (f j)) is in
       elim (put_handles s.records id w j) [
-      inl h ↦ inl (h.0, ap (λ (x : Option (Rec K V P)). handles_of x) (subst (λ (x : ℕ). s.records x ≡ Some r) (sym h.0) there), now ∙ h.1)
-    | inr h ↦ inr (h.0, now ∙ h.1)
-    ]
+        | inl h ↦ inl (h.0, ap (λ (x : Option (Rec K V P)). handles_of x) (subst (λ (x : ℕ). s.records x ≡ Some r) (sym h.0) there), now ∙ h.1)
+        | inr h ↦ inr (h.0, now ∙ h.1)
+      ]
 
   -- a record with one handle more
   more_counts : (s t : State K V P View) (id : ℕ) (r : Rec K V P) (w : Option (Rec K V P)) (held : ℕ → ℕ) → s.records id ≡ Some r → t.records ≡ update nat_eq s.records id w
       → handles_of w ≡ r.handles + 1 → Counts s held → Counts t (one_more held id)
   more_counts s t id r w held there is count h j = elim (count_handles s t id r w there is j) [
-      inl e ↦ (let c = h j in let a = e.1 in let b = e.2 in grind (arith, nat_tests))
+    | inl e ↦ (let c = h j in let a = e.1 in let b = e.2 in grind (arith, nat_tests))
     | inr e ↦ (let c = h j in let ne = e.0 in let same = e.1 in grind (arith, nat_tests))
-    ]
+  ]
 
   -- a record with one handle less
   less_counts : (s t : State K V P View) (id : ℕ) (r : Rec K V P) (w : Option (Rec K V P)) (held : ℕ → ℕ) → s.records id ≡ Some r → t.records ≡ update nat_eq s.records id w
       → handles_of w + 1 ≡ r.handles → Counts s (one_more held id) → Counts t held
   less_counts s t id r w held there is count h j = elim (count_handles s t id r w there is j) [
-      inl e ↦ (let c = h j in let same = e.0 in let a = e.1 in let b = e.2 in grind (arith, nat_tests))
+    | inl e ↦ (let c = h j in let same = e.0 in let a = e.1 in let b = e.2 in grind (arith, nat_tests))
     | inr e ↦ (let c = h j in let ne = e.0 in let same = e.1 in grind (arith, nat_tests))
-    ]
+  ]
 
   pub gets_counts : (old : State K V P View) (k : ℕ × K) (entry : Held K V P) (new : State K V P View)
       → Gets m old k (Ok (Some entry)) new → (held : ℕ → ℕ) → Counts old held → Counts new (one_more held entry.id)
@@ -154,11 +155,11 @@ module _ {K V P View C : Type 0} (m : Meaning K P View C) where
   last_put : (s : State K V P View) (id : ℕ) (r : Rec K V P) (b : Bool) → r.resident ≡ b → Puts s (after_last m s id r) id 0
   last_put s id r true is =
       let e : after_last m s id r ≡ record s { view = m.policy.release s.view id; records = update nat_eq s.records id (Some (record r { handles = 0 })) } =
-        ap (λ (t : Bool). cond t (record s { view = m.policy.release s.view id; records = update nat_eq s.records id (Some (record r { handles = 0 })) }) (record s { records = update nat_eq s.records id None })) is in
+      ap (λ (t : Bool). cond t (record s { view = m.policy.release s.view id; records = update nat_eq s.records id (Some (record r { handles = 0 })) }) (record s { records = update nat_eq s.records id None })) is in
       (Some (record r { handles = 0 }), ap (λ (x : State K V P View). x.records) e, refl, ap (λ (x : State K V P View). x.number) e)
   last_put s id r false is =
       let e : after_last m s id r ≡ record s { records = update nat_eq s.records id None } =
-        ap (λ (t : Bool). cond t (record s { view = m.policy.release s.view id; records = update nat_eq s.records id (Some (record r { handles = 0 })) }) (record s { records = update nat_eq s.records id None })) is in
+      ap (λ (t : Bool). cond t (record s { view = m.policy.release s.view id; records = update nat_eq s.records id (Some (record r { handles = 0 })) }) (record s { records = update nat_eq s.records id None })) is in
       (None, ap (λ (x : State K V P View). x.records) e, refl, ap (λ (x : State K V P View). x.number) e)
 
   give_back_put : (s : State K V P View) (id : ℕ) (r : Rec K V P) (b : Bool) → (r.handles == 1) ≡ b → Puts s (after_give_back m s id r) id (r.handles - 1)

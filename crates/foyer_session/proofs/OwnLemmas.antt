@@ -22,9 +22,9 @@ get_written (a ∷ xs) zero y zero x h = inl (refl, cc)
 get_written (a ∷ xs) zero y (suc j) x h = inr (λ e. absurd (omega arith), h)
 get_written (a ∷ xs) (suc i) y zero x h = inr (λ e. absurd (omega arith), h)
 get_written (a ∷ xs) (suc i) y (suc j) x h = elim (get_written xs i y j x h) [
-    inl e ↦ inl (ap suc e.0, e.1)
+  | inl e ↦ inl (ap suc e.0, e.1)
   | inr e ↦ inr (λ same. e.0 (omega arith), e.1)
-  ]
+]
 
 -- what was at a place of a list, after a write
 written_get : {A : Type 0} (xs : List A) (i : ℕ) (y : A) (j : ℕ) (x : A) → slice_get xs j ≡ Some x
@@ -34,9 +34,9 @@ written_get (a ∷ xs) zero y zero x h = inl (refl, refl)
 written_get (a ∷ xs) zero y (suc j) x h = inr (λ e. absurd (omega arith), h)
 written_get (a ∷ xs) (suc i) y zero x h = inr (λ e. absurd (omega arith), h)
 written_get (a ∷ xs) (suc i) y (suc j) x h = elim (written_get xs i y j x h) [
-    inl e ↦ inl (ap suc e.0, e.1)
+  | inl e ↦ inl (ap suc e.0, e.1)
   | inr e ↦ inr (λ same. e.0 (omega arith), e.1)
-  ]
+]
 
 -- to write what is there changes nothing
 pub set_same : {A : Type 0} (xs : List A) (i : ℕ) (x : A) → slice_get xs i ≡ Some x → slice_set xs i x ≡ xs
@@ -117,12 +117,12 @@ module _ {K V P View S W : Type 0} (core new : Core K V P View S W) (step : Stat
   was_at : (h : ℕ) (s : State K V P View) → shard_at core h ≡ Some s → (t : State K V P View) × (shard_at new h ≡ Some t) × (t.number ≡ s.number)
   was_at h s e =
       let place : shard_at new h ≡ slice_get (slice_set core.shards (shard_of core hash) at.after) (shard_of core h) =
-        ap (λ (n : ℕ). slice_get new.shards (h % n)) shards_same ∙ ap (λ (c : Core K V P View S W). slice_get c.shards (shard_of core h)) at.rest in
+      ap (λ (n : ℕ). slice_get new.shards (h % n)) shards_same ∙ ap (λ (c : Core K V P View S W). slice_get c.shards (shard_of core h)) at.rest in
       elim (written_get core.shards (shard_of core hash) at.after (shard_of core h) s e) [
-        inl w ↦ (let was : ◌≡◌ {A = Option (State K V P View)} (Some at.before) (Some s) = sym at.there ∙ ap (λ (j : ℕ). slice_get core.shards j) (sym w.0) ∙ e in
-          let same : at.before ≡ s = cc in
-          (at.after, place ∙ w.1, number ∙ ap (λ (x : State K V P View). x.number) same))
-      | inr w ↦ (s, place ∙ w.1, refl)
+        | inl w ↦ (let was : ◌≡◌ {A = Option (State K V P View)} (Some at.before) (Some s) = sym at.there ∙ ap (λ (j : ℕ). slice_get core.shards j) (sym w.0) ∙ e in
+            let same : at.before ≡ s = cc in
+            (at.after, place ∙ w.1, number ∙ ap (λ (x : State K V P View). x.number) same))
+        | inr w ↦ (s, place ∙ w.1, refl)
       ]
 
   counts_step : (held now : ℕ → ℕ → ℕ) → (Counts at.before (held (shard_of core hash)) → Counts at.after (now (shard_of core hash)))
@@ -130,12 +130,12 @@ module _ {K V P View S W : Type 0} (core new : Core K V P View S W) (step : Stat
       → ((i : ℕ) (s : State K V P View) → slice_get core.shards i ≡ Some s → Counts s (held i))
       → (i : ℕ) (s : State K V P View) → slice_get new.shards i ≡ Some s → Counts s (now i)
   counts_step held now here apart h i s e = elim (now_at i s e) [
-      inl w ↦ subst (λ (x : State K V P View). Counts x (now i)) (sym w.1) (subst (λ (j : ℕ). Counts at.after (now j)) (sym w.0) (here (h (shard_of core hash) at.before at.there)))
+    | inl w ↦ subst (λ (x : State K V P View). Counts x (now i)) (sym w.1) (subst (λ (j : ℕ). Counts at.after (now j)) (sym w.0) (here (h (shard_of core hash) at.before at.there)))
     | inr w ↦ counts_same s (held i) (now i) (apart i w.0) (h i s w.1)
-    ]
+  ]
 
   numbered_step : (handles now : List (Option (Held K V P))) → ((n : ℕ) (entry : Held K V P) → held_at now n ≡ Some entry
-          → (s : State K V P View) × (shard_at core entry.kept.hash ≡ Some s) × (entry.number ≡ s.number))
+      → (s : State K V P View) × (shard_at core entry.kept.hash ≡ Some s) × (entry.number ≡ s.number))
       → (n : ℕ) (entry : Held K V P) → held_at now n ≡ Some entry → (s : State K V P View) × (shard_at new entry.kept.hash ≡ Some s) × (entry.number ≡ s.number)
   numbered_step handles now was n entry h = let s = was n entry h in let t = was_at entry.kept.hash s.0 s.1 in (t.0, t.1, s.2 ∙ sym t.2)
 
@@ -151,14 +151,14 @@ module _ {K V P View S W : Type 0} (core new : Core K V P View S W) (step : Stat
       → ((held : ℕ → ℕ) → Counts at.before held → Counts at.after (one_more held entry.id)) → OwnsHandles core handles → OwnsHandles new (handles ++ Some entry ∷ [])
   owns_more handles entry is numbered gives owns = record {
     numbered = numbered_step handles (handles ++ Some entry ∷ []) (λ n e h. elim (held_pushed handles entry n e h) [
-        inl same ↦ (at.before, ap (λ (x : Held K V P). shard_at core x.kept.hash) same ∙ ap (λ (x : ℕ). shard_at core x) is ∙ at.there, ap (λ (x : Held K V P). x.number) same ∙ numbered)
+      | inl same ↦ (at.before, ap (λ (x : Held K V P). shard_at core x.kept.hash) same ∙ ap (λ (x : ℕ). shard_at core x) is ∙ at.there, ap (λ (x : Held K V P). x.number) same ∙ numbered)
       | inr old ↦ owns.numbered n e old
-      ]);
+    ]);
     counts = rw shards_same (counts_step (held_count (length core.shards) handles) (held_count (length core.shards) (handles ++ Some entry ∷ []))
-      (λ c. counts_same at.after (one_more (held_count (length core.shards) handles (shard_of core hash)) entry.id) (held_count (length core.shards) (handles ++ Some entry ∷ []) (shard_of core hash))
+        (λ c. counts_same at.after (one_more (held_count (length core.shards) handles (shard_of core hash)) entry.id) (held_count (length core.shards) (handles ++ Some entry ∷ []) (shard_of core hash))
         (push_here (length core.shards) (shard_of core hash) handles entry (ap (λ (x : ℕ). x % length core.shards) is)) (gives (held_count (length core.shards) handles (shard_of core hash)) c))
-      (λ i ne id. push_apart (length core.shards) i handles entry (λ e. ne (sym e ∙ ap (λ (x : ℕ). x % length core.shards) is)) id)
-      owns.counts);
+        (λ i ne id. push_apart (length core.shards) i handles entry (λ e. ne (sym e ∙ ap (λ (x : ℕ). x % length core.shards) is)) id)
+        owns.counts);
   }
 
   -- a step that takes one back
@@ -167,11 +167,11 @@ module _ {K V P View S W : Type 0} (core new : Core K V P View S W) (step : Stat
   owns_less handles n entry there is takes owns = record {
     numbered = numbered_step handles (slice_set handles n None) (λ j e h. owns.numbered j e (held_taken handles n j e h));
     counts = rw shards_same (counts_step (held_count (length core.shards) handles) (held_count (length core.shards) (slice_set handles n None))
-      (λ c. takes (held_count (length core.shards) (slice_set handles n None) (shard_of core hash))
+        (λ c. takes (held_count (length core.shards) (slice_set handles n None) (shard_of core hash))
         (counts_same at.before (held_count (length core.shards) handles (shard_of core hash)) (one_more (held_count (length core.shards) (slice_set handles n None) (shard_of core hash)) entry.id)
-          (λ id. sym (take_here (length core.shards) (shard_of core hash) handles n entry there (ap (λ (x : ℕ). x % length core.shards) is) id)) c))
-      (λ i ne id. take_apart (length core.shards) i handles n entry there (λ e. ne (sym e ∙ ap (λ (x : ℕ). x % length core.shards) is)) id)
-      owns.counts);
+        (λ id. sym (take_here (length core.shards) (shard_of core hash) handles n entry there (ap (λ (x : ℕ). x % length core.shards) is) id)) c))
+        (λ i ne id. take_apart (length core.shards) i handles n entry there (λ e. ne (sym e ∙ ap (λ (x : ℕ). x % length core.shards) is)) id)
+        owns.counts);
   }
 
 -- nothing was handed out

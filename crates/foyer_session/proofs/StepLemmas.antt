@@ -20,20 +20,20 @@ module _ {K V P View C S W : Type 0} (m : Meaning K P View C) (core new : Core K
       → handles_in at.before entry.id ≡ 0 → OwnsHandles new (handles ++ Some (record entry { left = false }) ∷ [])
   inserted_owns d leaves entry at none =
       owns_more core new (λ s t. Inserts m s d leaves entry t) d.hash at (inserts_number m at.before d leaves entry at.after at.stepped) handles (record entry { left = false })
-        (ap (λ (x : Held K V P). x.kept.hash) at.stepped.entry_is) (ap (λ (x : Held K V P). x.number) at.stepped.entry_is)
-        (inserts_counts m at.before d leaves entry at.after at.stepped none) owns
+      (ap (λ (x : Held K V P). x.kept.hash) at.stepped.entry_is) (ap (λ (x : Held K V P). x.number) at.stepped.entry_is)
+      (inserts_counts m at.before d leaves entry at.after at.stepped none) owns
 
   pub refused_owns : (d : Data K V P) (reason : Reason) (leaves : List (Event × Gone K V P)) (at : AtShard (λ s t. RefusesInsert m s d reason leaves t) d.hash core new) → OwnsHandles new handles
   refused_owns d reason leaves at =
       owns_same core new (λ s t. RefusesInsert m s d reason leaves t) d.hash at (refuses_number m at.before d reason leaves at.after at.stepped) handles
-        (refuses_counts m at.before d reason leaves at.after at.stepped) owns
+      (refuses_counts m at.before d reason leaves at.after at.stepped) owns
 
   -- an entry of the key's record was made, which has the key's hash
   pub got_owns : (k : ℕ × K) (entry : Held K V P) (at : AtShard (λ s t. Gets m s k (Ok (Some entry)) t) k.0 core new) → entry.kept.hash ≡ k.0
       → OwnsHandles new (handles ++ Some (record entry { left = false }) ∷ [])
   got_owns k entry at is =
       owns_more core new (λ s t. Gets m s k (Ok (Some entry)) t) k.0 at (ap (λ (x : State K V P View). x.number) at.stepped.5) handles (record entry { left = false })
-        is (ap (λ (x : Held K V P). x.number) at.stepped.4) (gets_counts m at.before k entry at.after at.stepped) owns
+      is (ap (λ (x : Held K V P). x.number) at.stepped.4) (gets_counts m at.before k entry at.after at.stepped) owns
 
   -- a held handle was given back
   pub gave_back_owns : (n : ℕ) (entry : Held K V P) (result : Result (Option (Event × Gone K V P)) (Held K V P)) → held_at handles n ≡ Some entry
@@ -41,5 +41,5 @@ module _ {K V P View C S W : Type 0} (m : Meaning K P View C) (core new : Core K
       → OwnsHandles new (slice_set handles n None)
   gave_back_owns n entry (Ok leave) there taken at =
       owns_less core new (λ s t. GivesBack m s entry.id leave t) entry.kept.hash at (gives_back_number m at.before entry.id leave at.after at.stepped) handles n entry there refl
-        (gives_back_counts m at.before entry.id leave at.after at.stepped) owns
+      (gives_back_counts m at.before entry.id leave at.after at.stepped) owns
   gave_back_owns n entry (Err e) there taken at = absurd (false≢true (taken (owned_entry core handles n entry owns there)))

@@ -11,17 +11,20 @@ ghost use Rattle.foyer_session.specs.Step.{IsPlain};
 
 use crate::command::{Command, Reply};
 use crate::session::Session;
-use foyer_core::{Indexer, Weighter};
+use foyer_core::Weighter;
 use foyer_policy::{Fifo, HashBuilder, Key, Properties, Result, Value};
 
 /// Carries out commands as `Session::run` does. What leaves is what came in first.
-pub fn run_fifo<K: Key, V: Value, P: Properties, S: HashBuilder, W: Weighter<K, V>, I: Indexer<K>>(
-    session: &mut Session<Fifo, K, V, P, S, W, I>,
+pub fn run_fifo<K: Key, V: Value, P: Properties, S: HashBuilder, W: Weighter<K, V>>(
+    session: &mut Session<Fifo, K, V, P, S, W>,
     commands: Vec<Command<K, V, P>>,
 ) -> Result<Vec<Reply<K, V, P>>>
     requires clones { (k c : K) → K.is_clone k c → K.eq c k ≡ true }
     requires plain { All (IsPlain P.phantom_of P.location_of) commands.items }
-    ensures run { IfOk result (λ replies. Run (meaning K.eq (fifo FifoConfig) P.hint_of P.phantom_of) (λ builder key. S.hash_of builder (K.hash_input key)) W.weighs (session_of session.old) commands.items replies.items (session_of session.new)) }
+    ensures run { IfOk result (λ replies.
+        Run (meaning K.eq (fifo FifoConfig) P.hint_of P.phantom_of)
+        (λ builder key. S.hash_of builder (K.hash_input key)) W.weighs
+        (session_of session.old) commands.items replies.items (session_of session.new)) }
     ensures refused { IfErr result (λ e. e ≡ NoMemory) }
     ensures err { OnErr result (session_of session.new ≡ session_of session.old) }
 {

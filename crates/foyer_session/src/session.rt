@@ -1,6 +1,6 @@
 //! A cache in one thread's hands, and the handles that it handed out.
 
-ghost use Rattle.std.specs.Prelude.{◌≡◌, ◌≢◌, ℕ, ◌+◌, ◌*◌, ◌<◌, ◌≤◌, [], true, false, None, Some, IfOk, IfErr, OnErr, All, vec_len, vec_capacity};
+ghost use Rattle.std.specs.Prelude.{◌≡◌, ◌≢◌, ◌+◌, ◌<◌, ◌≤◌, [], true, false, Some, IfOk, IfErr, OnErr, All, vec_len, vec_capacity};
 ghost use Rattle.foyer_policy.specs.Properties.{is_phantom};
 ghost use Rattle.foyer_policy.specs.declared.error.Reason.TheVariants.{NoMemory};
 ghost use Rattle.foyer_policy.specs.declared.types.Location.TheVariants.{OnDisk};
@@ -9,8 +9,10 @@ ghost use Rattle.foyer_core.specs.Cores.{core_of};
 ghost use Rattle.foyer_session.specs.Owns.{OwnsHandles};
 ghost use Rattle.foyer_session.specs.Step.{leaves_of};
 
-use crate::command::{Answer, Answers, Command, Leaves, Reply};
-use foyer_core::{CacheCore, HashTableIndexer, Indexer, Inserted, Left, Outcome, Refused, Weighter};
+use crate::command::{Answer, Answers, Command, Reply};
+use foyer_core::{
+    CacheCore, HashTableIndexer, Indexer, Inserted, Left, Outcome, Refused, Weighter,
+};
 use foyer_policy::{Error, Event, Eviction, HashBuilder, Key, Properties, Reason, Result, Value};
 use std::alloc::Global;
 
@@ -21,7 +23,7 @@ use handle::Handle;
 use ready::Ready;
 
 /// A core with the handles that it handed out, each held or gone. It carries out commands, which name a
-/// handle by its number. Contracts see a `SessionState`.
+/// handle by its number. `I` is the index of each shard. Contracts see a `SessionState`.
 ///
 /// A session that ends gives its held handles back, and tells nothing.
 #[derive(Drop)]
@@ -48,8 +50,7 @@ impl<
     S: HashBuilder,
     W: Weighter<K, V>,
     I: Indexer<K>,
-> Session<E, K, V, P, S, W, I>
-{
+> Session<E, K, V, P, S, W, I> {
     ghost use Rattle.foyer_core.specs.Core.{usage_of_core, entries_of_core};
     ghost use Rattle.foyer_session.specs.Run.{Run};
     ghost use Rattle.foyer_session.specs.Sessions.{session_of, meaning_of_session};
@@ -68,11 +69,14 @@ impl<
     }
 
     /// Carries out commands, each as `step` does, and answers their replies in order. A clone of a key must
-    /// equal it. Refused only for want of memory (F7), before any command, and then nothing has changed.
+    /// equal it, and each insert's properties make a plain record, neither phantom nor on disk alone. Refused
+    /// only for want of memory (F7), before any command, and then nothing has changed.
     pub fn run(&mut self, commands: Vec<Command<K, V, P>>) -> Result<Vec<Reply<K, V, P>>>
         requires clones { (k c : K) → K.is_clone k c → K.eq c k ≡ true }
         requires plain { All (IsPlain P.phantom_of P.location_of) commands.items }
-        ensures run { IfOk result (λ replies. Run (meaning_of_session self.old) (λ builder key. S.hash_of builder (K.hash_input key)) W.weighs (session_of self.old) commands.items replies.items (session_of self.new)) }
+        ensures run { IfOk result (λ replies.
+            Run (meaning_of_session self.old) (λ builder key. S.hash_of builder (K.hash_input key)) W.weighs
+            (session_of self.old) commands.items replies.items (session_of self.new)) }
         ensures refused { IfErr result (λ e. e ≡ NoMemory) }
         ensures err { OnErr result (session_of self.new ≡ session_of self.old) }
     {
@@ -94,12 +98,15 @@ impl<
         Ok(replies)
     }
 
-    /// Carries out one command. A clone of a key must equal it. Refused only for want of memory (F7), before
-    /// the command, and then nothing has changed.
+    /// Carries out one command. A clone of a key must equal it, and an insert's properties make a plain
+    /// record, neither phantom nor on disk alone. Refused only for want of memory (F7), before the command,
+    /// and then nothing has changed.
     pub fn step(&mut self, command: Command<K, V, P>) -> Result<Reply<K, V, P>>
         requires clones { (k c : K) → K.is_clone k c → K.eq c k ≡ true }
         requires plain { IsPlain P.phantom_of P.location_of command }
-        ensures step { IfOk result (λ reply. Step (meaning_of_session self.old) (λ builder key. S.hash_of builder (K.hash_input key)) W.weighs (session_of self.old) command reply.answer reply.leaves (session_of self.new)) }
+        ensures step { IfOk result (λ reply.
+            Step (meaning_of_session self.old) (λ builder key. S.hash_of builder (K.hash_input key)) W.weighs
+            (session_of self.old) command reply.answer reply.leaves (session_of self.new)) }
         ensures refused { IfErr result (λ e. e ≡ NoMemory) }
         ensures err { OnErr result (session_of self.new ≡ session_of self.old) }
     {
@@ -129,7 +136,8 @@ impl<
         requires clones { (k c : K) → K.is_clone k c → K.eq c k ≡ true }
         requires plain { IsPlain P.phantom_of P.location_of ready.command }
         requires room { vec_len self.old.handles < vec_capacity self.old.handles }
-        ensures step { Step (meaning_of_session self.old) (λ builder key. S.hash_of builder (K.hash_input key)) W.weighs (session_of self.old) ready.command result.answer result.leaves (session_of self.new) }
+        ensures step { Step (meaning_of_session self.old) (λ builder key. S.hash_of builder (K.hash_input key)) W.weighs
+            (session_of self.old) ready.command result.answer result.leaves (session_of self.new) }
         ensures len { vec_len self.new.handles ≤ vec_len self.old.handles + 1 }
         ensures capacity { vec_capacity self.new.handles ≡ vec_capacity self.old.handles }
     {
@@ -147,7 +155,8 @@ impl<
         requires plain { is_phantom (P.phantom_of properties) ≡ false }
         requires in_memory { P.location_of properties ≢ Some OnDisk }
         requires room { vec_len self.old.handles < vec_capacity self.old.handles }
-        ensures step { InsertStep (meaning_of_session self.old) (λ builder key. S.hash_of builder (K.hash_input key)) W.weighs (session_of self.old) key value properties result.answer result.leaves (session_of self.new) }
+        ensures step { InsertStep (meaning_of_session self.old) (λ builder key. S.hash_of builder (K.hash_input key)) W.weighs
+            (session_of self.old) key value properties result.answer result.leaves (session_of self.new) }
         ensures len { vec_len self.new.handles ≤ vec_len self.old.handles + 1 }
         ensures capacity { vec_capacity self.new.handles ≡ vec_capacity self.old.handles }
     {
@@ -177,7 +186,8 @@ impl<
 
     fn get(&mut self, key: &K) -> Reply<K, V, P>
         requires room { vec_len self.old.handles < vec_capacity self.old.handles }
-        ensures step { GetStep (meaning_of_session self.old) (λ builder key. S.hash_of builder (K.hash_input key)) W.weighs (session_of self.old) key.now result.answer result.leaves (session_of self.new) }
+        ensures step { GetStep (meaning_of_session self.old) (λ builder key. S.hash_of builder (K.hash_input key)) W.weighs
+            (session_of self.old) key.now result.answer result.leaves (session_of self.new) }
         ensures len { vec_len self.new.handles ≤ vec_len self.old.handles + 1 }
         ensures capacity { vec_capacity self.new.handles ≡ vec_capacity self.old.handles }
     {
@@ -192,7 +202,8 @@ impl<
     }
 
     fn contains(&self, key: &K) -> Reply<K, V, P>
-        ensures { ContainsStep (meaning_of_session self.now) (λ builder key. S.hash_of builder (K.hash_input key)) W.weighs (session_of self.now) key.now result.answer result.leaves (session_of self.now) }
+        ensures { ContainsStep (meaning_of_session self.now) (λ builder key. S.hash_of builder (K.hash_input key)) W.weighs
+            (session_of self.now) key.now result.answer result.leaves (session_of self.now) }
     {
         let answer = if self.core.contains(key) {
             Answer::Yes
@@ -203,14 +214,11 @@ impl<
     }
 
     // Gives the handle of a number back, where it is held. Its leave has room in `leaves`.
-    fn give_back(
-        &mut self,
-        number: u64,
-        leaves: Vec<(Event, Left<K, V, P>)>,
-    ) -> Reply<K, V, P>
+    fn give_back(&mut self, number: u64, leaves: Vec<(Event, Left<K, V, P>)>) -> Reply<K, V, P>
         requires empty { vec_len leaves ≡ 0 }
         requires room { 0 < vec_capacity leaves }
-        ensures step { DropStep (meaning_of_session self.old) (λ builder key. S.hash_of builder (K.hash_input key)) W.weighs (session_of self.old) number result.answer result.leaves (session_of self.new) }
+        ensures step { DropStep (meaning_of_session self.old) (λ builder key. S.hash_of builder (K.hash_input key)) W.weighs
+            (session_of self.old) number result.answer result.leaves (session_of self.new) }
         ensures len { vec_len self.new.handles ≡ vec_len self.old.handles }
         ensures capacity { vec_capacity self.new.handles ≡ vec_capacity self.old.handles }
     {
@@ -246,7 +254,10 @@ fn with_leave<K: Drop, V: Drop, P: Drop>(
 fn spend_nobody<K: Drop, V: Drop, P: Drop>(answers: foyer_core::Answers<K, V, P, ()>)
     requires { AnswersNobody answers }
 {
-    let foyer_core::Answers { waiters: _, outcome } = answers;
+    let foyer_core::Answers {
+        waiters: _,
+        outcome,
+    } = answers;
     match outcome {
         Outcome::Entries(entries) => entries.destroy_empty(),
         Outcome::None => {}

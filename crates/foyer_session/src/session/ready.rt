@@ -1,4 +1,4 @@
-//! Commands that nothing can be missing for.
+//! Commands whose room is made.
 
 ghost use Rattle.std.specs.Prelude.{◌≡◌, ℕ, ◌<◌, IfOk, IfErr, map, vec_len, vec_capacity};
 ghost use Rattle.foyer_policy.specs.declared.error.Reason.TheVariants.{NoMemory};
@@ -9,7 +9,7 @@ use foyer_core::Left;
 use foyer_policy::{Error, Event, Reason, Result};
 use std::alloc::Global;
 
-/// A command, with room for the leave that it may have.
+/// A command, with room for the leave that a handle which is given back may have.
 #[derive(Drop)]
 pub struct Ready<K: Drop, V: Drop, P: Drop> {
     pub command: Command<K, V, P>,
@@ -19,7 +19,7 @@ pub struct Ready<K: Drop, V: Drop, P: Drop> {
 }
 
 impl<K: Drop, V: Drop, P: Drop> Ready<K, V, P> {
-    /// Makes that room. Only memory can be missing (F7).
+    /// Makes the room. Only memory can be missing (F7).
     pub fn new(alloc: Global, command: Command<K, V, P>) -> Result<Self>
         ensures command { IfOk result (λ ready. ready.command ≡ command) }
         ensures refused { IfErr result (λ e. e ≡ NoMemory) }
@@ -47,7 +47,7 @@ fn room_for<K: Drop, V: Drop, P: Drop>(
     }
 }
 
-/// Makes that room for each of the commands.
+/// Makes the room for each of the commands. Only memory can be missing (F7).
 pub fn ready_all<K: Drop, V: Drop, P: Drop>(
     alloc: Global,
     commands: Vec<Command<K, V, P>>,

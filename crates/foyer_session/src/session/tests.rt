@@ -1,3 +1,5 @@
+ghost use Rattle.foyer_session.specs.Step.{IsPlain};
+
 use super::*;
 use crate::fifo_session::run_fifo;
 use foyer_core::{CacheProperties, Limits, RawCacheConfig, UnitWeighter};
@@ -22,7 +24,9 @@ fn session(alloc: Global, capacity: usize, limits: Limits) -> Result<FifoSession
     Ok(Session::new(alloc, CacheCore::new(alloc, config)?))
 }
 
-fn insert(key: u64, value: u64) -> Command<u64, u64, CacheProperties> {
+fn insert(key: u64, value: u64) -> Command<u64, u64, CacheProperties>
+    ensures { IsPlain ⟦<CacheProperties as Properties>⟧.phantom_of ⟦<CacheProperties as Properties>⟧.location_of result }
+{
     Command::Insert(key, value, CacheProperties::default())
 }
 
@@ -84,7 +88,10 @@ fn commands_have_their_replies(rt: HostRuntime) -> std::result::Result<(), Fail>
     assert!(rt; matches!(replies[6].answer, Answer::NotHeld));
     assert!(rt; matches!(replies[7].answer, Answer::NotHeld));
     let third = told(alloc, &replies[2])?;
-    assert_eq!(rt; third.as_slice(), [(Event::Evict, 1, 10), (Event::Replace, 2, 20)].as_slice());
+    assert_eq!(rt;
+        third.as_slice(),
+        [(Event::Evict, 1, 10), (Event::Replace, 2, 20)].as_slice()
+    );
     assert_eq!(rt; session.usage(), 1);
     assert_eq!(rt; session.entries(), 1);
     Ok(())

@@ -14,9 +14,11 @@ pub invariant_of-self-2 : goal.invariant_of-self-2
 invariant_of-self-2 g c =
     let s = c.args.self.now in
     let held = sym c.take.ensures.entry ∙ c.in-Some.is in
-    record { owns = rw c.take.ensures.handles (∥∥₁_map s.owns (λ o.
-      gave_back_owns (meaning_of_session s) (core_of s.core) (core_of c.give_back.new.self) s.handles.items o c.args.number c.in-Some.entry c.give_back.result held
-        (c.give_back.ensures.owned.1) c.give_back.ensures.taken)) }
+    record {
+      owns = rw c.take.ensures.handles (∥∥₁_map s.owns (λ o.
+          gave_back_owns (meaning_of_session s) (core_of s.core) (core_of c.give_back.new.self) s.handles.items o c.args.number c.in-Some.entry c.give_back.result held
+          (c.give_back.ensures.owned.1) c.give_back.ensures.taken));
+    }
 
 pub unreachable-requires : goal.unreachable-requires
 unreachable-requires g c =

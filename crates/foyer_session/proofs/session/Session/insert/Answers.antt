@@ -16,9 +16,11 @@ invariant_of-self g c =
     let did = c.in-Ok.ensures.inserted in
     let d = data_of m (λ builder key. g.S.HashBuilder.hash_of builder (g.K.Hash.hash_input key)) g.W.Weighter.weighs (session_of s) c.args.key c.args.value c.args.properties did.weight in
     let made = c.in-Ok.inserted in
-    record { owns = rw c.hand_out-handle.ensures.handles (∥∥₁_elim (kept_at s.core d.hash did.inserts.before did.inserts.there) (hlevel props) (λ k. ∥∥₁_map s.owns (λ o.
-      inserted_owns m (core_of s.core) (core_of c.insert_with_properties.new.self) s.handles.items o d made.leaves.items made.entry did.inserts
-        (new_unused m did.inserts.before k d made.leaves.items made.entry did.inserts.after did.inserts.stepped)))) }
+    record {
+      owns = rw c.hand_out-handle.ensures.handles (∥∥₁_elim (kept_at s.core d.hash did.inserts.before did.inserts.there) (hlevel props) (λ k. ∥∥₁_map s.owns (λ o.
+          inserted_owns m (core_of s.core) (core_of c.insert_with_properties.new.self) s.handles.items o d made.leaves.items made.entry did.inserts
+          (new_unused m did.inserts.before k d made.leaves.items made.entry did.inserts.after did.inserts.stepped))));
+    }
 
 pub invariant_of-self-in-Err-1 : goal.invariant_of-self-in-Err-1
 invariant_of-self-in-Err-1 g c =
@@ -26,17 +28,26 @@ invariant_of-self-in-Err-1 g c =
     let m = meaning_of_session s in
     let did = c.in-Err.ensures.inserted in
     let d = data_of m (λ builder key. g.S.HashBuilder.hash_of builder (g.K.Hash.hash_input key)) g.W.Weighter.weighs (session_of s) c.args.key c.args.value c.args.properties did.weight in
-    record { owns = ∥∥₁_map s.owns (λ o.
-      refused_owns m (core_of s.core) (core_of c.insert_with_properties.new.self) s.handles.items o d c.in-Err.refused.error c.in-Err.refused.leaves.items did.inserts) }
+    record {
+      owns = ∥∥₁_map s.owns (λ o.
+          refused_owns m (core_of s.core) (core_of c.insert_with_properties.new.self) s.handles.items o d c.in-Err.refused.error c.in-Err.refused.leaves.items did.inserts);
+    }
 
 pub returns-in-Ok-clause-step : goal.returns-in-Ok-clause-step
 returns-in-Ok-clause-step g c =
     let did = c.in-Ok.ensures.inserted in
-    rw (c.new-in-Ok.ensures.answer, c.new-in-Ok.ensures.leaves) (did.weight, c.in-Ok.inserted.entry, did.weighed, did.inserts, record {
-      numbered = c.hand_out-handle.ensures.number;
-      tells = c.hand_out-handle.ensures.«record»;
-      handles = c.hand_out-handle.ensures.handles;
-    }, c.new-answers.ensures ∙ c.new.ensures.items)
+    rw (c.new-in-Ok.ensures.answer, c.new-in-Ok.ensures.leaves) (
+      did.weight,
+      c.in-Ok.inserted.entry,
+      did.weighed,
+      did.inserts,
+      record {
+        numbered = c.hand_out-handle.ensures.number;
+        tells = c.hand_out-handle.ensures.«record»;
+        handles = c.hand_out-handle.ensures.handles;
+      },
+      c.new-answers.ensures ∙ c.new.ensures.items,
+    )
 
 pub returns-in-Err-clause-step : goal.returns-in-Err-clause-step
 returns-in-Err-clause-step g c =
