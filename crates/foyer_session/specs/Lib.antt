@@ -8,5 +8,4 @@ pub mod Run
 pub mod Owns
 pub mod Sessions
 pub mod Printed
-pub mod Simulated
 pub mod Args

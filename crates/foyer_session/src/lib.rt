@@ -10,4 +10,4 @@ pub mod text;
 pub use command::{Answer, Answers, Command, Leaves, Reply};
 pub use fifo_session::run_fifo;
 pub use session::Session;
-pub use sim::{SimArgs, SimPolicy, SimValue, SimWeighter, sim_args, simulate};
+pub use sim::{SimArgs, SimPolicy, SimValue, SimWeighter, sim_args};

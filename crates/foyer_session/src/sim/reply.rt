@@ -14,7 +14,7 @@ use std::io;
 use std::io::Write;
 
 /// Writes the text of an answer.
-pub(super) fn write_answer<W: Write, P>(
+pub fn write_answer<W: Write, P>(
     writer: &mut W,
     answer: &Answer<u64, SimValue, P>,
 ) -> io::Result<()>
@@ -33,7 +33,7 @@ pub(super) fn write_answer<W: Write, P>(
 }
 
 /// Writes a refusal as `F` and its number.
-pub(super) fn write_refusal<W: Write>(writer: &mut W, error: &Error) -> io::Result<()>
+pub fn write_refusal<W: Write>(writer: &mut W, error: &Error) -> io::Result<()>
     ensures { WritesText (W.contents writer.old) (W.contents writer.new) result (refusal_text (number_of error.now)) }
 {
     write_out(writer, b"F")?;
@@ -41,7 +41,7 @@ pub(super) fn write_refusal<W: Write>(writer: &mut W, error: &Error) -> io::Resu
 }
 
 /// Writes what comes after an answer: what left, and the usage and the entries then.
-pub(super) fn write_rest<W: Write, P>(
+pub fn write_rest<W: Write, P>(
     writer: &mut W,
     leaves: &[(Event, Left<u64, SimValue, P>)],
     usage: u128,

@@ -15,9 +15,9 @@ returns-in_err-write_next g c =
     let all = c.args.leaves.now in
     let x = c.leave-item.result in
     let part = AppendsFront-after a b d (more_text (take i all)) (next_text x ++ more_text (drop (i + 1) all)) c.loop-leave.invariant
-      (AppendsFront-append b d (next_text x) (more_text (drop (i + 1) all)) c.in_err-write_next.ensures) in
+    (AppendsFront-append b d (next_text x) (more_text (drop (i + 1) all)) c.in_err-write_next.ensures) in
     WritesText-stops a d c.from_residual.result (more_text all) c.from_residual.ensures.0
-      (subst (AppendsFront a d) (sym (more_text-split all i x c.loop-leave-test.true c.leave-item.is)) part)
+    (subst (AppendsFront a d) (sym (more_text-split all i x c.loop-leave-test.true c.leave-item.is)) part)
 
 pub loop-leave-preserved : goal.loop-leave-preserved
 loop-leave-preserved g c =
@@ -28,4 +28,4 @@ loop-leave-preserved g c =
     let all = c.args.leaves.now in
     let x = c.leave-item.result in
     rw (more_text-step all i x c.loop-leave-test.true c.leave-item.is)
-      (Appends-trans a b d (more_text (take i all)) (next_text x) c.loop-leave.invariant c.in_ok-write_next.ensures)
+    (Appends-trans a b d (more_text (take i all)) (next_text x) c.loop-leave.invariant c.in_ok-write_next.ensures)
