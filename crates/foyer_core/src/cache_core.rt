@@ -216,7 +216,9 @@ impl<
         })
     }
 
-    /// Whether the core made the entry, and its handle is still out. It takes no memory.
+    /// Whether the entry has the core's number and its record has a handle, as each entry has that the core
+    /// made and that was not spent. Cores that are to tell their entries apart need numbers of their own. It
+    /// takes no memory.
     pub fn owns(&self, entry: &CoreEntry<K, V, P>) -> bool
         ensures { IsTrue result ↔ Owns (core_of self.now) entry.now }
     {

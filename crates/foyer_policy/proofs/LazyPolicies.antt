@@ -1,4 +1,4 @@
--- Dictionaries that are no policies: for each law of `IsPolicy` some that it refuses, by that law
+-- Dictionaries that are no policies: for each law of `IsPolicy` but `fault_kind` some that it refuses, by that law
 -- alone. Each is one of the plain policies here with a field that is wrong.
 use Rattle.std.proofs.Common.{◌≡◌, ℕ, ◌+◌, ◌≤◌, List, [], ◌∷◌, ◌++◌, Option, Some, None, length, refl, sym, ◌∙◌, ap, arith, inl}
 use Rattle.std.specs.List.{fold}

@@ -25,7 +25,7 @@ use ready::Ready;
 /// A core with the handles that it handed out, each held or gone. It carries out commands, which name a
 /// handle by its number. `I` is the index of each shard. Contracts see a `SessionState`.
 ///
-/// A session that ends gives its held handles back, and tells nothing.
+/// A session that ends drops its held handles with its core, and tells nothing.
 #[derive(Drop)]
 pub struct Session<
     E: Eviction,
