@@ -51,7 +51,7 @@ swapped f n k a b apart q = elim (eqb_tells q n) [
       (update_here (update nat_eq f n a) k b ∙ sym (update_apart (update nat_eq f k b) n a k (λ h. apart (sym h)) ∙ update_here f k b))
   again (inr e) other = update_apart (update nat_eq f n a) k b q e.1 ∙ update_apart f n a q other ∙ sym (update_apart (update nat_eq f k b) n a q other ∙ update_apart f k b q e.1)
 
-length-remove_id : (id : ℕ) (i : Item) (l : List Item) → find_id id l ≡ Some i → length (remove_id id l) + 1 ≡ length l
+pub length-remove_id : (id : ℕ) (i : Item) (l : List Item) → find_id id l ≡ Some i → length (remove_id id l) + 1 ≡ length l
 length-remove_id id i [] h = absurd cc
 length-remove_id id i (x ∷ xs) h = go (x.id == id) h (length-remove_id id i xs) where
   go : (b : Bool) → cond b (Some x) (find_id id xs) ≡ Some i → (find_id id xs ≡ Some i → length (remove_id id xs) + 1 ≡ length xs) → length (cond b xs (x ∷ remove_id id xs)) + 1 ≡ length (x ∷ xs)

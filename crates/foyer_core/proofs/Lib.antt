@@ -1,4 +1,6 @@
 pub mod AdmitLemmas
+pub mod Cloned
+pub mod CoreLaws
 pub mod CoreLemmas
 pub mod DrainLemmas
 pub mod Emplaced
@@ -23,12 +25,15 @@ pub mod PinLemmas
 pub mod Popped
 pub mod Pushing
 pub mod RefusalLemmas
+pub mod Removed
 pub mod Reserving
 pub mod ShardLemmas
 pub mod SlotLemmas
 pub mod States
+pub mod Staying
 pub mod Stepped
 pub mod StoredLemmas
 pub mod TableLemmas
 pub mod Taken
+pub mod Touched
 pub mod Weights

@@ -8,9 +8,9 @@ use Rattle.foyer_core.specs.declared.outcome.Outcome.TheVariants.{Entries}
 use Rattle.foyer_core.specs.declared.outcome.Refused.{Refused}
 use Rattle.foyer_core.specs.declared.record.Data.{Data}
 use Rattle.foyer_core.specs.declared.record.Limits.{Limits}
-use Rattle.foyer_core.specs.State.{Meaning, State, hit, handles_in, usage_of}
-use Rattle.foyer_core.specs.Steps.{Inserts, RefusesInsert}
-use Rattle.foyer_core.specs.Values.{Held}
+use Rattle.foyer_core.specs.State.{Meaning, State, hit, handles_of, handles_in, usage_of}
+use Rattle.foyer_core.specs.Steps.{Inserts, RefusesInsert, IsOutdated}
+use Rattle.foyer_core.specs.Values.{Held, Rec}
 
 -- a core: its capacity, what gives its keys their hashes and its records their weights, and its shards
 pub record Core (K V P View S W : Type 0) : Type 0 where
@@ -34,6 +34,18 @@ hit_in core k = option_and_then (λ s. hit s k) (shard_at core k.0)
 -- an entry is this core's where the shard of its hash has its number and a handle of its id
 abbrev pub Owns : {K V P View S W : Type 0} → Core K V P View S W → Held K V P → Type 0
 Owns core entry = IsSomeAnd (shard_at core entry.kept.hash) (λ s. (entry.number ≡ s.number) × (0 < handles_in s entry.id))
+
+-- the record of an entry, in its shard
+abbrev pub record_of : {K V P View S W : Type 0} → Core K V P View S W → Held K V P → Option (Rec K V P)
+record_of core entry = option_and_then (λ s. s.records entry.id) (shard_at core entry.kept.hash)
+
+-- how many handles the record of an entry has
+abbrev pub refs_in : {K V P View S W : Type 0} → Core K V P View S W → Held K V P → ℕ
+refs_in core entry = handles_of (record_of core entry)
+
+-- the record of an entry is not in the index of its shard
+abbrev pub IsOutdatedIn : {K V P View S W : Type 0} → Core K V P View S W → Held K V P → Type 0
+IsOutdatedIn core entry = IsSomeAnd (shard_at core entry.kept.hash) (λ s. IsOutdated s entry.id)
 
 -- the shard of a hash makes a step, and all else stays
 pub record AtShard {K V P View S W : Type 0} (step : State K V P View → State K V P View → Type 0) (hash : ℕ) (old new : Core K V P View S W) : Type 0 where

@@ -11,3 +11,4 @@ pub mod State
 pub mod Stored
 pub mod Shards
 pub mod Steps
+pub mod Laws

@@ -1,10 +1,10 @@
 -- The steps of a shard.
-use Rattle.std.specs.Prelude.{◌≡◌, ℕ, ◌+◌, ◌-◌, ◌<◌, ◌≤◌, ◌^◌, ◌==◌, ◌&&◌, not, List, [], ◌∷◌, ◌++◌, Option, Some, None, Result, Ok, Err, true, false, nat_eq, if◌then◌else◌, map, length}
+use Rattle.std.specs.Prelude.{◌≡◌, ◌≢◌, ℕ, Bool, ◌+◌, ◌-◌, ◌<◌, ◌≤◌, ◌^◌, ◌==◌, ◌&&◌, not, List, [], ◌∷◌, ◌++◌, Option, Some, None, Result, Ok, Err, true, false, nat_eq, if◌then◌else◌, map, length}
 use Rattle.std.specs.Map.{update}
 use Rattle.foyer_policy.specs.Policy.{victim, evicted, after_pops}
 use Rattle.foyer_policy.specs.declared.types.Item.{Item}
 use Rattle.foyer_policy.specs.declared.types.Event.{Event}
-use Rattle.foyer_policy.specs.declared.types.Event.TheVariants.{Evict, Replace}
+use Rattle.foyer_policy.specs.declared.types.Event.TheVariants.{Evict, Replace, Remove}
 use Rattle.foyer_policy.specs.declared.types.Source.{Source}
 use Rattle.foyer_policy.specs.declared.types.Source.TheVariants.{Outer, Memory}
 use Rattle.foyer_policy.specs.declared.error.Reason.{Reason}
@@ -34,6 +34,28 @@ replaced_leaves (Some g) = (Replace, g) ∷ []
 -- the ids of items
 abbrev pub ids_of : List Item → List ℕ
 ids_of items = map (λ i. i.id) items
+
+-- one more handle of a record
+abbrev pub after_handle : {K V P View : Type 0} → State K V P View → ℕ → Rec K V P → State K V P View
+after_handle s id r = record s { records = update nat_eq s.records id (Some (record r { handles = r.handles + 1 })) }
+
+-- A handle of a record is refused: F9 at the limit of handles, or F7 where the record could not be shared.
+-- Nothing has changed.
+abbrev pub RefusesHandle : {K V P View : Type 0} → State K V P View → ℕ → Reason → State K V P View → Type 0
+RefusesHandle {K} {V} {P} old id Handles new = (r : Rec K V P) × (old.records id ≡ Some r) × (old.limits.handles ≤ r.handles) × (new ≡ old)
+RefusesHandle {K} {V} {P} old id NoMemory new = (r : Rec K V P) × (old.records id ≡ Some r) × (r.handles < old.limits.handles) × (new ≡ old)
+RefusesHandle old id _ new = ⊥
+
+-- What a clone of an entry answers: an entry like it, which is one more handle of its record, or a refusal
+-- of the handle. The policy is not told.
+abbrev pub ClonesHandle : {K V P View : Type 0} → State K V P View → Held K V P → Result (Held K V P) Reason → State K V P View → Type 0
+ClonesHandle {K} {V} {P} old entry (Ok clone) new =
+    (r : Rec K V P) × (old.records entry.id ≡ Some r) × (r.handles < old.limits.handles) × (clone ≡ record entry { left = true }) × (new ≡ after_handle old entry.id r)
+ClonesHandle old entry (Err reason) new = RefusesHandle old entry.id reason new
+
+-- the record of an id is not in the index
+abbrev pub IsOutdated : {K V P View : Type 0} → State K V P View → ℕ → Type 0
+IsOutdated {K} s id = (k : ℕ × K) → s.index k ≢ Some id
 
 module _ {K V P View C : Type 0} (m : Meaning K P View C) where
   -- the record of this id is out of the index
@@ -155,3 +177,21 @@ module _ {K V P View C : Type 0} (m : Meaning K P View C) where
     pub held : 0 < rec.handles
     pub leaves : leave ≡ last_leave id rec
     pub after : new ≡ after_give_back old id rec
+
+  -- What a touch answers: a get, whose entry is given back at once. It is refused at the limit of handles
+  -- alone (F9).
+  abbrev pub Touches : State K V P View → ℕ × K → Result Bool Reason → State K V P View → Type 0
+  Touches old k (Ok false) new = Gets old k (Ok None) new
+  Touches old k (Ok true) new = (entry : Held K V P) × (mid : State K V P View) × Gets old k (Ok (Some entry)) mid × GivesBack mid entry.id None new
+  Touches old k (Err Handles) new = Gets old k (Err Handles) new
+  Touches old k (Err _) new = ⊥
+
+  -- What a remove answers: nothing where the key has no record in the index, else an entry, and the record
+  -- leaves as `Remove`; or a refusal of the handle.
+  abbrev pub Removes : State K V P View → ℕ × K → Result (Option (Held K V P × Gone K V P)) Reason → State K V P View → Type 0
+  Removes old k (Ok None) new = (old.index k ≡ None) × (new ≡ old)
+  Removes old k (Ok (Some out)) new =
+      (r : Rec K V P) × (old.index k ≡ Some out.0.id) × (old.records out.0.id ≡ Some r) × (r.handles < old.limits.handles)
+      × (out.0 ≡ entry_of old out.0.id r.kept Memory)
+      × Leave Remove (out.0.id ∷ []) (after_handle old out.0.id r) ((Remove, out.1) ∷ []) (m.policy.remove old.view out.0.id) new
+  Removes old k (Err reason) new = (id : ℕ) × (old.index k ≡ Some id) × RefusesHandle old id reason new

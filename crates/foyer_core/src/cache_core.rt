@@ -16,6 +16,8 @@ use foyer_policy::{Event, Eviction, HashBuilder, Key, Properties, Result, Value}
 use std::alloc::Global;
 use std::marker::PhantomData;
 
+mod entries;
+
 /// The records of a cache, found by their keys, in one thread's hands. `N` is what waits for an answer, and
 /// `I` the index of each shard. Contracts see a `Core`: its shards, and what gives its keys their hashes and
 /// its records their weights.
@@ -92,6 +94,7 @@ impl<
 > CacheCore<E, K, V, P, S, W, N, I> {
     ghost use Rattle.foyer_core.specs.Core.{AnswersNobody, AtShard, InsertsWeighed, Owns, entries_of_core, hit_in, usage_of_core};
     ghost use Rattle.foyer_core.specs.Cores.{core_of, meaning_of_core};
+    ghost use Rattle.foyer_core.specs.Laws.{Finds, HandlesStay, IsBoundedAt, one_of};
     ghost use Rattle.foyer_core.specs.Steps.{Gets, GivesBack};
 
     /// The weight that the records may have together.
@@ -150,9 +153,10 @@ impl<
     /// the limit of handles (F9), or where the record could not be shared (F7); then nothing has changed.
     /// It allocates nothing.
     pub fn get(&mut self, key: &K) -> Result<Option<CoreEntry<K, V, P>>>
-        ensures { let hash = S.hash_of (core_of self.old).hash_builder (K.hash_input key.now) in
+        ensures gets { let hash = S.hash_of (core_of self.old).hash_builder (K.hash_input key.now) in
             AtShard (λ s t. Gets (meaning_of_core self.old) s (hash, key.now) result t)
             hash (core_of self.old) (core_of self.new) }
+        ensures stay { HandlesStay (λ _. 0) (core_of self.old) (core_of self.new) }
     {
         let hash = self.hash(key);
         self.shard.get(hash, key)
@@ -172,6 +176,11 @@ impl<
             × InsertsWeighed (meaning_of_core self.old) (W.weighs (core_of self.old).weighter key value)
             hash key value p result (core_of self.old) (core_of self.new) }
         ensures answers { IfOk result (λ made. AnswersNobody made.answers) }
+        ensures found { IfOk result (λ _. Finds (meaning_of_core self.new) (λ k. S.hash_of (core_of self.new).hash_builder (K.hash_input k))
+            (core_of self.new) key value) }
+        ensures bounded { let hash = S.hash_of (core_of self.old).hash_builder (K.hash_input key) in
+            IfOk result (λ made. IsBoundedAt (meaning_of_core self.old) hash made.entry.kept.weight (core_of self.old) (core_of self.new)) }
+        ensures stay { HandlesStay (λ _. 0) (core_of self.old) (core_of self.new) }
     {
         self.insert_with_properties(key, value, P::default())
     }
@@ -182,6 +191,9 @@ impl<
     /// left (F10), the handle would pass the limit (F9), the weight and the pinned weight of other keys pass
     /// a `usize` (F8), and then nothing has changed; or for want of memory (F7), and then some beginning of
     /// the evictions has left, which the refusal hands out.
+    ///
+    /// Afterwards a get of an equal key finds the value, however heavy it is, and the shard's usage is at most
+    /// its capacity, or the record's weight and what was pinned before, whichever is more.
     pub fn insert_with_properties(
         &mut self,
         key: K,
@@ -195,6 +207,11 @@ impl<
             InsertsWeighed (meaning_of_core self.old) (W.weighs (core_of self.old).weighter key value)
             hash key value properties result (core_of self.old) (core_of self.new) }
         ensures answers { IfOk result (λ made. AnswersNobody made.answers) }
+        ensures found { IfOk result (λ _. Finds (meaning_of_core self.new) (λ k. S.hash_of (core_of self.new).hash_builder (K.hash_input k))
+            (core_of self.new) key value) }
+        ensures bounded { let hash = S.hash_of (core_of self.old).hash_builder (K.hash_input key) in
+            IfOk result (λ made. IsBoundedAt (meaning_of_core self.old) hash made.entry.kept.weight (core_of self.old) (core_of self.new)) }
+        ensures stay { HandlesStay (λ _. 0) (core_of self.old) (core_of self.new) }
     {
         let hash = self.hash(&key);
         let weight = self.weighter.weigh(&key, &value);
@@ -238,6 +255,7 @@ impl<
             entry.kept.hash (core_of self.old) (core_of self.new)) }
         ensures returned { IfErr result (λ e. e ≡ entry) }
         ensures err { OnErr result (core_of self.new ≡ core_of self.old) }
+        ensures stay { HandlesStay (one_of (core_of self.old) entry) (core_of self.old) (core_of self.new) }
     {
         self.shard.give_back(entry)
     }

@@ -1,10 +1,11 @@
 //! Entries, which are handles of records, and what left.
 
-ghost use Rattle.std.specs.Prelude.{◌≡◌, IsNone, None, Some, false, true, MatchOption, IfSome};
+ghost use Rattle.std.specs.Prelude.{◌≡◌, IsNone, None, Some, false, true, MatchOption, IfSome, IfOk, IfErr};
+ghost use Rattle.foyer_policy.specs.declared.error.Reason.TheVariants.{NoMemory};
 ghost use Rattle.std.specs.Arc.{arc_value};
 
 use crate::record::Data;
-use foyer_policy::Source;
+use foyer_policy::{Error, Reason, Result, Source};
 use std::alloc::Global;
 use std::marker::Model;
 use std::sync::Arc;
@@ -203,6 +204,21 @@ impl<K: Drop, V: Drop, P: Drop> CoreEntry<K, V, P> {
             }),
             None => None,
         }
+    }
+
+    // An entry like this one, with a share of its own to leave, of a record in this slot. Only memory can be
+    // missing.
+    pub(crate) fn share(&self, slot: usize) -> Result<Self>
+        ensures entry { IfOk result (λ e. e ≡ record self.now { left = true }) }
+        ensures refused { IfErr result (λ e. e ≡ NoMemory) }
+    {
+        let Ok(kept) = Arc::try_clone(&self.kept) else {
+            return Err(Error::new(Reason::NoMemory));
+        };
+        let Ok(left) = Arc::try_clone(&self.kept) else {
+            return Err(Error::new(Reason::NoMemory));
+        };
+        Ok(CoreEntry::new(self.number, self.id, slot, kept, left, self.source))
     }
 
     /// Ends an entry whose core is gone. No core changes.

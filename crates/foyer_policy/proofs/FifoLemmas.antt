@@ -7,7 +7,7 @@ use Rattle.foyer_policy.specs.Lists.{list_at, find_in, find, or_else, drop_place
 use Rattle.foyer_policy.specs.Items.{IsNewIn, HasIdsOnce, remove_id, find_id}
 use Rattle.foyer_policy.specs.Policy.{without}
 use Rattle.foyer_policy.specs.declared.types.Item.{Item}
-use Rattle.foyer_policy.proofs.ItemLemmas.{once-remove_id, once-snoc, once-tail}
+use Rattle.foyer_policy.specs.ItemLaws.{once-remove_id, once-snoc, once-tail}
 use Rattle.foyer_policy.proofs.ItemPlaces.{items, item_at, items-drop_place, item_at-drop_place, item_at-snoc, find_id-found}
 
 -- a list of one list

@@ -6,7 +6,7 @@ use Rattle.foyer_policy.specs.Lists.{drop_place, IsFree, IsDistinct}
 use Rattle.foyer_policy.specs.Items.{IsNewIn, HasIdsOnce, remove_id, find_id}
 use Rattle.foyer_policy.specs.Policy.{without}
 use Rattle.foyer_policy.specs.declared.types.Item.{Item}
-use Rattle.foyer_policy.proofs.ItemLemmas.{new-head, new-tail, once-head, once-tail}
+use Rattle.foyer_policy.specs.ItemLaws.{new-head, new-tail, once-head, once-tail}
 
 module _ {T : Type 0} (item : T → Item) where
   -- the items of a list under places

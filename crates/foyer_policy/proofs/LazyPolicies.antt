@@ -8,7 +8,7 @@ use Rattle.foyer_policy.specs.Policy.{Policy, IsPolicy, after_pops}
 use Rattle.foyer_policy.specs.Fifo.{fifo, take_first}
 use Rattle.foyer_policy.specs.declared.types.Item.{Item}
 use Rattle.foyer_policy.specs.declared.types.Hint.TheVariants.{Normal}
-use Rattle.foyer_policy.proofs.ItemLemmas.{once-snoc}
+use Rattle.foyer_policy.specs.ItemLaws.{once-snoc}
 pub mod Credits
 pub mod Orders
 pub mod Pinning

@@ -138,7 +138,7 @@ module _ {T : Type 0} where
         let d' : IsDistinct (xs ++ (p, v) ∷ ys) = rw is at d in
         IsDistinct-mid p v xs ys d'
 
-    found_here : find_in p (list_at ls k) ≡ Some v
+    pub found_here : find_in p (list_at ls k) ≡ Some v
     found_here = rw is (find_in-mid p v xs ys free_beside.0)
 
     pub free_elsewhere : (j : ℕ) → j ≢ k → IsFree p (list_at ls j)

@@ -6,11 +6,10 @@ use Rattle.std.proofs.lemmas.List.Sorted.{sum_by-IsPermutation, sum_by_popped, s
 use Rattle.foyer_policy.specs.Items.{weight_of, count_of, IsNewIn, HasIdsOnce, remove_id, find_id}
 use Rattle.foyer_policy.specs.Policy.{Policy, IsPolicy, victims, pops, view_or, after_pops}
 use Rattle.foyer_policy.specs.declared.types.Item.{Item}
-use Rattle.foyer_policy.proofs.ItemLemmas.{one_if, count-cons, count-other, found-id, sum-remove_id, once-remove_id, once-head, once-tail, new-cons}
+use Rattle.foyer_policy.specs.ItemLaws.{one_if, count-cons, count-other, found-id, sum-remove_id, once-remove_id, once-head, once-tail, new-cons}
 pub mod Cleared
 pub mod Evicted
 pub mod Found
-pub mod Parts
 pub mod Repeated
 
 -- once taken out, an id is new

@@ -3,7 +3,7 @@
 ghost use Rattle.std.specs.Prelude.{◌≡◌, ◌≢◌, ℕ, ◌+◌, ◌^◌, ◌<◌, ◌≤◌, ◌∷◌, ◌++◌, [], Some, None, OnOk, OnErr, IfErr, IfSome, IsOk, IsSome, length, map, sum_by, slice_set, if◌then◌else◌, replicate, is_some};
 ghost use Rattle.std.specs.Option.{ForSome};
 ghost use Rattle.slab.specs.Slab.{get, slab_len, ContainsKey, HasRoomFor};
-ghost use Rattle.foyer_policy.specs.Lists.{list_at, first_or, find, first_value, rest, drop_place, moved, AreLists};
+ghost use Rattle.foyer_policy.specs.Lists.{list_at, first_or, find, find_in, first_value, rest, drop_place, moved, AreLists};
 ghost use Rattle.foyer_policy.specs.Chain.{is_at, after_set, before_set, end_set, lists_of, IsSound};
 
 use crate::error::{Error, Reason, Result};
@@ -332,6 +332,16 @@ impl<T, const N: usize> Lists<T, N> {
     {
         let node = self.nodes[place.node].after?;
         Some(Place { node })
+    }
+
+    /// The number of the list in which the value at a place stands. The place must hold a value.
+    pub fn list_of(&self, place: Place) -> usize
+        requires { IsSome (find place self.now.lists) }
+        ensures within { result < N }
+        ensures stands { find_in place (list_at self.now.lists result) ≡ find place self.now.lists }
+        ensures apart { AreLists N self.now.lists }
+    {
+        self.nodes[place.node].list
     }
 
     /// The value at a place, which must hold one.

@@ -27,7 +27,7 @@ pub record Alike {K V P View : Type 0} (old new : State K V P View) : Type 0 whe
 alike_refl : {K V P View : Type 0} (s t : State K V P View) → t ≡ s → Alike s t
 alike_refl {K} {V} {P} {View} s t e = record { handles = λ id. ap (λ (x : State K V P View). handles_in x id) e; next = ap (λ (x : State K V P View). x.next) e; number = ap (λ (x : State K V P View). x.number) e }
 
-alike_then : {K V P View : Type 0} (a b c : State K V P View) → Alike a b → Alike b c → Alike a c
+pub alike_then : {K V P View : Type 0} (a b c : State K V P View) → Alike a b → Alike b c → Alike a c
 alike_then a b c x y = record { handles = λ id. y.handles id ∙ x.handles id; next = y.next ∙ x.next; number = y.number ∙ x.number }
 
 outside_handles : {K V P : Type 0} (r : Rec K V P) (b : Bool) → (r.handles == 0) ≡ b → handles_of (outside r) ≡ r.handles
@@ -53,7 +53,7 @@ module _ {K V P View C : Type 0} (m : Meaning K P View C) where
     number = refl;
   }
 
-  leave_alike : (e : Event) (ids : List ℕ) (old : State K V P View) (ls : List (Event × Gone K V P)) (v : View) (new : State K V P View)
+  pub leave_alike : (e : Event) (ids : List ℕ) (old : State K V P View) (ls : List (Event × Gone K V P)) (v : View) (new : State K V P View)
       → Leave m e ids old ls v new → Alike old new
   leave_alike e [] old [] v new h = record {
     handles = λ id. ap (λ (x : State K V P View). handles_in x id) h;
@@ -93,7 +93,7 @@ module _ {K V P View C : Type 0} (m : Meaning K P View C) where
     | inr e ↦ (let same : handles_in (after_push m s d) j ≡ handles_in s j = e.1 in let c = h j in let ne = e.0 in grind (arith, nat_tests))
   ]
 
-  alike_counts : (old new : State K V P View) (held : ℕ → ℕ) → Alike old new → Counts old held → Counts new held
+  pub alike_counts : (old new : State K V P View) (held : ℕ → ℕ) → Alike old new → Counts old held → Counts new held
   alike_counts old new held a h j = omega (arith, h j, a.handles j)
 
   pub inserts_counts : (old : State K V P View) (d : Data K V P) (ls : List (Event × Gone K V P)) (entry : Held K V P) (new : State K V P View)
@@ -128,7 +128,7 @@ module _ {K V P View C : Type 0} (m : Meaning K P View C) where
       ]
 
   -- a record with one handle more
-  more_counts : (s t : State K V P View) (id : ℕ) (r : Rec K V P) (w : Option (Rec K V P)) (held : ℕ → ℕ) → s.records id ≡ Some r → t.records ≡ update nat_eq s.records id w
+  pub more_counts : (s t : State K V P View) (id : ℕ) (r : Rec K V P) (w : Option (Rec K V P)) (held : ℕ → ℕ) → s.records id ≡ Some r → t.records ≡ update nat_eq s.records id w
       → handles_of w ≡ r.handles + 1 → Counts s held → Counts t (one_more held id)
   more_counts s t id r w held there is count h j = elim (count_handles s t id r w there is j) [
     | inl e ↦ (let c = h j in let a = e.1 in let b = e.2 in grind (arith, nat_tests))

@@ -1,5 +1,5 @@
 -- Texts that are written piece by piece, and a program's loop over lines, of which it writes a text for each.
-use Rattle.std.proofs.Common.{◌≡◌, ℕ, zero, suc, ◌+◌, List, [], ◌∷◌, ◌++◌, Option, Some, None, IfSome, Result, Ok, Err, IsErr, length, take, refl, sym, ap, ◌∙◌, subst, arith, append_assoc, append-nil}
+use Rattle.std.proofs.Common.{◌≡◌, ℕ, zero, suc, ◌+◌, List, [], ◌∷◌, ◌++◌, Option, Some, None, IfSome, OnErr, Result, Ok, Err, IsErr, length, take, refl, sym, ap, ◌∙◌, subst, arith, append_assoc, append-nil}
 use Rattle.std.specs.Io.KnownBytes.{Appends}
 use Rattle.std.specs.Io.BufRead.{drop_through, DropsThrough}
 use Rattle.std.proofs.Math.Seq.{take-append-add}
@@ -90,6 +90,13 @@ module _ {S : Type 0} (Answers : S → Line → List ℕ → S → Type 0) where
       let nothing : rest ≡ [] = no_line rest (sym (subst (λ o. IfSome o (λ xs. None ≡ next_line xs)) known is)) in
       (text, subst (λ r. ToldOf Answers old input r text new) nothing told, wrote)
 
+  -- and then the reader is at its end
+  pub SoFar-at-end : (old new : S) (known now then held holds : Option (List ℕ)) → SoFar old new known now held holds → IfSome now (λ input. None ≡ next_line input) → DropsThrough now then 10 → IfSome known (λ input. then ≡ Some [])
+  SoFar-at-end old new None now then held holds s is drops = tt
+  SoFar-at-end old new (Some input) now then held holds (rest, text, known, told, wrote) is drops =
+      let nothing : rest ≡ [] = no_line rest (sym (subst (λ o. IfSome o (λ xs. None ≡ next_line xs)) known is)) in
+      subst (λ o. DropsThrough o then 10) (known ∙ ap (λ r. Some r) nothing) drops
+
   -- the loop stopped between two lines
   pub SoFar-stops : (old new : S) (known now held holds : Option (List ℕ)) → SoFar old new known now held holds → TellsPart Answers old new known held holds
   SoFar-stops old new None now held holds s = tt
@@ -108,3 +115,8 @@ module _ {S : Type 0} (Answers : S → Line → List ℕ → S → Type 0) where
 pub WritesText-stops : {T E : Type 0} (a b : Option (List ℕ)) (result : Result T E) (xs : List ℕ) → IsErr result → AppendsFront a b xs → WritesText a b result xs
 WritesText-stops a b (Ok x) xs h k = absurd cc
 WritesText-stops a b (Err e) xs h k = k
+
+-- it holds at `Err` where it holds
+pub OnErr-always : {T E P : Type 0} (result : Result T E) → P → OnErr result P
+OnErr-always (Ok x) p = tt
+OnErr-always (Err e) p = p

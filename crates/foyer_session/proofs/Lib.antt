@@ -1,5 +1,6 @@
 pub mod CoreLemmas
 pub mod CountLemmas
+pub mod EntryCounts
 pub mod FoundLemmas
 pub mod Joins
 pub mod KeptLemmas

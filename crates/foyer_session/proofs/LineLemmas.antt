@@ -12,7 +12,7 @@ bytes_eq-long word name long = false_from_ne_true (bytes_eq word name) (λ e. om
 -- no first word is longer than 8 bytes
 line_with_one-long : (verb : List ℕ) (n : ℕ) → 8 < length verb → line_with_one verb n ≡ Bad
 unfolding line_with_one
-line_with_one-long verb n long = rw (bytes_eq-long verb (codes "get") (omega arith), bytes_eq-long verb (codes "contains") (omega arith), bytes_eq-long verb (codes "drop") (omega arith)) refl
+line_with_one-long verb n long = rw (bytes_eq-long verb (codes "get") (omega arith), bytes_eq-long verb (codes "contains") (omega arith), bytes_eq-long verb (codes "touch") (omega arith), bytes_eq-long verb (codes "remove") (omega arith), bytes_eq-long verb (codes "drop") (omega arith)) refl
 
 line_with_two-long : (verb : List ℕ) (m n : ℕ) → 8 < length verb → line_with_two verb m n ≡ Bad
 unfolding line_with_two

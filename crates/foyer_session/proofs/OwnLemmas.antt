@@ -2,6 +2,8 @@
 use Rattle.std.proofs.Common.{◌≡◌, ◌≢◌, ℕ, zero, suc, ◌+◌, ◌-◌, ◌<◌, ◌≤◌, ◌⊎◌, ◌%◌, List, [], ◌∷◌, ◌++◌, length, set, sum_by, Option, Some, None, Result, Ok, Err, arith, refl, sym, ap, ◌∙◌, subst, ◌==◌, ◌&&◌, Bool, true, false, nat_eq, cond, inl, inr, get_or}
 use Rattle.std.specs.Prelude.{slice_get, slice_set, if◌then◌else◌}
 use Rattle.std.specs.Option.{option_flatten}
+use Rattle.std.proofs.Math.Logic.{∥∥₁_elim}
+use Rattle.std.proofs.Props.{props}
 use Rattle.std.proofs.lemmas.Bool.Decides.{eqb_tells, nat_tests}
 use Rattle.std.proofs.lemmas.List.Sums.{sum_by_push, sum_by-set}
 use Rattle.std.proofs.lemmas.List.{set-get_or}
@@ -187,6 +189,15 @@ owned_entry core handles n entry owns there =
     let t = take_here (length core.shards) (shard_of core entry.kept.hash) handles n entry there refl entry.id in
     let one : ◌≡◌ {A = ℕ} (cond (entry.id == entry.id) 1 0) 1 = grind (arith, nat_tests) in
     rw s.1 (s.2, omega (arith, c, t, one))
+
+-- the same where it is only known that the core owns the handles
+pub owned_held : {K V P View S W : Type 0} (core : Core K V P View S W) (handles : List (Option (Held K V P))) (n : ℕ) (entry : Held K V P)
+    → ∥ OwnsHandles core handles ∥₁ → held_at handles n ≡ Some entry → Owns core entry
+owned_held {K} {V} {P} {View} core handles n entry owns there = go (shard_at core entry.kept.hash) refl
+  where
+    go : (o : Option (State K V P View)) → shard_at core entry.kept.hash ≡ o → Owns core entry
+    go None is = absurd (∥∥₁_elim owns (hlevel props) (λ o. rw is at (owned_entry core handles n entry o there)))
+    go (Some s) is = rw is (∥∥₁_elim owns (hlevel props) (λ o. rw is at (owned_entry core handles n entry o there)))
 
 -- where the shard of a hash stays, all does
 pub shard_same : {K V P View S W : Type 0} (core new : Core K V P View S W) (step : State K V P View → State K V P View → Type 0) (hash : ℕ)

@@ -1,18 +1,23 @@
 -- The steps of a session keep what it owns.
-use Rattle.std.proofs.Common.{◌≡◌, ℕ, List, [], ◌∷◌, ◌++◌, Option, Some, None, Result, Ok, Err, true, false, refl, sym, ap, ◌∙◌, subst}
+use Rattle.std.proofs.Common.{◌≡◌, ℕ, List, [], ◌∷◌, ◌++◌, Option, Some, None, Result, Ok, Err, Bool, true, false, refl, sym, ap, ◌∙◌, subst}
 use Rattle.std.specs.Prelude.{slice_set, IsOk, IfOk}
 use Rattle.std.proofs.lemmas.Bool.{false≢true}
 use Rattle.foyer_policy.specs.declared.types.Event.{Event}
 use Rattle.foyer_policy.specs.declared.error.Reason.{Reason}
+use Rattle.foyer_policy.specs.declared.error.Reason.TheVariants.{Handles, NoMemory}
 use Rattle.foyer_core.specs.declared.record.Data.{Data}
 use Rattle.foyer_core.specs.Values.{Gone, Held}
 use Rattle.foyer_core.specs.State.{Meaning, State, handles_in}
-use Rattle.foyer_core.specs.Steps.{Inserts, RefusesInsert, Gets, GivesBack}
+use Rattle.foyer_core.specs.Steps.{Inserts, RefusesInsert, Gets, GivesBack, Touches, Removes, RefusesHandle, ClonesHandle}
 use Rattle.foyer_core.specs.Core.{Core, AtShard, Owns}
-use Rattle.foyer_session.specs.Step.{held_at}
+use Rattle.foyer_session.specs.Step.{SessionState, held_at}
 use Rattle.foyer_session.specs.Owns.{OwnsHandles}
 use Rattle.foyer_session.proofs.CountLemmas.{inserts_counts, inserts_number, refuses_counts, refuses_number, gets_counts, gives_back_counts, gives_back_number}
-use Rattle.foyer_session.proofs.OwnLemmas.{owns_same, owns_more, owns_less, owned_entry}
+use Rattle.foyer_session.proofs.EntryCounts.{touches_counts, touches_number, removes_counts, removes_number, clones_counts}
+use Rattle.foyer_session.proofs.OwnLemmas.{owns_same, owns_more, owns_less, owned_entry, shard_same}
+
+some_same : {A : Type 0} {a b : A} → ◌≡◌ {A = Option A} (Some a) (Some b) → a ≡ b
+some_same h = cc
 
 module _ {K V P View C S W : Type 0} (m : Meaning K P View C) (core new : Core K V P View S W) (handles : List (Option (Held K V P))) (owns : OwnsHandles core handles) where
   -- a record came in, under an id of which there was no handle
@@ -43,3 +48,40 @@ module _ {K V P View C S W : Type 0} (m : Meaning K P View C) (core new : Core K
       owns_less core new (λ s t. GivesBack m s entry.id leave t) entry.kept.hash at (gives_back_number m at.before entry.id leave at.after at.stepped) handles n entry there refl
       (gives_back_counts m at.before entry.id leave at.after at.stepped) owns
   gave_back_owns n entry (Err e) there taken at = absurd (false≢true (taken (owned_entry core handles n entry owns there)))
+
+  -- a touch, whatever it answers
+  pub touched_owns : (k : ℕ × K) (result : Result Bool Reason) (at : AtShard (λ s t. Touches m s k result t) k.0 core new) → OwnsHandles new handles
+  touched_owns k result at =
+      owns_same core new (λ s t. Touches m s k result t) k.0 at (touches_number m at.before k result at.after at.stepped) handles
+      (touches_counts m at.before k result at.after at.stepped) owns
+
+  -- a record was taken out, and an entry of it was made, which has the key's hash
+  pub removed_owns : (k : ℕ × K) (entry : Held K V P) (gone : Gone K V P) (at : AtShard (λ s t. Removes m s k (Ok (Some (entry, gone))) t) k.0 core new)
+      → entry.kept.hash ≡ k.0 → OwnsHandles new (handles ++ Some (record entry { left = false }) ∷ [])
+  removed_owns k entry gone at is =
+      owns_more core new (λ s t. Removes m s k (Ok (Some (entry, gone))) t) k.0 at (removes_number m at.before k entry gone at.after at.stepped) handles (record entry { left = false })
+      is (ap (λ (x : Held K V P). x.number) at.stepped.4) (removes_counts m at.before k entry gone at.after at.stepped) owns
+
+  -- one more entry was made of the record of a held handle
+  pub cloned_owns : (n : ℕ) (entry clone : Held K V P) → held_at handles n ≡ Some entry
+      → (at : AtShard (λ s t. ClonesHandle s entry (Ok clone) t) entry.kept.hash core new) → OwnsHandles new (handles ++ Some (record clone { left = false }) ∷ [])
+  cloned_owns n entry clone there at =
+      let s = owns.numbered n entry there in
+      let same : s.0 ≡ at.before = some_same (sym s.1 ∙ at.there) in
+      owns_more core new (λ s t. ClonesHandle s entry (Ok clone) t) entry.kept.hash at (ap (λ (x : State K V P View). x.number) at.stepped.4) handles (record clone { left = false })
+      (ap (λ (x : Held K V P). x.kept.hash) at.stepped.3) (ap (λ (x : Held K V P). x.number) at.stepped.3 ∙ s.2 ∙ ap (λ (x : State K V P View). x.number) same)
+      (clones_counts m at.before entry clone at.after at.stepped) owns
+
+-- a refused handle changes no shard
+refusal_same : {K V P View : Type 0} (old new : State K V P View) (id : ℕ) (reason : Reason) → RefusesHandle old id reason new → new ≡ old
+refusal_same old new id Handles h = h.3
+refusal_same old new id NoMemory h = h.3
+refusal_same old new id _ h = absurd h
+
+-- a refused clone changes no session
+pub clone_refused : {K V P View S W : Type 0} (core new : Core K V P View S W) (handles : List (Option (Held K V P))) (entry : Held K V P) (reason : Reason)
+    → AtShard (λ s t. ClonesHandle s entry (Err reason) t) entry.kept.hash core new
+    → ◌≡◌ {A = SessionState K V P View S W} (record { core = new; handles = handles }) (record { core = core; handles = handles })
+clone_refused {K} {V} {P} {View} {S} {W} core new handles entry reason at =
+    ap (λ (c : Core K V P View S W). record { core = c; handles = handles })
+    (shard_same core new (λ s t. ClonesHandle s entry (Err reason) t) entry.kept.hash at (refusal_same at.before at.after entry.id reason at.stepped))

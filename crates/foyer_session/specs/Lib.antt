@@ -9,3 +9,4 @@ pub mod Owns
 pub mod Sessions
 pub mod Printed
 pub mod Args
+pub mod Simulated

@@ -5,7 +5,7 @@ use Rattle.foyer_policy.specs.declared.types.Event.TheVariants.{Evict, Replace, 
 use Rattle.foyer_policy.specs.Errors.{number_of}
 use Rattle.foyer_core.specs.Values.{Gone}
 use Rattle.foyer_session.specs.declared.command.Answer.{Answer}
-use Rattle.foyer_session.specs.declared.command.Answer.TheVariants.{Entry, Found, Missing, Yes, No, Done, NotHeld, Refused}
+use Rattle.foyer_session.specs.declared.command.Answer.TheVariants.{Entry, Found, Missing, Yes, No, Done, Number, NotHeld, Refused}
 use Rattle.foyer_session.specs.declared.sim.value.SimValue.{SimValue}
 
 -- why a record left
@@ -54,6 +54,7 @@ module _ {P : Type 0} where
   answer_text Yes = codes "yes"
   answer_text No = codes "no"
   answer_text Done = codes "ok"
+  answer_text (Number count) = decimal count
   answer_text NotHeld = codes "not held"
   answer_text (Refused reason) = refusal_text (number_of reason)
 

@@ -3,17 +3,18 @@ use Rattle.std.specs.Prelude.{◌≡◌, ◌≢◌, ℕ, List, [], ◌∷◌, �
 use Rattle.std.specs.Option.{option_flatten}
 use Rattle.foyer_policy.specs.Properties.{is_phantom}
 use Rattle.foyer_policy.specs.declared.types.Event.{Event}
+use Rattle.foyer_policy.specs.declared.types.Event.TheVariants.{Remove as RemoveEvent}
 use Rattle.foyer_policy.specs.declared.types.Location.{Location}
 use Rattle.foyer_policy.specs.declared.types.Location.TheVariants.{OnDisk}
 use Rattle.foyer_core.specs.declared.record.Data.{Data}
 use Rattle.foyer_core.specs.Values.{Gone, Held}
 use Rattle.foyer_core.specs.State.{Meaning, State}
-use Rattle.foyer_core.specs.Steps.{Inserts, RefusesInsert, Gets, GivesBack}
-use Rattle.foyer_core.specs.Core.{Core, AtShard, hit_in}
+use Rattle.foyer_core.specs.Steps.{Inserts, RefusesInsert, Gets, GivesBack, Touches, Removes, ClonesHandle}
+use Rattle.foyer_core.specs.Core.{Core, AtShard, IsOutdatedIn, hit_in, refs_in}
 use Rattle.foyer_session.specs.declared.command.Answer.{Answer}
-use Rattle.foyer_session.specs.declared.command.Answer.TheVariants.{Entry, Found, Missing, Yes, No, Done, NotHeld, Refused}
+use Rattle.foyer_session.specs.declared.command.Answer.TheVariants.{Entry, Found, Missing, Yes, No, Done, Number, NotHeld, Refused}
 use Rattle.foyer_session.specs.declared.command.Command.{Command}
-use Rattle.foyer_session.specs.declared.command.Command.TheVariants.{Insert, Get, Contains, Drop}
+use Rattle.foyer_session.specs.declared.command.Command.TheVariants.{Insert, Get, Contains, Touch, Remove, Clone, Drop, Refs, Outdated}
 
 -- a core with the handles that were handed out, in order, each held or gone
 pub record SessionState (K V P View S W : Type 0) : Type 0 where
@@ -81,6 +82,35 @@ module _ {K V P View C S W : Type 0} (m : Meaning K P View C) (hash : S → K �
   ContainsStep old k No leaves new = (is_some (hit_in old.core (hash_in old k, k)) ≡ false) × (leaves ≡ []) × (new ≡ old)
   ContainsStep old k _ leaves new = ⊥
 
+  abbrev pub TouchStep : SessionState K V P View S W → K → Answer K V P → List (Event × Gone K V P) → SessionState K V P View S W → Type 0
+  TouchStep old k Yes leaves new =
+      AtShard (λ s t. Touches m s (hash_in old k, k) (Ok true) t) (hash_in old k) old.core new.core × (leaves ≡ []) × (new.handles ≡ old.handles)
+  TouchStep old k No leaves new = (hit_in old.core (hash_in old k, k) ≡ None) × (leaves ≡ []) × (new ≡ old)
+  TouchStep old k (Refused reason) leaves new =
+      AtShard (λ s t. Touches m s (hash_in old k, k) (Err reason) t) (hash_in old k) old.core new.core × (leaves ≡ []) × (new ≡ old)
+  TouchStep old k _ leaves new = ⊥
+
+  abbrev pub RemoveStep : SessionState K V P View S W → K → Answer K V P → List (Event × Gone K V P) → SessionState K V P View S W → Type 0
+  RemoveStep old k (Found number told) leaves new =
+      (entry : Held K V P) × (gone : Gone K V P)
+      × AtShard (λ s t. Removes m s (hash_in old k, k) (Ok (Some (entry, gone))) t) (hash_in old k) old.core new.core
+      × HandsOut old number told entry new × (leaves ≡ (RemoveEvent, gone) ∷ [])
+  RemoveStep old k Missing leaves new = (hit_in old.core (hash_in old k, k) ≡ None) × (leaves ≡ []) × (new ≡ old)
+  RemoveStep old k (Refused reason) leaves new =
+      AtShard (λ s t. Removes m s (hash_in old k, k) (Err reason) t) (hash_in old k) old.core new.core × (leaves ≡ []) × (new ≡ old)
+  RemoveStep old k _ leaves new = ⊥
+
+  abbrev pub CloneStep : SessionState K V P View S W → ℕ → Answer K V P → List (Event × Gone K V P) → SessionState K V P View S W → Type 0
+  CloneStep old n (Found number told) leaves new =
+      (entry : Held K V P) × (clone : Held K V P) × (held_at old.handles n ≡ Some entry)
+      × AtShard (λ s t. ClonesHandle s entry (Ok clone) t) entry.kept.hash old.core new.core
+      × HandsOut old number told clone new × (leaves ≡ [])
+  CloneStep old n (Refused reason) leaves new =
+      (entry : Held K V P) × (held_at old.handles n ≡ Some entry)
+      × AtShard (λ s t. ClonesHandle s entry (Err reason) t) entry.kept.hash old.core new.core × (leaves ≡ []) × (new ≡ old)
+  CloneStep old n NotHeld leaves new = (held_at old.handles n ≡ None) × (leaves ≡ []) × (new ≡ old)
+  CloneStep old n _ leaves new = ⊥
+
   abbrev pub DropStep : SessionState K V P View S W → ℕ → Answer K V P → List (Event × Gone K V P) → SessionState K V P View S W → Type 0
   DropStep old n Done leaves new =
       (entry : Held K V P) × (leave : Option (Event × Gone K V P)) × (held_at old.handles n ≡ Some entry)
@@ -89,9 +119,28 @@ module _ {K V P View C S W : Type 0} (m : Meaning K P View C) (hash : S → K �
   DropStep old n NotHeld leaves new = (held_at old.handles n ≡ None) × (leaves ≡ []) × (new ≡ old)
   DropStep old n _ leaves new = ⊥
 
+  abbrev pub RefsStep : SessionState K V P View S W → ℕ → Answer K V P → List (Event × Gone K V P) → SessionState K V P View S W → Type 0
+  RefsStep old n (Number count) leaves new =
+      (entry : Held K V P) × (held_at old.handles n ≡ Some entry) × (count ≡ refs_in old.core entry) × (leaves ≡ []) × (new ≡ old)
+  RefsStep old n NotHeld leaves new = (held_at old.handles n ≡ None) × (leaves ≡ []) × (new ≡ old)
+  RefsStep old n _ leaves new = ⊥
+
+  abbrev pub OutdatedStep : SessionState K V P View S W → ℕ → Answer K V P → List (Event × Gone K V P) → SessionState K V P View S W → Type 0
+  OutdatedStep old n Yes leaves new =
+      (entry : Held K V P) × (held_at old.handles n ≡ Some entry) × IsOutdatedIn old.core entry × (leaves ≡ []) × (new ≡ old)
+  OutdatedStep old n No leaves new =
+      (entry : Held K V P) × (held_at old.handles n ≡ Some entry) × (IsOutdatedIn old.core entry → ⊥) × (leaves ≡ []) × (new ≡ old)
+  OutdatedStep old n NotHeld leaves new = (held_at old.handles n ≡ None) × (leaves ≡ []) × (new ≡ old)
+  OutdatedStep old n _ leaves new = ⊥
+
   -- what a session answers to a command, what leaves, and the state then
   abbrev pub Step : SessionState K V P View S W → Command K V P → Answer K V P → List (Event × Gone K V P) → SessionState K V P View S W → Type 0
   Step old (Insert k v p) answer leaves new = InsertStep old k v p answer leaves new
   Step old (Get k) answer leaves new = GetStep old k answer leaves new
   Step old (Contains k) answer leaves new = ContainsStep old k answer leaves new
+  Step old (Touch k) answer leaves new = TouchStep old k answer leaves new
+  Step old (Remove k) answer leaves new = RemoveStep old k answer leaves new
+  Step old (Clone n) answer leaves new = CloneStep old n answer leaves new
   Step old (Drop n) answer leaves new = DropStep old n answer leaves new
+  Step old (Refs n) answer leaves new = RefsStep old n answer leaves new
+  Step old (Outdated n) answer leaves new = OutdatedStep old n answer leaves new

@@ -5,7 +5,7 @@ use Rattle.std.specs.Str.{all_ascii_digits}
 use Rattle.std.specs.Str.Parse.{digits_value}
 use Rattle.std.specs.Io.BufRead.{first_piece, drop_through}
 use Rattle.foyer_session.specs.declared.text.Line.{Line}
-use Rattle.foyer_session.specs.declared.text.Line.TheVariants.{Blank, Insert, Get, Contains, Drop, Bad}
+use Rattle.foyer_session.specs.declared.text.Line.TheVariants.{Blank, Insert, Get, Contains, Touch, Remove, Drop, Bad}
 
 -- the words: the longest runs of bytes other than the space, in order
 unfoldable pub words : List ℕ → List (List ℕ)
@@ -25,8 +25,10 @@ numbers_of (word ∷ more) = option_and_then (λ n. option_map (λ ns. n ∷ ns)
 unfoldable pub line_with_one : List ℕ → ℕ → Line
 line_with_one verb n = if bytes_eq verb (codes "get") then Get n
     else (if bytes_eq verb (codes "contains") then Contains n
+    else (if bytes_eq verb (codes "touch") then Touch n
+    else (if bytes_eq verb (codes "remove") then Remove n
     else (if bytes_eq verb (codes "drop") then Drop n
-    else Bad))
+    else Bad))))
 
 -- of a first word and two numbers
 unfoldable pub line_with_two : List ℕ → ℕ → ℕ → Line

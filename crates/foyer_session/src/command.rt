@@ -16,8 +16,18 @@ pub enum Command<K, V, P> {
     Get(K),
     /// Asks whether the key has a record.
     Contains(K),
+    /// Uses the key's record, as a `Get` does whose handle is dropped at once.
+    Touch(K),
+    /// Takes the key's record out, and asks for a handle of it.
+    Remove(K),
+    /// Asks for one more handle of the record of the handle of this number.
+    Clone(u64),
     /// Gives the handle of this number back.
     Drop(u64),
+    /// Asks how many handles the record of the handle of this number has.
+    Refs(u64),
+    /// Asks whether the record of the handle of this number left.
+    Outdated(u64),
 }
 
 /// The waiters that an insert answered: each waiter's token, with the number of the handle that it got.
@@ -92,24 +102,27 @@ pub enum Answer<K, V, P> {
         /// The key's waiters, who got handles as well.
         answers: Answers,
     },
-    /// To `Get`: the key has a record.
+    /// To `Get`, `Remove` or `Clone`: a handle of the record that was asked for.
     Found {
         /// The number of the new handle.
         handle: u64,
         /// The record.
         record: Left<K, V, P>,
     },
-    /// To `Get`: the key has no record.
+    /// To `Get` or `Remove`: the key has no record.
     Missing,
-    /// To `Contains`: the key has a record.
+    /// To `Contains` or `Touch`: the key has a record. To `Outdated`: the handle's record left.
     Yes,
-    /// To `Contains`: the key has no record.
+    /// To `Contains` or `Touch`: the key has no record. To `Outdated`: a get of its key finds the handle's
+    /// record.
     No,
     /// To `Drop`: the handle was given back.
     Done,
-    /// To `Drop`: no held handle has this number. Nothing has changed.
+    /// To `Refs`: so many.
+    Number(u128),
+    /// To what names a handle: no held handle has this number. Nothing has changed.
     NotHeld,
-    /// To `Insert` or `Get`: why it was refused.
+    /// To `Insert`, `Get`, `Touch`, `Remove` or `Clone`: why it was refused.
     Refused(Error),
 }
 

@@ -1,22 +1,18 @@
 //! A cache in one thread's hands, and the handles that it handed out.
 
-ghost use Rattle.std.specs.Prelude.{◌≡◌, ◌≢◌, ◌+◌, ◌<◌, ◌≤◌, [], true, false, Some, IfOk, IfErr, OnErr, All, vec_len, vec_capacity};
-ghost use Rattle.foyer_policy.specs.Properties.{is_phantom};
+ghost use Rattle.std.specs.Prelude.{◌≡◌, ◌+◌, ◌<◌, ◌≤◌, [], true, IfOk, IfErr, OnErr, All, vec_len, vec_capacity};
 ghost use Rattle.foyer_policy.specs.declared.error.Reason.TheVariants.{NoMemory};
-ghost use Rattle.foyer_policy.specs.declared.types.Location.TheVariants.{OnDisk};
-ghost use Rattle.foyer_core.specs.Core.{AnswersNobody};
 ghost use Rattle.foyer_core.specs.Cores.{core_of};
 ghost use Rattle.foyer_session.specs.Owns.{OwnsHandles};
-ghost use Rattle.foyer_session.specs.Step.{leaves_of};
 
-use crate::command::{Answer, Answers, Command, Reply};
-use foyer_core::{
-    CacheCore, HashTableIndexer, Indexer, Inserted, Left, Outcome, Refused, Weighter,
-};
-use foyer_policy::{Error, Event, Eviction, HashBuilder, Key, Properties, Reason, Result, Value};
+use crate::command::{Command, Reply};
+use foyer_core::{CacheCore, HashTableIndexer, Indexer, Weighter};
+use foyer_policy::{Error, Eviction, HashBuilder, Key, Properties, Reason, Result, Value};
 use std::alloc::Global;
 
 mod handle;
+mod held;
+mod keys;
 mod ready;
 
 use handle::Handle;
@@ -54,7 +50,7 @@ impl<
     ghost use Rattle.foyer_core.specs.Core.{usage_of_core, entries_of_core};
     ghost use Rattle.foyer_session.specs.Run.{Run};
     ghost use Rattle.foyer_session.specs.Sessions.{session_of, meaning_of_session};
-    ghost use Rattle.foyer_session.specs.Step.{Step, InsertStep, GetStep, ContainsStep, DropStep, IsPlain};
+    ghost use Rattle.foyer_session.specs.Step.{Step, IsPlain};
 
     /// A session over a core, which has handed nothing out.
     pub fn new(alloc: Global, core: CacheCore<E, K, V, P, S, W, (), I>) -> Self
@@ -146,122 +142,13 @@ impl<
             Command::Insert(key, value, properties) => self.insert(key, value, properties),
             Command::Get(key) => self.get(&key),
             Command::Contains(key) => self.contains(&key),
+            Command::Touch(key) => self.touch(&key),
+            Command::Remove(key) => self.remove(&key, leaves),
+            Command::Clone(number) => self.clone_handle(number),
             Command::Drop(number) => self.give_back(number, leaves),
+            Command::Refs(number) => self.refs(number),
+            Command::Outdated(number) => self.is_outdated(number),
         }
-    }
-
-    fn insert(&mut self, key: K, value: V, properties: P) -> Reply<K, V, P>
-        requires clones { (k c : K) → K.is_clone k c → K.eq c k ≡ true }
-        requires plain { is_phantom (P.phantom_of properties) ≡ false }
-        requires in_memory { P.location_of properties ≢ Some OnDisk }
-        requires room { vec_len self.old.handles < vec_capacity self.old.handles }
-        ensures step { InsertStep (meaning_of_session self.old) (λ builder key. S.hash_of builder (K.hash_input key)) W.weighs
-            (session_of self.old) key value properties result.answer result.leaves (session_of self.new) }
-        ensures len { vec_len self.new.handles ≤ vec_len self.old.handles + 1 }
-        ensures capacity { vec_capacity self.new.handles ≡ vec_capacity self.old.handles }
-    {
-        match self.core.insert_with_properties(key, value, properties) {
-            Ok(inserted) => {
-                let Inserted {
-                    entry,
-                    answers,
-                    leaves,
-                } = inserted;
-                spend_nobody(answers);
-                let (handle, record) = handle::hand_out(&mut self.handles, entry);
-                let answers = Answers::new(Vec::new(self.alloc));
-                let answer = Answer::Entry {
-                    handle,
-                    record,
-                    answers,
-                };
-                Reply::new(answer, leaves)
-            }
-            Err(refused) => {
-                let Refused { error, leaves } = refused;
-                Reply::new(Answer::Refused(error), leaves)
-            }
-        }
-    }
-
-    fn get(&mut self, key: &K) -> Reply<K, V, P>
-        requires room { vec_len self.old.handles < vec_capacity self.old.handles }
-        ensures step { GetStep (meaning_of_session self.old) (λ builder key. S.hash_of builder (K.hash_input key)) W.weighs
-            (session_of self.old) key.now result.answer result.leaves (session_of self.new) }
-        ensures len { vec_len self.new.handles ≤ vec_len self.old.handles + 1 }
-        ensures capacity { vec_capacity self.new.handles ≡ vec_capacity self.old.handles }
-    {
-        match self.core.get(key) {
-            Ok(Some(entry)) => {
-                let (handle, record) = handle::hand_out(&mut self.handles, entry);
-                Reply::new(Answer::Found { handle, record }, Vec::new(self.alloc))
-            }
-            Ok(None) => Reply::new(Answer::Missing, Vec::new(self.alloc)),
-            Err(error) => Reply::new(Answer::Refused(error), Vec::new(self.alloc)),
-        }
-    }
-
-    fn contains(&self, key: &K) -> Reply<K, V, P>
-        ensures { ContainsStep (meaning_of_session self.now) (λ builder key. S.hash_of builder (K.hash_input key)) W.weighs
-            (session_of self.now) key.now result.answer result.leaves (session_of self.now) }
-    {
-        let answer = if self.core.contains(key) {
-            Answer::Yes
-        } else {
-            Answer::No
-        };
-        Reply::new(answer, Vec::new(self.alloc))
-    }
-
-    // Gives the handle of a number back, where it is held. Its leave has room in `leaves`.
-    fn give_back(&mut self, number: u64, leaves: Vec<(Event, Left<K, V, P>)>) -> Reply<K, V, P>
-        requires empty { vec_len leaves ≡ 0 }
-        requires room { 0 < vec_capacity leaves }
-        ensures step { DropStep (meaning_of_session self.old) (λ builder key. S.hash_of builder (K.hash_input key)) W.weighs
-            (session_of self.old) number result.answer result.leaves (session_of self.new) }
-        ensures len { vec_len self.new.handles ≡ vec_len self.old.handles }
-        ensures capacity { vec_capacity self.new.handles ≡ vec_capacity self.old.handles }
-    {
-        let Some(entry) = handle::take(&mut self.handles, number) else {
-            return Reply::new(Answer::NotHeld, leaves);
-        };
-        match self.core.give_back(entry) {
-            Ok(leave) => Reply::new(Answer::Done, with_leave(leaves, leave)),
-            Err(entry) => {
-                entry.discard();
-                unreachable!()
-            }
-        }
-    }
-}
-
-// The leave in the list, where there is one.
-fn with_leave<K: Drop, V: Drop, P: Drop>(
-    mut leaves: Vec<(Event, Left<K, V, P>)>,
-    leave: Option<(Event, Left<K, V, P>)>,
-) -> Vec<(Event, Left<K, V, P>)>
-    requires empty { vec_len leaves ≡ 0 }
-    requires room { 0 < vec_capacity leaves }
-    ensures { result.items ≡ leaves_of leave }
-{
-    if let Some(leave) = leave {
-        leaves.push_reserved(leave);
-    }
-    leaves
-}
-
-// Nobody waited.
-fn spend_nobody<K: Drop, V: Drop, P: Drop>(answers: foyer_core::Answers<K, V, P, ()>)
-    requires { AnswersNobody answers }
-{
-    let foyer_core::Answers {
-        waiters: _,
-        outcome,
-    } = answers;
-    match outcome {
-        Outcome::Entries(entries) => entries.destroy_empty(),
-        Outcome::None => {}
-        Outcome::Fault(_) => {}
     }
 }
 

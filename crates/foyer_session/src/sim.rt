@@ -1,9 +1,51 @@
 //! What a program over a session is asked for, keeps and prints.
 
+ghost use Rattle.std.specs.Prelude.{◌≡◌, [], Some, IfSome, OnOk, OnErr};
+ghost use Rattle.std.specs.Hash.{u64 as u64_input};
+ghost use Rattle.foyer_session.specs.Sessions.{session_of, meaning_of_session};
+ghost use Rattle.foyer_session.specs.Simulated.{LineTold};
+ghost use Rattle.foyer_session.specs.Told.{TellsAll, TellsPart};
+
+use crate::session::Session;
+use crate::text::read_line;
+use foyer_core::{CacheProperties, Indexer};
+use foyer_policy::{Eviction, HashBuilder};
+use std::io;
+use std::io::{BufRead, ErrorKind, Write};
+
 mod args;
 mod reply;
+mod tell;
 mod value;
 
 pub use args::{SimArgs, SimPolicy, sim_args};
 pub use reply::{write_answer, write_refusal, write_rest};
 pub use value::{SimValue, SimWeighter};
+
+/// Carries out the lines of a reader, each as a command, and writes for each the reply, what left, and the
+/// usage and the entries then. A line whose command is refused says so, and the next one is carried out.
+///
+/// It ends at the end of the input. It fails only where the reader or the writer does, or after 2^64
+/// lines; then what was written is a beginning of the text of some first lines.
+pub fn simulate<R: BufRead, W: Write, E: Eviction, S: HashBuilder, I: Indexer<u64>>(
+    reader: &mut R,
+    writer: &mut W,
+    session: &mut Session<E, u64, SimValue, CacheProperties, S, SimWeighter, I>,
+) -> io::Result<()>
+    ensures all { OnOk result (TellsAll (LineTold (meaning_of_session session.old) (λ builder key. S.hash_of builder (u64_input key)))
+        (session_of session.old) (session_of session.new) (R.remaining reader.old) (W.contents writer.old) (W.contents writer.new)) }
+    ensures at_end { OnOk result (IfSome (R.remaining reader.old) (λ _. R.remaining reader.new ≡ Some [])) }
+    ensures part { OnErr result (TellsPart (LineTold (meaning_of_session session.old) (λ builder key. S.hash_of builder (u64_input key)))
+        (session_of session.old) (session_of session.new) (R.remaining reader.old) (W.contents writer.old) (W.contents writer.new)) }
+{
+    for _turn in 0..u64::MAX {
+        let Some(line) = read_line(reader)? else {
+            return Ok(());
+        };
+        tell::tell(writer, session, line)?;
+    }
+    Err(io::Error::from(ErrorKind::Other))
+}
+
+#[cfg(test)]
+mod tests;

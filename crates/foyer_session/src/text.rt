@@ -7,7 +7,7 @@ mod print;
 mod scan;
 
 pub use number::number_of;
-pub use parse::line_of;
+pub use parse::{is_word, line_of};
 pub use print::{write_number, write_out, write_wide_number};
 pub use scan::read_line;
 
@@ -22,6 +22,10 @@ pub enum Line {
     Get(u64),
     /// `contains K`.
     Contains(u64),
+    /// `touch K`.
+    Touch(u64),
+    /// `remove K`.
+    Remove(u64),
     /// `drop N`, of a handle's number.
     Drop(u64),
     /// Any other line.

@@ -9,6 +9,10 @@ use foyer_policy::{Fifo, FifoConfig, Hint, ModHasher, Source};
 use std::process::Abort;
 use std::test::Fail;
 
+mod entries;
+mod memory;
+mod weights;
+
 type Core = CacheCore<Fifo, u64, u64, CacheProperties, ModHasher, UnitWeighter, ()>;
 
 type Entry = CoreEntry<u64, u64, CacheProperties>;

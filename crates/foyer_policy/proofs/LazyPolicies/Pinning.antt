@@ -8,8 +8,8 @@ use Rattle.std.proofs.lemmas.List.Sorted.{IsPermutation-refl, IsPermutation-sym,
 use Rattle.foyer_policy.specs.Items.{IsNewIn, HasIdsOnce, IsWithin, remove_id, find_id}
 use Rattle.foyer_policy.specs.Policy.{IsPolicy, PinsAtMost, after_pops, removed}
 use Rattle.foyer_policy.specs.declared.types.Item.{Item}
-use Rattle.foyer_policy.proofs.ItemLemmas.{one_if, count-same}
-use Rattle.foyer_policy.proofs.PopsLemmas.Parts.{IsPermutation-remove_id, remove_id-none, find_id-front, remove_id-front, remove_id-back, find_id-one_part}
+use Rattle.foyer_policy.specs.ItemLaws.{one_if, count-same}
+use Rattle.foyer_policy.specs.PartLaws.{IsPermutation-remove_id, remove_id-none, find_id-front, remove_id-front, remove_id-back, find_id-one_part}
 use Rattle.foyer_policy.proofs.LazyPolicies.{pinning, or_stay}
 
 pop-is : (xs ps : List Item) (w : List Item × List Item) (i : Item) → pinning.pop (xs, ps) ≡ Some (i, w) → (xs ≡ i ∷ w.0) × (w.1 ≡ ps)

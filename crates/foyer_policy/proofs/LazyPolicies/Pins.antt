@@ -5,7 +5,7 @@ use Rattle.foyer_policy.specs.Items.{remove_id, find_id}
 use Rattle.foyer_policy.specs.Policy.{Policy, IsPolicy}
 use Rattle.foyer_policy.specs.Fifo.{take_first}
 use Rattle.foyer_policy.specs.declared.types.Item.{Item}
-use Rattle.foyer_policy.proofs.ItemLemmas.{found-id}
+use Rattle.foyer_policy.specs.ItemLaws.{found-id}
 use Rattle.foyer_policy.proofs.LazyPolicies.{Plain, item, queue, pinning, first_and, or_stay, once_alone, once_pair}
 
 -- a pin on an item that is not in

@@ -9,7 +9,7 @@ use Rattle.foyer_policy.specs.Items.{count_of, IsNewIn, HasIdsOnce, remove_id, f
 use Rattle.foyer_policy.specs.Policy.{Policy, IsPolicy}
 use Rattle.foyer_policy.specs.declared.types.Item.{Item}
 use Rattle.foyer_policy.proofs.PopsLemmas.{new-remove_id, push_once, push_count}
-use Rattle.foyer_policy.proofs.ItemLemmas.{one_if, count-cons, count-same, found-id, found-where, once-head, once-tail, new-tail, new-head}
+use Rattle.foyer_policy.specs.ItemLaws.{one_if, count-cons, count-same, found-id, found-where, once-head, once-tail, new-tail, new-head}
 
 -- what is found is in the list
 found-contained : (id : ℕ) (i : Item) (l : List Item) → find_id id l ≡ Some i → Contains l i

@@ -7,7 +7,7 @@ use Rattle.std.proofs.lemmas.List.Sorted.{IsPermutation-refl, IsPermutation-cons
 use Rattle.foyer_policy.specs.Items.{weight_of, count_of, IsNewIn, HasIdsOnce}
 use Rattle.foyer_policy.specs.Policy.{Policy, IsPolicy, and_then, victims, pops, view_or, after_pops, after_all_pops}
 use Rattle.foyer_policy.specs.declared.types.Item.{Item}
-use Rattle.foyer_policy.proofs.ItemLemmas.{one_if}
+use Rattle.foyer_policy.specs.ItemLaws.{one_if}
 use Rattle.foyer_policy.proofs.PopsLemmas.{after_pops-keeps, pops-none, pops-some, pop_sum, pop_shorter, none_sum}
 
 module _ {V C : Type 0} (m : Policy V C) (law : IsPolicy m) where

@@ -1,6 +1,6 @@
 //! The handles that a session handed out.
 
-ghost use Rattle.std.specs.Prelude.{◌≡◌, ℕ, ◌<◌, ◌++◌, ◌∷◌, [], Some, None, true, false, IfNone, length, slice_set, vec_len, vec_capacity};
+ghost use Rattle.std.specs.Prelude.{◌≡◌, ℕ, ◌<◌, ◌++◌, ◌∷◌, [], Some, None, true, false, IfNone, IfSome, length, slice_set, vec_len, vec_capacity};
 ghost use Rattle.foyer_session.specs.Step.{held_at, record_of};
 
 use foyer_core::{CoreEntry, Left};
@@ -34,6 +34,13 @@ impl<K: Drop, V: Drop, P: Drop> Handle<K, V, P> {
         ensures { result ≡ Some entry }
     {
         Handle { entry: Some(entry) }
+    }
+
+    fn entry(&self) -> Option<&CoreEntry<K, V, P>>
+        ensures some { IfSome result (λ entry. self.now ≡ Some entry.now) }
+        ensures none { IfNone result (self.now ≡ None) }
+    {
+        self.entry.as_ref()
     }
 
     fn take(&mut self) -> Option<CoreEntry<K, V, P>>
@@ -79,4 +86,19 @@ pub fn take<K: Drop, V: Drop, P: Drop>(
         return None;
     }
     handles[at].take()
+}
+
+/// The entry of a number, where it is held.
+pub fn held<K: Drop, V: Drop, P: Drop>(
+    handles: &[Handle<K, V, P>],
+    number: u64,
+) -> Option<&CoreEntry<K, V, P>>
+    ensures some { IfSome result (λ entry. held_at handles.now number ≡ Some entry.now) }
+    ensures none { IfNone result (held_at handles.now number ≡ None) }
+{
+    let at = number as usize;
+    if at >= handles.len() {
+        return None;
+    }
+    handles[at].entry()
 }

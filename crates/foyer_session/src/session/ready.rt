@@ -2,20 +2,23 @@
 
 ghost use Rattle.std.specs.Prelude.{◌≡◌, ℕ, ◌<◌, IfOk, IfErr, map, vec_len, vec_capacity};
 ghost use Rattle.foyer_policy.specs.declared.error.Reason.TheVariants.{NoMemory};
-ghost use Rattle.foyer_session.specs.declared.command.Command.TheVariants.{Drop as GiveBack};
+ghost use Rattle.foyer_session.specs.Step.{leaves_of};
+ghost use Rattle.foyer_session.specs.declared.command.Command.TheVariants.{Drop as GiveBack, Remove};
 
 use crate::command::Command;
 use foyer_core::Left;
 use foyer_policy::{Error, Event, Reason, Result};
 use std::alloc::Global;
 
-/// A command, with room for the leave that a handle which is given back may have.
+/// A command, with room for the leave that it may have: of a handle that is given back, or of a record that
+/// is taken out.
 #[derive(Drop)]
 pub struct Ready<K: Drop, V: Drop, P: Drop> {
     pub command: Command<K, V, P>,
     pub leaves: Vec<(Event, Left<K, V, P>)>,
     pub ghost empty: { vec_len leaves ≡ 0 },
-    pub ghost room: { (number : ℕ) → command ≡ GiveBack number → 0 < vec_capacity leaves },
+    pub ghost gives_back: { (number : ℕ) → command ≡ GiveBack number → 0 < vec_capacity leaves },
+    pub ghost removes: { (key : K) → command ≡ Remove key → 0 < vec_capacity leaves },
 }
 
 impl<K: Drop, V: Drop, P: Drop> Ready<K, V, P> {
@@ -35,15 +38,22 @@ fn room_for<K: Drop, V: Drop, P: Drop>(
     command: &Command<K, V, P>,
 ) -> Result<Vec<(Event, Left<K, V, P>)>>
     ensures empty { IfOk result (λ leaves. vec_len leaves ≡ 0) }
-    ensures room { IfOk result (λ leaves. (number : ℕ) → command.now ≡ GiveBack number → 0 < vec_capacity leaves) }
+    ensures gives_back { IfOk result (λ leaves. (number : ℕ) → command.now ≡ GiveBack number → 0 < vec_capacity leaves) }
+    ensures removes { IfOk result (λ leaves. (key : K) → command.now ≡ Remove key → 0 < vec_capacity leaves) }
     ensures refused { IfErr result (λ e. e ≡ NoMemory) }
 {
     match command {
-        Command::Drop(_) => match Vec::with_capacity(alloc, 1) {
+        Command::Drop(_) | Command::Remove(_) => match Vec::with_capacity(alloc, 1) {
             Ok(leaves) => Ok(leaves),
             Err(_) => Err(Error::new(Reason::NoMemory)),
         },
-        Command::Insert(_, _, _) | Command::Get(_) | Command::Contains(_) => Ok(Vec::new(alloc)),
+        Command::Insert(_, _, _)
+        | Command::Get(_)
+        | Command::Contains(_)
+        | Command::Touch(_)
+        | Command::Clone(_)
+        | Command::Refs(_)
+        | Command::Outdated(_) => Ok(Vec::new(alloc)),
     }
 }
 
@@ -65,4 +75,19 @@ pub fn ready_all<K: Drop, V: Drop, P: Drop>(
         };
     }
     Ok(all)
+}
+
+/// The leave in the list, where there is one.
+pub fn with_leave<K: Drop, V: Drop, P: Drop>(
+    mut leaves: Vec<(Event, Left<K, V, P>)>,
+    leave: Option<(Event, Left<K, V, P>)>,
+) -> Vec<(Event, Left<K, V, P>)>
+    requires empty { vec_len leaves ≡ 0 }
+    requires room { 0 < vec_capacity leaves }
+    ensures { result.items ≡ leaves_of leave }
+{
+    if let Some(leave) = leave {
+        leaves.push_reserved(leave);
+    }
+    leaves
 }

@@ -1,9 +1,10 @@
 ghost use Rattle.foyer_session.specs.Step.{IsPlain};
 
 use super::*;
+use crate::command::Answer;
 use crate::fifo_session::run_fifo;
 use foyer_core::{CacheProperties, Limits, RawCacheConfig, UnitWeighter};
-use foyer_policy::{Fifo, FifoConfig, ModHasher};
+use foyer_policy::{Event, Fifo, FifoConfig, ModHasher};
 use std::alloc::AllocError;
 use std::process::Abort;
 use std::test::Fail;
@@ -97,27 +98,86 @@ fn commands_have_their_replies(rt: HostRuntime) -> std::result::Result<(), Fail>
     Ok(())
 }
 
+// The number that an answer is.
+fn number(answer: &Answer<u64, u64, CacheProperties>) -> Option<u128> {
+    match answer {
+        Answer::Number(number) => Some(*number),
+        _ => None,
+    }
+}
+
+// What a session answers to a get, and to a drop of a handle.
+fn answer_to_get(session: &mut FifoSession, key: u64) -> Result<Answer<u64, u64, CacheProperties>> {
+    Ok(session.step(Command::Get(key))?.answer)
+}
+
+fn answer_to_drop(
+    session: &mut FifoSession,
+    number: u64,
+) -> Result<Answer<u64, u64, CacheProperties>> {
+    Ok(session.step(Command::Drop(number))?.answer)
+}
+
 #[test]
 fn a_get_is_refused_at_the_limit(rt: HostRuntime) -> std::result::Result<(), Fail> {
+    let limits = Limits {
+        handles: 2,
+        ..Limits::default()
+    };
+    let mut session = session(rt.alloc(), 1, limits)?;
+    let first = session.step(insert(7, 70))?;
+    assert_eq!(rt; handed_out(&first.answer), Some((0, 70)));
+    assert_eq!(rt; handed_out(&answer_to_get(&mut session, 7)?), Some((1, 70)));
+    assert_eq!(rt; refused(&answer_to_get(&mut session, 7)?), Some(9));
+    assert!(rt; matches!(answer_to_get(&mut session, 8)?, Answer::Missing));
+    assert!(rt; matches!(answer_to_drop(&mut session, 1)?, Answer::Done));
+    assert_eq!(rt; handed_out(&answer_to_get(&mut session, 7)?), Some((2, 70)));
+    Ok(())
+}
+
+#[test]
+fn a_removed_record_is_told_and_outdated(rt: HostRuntime) -> std::result::Result<(), Fail> {
+    let alloc = rt.alloc();
+    let mut session = session(alloc, 2, Limits::default())?;
+    session.step(insert(1, 10))?;
+    let fresh = session.step(Command::Outdated(0))?;
+    assert!(rt; matches!(fresh.answer, Answer::No));
+    let removed = session.step(Command::Remove(1))?;
+    assert_eq!(rt; handed_out(&removed.answer), Some((1, 10)));
+    let left = told(alloc, &removed)?;
+    assert_eq!(rt; left.as_slice(), [(Event::Remove, 1, 10)].as_slice());
+    assert_eq!(rt; session.usage(), 0);
+    assert_eq!(rt; session.entries(), 0);
+    let again = session.step(Command::Remove(1))?;
+    assert!(rt; matches!(again.answer, Answer::Missing));
+    let outdated = session.step(Command::Outdated(1))?;
+    assert!(rt; matches!(outdated.answer, Answer::Yes));
+    let unknown = session.step(Command::Outdated(2))?;
+    assert!(rt; matches!(unknown.answer, Answer::NotHeld));
+    let refs = session.step(Command::Refs(0))?;
+    assert_eq!(rt; number(&refs.answer), Some(2));
+    Ok(())
+}
+
+#[test]
+fn a_clone_is_a_handle_of_the_same_record(rt: HostRuntime) -> std::result::Result<(), Fail> {
     let alloc = rt.alloc();
     let limits = Limits {
         handles: 2,
         ..Limits::default()
     };
-    let mut session = session(alloc, 1, limits)?;
-    let first = session.step(insert(7, 70))?;
-    assert_eq!(rt; handed_out(&first.answer), Some((0, 70)));
-    let second = session.step(Command::Get(7))?;
-    assert_eq!(rt; handed_out(&second.answer), Some((1, 70)));
-    let third = session.step(Command::Get(7))?;
-    assert_eq!(rt; refused(&third.answer), Some(9));
-    let missing = session.step(Command::Get(8))?;
-    assert!(rt; matches!(missing.answer, Answer::Missing));
-    let contains = session.step(Command::Contains(7))?;
-    assert!(rt; matches!(contains.answer, Answer::Yes));
-    let done = session.step(Command::Drop(1))?;
-    assert!(rt; matches!(done.answer, Answer::Done));
-    let fourth = session.step(Command::Get(7))?;
-    assert_eq!(rt; handed_out(&fourth.answer), Some((2, 70)));
+    let mut session = session(alloc, 2, limits)?;
+    session.step(insert(1, 10))?;
+    let cloned = session.step(Command::Clone(0))?;
+    assert_eq!(rt; handed_out(&cloned.answer), Some((1, 10)));
+    let refused_clone = session.step(Command::Clone(1))?;
+    assert_eq!(rt; refused(&refused_clone.answer), Some(9));
+    session.step(Command::Drop(0))?;
+    let gone = session.step(Command::Clone(0))?;
+    assert!(rt; matches!(gone.answer, Answer::NotHeld));
+    let refs = session.step(Command::Refs(1))?;
+    assert_eq!(rt; number(&refs.answer), Some(1));
+    let missing = session.step(Command::Refs(0))?;
+    assert!(rt; matches!(missing.answer, Answer::NotHeld));
     Ok(())
 }

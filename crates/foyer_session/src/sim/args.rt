@@ -1,15 +1,17 @@
 //! The arguments of the program.
 
 ghost use Rattle.std.specs.Prelude.{◌≡◌, map, string_bytes};
-ghost use Rattle.foyer_session.specs.Args.{args_of};
+ghost use Rattle.foyer_session.specs.Args.{args_of, policy_of};
 
-use crate::text::number_of;
+use crate::text::{is_word, number_of};
 
 /// The policy that a program's cache has.
 #[derive(Clone, Copy, Debug, PartialEq, Eq)]
 pub enum SimPolicy {
     /// First in, first out.
     Fifo,
+    /// Least recently used.
+    Lru,
 }
 
 /// What a program is asked for.
@@ -31,17 +33,28 @@ pub fn sim_args(words: &[String]) -> Option<SimArgs>
     let [policy, capacity, shards] = words else {
         return None;
     };
-    if policy.as_str() != "fifo" {
-        return None;
-    }
+    let policy = policy_of(policy.as_bytes())?;
     let capacity = number_of(capacity.as_bytes())?;
     let shards = number_of(shards.as_bytes())?;
     if shards != 1 {
         return None;
     }
     Some(SimArgs {
-        policy: SimPolicy::Fifo,
+        policy,
         capacity: capacity as usize,
         shards: shards as usize,
     })
+}
+
+// The policy of this name.
+fn policy_of(name: &[u8]) -> Option<SimPolicy>
+    ensures { result ≡ policy_of name.now }
+{
+    if is_word(name, b"fifo") {
+        Some(SimPolicy::Fifo)
+    } else if is_word(name, b"lru") {
+        Some(SimPolicy::Lru)
+    } else {
+        None
+    }
 }

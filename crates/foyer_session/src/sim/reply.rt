@@ -27,6 +27,7 @@ pub fn write_answer<W: Write, P>(
         Answer::Yes => write_out(writer, b"yes"),
         Answer::No => write_out(writer, b"no"),
         Answer::Done => write_out(writer, b"ok"),
+        Answer::Number(count) => write_wide_number(writer, *count),
         Answer::NotHeld => write_out(writer, b"not held"),
         Answer::Refused(error) => write_refusal(writer, error),
     }

@@ -46,6 +46,10 @@ fn with_one(verb: &[u8], number: u64) -> Line
         Line::Get(number)
     } else if is_word(verb, b"contains") {
         Line::Contains(number)
+    } else if is_word(verb, b"touch") {
+        Line::Touch(number)
+    } else if is_word(verb, b"remove") {
+        Line::Remove(number)
     } else if is_word(verb, b"drop") {
         Line::Drop(number)
     } else {
@@ -85,7 +89,8 @@ fn with_three(verb: &[u8], first: u64, second: u64, third: u64) -> Line
     }
 }
 
-fn is_word(word: &[u8], name: &[u8]) -> bool
+/// Whether a word is this name.
+pub fn is_word(word: &[u8], name: &[u8]) -> bool
     ensures { result ≡ bytes_eq word.now name.now }
 {
     word == name

@@ -1,90 +1,9 @@
 use super::{Line, line_of, number_of, read_line, write_number, write_out, write_wide_number};
+use crate::streams::{Parts, Slow};
 use std::alloc::Global;
 use std::io;
-use std::io::{BufRead, BufReader, ErrorKind, Read, Write};
+use std::io::{BufRead, BufReader, ErrorKind};
 use std::test::Fail;
-
-// Shows its bytes in parts of one length. One call of `fill_buf` fails, counted from 1.
-#[derive(Drop)]
-struct Parts<'a> {
-    rest: &'a [u8],
-    part: usize,
-    calls: u64,
-    fails_at: u64,
-    kind: ErrorKind,
-}
-
-impl<'a> Parts<'a> {
-    fn new(bytes: &'a [u8], part: usize) -> Self {
-        Parts {
-            rest: bytes,
-            part,
-            calls: 0,
-            fails_at: 0,
-            kind: ErrorKind::Other,
-        }
-    }
-}
-
-impl Read for Parts<'_> {
-    fn read(&mut self, buf: &mut [u8]) -> io::Result<usize> {
-        self.rest.read(buf)
-    }
-}
-
-impl BufRead for Parts<'_> {
-    fn fill_buf(&mut self) -> io::Result<&[u8]> {
-        self.calls = self.calls.wrapping_add(1);
-        if self.calls == self.fails_at {
-            return Err(io::Error::from(self.kind));
-        }
-        let shown = self.part.min(self.rest.len());
-        Ok(&self.rest[..shown])
-    }
-
-    fn consume(&mut self, amount: usize) {
-        let taken = amount.min(self.rest.len());
-        self.rest = &self.rest[taken..];
-    }
-}
-
-// Takes a few bytes a call. One call of `write` fails, counted from 1.
-#[derive(Drop)]
-struct Slow {
-    taken: Vec<u8>,
-    most: usize,
-    calls: u64,
-    fails_at: u64,
-    kind: ErrorKind,
-}
-
-impl Slow {
-    fn new(alloc: Global, most: usize) -> Self {
-        Slow {
-            taken: Vec::new(alloc),
-            most,
-            calls: 0,
-            fails_at: 0,
-            kind: ErrorKind::Other,
-        }
-    }
-}
-
-impl Write for Slow {
-    fn write(&mut self, buf: &[u8]) -> io::Result<usize> {
-        self.calls = self.calls.wrapping_add(1);
-        if self.calls == self.fails_at {
-            return Err(io::Error::from(self.kind));
-        }
-        let len = self.most.min(buf.len());
-        self.taken.extend_from_slice(&buf[..len])?;
-        Ok(len)
-    }
-
-    fn flush(&mut self) -> io::Result<()> {
-        Ok(())
-    }
-}
 
 fn lines_of<R: BufRead>(alloc: Global, reader: &mut R) -> io::Result<Vec<Line>> {
     let mut lines = Vec::new(alloc);
@@ -98,9 +17,9 @@ fn lines_of<R: BufRead>(alloc: Global, reader: &mut R) -> io::Result<Vec<Line>> 
 }
 
 const TEXT: &[u8] =
-    b"insert 1 10\nget  5  \n  contains 00007\n\n   \ndrop 3\ninsert 2 20 30\nget 1 2\nget\nGet 1\nget 1\r\n\r\nget +1\nsteal 1\nget 18446744073709551615\nget 18446744073709551616\nget 000000000000000000001\ninsert 1 2 3 4\ninsert 99999999999999999999 1\nget 00000000000000000001";
+    b"insert 1 10\nget  5  \n  contains 00007\n\n   \ndrop 3\ninsert 2 20 30\nget 1 2\nget\nGet 1\nget 1\r\n\r\nget +1\nsteal 1\nget 18446744073709551615\nget 18446744073709551616\nget 000000000000000000001\ninsert 1 2 3 4\ninsert 99999999999999999999 1\nget 00000000000000000001\ntouch 4\nremove 18446744073709551615\ntouch\nremove 1 2\nremoved 1";
 
-fn wanted() -> [Line; 20] {
+fn wanted() -> [Line; 25] {
     [
         Line::Insert {
             key: 1,
@@ -130,6 +49,11 @@ fn wanted() -> [Line; 20] {
         Line::Bad,
         Line::Bad,
         Line::Get(1),
+        Line::Touch(4),
+        Line::Remove(u64::MAX),
+        Line::Bad,
+        Line::Bad,
+        Line::Bad,
     ]
 }
 

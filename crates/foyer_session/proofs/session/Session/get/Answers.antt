@@ -12,7 +12,7 @@ invariant_of-self g c =
     let s = c.args.self.now in
     let m = meaning_of_session s in
     let hash = g.S.HashBuilder.hash_of s.core.hash_builder (g.K.Hash.hash_input c.args.key.now) in
-    let at = rw c.in-Ok-Some.field-0-is at c.in-Ok-Some.ensures in
+    let at = rw c.in-Ok-Some.field-0-is at c.in-Ok-Some.ensures.gets in
     record {
       owns = rw c.hand_out-handle.ensures.handles (∥∥₁_elim (kept_at s.core hash at.before at.there) (hlevel props) (λ k. ∥∥₁_map s.owns (λ o.
           got_owns m (core_of s.core) (core_of c.get.new.self) s.handles.items o (hash, c.args.key.now) c.in-Ok-Some.entry at
@@ -21,7 +21,7 @@ invariant_of-self g c =
 
 pub returns-in-Ok-Some-clause-step : goal.returns-in-Ok-Some-clause-step
 returns-in-Ok-Some-clause-step g c =
-    let at = rw c.in-Ok-Some.field-0-is at c.in-Ok-Some.ensures in
+    let at = rw c.in-Ok-Some.field-0-is at c.in-Ok-Some.ensures.gets in
     rw (c.new-in-Ok-Some.ensures.answer, c.new-in-Ok-Some.ensures.leaves) (
       c.in-Ok-Some.entry,
       at,

@@ -1,0 +1,80 @@
+//! What a core does with a key, beside a `get`, and with an entry that it owns.
+
+ghost use Rattle.std.specs.Prelude.{◌≡◌, ◌↔◌, IsTrue};
+
+use super::CacheCore;
+use crate::entry::{CoreEntry, Left};
+use crate::indexer::Indexer;
+use crate::weighter::Weighter;
+use foyer_policy::{Eviction, HashBuilder, Key, Properties, Result, Value};
+
+impl<
+    E: Eviction,
+    K: Key,
+    V: Value,
+    P: Properties,
+    S: HashBuilder,
+    W: Weighter<K, V>,
+    N: Drop,
+    I: Indexer<K>,
+> CacheCore<E, K, V, P, S, W, N, I> {
+    ghost use Rattle.foyer_core.specs.Core.{AtShard, IsOutdatedIn, Owns, refs_in};
+    ghost use Rattle.foyer_core.specs.Cores.{core_of, meaning_of_core};
+    ghost use Rattle.foyer_core.specs.Laws.{HandlesStay};
+    ghost use Rattle.foyer_core.specs.Steps.{ClonesHandle, Removes, Touches};
+
+    /// Whether a get finds a record under the key; if it does, that counts as a use, as a `get` does whose
+    /// entry is given back at once. Refused at the limit of handles alone (F9); then nothing has changed. It
+    /// takes no memory.
+    pub fn touch(&mut self, key: &K) -> Result<bool>
+        ensures touches { let hash = S.hash_of (core_of self.old).hash_builder (K.hash_input key.now) in
+            AtShard (λ s t. Touches (meaning_of_core self.old) s (hash, key.now) result t)
+            hash (core_of self.old) (core_of self.new) }
+        ensures stay { HandlesStay (λ _. 0) (core_of self.old) (core_of self.new) }
+    {
+        let hash = self.hash(key);
+        self.shard.touch(hash, key)
+    }
+
+    /// Takes the key's record out, where it is in the index, and answers an entry of it, which counts as a
+    /// handle, and the record that left, as `Remove`. Refused at the limit of handles (F9), or where the record
+    /// could not be shared (F7); then nothing has changed. It allocates nothing.
+    pub fn remove(&mut self, key: &K) -> Result<Option<(CoreEntry<K, V, P>, Left<K, V, P>)>>
+        ensures removes { let hash = S.hash_of (core_of self.old).hash_builder (K.hash_input key.now) in
+            AtShard (λ s t. Removes (meaning_of_core self.old) s (hash, key.now) result t)
+            hash (core_of self.old) (core_of self.new) }
+        ensures stay { HandlesStay (λ _. 0) (core_of self.old) (core_of self.new) }
+    {
+        let hash = self.hash(key);
+        self.shard.remove(hash, key)
+    }
+
+    /// One more entry of the same record, with the same source, which counts as a handle and not as a use. It
+    /// asks for an entry that the core owns. Refused at the limit of handles (F9), or where the record could
+    /// not be shared (F7); then nothing has changed. It allocates nothing.
+    pub fn clone_handle(&mut self, entry: &CoreEntry<K, V, P>) -> Result<CoreEntry<K, V, P>>
+        requires owned { Owns (core_of self.old) entry.now }
+        ensures clones { AtShard (λ s t. ClonesHandle s entry.now result t)
+            entry.now.kept.hash (core_of self.old) (core_of self.new) }
+        ensures stay { HandlesStay (λ _. 0) (core_of self.old) (core_of self.new) }
+    {
+        self.shard.clone_handle(entry)
+    }
+
+    /// How many handles an entry's record has. It asks for an entry that the core owns, and takes no memory.
+    pub fn refs(&self, entry: &CoreEntry<K, V, P>) -> usize
+        requires owned { Owns (core_of self.now) entry.now }
+        ensures { result ≡ refs_in (core_of self.now) entry.now }
+    {
+        self.shard.refs(entry)
+    }
+
+    /// Whether an entry's record is in the index no more: it left, or gave way to another. It asks for an
+    /// entry that the core owns, and takes no memory.
+    pub fn is_outdated(&self, entry: &CoreEntry<K, V, P>) -> bool
+        requires owned { Owns (core_of self.now) entry.now }
+        ensures { IsTrue result ↔ IsOutdatedIn (core_of self.now) entry.now }
+    {
+        self.shard.is_outdated(entry)
+    }
+}

@@ -1,0 +1,69 @@
+//! Evictions of a shard's records.
+
+ghost use Rattle.std.specs.Prelude.{◌≡◌, ◌<◌, ◌≤◌, None, OnErr, IfOk, IfErr, IfSome, IfNone, vec_len, vec_capacity};
+ghost use Rattle.foyer_core.specs.Records.{HasRoom};
+
+use super::Shard;
+use crate::entry::Left;
+use crate::indexer::Indexer;
+use foyer_policy::{Event, Eviction, Key, Properties, Result, Value};
+use std::alloc::Global;
+
+impl<E: Eviction, K: Key, V: Value, P: Properties, I: Indexer<K>> Shard<E, K, V, P, I> {
+    ghost use Rattle.foyer_core.specs.Shards.{state_of, meaning_of};
+    ghost use Rattle.foyer_core.specs.Steps.{Evicts, Evicting, EvictsOne};
+
+    // One eviction.
+    fn evict_one(&mut self) -> Result<Option<Left<K, V, P>>>
+        ensures some { IfOk result (λ found. IfSome found (λ left. EvictsOne (meaning_of self.old) (state_of self.old) left (state_of self.new))) }
+        ensures none { IfOk result (λ found. IfNone found ((E.model.pop (E.view self.old.eviction) ≡ None) × (state_of self.new ≡ state_of self.old))) }
+        ensures err { OnErr result (state_of self.new ≡ state_of self.old) }
+        ensures room { HasRoom self.old.records → HasRoom self.new.records }
+        ensures policy_room { E.room self.old.eviction ≤ E.room self.new.eviction }
+    {
+        let Some(item) = self.eviction.pop()? else {
+            return Ok(None);
+        };
+        let Some(slot) = self.records.find(item.id, 0) else {
+            unreachable!();
+        };
+        let Some(found) = self.records.get(slot) else {
+            unreachable!();
+        };
+        let data = found.data();
+        let _ = self.index.remove(data.hash, &data.key);
+        self.usage -= item.weight;
+        self.entries -= 1;
+        Ok(Some(self.records.leave(slot)))
+    }
+
+    // Evicts until the usage is at most the target, or nothing more leaves. There is room for one more leave
+    // then.
+    pub(super) fn evict_to(
+        &mut self,
+        alloc: Global,
+        target: usize,
+    ) -> std::result::Result<Vec<(Event, Left<K, V, P>)>, Vec<(Event, Left<K, V, P>)>>
+        ensures done { IfOk result (λ leaves. Evicts (meaning_of self.old) target (state_of self.old) leaves.items (state_of self.new)) }
+        ensures refused { IfErr result (λ leaves. Evicting (meaning_of self.old) target (state_of self.old) leaves.items (state_of self.new)) }
+        ensures one_more { IfOk result (λ leaves. vec_len leaves < vec_capacity leaves) }
+        ensures room { HasRoom self.old.records → HasRoom self.new.records }
+        ensures policy_room { E.room self.old.eviction ≤ E.room self.new.eviction }
+    {
+        let mut leaves = Vec::new(alloc);
+        let Ok(()) = leaves.reserve(1) else {
+            return Err(leaves);
+        };
+        while self.usage > target {
+            let Ok(()) = leaves.reserve(2) else {
+                return Err(leaves);
+            };
+            match self.evict_one() {
+                Ok(Some(left)) => leaves.push_reserved((Event::Evict, left)),
+                Ok(None) => return Ok(leaves),
+                Err(_) => return Err(leaves),
+            }
+        }
+        Ok(leaves)
+    }
+}

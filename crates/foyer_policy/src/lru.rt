@@ -1,0 +1,290 @@
+//! Least recently used, with a pool of high priority and with pins.
+
+ghost use Rattle.std.specs.Prelude.{◌≡◌, ◌≤◌, ℕ, IfNone, IfOk, IfSome, IsOk};
+ghost use Rattle.foyer_policy.specs.Items.{IsNewIn, weight_of};
+ghost use Rattle.foyer_policy.specs.Limit.{ok_unless, ratio_fault};
+ghost use Rattle.foyer_policy.specs.Lru.{IsWithinLimit};
+ghost use Rattle.foyer_policy.specs.Policy.{Pops, without};
+ghost use Rattle.foyer_policy.specs.declared.error.Field.TheVariants.{HighPriorityPool};
+ghost use Rattle.foyer_policy.specs.declared.limit.Range.TheVariants.{Closed};
+
+mod pools;
+
+use crate::error::{Error, Field, Reason, Result};
+use crate::eviction::Eviction;
+use crate::held::{Held, append_items};
+use crate::limit::{Range, check_ratio, limit_of};
+use crate::lists::{Lists, Place};
+use crate::types::{Hint, Item, Ratio};
+use pools::{HIGH, LOW, Node, PIN, drain, relist, settle};
+use serde::{Deserialize, Serialize};
+use std::alloc::Global;
+use std::marker::Model;
+
+/// The configuration of an [`Lru`].
+#[derive(Clone, Debug, Drop, Serialize, Deserialize)]
+pub struct LruConfig {
+    /// The share of the capacity that the pool of high priority may weigh, from 0 to 1, rounded
+    /// down. Records that come in with the hint [`Hint::Normal`] have high priority; those that came
+    /// first lose it where the pool would weigh more.
+    pub high_priority_pool_ratio: Ratio,
+}
+
+impl Default for LruConfig {
+    ghost use Rattle.std.specs.Prelude.{◌≡◌};
+
+    ghost is_default = { λ c. c.high_priority_pool_ratio ≡ record { num = 9; den = 10 } };
+
+    /// A pool of nine tenths.
+    fn default() -> LruConfig {
+        LruConfig {
+            high_priority_pool_ratio: Ratio { num: 9, den: 10 },
+        }
+    }
+}
+
+/// What an [`Lru`] keeps beside an item: its high bit, and whether it is pinned.
+#[derive(Clone, Copy, Debug, Default)]
+pub struct LruState {
+    high: bool,
+    pinned: bool,
+}
+
+/// Least recently used, with a pool of high priority and with pins, as in `foyer-memory`.
+///
+/// A record that comes in with the hint [`Hint::Normal`] is put into the pool of high priority, one
+/// with [`Hint::Low`] beside it. The pool weighs at most its share of the capacity: where it would
+/// weigh more, the first of it lose their priority. An acquired record is pinned until it is
+/// released, and no pop gives it; a released one goes back to where its priority says. A pop takes
+/// what came in or was released longest ago, of low priority first.
+#[derive(Drop)]
+pub struct Lru {
+    lists: Lists<Node, 3>,
+    high_weight: usize,
+    pinned_weight: usize,
+    limit: usize,
+    ratio: Ratio,
+    alloc: Global,
+}
+
+impl Model for Lru {
+    ghost use Rattle.foyer_policy.specs.LruLists.{LruLists, IsLru};
+
+    ghost Value = { LruLists };
+
+    ghost view = { λ l. record {
+      lists = l.lists.lists;
+      room = l.lists.room;
+      limit = l.limit;
+      ratio = l.ratio;
+    } };
+
+    ghost invariant = { λ l. IsLru
+        (record { lists = l.lists.lists; room = l.lists.room; limit = l.limit; ratio = l.ratio })
+        l.high_weight
+        l.pinned_weight };
+}
+
+// Refuses a ratio of the pool: F2 for a denominator of 0, F3 above 1.
+fn check(ratio: Ratio) -> Result<()>
+    ensures { result ≡ ok_unless (ratio_fault Closed HighPriorityPool ratio) }
+{
+    check_ratio(Range::Closed, Field::HighPriorityPool, ratio)
+}
+
+impl Lru {
+    ghost use Rattle.foyer_policy.specs.LruLists.{lru_view};
+
+    /// What the pool of high priority weighs, which is at most its limit after every call.
+    pub fn high_priority_weight(&self) -> usize
+        ensures weight { result ≡ weight_of (lru_view self.now).high }
+        ensures within { IsWithinLimit (lru_view self.now) }
+    {
+        self.high_weight
+    }
+}
+
+impl Eviction for Lru {
+    ghost use Rattle.foyer_policy.specs.Held.{held_at};
+    ghost use Rattle.foyer_policy.specs.Lru.{LruView, lru};
+    ghost use Rattle.foyer_policy.specs.LruLaws.{lru_lawful};
+    ghost use Rattle.foyer_policy.specs.LruLists.{lru_view};
+
+    type Config = LruConfig;
+
+    type State = LruState;
+
+    ghost View = { LruView };
+
+    ghost model = { lru };
+
+    ghost view = { lru_view };
+
+    ghost at = { λ l p. held_at p l.lists };
+
+    ghost room = { λ l. l.room };
+
+    ghost can_clear = { λ l. Unit {0} };
+
+    ghost pop_wants_memory = { ⊥ };
+
+    ghost looked = { λ l. 0 };
+
+    ghost lawful = { lru_lawful };
+
+    fn new(alloc: Global, capacity: usize, config: &LruConfig) -> Result<Self> {
+        let ratio = config.high_priority_pool_ratio;
+        check(ratio)?;
+        Ok(Lru {
+            lists: Lists::new(alloc),
+            high_weight: 0,
+            pinned_weight: 0,
+            limit: limit_of(capacity, ratio),
+            ratio,
+            alloc,
+        })
+    }
+
+    fn update(&mut self, capacity: usize, config: Option<&LruConfig>) -> Result<()> {
+        let ratio = match config {
+            Some(config) => {
+                let ratio = config.high_priority_pool_ratio;
+                check(ratio)?;
+                ratio
+            }
+            None => self.ratio,
+        };
+        self.ratio = ratio;
+        self.limit = limit_of(capacity, ratio);
+        self.high_weight = settle(&mut self.lists, self.high_weight, self.limit);
+        Ok(())
+    }
+
+    fn reserve(&mut self) -> Result<()> {
+        self.lists.reserve(1)
+    }
+
+    fn push(&mut self, item: Item) -> Place {
+        // A push pins nothing.
+        let pinned = false;
+        match item.hint {
+            Hint::Low => {
+                let state = LruState {
+                    high: false,
+                    pinned,
+                };
+                self.lists.push_back(LOW, Held { item, state })
+            }
+            Hint::Normal => {
+                let state = LruState { high: true, pinned };
+                let place = self.lists.push_back(HIGH, Held { item, state });
+                let weight = self.high_weight + item.weight;
+                self.high_weight = settle(&mut self.lists, weight, self.limit);
+                place
+            }
+        }
+    }
+
+    /// Takes the first item of low priority out, or else the first of the pool, or answers none where
+    /// every item is pinned. It gives no pinned item, and is never refused.
+    fn pop(&mut self) -> Result<Option<Item>>
+        ensures ok { IsOk result }
+        ensures unpinned { IfOk result (λ found. IfSome found (λ i. IsNewIn i.id (lru.pinned (lru_view self.old)))) }
+
+        // and what every policy ensures
+        ensures pops { IfOk result (λ found. Pops lru (lru_view self.old) found (lru_view self.new)) }
+        ensures places { IfOk result (λ found. IfSome found (λ i. (p : ℕ)
+            → held_at p self.new.lists ≡ without i.id (held_at p self.old.lists))) }
+        ensures none { IfOk result (λ found. IfNone found ((p : ℕ) → held_at p self.new.lists ≡ held_at p self.old.lists)) }
+        ensures room { self.old.room ≤ self.new.room }
+    {
+        if let Some(node) = self.lists.pop_front(LOW) {
+            return Ok(Some(node.item));
+        }
+        let Some(node) = self.lists.pop_front(HIGH) else {
+            return Ok(None);
+        };
+        self.high_weight -= node.item.weight;
+        Ok(Some(node.item))
+    }
+
+    fn remove(&mut self, place: Place) -> Item {
+        let Held { item, state } = self.lists.remove(place);
+        if state.pinned {
+            self.pinned_weight -= item.weight;
+        } else if state.high {
+            self.high_weight -= item.weight;
+        }
+        item
+    }
+
+    fn reserve_clear(&mut self) -> Result<()> {
+        Ok(())
+    }
+
+    fn clear(&mut self) {
+        drain(&mut self.lists, LOW);
+        drain(&mut self.lists, HIGH);
+        drain(&mut self.lists, PIN);
+        self.high_weight = 0;
+        self.pinned_weight = 0;
+    }
+
+    fn acquire(&mut self, place: Place) {
+        let Held { item, state } = *self.lists.get(place);
+        if state.pinned {
+            return;
+        }
+        let pinned = LruState {
+            pinned: true,
+            ..state
+        };
+        relist(&mut self.lists, place, pinned, PIN);
+        self.pinned_weight += item.weight;
+        if state.high {
+            self.high_weight -= item.weight;
+        }
+    }
+
+    fn release(&mut self, place: Place) {
+        let Held { item, state } = *self.lists.get(place);
+        if !state.pinned {
+            return;
+        }
+        let unpinned = LruState {
+            pinned: false,
+            ..state
+        };
+        self.pinned_weight -= item.weight;
+        if !state.high {
+            relist(&mut self.lists, place, unpinned, LOW);
+            return;
+        }
+        relist(&mut self.lists, place, unpinned, HIGH);
+        let weight = self.high_weight + item.weight;
+        self.high_weight = settle(&mut self.lists, weight, self.limit);
+    }
+
+    fn order(&self) -> Result<Vec<Item>> {
+        let mut items = Vec::new(self.alloc);
+        append_items(&self.lists, LOW, &mut items)?;
+        append_items(&self.lists, HIGH, &mut items)?;
+        append_items(&self.lists, PIN, &mut items)?;
+        Ok(items)
+    }
+
+    fn pinned_weight(&self) -> usize {
+        self.pinned_weight
+    }
+
+    fn is_pinned(&self, place: Place) -> bool {
+        self.lists.get(place).state.pinned
+    }
+
+    fn looks(&self) -> u128 {
+        0
+    }
+}
+
+#[cfg(test)]
+mod tests;

@@ -1,0 +1,85 @@
+//! The three lists of an [`Lru`](super::Lru), below its running sums.
+
+ghost use Rattle.std.specs.Prelude.{◌≡◌, ℕ, ◌<◌, ◌∷◌, ◌++◌, [], length, map, sum_by, IsSome, slice_set};
+ghost use Rattle.foyer_policy.specs.Held.{held_at};
+ghost use Rattle.foyer_policy.specs.Items.{fit, over};
+ghost use Rattle.foyer_policy.specs.Lists.{AreLists, find, list_at, moved, with_value};
+ghost use Rattle.foyer_policy.specs.LruLists.{low_entry, weight_at};
+
+use super::LruState;
+use crate::held::Held;
+use crate::lists::{Lists, Place};
+
+/// The list of what leaves first.
+pub(super) const LOW: usize = 0;
+
+/// The list of the pool of high priority.
+pub(super) const HIGH: usize = 1;
+
+/// The list of what is pinned.
+pub(super) const PIN: usize = 2;
+
+pub(super) type Node = Held<LruState>;
+
+/// Moves the first node of the pool to the end of the low list, without its high bit, and answers its
+/// weight. The pool must not be empty.
+fn lower(lists: &mut Lists<Node, 3>) -> usize
+    requires { 0 < length (list_at lists.old.lists 1) }
+    ensures weight { (e : _) (es : _) → list_at lists.old.lists 1 ≡ e ∷ es → result ≡ weight_at e }
+    ensures lists { (e : _) (es : _) → list_at lists.old.lists 1 ≡ e ∷ es
+        → lists.new.lists ≡ (list_at lists.old.lists 0 ++ low_entry e ∷ []) ∷ es ∷ list_at lists.old.lists 2 ∷ [] }
+    ensures places { (q : ℕ) → held_at q lists.new.lists ≡ held_at q lists.old.lists }
+    ensures room { lists.new.room ≡ lists.old.room }
+{
+    match lists.front(HIGH) {
+        Some(place) => {
+            let node = lists.get_mut(place);
+            node.state.high = false;
+            let weight = node.item.weight;
+            lists.move_back(place, LOW);
+            weight
+        }
+        None => unreachable!(),
+    }
+}
+
+/// Lowers nodes of the pool, which weighs `weight`, until it is within a limit, and answers its weight.
+pub(super) fn settle(lists: &mut Lists<Node, 3>, weight: usize, limit: usize) -> usize
+    requires { weight ≡ sum_by weight_at (list_at lists.old.lists 1) }
+    ensures low { list_at lists.new.lists 0
+        ≡ list_at lists.old.lists 0 ++ map low_entry (over weight_at limit (list_at lists.old.lists 1)) }
+    ensures high { list_at lists.new.lists 1 ≡ fit weight_at limit (list_at lists.old.lists 1) }
+    ensures pin { list_at lists.new.lists 2 ≡ list_at lists.old.lists 2 }
+    ensures weight { result ≡ sum_by weight_at (list_at lists.new.lists 1) }
+    ensures places { (q : ℕ) → held_at q lists.new.lists ≡ held_at q lists.old.lists }
+    ensures room { lists.new.room ≡ lists.old.room }
+{
+    let mut left = weight;
+    while left > limit {
+        left -= lower(lists);
+    }
+    left
+}
+
+/// Gives a node another state, and moves it to the end of a list. The place must hold a node.
+pub(super) fn relist(lists: &mut Lists<Node, 3>, place: Place, state: LruState, list: usize)
+    requires list { list < 3 }
+    requires there { IsSome (find place lists.old.lists) }
+    ensures lists { (n : _) → find place lists.old.lists ≡ Some n
+        → lists.new.lists ≡ moved place list (map (with_value place (record { item = n.item; state = state })) lists.old.lists) }
+    ensures places { (q : ℕ) → held_at q lists.new.lists ≡ held_at q lists.old.lists }
+    ensures room { lists.new.room ≡ lists.old.room }
+    ensures apart { AreLists 3 lists.old.lists }
+{
+    lists.get_mut(place).state = state;
+    lists.move_back(place, list);
+}
+
+/// Takes every node of a list out.
+pub(super) fn drain(lists: &mut Lists<Node, 3>, list: usize)
+    requires { list < 3 }
+    ensures lists { lists.new.lists ≡ slice_set lists.old.lists list [] }
+    ensures count { length lists.new.lists ≡ 3 }
+{
+    while lists.pop_front(list).is_some() {}
+}

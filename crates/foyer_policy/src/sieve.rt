@@ -1,0 +1,241 @@
+//! Sieve: one queue, a visited bit for each record, and a hand that looks for an unvisited one.
+
+ghost use Rattle.std.specs.Prelude.{◌≡◌, ◌≢◌, ℕ, false, ◌+◌, ◌<◌, ◌≤◌, ◌^◌, [], ◌∷◌, ◌++◌, List, Some, None, IfSome, IsSome, map, length, sum_by};
+ghost use Rattle.foyer_policy.specs.Lists.{list_at, find, first_or, with_value, AreLists};
+ghost use Rattle.foyer_policy.specs.Items.{HasIdsOnce};
+ghost use Rattle.foyer_policy.specs.Policy.{without};
+ghost use Rattle.foyer_policy.specs.Sieve.{hand_without};
+ghost use Rattle.foyer_policy.specs.SieveQueue.{entry, entries, entry_items, item_at, IsTurn};
+
+use crate::error::{Error, Reason, Result};
+use crate::eviction::Eviction;
+use crate::held::{Held, append_items};
+use crate::lists::{Lists, Place};
+use crate::types::Item;
+use serde::{Deserialize, Serialize};
+use std::alloc::Global;
+use std::marker::Model;
+
+/// The configuration of a [`Sieve`], which has no parts.
+#[derive(Clone, Debug, Default, Drop, Serialize, Deserialize)]
+pub struct SieveConfig;
+
+/// What a [`Sieve`] keeps beside an item: whether it was used since a pop last looked at it.
+#[derive(Clone, Copy, Debug, Default)]
+pub struct SieveState {
+    visited: bool,
+}
+
+type Node = Held<SieveState>;
+
+// What a pop took out, where the hand goes, and how many bits it read.
+#[derive(Drop)]
+struct Victim {
+    item: Item,
+    hand: Option<Place>,
+    looks: u128,
+}
+
+/// Sieve, after "SIEVE is Simpler than LRU" (NSDI 2024): records stand in the order in which they came
+/// in, and a use sets a record's visited bit.
+///
+/// A pop looks from the hand on, or from the front where there is no hand, and goes on at the front after
+/// the last record. A visited record loses its bit; the first unvisited one leaves. The hand then points
+/// to the record behind it, or to none behind the last.
+#[derive(Drop)]
+pub struct Sieve {
+    queue: Lists<Node, 1>,
+    hand: Option<Place>,
+    looks: u128,
+    alloc: Global,
+}
+
+impl Model for Sieve {
+    ghost use Rattle.foyer_policy.specs.SieveQueue.{Queue};
+
+    ghost Value = { Queue };
+
+    ghost use Rattle.foyer_policy.specs.SieveQueue.{IsSound};
+
+    ghost view = { λ s. record { nodes = s.queue; hand = s.hand; looks = s.looks } };
+
+    ghost invariant = { λ s. IsSound s.queue.lists s.hand };
+}
+
+// Reads the visited bit of the node at a place, and takes it off. This is the only reading of a bit that
+// a pop makes, and it counts as one look.
+fn take_bit(queue: &mut Lists<Node, 1>, place: Place, looks: &mut u128) -> bool
+    requires there { IsSome (find place queue.old.lists) }
+    requires few { looks.old < 2 ^ 64 }
+    ensures bit { IfSome (find place queue.old.lists) (λ n. result ≡ n.state.visited) }
+    ensures cleared { IfSome (find place queue.old.lists) (λ n. queue.new.lists
+        ≡ map (with_value place (record { item = n.item; state = record { visited = false } })) queue.old.lists) }
+    ensures room { queue.new.room ≡ queue.old.room }
+    ensures counted { looks.new ≡ looks.old + 1 }
+{
+    let node = queue.get_mut(place);
+    *looks += 1;
+    let visited = node.state.visited;
+    node.state.visited = false;
+    visited
+}
+
+// The place behind this one in the queue; behind the last, the first.
+fn next_round(queue: &Lists<Node, 1>, place: Place) -> Place
+    requires { IsSome (find place queue.now.lists) }
+    ensures place { (xs ys : _) (n : _) → list_at queue.now.lists 0 ≡ xs ++ (place, n) ∷ ys
+        → Some result ≡ first_or ys (first_or (xs ++ (place, n) ∷ ys) None) }
+{
+    match queue.next(place) {
+        Some(next) => next,
+        None => match queue.front(0) {
+            Some(front) => front,
+            None => unreachable!(),
+        },
+    }
+}
+
+// Takes the victim out, looking from a place on.
+fn take_victim(queue: &mut Lists<Node, 1>, start: Place) -> Victim
+    requires there { IsSome (find start queue.old.lists) }
+    requires once { HasIdsOnce (entry_items (list_at queue.old.lists 0)) }
+    requires small { sum_by length queue.old.lists < 2 ^ 64 }
+    requires apart { AreLists 1 queue.old.lists }
+    ensures turned { (xs ys : _) (n : _) → list_at queue.old.lists 0 ≡ xs ++ (start, n) ∷ ys
+        → IsTurn (entries xs) (entries ((start, n) ∷ ys)) (list_at queue.new.lists 0) result.item result.hand result.looks }
+    ensures there { IfSome result.hand (λ p. IsSome (find p queue.new.lists)) }
+    ensures apart { AreLists 1 queue.new.lists }
+    ensures places { (p : ℕ) → item_at queue.new.lists p ≡ without result.item.id (item_at queue.old.lists p) }
+    ensures room { queue.old.room ≤ queue.new.room }
+{
+    let mut looks: u128 = 0;
+    let mut at = start;
+    while take_bit(queue, at, &mut looks) {
+        at = next_round(queue, at);
+    }
+    let hand = queue.next(at);
+    let item = queue.remove(at).item;
+    Victim { item, hand, looks }
+}
+
+// The hand, once the node at this place goes.
+fn hand_beside(hand: Option<Place>, place: Place) -> Option<Place>
+    ensures { result ≡ hand_without place hand }
+{
+    if hand == Some(place) { None } else { hand }
+}
+
+impl Eviction for Sieve {
+    ghost use Rattle.std.specs.Prelude.{Option};
+    ghost use Rattle.foyer_policy.specs.declared.types.Item.{Item};
+    ghost use Rattle.foyer_policy.specs.declared.sieve.SieveConfig.{SieveConfig};
+    ghost use Rattle.foyer_policy.specs.Sieve.{SieveView, sieve};
+    ghost use Rattle.foyer_policy.specs.SieveLaws.{sieve_lawful};
+    ghost use Rattle.foyer_policy.specs.SieveQueue.{view_of};
+
+    type Config = SieveConfig;
+
+    type State = SieveState;
+
+    ghost View = { SieveView };
+
+    ghost model = { sieve SieveConfig };
+
+    ghost view = { view_of };
+
+    ghost at = { λ s p. item_at s.nodes.lists p };
+
+    ghost room = { λ s. s.nodes.room };
+
+    ghost can_clear = { λ s. Unit {0} };
+
+    ghost pop_wants_memory = { ⊥ };
+
+    ghost looked = { λ s. s.looks };
+
+    ghost lawful = { sieve_lawful SieveConfig };
+
+    fn new(alloc: Global, _capacity: usize, _config: &SieveConfig) -> Result<Self> {
+        Ok(Sieve {
+            queue: Lists::new(alloc),
+            hand: None,
+            looks: 0,
+            alloc,
+        })
+    }
+
+    fn update(&mut self, _capacity: usize, _config: Option<&SieveConfig>) -> Result<()> {
+        Ok(())
+    }
+
+    fn reserve(&mut self) -> Result<()> {
+        match self.queue.reserve(1) {
+            Ok(()) => Ok(()),
+            Err(_) => Err(Error::new(Reason::NoMemory)),
+        }
+    }
+
+    fn push(&mut self, item: Item) -> Place {
+        self.queue.push_back(
+            0,
+            Node {
+                item,
+                state: SieveState::default(),
+            },
+        )
+    }
+
+    fn pop(&mut self) -> Result<Option<Item>> {
+        let Some(front) = self.queue.front(0) else {
+            self.looks = 0;
+            return Ok(None);
+        };
+        let start = self.hand.unwrap_or(front);
+        let Victim { item, hand, looks } = take_victim(&mut self.queue, start);
+        self.hand = hand;
+        self.looks = looks;
+        Ok(Some(item))
+    }
+
+    fn remove(&mut self, place: Place) -> Item {
+        self.hand = hand_beside(self.hand, place);
+        self.queue.remove(place).item
+    }
+
+    fn reserve_clear(&mut self) -> Result<()> {
+        Ok(())
+    }
+
+    fn clear(&mut self) {
+        while self.queue.pop_front(0).is_some() {}
+        self.hand = None;
+        self.looks = 0;
+    }
+
+    fn acquire(&mut self, place: Place) {
+        self.queue.get_mut(place).state.visited = true;
+    }
+
+    fn release(&mut self, _place: Place) {}
+
+    fn order(&self) -> Result<Vec<Item>> {
+        let mut items = Vec::new(self.alloc);
+        append_items(&self.queue, 0, &mut items)?;
+        Ok(items)
+    }
+
+    fn pinned_weight(&self) -> usize {
+        0
+    }
+
+    fn is_pinned(&self, _place: Place) -> bool {
+        false
+    }
+
+    fn looks(&self) -> u128 {
+        self.looks
+    }
+}
+
+#[cfg(test)]
+mod tests;

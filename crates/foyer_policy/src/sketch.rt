@@ -1,0 +1,209 @@
+//! How often hashes were seen lately, by a count-min sketch.
+
+ghost use Rattle.std.specs.Prelude.{◌≡◌, ◌==◌, ℕ, suc, ◌+◌, ◌*◌, ◌/◌, ◌<◌, ◌≤◌, ◌^◌, List, Option, None, Some, OnOk, IfOk, IfErr, IfSome, length, map, slice_index, slice_set};
+ghost use Rattle.std.specs.Simd.{first_chunks};
+ghost use Rattle.std.specs.Simd.Lanes.{put_chunk, chunk};
+ghost use Rattle.foyer_policy.specs.Sketch.{size_fault, new_sketch, counting, halved, estimate_of, one_more, mixed, bucket, counted, counters_of, least, own, Event, IsPast, HasPast, EstimatesAreBounded};
+ghost use Rattle.foyer_policy.specs.declared.error.Reason.TheVariants.{NoMemory};
+
+use crate::error::{Error, Reason, Result};
+use std::alloc::Global;
+use std::marker::Model;
+use std::simd::prelude::*;
+
+#[cfg(test)]
+mod tests;
+
+// How many counters are halved at once.
+const LANES: usize = 32;
+
+/// A count-min sketch (Cormode and Muthukrishnan, 2005): rows of counters of 16 bits that tell about
+/// how often each hash was counted, in a fixed amount of memory.
+///
+/// A hash has one bucket in each row, and its estimate is the least of their counters, which hashes
+/// of the same buckets raise too. As in TinyLFU (Einziger, Friedman and Manes, 2017) old counts fade:
+/// the step goes up with each hash, and once it is as high as a row has buckets, all counters and the
+/// step are halved.
+///
+/// Some past of counted hashes and halvings gives the counters and the step, and for each such past
+/// a hash's estimate is at least the hash's own number in it, and at most the step.
+#[derive(Drop)]
+pub struct Sketch {
+    // The counter of row r and bucket b stands at r * buckets + b.
+    counters: Vec<u16>,
+    rows: usize,
+    buckets: u32,
+    step: u32,
+}
+
+impl Model for Sketch {
+    ghost use Rattle.foyer_policy.specs.Sketch.{Sketch as Counters, sketch_of, IsSketch};
+
+    ghost Value = { Counters };
+
+    ghost view = { λ s. sketch_of s.rows s.buckets s.counters.items s.step };
+
+    ghost invariant = { λ s. IsSketch s.rows s.buckets s.counters.items s.step };
+}
+
+// The bucket in a row, of a hash that is mixed for it.
+#[inline]
+fn bucket_in(number: u64, row: usize, buckets: u32) -> usize
+    requires { 0 < buckets }
+    ensures within { result < buckets }
+    ensures bucket { (hash : ℕ) → number ≡ mixed hash row → result ≡ bucket buckets hash row }
+{
+    if row == 0 {
+        (number % buckets as u64) as usize
+    } else {
+        ((number >> 32) as u32 % buckets) as usize
+    }
+}
+
+// A hash that is mixed for a row, mixed for the next.
+#[inline]
+fn mixed_next(number: u64) -> u64
+    ensures { (hash row : ℕ) → number ≡ mixed hash row → result ≡ mixed hash (suc row) }
+{
+    number
+        .wrapping_mul(6364136223846793005)
+        .wrapping_add(1442695040888963407)
+}
+
+// Halves the 32 counters of one chunk.
+#[inline]
+fn halve_chunk(counters: &mut [u16], i: usize)
+    requires { i * 32 + 32 ≤ length counters.old }
+    ensures { counters.new ≡ put_chunk (i * 32) counters.old (map (λ n. n / 2) (chunk (i * 32) 32 counters.old)) }
+{
+    let (chunks, _) = counters.as_chunks::<LANES>();
+    let halves = u16x32::from_array(chunks[i]) >> u16x32::splat(1);
+    halves.copy_to_slice(&mut counters[i * LANES..]);
+}
+
+// Halves all counters.
+fn halve_all(counters: &mut [u16])
+    ensures { counters.new ≡ map (λ n. n / 2) counters.old }
+{
+    let chunks = counters.len() / LANES;
+    for i in 0..chunks {
+        halve_chunk(counters, i);
+    }
+    for k in chunks * LANES..counters.len() {
+        counters[k] /= 2;
+    }
+}
+
+// A counter that rises by one, up to the greatest number.
+#[inline]
+fn raised(counter: u16) -> u16
+    ensures { result ≡ one_more counter }
+{
+    counter.saturating_add(1)
+}
+
+// Counts a hash in each row.
+fn count(counters: &mut [u16], rows: usize, buckets: u32, hash: u64)
+    requires buckets { 0 < buckets }
+    requires counters { length counters.old ≡ rows * buckets }
+    ensures { first_chunks buckets rows counters.new ≡ counted buckets hash 0 (first_chunks buckets rows counters.old) }
+{
+    let mut number = hash;
+    for row in 0..rows {
+        let bucket = bucket_in(number, row, buckets);
+        let counter = &mut counters[row * buckets as usize + bucket];
+        *counter = raised(*counter);
+        number = mixed_next(number);
+    }
+}
+
+// The least counter of a hash.
+fn least_counter(counters: &[u16], rows: usize, buckets: u32, hash: u64) -> u16
+    requires buckets { 0 < buckets }
+    requires counters { length counters.now ≡ rows * buckets }
+    ensures { result ≡ least (counters_of buckets hash 0 (first_chunks buckets rows counters.now)) }
+{
+    let mut least = u16::MAX;
+    let mut number = hash;
+    for row in 0..rows {
+        let bucket = bucket_in(number, row, buckets);
+        least = least.min(counters[row * buckets as usize + bucket]);
+        number = mixed_next(number);
+    }
+    least
+}
+
+impl Sketch {
+    /// A sketch that has counted nothing. Refused where there are no rows (F5), else where there are
+    /// no buckets (F6), and else only for want of memory (F7).
+    pub fn new(alloc: Global, rows: u8, buckets: u32) -> Result<Self>
+        ensures made { IfOk result (λ s. s ≡ new_sketch rows buckets) }
+        ensures accepted { OnOk result (size_fault rows buckets ≡ None) }
+        ensures refused { IfSome (size_fault rows buckets) (λ reason. result ≡ Err reason) }
+        ensures memory { IfErr result (λ e. size_fault rows buckets ≡ None → e ≡ NoMemory) }
+    {
+        if rows == 0 {
+            return Err(Error::new(Reason::NoRows));
+        }
+        if buckets == 0 {
+            return Err(Error::new(Reason::NoBuckets));
+        }
+        let rows = rows as usize;
+        let Ok(counters) = Vec::from_elem(alloc, 0, rows * buckets as usize) else {
+            return Err(Error::new(Reason::NoMemory));
+        };
+        Ok(Sketch {
+            counters,
+            rows,
+            buckets,
+            step: 0,
+        })
+    }
+
+    /// Counts a hash: its counter in each row rises by one, up to the greatest number, and so does
+    /// the step. Where the step is then the number of buckets, the step and all counters are halved,
+    /// rounded down.
+    pub fn update(&mut self, hash: u64)
+        ensures { self.new ≡ counting hash self.old }
+    {
+        count(&mut self.counters, self.rows, self.buckets, hash);
+        self.step += 1;
+        if self.step >= self.buckets {
+            halve_all(&mut self.counters);
+            self.step /= 2;
+        }
+    }
+
+    /// How often the hash was counted, about: the least of its counters.
+    pub fn estimate(&self, hash: u64) -> u16
+        ensures estimate { result ≡ estimate_of self.now hash }
+        ensures past { HasPast self.now }
+        ensures at_least { (past : List Event) → IsPast self.now past → own self.now.buckets past hash ≤ result }
+        ensures at_most { result ≤ self.now.step }
+        ensures step { self.now.step < self.now.buckets }
+    {
+        least_counter(&self.counters, self.rows, self.buckets, hash)
+    }
+
+    /// Halves all counters, rounded down. The step stays.
+    pub fn halve(&mut self)
+        ensures { self.new ≡ halved self.old }
+    {
+        halve_all(self.counters.as_mut_slice());
+    }
+
+    /// How many hashes were counted, halved wherever an `update` halved the counters. It is below the
+    /// number of buckets.
+    pub fn step(&self) -> usize
+        ensures step { result ≡ self.now.step }
+        ensures below { result < self.now.buckets }
+    {
+        self.step as usize
+    }
+}
+
+/// A law of every estimate, by the sketch's definitions alone: for each past that explains a sketch,
+/// a hash's estimate is at least the hash's own number in that past, and at most the step.
+pub fn estimates_are_bounded()
+    ensures { EstimatesAreBounded }
+{}

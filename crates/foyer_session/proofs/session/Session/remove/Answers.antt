@@ -1,0 +1,36 @@
+use Rattle.std.proofs.Common.{◌++◌, refl}
+use Rattle.std.proofs.Math.Logic.{∥∥₁_elim, ∥∥₁_map}
+use Rattle.std.proofs.Props.{props}
+use Rattle.foyer_core.specs.Cores.{core_of}
+use Rattle.foyer_session.specs.Sessions.{meaning_of_session}
+use Rattle.foyer_session.proofs.CoreLemmas.{kept_at}
+use Rattle.foyer_session.proofs.FoundLemmas.{removed_hash}
+use Rattle.foyer_session.proofs.StepLemmas.{removed_owns}
+use Rattle.foyer_session.proofs.session.Session.remove.Goals as goal
+
+pub invariant_of-self : goal.invariant_of-self
+invariant_of-self g c =
+    let s = c.args.self.now in
+    let m = meaning_of_session s in
+    let hash = g.S.HashBuilder.hash_of s.core.hash_builder (g.K.Hash.hash_input c.args.key.now) in
+    let at = rw c.in-Ok-Some.field-0-is at c.in-Ok-Some.ensures.removes in
+    record {
+      owns = rw c.hand_out-handle.ensures.handles (∥∥₁_elim (kept_at s.core hash at.before at.there) (hlevel props) (λ k. ∥∥₁_map s.owns (λ o.
+          removed_owns m (core_of s.core) (core_of c.remove.new.self) s.handles.items o (hash, c.args.key.now) c.in-Ok-Some.entry c.in-Ok-Some.left at
+          (removed_hash m at.before k (hash, c.args.key.now) c.in-Ok-Some.entry c.in-Ok-Some.left at.after at.stepped))));
+    }
+
+pub returns-in-Ok-Some-clause-step : goal.returns-in-Ok-Some-clause-step
+returns-in-Ok-Some-clause-step g c =
+    let at = rw c.in-Ok-Some.field-0-is at c.in-Ok-Some.ensures.removes in
+    rw (c.new.ensures.answer, c.new.ensures.leaves) (
+      c.in-Ok-Some.entry,
+      c.in-Ok-Some.left,
+      at,
+      record {
+        numbered = c.hand_out-handle.ensures.number;
+        tells = c.hand_out-handle.ensures.«record»;
+        handles = c.hand_out-handle.ensures.handles;
+      },
+      c.with_leave-leaves.ensures,
+    )

@@ -1,0 +1,18 @@
+use Rattle.std.proofs.Common.{refl}
+use Rattle.std.proofs.Math.Logic.{∥∥₁_map}
+use Rattle.foyer_core.specs.Cores.{core_of}
+use Rattle.foyer_session.specs.Sessions.{meaning_of_session}
+use Rattle.foyer_session.proofs.StepLemmas.{touched_owns}
+use Rattle.foyer_session.proofs.session.Session.touch.Goals as goal
+
+pub invariant_of-self : goal.invariant_of-self
+invariant_of-self g c =
+    let s = c.args.self.now in
+    let hash = g.S.HashBuilder.hash_of s.core.hash_builder (g.K.Hash.hash_input c.args.key.now) in
+    record {
+      owns = ∥∥₁_map s.owns (λ o. touched_owns (meaning_of_session s) (core_of s.core) (core_of c.touch.new.self) s.handles.items o (hash, c.args.key.now) c.touch.result c.touch.ensures.touches);
+    }
+
+pub returns-in-Ok-true-clause-step : goal.returns-in-Ok-true-clause-step
+returns-in-Ok-true-clause-step g c =
+    rw (c.new-in-Ok-true.ensures.answer, c.new-in-Ok-true.ensures.leaves) (rw c.in-Ok-true.field-0-test at c.in-Ok-true.ensures.touches, c.new.ensures.items, refl)

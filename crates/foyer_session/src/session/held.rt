@@ -1,0 +1,115 @@
+//! What a session does with a handle that it handed out.
+
+ghost use Rattle.std.specs.Prelude.{◌≡◌, ◌+◌, ◌<◌, ◌≤◌, vec_len, vec_capacity};
+ghost use Rattle.foyer_core.specs.Core.{AtShard, Owns};
+ghost use Rattle.foyer_core.specs.Cores.{core_of};
+ghost use Rattle.foyer_core.specs.Steps.{ClonesHandle};
+
+use super::ready::with_leave;
+use super::{Session, handle};
+use crate::command::{Answer, Reply};
+use foyer_core::{CacheCore, CoreEntry, Indexer, Left, Weighter};
+use foyer_policy::{Event, Eviction, HashBuilder, Key, Properties, Result, Value};
+
+impl<
+    E: Eviction,
+    K: Key,
+    V: Value,
+    P: Properties,
+    S: HashBuilder,
+    W: Weighter<K, V>,
+    I: Indexer<K>,
+> Session<E, K, V, P, S, W, I> {
+    ghost use Rattle.foyer_session.specs.Sessions.{session_of, meaning_of_session};
+    ghost use Rattle.foyer_session.specs.Step.{CloneStep, DropStep, RefsStep, OutdatedStep};
+
+    // Hands out one more handle of the record of a handle.
+    pub(super) fn clone_handle(&mut self, number: u64) -> Reply<K, V, P>
+        requires room { vec_len self.old.handles < vec_capacity self.old.handles }
+        ensures step { CloneStep (meaning_of_session self.old) (λ builder key. S.hash_of builder (K.hash_input key)) W.weighs
+            (session_of self.old) number result.answer result.leaves (session_of self.new) }
+        ensures len { vec_len self.new.handles ≤ vec_len self.old.handles + 1 }
+        ensures capacity { vec_capacity self.new.handles ≡ vec_capacity self.old.handles }
+    {
+        let Some(entry) = handle::held(self.handles.as_slice(), number) else {
+            return Reply::new(Answer::NotHeld, Vec::new(self.alloc));
+        };
+        match clone_held(&mut self.core, entry) {
+            Ok(clone) => {
+                let (handle, record) = handle::hand_out(&mut self.handles, clone);
+                Reply::new(Answer::Found { handle, record }, Vec::new(self.alloc))
+            }
+            Err(error) => Reply::new(Answer::Refused(error), Vec::new(self.alloc)),
+        }
+    }
+
+    // Gives the handle of a number back, where it is held. Its leave has room in `leaves`.
+    pub(super) fn give_back(
+        &mut self,
+        number: u64,
+        leaves: Vec<(Event, Left<K, V, P>)>,
+    ) -> Reply<K, V, P>
+        requires empty { vec_len leaves ≡ 0 }
+        requires room { 0 < vec_capacity leaves }
+        ensures step { DropStep (meaning_of_session self.old) (λ builder key. S.hash_of builder (K.hash_input key)) W.weighs
+            (session_of self.old) number result.answer result.leaves (session_of self.new) }
+        ensures len { vec_len self.new.handles ≡ vec_len self.old.handles }
+        ensures capacity { vec_capacity self.new.handles ≡ vec_capacity self.old.handles }
+    {
+        let Some(entry) = handle::take(&mut self.handles, number) else {
+            return Reply::new(Answer::NotHeld, leaves);
+        };
+        match self.core.give_back(entry) {
+            Ok(leave) => Reply::new(Answer::Done, with_leave(leaves, leave)),
+            Err(entry) => {
+                entry.discard();
+                unreachable!()
+            }
+        }
+    }
+
+    pub(super) fn refs(&self, number: u64) -> Reply<K, V, P>
+        ensures { RefsStep (meaning_of_session self.now) (λ builder key. S.hash_of builder (K.hash_input key)) W.weighs
+            (session_of self.now) number result.answer result.leaves (session_of self.now) }
+    {
+        let Some(entry) = handle::held(self.handles.as_slice(), number) else {
+            return Reply::new(Answer::NotHeld, Vec::new(self.alloc));
+        };
+        let count = self.core.refs(entry) as u128;
+        Reply::new(Answer::Number(count), Vec::new(self.alloc))
+    }
+
+    pub(super) fn is_outdated(&self, number: u64) -> Reply<K, V, P>
+        ensures { OutdatedStep (meaning_of_session self.now) (λ builder key. S.hash_of builder (K.hash_input key)) W.weighs
+            (session_of self.now) number result.answer result.leaves (session_of self.now) }
+    {
+        let Some(entry) = handle::held(self.handles.as_slice(), number) else {
+            return Reply::new(Answer::NotHeld, Vec::new(self.alloc));
+        };
+        if self.core.is_outdated(entry) {
+            Reply::new(Answer::Yes, Vec::new(self.alloc))
+        } else {
+            Reply::new(Answer::No, Vec::new(self.alloc))
+        }
+    }
+}
+
+// One more entry of the record of an entry.
+fn clone_held<
+    E: Eviction,
+    K: Key,
+    V: Value,
+    P: Properties,
+    S: HashBuilder,
+    W: Weighter<K, V>,
+    I: Indexer<K>,
+>(
+    core: &mut CacheCore<E, K, V, P, S, W, (), I>,
+    entry: &CoreEntry<K, V, P>,
+) -> Result<CoreEntry<K, V, P>>
+    requires owned { Owns (core_of core.old) entry.now }
+    ensures { AtShard (λ s t. ClonesHandle s entry.now result t)
+        entry.now.kept.hash (core_of core.old) (core_of core.new) }
+{
+    core.clone_handle(entry)
+}

@@ -1,0 +1,137 @@
+//! What a session does with a key.
+
+ghost use Rattle.std.specs.Prelude.{◌≡◌, ◌≢◌, ◌+◌, ◌<◌, ◌≤◌, true, false, Some, vec_len, vec_capacity};
+ghost use Rattle.foyer_policy.specs.Properties.{is_phantom};
+ghost use Rattle.foyer_policy.specs.declared.types.Location.TheVariants.{OnDisk};
+ghost use Rattle.foyer_core.specs.Core.{AnswersNobody};
+
+use super::ready::with_leave;
+use super::{Session, handle};
+use crate::command::{Answer, Answers, Reply};
+use foyer_core::{Indexer, Inserted, Left, Outcome, Refused, Weighter};
+use foyer_policy::{Event, Eviction, HashBuilder, Key, Properties, Value};
+
+impl<
+    E: Eviction,
+    K: Key,
+    V: Value,
+    P: Properties,
+    S: HashBuilder,
+    W: Weighter<K, V>,
+    I: Indexer<K>,
+> Session<E, K, V, P, S, W, I> {
+    ghost use Rattle.foyer_session.specs.Sessions.{session_of, meaning_of_session};
+    ghost use Rattle.foyer_session.specs.Step.{InsertStep, GetStep, ContainsStep, TouchStep, RemoveStep};
+
+    pub(super) fn insert(&mut self, key: K, value: V, properties: P) -> Reply<K, V, P>
+        requires clones { (k c : K) → K.is_clone k c → K.eq c k ≡ true }
+        requires plain { is_phantom (P.phantom_of properties) ≡ false }
+        requires in_memory { P.location_of properties ≢ Some OnDisk }
+        requires room { vec_len self.old.handles < vec_capacity self.old.handles }
+        ensures step { InsertStep (meaning_of_session self.old) (λ builder key. S.hash_of builder (K.hash_input key)) W.weighs
+            (session_of self.old) key value properties result.answer result.leaves (session_of self.new) }
+        ensures len { vec_len self.new.handles ≤ vec_len self.old.handles + 1 }
+        ensures capacity { vec_capacity self.new.handles ≡ vec_capacity self.old.handles }
+    {
+        match self.core.insert_with_properties(key, value, properties) {
+            Ok(inserted) => {
+                let Inserted {
+                    entry,
+                    answers,
+                    leaves,
+                } = inserted;
+                spend_nobody(answers);
+                let (handle, record) = handle::hand_out(&mut self.handles, entry);
+                let answers = Answers::new(Vec::new(self.alloc));
+                let answer = Answer::Entry {
+                    handle,
+                    record,
+                    answers,
+                };
+                Reply::new(answer, leaves)
+            }
+            Err(refused) => {
+                let Refused { error, leaves } = refused;
+                Reply::new(Answer::Refused(error), leaves)
+            }
+        }
+    }
+
+    pub(super) fn get(&mut self, key: &K) -> Reply<K, V, P>
+        requires room { vec_len self.old.handles < vec_capacity self.old.handles }
+        ensures step { GetStep (meaning_of_session self.old) (λ builder key. S.hash_of builder (K.hash_input key)) W.weighs
+            (session_of self.old) key.now result.answer result.leaves (session_of self.new) }
+        ensures len { vec_len self.new.handles ≤ vec_len self.old.handles + 1 }
+        ensures capacity { vec_capacity self.new.handles ≡ vec_capacity self.old.handles }
+    {
+        match self.core.get(key) {
+            Ok(Some(entry)) => {
+                let (handle, record) = handle::hand_out(&mut self.handles, entry);
+                Reply::new(Answer::Found { handle, record }, Vec::new(self.alloc))
+            }
+            Ok(None) => Reply::new(Answer::Missing, Vec::new(self.alloc)),
+            Err(error) => Reply::new(Answer::Refused(error), Vec::new(self.alloc)),
+        }
+    }
+
+    pub(super) fn contains(&self, key: &K) -> Reply<K, V, P>
+        ensures { ContainsStep (meaning_of_session self.now) (λ builder key. S.hash_of builder (K.hash_input key)) W.weighs
+            (session_of self.now) key.now result.answer result.leaves (session_of self.now) }
+    {
+        let answer = if self.core.contains(key) {
+            Answer::Yes
+        } else {
+            Answer::No
+        };
+        Reply::new(answer, Vec::new(self.alloc))
+    }
+
+    pub(super) fn touch(&mut self, key: &K) -> Reply<K, V, P>
+        ensures step { TouchStep (meaning_of_session self.old) (λ builder key. S.hash_of builder (K.hash_input key)) W.weighs
+            (session_of self.old) key.now result.answer result.leaves (session_of self.new) }
+        ensures len { vec_len self.new.handles ≡ vec_len self.old.handles }
+        ensures capacity { vec_capacity self.new.handles ≡ vec_capacity self.old.handles }
+    {
+        match self.core.touch(key) {
+            Ok(true) => Reply::new(Answer::Yes, Vec::new(self.alloc)),
+            Ok(false) => Reply::new(Answer::No, Vec::new(self.alloc)),
+            Err(error) => Reply::new(Answer::Refused(error), Vec::new(self.alloc)),
+        }
+    }
+
+    // Takes the key's record out, where there is one. Its leave has room in `leaves`.
+    pub(super) fn remove(&mut self, key: &K, leaves: Vec<(Event, Left<K, V, P>)>) -> Reply<K, V, P>
+        requires room { vec_len self.old.handles < vec_capacity self.old.handles }
+        requires empty { vec_len leaves ≡ 0 }
+        requires leave { 0 < vec_capacity leaves }
+        ensures step { RemoveStep (meaning_of_session self.old) (λ builder key. S.hash_of builder (K.hash_input key)) W.weighs
+            (session_of self.old) key.now result.answer result.leaves (session_of self.new) }
+        ensures len { vec_len self.new.handles ≤ vec_len self.old.handles + 1 }
+        ensures capacity { vec_capacity self.new.handles ≡ vec_capacity self.old.handles }
+    {
+        match self.core.remove(key) {
+            Ok(Some((entry, left))) => {
+                let (handle, record) = handle::hand_out(&mut self.handles, entry);
+                let leaves = with_leave(leaves, Some((Event::Remove, left)));
+                Reply::new(Answer::Found { handle, record }, leaves)
+            }
+            Ok(None) => Reply::new(Answer::Missing, leaves),
+            Err(error) => Reply::new(Answer::Refused(error), leaves),
+        }
+    }
+}
+
+// Nobody waited.
+fn spend_nobody<K: Drop, V: Drop, P: Drop>(answers: foyer_core::Answers<K, V, P, ()>)
+    requires { AnswersNobody answers }
+{
+    let foyer_core::Answers {
+        waiters: _,
+        outcome,
+    } = answers;
+    match outcome {
+        Outcome::Entries(entries) => entries.destroy_empty(),
+        Outcome::None => {}
+        Outcome::Fault(_) => {}
+    }
+}

@@ -1,0 +1,285 @@
+use super::{SimArgs, SimPolicy, SimValue, SimWeighter, sim_args, simulate};
+use crate::session::Session;
+use crate::streams::{Parts, Slow};
+use foyer_core::{CacheCore, CacheProperties, Limits, RawCacheConfig};
+use foyer_policy::{Eviction, Fifo, Lru, ModHasher};
+use std::alloc::Global;
+use std::io::{BufRead, ErrorKind};
+use std::test::Fail;
+
+type SimSession<E> = Session<E, u64, SimValue, CacheProperties, ModHasher, SimWeighter>;
+
+// A session over an empty core of one shard.
+fn session<E: Eviction>(
+    alloc: Global,
+    capacity: usize,
+    limits: Limits,
+) -> Result<SimSession<E>, Fail> {
+    let config = RawCacheConfig {
+        capacity,
+        shards: 1,
+        eviction_config: E::Config::default(),
+        hash_builder: ModHasher::default(),
+        weighter: SimWeighter,
+        number: 0,
+        limits,
+    };
+    Ok(Session::new(alloc, CacheCore::new(alloc, config)?))
+}
+
+// What is printed for these lines by a cache of this capacity and policy.
+fn printed_by<E: Eviction, R: BufRead>(
+    alloc: Global,
+    capacity: usize,
+    reader: &mut R,
+) -> Result<Vec<u8>, Fail> {
+    let mut session = session::<E>(alloc, capacity, Limits::default())?;
+    let mut written = Vec::new(alloc);
+    simulate(reader, &mut written, &mut session)?;
+    Ok(written)
+}
+
+// By a cache that is first in, first out.
+fn printed<R: BufRead>(alloc: Global, capacity: usize, reader: &mut R) -> Result<Vec<u8>, Fail> {
+    printed_by::<Fifo, R>(alloc, capacity, reader)
+}
+
+const SCRIPT: &[u8] = b"insert 1 10\ninsert 2 20\ninsert 2 21\nget 2\ncontains 1\ndrop 0\n";
+
+const PRINTED: &[u8] = b"h0 | - | usage 1 entries 1
+h1 | - | usage 2 entries 2
+h2 | evict 1=10, replace 2=20 | usage 1 entries 1
+h3 21 | - | usage 1 entries 1
+no | - | usage 1 entries 1
+ok | - | usage 1 entries 1
+";
+
+#[test]
+fn a_script_has_its_output(rt: HostRuntime) -> Result<(), Fail> {
+    for part in 1..SCRIPT.len() + 1 {
+        let written = printed(rt.alloc(), 2, &mut Parts::new(SCRIPT, part))?;
+        assert_eq!(rt; written.as_slice(), PRINTED, "in parts of {part}");
+    }
+    Ok(())
+}
+
+#[test]
+fn the_first_in_leaves_first(rt: HostRuntime) -> Result<(), Fail> {
+    let mut script: &[u8] = b"insert 1 10\ninsert 2 20\ninsert 1 11\ninsert 3 30\ninsert 4 40\n";
+    let written = printed(rt.alloc(), 2, &mut script)?;
+    let wanted: &[u8] = b"h0 | - | usage 1 entries 1
+h1 | - | usage 2 entries 2
+h2 | evict 1=10 | usage 2 entries 2
+h3 | evict 2=20 | usage 2 entries 2
+h4 | evict 1=11 | usage 2 entries 2
+";
+    assert_eq!(rt; written.as_slice(), wanted);
+    Ok(())
+}
+
+#[test]
+fn what_is_held_does_not_leave(rt: HostRuntime) -> Result<(), Fail> {
+    let mut script: &[u8] =
+        b"insert 1 10\nget 1\ninsert 2 20\nget 2\ninsert 3 30\ndrop 0\ndrop 1\ninsert 4 40\n";
+    let written = printed_by::<Lru, _>(rt.alloc(), 2, &mut script)?;
+    let wanted: &[u8] = b"h0 | - | usage 1 entries 1
+h1 10 | - | usage 1 entries 1
+h2 | - | usage 2 entries 2
+h3 20 | - | usage 2 entries 2
+h4 | - | usage 3 entries 3
+ok | - | usage 3 entries 3
+ok | - | usage 3 entries 3
+h5 | evict 3=30, evict 1=10 | usage 2 entries 2
+";
+    assert_eq!(rt; written.as_slice(), wanted);
+    Ok(())
+}
+
+#[test]
+fn weights_add_up(rt: HostRuntime) -> Result<(), Fail> {
+    let mut script: &[u8] =
+        b"insert 1 10 3\ninsert 2 20 4\ninsert 3 30 9\ninsert 3 31 10\ninsert 4 40 18446744073709551615\nget 4\n";
+    let written = printed(rt.alloc(), 10, &mut script)?;
+    let wanted: &[u8] = b"h0 | - | usage 3 entries 1
+h1 | - | usage 7 entries 2
+h2 | evict 1=10, evict 2=20 | usage 9 entries 1
+h3 | evict 3=30 | usage 10 entries 1
+h4 | evict 3=31 | usage 18446744073709551615 entries 1
+h5 40 | - | usage 18446744073709551615 entries 1
+";
+    assert_eq!(rt; written.as_slice(), wanted);
+    Ok(())
+}
+
+#[test]
+fn records_are_taken_out_and_touched(rt: HostRuntime) -> Result<(), Fail> {
+    let mut script: &[u8] =
+        b"insert 1 10\ntouch 1\ntouch 2\nremove 1\nremove 1\ntouch 1\ndrop 1\ndrop 0\ninsert 2 20\n";
+    let written = printed(rt.alloc(), 2, &mut script)?;
+    let wanted: &[u8] = b"h0 | - | usage 1 entries 1
+yes | - | usage 1 entries 1
+no | - | usage 1 entries 1
+h1 10 | remove 1=10 | usage 0 entries 0
+none | - | usage 0 entries 0
+no | - | usage 0 entries 0
+ok | - | usage 0 entries 0
+ok | - | usage 0 entries 0
+h2 | - | usage 1 entries 1
+";
+    assert_eq!(rt; written.as_slice(), wanted);
+    Ok(())
+}
+
+#[test]
+fn a_refused_touch_or_remove_says_so(rt: HostRuntime) -> Result<(), Fail> {
+    let limits = Limits {
+        handles: 1,
+        ..Limits::default()
+    };
+    let mut session = session::<Fifo>(rt.alloc(), 2, limits)?;
+    let mut script: &[u8] = b"insert 1 10\ntouch 1\nremove 1\ntouch 2\ndrop 0\ntouch 1\nremove 1\n";
+    let mut written = Vec::new(rt.alloc());
+    simulate(&mut script, &mut written, &mut session)?;
+    let wanted: &[u8] = b"h0 | - | usage 1 entries 1
+F9 | - | usage 1 entries 1
+F9 | - | usage 1 entries 1
+no | - | usage 1 entries 1
+ok | - | usage 1 entries 1
+yes | - | usage 1 entries 1
+h1 10 | remove 1=10 | usage 0 entries 0
+";
+    assert_eq!(rt; written.as_slice(), wanted);
+    Ok(())
+}
+
+#[test]
+fn bad_lines_say_so_and_blank_ones_nothing(rt: HostRuntime) -> Result<(), Fail> {
+    let mut script: &[u8] =
+        b"\n   \nsteal 1\nget 000000000000000000001\ninsert 1 2\xff\n\x00\x80\nget 1\ndrop 0\ncontains 1\ninsert 1 2";
+    let written = printed(rt.alloc(), 2, &mut script)?;
+    let wanted: &[u8] = b"bad line | - | usage 0 entries 0
+bad line | - | usage 0 entries 0
+bad line | - | usage 0 entries 0
+bad line | - | usage 0 entries 0
+none | - | usage 0 entries 0
+not held | - | usage 0 entries 0
+no | - | usage 0 entries 0
+h0 | - | usage 1 entries 1
+";
+    assert_eq!(rt; written.as_slice(), wanted);
+    Ok(())
+}
+
+#[test]
+fn a_line_of_megabytes_is_one_line(rt: HostRuntime) -> Result<(), Fail> {
+    let mut script = vec![in rt.alloc(); b'7'; 3 << 20]?;
+    script.extend_from_slice(b"\ninsert 1 2\n")?;
+    for _i in 0..3 << 20 {
+        script.push(b' ')?;
+    }
+    script.extend_from_slice(b"get 1")?;
+    let written = printed(rt.alloc(), 2, &mut script.as_slice())?;
+    let wanted: &[u8] = b"bad line | - | usage 0 entries 0
+h0 | - | usage 1 entries 1
+h1 2 | - | usage 1 entries 1
+";
+    assert_eq!(rt; written.as_slice(), wanted);
+    Ok(())
+}
+
+#[test]
+fn a_refused_line_says_so(rt: HostRuntime) -> Result<(), Fail> {
+    let limits = Limits {
+        handles: 2,
+        ..Limits::default()
+    };
+    let mut session = session::<Fifo>(rt.alloc(), 2, limits)?;
+    let mut script: &[u8] = b"insert 1 10\nget 1\nget 1\ncontains 1\ndrop 0\nget 1\n";
+    let mut written = Vec::new(rt.alloc());
+    simulate(&mut script, &mut written, &mut session)?;
+    let wanted: &[u8] = b"h0 | - | usage 1 entries 1
+h1 10 | - | usage 1 entries 1
+F9 | - | usage 1 entries 1
+yes | - | usage 1 entries 1
+ok | - | usage 1 entries 1
+h2 10 | - | usage 1 entries 1
+";
+    assert_eq!(rt; written.as_slice(), wanted);
+    Ok(())
+}
+
+#[test]
+fn a_failed_reader_leaves_whole_lines(rt: HostRuntime) -> Result<(), Fail> {
+    let mut session = session::<Fifo>(rt.alloc(), 2, Limits::default())?;
+    let mut reader = Parts::new(SCRIPT, 12);
+    reader.fails_at = 3;
+    let mut written = Vec::new(rt.alloc());
+    let ended = simulate(&mut reader, &mut written, &mut session).map_err(|e| e.kind());
+    assert_eq!(rt; ended, Err(ErrorKind::Other));
+    assert_eq!(rt; written.as_slice(), &PRINTED[..54]);
+    Ok(())
+}
+
+#[test]
+fn a_failed_writer_has_a_beginning(rt: HostRuntime) -> Result<(), Fail> {
+    for fails_at in 1..40 {
+        let mut session = session::<Fifo>(rt.alloc(), 2, Limits::default())?;
+        let mut writer = Slow::new(rt.alloc(), 2);
+        writer.fails_at = fails_at;
+        let mut script = SCRIPT;
+        let ended = simulate(&mut script, &mut writer, &mut session).map_err(|e| e.kind());
+        assert_eq!(rt; ended, Err(ErrorKind::Other), "at call {fails_at}");
+        assert!(rt;
+            PRINTED.starts_with(writer.taken.as_slice()),
+            "at call {fails_at}"
+        );
+    }
+    Ok(())
+}
+
+// The arguments that these words are.
+fn args_of(alloc: Global, words: &[&str]) -> Result<Option<SimArgs>, Fail> {
+    let mut strings = Vec::new(alloc);
+    for word in words {
+        strings.push(String::from_str(alloc, word)?)?;
+    }
+    Ok(sim_args(strings.as_slice()))
+}
+
+#[test]
+fn arguments_are_read(rt: HostRuntime) -> Result<(), Fail> {
+    let alloc = rt.alloc();
+    let args = SimArgs {
+        policy: SimPolicy::Fifo,
+        capacity: 2,
+        shards: 1,
+    };
+    assert_eq!(rt; args_of(alloc, &["fifo", "2", "1"])?, Some(args));
+    assert_eq!(rt; args_of(alloc, &["fifo", "0002", "01"])?, Some(args));
+    let lru = SimArgs {
+        policy: SimPolicy::Lru,
+        ..args
+    };
+    assert_eq!(rt; args_of(alloc, &["lru", "2", "1"])?, Some(lru));
+    Ok(())
+}
+
+#[test]
+fn bad_arguments_are_none(rt: HostRuntime) -> Result<(), Fail> {
+    let alloc = rt.alloc();
+    assert_eq!(rt; args_of(alloc, &[])?, None);
+    assert_eq!(rt; args_of(alloc, &["fifo", "2"])?, None);
+    assert_eq!(rt; args_of(alloc, &["fifo", "2", "1", "1"])?, None);
+    assert_eq!(rt; args_of(alloc, &["FIFO", "2", "1"])?, None);
+    assert_eq!(rt; args_of(alloc, &["arc", "2", "1"])?, None);
+    assert_eq!(rt; args_of(alloc, &["fifo", "-2", "1"])?, None);
+    assert_eq!(rt; args_of(alloc, &["fifo", "", "1"])?, None);
+    assert_eq!(rt;
+        args_of(alloc, &["fifo", "18446744073709551616", "1"])?,
+        None
+    );
+    assert_eq!(rt; args_of(alloc, &["fifo", "2", "0"])?, None);
+    assert_eq!(rt; args_of(alloc, &["fifo", "2", "2"])?, None);
+    assert_eq!(rt; args_of(alloc, &["fifo", "2", "one"])?, None);
+    Ok(())
+}

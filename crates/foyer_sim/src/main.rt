@@ -1,0 +1,89 @@
+//! `foyer-sim POLICY CAPACITY SHARDS`: carries out the commands on standard input, one a line, over a
+//! cache of this policy, and prints the reply to each.
+#![tactic(auto)]
+
+use foyer_core::{CacheCore, Limits, RawCacheConfig};
+use foyer_policy::{Eviction, Fifo, Lru, ModHasher};
+use foyer_session::{Session, SimArgs, SimPolicy, SimWeighter, sim_args, simulate};
+use std::env;
+use std::io::{BufReader, BufWriter, ErrorKind, Write};
+use std::process::ExitCode;
+
+// How many bytes are read or written at once.
+const BUFFER: usize = 64 * 1024;
+
+// Why the program ends before it is at the end of its input.
+#[derive(Drop)]
+enum Failure {
+    Arguments,
+    Memory,
+    InputOrOutput,
+}
+
+fn main(rt: HostRuntime) -> ExitCode {
+    let Err(failure) = run(&rt) else {
+        return ExitCode::SUCCESS;
+    };
+    let (status, message) = match failure {
+        Failure::Arguments => (2, "usage: foyer-sim POLICY CAPACITY SHARDS"),
+        Failure::Memory => (1, "foyer-sim: out of memory"),
+        Failure::InputOrOutput => (1, "foyer-sim: input or output failed"),
+    };
+    // The status says it where standard error can't.
+    let _ = eprintln!(rt; "{message}");
+    ExitCode::from(status)
+}
+
+fn run(rt: &HostRuntime) -> Result<(), Failure> {
+    let args = arguments(rt)?;
+    match args.policy {
+        SimPolicy::Fifo => run_policy::<Fifo>(rt, args),
+        SimPolicy::Lru => run_policy::<Lru>(rt, args),
+    }
+}
+
+// What the program is asked for.
+fn arguments(rt: &HostRuntime) -> Result<SimArgs, Failure> {
+    let args = match env::args(rt) {
+        Ok(args) => args,
+        Err(error) if error.kind() == ErrorKind::OutOfMemory => return Err(Failure::Memory),
+        Err(_) => return Err(Failure::Arguments),
+    };
+    let mut words = Vec::new(rt.alloc());
+    for word in args.skip(1) {
+        let Ok(()) = words.push(word) else {
+            return Err(Failure::Memory);
+        };
+    }
+    sim_args(words.as_slice()).ok_or(Failure::Arguments)
+}
+
+// Runs over a cache of this policy, in its default configuration.
+fn run_policy<E: Eviction>(rt: &HostRuntime, args: SimArgs) -> Result<(), Failure> {
+    let alloc = rt.alloc();
+    let config = RawCacheConfig {
+        capacity: args.capacity,
+        shards: 1,
+        eviction_config: E::Config::default(),
+        hash_builder: ModHasher::default(),
+        weighter: SimWeighter,
+        number: 0,
+        limits: Limits::default(),
+    };
+    let Ok(core) = CacheCore::<E, _, _, _, _, _, _>::new(alloc, config) else {
+        return Err(Failure::Memory);
+    };
+    let mut session = Session::new(alloc, core);
+    let Ok(mut reader) = BufReader::with_capacity(alloc, BUFFER, rt.stdin()) else {
+        return Err(Failure::Memory);
+    };
+    let Ok(mut writer) = BufWriter::with_capacity(alloc, BUFFER, rt.stdout()) else {
+        return Err(Failure::Memory);
+    };
+    let told = simulate(&mut reader, &mut writer, &mut session);
+    let written = writer.flush();
+    if told.is_err() || written.is_err() {
+        return Err(Failure::InputOrOutput);
+    }
+    Ok(())
+}
