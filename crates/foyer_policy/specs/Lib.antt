@@ -10,8 +10,12 @@ pub mod Held
 pub mod ItemLaws
 pub mod Items
 pub mod Lends
+pub mod Lfu
+pub mod LfuLaws
+pub mod LfuLists
 pub mod Limit
 pub mod Lists
+pub mod Looks
 pub mod Lru
 pub mod LruLaws
 pub mod LruLists
@@ -19,6 +23,10 @@ pub mod PartLaws
 pub mod Policy
 pub mod PopTimes
 pub mod Properties
+pub mod S3Fifo
+pub mod S3FifoLaws
+pub mod S3FifoQueues
+pub mod S3FifoTurns
 pub mod Sieve
 pub mod SieveLaws
 pub mod SieveQueue

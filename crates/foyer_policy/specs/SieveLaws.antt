@@ -262,6 +262,17 @@ length-items q = length-map q item_of
 pub queue-shorter : (v w : SieveView) (i : Item) → sieve_pop v ≡ Some (i, w) → length v.queue ≡ length w.queue + 1
 queue-shorter v w i h = omega (arith, length_permutation (items v.queue) (i ∷ items w.queue) (pop-some v w i h).order, length-items v.queue, length-items w.queue)
 
+bits-le : (q : List Entry) → set_bits q ≤ length q
+bits-le [] = omega arith
+bits-le (e ∷ es) = go e.visited refl (bits-le es) where
+  go : (b : Bool) → e.visited ≡ b → set_bits es ≤ length es → set_bits (e ∷ es) ≤ length (e ∷ es)
+  go true is rec = (let one : bit_of e ≡ 1 = ap (λ (b : Bool). let n : ℕ = cond b 1 0 in n) is in omega (arith, bits-cons e es, rec))
+  go false is rec = (let none : bit_of e ≡ 0 = ap (λ (b : Bool). let n : ℕ = cond b 1 0 in n) is in omega (arith, bits-cons e es, rec))
+
+-- a pop that gives an item reads at most one bit more than there are items
+pub few_looks : (v w : SieveView) (i : Item) → sieve_pop v ≡ Some (i, w) → looks_at (rotation v) ≤ length (items v.queue) + 1
+few_looks v w i h = omega (arith, (pop-some v w i h).paid, bits-le v.queue, length-items v.queue)
+
 pub emptied : (n : ℕ) (v : SieveView) → length v.queue ≤ n → (pop_times sieve_pop n v).queue ≡ []
 emptied zero v h = go v.queue h where
   go : (q : List Entry) → length q ≤ 0 → q ≡ []

@@ -1,11 +1,12 @@
 //! Sieve: one queue, a visited bit for each record, and a hand that looks for an unvisited one.
 
-ghost use Rattle.std.specs.Prelude.{◌≡◌, ◌≢◌, ℕ, false, ◌+◌, ◌<◌, ◌≤◌, ◌^◌, [], ◌∷◌, ◌++◌, List, Some, None, IfSome, IsSome, map, length, sum_by};
+ghost use Rattle.std.specs.Prelude.{◌≡◌, ◌≢◌, ℕ, false, ◌+◌, ◌<◌, ◌≤◌, ◌^◌, [], ◌∷◌, ◌++◌, List, Some, None, IfSome, IfNone, IfOk, IsSome, IsOk, map, length, sum_by};
 ghost use Rattle.foyer_policy.specs.Lists.{list_at, find, first_or, with_value, AreLists};
 ghost use Rattle.foyer_policy.specs.Items.{HasIdsOnce};
-ghost use Rattle.foyer_policy.specs.Policy.{without};
-ghost use Rattle.foyer_policy.specs.Sieve.{hand_without};
-ghost use Rattle.foyer_policy.specs.SieveQueue.{entry, entries, entry_items, item_at, IsTurn};
+ghost use Rattle.foyer_policy.specs.Policy.{Pops, without};
+ghost use Rattle.foyer_policy.specs.Sieve.{hand_without, sieve};
+ghost use Rattle.foyer_policy.specs.declared.sieve.SieveConfig.{SieveConfig};
+ghost use Rattle.foyer_policy.specs.SieveQueue.{view_of, entry, entries, entry_items, item_at, IsTurn};
 
 use crate::error::{Error, Reason, Result};
 use crate::eviction::Eviction;
@@ -185,7 +186,18 @@ impl Eviction for Sieve {
         )
     }
 
-    fn pop(&mut self) -> Result<Option<Item>> {
+    fn pop(&mut self) -> Result<Option<Item>>
+        ensures ok { IsOk result }
+        ensures few { self.new.looks ≤ length ((sieve SieveConfig).order (view_of self.old)) + 1 }
+
+        // and what every policy ensures
+        ensures pops { IfOk result (λ found. Pops (sieve SieveConfig) (view_of self.old) found (view_of self.new)) }
+        ensures places { IfOk result (λ found. IfSome found (λ i. (p : ℕ)
+            → item_at self.new.nodes.lists p ≡ without i.id (item_at self.old.nodes.lists p))) }
+        ensures none { IfOk result (λ found. IfNone found ((p : ℕ) → item_at self.new.nodes.lists p ≡ item_at self.old.nodes.lists p)) }
+        ensures looked { self.new.looks ≡ (sieve SieveConfig).looks (view_of self.old) }
+        ensures room { self.old.nodes.room ≤ self.new.nodes.room }
+    {
         let Some(front) = self.queue.front(0) else {
             self.looks = 0;
             return Ok(None);

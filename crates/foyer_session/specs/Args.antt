@@ -3,13 +3,16 @@ use Rattle.std.specs.Prelude.{ℕ, ◌==◌, List, [], ◌∷◌, Option, Some, 
 use Rattle.foyer_session.specs.Text.{number_of}
 use Rattle.foyer_session.specs.declared.sim.args.SimArgs.{SimArgs}
 use Rattle.foyer_session.specs.declared.sim.args.SimPolicy.{SimPolicy}
-use Rattle.foyer_session.specs.declared.sim.args.SimPolicy.TheVariants.{Fifo, Lru}
+use Rattle.foyer_session.specs.declared.sim.args.SimPolicy.TheVariants.{Fifo, Lru, Lfu, S3Fifo, Sieve}
 
 -- the policy of this name
 abbrev pub policy_of : List ℕ → Option SimPolicy
 policy_of name = if bytes_eq name (codes "fifo") then Some Fifo
     else (if bytes_eq name (codes "lru") then Some Lru
-    else None)
+    else (if bytes_eq name (codes "lfu") then Some Lfu
+    else (if bytes_eq name (codes "s3fifo") then Some S3Fifo
+    else (if bytes_eq name (codes "sieve") then Some Sieve
+    else None))))
 
 -- a policy, a capacity and one shard
 abbrev pub args_with : SimPolicy → ℕ → ℕ → Option SimArgs

@@ -3,8 +3,11 @@
 
 pub mod command;
 pub mod fifo_session;
+pub mod lfu_session;
 pub mod lru_session;
+pub mod s3fifo_session;
 pub mod session;
+pub mod sieve_session;
 pub mod sim;
 #[cfg(test)]
 mod streams;
@@ -12,6 +15,9 @@ pub mod text;
 
 pub use command::{Answer, Answers, Command, Leaves, Reply};
 pub use fifo_session::run_fifo;
+pub use lfu_session::run_lfu;
 pub use lru_session::run_lru;
+pub use s3fifo_session::run_s3fifo;
 pub use session::Session;
+pub use sieve_session::run_sieve;
 pub use sim::{SimArgs, SimPolicy, SimValue, SimWeighter, sim_args, simulate};

@@ -3,7 +3,7 @@
 #![tactic(auto)]
 
 use foyer_core::{CacheCore, Limits, RawCacheConfig};
-use foyer_policy::{Eviction, Fifo, Lru, ModHasher};
+use foyer_policy::{Eviction, Fifo, Lfu, Lru, ModHasher, S3Fifo, Sieve};
 use foyer_session::{Session, SimArgs, SimPolicy, SimWeighter, sim_args, simulate};
 use std::env;
 use std::io::{BufReader, BufWriter, ErrorKind, Write};
@@ -39,6 +39,9 @@ fn run(rt: &HostRuntime) -> Result<(), Failure> {
     match args.policy {
         SimPolicy::Fifo => run_policy::<Fifo>(rt, args),
         SimPolicy::Lru => run_policy::<Lru>(rt, args),
+        SimPolicy::Lfu => run_policy::<Lfu>(rt, args),
+        SimPolicy::S3Fifo => run_policy::<S3Fifo>(rt, args),
+        SimPolicy::Sieve => run_policy::<Sieve>(rt, args),
     }
 }
 

@@ -1,26 +1,8 @@
-ghost use Rattle.std.specs.Prelude.{◌≡◌, []};
-ghost use Rattle.foyer_policy.specs.declared.types.Hint.TheVariants.{Normal};
-
 use super::*;
-use crate::types::Hint;
-use std::process::Abort;
-use std::test::Fail;
-
-type Tested = std::result::Result<(), Fail>;
-
-fn item(id: u64) -> Item
-    ensures { result ≡ record { id = id; hash = 0; weight = 1; hint = Normal } }
-{
-    Item {
-        id,
-        hash: 0,
-        weight: 1,
-        hint: Hint::Normal,
-    }
-}
+use crate::testing::{Answer, each_call, item};
 
 #[test]
-fn first_in_leaves_first(rt: HostRuntime) -> Tested {
+fn first_in_leaves_first(rt: HostRuntime) -> Answer<()> {
     let mut policy = Fifo::new(rt.alloc(), 16, &FifoConfig {})?;
     policy.reserve()?;
     policy.push(item(0));
@@ -48,40 +30,15 @@ fn first_in_leaves_first(rt: HostRuntime) -> Tested {
     Ok(())
 }
 
-// Calls each method of a policy that holds nothing, as a cache above does.
-fn each_call<'a, E: Eviction>(rt: &impl Abort, policy: &'a mut E, config: &E::Config) -> Tested
-    requires empty { E.model.order (E.view policy.old) ≡ [] }
-{
-    policy.reserve()?;
-    let place = policy.push(item(7));
-    let same: Option<&'a E::Config> = None;
-    policy.update(2, same)?;
-    policy.update(1, Some(config))?;
-    policy.acquire(place);
-    assert!(rt; policy.is_pinned(place) == (policy.pinned_weight() == 1));
-    policy.release(place);
-    assert!(rt; !policy.is_pinned(place));
-    assert_eq!(rt; policy.pinned_weight(), 0);
-    assert_eq!(rt; policy.order()?.as_slice(), [item(7)].as_slice());
-    assert_eq!(rt; policy.pop()?, Some(item(7)));
-    assert!(rt; policy.looks() <= 2);
-    assert_eq!(rt; policy.pop()?, None);
-    assert_eq!(rt; policy.looks(), 0);
-    policy.reserve_clear()?;
-    policy.clear();
-    assert!(rt; policy.order()?.is_empty());
-    Ok(())
-}
-
 #[test]
-fn answers_each_call_under_the_bound(rt: HostRuntime) -> Tested {
+fn answers_each_call_under_the_bound(rt: HostRuntime) -> Answer<()> {
     let config = FifoConfig {};
     let mut policy = Fifo::new(rt.alloc(), 16, &config)?;
     each_call(&rt, &mut policy, &config)
 }
 
 #[test]
-fn answers_each_call_alone(rt: HostRuntime) -> Tested {
+fn answers_each_call_alone(rt: HostRuntime) -> Answer<()> {
     let mut policy = Fifo::new(rt.alloc(), 16, &FifoConfig {})?;
     policy.update(1, None)?;
     policy.update(2, Some(&FifoConfig {}))?;

@@ -1,21 +1,9 @@
-ghost use Rattle.std.specs.Prelude.{◌≡◌, ◌≢◌, ◌+◌, ◌<◌, ◌^◌, ℕ, Some, None, IfOk, IfSome, IsTrue};
-ghost use Rattle.foyer_policy.specs.Items.{IsNewIn, weight_of};
+ghost use Rattle.std.specs.Prelude.{◌≡◌, Some, IfOk, IfSome};
 ghost use Rattle.foyer_policy.specs.Policy.{without};
 
 use super::*;
+use crate::testing::{Answer, each_call, item as normal, push};
 use std::process::Abort;
-use std::test::Fail;
-
-type Answer<T> = std::result::Result<T, Fail>;
-
-fn normal(id: u64) -> Item {
-    Item {
-        id,
-        hash: 0,
-        weight: 1,
-        hint: Hint::Normal,
-    }
-}
 
 fn low(id: u64) -> Item {
     Item {
@@ -28,35 +16,6 @@ fn pool(num: u32, den: u32) -> LruConfig {
     LruConfig {
         high_priority_pool_ratio: Ratio { num, den },
     }
-}
-
-// Whether an item may come in beside these: its id is new, and all weights fit.
-fn fits(items: &[Item], item: &Item) -> bool
-    ensures new_id { IsTrue result → IsNewIn item.now.id items.now }
-    ensures sum { IsTrue result → item.now.weight + weight_of items.now < 2 ^ 64 }
-{
-    let mut sum = item.weight;
-    for other in items {
-        if other.id == item.id {
-            return false;
-        }
-        let Some(more) = sum.checked_add(other.weight) else {
-            return false;
-        };
-        sum = more;
-    }
-    true
-}
-
-fn push<E: Eviction>(rt: &impl Abort, policy: &mut E, item: Item) -> Answer<Place>
-    ensures here { IfOk result (λ p. E.at policy.new p ≡ Some item) }
-    ensures was_free { IfOk result (λ p. E.at policy.old p ≡ None) }
-    ensures others { IfOk result (λ p. (q : ℕ) → q ≢ p → E.at policy.new q ≡ E.at policy.old q) }
-{
-    policy.reserve()?;
-    let order = policy.order()?;
-    assert!(rt; fits(order.as_slice(), &item));
-    Ok(policy.push(item))
 }
 
 // A pop that leaves the item at a place in.
@@ -176,31 +135,6 @@ fn refuses_ratios(rt: HostRuntime) -> Answer<()> {
     for want in [Some(low(1)), Some(normal(0)), Some(normal(2)), None] {
         assert_eq!(rt; policy.pop()?, want);
     }
-    Ok(())
-}
-
-// Calls each method of a policy, as a cache above does.
-fn each_call<'a, E: Eviction>(
-    rt: &impl Abort,
-    policy: &'a mut E,
-    config: &E::Config,
-) -> Answer<()> {
-    let place = push(rt, policy, normal(7))?;
-    let same: Option<&'a E::Config> = None;
-    policy.update(2, same)?;
-    policy.update(1, Some(config))?;
-    policy.acquire(place);
-    assert!(rt; policy.is_pinned(place));
-    assert_eq!(rt; policy.pinned_weight(), 1);
-    assert_eq!(rt; policy.pop()?, None);
-    policy.release(place);
-    assert_eq!(rt; policy.order()?.as_slice(), [normal(7)].as_slice());
-    assert_eq!(rt; policy.pop()?, Some(normal(7)));
-    assert_eq!(rt; policy.looks(), 0);
-    push(rt, policy, low(8))?;
-    policy.reserve_clear()?;
-    policy.clear();
-    assert!(rt; policy.order()?.is_empty());
     Ok(())
 }
 

@@ -12,6 +12,12 @@ pub enum SimPolicy {
     Fifo,
     /// Least recently used.
     Lru,
+    /// w-TinyLFU: least frequently used, with a window.
+    Lfu,
+    /// S3-FIFO: a small, a main and a ghost queue.
+    S3Fifo,
+    /// Sieve: a queue with a hand.
+    Sieve,
 }
 
 /// What a program is asked for.
@@ -54,6 +60,12 @@ fn policy_of(name: &[u8]) -> Option<SimPolicy>
         Some(SimPolicy::Fifo)
     } else if is_word(name, b"lru") {
         Some(SimPolicy::Lru)
+    } else if is_word(name, b"lfu") {
+        Some(SimPolicy::Lfu)
+    } else if is_word(name, b"s3fifo") {
+        Some(SimPolicy::S3Fifo)
+    } else if is_word(name, b"sieve") {
+        Some(SimPolicy::Sieve)
     } else {
         None
     }

@@ -2,7 +2,7 @@ use super::{SimArgs, SimPolicy, SimValue, SimWeighter, sim_args, simulate};
 use crate::session::Session;
 use crate::streams::{Parts, Slow};
 use foyer_core::{CacheCore, CacheProperties, Limits, RawCacheConfig};
-use foyer_policy::{Eviction, Fifo, Lru, ModHasher};
+use foyer_policy::{Eviction, Fifo, Lfu, Lru, ModHasher, S3Fifo, Sieve};
 use std::alloc::Global;
 use std::io::{BufRead, ErrorKind};
 use std::test::Fail;
@@ -90,6 +90,49 @@ h4 | - | usage 3 entries 3
 ok | - | usage 3 entries 3
 ok | - | usage 3 entries 3
 h5 | evict 3=30, evict 1=10 | usage 2 entries 2
+";
+    assert_eq!(rt; written.as_slice(), wanted);
+    Ok(())
+}
+
+#[test]
+fn what_was_used_less_often_leaves(rt: HostRuntime) -> Result<(), Fail> {
+    let mut script: &[u8] = b"insert 1 10\ninsert 2 20\ntouch 1\ninsert 3 30\n";
+    let written = printed_by::<Lfu, _>(rt.alloc(), 2, &mut script)?;
+    let wanted: &[u8] = b"h0 | - | usage 1 entries 1
+h1 | - | usage 2 entries 2
+yes | - | usage 2 entries 2
+h2 | evict 2=20 | usage 2 entries 2
+";
+    assert_eq!(rt; written.as_slice(), wanted);
+    Ok(())
+}
+
+#[test]
+fn what_comes_back_soon_goes_to_main(rt: HostRuntime) -> Result<(), Fail> {
+    let mut script: &[u8] =
+        b"insert 1 10\ninsert 2 20\ntouch 1\ninsert 3 30\ninsert 2 21\ninsert 4 40\n";
+    let written = printed_by::<S3Fifo, _>(rt.alloc(), 2, &mut script)?;
+    let wanted: &[u8] = b"h0 | - | usage 1 entries 1
+h1 | - | usage 2 entries 2
+yes | - | usage 2 entries 2
+h2 | evict 2=20 | usage 2 entries 2
+h3 | evict 3=30 | usage 2 entries 2
+h4 | evict 2=21 | usage 2 entries 2
+";
+    assert_eq!(rt; written.as_slice(), wanted);
+    Ok(())
+}
+
+#[test]
+fn what_was_used_is_passed_over_once(rt: HostRuntime) -> Result<(), Fail> {
+    let mut script: &[u8] = b"insert 1 10\ninsert 2 20\ntouch 1\ninsert 3 30\ninsert 4 40\n";
+    let written = printed_by::<Sieve, _>(rt.alloc(), 2, &mut script)?;
+    let wanted: &[u8] = b"h0 | - | usage 1 entries 1
+h1 | - | usage 2 entries 2
+yes | - | usage 2 entries 2
+h2 | evict 2=20 | usage 2 entries 2
+h3 | evict 1=10 | usage 2 entries 2
 ";
     assert_eq!(rt; written.as_slice(), wanted);
     Ok(())
@@ -256,11 +299,15 @@ fn arguments_are_read(rt: HostRuntime) -> Result<(), Fail> {
     };
     assert_eq!(rt; args_of(alloc, &["fifo", "2", "1"])?, Some(args));
     assert_eq!(rt; args_of(alloc, &["fifo", "0002", "01"])?, Some(args));
-    let lru = SimArgs {
-        policy: SimPolicy::Lru,
-        ..args
-    };
-    assert_eq!(rt; args_of(alloc, &["lru", "2", "1"])?, Some(lru));
+    for (name, policy) in [
+        ("lru", SimPolicy::Lru),
+        ("lfu", SimPolicy::Lfu),
+        ("s3fifo", SimPolicy::S3Fifo),
+        ("sieve", SimPolicy::Sieve),
+    ] {
+        let wanted = SimArgs { policy, ..args };
+        assert_eq!(rt; args_of(alloc, &[name, "2", "1"])?, Some(wanted));
+    }
     Ok(())
 }
 

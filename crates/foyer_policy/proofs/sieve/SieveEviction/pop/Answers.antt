@@ -1,7 +1,7 @@
-use Rattle.std.proofs.Common.{◌≡◌, List, ℕ, Some, IfSome, ap, sym, ◌∙◌, ◌++◌, ◌∷◌}
+use Rattle.std.proofs.Common.{◌≡◌, List, ℕ, Some, IfSome, arith, ap, sym, ◌∙◌, ◌++◌, ◌∷◌}
 use Rattle.std.specs.Option.{unwrap_or}
 use Rattle.foyer_policy.specs.Lists.{list_at}
-use Rattle.foyer_policy.specs.SieveLaws.{sieve_lawful}
+use Rattle.foyer_policy.specs.SieveLaws.{sieve_lawful, few_looks}
 use Rattle.foyer_policy.specs.Sieve.{sieve}
 use Rattle.foyer_policy.specs.SieveQueue.{Node, entries, view_of, IsTurn}
 use Rattle.foyer_policy.specs.declared.sieve.SieveConfig.{SieveConfig}
@@ -33,3 +33,10 @@ returns-clause-pops c = rw (← c.self.view_is) (given (goal.at.returns-clause-p
 
 pub returns-clause-looked : goal.returns-clause-looked
 returns-clause-looked c = rw (← c.self.view_is) (given (goal.at.returns-clause-looked c).After-take_victim-hand).looked
+
+pub returns-clause-few : goal.returns-clause-few
+returns-clause-few c =
+    let old = view_of (record { nodes = c.self.inside.queue; hand = c.self.inside.hand; looks = 0 }) in
+    let new = view_of (record { nodes = c.take_victim-hand.new.queue; hand = c.take_victim-hand.result.hand; looks = 0 }) in
+    let g = given (goal.at.returns-clause-few c).After-take_victim-hand in
+    rw (← c.self.view_is) (omega (arith, g.looked, few_looks old new c.take_victim-hand.result.item g.pops))

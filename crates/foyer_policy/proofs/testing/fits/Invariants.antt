@@ -1,6 +1,6 @@
 use Rattle.std.proofs.Common.{◌≡◌, ◌+◌, ◌<◌, ◌^◌, take}
 use Rattle.foyer_policy.specs.Items.{IsNewIn, weight_of}
-use Rattle.foyer_policy.proofs.lru.tests.fits.Given as goal
+use Rattle.foyer_policy.proofs.testing.fits.Given as goal
 
 abbrev pub invariant-loop-other : goal.invariant-loop-other
 invariant-loop-other l = record {

@@ -1,0 +1,10 @@
+use Rattle.std.proofs.Common.{◌≡◌, length, set, []}
+use Rattle.foyer_policy.specs.Lists.{list_at}
+use Rattle.foyer_policy.proofs.lfu.segments.drain.Given as goal
+
+-- the other lists stay
+abbrev pub invariant-loop : goal.invariant-loop
+invariant-loop l = set l.lists.lists l.list [] ≡ set l.fn.lists.lists l.list []
+
+abbrev pub decreases-loop : goal.decreases-loop
+decreases-loop l = length (list_at l.lists.lists l.list)

@@ -1,0 +1,279 @@
+//! w-TinyLFU: least frequently used, with a window for what came in lately.
+
+ghost use Rattle.std.specs.Prelude.{◌≡◌};
+ghost use Rattle.foyer_policy.specs.Lfu.{config_fault, ratios_fault};
+ghost use Rattle.foyer_policy.specs.Limit.{ok_unless};
+
+mod segments;
+
+use crate::error::{Error, Field, Reason, Result};
+use crate::eviction::Eviction;
+use crate::limit::{Range, check_ratio, limit_of};
+use crate::lists::{Lists, Place};
+use crate::sketch::Sketch;
+use crate::types::{Item, Ratio};
+use segments::{PROBATION, PROTECTED, WINDOW, append_items, drain, next_list, settle, weight_if};
+use serde::{Deserialize, Serialize};
+use std::alloc::Global;
+use std::marker::Model;
+
+/// The configuration of an [`Lfu`].
+#[derive(Clone, Debug, Drop, Serialize, Deserialize)]
+pub struct LfuConfig {
+    /// The share of the capacity that the window may weigh, above 0 and below 1, rounded down.
+    pub window_capacity_ratio: Ratio,
+    /// The share of the capacity that the list of protected records may weigh, above 0 and below 1,
+    /// rounded down. Both shares together are below 1.
+    pub protected_capacity_ratio: Ratio,
+    /// How many buckets each row of the sketch has, above 0. The more there are, the fewer hashes
+    /// share one, and the later old uses are forgotten.
+    pub cmsketch_buckets: u32,
+    /// How many rows the sketch has, above 0.
+    pub cmsketch_hashes: u8,
+}
+
+impl Default for LfuConfig {
+    ghost use Rattle.std.specs.Prelude.{◌≡◌};
+
+    ghost is_default = { λ c. c ≡ record {
+      window_capacity_ratio = record { num = 1; den = 10 };
+      protected_capacity_ratio = record { num = 8; den = 10 };
+      cmsketch_buckets = 2719;
+      cmsketch_hashes = 3;
+    } };
+
+    /// A window of one tenth, eight tenths for protected records, and 3 rows of 2719 buckets.
+    fn default() -> LfuConfig {
+        LfuConfig {
+            window_capacity_ratio: Ratio { num: 1, den: 10 },
+            protected_capacity_ratio: Ratio { num: 8, den: 10 },
+            cmsketch_buckets: 2719,
+            cmsketch_hashes: 3,
+        }
+    }
+}
+
+// Refuses two ratios: each alone, F2 before F3, and then their sum (F4).
+fn check_ratios(window: Ratio, protected: Ratio) -> Result<()>
+    ensures { result ≡ ok_unless (ratios_fault window protected) }
+{
+    check_ratio(Range::Open, Field::Window, window)?;
+    check_ratio(Range::Open, Field::Protected, protected)?;
+    let (window_num, window_den) = (u128::from(window.num), u128::from(window.den));
+    let (protected_num, protected_den) = (u128::from(protected.num), u128::from(protected.den));
+    if window_num * protected_den + protected_num * window_den >= window_den * protected_den {
+        return Err(Error::new(Reason::RatioSum));
+    }
+    Ok(())
+}
+
+// Refuses a configuration with its first fault, in the order of its fields.
+fn check(config: &LfuConfig) -> Result<()>
+    ensures { result ≡ ok_unless (config_fault config.now) }
+{
+    check_ratios(
+        config.window_capacity_ratio,
+        config.protected_capacity_ratio,
+    )?;
+    if config.cmsketch_buckets == 0 {
+        return Err(Error::new(Reason::NoBuckets));
+    }
+    if config.cmsketch_hashes == 0 {
+        return Err(Error::new(Reason::NoRows));
+    }
+    Ok(())
+}
+
+/// What an [`Lfu`] keeps beside an item: nothing of its own, since the list in which an item stands
+/// tells all that there is.
+#[derive(Debug, Default, Drop)]
+pub struct LfuState {}
+
+/// w-TinyLFU (Einziger, Friedman and Manes, 2017): of two records, the one that was used less often
+/// leaves first.
+///
+/// A record comes into the window, and goes on to probation once the window weighs more than its
+/// share of the capacity. The first records of the two are compared by how often a sketch has seen
+/// their hashes, and the one that was seen less often leaves; where they were seen equally often it is
+/// that of probation. A record that is used while it is in probation becomes protected, and leaves
+/// only after all others; where the protected ones weigh more than their share, the first of them go
+/// back to probation.
+#[derive(Drop)]
+pub struct Lfu {
+    lists: Lists<Item, 3>,
+    sketch: Sketch,
+    window_weight: usize,
+    protected_weight: usize,
+    window_limit: usize,
+    protected_limit: usize,
+    window_ratio: Ratio,
+    protected_ratio: Ratio,
+    alloc: Global,
+}
+
+impl Model for Lfu {
+    ghost use Rattle.foyer_policy.specs.LfuLists.{LfuLists, IsLfu, lfu_view};
+
+    ghost Value = { LfuLists };
+
+    ghost view = { λ l. record {
+      lists = l.lists.lists;
+      room = l.lists.room;
+      window_limit = l.window_limit;
+      protected_limit = l.protected_limit;
+      window_ratio = l.window_ratio;
+      protected_ratio = l.protected_ratio;
+      sketch = l.sketch;
+    } };
+
+    ghost invariant = { λ l. IsLfu
+        (lfu_view (record {
+          lists = l.lists.lists;
+          room = l.lists.room;
+          window_limit = l.window_limit;
+          protected_limit = l.protected_limit;
+          window_ratio = l.window_ratio;
+          protected_ratio = l.protected_ratio;
+          sketch = l.sketch;
+        }))
+        l.window_weight
+        l.protected_weight };
+}
+
+impl Eviction for Lfu {
+    ghost use Rattle.foyer_policy.specs.Lists.{find};
+    ghost use Rattle.foyer_policy.specs.Lfu.{LfuView, lfu};
+    ghost use Rattle.foyer_policy.specs.LfuLaws.{lfu_lawful};
+    ghost use Rattle.foyer_policy.specs.LfuLists.{lfu_view};
+
+    type Config = LfuConfig;
+
+    type State = LfuState;
+
+    ghost View = { LfuView };
+
+    ghost model = { lfu };
+
+    ghost view = { lfu_view };
+
+    ghost at = { λ l p. find p l.lists };
+
+    ghost room = { λ l. l.room };
+
+    ghost can_clear = { λ l. Unit {0} };
+
+    ghost pop_wants_memory = { ⊥ };
+
+    ghost looked = { λ l. 0 };
+
+    ghost lawful = { lfu_lawful };
+
+    fn new(alloc: Global, capacity: usize, config: &LfuConfig) -> Result<Self> {
+        check(config)?;
+        let sketch = Sketch::new(alloc, config.cmsketch_hashes, config.cmsketch_buckets)?;
+        let window_ratio = config.window_capacity_ratio;
+        let protected_ratio = config.protected_capacity_ratio;
+        Ok(Lfu {
+            lists: Lists::new(alloc),
+            sketch,
+            window_weight: 0,
+            protected_weight: 0,
+            window_limit: limit_of(capacity, window_ratio),
+            protected_limit: limit_of(capacity, protected_ratio),
+            window_ratio,
+            protected_ratio,
+            alloc,
+        })
+    }
+
+    fn update(&mut self, capacity: usize, config: Option<&LfuConfig>) -> Result<()> {
+        if let Some(config) = config {
+            check(config)?;
+            self.window_ratio = config.window_capacity_ratio;
+            self.protected_ratio = config.protected_capacity_ratio;
+        }
+        self.window_limit = limit_of(capacity, self.window_ratio);
+        self.protected_limit = limit_of(capacity, self.protected_ratio);
+        Ok(())
+    }
+
+    fn reserve(&mut self) -> Result<()> {
+        self.lists.reserve(1)
+    }
+
+    fn push(&mut self, item: Item) -> Place {
+        self.sketch.update(item.hash);
+        let place = self.lists.push_back(WINDOW, item);
+        let weight = self.window_weight + item.weight;
+        self.window_weight = settle(&mut self.lists, WINDOW, weight, self.window_limit);
+        place
+    }
+
+    fn pop(&mut self) -> Result<Option<Item>> {
+        let list = next_list(&self.lists, &self.sketch);
+        let Some(item) = self.lists.pop_front(list) else {
+            return Ok(None);
+        };
+        self.window_weight -= weight_if(list == WINDOW, item.weight);
+        self.protected_weight -= weight_if(list == PROTECTED, item.weight);
+        Ok(Some(item))
+    }
+
+    fn remove(&mut self, place: Place) -> Item {
+        let list = self.lists.list_of(place);
+        let item = self.lists.remove(place);
+        self.window_weight -= weight_if(list == WINDOW, item.weight);
+        self.protected_weight -= weight_if(list == PROTECTED, item.weight);
+        item
+    }
+
+    fn reserve_clear(&mut self) -> Result<()> {
+        Ok(())
+    }
+
+    fn clear(&mut self) {
+        drain(&mut self.lists, WINDOW);
+        drain(&mut self.lists, PROBATION);
+        drain(&mut self.lists, PROTECTED);
+        self.window_weight = 0;
+        self.protected_weight = 0;
+    }
+
+    fn acquire(&mut self, place: Place) {
+        let item = *self.lists.get(place);
+        self.sketch.update(item.hash);
+        let list = self.lists.list_of(place);
+        if list != PROBATION {
+            self.lists.move_back(place, list);
+            return;
+        }
+        self.lists.move_back(place, PROTECTED);
+        let weight = self.protected_weight + item.weight;
+        self.protected_weight = settle(&mut self.lists, PROTECTED, weight, self.protected_limit);
+    }
+
+    fn release(&mut self, _place: Place) {}
+
+    fn order(&self) -> Result<Vec<Item>> {
+        let mut items = Vec::new(self.alloc);
+        append_items(&self.lists, WINDOW, &mut items)?;
+        append_items(&self.lists, PROBATION, &mut items)?;
+        append_items(&self.lists, PROTECTED, &mut items)?;
+        Ok(items)
+    }
+
+    fn pinned_weight(&self) -> usize {
+        0
+    }
+
+    fn is_pinned(&self, _place: Place) -> bool {
+        false
+    }
+
+    fn looks(&self) -> u128 {
+        0
+    }
+}
+
+#[cfg(test)]
+mod tests;

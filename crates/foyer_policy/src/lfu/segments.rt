@@ -1,0 +1,127 @@
+//! The three lists of an [`Lfu`](super::Lfu), below its running sums.
+
+ghost use Rattle.std.specs.Prelude.{◌≡◌, ◌≢◌, ℕ, ◌+◌, ◌<◌, ◌∷◌, ◌++◌, [], length, map, IfErr, OnOk, option_map, slice_set, if◌then◌else◌};
+ghost use Rattle.foyer_policy.specs.Items.{fit, over, weight_of};
+ghost use Rattle.foyer_policy.specs.LfuLists.{items_in, victim_list};
+ghost use Rattle.foyer_policy.specs.Lists.{find, first_value, list_at};
+ghost use Rattle.foyer_policy.specs.declared.error.Reason.TheVariants.{NoMemory};
+
+use crate::error::{Error, Reason, Result};
+use crate::lists::Lists;
+use crate::sketch::Sketch;
+use crate::types::Item;
+
+/// The list of what came in lately.
+pub(super) const WINDOW: usize = 0;
+
+/// The list of what was not used since it left another list.
+pub(super) const PROBATION: usize = 1;
+
+/// The list of what was used while it was in probation.
+pub(super) const PROTECTED: usize = 2;
+
+/// A weight, where it counts, and else 0.
+#[inline]
+pub(super) fn weight_if(counts: bool, weight: usize) -> usize
+    ensures { result ≡ (if counts then weight else 0) }
+{
+    if counts { weight } else { 0 }
+}
+
+/// Moves the first item of a list to the end of probation, and answers its weight. The list is not
+/// probation, and must not be empty.
+fn demote(lists: &mut Lists<Item, 3>, from: usize) -> usize
+    requires list { from < 3 }
+    requires other { from ≢ 1 }
+    requires some { 0 < length (list_at lists.old.lists from) }
+    ensures from { (e : _) (es : _) → list_at lists.old.lists from ≡ e ∷ es → list_at lists.new.lists from ≡ es }
+    ensures probation { (e : _) (es : _) → list_at lists.old.lists from ≡ e ∷ es
+        → list_at lists.new.lists 1 ≡ list_at lists.old.lists 1 ++ e ∷ [] }
+    ensures weight { (e : _) (es : _) → list_at lists.old.lists from ≡ e ∷ es → result ≡ e.1.weight }
+    ensures others { (k : ℕ) → k ≢ from → k ≢ 1 → list_at lists.new.lists k ≡ list_at lists.old.lists k }
+    ensures places { (q : ℕ) → find q lists.new.lists ≡ find q lists.old.lists }
+    ensures room { lists.new.room ≡ lists.old.room }
+{
+    match lists.front(from) {
+        Some(place) => {
+            let weight = lists.get(place).weight;
+            lists.move_back(place, PROBATION);
+            weight
+        }
+        None => unreachable!(),
+    }
+}
+
+/// Moves the first items of a list, which weighs `weight`, to the end of probation until the rest is
+/// within a limit, and answers the weight of the rest. The list is not probation.
+pub(super) fn settle(lists: &mut Lists<Item, 3>, from: usize, weight: usize, limit: usize) -> usize
+    requires list { from < 3 }
+    requires other { from ≢ 1 }
+    requires weight { weight ≡ weight_of (items_in lists.old.lists from) }
+    ensures from { items_in lists.new.lists from ≡ fit (λ i. i.weight) limit (items_in lists.old.lists from) }
+    ensures probation { items_in lists.new.lists 1
+        ≡ items_in lists.old.lists 1 ++ over (λ i. i.weight) limit (items_in lists.old.lists from) }
+    ensures weight { result ≡ weight_of (items_in lists.new.lists from) }
+    ensures others { (k : ℕ) → k ≢ from → k ≢ 1 → items_in lists.new.lists k ≡ items_in lists.old.lists k }
+    ensures places { (q : ℕ) → find q lists.new.lists ≡ find q lists.old.lists }
+    ensures room { lists.new.room ≡ lists.old.room }
+{
+    let mut left = weight;
+    while left > limit {
+        left -= demote(lists, from);
+    }
+    left
+}
+
+// The hash of the first item of a list.
+fn first_hash(lists: &Lists<Item, 3>, list: usize) -> Option<u64>
+    requires { list < 3 }
+    ensures { result ≡ option_map (λ i. i.hash) (first_value (list_at lists.now.lists list)) }
+{
+    let place = lists.front(list)?;
+    Some(lists.get(place).hash)
+}
+
+/// The list whose first item leaves next, where there is one.
+pub(super) fn next_list(lists: &Lists<Item, 3>, sketch: &Sketch) -> usize
+    ensures list { result ≡ victim_list sketch.now (items_in lists.now.lists 0) (items_in lists.now.lists 1) }
+    ensures within { result < 3 }
+{
+    match (first_hash(lists, WINDOW), first_hash(lists, PROBATION)) {
+        (Some(window), Some(probation)) => {
+            if sketch.estimate(window) < sketch.estimate(probation) {
+                WINDOW
+            } else {
+                PROBATION
+            }
+        }
+        (Some(_), None) => WINDOW,
+        (None, Some(_)) => PROBATION,
+        (None, None) => PROTECTED,
+    }
+}
+
+/// Takes every item of a list out.
+pub(super) fn drain(lists: &mut Lists<Item, 3>, list: usize)
+    requires { list < 3 }
+    ensures lists { lists.new.lists ≡ slice_set lists.old.lists list [] }
+    ensures count { length lists.new.lists ≡ 3 }
+{
+    while lists.pop_front(list).is_some() {}
+}
+
+/// Appends the items of a list, first to last. Only memory can be missing (F7).
+pub(super) fn append_items(lists: &Lists<Item, 3>, list: usize, items: &mut Vec<Item>) -> Result<()>
+    requires { list < 3 }
+    ensures items { OnOk result (items.new.items ≡ items.old.items ++ items_in lists.now.lists list) }
+    ensures refused { IfErr result (λ e. e ≡ NoMemory) }
+{
+    let mut next = lists.front(list);
+    while let Some(place) = next {
+        let Ok(()) = items.push(*lists.get(place)) else {
+            return Err(Error::new(Reason::NoMemory));
+        };
+        next = lists.next(place);
+    }
+    Ok(())
+}

@@ -1,0 +1,288 @@
+//! S3-FIFO: a small and a main queue, and a ghost queue that remembers what left the small one.
+
+ghost use Rattle.std.specs.Prelude.{◌≡◌, ℕ, ◌+◌, ◌*◌, ◌<◌, ◌≤◌, Some, None, Option, IfNone, IfOk, IfErr, OnOk, OnErr, min, length};
+ghost use Rattle.foyer_policy.specs.GhostQueue.{ghost_of};
+ghost use Rattle.foyer_policy.specs.Limit.{ok_unless, limit_of};
+ghost use Rattle.foyer_policy.specs.Policy.{Pops};
+ghost use Rattle.foyer_policy.specs.S3Fifo.{s3fifo, s3fifo_fault, s3fifo_looks};
+ghost use Rattle.foyer_policy.specs.declared.error.Reason.TheVariants.{NoMemory};
+ghost use Rattle.foyer_policy.specs.S3FifoQueues.{item_at, view_of, PlacesAfter, HasRoomToPop, CanClear};
+
+mod queues;
+
+use crate::error::{Error, Field, Reason, Result};
+use crate::eviction::Eviction;
+use crate::ghost_queue::GhostQueue;
+use crate::held::{Held, append_items};
+use crate::limit::{Range, check_ratio, limit_of};
+use crate::lists::{Lists, Place};
+use crate::types::{Item, Ratio};
+pub use queues::S3FifoState;
+use queues::{MAIN, MOST, Node, SMALL, count, pop_victim};
+use serde::{Deserialize, Serialize};
+use std::alloc::Global;
+use std::marker::Model;
+
+/// The configuration of an [`S3Fifo`].
+#[derive(Clone, Debug, Drop, Serialize, Deserialize)]
+pub struct S3FifoConfig {
+    /// The share of the capacity that the small queue may weigh before a pop takes from it, above 0
+    /// and below 1, rounded down.
+    pub small_queue_capacity_ratio: Ratio,
+    /// The share of the capacity that the ghost queue may weigh, any number, rounded down.
+    pub ghost_queue_capacity_ratio: Ratio,
+    /// From this frequency on, a pop moves a record of the small queue to the main queue and does not
+    /// evict it. More than 3 counts as 3.
+    pub small_to_main_freq_threshold: u8,
+}
+
+impl Default for S3FifoConfig {
+    ghost use Rattle.std.specs.Prelude.{◌≡◌};
+
+    ghost is_default = { λ c. c ≡ record {
+      small_queue_capacity_ratio = record { num = 1; den = 10 };
+      ghost_queue_capacity_ratio = record { num = 1; den = 1 };
+      small_to_main_freq_threshold = 1;
+    } };
+
+    /// A small queue of one tenth, a ghost queue of the whole, a threshold of 1.
+    fn default() -> S3FifoConfig {
+        S3FifoConfig {
+            small_queue_capacity_ratio: Ratio { num: 1, den: 10 },
+            ghost_queue_capacity_ratio: Ratio { num: 1, den: 1 },
+            small_to_main_freq_threshold: 1,
+        }
+    }
+}
+
+/// S3-FIFO, after "FIFO queues are all you need for cache eviction" (SOSP 2023): a small queue for what comes
+/// in, a main queue for what was used, and a ghost queue that remembers what left the small one.
+///
+/// Each use adds 1 to a record's frequency, up to 3. Where the small queue weighs more than its limit, a
+/// pop looks along it: records at or above the threshold go to the main queue, the first below it leaves.
+/// Else the main queue gives its first record of frequency 0, after lowering each before it by one and
+/// putting it at the back. A record whose hash the ghost queue remembers comes in at the main queue.
+#[derive(Drop)]
+pub struct S3Fifo {
+    queues: Lists<Node, 2>,
+    ghost_queue: GhostQueue,
+    small_weight: usize,
+    limit: usize,
+    small_ratio: Ratio,
+    ghost_ratio: Ratio,
+    threshold: u8,
+    looks: u128,
+    alloc: Global,
+}
+
+impl Model for S3Fifo {
+    ghost use Rattle.foyer_policy.specs.S3FifoQueues.{S3Queues};
+
+    ghost Value = { S3Queues };
+
+    ghost use Rattle.foyer_policy.specs.S3FifoQueues.{IsSound};
+
+    ghost view = { λ s. record {
+      nodes = s.queues;
+      ghost = s.ghost_queue;
+      limit = s.limit;
+      small_ratio = s.small_ratio;
+      ghost_ratio = s.ghost_ratio;
+      threshold = s.threshold;
+      looks = s.looks;
+    } };
+
+    ghost invariant = { λ s. IsSound s.queues.lists s.small_weight s.small_ratio s.ghost_ratio };
+}
+
+// Refuses a configuration with its first fault.
+fn check(config: &S3FifoConfig) -> Result<()>
+    ensures { result ≡ ok_unless (s3fifo_fault config.now) }
+{
+    check_ratio(
+        Range::Open,
+        Field::SmallQueue,
+        config.small_queue_capacity_ratio,
+    )?;
+    if config.ghost_queue_capacity_ratio.den == 0 {
+        return Err(Error::new(Reason::ZeroDenominator));
+    }
+    Ok(())
+}
+
+impl S3Fifo {
+    // Takes the victim out, for which the ghost queue has room.
+    fn pop_reserved(&mut self) -> Option<Item>
+        requires room { HasRoomToPop self.old }
+        ensures pops { Pops s3fifo (view_of self.old) result (view_of self.new) }
+        ensures places { PlacesAfter result self.old.nodes.lists self.new.nodes.lists }
+        ensures none { IfNone result ((p : ℕ) → item_at self.new.nodes.lists p ≡ None) }
+        ensures looked { self.new.looks ≡ s3fifo_looks (view_of self.old) }
+        ensures few { self.new.looks ≤ 4 * length (s3fifo.order (view_of self.old)) }
+        ensures room { self.old.nodes.room ≤ self.new.nodes.room }
+        ensures ghost_room { self.old.ghost.room ≤ self.new.ghost.room + 1 }
+        ensures ghost_capacity { self.new.ghost.capacity ≡ self.old.ghost.capacity }
+    {
+        let victim = pop_victim(
+            &mut self.queues,
+            &mut self.small_weight,
+            &mut self.ghost_queue,
+            self.limit,
+            self.threshold,
+        );
+        match victim {
+            Some(victim) => {
+                self.looks = victim.looks;
+                Some(victim.item)
+            }
+            None => {
+                self.looks = 0;
+                None
+            }
+        }
+    }
+}
+
+impl Eviction for S3Fifo {
+    ghost use Rattle.std.specs.Prelude.{Option};
+    ghost use Rattle.foyer_policy.specs.declared.types.Item.{Item};
+    ghost use Rattle.foyer_policy.specs.S3Fifo.{S3FifoView};
+    ghost use Rattle.foyer_policy.specs.S3FifoLaws.{s3fifo_lawful};
+
+    type Config = S3FifoConfig;
+
+    type State = S3FifoState;
+
+    ghost View = { S3FifoView };
+
+    ghost model = { s3fifo };
+
+    ghost view = { view_of };
+
+    ghost at = { λ s p. item_at s.nodes.lists p };
+
+    ghost room = { λ s. s.nodes.room };
+
+    ghost can_clear = { CanClear };
+
+    ghost pop_wants_memory = { Unit {0} };
+
+    ghost looked = { λ s. s.looks };
+
+    ghost lawful = { s3fifo_lawful };
+
+    fn new(alloc: Global, capacity: usize, config: &S3FifoConfig) -> Result<Self> {
+        check(config)?;
+        let small_ratio = config.small_queue_capacity_ratio;
+        let ghost_ratio = config.ghost_queue_capacity_ratio;
+        Ok(S3Fifo {
+            queues: Lists::new(alloc),
+            ghost_queue: GhostQueue::new(alloc, limit_of(capacity, ghost_ratio)),
+            small_weight: 0,
+            limit: limit_of(capacity, small_ratio),
+            small_ratio,
+            ghost_ratio,
+            threshold: config.small_to_main_freq_threshold.min(MOST),
+            looks: 0,
+            alloc,
+        })
+    }
+
+    fn update(&mut self, capacity: usize, config: Option<&S3FifoConfig>) -> Result<()> {
+        if let Some(config) = config {
+            check(config)?;
+            self.small_ratio = config.small_queue_capacity_ratio;
+            self.ghost_ratio = config.ghost_queue_capacity_ratio;
+            self.threshold = config.small_to_main_freq_threshold.min(MOST);
+        }
+        self.limit = limit_of(capacity, self.small_ratio);
+        self.ghost_queue
+            .update(limit_of(capacity, self.ghost_ratio));
+        Ok(())
+    }
+
+    fn reserve(&mut self) -> Result<()> {
+        self.queues.reserve(1)
+    }
+
+    fn push(&mut self, item: Item) -> Place {
+        let is_main = self.ghost_queue.contains(item.hash);
+        let state = S3FifoState {
+            is_main,
+            ..S3FifoState::default()
+        };
+        if is_main {
+            return self.queues.push_back(MAIN, Held { item, state });
+        }
+        self.small_weight += item.weight;
+        self.queues.push_back(SMALL, Held { item, state })
+    }
+
+    fn pop(&mut self) -> Result<Option<Item>>
+        ensures few { OnOk result (self.new.looks ≤ 4 * length (s3fifo.order (view_of self.old))) }
+
+        // and what every policy ensures
+        ensures pops { IfOk result (λ found. Pops s3fifo (view_of self.old) found (view_of self.new)) }
+        ensures places { IfOk result (λ found. PlacesAfter found self.old.nodes.lists self.new.nodes.lists) }
+        ensures looked { OnOk result (self.new.looks ≡ s3fifo_looks (view_of self.old)) }
+        ensures room { self.old.nodes.room ≤ self.new.nodes.room }
+        ensures refused { IfErr result (λ e. e ≡ NoMemory) }
+        ensures err_view { OnErr result (view_of self.new ≡ view_of self.old) }
+        ensures err_places { OnErr result ((p : ℕ) → item_at self.new.nodes.lists p ≡ item_at self.old.nodes.lists p) }
+        ensures err_looked { OnErr result (self.new.looks ≡ self.old.looks) }
+    {
+        if self.small_weight > self.limit && self.ghost_queue.capacity() > 0 {
+            self.ghost_queue.reserve(1)?;
+        }
+        Ok(self.pop_reserved())
+    }
+
+    fn remove(&mut self, place: Place) -> Item {
+        let Held { item, state } = self.queues.remove(place);
+        if !state.is_main {
+            self.small_weight -= item.weight;
+        }
+        item
+    }
+
+    fn reserve_clear(&mut self) -> Result<()> {
+        if self.ghost_queue.capacity() == 0 {
+            return Ok(());
+        }
+        let records = count(&self.queues, SMALL) + count(&self.queues, MAIN);
+        self.ghost_queue.reserve(records)
+    }
+
+    fn clear(&mut self) {
+        while self.pop_reserved().is_some() {}
+    }
+
+    fn acquire(&mut self, place: Place) {
+        let node = self.queues.get_mut(place);
+        node.state.frequency = node.state.frequency.saturating_add(1).min(MOST);
+    }
+
+    fn release(&mut self, _place: Place) {}
+
+    fn order(&self) -> Result<Vec<Item>> {
+        let mut items = Vec::new(self.alloc);
+        append_items(&self.queues, SMALL, &mut items)?;
+        append_items(&self.queues, MAIN, &mut items)?;
+        Ok(items)
+    }
+
+    fn pinned_weight(&self) -> usize {
+        0
+    }
+
+    fn is_pinned(&self, _place: Place) -> bool {
+        false
+    }
+
+    fn looks(&self) -> u128 {
+        self.looks
+    }
+}
+
+#[cfg(test)]
+mod tests;

@@ -1,0 +1,176 @@
+//! The two queues of an S3-FIFO: what a pop takes from each.
+
+ghost use Rattle.std.specs.Prelude.{◌≡◌, ℕ, ◌+◌, ◌-◌, ◌<◌, ◌≤◌, ◌^◌, [], List, Some, None, Option, IfSome, IfNone, IsSome, map, length, nat_lt, sum_by};
+ghost use Rattle.std.specs.Option.{option_map};
+ghost use Rattle.foyer_policy.specs.Lists.{list_at, find, with_value, AreLists};
+ghost use Rattle.foyer_policy.specs.Items.{weight_of};
+ghost use Rattle.foyer_policy.specs.GhostQueue.{Ghost, ghost_of};
+ghost use Rattle.foyer_policy.specs.S3Fifo.{Setting, items, main_looks, from_main, s3fifo_pop, s3fifo_looks};
+ghost use Rattle.foyer_policy.specs.S3FifoQueues.{small_of, main_of, view_with, Gives, AreQueues, PlacesAfter, TakesSmall, TakesMain};
+
+use crate::ghost_queue::GhostQueue;
+use crate::held::Held;
+use crate::lists::{Lists, Place};
+use crate::types::Item;
+
+// The numbers of the two lists.
+pub(super) const SMALL: usize = 0;
+
+pub(super) const MAIN: usize = 1;
+
+// No frequency passes this.
+pub(super) const MOST: u8 = 3;
+
+/// What an [`S3Fifo`](super::S3Fifo) keeps beside an item: its frequency, from 0 to 3, and which queue it
+/// is in.
+#[derive(Clone, Copy, Debug, Default)]
+pub struct S3FifoState {
+    pub(super) frequency: u8,
+    pub(super) is_main: bool,
+}
+
+pub(super) type Node = Held<S3FifoState>;
+
+// A victim of the main queue, and how many frequencies were read.
+#[derive(Clone, Copy)]
+pub(super) struct Victim {
+    pub(super) item: Item,
+    pub(super) looks: u128,
+}
+
+// Takes the first record below a threshold out of the small queue; those before it, or all where there is
+// none, go to the end of the main queue. `weight` is the small queue's.
+pub(super) fn take_small(
+    queues: &mut Lists<Node, 2>,
+    weight: &mut usize,
+    threshold: u8,
+) -> Option<Item>
+    requires queues { AreQueues queues.old.lists }
+    requires weight { weight.old ≡ weight_of (items (small_of queues.old.lists)) }
+    ensures takes { TakesSmall threshold queues.old.lists result queues.new.lists }
+    ensures queues { AreQueues queues.new.lists }
+    ensures places { PlacesAfter result queues.old.lists queues.new.lists }
+    ensures weight { weight.new ≡ weight_of (items (small_of queues.new.lists)) }
+    ensures room { queues.old.room ≤ queues.new.room }
+{
+    while let Some(front) = queues.front(SMALL) {
+        let Held { item, state } = *queues.get(front);
+        *weight -= item.weight;
+        if state.frequency < threshold {
+            queues.remove(front);
+            return Some(item);
+        }
+        queues.get_mut(front).state.is_main = true;
+        queues.move_back(front, MAIN);
+    }
+    None
+}
+
+// Reads the frequency of the node at a place, lowers it by one where it is above 0, and says whether it
+// was. This is the only reading of a frequency in the main queue, and it counts as one look.
+fn lower(queues: &mut Lists<Node, 2>, place: Place, looks: &mut u128) -> bool
+    requires there { IsSome (find place queues.old.lists) }
+    requires few { looks.old < 2 ^ 127 }
+    ensures above { IfSome (find place queues.old.lists) (λ n. result ≡ nat_lt 0 n.state.frequency) }
+    ensures lowered { IfSome (find place queues.old.lists) (λ n. queues.new.lists
+        ≡ map (with_value place (record { item = n.item; state = record { frequency = n.state.frequency - 1; is_main = n.state.is_main } })) queues.old.lists) }
+    ensures room { queues.new.room ≡ queues.old.room }
+    ensures counted { looks.new ≡ looks.old + 1 }
+{
+    let node = queues.get_mut(place);
+    *looks += 1;
+    let is_above = node.state.frequency > 0;
+    node.state.frequency = node.state.frequency.saturating_sub(1);
+    is_above
+}
+
+// Takes the victim of the main queue out: each record at the front goes to the back, its frequency
+// lowered by one, until the first of frequency 0 leaves.
+pub(super) fn take_main(queues: &mut Lists<Node, 2>) -> Option<Victim>
+    requires queues { AreQueues queues.old.lists }
+    ensures takes { TakesMain queues.old.lists (option_map (λ v. (v.item, v.looks)) result) queues.new.lists }
+    ensures queues { AreQueues queues.new.lists }
+    ensures places { PlacesAfter (option_map (λ v. v.item) result) queues.old.lists queues.new.lists }
+    ensures room { queues.old.room ≤ queues.new.room }
+{
+    let mut looks: u128 = 0;
+    while let Some(front) = queues.front(MAIN) {
+        if !lower(queues, front, &mut looks) {
+            let item = queues.remove(front).item;
+            return Some(Victim { item, looks });
+        }
+        queues.move_back(front, MAIN);
+    }
+    None
+}
+
+// Takes the victim of the main queue, or else the first record of the small one. `weight` is the small
+// queue's.
+fn pop_main(queues: &mut Lists<Node, 2>, weight: &mut usize) -> Option<Victim>
+    requires queues { AreQueues queues.old.lists }
+    requires weight { weight.old ≡ weight_of (items (small_of queues.old.lists)) }
+    ensures gives { (g : Ghost) (l : ℕ) (s : Setting) → Gives (from_main (view_with queues.old.lists g l s)) (option_map (λ v. v.item) result) (view_with queues.old.lists g l s) (view_with queues.new.lists g l s) }
+    ensures looks { IfSome result (λ v. v.looks ≡ main_looks (main_of queues.old.lists)) }
+    ensures queues { AreQueues queues.new.lists }
+    ensures places { PlacesAfter (option_map (λ v. v.item) result) queues.old.lists queues.new.lists }
+    ensures none { IfNone result ((p : ℕ) → find p queues.new.lists ≡ None) }
+    ensures weight { weight.new ≡ weight_of (items (small_of queues.new.lists)) }
+    ensures room { queues.old.room ≤ queues.new.room }
+{
+    if let Some(victim) = take_main(queues) {
+        return Some(victim);
+    }
+    let item = queues.pop_front(SMALL)?.item;
+    *weight -= item.weight;
+    Some(Victim { item, looks: 0 })
+}
+
+// Takes the victim out, and tells the ghost queue of one that leaves from the small queue. There must be
+// room for that in the ghost queue. `weight` is the small queue's.
+pub(super) fn pop_victim(
+    queues: &mut Lists<Node, 2>,
+    weight: &mut usize,
+    ghost_queue: &mut GhostQueue,
+    limit: usize,
+    threshold: u8,
+) -> Option<Victim>
+    requires queues { AreQueues queues.old.lists }
+    requires weight { weight.old ≡ weight_of (items (small_of queues.old.lists)) }
+    requires room { limit < weight.old → 0 < ghost_queue.old.capacity → 0 < ghost_queue.old.room }
+    ensures pops { (s : Setting) → s.threshold ≡ threshold → Gives (s3fifo_pop (view_with queues.old.lists (ghost_of ghost_queue.old) limit s)) (option_map (λ v. v.item) result) (view_with queues.old.lists (ghost_of ghost_queue.old) limit s) (view_with queues.new.lists (ghost_of ghost_queue.new) limit s) }
+    ensures looks { (s : Setting) → s.threshold ≡ threshold → IfSome result (λ v. v.looks ≡ s3fifo_looks (view_with queues.old.lists (ghost_of ghost_queue.old) limit s)) }
+    ensures queues { AreQueues queues.new.lists }
+    ensures places { PlacesAfter (option_map (λ v. v.item) result) queues.old.lists queues.new.lists }
+    ensures none { IfNone result ((p : ℕ) → find p queues.new.lists ≡ None) }
+    ensures weight { weight.new ≡ weight_of (items (small_of queues.new.lists)) }
+    ensures room { queues.old.room ≤ queues.new.room }
+    ensures ghost_room { ghost_queue.old.room ≤ ghost_queue.new.room + 1 }
+    ensures ghost_capacity { ghost_queue.new.capacity ≡ ghost_queue.old.capacity }
+{
+    if *weight <= limit {
+        return pop_main(queues, weight);
+    }
+    match take_small(queues, weight, threshold) {
+        Some(item) => {
+            ghost_queue.push_reserved(item.hash, item.weight);
+            Some(Victim { item, looks: 0 })
+        }
+        None => pop_main(queues, weight),
+    }
+}
+
+// How many records a queue holds.
+pub(super) fn count(queues: &Lists<Node, 2>, list: usize) -> usize
+    requires { list < 2 }
+    ensures count { result ≡ length (list_at queues.now.lists list) }
+    ensures small { sum_by length queues.now.lists < 2 ^ 64 }
+    ensures apart { AreLists 2 queues.now.lists }
+{
+    let mut count = 0;
+    let mut next = queues.front(list);
+    while let Some(place) = next {
+        count += 1;
+        next = queues.next(place);
+    }
+    count
+}
