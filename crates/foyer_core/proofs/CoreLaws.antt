@@ -1,10 +1,11 @@
--- What follows for a core of one shard.
-use Rattle.std.proofs.Common.{◌≡◌, ℕ, ◌+◌, ◌<◌, ◌≤◌, ◌==◌, ◌&&◌, List, Option, Some, None, Ok, Err, Bool, true, false, cond, refl, sym, ◌∙◌, ap, subst}
+-- What follows for a core from a step of one of its shards.
+use Rattle.std.proofs.Common.{◌≡◌, ◌≢◌, ℕ, ◌+◌, ◌%◌, ◌<◌, ◌≤◌, ◌==◌, ◌&&◌, inl, inr, length, List, Option, Some, None, Ok, Err, Bool, true, false, cond, refl, sym, ◌∙◌, ap, subst, arith}
 use Rattle.std.proofs.Math.Logic.{∥∥₁_elim}
-use Rattle.std.proofs.Math.Nat.{mod-one}
+use Rattle.std.proofs.Math.ListN.{length-set}
 use Rattle.std.proofs.Props.{props}
-use Rattle.std.specs.Prelude.{Result, IfOk, IsSomeAnd, option_and_then, if◌then◌else◌}
+use Rattle.std.specs.Prelude.{Result, IfOk, IsSomeAnd, option_and_then, if◌then◌else◌, slice_get, slice_set}
 use Rattle.std.specs.Cmp.{IsEquivalence}
+use Rattle.std.proofs.lemmas.Bool.Decides.{eqb_tells, nat_tests}
 use Rattle.std.proofs.lemmas.Map.{update_here}
 use Rattle.foyer_policy.specs.Policy.{IsPolicy}
 use Rattle.foyer_policy.specs.declared.types.Event.{Event}
@@ -14,32 +15,56 @@ use Rattle.foyer_core.specs.Indexer.{same_key}
 use Rattle.foyer_core.specs.Laws.{Finds, HandlesStay, IsBounded, IsBoundedAt, one_of}
 use Rattle.foyer_core.specs.Values.{Rec, Gone, Held}
 use Rattle.foyer_core.specs.State.{Meaning, State, IsKept, key_of}
-use Rattle.foyer_core.specs.Steps.{Gets, Inserts}
-use Rattle.foyer_core.proofs.CoreLemmas.{of_one, shard_at-one}
+use Rattle.foyer_core.specs.Steps.{Gets, InsertsPlain}
+use Rattle.foyer_core.specs.Core.{Core, AtShard, shard_at, shard_of}
+use Rattle.foyer_core.proofs.CoreLemmas.{set_here, set_apart}
 use Rattle.foyer_core.proofs.GaveLemmas.{alike_key}
 use Rattle.foyer_core.proofs.InsertLemmas.{usage_after}
-use Rattle.foyer_core.proofs.Staying.{RecordsStay, nothing, one, inserts_stay}
+use Rattle.foyer_core.proofs.Staying.{RecordsStay, nothing, one}
 
 and_true : (b : Bool) → (b && true) ≡ b
 and_true true = refl
 and_true false = refl
 
-module _ {K V P View S W : Type 0} (capacity : ℕ) (b : S) (w : W) where
-  stays_by : (given : ℕ → ℕ) (to : Held K V P → ℕ) → ((e : Held K V P) → to e ≡ given e.id) → (s t : State K V P View) → RecordsStay given s t → HandlesStay to (of_one capacity b w s) (of_one capacity b w t)
-  stays_by given to same s t h e r there less =
-      let was : s.records e.id ≡ Some r = sym (ap (option_and_then (λ (x : State K V P View). x.records e.id)) (shard_at-one capacity b w s e.kept.hash)) ∙ there in
-      let q = h e.id r was (subst (λ (n : ℕ). n < r.handles) (same e) less) in
-      (q.0, ap (option_and_then (λ (x : State K V P View). x.records e.id)) (shard_at-one capacity b w t e.kept.hash) ∙ q.1, q.2, subst (λ (n : ℕ). r.handles ≤ q.0.handles + n) (sym (same e)) q.3)
+same_place : (i j : ℕ) → i ≡ j → (i == j) ≡ true
+same_place i j e = grind (arith, nat_tests)
 
-  pub stays_one : (s t : State K V P View) → RecordsStay nothing s t → HandlesStay (λ e. 0) (of_one capacity b w s) (of_one capacity b w t)
-  stays_one s t h = stays_by nothing (λ e. 0) (λ e. refl) s t h
+module _ {K V P View S W : Type 0} (old new : Core K V P View S W) (step : State K V P View → State K V P View → Type 0) (hash : ℕ) (at : AtShard step hash old new) where
+  -- what a shard is after the step
+  now_at : (h : ℕ) → shard_at new h ≡ slice_get (slice_set old.shards (shard_of old hash) at.after) (shard_of old h)
+  now_at h =
+      let shards : new.shards ≡ slice_set old.shards (shard_of old hash) at.after = ap (λ (c : Core K V P View S W). c.shards) at.rest in
+      let many : length new.shards ≡ length old.shards = ap length shards ∙ length-set old.shards (shard_of old hash) at.after in
+      ap (λ (n : ℕ). slice_get new.shards (h % n)) many ∙ ap (λ (l : List (State K V P View)). slice_get l (shard_of old h)) shards
 
-  pub gives_one : (entry : Held K V P) (s t : State K V P View) → RecordsStay (one entry.id) s t → HandlesStay (one_of (of_one capacity b w s) entry) (of_one capacity b w s) (of_one capacity b w t)
-  gives_one entry s t h = stays_by (one entry.id) (one_of (of_one capacity b w s) entry) (λ e.
-      rw (mod-one e.kept.hash, mod-one entry.kept.hash) (ap (λ (x : Bool). if x then 1 else 0) (and_true (e.id == entry.id)))) s t h
+  pub now_here : (h : ℕ) → shard_of old h ≡ shard_of old hash → shard_at new h ≡ Some at.after
+  now_here h is = now_at h ∙ ap (slice_get (slice_set old.shards (shard_of old hash) at.after)) is ∙ set_here old.shards (shard_of old hash) at.before at.after at.there
+
+  now_apart : (h : ℕ) → shard_of old h ≢ shard_of old hash → shard_at new h ≡ shard_at old h
+  now_apart h apart = now_at h ∙ set_apart old.shards (shard_of old hash) (shard_of old h) at.after apart
+
+  -- where its shard's records stay but for handles that are given back, those of all shards do
+  stays_by : (given : ℕ → ℕ) (to : Held K V P → ℕ) → ((e : Held K V P) → shard_of old e.kept.hash ≡ shard_of old hash → to e ≡ given e.id)
+      → RecordsStay given at.before at.after → HandlesStay to old new
+  stays_by given to same h e r there less = elim (eqb_tells (shard_of old e.kept.hash) (shard_of old hash)) [
+    | inl is ↦ (let old_is : shard_at old e.kept.hash ≡ Some at.before = ap (slice_get old.shards) is.1 ∙ at.there in
+        let was : at.before.records e.id ≡ Some r = sym (ap (option_and_then (λ (x : State K V P View). x.records e.id)) old_is) ∙ there in
+        let q = h e.id r was (subst (λ (n : ℕ). n < r.handles) (same e is.1) less) in
+        (q.0, ap (option_and_then (λ (x : State K V P View). x.records e.id)) (now_here e.kept.hash is.1) ∙ q.1, q.2, subst (λ (n : ℕ). r.handles ≤ q.0.handles + n) (sym (same e is.1)) q.3))
+    | inr ne ↦ (r, ap (option_and_then (λ (x : State K V P View). x.records e.id)) (now_apart e.kept.hash ne.1) ∙ there, refl, omega arith)
+  ]
+
+module _ {K V P View S W : Type 0} (old new : Core K V P View S W) where
+  pub stays_at : (hash : ℕ) → AtShard (RecordsStay nothing) hash old new → HandlesStay (λ e. 0) old new
+  stays_at hash at = stays_by old new (RecordsStay nothing) hash at nothing (λ e. 0) (λ e is. refl) at.stepped
+
+  pub gives_at : (entry : Held K V P) → AtShard (RecordsStay (one entry.id)) entry.kept.hash old new → HandlesStay (one_of old entry) old new
+  gives_at entry at = stays_by old new (RecordsStay (one entry.id)) entry.kept.hash at (one entry.id) (one_of old entry) (λ e is.
+      (let same : (shard_of old e.kept.hash == shard_of old entry.kept.hash) ≡ true = same_place (shard_of old e.kept.hash) (shard_of old entry.kept.hash) is in
+      rw same (ap (λ (x : Bool). if x then 1 else 0) (and_true (e.id == entry.id))))) at.stepped
 
 module _ {K V P View C : Type 0} (m : Meaning K P View C) (laws : IsEquivalence m.same) (good : IsPolicy m.policy) where
-  module _ (old : State K V P View) (d : Data K V P) (ls : List (Event × Gone K V P)) (entry : Held K V P) (new : State K V P View) (h : Inserts m old d ls entry new) where
+  module _ (old : State K V P View) (d : Data K V P) (ls : List (Event × Gone K V P)) (entry : Held K V P) (new : State K V P View) (h : InsertsPlain m old d ls entry new) where
     abbrev came : Rec K V P
     came = record { kept = d; handles = 1; resident = true }
 
@@ -66,22 +91,24 @@ module _ {K V P View C : Type 0} (m : Meaning K P View C) (laws : IsEquivalence 
         some_rec h = cc
     finds_came k same (Err reason) after g = tt
 
-  module _ {S W : Type 0} (capacity : ℕ) (b : S) (w : W) (s : State K V P View) (d : Data K V P) (ls : List (Event × Gone K V P)) (entry : Held K V P) (t : State K V P View) (h : Inserts m s d ls entry t) where
+  -- a shard that keeps what it must takes a plain record in
+  abbrev pub Came : Data K V P → List (Event × Gone K V P) → Held K V P → State K V P View → State K V P View → Type 0
+  Came d ls entry old new = ∥ IsKept m old ∥₁ × InsertsPlain m old d ls entry new
+
+  module _ {S W : Type 0} (old new : Core K V P View S W) (d : Data K V P) (ls : List (Event × Gone K V P)) (entry : Held K V P) (at : AtShard (Came d ls entry) d.hash old new) where
     same_state_of : (x y : State K V P View) → Some x ≡ Some y → x ≡ y
     same_state_of x y h = cc
 
-    pub finds_one : (hash : K → ℕ) → ((k : K) → m.same d.key k ≡ true → hash k ≡ d.hash) → Finds m hash (of_one capacity b w t) d.key d.value
-    finds_one hash equal k same answer new at =
-        let here : at.before ≡ t = same_state_of at.before t (sym at.there ∙ shard_at-one capacity b w t (hash k)) in
-        finds_came s d ls entry t h (d.hash, k) (alike_key m.same d.hash d.key k same) answer at.after
-        (subst (λ (n : ℕ). Gets m t (n, k) answer at.after) (equal k same) (subst (λ (x : State K V P View). Gets m x (hash k, k) answer at.after) here at.stepped))
+    pub finds_at : (hashes : K → ℕ) → ((k : K) → m.same d.key k ≡ true → hashes k ≡ d.hash) → Finds m hashes new d.key d.value
+    finds_at hashes equal k same answer after next =
+        let place : shard_of old (hashes k) ≡ shard_of old d.hash = ap (shard_of old) (equal k same) in
+        let here : next.before ≡ at.after = same_state_of next.before at.after (sym next.there ∙ now_here old new (Came d ls entry) d.hash at (hashes k) place) in
+        finds_came at.before d ls entry at.after at.stepped.1 (d.hash, k) (alike_key m.same d.hash d.key k same) answer next.after
+        (subst (λ (n : ℕ). Gets m at.after (n, k) answer next.after) (equal k same) (subst (λ (x : State K V P View). Gets m x (hashes k, k) answer next.after) here next.stepped))
 
-    pub bounded_one : ∥ IsKept m s ∥₁ → (hash weight : ℕ) → weight ≡ d.weight → IsBoundedAt m hash weight (of_one capacity b w s) (of_one capacity b w t)
-    bounded_one kept hash weight is x y there gone =
-        let old : s ≡ x = same_state_of s x (sym (shard_at-one capacity b w s hash) ∙ there) in
-        let new : t ≡ y = same_state_of t y (sym (shard_at-one capacity b w t hash) ∙ gone) in
-        subst (λ (n : ℕ). IsBounded m n x y) (sym is) (subst (λ (z : State K V P View). IsBounded m d.weight z y) old (subst (λ (z : State K V P View). IsBounded m d.weight s z) new
-        (∥∥₁_elim kept (hlevel props) (λ k. usage_after m laws good s k d ls entry t h))))
-
-    pub inserted_stays : ∥ IsKept m s ∥₁ → HandlesStay (λ e. 0) (of_one capacity b w s) (of_one capacity b w t)
-    inserted_stays kept = stays_one capacity b w s t (inserts_stay m s d ls entry t h (λ id r there. ∥∥₁_elim kept (hlevel props) (λ k. k.fresh id r there)))
+    pub bounded_at : (weight : ℕ) → weight ≡ d.weight → IsBoundedAt m d.hash weight old new
+    bounded_at weight weighs x y there gone =
+        let was : at.before ≡ x = same_state_of at.before x (sym at.there ∙ there) in
+        let now : at.after ≡ y = same_state_of at.after y (sym (now_here old new (Came d ls entry) d.hash at d.hash refl) ∙ gone) in
+        subst (λ (n : ℕ). IsBounded m n x y) (sym weighs) (subst (λ (z : State K V P View). IsBounded m d.weight z y) was (subst (λ (z : State K V P View). IsBounded m d.weight at.before z) now
+        (∥∥₁_elim at.stepped.0 (hlevel props) (λ k. usage_after m laws good at.before k d ls entry at.after at.stepped.1))))

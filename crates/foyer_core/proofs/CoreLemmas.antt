@@ -1,56 +1,59 @@
--- A core of one shard.
-use Rattle.std.proofs.Common.{◌≡◌, ℕ, zero, suc, [], ◌∷◌, Some, Result, refl, sym, subst, arith}
-use Rattle.std.proofs.Math.Nat.{div-one, mod-one}
-use Rattle.std.specs.Prelude.{slice_get}
-use Rattle.foyer_core.specs.declared.config.RawCacheConfig.{RawCacheConfig}
-use Rattle.foyer_core.specs.declared.outcome.Inserted.{Inserted}
-use Rattle.foyer_core.specs.declared.outcome.Refused.{Refused}
-use Rattle.foyer_core.specs.Core.{Core, AtShard, InsertsAnswering, InsertsWeighed, IsNewCore, IsNewShard, share_of, shard_at}
-use Rattle.foyer_core.specs.State.{Meaning, State}
+-- A core as what a list of shards shows.
+use Rattle.std.proofs.Common.{◌≡◌, ◌≢◌, ℕ, zero, suc, ◌%◌, ◌<◌, List, [], ◌∷◌, map, length, Some, refl, sym, ◌∙◌, ap}
+use Rattle.std.specs.Prelude.{slice_get, slice_set, slice_index_or, option_map}
+use Rattle.std.proofs.lemmas.List.{length-map, map-set}
+use Rattle.std.proofs.lemmas.Option.{slice_get-map, slice_get_read}
+use Rattle.foyer_core.specs.Core.{Core, AtShard, shard_at}
+use Rattle.foyer_core.specs.State.{State}
 
-module _ {K V P View S W : Type 0} where
-  -- a core of one shard
-  abbrev pub of_one : ℕ → S → W → State K V P View → Core K V P View S W
-  of_one capacity hash_builder weighter s = record { capacity = capacity; hash_builder = hash_builder; weighter = weighter; shards = s ∷ [] }
+-- a place of a list after a write there
+pub set_here : {A : Type 0} (xs : List A) (i : ℕ) (x y : A) → slice_get xs i ≡ Some x → slice_get (slice_set xs i y) i ≡ Some y
+set_here [] i x y h = absurd cc
+set_here (a ∷ xs) zero x y h = refl
+set_here (a ∷ xs) (suc i) x y h = set_here xs i x y h
 
-  -- its shard is the one of each hash
-  pub shard_at-one : (capacity : ℕ) (b : S) (w : W) (s : State K V P View) (hash : ℕ) → shard_at (of_one capacity b w s) hash ≡ Some s
-  shard_at-one capacity b w s hash = rw (mod-one hash) refl
+-- and another one
+pub set_apart : {A : Type 0} (xs : List A) (i j : ℕ) (y : A) → j ≢ i → slice_get (slice_set xs i y) j ≡ slice_get xs j
+set_apart [] i j y apart = refl
+set_apart (a ∷ xs) zero zero y apart = absurd (apart refl)
+set_apart (a ∷ xs) zero (suc j) y apart = refl
+set_apart (a ∷ xs) (suc i) zero y apart = refl
+set_apart (a ∷ xs) (suc i) (suc j) y apart = set_apart xs i j y (λ e. apart (ap suc e))
 
-  -- a step of its shard is a step at each hash
-  pub at_one : (capacity : ℕ) (b : S) (w : W) (hash : ℕ) (step : State K V P View → State K V P View → Type 0) (s t : State K V P View)
-      → step s t → AtShard step hash (of_one capacity b w s) (of_one capacity b w t)
-  at_one capacity b w hash step s t h = record { before = s; after = t; there = shard_at-one capacity b w s hash; stepped = h; rest = rw (mod-one hash) refl }
+-- to write what is there changes nothing
+pub set_same : {A : Type 0} (xs : List A) (i : ℕ) (x : A) → slice_get xs i ≡ Some x → slice_set xs i x ≡ xs
+set_same [] i x h = refl
+set_same {A} (a ∷ xs) zero x h = (let e : x ≡ a = cc in ap (λ (y : A). y ∷ xs) e)
+set_same {A} (a ∷ xs) (suc i) x h = ap (λ (ys : List A). a ∷ ys) (set_same xs i x h)
 
--- an insert into its shard, by the hash that the key has
-pub inserts_one : {K V P View C S W N : Type 0} (m : Meaning K P View C) (capacity : ℕ) (b : S) (w : W) (weighs : ℕ → Type 0)
-    (hash given : ℕ) → given ≡ hash → (key : K) (value : V) (properties : P) (result : Result (Inserted K V P N) (Refused K V P))
-    (weight : ℕ) → weighs weight → (s t : State K V P View)
-    → InsertsAnswering m s (record { key = key; value = value; properties = properties; hash = given; weight = weight }) result t
-    → InsertsWeighed m weighs hash key value properties result (of_one capacity b w s) (of_one capacity b w t)
-inserts_one m capacity b w weighs hash given is key value properties result weight weighed s t h = record {
-  weight = weight;
-  weighed = weighed;
-  inserts = at_one capacity b w hash (λ x y. InsertsAnswering m x (record { key = key; value = value; properties = properties; hash = hash; weight = weight }) result y) s t
-      (subst (λ (n : ℕ). InsertsAnswering m s (record { key = key; value = value; properties = properties; hash = n; weight = weight }) result t) is h);
-}
+module _ {A K V P View S W : Type 0} (f : A → State K V P View) (capacity : ℕ) (b : S) (w : W) where
+  -- a core over what each of these shows
+  abbrev pub core_over : List A → Core K V P View S W
+  core_over xs = record { capacity = capacity; hash_builder = b; weighter = w; shards = map f xs }
 
--- one shard gets the whole capacity
-share_of-one : (capacity i : ℕ) → share_of capacity 1 i ≡ capacity
-share_of-one capacity i = rw (div-one capacity, mod-one capacity) (grind arith)
+  -- the shard of a hash is what stands at its place
+  module _ (xs : List A) (hash n i : ℕ) (x : A)
+      (many : n ≡ length xs) (within : i < n) (place : i ≡ hash % n) (read : x ≡ slice_index_or xs i x) where
+    there : slice_get xs i ≡ Some x
+    there = slice_get_read xs n i x many within read
 
--- a core of one new shard is new
-pub new_one : {K V P View C S W : Type 0} (m : Meaning K P View C) (config : RawCacheConfig C S W) (s : State K V P View) → config.shards ≡ 1
-    → IsNewShard m config.eviction_config config.number config.capacity config.limits s
-    → IsNewCore m config (of_one config.capacity config.hash_builder config.weighter s)
-new_one {K} {V} {P} {View} m config s one new = record {
-  capacity_is = refl;
-  hash_builder_is = refl;
-  weighter_is = refl;
-  counted = sym one;
-  each = each;
-} where
-  each : (i : ℕ) (t : State K V P View) → slice_get (s ∷ []) i ≡ Some t
-      → IsNewShard m config.eviction_config config.number (share_of config.capacity config.shards i) config.limits t
-  each zero t is = rw (one, share_of-one config.capacity 0) (subst (λ (x : State K V P View). IsNewShard m config.eviction_config config.number config.capacity config.limits x) (let e : s ≡ t = cc in e) new)
-  each (suc i) t is = absurd cc
+    place_is : hash % length (map f xs) ≡ i
+    place_is = rw (length-map xs f, ← many) (sym place)
+
+    pub shard_over : shard_at (core_over xs) hash ≡ Some (f x)
+    shard_over = rw place_is (slice_get-map f xs i ∙ ap (option_map f) there)
+
+    -- a step of it is a step at each hash that has it
+    pub at_over : (step : State K V P View → State K V P View → Type 0) (y : A) → step (f x) (f y) → AtShard step hash (core_over xs) (core_over (slice_set xs i y))
+    at_over step y h = record {
+      before = f x;
+      after = f y;
+      there = shard_over;
+      stepped = h;
+      rest = rw place_is (ap (λ (l : List (State K V P View)). record (core_over xs) { shards = l }) (map-set f xs i y));
+    }
+
+    -- where it stays, all does
+    pub same_over : (y : A) → f y ≡ f x → core_over (slice_set xs i y) ≡ core_over xs
+    same_over y same = ap (λ (l : List (State K V P View)). record (core_over xs) { shards = l })
+        (map-set f xs i y ∙ ap (λ (s : State K V P View). slice_set (map f xs) i s) same ∙ set_same (map f xs) i (f x) (slice_get-map f xs i ∙ ap (option_map f) there))

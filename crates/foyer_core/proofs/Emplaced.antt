@@ -8,7 +8,7 @@ use Rattle.foyer_policy.specs.declared.error.Reason.TheVariants.{NoMemory}
 use Rattle.foyer_core.specs.declared.record.Data.{Data}
 use Rattle.foyer_core.specs.Values.{Gone}
 use Rattle.foyer_core.specs.State.{Meaning, State}
-use Rattle.foyer_core.specs.Steps.{ids_of, entry_of, replaced_leaves, Evicting, Evicts, Admits, MayInsert, Inserts, RefusesInsert}
+use Rattle.foyer_core.specs.Steps.{ids_of, entry_of, replaced_leaves, Evicting, Evicts, Admits, MayInsert, InsertsPlain, RefusesPlain}
 use Rattle.foyer_core.proofs.LeaveLemmas.{Rests, leave-rests}
 
 module _ {K V P View C : Type 0} (m : Meaning K P View C) (old : State K V P View) (d : Data K V P) where
@@ -22,7 +22,7 @@ module _ {K V P View C : Type 0} (m : Meaning K P View C) (old : State K V P Vie
 
   module _ (may : MayInsert m old d) where
     pub emplaced : (evictions : List (Event × Gone K V P)) (mid : State K V P View) → Evicts m (old.capacity - d.weight) old evictions mid
-        → (replaced : Option (Gone K V P)) (new : State K V P View) → Admits m mid d replaced new → Inserts m old d (evictions ++ replaced_leaves replaced) (entry_of old old.next d Outer) new
+        → (replaced : Option (Gone K V P)) (new : State K V P View) → Admits m mid d replaced new → InsertsPlain m old d (evictions ++ replaced_leaves replaced) (entry_of old old.next d Outer) new
     emplaced evictions mid evicts replaced new admits = record {
       may = may;
       evictions = evictions;
@@ -36,9 +36,9 @@ module _ {K V P View C : Type 0} (m : Meaning K P View C) (old : State K V P Vie
       after = admits.after;
     }
 
-    pub wants_memory : (ls : List (Event × Gone K V P)) (new : State K V P View) → Evicting m (old.capacity - d.weight) old ls new → RefusesInsert m old d NoMemory ls new
+    pub wants_memory : (ls : List (Event × Gone K V P)) (new : State K V P View) → Evicting m (old.capacity - d.weight) old ls new → RefusesPlain m old d NoMemory ls new
     wants_memory ls new h = (may, h)
 
     -- nothing left yet
-    pub wants_memory_first : RefusesInsert m old d NoMemory [] old
+    pub wants_memory_first : RefusesPlain m old d NoMemory [] old
     wants_memory_first = wants_memory [] old record { left = []; rest = evicted m.policy (old.capacity - d.weight) old.view; parts = refl; leave = refl }

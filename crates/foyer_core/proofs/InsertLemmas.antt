@@ -12,7 +12,7 @@ use Rattle.foyer_core.specs.declared.record.Data.{Data}
 use Rattle.foyer_core.specs.Indexer.{same_key}
 use Rattle.foyer_core.specs.Values.{Rec, Gone, Held}
 use Rattle.foyer_core.specs.State.{Meaning, State, key_of, hit, without_own, is_phantom_record, usage_of, pinned_beside, IsKept}
-use Rattle.foyer_core.specs.Steps.{after_out, after_push, ids_of, Evicts, GivesWay, Inserts}
+use Rattle.foyer_core.specs.Steps.{after_out, after_push, ids_of, Evicts, GivesWay, InsertsPlain}
 use Rattle.foyer_core.proofs.Found.{sum-removed}
 use Rattle.foyer_core.proofs.Keeps.{counted_there, removed_keeps, removed_absent, push_keeps, push_weight}
 use Rattle.foyer_core.proofs.Keys.{same_key_laws}
@@ -111,7 +111,7 @@ module _ {K V P View C : Type 0} (m : Meaning K P View C) (laws : IsEquivalence 
     | inr low ↦ omega arith
   ]
 
-  module _ (old : State K V P View) (kept : IsKept m old) (d : Data K V P) (ls : List (Event × Gone K V P)) (entry : Held K V P) (new : State K V P View) (inserts : Inserts m old d ls entry new) where
+  module _ (old : State K V P View) (kept : IsKept m old) (d : Data K V P) (ls : List (Event × Gone K V P)) (entry : Held K V P) (new : State K V P View) (inserts : InsertsPlain m old d ls entry new) where
     before_push : Rests m old inserts.last
     before_push =
         let one = rests (old.capacity - d.weight) old kept inserts.evictions inserts.mid inserts.evicts in

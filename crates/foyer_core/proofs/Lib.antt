@@ -1,4 +1,5 @@
 pub mod AdmitLemmas
+pub mod Clearing
 pub mod Cloned
 pub mod CoreLaws
 pub mod CoreLemmas
@@ -11,9 +12,12 @@ pub mod GaveLemmas
 pub mod GivingBack
 pub mod GroupLemmas
 pub mod Handles
+pub mod HoldLemmas
 pub mod Holdings
 pub mod IndexerLemmas
+pub mod InTurn
 pub mod InsertLemmas
+pub mod Inserting
 pub mod Keeps
 pub mod Keys
 pub mod LeaveLemmas
@@ -21,6 +25,10 @@ pub mod Leaving
 pub mod LeftLemmas
 pub mod NumberLemmas
 pub mod Opening
+pub mod Outgoing
+pub mod Outs
+pub mod Phantoms
+pub mod Picking
 pub mod PinLemmas
 pub mod Popped
 pub mod Pushing
@@ -28,6 +36,8 @@ pub mod RefusalLemmas
 pub mod Removed
 pub mod Reserving
 pub mod ShardLemmas
+pub mod Sharing
+pub mod SharingOut
 pub mod SlotLemmas
 pub mod States
 pub mod Staying
@@ -35,5 +45,11 @@ pub mod Stepped
 pub mod StoredLemmas
 pub mod TableLemmas
 pub mod Taken
+pub mod Told
 pub mod Touched
+pub mod TurnEnds
+pub mod TurnLaws
+pub mod Unpinned
+pub mod Views
 pub mod Weights
+pub mod Zips

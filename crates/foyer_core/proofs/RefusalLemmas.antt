@@ -4,7 +4,7 @@ use Rattle.foyer_policy.specs.declared.error.Reason.{Reason}
 use Rattle.foyer_policy.specs.declared.error.Reason.TheVariants.{Ids, Handles, Weight}
 use Rattle.foyer_core.specs.declared.record.Data.{Data}
 use Rattle.foyer_core.specs.State.{Meaning, State, key_of, pinned_beside}
-use Rattle.foyer_core.specs.Steps.{RefusesInsert}
+use Rattle.foyer_core.specs.Steps.{RefusesPlain}
 
 module _ {K V P View C : Type 0} (m : Meaning K P View C) (s : State K V P View) (d : Data K V P) (r : Option Reason)
     (ids : r ≡ Some Ids ↔ (s.limits.ids ≤ s.next)) (handles : r ≡ Some Handles ↔ ((s.next < s.limits.ids) × (s.limits.handles < 1)))
@@ -20,11 +20,11 @@ module _ {K V P View C : Type 0} (m : Meaning K P View C) (s : State K V P View)
       (number, handle, omega arith)
 
   -- and one that is stands as the insert's
-  pub refused : (reason : Reason) → r ≡ Some reason → (reason ≡ Ids) ⊎ ((reason ≡ Handles) ⊎ (reason ≡ Weight)) → RefusesInsert m s d reason [] s
+  pub refused : (reason : Reason) → r ≡ Some reason → (reason ≡ Ids) ⊎ ((reason ≡ Handles) ⊎ (reason ≡ Weight)) → RefusesPlain m s d reason [] s
   refused reason is only = elim only [
     | inl e ↦ stands Ids e (ids.0 (is ∙ ap (λ (x : Reason). Some x) e), refl, refl)
     | inr (inl e) ↦ (let h = handles.0 (is ∙ ap (λ (x : Reason). Some x) e) in stands Handles e (h.0, h.1, refl, refl))
     | inr (inr e) ↦ (let h = weight.0 (is ∙ ap (λ (x : Reason). Some x) e) in stands Weight e (h.0, h.1, h.2, refl, refl))
   ] where
-    stands : (x : Reason) → reason ≡ x → RefusesInsert m s d x [] s → RefusesInsert m s d reason [] s
-    stands x e h = subst (λ (y : Reason). RefusesInsert m s d y [] s) (sym e) h
+    stands : (x : Reason) → reason ≡ x → RefusesPlain m s d x [] s → RefusesPlain m s d reason [] s
+    stands x e h = subst (λ (y : Reason). RefusesPlain m s d y [] s) (sym e) h

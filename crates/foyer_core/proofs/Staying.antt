@@ -12,7 +12,7 @@ use Rattle.foyer_policy.specs.declared.error.Reason.TheVariants.{Ids, Handles, W
 use Rattle.foyer_core.specs.declared.record.Data.{Data}
 use Rattle.foyer_core.specs.Values.{Rec, Gone, Held}
 use Rattle.foyer_core.specs.State.{Meaning, State, key_of}
-use Rattle.foyer_core.specs.Steps.{outside, after_out, after_push, after_get, after_handle, after_give_back, ids_of, Leave, GivesWay, Inserts, RefusesInsert, Gets, GivesBack, Touches, Removes, ClonesHandle, RefusesHandle}
+use Rattle.foyer_core.specs.Steps.{outside, after_out, after_push, after_get, after_handle, after_give_back, ids_of, Leave, GivesWay, InsertsPlain, RefusesPlain, Gets, GivesBack, Touches, Removes, ClonesHandle, RefusesHandle}
 use Rattle.foyer_core.proofs.Emplaced.{evicts_rests}
 use Rattle.foyer_core.proofs.LeaveLemmas.{Rests, rests-rests, leave-rests}
 
@@ -170,11 +170,11 @@ module _ {K V P View C : Type 0} (m : Meaning K P View C) where
   touches_stay old k (Err _) new h = absurd h
 
   -- an insert
-  way_stays : (o : Option ℕ) (old : State K V P View) (ls : List (Event × Gone K V P)) (new : State K V P View) → GivesWay m o old ls new → RecordsStay nothing old new
+  pub way_stays : (o : Option ℕ) (old : State K V P View) (ls : List (Event × Gone K V P)) (new : State K V P View) → GivesWay m o old ls new → RecordsStay nothing old new
   way_stays None old ls new h = stay_same old new h.1
   way_stays (Some id) old ls new h = leave_stays Replace (id ∷ []) old ls (m.policy.remove old.view id) new h
 
-  way_rests : (o : Option ℕ) (old : State K V P View) (ls : List (Event × Gone K V P)) (new : State K V P View) → GivesWay m o old ls new → Rests m old new
+  pub way_rests : (o : Option ℕ) (old : State K V P View) (ls : List (Event × Gone K V P)) (new : State K V P View) → GivesWay m o old ls new → Rests m old new
   way_rests None old ls new h = leave-rests m Evict [] old [] old.view new h.1
   way_rests (Some id) old ls new h = leave-rests m Replace (id ∷ []) old ls (m.policy.remove old.view id) new h
 
@@ -183,14 +183,14 @@ module _ {K V P View C : Type 0} (m : Meaning K P View C) where
       let apart : id ≢ old.next = (λ e. absurd (let b = below id r there in omega arith)) in
       (r, update_apart old.records old.next (Some (record { kept = d; handles = 1; resident = true })) id apart ∙ there, refl, omega arith)
 
-  pub refused_insert_stays : (old : State K V P View) (d : Data K V P) (reason : Reason) (ls : List (Event × Gone K V P)) (new : State K V P View) → RefusesInsert m old d reason ls new → RecordsStay nothing old new
+  pub refused_insert_stays : (old : State K V P View) (d : Data K V P) (reason : Reason) (ls : List (Event × Gone K V P)) (new : State K V P View) → RefusesPlain m old d reason ls new → RecordsStay nothing old new
   refused_insert_stays old d Ids ls new h = stay_same old new h.2
   refused_insert_stays old d Handles ls new h = stay_same old new h.3
   refused_insert_stays old d Weight ls new h = stay_same old new h.4
   refused_insert_stays old d NoMemory ls new h = leave_stays Evict (ids_of h.1.left) old ls (after_pops m.policy (length h.1.left) old.view) new h.1.leave
   refused_insert_stays old d _ ls new h = absurd h
 
-  module _ (old : State K V P View) (d : Data K V P) (ls : List (Event × Gone K V P)) (entry : Held K V P) (new : State K V P View) (h : Inserts m old d ls entry new) where
+  module _ (old : State K V P View) (d : Data K V P) (ls : List (Event × Gone K V P)) (entry : Held K V P) (new : State K V P View) (h : InsertsPlain m old d ls entry new) where
     pub rests_before : Rests m old h.last
     rests_before = rests-rests m old h.mid h.last (evicts_rests m old d (old.capacity - d.weight) h.evictions h.mid h.evicts)
         (way_rests (h.mid.index (key_of d)) h.mid h.replaced h.last h.gives_way)

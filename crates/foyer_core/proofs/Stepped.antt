@@ -8,7 +8,7 @@ use Rattle.foyer_policy.specs.declared.error.Reason.TheVariants.{Ids, Handles, W
 use Rattle.foyer_core.specs.declared.record.Data.{Data}
 use Rattle.foyer_core.specs.Values.{Gone, Held}
 use Rattle.foyer_core.specs.State.{Meaning, State, IsKept}
-use Rattle.foyer_core.specs.Steps.{Gets, GivesBack, RefusesInsert}
+use Rattle.foyer_core.specs.Steps.{Gets, GivesBack, RefusesPlain}
 use Rattle.foyer_core.proofs.Keeps.{get_keeps, give_back_keeps}
 use Rattle.foyer_core.proofs.LeaveLemmas.{evicting_keeps}
 
@@ -23,7 +23,7 @@ module _ {K V P View C : Type 0} (m : Meaning K P View C) (laws : IsEquivalence 
   pub gives_back_keeps : (old : State K V P View) → IsKept m old → (id : ℕ) (leave : Option (Event × Gone K V P)) (new : State K V P View) → GivesBack m old id leave new → IsKept m new
   gives_back_keeps old kept id leave new h = subst (IsKept m) (sym h.after) (give_back_keeps m laws good old kept id h.rec h.there h.held)
 
-  pub refused_insert_keeps : (old : State K V P View) → IsKept m old → (d : Data K V P) (reason : Reason) (ls : List (Event × Gone K V P)) (new : State K V P View) → RefusesInsert m old d reason ls new → IsKept m new
+  pub refused_insert_keeps : (old : State K V P View) → IsKept m old → (d : Data K V P) (reason : Reason) (ls : List (Event × Gone K V P)) (new : State K V P View) → RefusesPlain m old d reason ls new → IsKept m new
   refused_insert_keeps old kept d Ids ls new h = subst (IsKept m) (sym h.2) kept
   refused_insert_keeps old kept d Handles ls new h = subst (IsKept m) (sym h.3) kept
   refused_insert_keeps old kept d Weight ls new h = subst (IsKept m) (sym h.4) kept

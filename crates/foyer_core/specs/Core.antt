@@ -1,5 +1,8 @@
 -- A core as a list of shards.
-use Rattle.std.specs.Prelude.{◌≡◌, ℕ, ◌+◌, ◌/◌, ◌%◌, ◌<◌, List, [], Option, Some, None, option_and_then, Result, Ok, Err, IsSomeAnd, if◌then◌else◌, nat_lt, length, slice_get, slice_set, sum_by}
+use Rattle.std.specs.Prelude.{◌≡◌, ℕ, ◌+◌, ◌/◌, ◌%◌, ◌==◌, ◌<◌, List, [], Option, Some, None, option_and_then, Result, Ok, Err, IsSomeAnd, if◌then◌else◌, nat_lt, length, slice_get, slice_set, sum_by}
+use Rattle.foyer_policy.specs.Policy.{Policy}
+use Rattle.foyer_policy.specs.declared.error.Reason.{Reason}
+use Rattle.foyer_policy.specs.declared.error.Reason.TheVariants.{NoShards}
 use Rattle.foyer_core.specs.declared.config.RawCacheConfig.{RawCacheConfig}
 use Rattle.foyer_core.specs.declared.outcome.Answers.{Answers}
 use Rattle.foyer_core.specs.declared.outcome.Inserted.{Inserted}
@@ -67,6 +70,10 @@ entries_in _ = None
 abbrev pub AnswersNobody : {K V P N : Type 0} → Answers K V P N → Type 0
 AnswersNobody answers = (answers.waiters.items ≡ []) × (entries_in answers.outcome ≡ Some [])
 
+-- why a configuration is not accepted: it has no shards, or else the policy's fault
+abbrev pub core_fault : {View C S W : Type 0} → Policy View C → RawCacheConfig C S W → Option Reason
+core_fault policy config = if config.shards == 0 then Some NoShards else policy.fault config.eviction_config
+
 module _ {K V P View C : Type 0} (m : Meaning K P View C) where
   -- the sum of the weights of what is in the index, over all shards
   abbrev pub usage_of_core : {S W : Type 0} → Core K V P View S W → ℕ
@@ -86,21 +93,25 @@ module _ {K V P View C : Type 0} (m : Meaning K P View C) where
     pub no_records : (id : ℕ) → s.records id ≡ None
     pub starts : s.next ≡ 0
 
+  -- the first shards of a new core, so many: they hold nothing, and each has its share of the capacity
+  pub record AreNewShards {S W : Type 0} (config : RawCacheConfig C S W) (many : ℕ) (shards : List (State K V P View)) : Type 0 where
+    pub counted : length shards ≡ many
+    pub each : (i : ℕ) (s : State K V P View) → slice_get shards i ≡ Some s
+        → IsNewShard config.eviction_config config.number (share_of config.capacity config.shards i) config.limits s
+
   -- a new core: its shards hold nothing, and share the capacity
   pub record IsNewCore {S W : Type 0} (config : RawCacheConfig C S W) (core : Core K V P View S W) : Type 0 where
     pub capacity_is : core.capacity ≡ config.capacity
     pub hash_builder_is : core.hash_builder ≡ config.hash_builder
     pub weighter_is : core.weighter ≡ config.weighter
-    pub counted : length core.shards ≡ config.shards
-    pub each : (i : ℕ) (s : State K V P View) → slice_get core.shards i ≡ Some s
-        → IsNewShard config.eviction_config config.number (share_of config.capacity config.shards i) config.limits s
+    pub shards_are : AreNewShards config config.shards core.shards
 
-  -- what an insert of a plain record makes of its shard, and answers
+  -- what an insert makes of its shard, and answers
   abbrev pub InsertsAnswering : {N : Type 0} → State K V P View → Data K V P → Result (Inserted K V P N) (Refused K V P) → State K V P View → Type 0
   InsertsAnswering old d (Ok made) new = Inserts m old d made.leaves.items made.entry new
   InsertsAnswering old d (Err refused) new = RefusesInsert m old d refused.error refused.leaves.items new
 
-  -- an insert of a plain record, with a weight that the weighter may give it, in the shard of its hash
+  -- an insert of a record, with a weight that the weighter may give it, in the shard of its hash
   pub record InsertsWeighed {S W N : Type 0} (weighs : ℕ → Type 0) (hash : ℕ) (key : K) (value : V) (properties : P)
       (result : Result (Inserted K V P N) (Refused K V P)) (old new : Core K V P View S W) : Type 0 where
     pub weight : ℕ

@@ -1,24 +1,27 @@
 -- A core's struct as a core.
-use Rattle.std.specs.Prelude.{[], ◌∷◌}
+use Rattle.std.specs.Prelude.{map}
 use Rattle.std.specs.declared.cmp.PartialEq.{Ghosts as EqGhosts}
 use Rattle.std.specs.declared.hash.Hash.{Ghosts as HashGhosts}
 use Rattle.std.specs.declared.clone.Clone.{Ghosts as CloneGhosts}
 use Rattle.std.specs.declared.default.Default.{Ghosts as DefaultGhosts}
 use Rattle.serde.specs.declared.ser.Described.{Ghosts as DescribedGhosts}
 use Rattle.foyer_policy.specs.declared.eviction.Eviction.{Ghosts as EvictionGhosts}
+use Rattle.foyer_policy.specs.declared.hash.HashBuilder.{Ghosts as HashBuilderGhosts}
 use Rattle.foyer_policy.specs.declared.properties.Properties.{Ghosts as PropertiesGhosts}
 use Rattle.foyer_core.specs.declared.indexer.Indexer.{Ghosts as IndexerGhosts}
+use Rattle.foyer_core.specs.declared.weighter.Weighter.{Ghosts as WeighterGhosts}
 use Rattle.foyer_core.specs.declared.cache_core.CacheCore.{CacheCore}
 use Rattle.foyer_core.specs.Core.{Core}
-use Rattle.foyer_core.specs.Shards.{state_of, meaning_of}
+use Rattle.foyer_core.specs.Shards.{state_of}
 use Rattle.foyer_core.specs.State.{Meaning}
+use Rattle.foyer_core.specs.Stored.{meaning}
 
 module _ {E K V P S W N I C X : Type 0} {e : EvictionGhosts E C X} {e1 : CloneGhosts C} {e2 : DefaultGhosts C} {e3 : DescribedGhosts C} {e4 : DefaultGhosts X}
-    {q : EqGhosts K} {h : HashGhosts K} {c : CloneGhosts K} {p : PropertiesGhosts P} {d : DefaultGhosts P} {i : IndexerGhosts I K} where
+    {q : EqGhosts K} {h : HashGhosts K} {c : CloneGhosts K} {p : PropertiesGhosts P} {d : DefaultGhosts P} {b : HashBuilderGhosts S} {w : WeighterGhosts W K V} {i : IndexerGhosts I K} where
   -- what contracts see of a core
-  abbrev pub core_of : CacheCore E K V P S W N I C X e e1 e2 e3 e4 q h c p d i → Core K V P e.View S W
-  core_of s = record { capacity = s.capacity; hash_builder = s.hash_builder; weighter = s.weighter; shards = state_of s.shard ∷ [] }
+  abbrev pub core_of : CacheCore E K V P S W N I C X e e1 e2 e3 e4 q h c p d b w i → Core K V P e.View S W
+  core_of s = record { capacity = s.capacity; hash_builder = s.hash_builder; weighter = s.weighter; shards = map state_of s.shards.items }
 
   -- what a core is over
-  abbrev pub meaning_of_core : CacheCore E K V P S W N I C X e e1 e2 e3 e4 q h c p d i → Meaning K P e.View C
-  meaning_of_core s = meaning_of s.shard
+  abbrev pub meaning_of_core : CacheCore E K V P S W N I C X e e1 e2 e3 e4 q h c p d b w i → Meaning K P e.View C
+  meaning_of_core s = meaning q.eq e.model p.hint_of p.phantom_of

@@ -12,3 +12,5 @@ pub mod Stored
 pub mod Shards
 pub mod Steps
 pub mod Laws
+pub mod Bulk
+pub mod CoreBulk

@@ -1,10 +1,12 @@
 -- A shard as maps.
-use Rattle.std.specs.Prelude.{◌≡◌, ℕ, ◌<◌, ◌≤◌, ◌^◌, ◌⊎◌, List, Option, Some, None, Bool, true, false}
+use Rattle.std.specs.Prelude.{◌≡◌, ℕ, ◌<◌, ◌≤◌, ◌^◌, ◌⊎◌, List, Option, Some, None, Bool, true, false, if◌then◌else◌}
 use Rattle.foyer_policy.specs.Items.{weight_of, count_of, find_id, remove_id, HasIdsOnce}
 use Rattle.foyer_policy.specs.Policy.{Policy}
 use Rattle.foyer_policy.specs.Properties.{is_phantom, hint_or_normal}
 use Rattle.foyer_policy.specs.declared.types.Hint.{Hint}
 use Rattle.foyer_policy.specs.declared.types.Item.{Item}
+use Rattle.foyer_policy.specs.declared.types.Location.{Location}
+use Rattle.foyer_policy.specs.declared.types.Location.TheVariants.{OnDisk}
 use Rattle.foyer_core.specs.declared.record.Data.{Data}
 use Rattle.foyer_core.specs.declared.record.Limits.{Limits}
 use Rattle.foyer_core.specs.Indexer.{same_key}
@@ -31,6 +33,19 @@ pub record State (K V P View : Type 0) : Type 0 where
 -- the hashed key of a record
 abbrev pub key_of : {K V P : Type 0} → Data K V P → ℕ × K
 key_of d = (d.hash, d.key)
+
+-- whether a record is to be on disk alone
+abbrev pub is_on_disk : Option Location → Bool
+is_on_disk (Some OnDisk) = true
+is_on_disk _ = false
+
+-- the properties with which a record comes in: where it is to be on disk alone, they say that it is phantom
+abbrev pub coming_in : {P : Type 0} → (P → Option Location) → (P → Bool → P) → P → P
+coming_in location with_phantom p = if is_on_disk (location p) then with_phantom p true else p
+
+-- properties that make a plain record: they do not say phantom, and it is not to be on disk alone
+abbrev pub MakesPlain : {P : Type 0} → (P → Option Bool) → (P → Option Location) → P → Type 0
+MakesPlain phantom location p = (is_phantom (phantom p) ≡ false) × (is_on_disk (location p) ≡ false)
 
 -- what a key hits: the one definition of a hit
 abbrev pub hit : {K V P View : Type 0} → State K V P View → ℕ × K → Option ℕ

@@ -116,9 +116,16 @@ module _ {K V P View C : Type 0} (m : Meaning K P View C) where
   abbrev pub MayInsert : State K V P View → Data K V P → Type 0
   MayInsert old d = (old.next < old.limits.ids) × (1 ≤ old.limits.handles) × (d.weight + pinned_beside m old (key_of d) < 2 ^ 64)
 
+  -- a new record is held with one handle, and does not come into the index
+  abbrev pub after_hold : State K V P View → Data K V P → State K V P View
+  after_hold s d = record s {
+    records = update nat_eq s.records s.next (Some record { kept = d; handles = 1; resident = false });
+    next = s.next + 1;
+  }
+
   -- An insert of a plain record that is not refused: the evictions to the capacity less its weight, then
   -- its key's record, where it is still there, gives way, then the record comes in.
-  pub record Inserts (old : State K V P View) (d : Data K V P) (ls : List (Event × Gone K V P)) (entry : Held K V P) (new : State K V P View) : Type 0 where
+  pub record InsertsPlain (old : State K V P View) (d : Data K V P) (ls : List (Event × Gone K V P)) (entry : Held K V P) (new : State K V P View) : Type 0 where
     pub may : MayInsert old d
     pub evictions : List (Event × Gone K V P)
     pub replaced : List (Event × Gone K V P)
@@ -132,13 +139,52 @@ module _ {K V P View C : Type 0} (m : Meaning K P View C) where
 
   -- An insert of a plain record that is refused: for a number, a handle or the weight before anything,
   -- or for want of memory after some beginning of the evictions.
-  abbrev pub RefusesInsert : State K V P View → Data K V P → Reason → List (Event × Gone K V P) → State K V P View → Type 0
-  RefusesInsert old d Ids ls new = (old.limits.ids ≤ old.next) × (ls ≡ []) × (new ≡ old)
-  RefusesInsert old d Handles ls new = (old.next < old.limits.ids) × (old.limits.handles < 1) × (ls ≡ []) × (new ≡ old)
-  RefusesInsert old d Weight ls new =
+  abbrev pub RefusesPlain : State K V P View → Data K V P → Reason → List (Event × Gone K V P) → State K V P View → Type 0
+  RefusesPlain old d Ids ls new = (old.limits.ids ≤ old.next) × (ls ≡ []) × (new ≡ old)
+  RefusesPlain old d Handles ls new = (old.next < old.limits.ids) × (old.limits.handles < 1) × (ls ≡ []) × (new ≡ old)
+  RefusesPlain old d Weight ls new =
       (old.next < old.limits.ids) × (1 ≤ old.limits.handles) × (2 ^ 64 ≤ d.weight + pinned_beside m old (key_of d)) × (ls ≡ []) × (new ≡ old)
-  RefusesInsert old d NoMemory ls new = MayInsert old d × Evicting (old.capacity - d.weight) old ls new
-  RefusesInsert old d _ ls new = ⊥
+  RefusesPlain old d NoMemory ls new = MayInsert old d × Evicting (old.capacity - d.weight) old ls new
+  RefusesPlain old d _ ls new = ⊥
+
+  -- there is a number for a record, and a handle may be
+  abbrev pub MayHold : State K V P View → Type 0
+  MayHold old = (old.next < old.limits.ids) × (1 ≤ old.limits.handles)
+
+  -- An insert of a phantom record that is not refused: its key's record gives way, then it is told as
+  -- `Remove`. Nothing is evicted, and it is in the index at no time.
+  pub record InsertsPhantom (old : State K V P View) (d : Data K V P) (ls : List (Event × Gone K V P)) (entry : Held K V P) (new : State K V P View) : Type 0 where
+    pub may : MayHold old
+    pub replaced : List (Event × Gone K V P)
+    pub last : State K V P View
+    pub leaves : ls ≡ replaced ++ (Remove, record { id = old.next; kept = d }) ∷ []
+    pub gives_way : GivesWay (old.index (key_of d)) old replaced last
+    pub entry_is : entry ≡ entry_of old old.next d Outer
+    pub after : new ≡ after_hold last d
+
+  -- An insert of a phantom record that is refused: for a number, a handle or for want of memory. Nothing has
+  -- changed.
+  abbrev pub RefusesPhantom : State K V P View → Data K V P → Reason → List (Event × Gone K V P) → State K V P View → Type 0
+  RefusesPhantom old d Ids ls new = (old.limits.ids ≤ old.next) × (ls ≡ []) × (new ≡ old)
+  RefusesPhantom old d Handles ls new = (old.next < old.limits.ids) × (old.limits.handles < 1) × (ls ≡ []) × (new ≡ old)
+  RefusesPhantom old d NoMemory ls new = MayHold old × (ls ≡ []) × (new ≡ old)
+  RefusesPhantom old d _ ls new = ⊥
+
+  -- an insert of a record that is phantom, or is not
+  abbrev pub InsertsBy : Bool → State K V P View → Data K V P → List (Event × Gone K V P) → Held K V P → State K V P View → Type 0
+  InsertsBy true old d ls entry new = InsertsPhantom old d ls entry new
+  InsertsBy false old d ls entry new = InsertsPlain old d ls entry new
+
+  abbrev pub RefusesBy : Bool → State K V P View → Data K V P → Reason → List (Event × Gone K V P) → State K V P View → Type 0
+  RefusesBy true old d reason ls new = RefusesPhantom old d reason ls new
+  RefusesBy false old d reason ls new = RefusesPlain old d reason ls new
+
+  -- an insert that is not refused, and one that is
+  abbrev pub Inserts : State K V P View → Data K V P → List (Event × Gone K V P) → Held K V P → State K V P View → Type 0
+  Inserts old d ls entry new = InsertsBy (is_phantom_record m d) old d ls entry new
+
+  abbrev pub RefusesInsert : State K V P View → Data K V P → Reason → List (Event × Gone K V P) → State K V P View → Type 0
+  RefusesInsert old d reason ls new = RefusesBy (is_phantom_record m d) old d reason ls new
 
   -- one more handle of a record of the index, which the policy is told of
   abbrev pub after_get : State K V P View → ℕ → Rec K V P → State K V P View

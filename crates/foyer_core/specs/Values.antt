@@ -34,6 +34,12 @@ pub record Gone (K V P : Type 0) : Type 0 where
   pub id : ℕ
   pub kept : Data K V P
 
+-- a piece: what is kept of the record of this id of the core of this number, outside of it
+pub record Carried (K V P : Type 0) : Type 0 where
+  pub number : ℕ
+  pub id : ℕ
+  pub kept : Data K V P
+
 -- what a shard holds under an id: the data, how many handles there are, and whether it is in the index
 pub record Rec (K V P : Type 0) : Type 0 where
   pub kept : Data K V P

@@ -1,9 +1,8 @@
 //! The sharded core of a cache.
 
-ghost use Rattle.std.specs.Prelude.{◌≡◌, ◌≢◌, ◌↔◌, ℕ, ◌<◌, true, false, Some, None, Ok, Err, IfOk, IfErr, IfSome, OnOk, OnErr, IsOk, IsTrue, is_some, length};
-ghost use Rattle.foyer_policy.specs.Properties.{is_phantom};
+ghost use Rattle.std.specs.Prelude.{◌≡◌, ◌↔◌, ℕ, ◌<◌, true, false, Some, None, Ok, Err, IfOk, IfErr, IfSome, OnOk, OnErr, IsOk, IsTrue, is_some, length, vec_len};
 ghost use Rattle.foyer_policy.specs.declared.error.Reason.TheVariants.{NoMemory};
-ghost use Rattle.foyer_policy.specs.declared.types.Location.TheVariants.{OnDisk};
+ghost use Rattle.foyer_core.specs.State.{MakesPlain, coming_in};
 
 use crate::config::RawCacheConfig;
 use crate::entry::{CoreEntry, Left};
@@ -12,11 +11,16 @@ use crate::outcome::{Answers, Inserted, Outcome, Refused};
 use crate::record::Data;
 use crate::shard::Shard;
 use crate::weighter::Weighter;
-use foyer_policy::{Event, Eviction, HashBuilder, Key, Properties, Result, Value};
+use foyer_policy::{
+    Error, Event, Eviction, HashBuilder, Key, Location, Properties, Reason, Result, Value,
+};
 use std::alloc::Global;
 use std::marker::PhantomData;
 
+mod bulk;
 mod entries;
+mod in_turn;
+mod shards;
 
 /// The records of a cache, found by their keys, in one thread's hands. `N` is what waits for an answer, and
 /// `I` the index of each shard. Contracts see a `Core`: its shards, and what gives its keys their hashes and
@@ -32,14 +36,14 @@ pub struct CacheCore<
     N: Drop,
     I: Indexer<K> = HashTableIndexer<K>,
 > {
-    // The one shard. There will be more.
-    shard: Shard<E, K, V, P, I>,
+    shards: Vec<Shard<E, K, V, P, I>>,
     capacity: usize,
     hash_builder: S,
     weighter: W,
     alloc: Global,
     // Nothing waits for an answer yet.
     waiters: PhantomData<N>,
+    ghost sharded: { 0 < vec_len shards },
 }
 
 impl<
@@ -51,28 +55,24 @@ impl<
     W: Weighter<K, V>,
     N: Drop,
 > CacheCore<E, K, V, P, S, W, N> {
-    ghost use Rattle.foyer_core.specs.Core.{IsNewCore};
+    ghost use Rattle.foyer_core.specs.Core.{IsNewCore, core_fault};
     ghost use Rattle.foyer_core.specs.Cores.{core_of, meaning_of_core};
 
-    /// A core that holds nothing. One shard is all that it may have so far. Refused with the policy
-    /// configuration's first fault, and else only for want of memory (F7).
+    /// A core that holds nothing, whose shards share the capacity: each of the n shards gets one n-th of it,
+    /// rounded down, and the first ones one more, as many as that leaves over. Refused where there is to be no
+    /// shard (F1), then with the policy configuration's first fault, and else only for want of memory (F7).
     pub fn new(alloc: Global, config: RawCacheConfig<E::Config, S, W>) -> Result<Self>
-        requires { config.shards ≡ 1 }
         ensures made { IfOk result (λ core. IsNewCore (meaning_of_core core) config (core_of core)) }
-        ensures accepted { OnOk result (E.model.fault config.eviction_config ≡ None) }
-        ensures refused { IfSome (E.model.fault config.eviction_config) (λ reason. result ≡ Err reason) }
-        ensures memory { IfErr result (λ e. E.model.fault config.eviction_config ≡ None → e ≡ NoMemory) }
+        ensures accepted { OnOk result (core_fault E.model config ≡ None) }
+        ensures refused { IfSome (core_fault E.model config) (λ reason. result ≡ Err reason) }
+        ensures memory { IfErr result (λ e. core_fault E.model config ≡ None → e ≡ NoMemory) }
     {
-        let shard = Shard::new(
-            alloc,
-            config.number,
-            config.capacity,
-            config.limits,
-            &config.eviction_config,
-            HashTableIndexer::new(alloc),
-        )?;
+        if config.shards == 0 {
+            return Err(Error::new(Reason::NoShards));
+        }
+        let shards = Self::new_shards(alloc, &config)?;
         Ok(CacheCore {
-            shard,
+            shards,
             capacity: config.capacity,
             hash_builder: config.hash_builder,
             weighter: config.weighter,
@@ -108,21 +108,29 @@ impl<
     pub fn shards(&self) -> usize
         ensures { result ≡ length (core_of self.now).shards }
     {
-        1
+        self.shards.len()
     }
 
     /// The sum of the weights of the records that a get finds.
     pub fn usage(&self) -> u128
         ensures { result ≡ usage_of_core (meaning_of_core self.now) (core_of self.now) }
     {
-        self.shard.usage() as u128
+        let mut sum = 0;
+        for shard in &self.shards {
+            sum += shard.usage() as u128;
+        }
+        sum
     }
 
     /// How many records a get finds.
     pub fn entries(&self) -> u128
         ensures { result ≡ entries_of_core (meaning_of_core self.now) (core_of self.now) }
     {
-        self.shard.entries() as u128
+        let mut sum = 0;
+        for shard in &self.shards {
+            sum += shard.entries() as u128;
+        }
+        sum
     }
 
     /// The hash of a key. Equal keys have equal ones.
@@ -146,7 +154,8 @@ impl<
         ensures { let hash = S.hash_of (core_of self.now).hash_builder (K.hash_input key.now) in
             result ≡ is_some (hit_in (core_of self.now) (hash, key.now)) }
     {
-        self.shard.contains(self.hash(key), key)
+        let hash = self.hash(key);
+        self.shards[self.place(hash)].contains(hash, key)
     }
 
     /// An entry of the key's record, where there is one, which counts as a handle and as a use. Refused at
@@ -159,7 +168,8 @@ impl<
         ensures stay { HandlesStay (λ _. 0) (core_of self.old) (core_of self.new) }
     {
         let hash = self.hash(key);
-        self.shard.get(hash, key)
+        let place = self.place(hash);
+        self.shards[place].get(hash, key)
     }
 
     /// Puts a value in under a key, with default properties, as `insert_with_properties` does.
@@ -169,31 +179,35 @@ impl<
         value: V,
     ) -> std::result::Result<Inserted<K, V, P, N>, Refused<K, V, P>>
         requires clones { (k c : K) → K.is_clone k c → K.eq c k ≡ true }
-        requires plain { (p : P) → P.is_default p → is_phantom (P.phantom_of p) ≡ false }
-        requires in_memory { (p : P) → P.is_default p → P.location_of p ≢ Some OnDisk }
         ensures inserted { let hash = S.hash_of (core_of self.old).hash_builder (K.hash_input key) in
             (p : P) × P.is_default p
             × InsertsWeighed (meaning_of_core self.old) (W.weighs (core_of self.old).weighter key value)
-            hash key value p result (core_of self.old) (core_of self.new) }
+            hash key value (coming_in P.location_of P.with_phantom_of p) result (core_of self.old) (core_of self.new) }
         ensures answers { IfOk result (λ made. AnswersNobody made.answers) }
-        ensures found { IfOk result (λ _. Finds (meaning_of_core self.new) (λ k. S.hash_of (core_of self.new).hash_builder (K.hash_input k))
+        ensures found { ((p : P) → P.is_default p → MakesPlain P.phantom_of P.location_of p)
+            → IfOk result (λ _. Finds (meaning_of_core self.new) (λ k. S.hash_of (core_of self.new).hash_builder (K.hash_input k))
             (core_of self.new) key value) }
         ensures bounded { let hash = S.hash_of (core_of self.old).hash_builder (K.hash_input key) in
-            IfOk result (λ made. IsBoundedAt (meaning_of_core self.old) hash made.entry.kept.weight (core_of self.old) (core_of self.new)) }
+            ((p : P) → P.is_default p → MakesPlain P.phantom_of P.location_of p)
+            → IfOk result (λ made. IsBoundedAt (meaning_of_core self.old) hash made.entry.kept.weight (core_of self.old) (core_of self.new)) }
         ensures stay { HandlesStay (λ _. 0) (core_of self.old) (core_of self.new) }
     {
         self.insert_with_properties(key, value, P::default())
     }
 
-    /// Puts a plain record in, of the weight that the weighter gives it, and answers an entry of it and what
-    /// left: records are evicted until its shard's capacity has room for it, or nothing more leaves, and then
-    /// the key's record gives way. A clone of the key must equal it. Refused, in this order, where no id is
-    /// left (F10), the handle would pass the limit (F9), the weight and the pinned weight of other keys pass
-    /// a `usize` (F8), and then nothing has changed; or for want of memory (F7), and then some beginning of
-    /// the evictions has left, which the refusal hands out.
+    /// Puts a record in, of the weight that the weighter gives it, and answers an entry of it and what left. A
+    /// clone of the key must equal it. Where the record is to be on disk alone, its properties are made to say
+    /// that it is phantom.
     ///
-    /// Afterwards a get of an equal key finds the value, however heavy it is, and the shard's usage is at most
-    /// its capacity, or the record's weight and what was pinned before, whichever is more.
+    /// For a plain record others are evicted until its shard's capacity has room for it, or nothing more leaves,
+    /// and then the key's record gives way (`Replace`). Afterwards a get of an equal key finds the value, however
+    /// heavy it is, and the shard's usage is at most its capacity, or the record's weight and what was pinned
+    /// before, whichever is more. A phantom one, which its properties say, is never found: nothing is evicted for
+    /// it, the key's record gives way, it is told as `Remove`, and it leaves (`Evict`) with its last handle.
+    ///
+    /// Refused, in this order, where no id is left (F10), the handle would pass the limit (F9), the weight of a
+    /// plain record and the pinned weight of other keys pass a `usize` (F8), and then nothing has changed; or
+    /// for want of memory (F7): then some beginning of the evictions has left, which the refusal hands out.
     pub fn insert_with_properties(
         &mut self,
         key: K,
@@ -201,20 +215,19 @@ impl<
         properties: P,
     ) -> std::result::Result<Inserted<K, V, P, N>, Refused<K, V, P>>
         requires clones { (k c : K) → K.is_clone k c → K.eq c k ≡ true }
-        requires plain { is_phantom (P.phantom_of properties) ≡ false }
-        requires in_memory { P.location_of properties ≢ Some OnDisk }
         ensures inserted { let hash = S.hash_of (core_of self.old).hash_builder (K.hash_input key) in
             InsertsWeighed (meaning_of_core self.old) (W.weighs (core_of self.old).weighter key value)
-            hash key value properties result (core_of self.old) (core_of self.new) }
+            hash key value (coming_in P.location_of P.with_phantom_of properties) result (core_of self.old) (core_of self.new) }
         ensures answers { IfOk result (λ made. AnswersNobody made.answers) }
-        ensures found { IfOk result (λ _. Finds (meaning_of_core self.new) (λ k. S.hash_of (core_of self.new).hash_builder (K.hash_input k))
+        ensures found { MakesPlain P.phantom_of P.location_of properties → IfOk result (λ _. Finds (meaning_of_core self.new) (λ k. S.hash_of (core_of self.new).hash_builder (K.hash_input k))
             (core_of self.new) key value) }
         ensures bounded { let hash = S.hash_of (core_of self.old).hash_builder (K.hash_input key) in
-            IfOk result (λ made. IsBoundedAt (meaning_of_core self.old) hash made.entry.kept.weight (core_of self.old) (core_of self.new)) }
+            MakesPlain P.phantom_of P.location_of properties → IfOk result (λ made. IsBoundedAt (meaning_of_core self.old) hash made.entry.kept.weight (core_of self.old) (core_of self.new)) }
         ensures stay { HandlesStay (λ _. 0) (core_of self.old) (core_of self.new) }
     {
         let hash = self.hash(&key);
         let weight = self.weighter.weigh(&key, &value);
+        let properties = marked(properties);
         let kept = Data {
             key,
             value,
@@ -222,7 +235,8 @@ impl<
             hash,
             weight,
         };
-        let (entry, leaves) = self.shard.emplace(self.alloc, kept)?;
+        let place = self.place(hash);
+        let (entry, leaves) = self.shards[place].emplace(self.alloc, kept)?;
         Ok(Inserted {
             entry,
             answers: Answers {
@@ -239,7 +253,8 @@ impl<
     pub fn owns(&self, entry: &CoreEntry<K, V, P>) -> bool
         ensures { IsTrue result ↔ Owns (core_of self.now) entry.now }
     {
-        entry.number() == self.shard.number() && self.shard.handles(entry.id(), entry.slot()) > 0
+        let shard = &self.shards[self.place(entry.hash())];
+        entry.number() == shard.number() && shard.handles(entry.id(), entry.slot()) > 0
     }
 
     /// Takes an entry back: its record has one handle less. With its last handle a record that a get finds is
@@ -257,7 +272,18 @@ impl<
         ensures err { OnErr result (core_of self.new ≡ core_of self.old) }
         ensures stay { HandlesStay (one_of (core_of self.old) entry) (core_of self.old) (core_of self.new) }
     {
-        self.shard.give_back(entry)
+        let place = self.place(entry.hash());
+        self.shards[place].give_back(entry)
+    }
+}
+
+// The properties with which a record comes in.
+fn marked<P: Properties>(properties: P) -> P
+    ensures { result ≡ coming_in P.location_of P.with_phantom_of properties }
+{
+    match properties.location() {
+        Some(Location::OnDisk) => properties.with_phantom(true),
+        _ => properties,
     }
 }
 

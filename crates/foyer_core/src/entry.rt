@@ -4,6 +4,7 @@ ghost use Rattle.std.specs.Prelude.{◌≡◌, IsNone, None, Some, false, true, 
 ghost use Rattle.foyer_policy.specs.declared.error.Reason.TheVariants.{NoMemory};
 ghost use Rattle.std.specs.Arc.{arc_value};
 
+use crate::piece::Piece;
 use crate::record::Data;
 use foyer_policy::{Error, Reason, Result, Source};
 use std::alloc::Global;
@@ -204,6 +205,17 @@ impl<K: Drop, V: Drop, P: Drop> CoreEntry<K, V, P> {
             }),
             None => None,
         }
+    }
+
+    /// A piece of the record. Only memory can be missing (F7); nothing changes.
+    pub fn piece(&self) -> Result<Piece<K, V, P>>
+        ensures made { IfOk result (λ p. p ≡ record { number = self.now.number; id = self.now.id; kept = self.now.kept }) }
+        ensures refused { IfErr result (λ e. e ≡ NoMemory) }
+    {
+        let Ok(share) = Arc::try_clone(&self.kept) else {
+            return Err(Error::new(Reason::NoMemory));
+        };
+        Ok(Piece::of_share(self.number, self.id, self.slot, share))
     }
 
     // An entry like this one, with a share of its own to leave, of a record in this slot. Only memory can be

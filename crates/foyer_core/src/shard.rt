@@ -12,11 +12,15 @@ use crate::records::Records;
 use foyer_policy::{Eviction, Key, Properties, Result, Value};
 use std::alloc::Global;
 
+mod bulk;
+mod clearing;
 mod entries;
 mod evictions;
 mod handles;
 mod insertion;
 mod keys;
+mod phantoms;
+mod picking;
 mod refusals;
 
 /// One shard of a cache. Contracts see its `State`: maps from hashed keys to ids and from ids to records.
@@ -99,3 +103,6 @@ impl<E: Eviction, K: Key, V: Value, P: Properties, I: Indexer<K>> Shard<E, K, V,
         self.index.get(hash, key).is_some()
     }
 }
+
+#[cfg(test)]
+mod tests;

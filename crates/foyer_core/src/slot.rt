@@ -46,6 +46,28 @@ impl<K: Drop, V: Drop, P: Drop> Slot<K, V, P> {
         Ok(Slot { id, record, leave })
     }
 
+    /// A record that is to be held and not to come in, with no handle. Only memory can be missing.
+    pub fn outside(alloc: Global, kept: Data<K, V, P>, id: u64) -> Result<Self>
+        ensures made { IfOk result (λ s. s ≡ record { id = id; kept = kept; handles = 0; resident = false; place = None }) }
+        ensures refused { IfErr result (λ e. e ≡ NoMemory) }
+    {
+        let record = Record::new(alloc, kept)?;
+        Ok(Slot {
+            id,
+            record,
+            leave: None,
+        })
+    }
+
+    /// What a leave of the record shows. Only memory can be missing.
+    pub fn left(&self) -> Result<Left<K, V, P>>
+        ensures left { IfOk result (λ l. l ≡ record { id = self.now.id; kept = self.now.kept }) }
+        ensures refused { IfErr result (λ e. e ≡ NoMemory) }
+    {
+        let share = self.record.share()?;
+        Ok(Left::new(self.id, share))
+    }
+
     pub fn id(&self) -> u64
         ensures { result ≡ self.now.id }
     {

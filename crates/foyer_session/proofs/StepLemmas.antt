@@ -7,12 +7,12 @@ use Rattle.foyer_policy.specs.declared.error.Reason.{Reason}
 use Rattle.foyer_policy.specs.declared.error.Reason.TheVariants.{Handles, NoMemory}
 use Rattle.foyer_core.specs.declared.record.Data.{Data}
 use Rattle.foyer_core.specs.Values.{Gone, Held}
-use Rattle.foyer_core.specs.State.{Meaning, State, handles_in}
+use Rattle.foyer_core.specs.State.{Meaning, State, handles_in, is_phantom_record}
 use Rattle.foyer_core.specs.Steps.{Inserts, RefusesInsert, Gets, GivesBack, Touches, Removes, RefusesHandle, ClonesHandle}
 use Rattle.foyer_core.specs.Core.{Core, AtShard, Owns}
 use Rattle.foyer_session.specs.Step.{SessionState, held_at}
 use Rattle.foyer_session.specs.Owns.{OwnsHandles}
-use Rattle.foyer_session.proofs.CountLemmas.{inserts_counts, inserts_number, refuses_counts, refuses_number, gets_counts, gives_back_counts, gives_back_number}
+use Rattle.foyer_session.proofs.CountLemmas.{inserts_counts, inserts_number, inserts_entry, refuses_counts, refuses_number, gets_counts, gives_back_counts, gives_back_number}
 use Rattle.foyer_session.proofs.EntryCounts.{touches_counts, touches_number, removes_counts, removes_number, clones_counts}
 use Rattle.foyer_session.proofs.OwnLemmas.{owns_same, owns_more, owns_less, owned_entry, shard_same}
 
@@ -24,14 +24,15 @@ module _ {K V P View C S W : Type 0} (m : Meaning K P View C) (core new : Core K
   pub inserted_owns : (d : Data K V P) (leaves : List (Event × Gone K V P)) (entry : Held K V P) (at : AtShard (λ s t. Inserts m s d leaves entry t) d.hash core new)
       → handles_in at.before entry.id ≡ 0 → OwnsHandles new (handles ++ Some (record entry { left = false }) ∷ [])
   inserted_owns d leaves entry at none =
-      owns_more core new (λ s t. Inserts m s d leaves entry t) d.hash at (inserts_number m at.before d leaves entry at.after at.stepped) handles (record entry { left = false })
-      (ap (λ (x : Held K V P). x.kept.hash) at.stepped.entry_is) (ap (λ (x : Held K V P). x.number) at.stepped.entry_is)
-      (inserts_counts m at.before d leaves entry at.after at.stepped none) owns
+      owns_more core new (λ s t. Inserts m s d leaves entry t) d.hash at (inserts_number m (is_phantom_record m d) at.before d leaves entry at.after at.stepped) handles (record entry { left = false })
+      (ap (λ (x : Held K V P). x.kept.hash) (inserts_entry m (is_phantom_record m d) at.before d leaves entry at.after at.stepped))
+      (ap (λ (x : Held K V P). x.number) (inserts_entry m (is_phantom_record m d) at.before d leaves entry at.after at.stepped))
+      (inserts_counts m (is_phantom_record m d) at.before d leaves entry at.after at.stepped none) owns
 
   pub refused_owns : (d : Data K V P) (reason : Reason) (leaves : List (Event × Gone K V P)) (at : AtShard (λ s t. RefusesInsert m s d reason leaves t) d.hash core new) → OwnsHandles new handles
   refused_owns d reason leaves at =
-      owns_same core new (λ s t. RefusesInsert m s d reason leaves t) d.hash at (refuses_number m at.before d reason leaves at.after at.stepped) handles
-      (refuses_counts m at.before d reason leaves at.after at.stepped) owns
+      owns_same core new (λ s t. RefusesInsert m s d reason leaves t) d.hash at (refuses_number m (is_phantom_record m d) at.before d reason leaves at.after at.stepped) handles
+      (refuses_counts m (is_phantom_record m d) at.before d reason leaves at.after at.stepped) owns
 
   -- an entry of the key's record was made, which has the key's hash
   pub got_owns : (k : ℕ × K) (entry : Held K V P) (at : AtShard (λ s t. Gets m s k (Ok (Some entry)) t) k.0 core new) → entry.kept.hash ≡ k.0

@@ -14,9 +14,9 @@ policy_of name = if bytes_eq name (codes "fifo") then Some Fifo
     else (if bytes_eq name (codes "sieve") then Some Sieve
     else None))))
 
--- a policy, a capacity and one shard
+-- a policy, a capacity and some shards
 abbrev pub args_with : SimPolicy → ℕ → ℕ → Option SimArgs
-args_with policy capacity shards = if shards == 1 then Some record { policy = policy; capacity = capacity; shards = shards } else None
+args_with policy capacity shards = if shards == 0 then None else Some record { policy = policy; capacity = capacity; shards = shards }
 
 -- what these words ask for
 abbrev pub args_of : List (List ℕ) → Option SimArgs

@@ -10,11 +10,11 @@ use Rattle.foyer_core.specs.declared.record.Data.{Data}
 use Rattle.foyer_core.specs.Values.{Gone, Held}
 use Rattle.foyer_core.specs.State.{Meaning, State}
 use Rattle.foyer_core.specs.Steps.{Inserts, RefusesInsert, Gets, GivesBack, Touches, Removes, ClonesHandle}
-use Rattle.foyer_core.specs.Core.{Core, AtShard, IsOutdatedIn, hit_in, refs_in}
+use Rattle.foyer_core.specs.Core.{Core, AtShard, IsOutdatedIn, hit_in, refs_in, usage_of_core, entries_of_core}
 use Rattle.foyer_session.specs.declared.command.Answer.{Answer}
 use Rattle.foyer_session.specs.declared.command.Answer.TheVariants.{Entry, Found, Missing, Yes, No, Done, Number, NotHeld, Refused}
 use Rattle.foyer_session.specs.declared.command.Command.{Command}
-use Rattle.foyer_session.specs.declared.command.Command.TheVariants.{Insert, Get, Contains, Touch, Remove, Clone, Drop, Refs, Outdated}
+use Rattle.foyer_session.specs.declared.command.Command.TheVariants.{Insert, Get, Contains, Touch, Remove, Clone, Drop, Refs, Outdated, Capacity, Usage, Entries}
 
 -- a core with the handles that were handed out, in order, each held or gone
 pub record SessionState (K V P View S W : Type 0) : Type 0 where
@@ -133,6 +133,11 @@ module _ {K V P View C S W : Type 0} (m : Meaning K P View C) (hash : S → K �
   OutdatedStep old n NotHeld leaves new = (held_at old.handles n ≡ None) × (leaves ≡ []) × (new ≡ old)
   OutdatedStep old n _ leaves new = ⊥
 
+  -- a question whose answer is this number; nothing changes
+  abbrev pub NumberStep : ℕ → SessionState K V P View S W → Answer K V P → List (Event × Gone K V P) → SessionState K V P View S W → Type 0
+  NumberStep count old (Number told) leaves new = (told ≡ count) × (leaves ≡ []) × (new ≡ old)
+  NumberStep count old _ leaves new = ⊥
+
   -- what a session answers to a command, what leaves, and the state then
   abbrev pub Step : SessionState K V P View S W → Command K V P → Answer K V P → List (Event × Gone K V P) → SessionState K V P View S W → Type 0
   Step old (Insert k v p) answer leaves new = InsertStep old k v p answer leaves new
@@ -144,3 +149,6 @@ module _ {K V P View C S W : Type 0} (m : Meaning K P View C) (hash : S → K �
   Step old (Drop n) answer leaves new = DropStep old n answer leaves new
   Step old (Refs n) answer leaves new = RefsStep old n answer leaves new
   Step old (Outdated n) answer leaves new = OutdatedStep old n answer leaves new
+  Step old Capacity answer leaves new = NumberStep old.core.capacity old answer leaves new
+  Step old Usage answer leaves new = NumberStep (usage_of_core m old.core) old answer leaves new
+  Step old Entries answer leaves new = NumberStep (entries_of_core m old.core) old answer leaves new

@@ -28,6 +28,12 @@ pub enum Command<K, V, P> {
     Refs(u64),
     /// Asks whether the record of the handle of this number left.
     Outdated(u64),
+    /// Asks for the weight that the records may have together.
+    Capacity,
+    /// Asks for the sum of the weights of the records that a get finds.
+    Usage,
+    /// Asks how many records a get finds.
+    Entries,
 }
 
 /// The waiters that an insert answered: each waiter's token, with the number of the handle that it got.
@@ -118,7 +124,7 @@ pub enum Answer<K, V, P> {
     No,
     /// To `Drop`: the handle was given back.
     Done,
-    /// To `Refs`: so many.
+    /// To `Refs`, `Capacity`, `Usage` or `Entries`: so many.
     Number(u128),
     /// To what names a handle: no held handle has this number. Nothing has changed.
     NotHeld,

@@ -5,7 +5,7 @@ ghost use Rattle.foyer_policy.specs.declared.error.Reason.TheVariants.{NoMemory}
 ghost use Rattle.foyer_core.specs.Cores.{core_of};
 ghost use Rattle.foyer_session.specs.Owns.{OwnsHandles};
 
-use crate::command::{Command, Reply};
+use crate::command::{Answer, Command, Reply};
 use foyer_core::{CacheCore, HashTableIndexer, Indexer, Weighter};
 use foyer_policy::{Error, Eviction, HashBuilder, Key, Properties, Reason, Result, Value};
 use std::alloc::Global;
@@ -50,7 +50,7 @@ impl<
     ghost use Rattle.foyer_core.specs.Core.{usage_of_core, entries_of_core};
     ghost use Rattle.foyer_session.specs.Run.{Run};
     ghost use Rattle.foyer_session.specs.Sessions.{session_of, meaning_of_session};
-    ghost use Rattle.foyer_session.specs.Step.{Step, IsPlain};
+    ghost use Rattle.foyer_session.specs.Step.{NumberStep, Step, IsPlain};
 
     /// A session over a core, which has handed nothing out.
     pub fn new(alloc: Global, core: CacheCore<E, K, V, P, S, W, (), I>) -> Self
@@ -127,6 +127,14 @@ impl<
         self.core.entries()
     }
 
+    // Answers a number, and changes nothing.
+    fn tell_number(&self, number: u128) -> Reply<K, V, P>
+        ensures { NumberStep (meaning_of_session self.now) (λ builder key. S.hash_of builder (K.hash_input key)) W.weighs
+            number (session_of self.now) result.answer result.leaves (session_of self.now) }
+    {
+        Reply::new(Answer::Number(number), Vec::new(self.alloc))
+    }
+
     // Carries out a command that nothing can be missing for.
     fn carry_out(&mut self, ready: Ready<K, V, P>) -> Reply<K, V, P>
         requires clones { (k c : K) → K.is_clone k c → K.eq c k ≡ true }
@@ -148,6 +156,9 @@ impl<
             Command::Drop(number) => self.give_back(number, leaves),
             Command::Refs(number) => self.refs(number),
             Command::Outdated(number) => self.is_outdated(number),
+            Command::Capacity => self.tell_number(self.core.capacity() as u128),
+            Command::Usage => self.tell_number(self.core.usage()),
+            Command::Entries => self.tell_number(self.core.entries()),
         }
     }
 }

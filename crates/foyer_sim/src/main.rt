@@ -66,7 +66,7 @@ fn run_policy<E: Eviction>(rt: &HostRuntime, args: SimArgs) -> Result<(), Failur
     let alloc = rt.alloc();
     let config = RawCacheConfig {
         capacity: args.capacity,
-        shards: 1,
+        shards: args.shards,
         eviction_config: E::Config::default(),
         hash_builder: ModHasher::default(),
         weighter: SimWeighter,

@@ -33,7 +33,8 @@ impl<
         ensures stay { HandlesStay (λ _. 0) (core_of self.old) (core_of self.new) }
     {
         let hash = self.hash(key);
-        self.shard.touch(hash, key)
+        let place = self.place(hash);
+        self.shards[place].touch(hash, key)
     }
 
     /// Takes the key's record out, where it is in the index, and answers an entry of it, which counts as a
@@ -46,7 +47,8 @@ impl<
         ensures stay { HandlesStay (λ _. 0) (core_of self.old) (core_of self.new) }
     {
         let hash = self.hash(key);
-        self.shard.remove(hash, key)
+        let place = self.place(hash);
+        self.shards[place].remove(hash, key)
     }
 
     /// One more entry of the same record, with the same source, which counts as a handle and not as a use. It
@@ -58,7 +60,8 @@ impl<
             entry.now.kept.hash (core_of self.old) (core_of self.new) }
         ensures stay { HandlesStay (λ _. 0) (core_of self.old) (core_of self.new) }
     {
-        self.shard.clone_handle(entry)
+        let place = self.place(entry.hash());
+        self.shards[place].clone_handle(entry)
     }
 
     /// How many handles an entry's record has. It asks for an entry that the core owns, and takes no memory.
@@ -66,7 +69,7 @@ impl<
         requires owned { Owns (core_of self.now) entry.now }
         ensures { result ≡ refs_in (core_of self.now) entry.now }
     {
-        self.shard.refs(entry)
+        self.shards[self.place(entry.hash())].refs(entry)
     }
 
     /// Whether an entry's record is in the index no more: it left, or gave way to another. It asks for an
@@ -75,6 +78,6 @@ impl<
         requires owned { Owns (core_of self.now) entry.now }
         ensures { IsTrue result ↔ IsOutdatedIn (core_of self.now) entry.now }
     {
-        self.shard.is_outdated(entry)
+        self.shards[self.place(entry.hash())].is_outdated(entry)
     }
 }

@@ -9,8 +9,12 @@ use foyer_policy::{Fifo, FifoConfig, Hint, ModHasher, Source};
 use std::process::Abort;
 use std::test::Fail;
 
+mod bulk;
 mod entries;
 mod memory;
+mod phantom;
+mod pieces;
+mod shards;
 mod weights;
 
 type Core = CacheCore<Fifo, u64, u64, CacheProperties, ModHasher, UnitWeighter, ()>;
@@ -21,11 +25,22 @@ type Leaves = Vec<(Event, Left<u64, u64, CacheProperties>)>;
 
 // A core of one shard that holds nothing.
 fn core(alloc: Global, capacity: usize, number: u64, limits: Limits) -> Result<Core> {
+    sharded(alloc, capacity, 1, number, limits)
+}
+
+// A core of so many shards that holds nothing.
+fn sharded(
+    alloc: Global,
+    capacity: usize,
+    shards: usize,
+    number: u64,
+    limits: Limits,
+) -> Result<Core> {
     CacheCore::new(
         alloc,
         RawCacheConfig {
             capacity,
-            shards: 1,
+            shards,
             eviction_config: FifoConfig {},
             hash_builder: ModHasher::default(),
             weighter: UnitWeighter,

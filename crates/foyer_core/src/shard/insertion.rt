@@ -24,16 +24,37 @@ use std::alloc::Global;
 impl<E: Eviction, K: Key, V: Value, P: Properties, I: Indexer<K>> Shard<E, K, V, P, I> {
     ghost use Rattle.foyer_core.specs.Shards.{state_of, meaning_of};
     ghost use Rattle.foyer_core.specs.State.{usage_of, key_of};
-    ghost use Rattle.foyer_core.specs.Steps.{Inserts, RefusesInsert, GivesWay, Admits, entry_of};
+    ghost use Rattle.foyer_core.specs.Steps.{Inserts, RefusesInsert, InsertsPlain, RefusesPlain, GivesWay, Admits, entry_of};
     ghost use Rattle.foyer_policy.specs.declared.types.Source.TheVariants.{Outer};
 
-    /// Takes a plain record in, and answers an entry of it and what left: records are evicted until the
-    /// capacity has room for it, or nothing more leaves, and then the key's record gives way. A clone of the
-    /// key must equal it. Refused, in this order, where no id is left (F10), the handle would pass the limit
-    /// (F9), the weight and the pinned weight of other keys pass a `usize` (F8), and then nothing has
-    /// changed; or for want of memory (F7), and then some beginning of the evictions has left, which the
-    /// refusal hands out.
+    /// Takes a record in, and answers an entry of it and what left. A clone of the key must equal it.
+    ///
+    /// For a plain record others are evicted until the capacity has room for it, or nothing more leaves, and
+    /// then the key's record gives way (`Replace`). For a phantom one, which its properties say, the key's
+    /// record gives way and nothing is evicted; it is told as `Remove`, is in the index at no time, and leaves
+    /// with its last handle.
+    ///
+    /// Refused, in this order, where no id is left (F10), the handle would pass the limit (F9), the weight of a
+    /// plain record and the pinned weight of other keys pass a `usize` (F8), and then nothing has changed; or
+    /// for want of memory (F7): then some beginning of the evictions has left, which the refusal hands out.
     pub fn emplace(
+        &mut self,
+        alloc: Global,
+        kept: Data<K, V, P>,
+    ) -> std::result::Result<(CoreEntry<K, V, P>, Vec<(Event, Left<K, V, P>)>), Refused<K, V, P>>
+        requires clones { (k c : K) → K.is_clone k c → K.eq c k ≡ true }
+        ensures inserted { MatchResult result
+            (λ made. Inserts (meaning_of self.old) (state_of self.old) kept made.1.items made.0 (state_of self.new))
+            (λ refused. RefusesInsert (meaning_of self.old) (state_of self.old) kept refused.error refused.leaves.items (state_of self.new)) }
+    {
+        if kept.properties.phantom().unwrap_or(false) {
+            return self.emplace_phantom(alloc, kept);
+        }
+        self.emplace_plain(alloc, kept)
+    }
+
+    // Takes a plain record in.
+    fn emplace_plain(
         &mut self,
         alloc: Global,
         kept: Data<K, V, P>,
@@ -41,8 +62,8 @@ impl<E: Eviction, K: Key, V: Value, P: Properties, I: Indexer<K>> Shard<E, K, V,
         requires clones { (k c : K) → K.is_clone k c → K.eq c k ≡ true }
         requires plain { is_phantom (P.phantom_of kept.properties) ≡ false }
         ensures inserted { MatchResult result
-            (λ made. Inserts (meaning_of self.old) (state_of self.old) kept made.1.items made.0 (state_of self.new))
-            (λ refused. RefusesInsert (meaning_of self.old) (state_of self.old) kept refused.error refused.leaves.items (state_of self.new)) }
+            (λ made. InsertsPlain (meaning_of self.old) (state_of self.old) kept made.1.items made.0 (state_of self.new))
+            (λ refused. RefusesPlain (meaning_of self.old) (state_of self.old) kept refused.error refused.leaves.items (state_of self.new)) }
     {
         if let Some(reason) = self.refusal(kept.hash, &kept.key, kept.weight) {
             return Err(Refused::new(reason, Vec::new(alloc)));

@@ -53,7 +53,10 @@ fn room_for<K: Drop, V: Drop, P: Drop>(
         | Command::Touch(_)
         | Command::Clone(_)
         | Command::Refs(_)
-        | Command::Outdated(_) => Ok(Vec::new(alloc)),
+        | Command::Outdated(_)
+        | Command::Capacity
+        | Command::Usage
+        | Command::Entries => Ok(Vec::new(alloc)),
     }
 }
 

@@ -31,8 +31,8 @@ pub struct SimArgs {
     pub shards: usize,
 }
 
-/// The arguments that these words are: the name of a policy, a capacity and a number of shards. One shard
-/// is all that a cache may have so far.
+/// The arguments that these words are: the name of a policy, a capacity and a number of shards,
+/// which is not 0.
 pub fn sim_args(words: &[String]) -> Option<SimArgs>
     ensures { result ≡ args_of (map string_bytes words.now) }
 {
@@ -42,7 +42,7 @@ pub fn sim_args(words: &[String]) -> Option<SimArgs>
     let policy = policy_of(policy.as_bytes())?;
     let capacity = number_of(capacity.as_bytes())?;
     let shards = number_of(shards.as_bytes())?;
-    if shards != 1 {
+    if shards == 0 {
         return None;
     }
     Some(SimArgs {

@@ -299,6 +299,8 @@ fn arguments_are_read(rt: HostRuntime) -> Result<(), Fail> {
     };
     assert_eq!(rt; args_of(alloc, &["fifo", "2", "1"])?, Some(args));
     assert_eq!(rt; args_of(alloc, &["fifo", "0002", "01"])?, Some(args));
+    let four = SimArgs { shards: 4, ..args };
+    assert_eq!(rt; args_of(alloc, &["fifo", "2", "4"])?, Some(four));
     for (name, policy) in [
         ("lru", SimPolicy::Lru),
         ("lfu", SimPolicy::Lfu),
@@ -326,7 +328,6 @@ fn bad_arguments_are_none(rt: HostRuntime) -> Result<(), Fail> {
         None
     );
     assert_eq!(rt; args_of(alloc, &["fifo", "2", "0"])?, None);
-    assert_eq!(rt; args_of(alloc, &["fifo", "2", "2"])?, None);
     assert_eq!(rt; args_of(alloc, &["fifo", "2", "one"])?, None);
     Ok(())
 }

@@ -9,7 +9,7 @@ use foyer_policy::{Lru, LruConfig, Ratio};
 
 // A record weighs what its value says.
 #[derive(Clone, Copy)]
-struct ByValue;
+pub(super) struct ByValue;
 
 impl Weighter<u64, usize> for ByValue {
     ghost use Rattle.std.specs.Prelude.{◌≡◌};
@@ -21,17 +21,22 @@ impl Weighter<u64, usize> for ByValue {
     }
 }
 
-type Heavy<E> = CacheCore<E, u64, usize, CacheProperties, ModHasher, ByValue, ()>;
+pub(super) type Heavy<E> = CacheCore<E, u64, usize, CacheProperties, ModHasher, ByValue, ()>;
 
-type HeavyEntry = CoreEntry<u64, usize, CacheProperties>;
+pub(super) type HeavyEntry = CoreEntry<u64, usize, CacheProperties>;
 
-// A core of one shard that holds nothing.
-fn heavy<E: Eviction>(alloc: Global, capacity: usize, config: E::Config) -> Result<Heavy<E>> {
+// A core that holds nothing.
+pub(super) fn heavy<E: Eviction>(
+    alloc: Global,
+    capacity: usize,
+    shards: usize,
+    config: E::Config,
+) -> Result<Heavy<E>> {
     CacheCore::new(
         alloc,
         RawCacheConfig {
             capacity,
-            shards: 1,
+            shards,
             eviction_config: config,
             hash_builder: ModHasher::default(),
             weighter: ByValue,
@@ -41,7 +46,7 @@ fn heavy<E: Eviction>(alloc: Global, capacity: usize, config: E::Config) -> Resu
     )
 }
 
-type HeavyLeaves = Vec<(Event, Left<u64, usize, CacheProperties>)>;
+pub(super) type HeavyLeaves = Vec<(Event, Left<u64, usize, CacheProperties>)>;
 
 // The entry of what came in, for which nobody waited, and what left.
 fn came_in(made: Inserted<u64, usize, CacheProperties, ()>) -> (HeavyEntry, HeavyLeaves)
@@ -103,7 +108,7 @@ fn refused_weight<E: Eviction>(
     }
 }
 
-fn release_heavy<E: Eviction>(rt: &impl Abort, core: &mut Heavy<E>, entry: HeavyEntry) {
+pub(super) fn release_heavy<E: Eviction>(rt: &impl Abort, core: &mut Heavy<E>, entry: HeavyEntry) {
     match core.give_back(entry) {
         Ok(leave) => assert!(rt; leave.is_none()),
         Err(entry) => {
@@ -116,7 +121,7 @@ fn release_heavy<E: Eviction>(rt: &impl Abort, core: &mut Heavy<E>, entry: Heavy
 // A weight above the capacity is not refused: the record is in, and the next one evicts it.
 #[test]
 fn heavy_records_come_in(rt: HostRuntime) -> std::result::Result<(), Fail> {
-    let mut core = heavy::<Fifo>(rt.alloc(), 10, FifoConfig {})?;
+    let mut core = heavy::<Fifo>(rt.alloc(), 10, 1, FifoConfig {})?;
     let (entry, gone) = put_heavy(&rt, &mut core, 1, 18446744073709551614);
     assert!(rt; gone.is_none());
     assert_eq!(rt; core.usage(), 18446744073709551614);
@@ -138,15 +143,15 @@ fn heavy_records_come_in(rt: HostRuntime) -> std::result::Result<(), Fail> {
 }
 
 // A core that is least recently used, all of whose capacity is the pool of high priority.
-fn pinning(alloc: Global, capacity: usize) -> Result<Heavy<Lru>> {
+pub(super) fn pinning(alloc: Global, capacity: usize) -> Result<Heavy<Lru>> {
     let config = LruConfig {
         high_priority_pool_ratio: Ratio { num: 1, den: 1 },
     };
-    heavy(alloc, capacity, config)
+    heavy(alloc, capacity, 1, config)
 }
 
 // Puts a record in and lets its entry go: the key that left.
-fn gone_for<E: Eviction>(
+pub(super) fn gone_for<E: Eviction>(
     rt: &impl Abort,
     core: &mut Heavy<E>,
     key: u64,
@@ -191,5 +196,19 @@ fn a_weight_must_fit_beside_what_is_pinned(rt: HostRuntime) -> std::result::Resu
         Ok(None) => panic!(&rt; "nothing is found under 1"),
         Err(error) => panic!(&rt; "refused: {error}"),
     }
+    Ok(())
+}
+
+// The usage of two shards passes what one weight can be.
+#[test]
+fn the_usage_of_all_shards_passes_a_weight(rt: HostRuntime) -> std::result::Result<(), Fail> {
+    let mut core = heavy::<Fifo>(rt.alloc(), 10, 2, FifoConfig {})?;
+    for key in 0..2 {
+        assert_eq!(rt; gone_for(&rt, &mut core, key, 18446744073709551615), None);
+    }
+    assert_eq!(rt; core.usage(), 36893488147419103230);
+    assert_eq!(rt; core.entries(), 2);
+    assert_eq!(rt; gone_for(&rt, &mut core, 2, 1), Some(0));
+    assert_eq!(rt; core.usage(), 18446744073709551616);
     Ok(())
 }

@@ -1,15 +1,22 @@
+use Rattle.std.proofs.Common.{ap, ◌∙◌, ℕ, ◌%◌, vec_len}
+use Rattle.foyer_core.specs.Cores.{core_of}
 use Rattle.foyer_core.specs.Shards.{state_of}
 use Rattle.foyer_core.specs.Steps.{ClonesHandle}
-use Rattle.foyer_core.proofs.CoreLaws.{stays_one}
-use Rattle.foyer_core.proofs.CoreLemmas.{at_one}
-use Rattle.foyer_core.proofs.Staying.{clones_stay}
+use Rattle.foyer_core.proofs.CoreLaws.{stays_at}
+use Rattle.foyer_core.proofs.CoreLemmas.{at_over}
+use Rattle.foyer_core.proofs.Staying.{RecordsStay, nothing, clones_stay}
 use Rattle.foyer_core.proofs.cache_core.CacheCore.clone_handle.Goals as goal
 
 pub returns : goal.returns
 returns g c =
     let s = c.args.self.now in
+    let e = c.args.entry.now in
+    let x = c.index_mut.result.now in
+    let y = c.clone_handle.new.self in
+    let did = c.clone_handle.ensures.clones in
+    let over = at_over state_of s.capacity s.hash_builder s.weighter s.shards.items e.kept.hash (vec_len s.shards) c.place-place.result x
+    s.shards.ok.0 c.place-place.ensures.within (c.place-place.ensures.place ∙ ap (λ (n : ℕ). n % vec_len s.shards) c.hash.ensures) c.index_mut.ensures.value in
     record {
-      clones = at_one s.capacity s.hash_builder s.weighter c.args.entry.now.kept.hash (λ a b. ClonesHandle a c.args.entry.now c.clone_handle.result b) (state_of s.shard) (state_of c.clone_handle.new.self)
-          c.clone_handle.ensures.clones;
-      stay = stays_one s.capacity s.hash_builder s.weighter (state_of s.shard) (state_of c.clone_handle.new.self) (clones_stay (state_of s.shard) c.args.entry.now c.clone_handle.result (state_of c.clone_handle.new.self) c.clone_handle.ensures.clones);
+      clones = over (λ a b. ClonesHandle a e c.clone_handle.result b) y did;
+      stay = stays_at (core_of s) _ e.kept.hash (over (RecordsStay nothing) y (clones_stay (state_of x) e c.clone_handle.result (state_of y) did));
     }

@@ -1,23 +1,39 @@
-use Rattle.std.proofs.Common.{◌≡◌}
-use Rattle.std.proofs.lemmas.Result.{IfOk-weaker}
+use Rattle.std.proofs.Common.{◌≡◌, ap, ◌∙◌, ℕ, ◌%◌, vec_len}
+use Rattle.std.proofs.lemmas.Result.{IfOk-weaker, on_err_weaker}
+use Rattle.foyer_core.specs.Cores.{core_of}
 use Rattle.foyer_core.specs.Shards.{meaning_of, state_of}
 use Rattle.foyer_core.specs.Steps.{GivesBack}
-use Rattle.foyer_core.proofs.CoreLaws.{gives_one}
-use Rattle.foyer_core.proofs.CoreLemmas.{at_one}
-use Rattle.foyer_core.proofs.Staying.{given_back_stays}
+use Rattle.foyer_core.proofs.CoreLaws.{gives_at}
+use Rattle.foyer_core.proofs.CoreLemmas.{at_over, same_over}
+use Rattle.foyer_core.proofs.Staying.{RecordsStay, one, given_back_stays}
 use Rattle.foyer_core.proofs.cache_core.CacheCore.give_back.Goals as goal
 
 pub returns-clause-taken : goal.returns-clause-taken
 returns-clause-taken g c =
     let s = c.args.self.now in
-    let m = meaning_of s.shard in
+    let e = c.args.entry in
+    let x = c.index_mut.result.now in
+    let over = at_over state_of s.capacity s.hash_builder s.weighter s.shards.items e.kept.hash (vec_len s.shards) c.place-place.result x
+    s.shards.ok.0 c.place-place.ensures.within (c.place-place.ensures.place ∙ ap (λ (n : ℕ). n % vec_len s.shards) c.hash.ensures) c.index_mut.ensures.value in
     IfOk-weaker c.give_back.result _ _
-    (λ leave given. at_one s.capacity s.hash_builder s.weighter c.args.entry.kept.hash (λ a b. GivesBack m a c.args.entry.id leave b)
-    (state_of s.shard) (state_of c.give_back.new.self) given.1)
+    (λ leave given. over (λ a b. GivesBack (meaning_of x) a e.id leave b) c.give_back.new.self given.1)
     c.give_back.ensures.taken
+
+pub returns-clause-err : goal.returns-clause-err
+returns-clause-err g c =
+    let s = c.args.self.now in
+    let e = c.args.entry in
+    let same = same_over state_of s.capacity s.hash_builder s.weighter s.shards.items e.kept.hash (vec_len s.shards) c.place-place.result c.index_mut.result.now
+    s.shards.ok.0 c.place-place.ensures.within (c.place-place.ensures.place ∙ ap (λ (n : ℕ). n % vec_len s.shards) c.hash.ensures) c.index_mut.ensures.value in
+    on_err_weaker c.give_back.result (same c.give_back.new.self) c.give_back.ensures.err
 
 pub returns-clause-stay : goal.returns-clause-stay
 returns-clause-stay g c =
     let s = c.args.self.now in
-    gives_one s.capacity s.hash_builder s.weighter c.args.entry (state_of s.shard) (state_of c.give_back.new.self)
-    (given_back_stays (meaning_of s.shard) (state_of s.shard) c.args.entry.id (λ leave. c.args.entry.number ≡ (state_of s.shard).number) c.give_back.result (state_of c.give_back.new.self) c.give_back.ensures.taken c.give_back.ensures.err)
+    let e = c.args.entry in
+    let x = c.index_mut.result.now in
+    let y = c.give_back.new.self in
+    let over = at_over state_of s.capacity s.hash_builder s.weighter s.shards.items e.kept.hash (vec_len s.shards) c.place-place.result x
+    s.shards.ok.0 c.place-place.ensures.within (c.place-place.ensures.place ∙ ap (λ (n : ℕ). n % vec_len s.shards) c.hash.ensures) c.index_mut.ensures.value in
+    gives_at (core_of s) _ e (over (RecordsStay (one e.id)) y
+    (given_back_stays (meaning_of x) (state_of x) e.id (λ leave. e.number ≡ (state_of x).number) c.give_back.result (state_of y) c.give_back.ensures.taken c.give_back.ensures.err))

@@ -1,54 +1,103 @@
-use Rattle.std.proofs.Common.{ap}
+use Rattle.std.proofs.Common.{refl, ap, ◌∙◌, ℕ, ◌%◌, vec_len}
+use Rattle.std.specs.Prelude.{slice_set}
 use Rattle.foyer_core.specs.declared.record.Data.{Data}
 use Rattle.foyer_core.specs.Values.{Held}
 use Rattle.foyer_core.specs.Cores.{core_of}
 use Rattle.foyer_core.specs.Core.{InsertsWeighed}
+use Rattle.foyer_core.specs.State.{is_phantom_record, coming_in}
 use Rattle.foyer_core.specs.Shards.{meaning_of, state_of}
-use Rattle.foyer_core.proofs.CoreLaws.{stays_one, finds_one, bounded_one, inserted_stays}
-use Rattle.foyer_core.proofs.CoreLemmas.{inserts_one}
-use Rattle.foyer_core.proofs.Staying.{refused_insert_stays}
+use Rattle.foyer_core.specs.Steps.{Inserts, RefusesInsert}
+use Rattle.foyer_core.proofs.CoreLaws.{Came, stays_at, finds_at, bounded_at}
+use Rattle.foyer_core.proofs.CoreLemmas.{at_over, core_over}
+use Rattle.foyer_core.proofs.Staying.{RecordsStay, nothing}
+use Rattle.foyer_core.proofs.Inserting.{came_stays, came_plain, refused_stay}
 use Rattle.foyer_core.proofs.StoredLemmas.{err_is}
 use Rattle.foyer_core.proofs.cache_core.CacheCore.insert_with_properties.Goals as goal
 
 pub returns-in_err-entry-clause-inserted : goal.returns-in_err-entry-clause-inserted
 returns-in_err-entry-clause-inserted g c =
     let s = c.args.self.now in
+    let x = c.index_mut.result.now in
+    let y = c.emplace.new.self in
+    let hash = g.S.HashBuilder.hash_of s.hash_builder (g.K.Hash.hash_input c.args.key) in
+    let d : Data g.row.K.Denot g.row.V.Denot g.row.P.Denot = record { key = c.args.key; value = c.args.value; properties = coming_in g.P.Properties.location_of g.P.Properties.with_phantom_of c.args.properties; hash = hash; weight = c.weigh-weight.result } in
+    let over = at_over state_of s.capacity s.hash_builder s.weighter s.shards.items hash (vec_len s.shards) c.place-place.result x
+    s.shards.ok.0 c.place-place.ensures.within (c.place-place.ensures.place ∙ ap (λ (n : ℕ). n % vec_len s.shards) c.hash-hash.ensures.hash) c.index_mut.ensures.value in
+    let did = rw (c.hash-hash.ensures.hash, c.marked-properties.ensures) at c.in_err-entry.ensures.inserted in
     err_is c.from_residual.result c.in_err-entry.field-0.0
-    (λ r. InsertsWeighed (meaning_of s.shard) (g.W.Weighter.weighs s.weighter c.args.key c.args.value)
-    (g.S.HashBuilder.hash_of s.hash_builder (g.K.Hash.hash_input c.args.key)) c.args.key c.args.value c.args.properties r
-    (core_of s) (core_of (record s { shard = c.emplace.new.self })))
+    (λ r. InsertsWeighed (meaning_of x) (g.W.Weighter.weighs s.weighter c.args.key c.args.value) hash c.args.key c.args.value (coming_in g.P.Properties.location_of g.P.Properties.with_phantom_of c.args.properties) r (core_of s)
+    (core_over state_of s.capacity s.hash_builder s.weighter (slice_set s.shards.items c.place-place.result y)))
     c.from_residual.ensures.1
-    (inserts_one (meaning_of s.shard) s.capacity s.hash_builder s.weighter (g.W.Weighter.weighs s.weighter c.args.key c.args.value)
-    _ c.hash-hash.result c.hash-hash.ensures.hash c.args.key c.args.value c.args.properties _ c.weigh-weight.result c.weigh-weight.ensures
-    (state_of s.shard) (state_of c.emplace.new.self) c.in_err-entry.ensures.inserted)
-
-pub returns-clause-inserted : goal.returns-clause-inserted
-returns-clause-inserted g c =
-    let s = c.args.self.now in
-    inserts_one (meaning_of s.shard) s.capacity s.hash_builder s.weighter (g.W.Weighter.weighs s.weighter c.args.key c.args.value)
-    _ c.hash-hash.result c.hash-hash.ensures.hash c.args.key c.args.value c.args.properties _ c.weigh-weight.result c.weigh-weight.ensures
-    (state_of s.shard) (state_of c.emplace.new.self) c.in_ok-entry.ensures.inserted
+    record {
+      weight = c.weigh-weight.result;
+      weighed = c.weigh-weight.ensures;
+      inserts = over (λ a b. RefusesInsert (meaning_of x) a d c.in_err-entry.field-0.0.error c.in_err-entry.field-0.0.leaves.items b) y did;
+    }
 
 pub returns-in_err-entry-clause-stay : goal.returns-in_err-entry-clause-stay
 returns-in_err-entry-clause-stay g c =
     let s = c.args.self.now in
-    let d : Data g.row.K.Denot g.row.V.Denot g.row.P.Denot = record { key = c.args.key; value = c.args.value; properties = c.args.properties; hash = c.hash-hash.result; weight = c.weigh-weight.result } in
-    stays_one s.capacity s.hash_builder s.weighter (state_of s.shard) (state_of c.emplace.new.self)
-    (refused_insert_stays (meaning_of s.shard) (state_of s.shard) d _ _ (state_of c.emplace.new.self) c.in_err-entry.ensures.inserted)
+    let x = c.index_mut.result.now in
+    let y = c.emplace.new.self in
+    let hash = g.S.HashBuilder.hash_of s.hash_builder (g.K.Hash.hash_input c.args.key) in
+    let d : Data g.row.K.Denot g.row.V.Denot g.row.P.Denot = record { key = c.args.key; value = c.args.value; properties = coming_in g.P.Properties.location_of g.P.Properties.with_phantom_of c.args.properties; hash = hash; weight = c.weigh-weight.result } in
+    let over = at_over state_of s.capacity s.hash_builder s.weighter s.shards.items hash (vec_len s.shards) c.place-place.result x
+    s.shards.ok.0 c.place-place.ensures.within (c.place-place.ensures.place ∙ ap (λ (n : ℕ). n % vec_len s.shards) c.hash-hash.ensures.hash) c.index_mut.ensures.value in
+    let did = rw (c.hash-hash.ensures.hash, c.marked-properties.ensures) at c.in_err-entry.ensures.inserted in
+    stays_at (core_of s) _ hash (over (RecordsStay nothing) y (refused_stay (meaning_of x) (is_phantom_record (meaning_of x) d) (state_of x) d _ _ (state_of y) did))
+
+pub returns-clause-inserted : goal.returns-clause-inserted
+returns-clause-inserted g c =
+    let s = c.args.self.now in
+    let x = c.index_mut.result.now in
+    let y = c.emplace.new.self in
+    let hash = g.S.HashBuilder.hash_of s.hash_builder (g.K.Hash.hash_input c.args.key) in
+    let d : Data g.row.K.Denot g.row.V.Denot g.row.P.Denot = record { key = c.args.key; value = c.args.value; properties = coming_in g.P.Properties.location_of g.P.Properties.with_phantom_of c.args.properties; hash = hash; weight = c.weigh-weight.result } in
+    let over = at_over state_of s.capacity s.hash_builder s.weighter s.shards.items hash (vec_len s.shards) c.place-place.result x
+    s.shards.ok.0 c.place-place.ensures.within (c.place-place.ensures.place ∙ ap (λ (n : ℕ). n % vec_len s.shards) c.hash-hash.ensures.hash) c.index_mut.ensures.value in
+    let did = rw (c.hash-hash.ensures.hash, c.marked-properties.ensures) at c.in_ok-entry.ensures.inserted in
+    record {
+      weight = c.weigh-weight.result;
+      weighed = c.weigh-weight.ensures;
+      inserts = over (λ a b. Inserts (meaning_of x) a d c.in_ok-entry.leaves.items c.in_ok-entry.entry b) y did;
+    }
 
 pub returns-clause-found : goal.returns-clause-found
-returns-clause-found g c =
+returns-clause-found g c plain =
     let s = c.args.self.now in
-    finds_one (meaning_of s.shard) g.met.K.Eq.laws g.met.E.Eviction.lawful s.capacity s.hash_builder s.weighter (state_of s.shard) _ _ _ (state_of c.emplace.new.self) c.in_ok-entry.ensures.inserted
-    (λ k. g.S.HashBuilder.hash_of s.hash_builder (g.K.Hash.hash_input k)) c.hash-hash.ensures.equal_keys
+    let x = c.index_mut.result.now in
+    let y = c.emplace.new.self in
+    let hash = g.S.HashBuilder.hash_of s.hash_builder (g.K.Hash.hash_input c.args.key) in
+    let d : Data g.row.K.Denot g.row.V.Denot g.row.P.Denot = record { key = c.args.key; value = c.args.value; properties = coming_in g.P.Properties.location_of g.P.Properties.with_phantom_of c.args.properties; hash = hash; weight = c.weigh-weight.result } in
+    let over = at_over state_of s.capacity s.hash_builder s.weighter s.shards.items hash (vec_len s.shards) c.place-place.result x
+    s.shards.ok.0 c.place-place.ensures.within (c.place-place.ensures.place ∙ ap (λ (n : ℕ). n % vec_len s.shards) c.hash-hash.ensures.hash) c.index_mut.ensures.value in
+    let did = rw (c.hash-hash.ensures.hash, c.marked-properties.ensures) at c.in_ok-entry.ensures.inserted in
+    let at = over (Came (meaning_of x) g.met.K.Eq.laws g.met.E.Eviction.lawful d c.in_ok-entry.leaves.items c.in_ok-entry.entry) y (x.kept, came_plain (meaning_of x) g.P.Properties.location_of g.P.Properties.with_phantom_of c.args.properties plain (state_of x) (state_of y) d _ _ refl did) in
+    finds_at (meaning_of x) g.met.K.Eq.laws g.met.E.Eviction.lawful (core_of s) _ d _ _ at
+    (λ k. g.S.HashBuilder.hash_of s.hash_builder (g.K.Hash.hash_input k)) (rw c.hash-hash.ensures.hash at c.hash-hash.ensures.equal_keys)
 
 pub returns-clause-bounded : goal.returns-clause-bounded
-returns-clause-bounded g c =
+returns-clause-bounded g c plain =
     let s = c.args.self.now in
-    let did = c.in_ok-entry.ensures.inserted in
-    bounded_one (meaning_of s.shard) g.met.K.Eq.laws g.met.E.Eviction.lawful s.capacity s.hash_builder s.weighter (state_of s.shard) _ _ _ (state_of c.emplace.new.self) did s.shard.kept _ _ (ap (λ (e : Held g.row.K.Denot g.row.V.Denot g.row.P.Denot). e.kept.weight) did.entry_is)
+    let x = c.index_mut.result.now in
+    let y = c.emplace.new.self in
+    let hash = g.S.HashBuilder.hash_of s.hash_builder (g.K.Hash.hash_input c.args.key) in
+    let d : Data g.row.K.Denot g.row.V.Denot g.row.P.Denot = record { key = c.args.key; value = c.args.value; properties = coming_in g.P.Properties.location_of g.P.Properties.with_phantom_of c.args.properties; hash = hash; weight = c.weigh-weight.result } in
+    let over = at_over state_of s.capacity s.hash_builder s.weighter s.shards.items hash (vec_len s.shards) c.place-place.result x
+    s.shards.ok.0 c.place-place.ensures.within (c.place-place.ensures.place ∙ ap (λ (n : ℕ). n % vec_len s.shards) c.hash-hash.ensures.hash) c.index_mut.ensures.value in
+    let did = rw (c.hash-hash.ensures.hash, c.marked-properties.ensures) at c.in_ok-entry.ensures.inserted in
+    let at = over (Came (meaning_of x) g.met.K.Eq.laws g.met.E.Eviction.lawful d c.in_ok-entry.leaves.items c.in_ok-entry.entry) y (x.kept, came_plain (meaning_of x) g.P.Properties.location_of g.P.Properties.with_phantom_of c.args.properties plain (state_of x) (state_of y) d _ _ refl did) in
+    bounded_at (meaning_of x) g.met.K.Eq.laws g.met.E.Eviction.lawful (core_of s) _ d _ _ at _ (ap (λ (e : Held g.row.K.Denot g.row.V.Denot g.row.P.Denot). e.kept.weight) at.stepped.1.entry_is)
 
 pub returns-clause-stay : goal.returns-clause-stay
 returns-clause-stay g c =
     let s = c.args.self.now in
-    inserted_stays (meaning_of s.shard) g.met.K.Eq.laws g.met.E.Eviction.lawful s.capacity s.hash_builder s.weighter (state_of s.shard) _ _ _ (state_of c.emplace.new.self) c.in_ok-entry.ensures.inserted s.shard.kept
+    let x = c.index_mut.result.now in
+    let y = c.emplace.new.self in
+    let hash = g.S.HashBuilder.hash_of s.hash_builder (g.K.Hash.hash_input c.args.key) in
+    let d : Data g.row.K.Denot g.row.V.Denot g.row.P.Denot = record { key = c.args.key; value = c.args.value; properties = coming_in g.P.Properties.location_of g.P.Properties.with_phantom_of c.args.properties; hash = hash; weight = c.weigh-weight.result } in
+    let over = at_over state_of s.capacity s.hash_builder s.weighter s.shards.items hash (vec_len s.shards) c.place-place.result x
+    s.shards.ok.0 c.place-place.ensures.within (c.place-place.ensures.place ∙ ap (λ (n : ℕ). n % vec_len s.shards) c.hash-hash.ensures.hash) c.index_mut.ensures.value in
+    let did = rw (c.hash-hash.ensures.hash, c.marked-properties.ensures) at c.in_ok-entry.ensures.inserted in
+    stays_at (core_of s) _ hash (over (RecordsStay nothing) y
+    (came_stays (meaning_of x) (state_of x) (state_of y) d _ _ x.kept did))

@@ -1,16 +1,22 @@
+use Rattle.std.proofs.Common.{ap, ◌∙◌, ℕ, ◌%◌, vec_len}
+use Rattle.foyer_core.specs.Cores.{core_of}
 use Rattle.foyer_core.specs.Shards.{meaning_of, state_of}
 use Rattle.foyer_core.specs.Steps.{Touches}
-use Rattle.foyer_core.proofs.CoreLaws.{stays_one}
-use Rattle.foyer_core.proofs.CoreLemmas.{at_one}
-use Rattle.foyer_core.proofs.Staying.{touches_stay}
+use Rattle.foyer_core.proofs.CoreLaws.{stays_at}
+use Rattle.foyer_core.proofs.CoreLemmas.{at_over}
+use Rattle.foyer_core.proofs.Staying.{RecordsStay, nothing, touches_stay}
 use Rattle.foyer_core.proofs.cache_core.CacheCore.touch.Goals as goal
 
 pub returns : goal.returns
 returns g c =
     let s = c.args.self.now in
+    let x = c.index_mut.result.now in
+    let y = c.touch.new.self in
     let hash = g.S.HashBuilder.hash_of s.hash_builder (g.K.Hash.hash_input c.args.key.now) in
+    let did = rw c.hash-hash.ensures.hash at c.touch.ensures.touches in
+    let over = at_over state_of s.capacity s.hash_builder s.weighter s.shards.items hash (vec_len s.shards) c.place-place.result x
+    s.shards.ok.0 c.place-place.ensures.within (c.place-place.ensures.place ∙ ap (λ (n : ℕ). n % vec_len s.shards) c.hash-hash.ensures.hash) c.index_mut.ensures.value in
     record {
-      touches = at_one s.capacity s.hash_builder s.weighter hash (λ a b. Touches (meaning_of s.shard) a (hash, c.args.key.now) c.touch.result b) (state_of s.shard) (state_of c.touch.new.self)
-          (rw c.hash-hash.ensures.hash at c.touch.ensures.touches);
-      stay = stays_one s.capacity s.hash_builder s.weighter (state_of s.shard) (state_of c.touch.new.self) (touches_stay (meaning_of s.shard) (state_of s.shard) (c.hash-hash.result, c.args.key.now) c.touch.result (state_of c.touch.new.self) c.touch.ensures.touches);
+      touches = over (λ a b. Touches (meaning_of x) a (hash, c.args.key.now) c.touch.result b) y did;
+      stay = stays_at (core_of s) _ hash (over (RecordsStay nothing) y (touches_stay (meaning_of x) (state_of x) (hash, c.args.key.now) c.touch.result (state_of y) did));
     }

@@ -1,0 +1,37 @@
+use Rattle.std.proofs.Common.{◌≡◌, List, map, refl, ap}
+use Rattle.std.proofs.lemmas.Result.{IfOk-weaker, on_err_weaker}
+use Rattle.foyer_core.specs.Bulk.{Clears}
+use Rattle.foyer_core.specs.CoreBulk.{InTurn, IsEmptied}
+use Rattle.foyer_core.specs.Cores.{core_of, meaning_of_core}
+use Rattle.foyer_core.specs.Laws.{HandlesStay}
+use Rattle.foyer_core.specs.Shards.{state_of}
+use Rattle.foyer_core.specs.State.{State}
+use Rattle.foyer_core.proofs.CoreLemmas.{core_over}
+use Rattle.foyer_core.proofs.TurnEnds.{all_cleared}
+use Rattle.foyer_core.proofs.TurnLaws.{all_cleared_stay, stays_same, of_result, ok_so}
+use Rattle.foyer_core.proofs.cache_core.CacheCore.clear.Goals as goal
+
+pub returns-clause-done : goal.returns-clause-done
+returns-clause-done g c = IfOk-weaker c.clear_each.result _ _ (λ leaves h. record { stepped = h; rest = refl }) c.clear_each.ensures.done
+
+pub returns-clause-err : goal.returns-clause-err
+returns-clause-err g c =
+    on_err_weaker c.clear_each.result (λ same. ap (λ (l : List (State g.row.K.Denot g.row.V.Denot g.row.P.Denot g.E.Eviction.View)). record (core_of c.args.self.now) { shards = l }) same) c.clear_each.ensures.err
+
+pub returns-clause-emptied : goal.returns-clause-emptied
+returns-clause-emptied g c =
+    let s = c.args.self.now in
+    let m = meaning_of_core s in
+    let now = core_over state_of s.capacity s.hash_builder s.weighter c.clear_each.new.shards.items in
+    ok_so c.clear_each.result (λ leaves. InTurn (Clears m) (map state_of s.shards.items) leaves.items now.shards) (IsEmptied m now) c.clear_each.ensures.done
+    (λ leaves h. all_cleared m g.met.E.Eviction.lawful (core_of s) leaves.items now record { stepped = h; rest = refl })
+
+pub returns-clause-stay : goal.returns-clause-stay
+returns-clause-stay g c =
+    let s = c.args.self.now in
+    let m = meaning_of_core s in
+    let now = core_over state_of s.capacity s.hash_builder s.weighter c.clear_each.new.shards.items in
+    of_result c.clear_each.result (λ leaves. InTurn (Clears m) (map state_of s.shards.items) leaves.items now.shards) (now.shards ≡ map state_of s.shards.items) (HandlesStay (λ e. 0) (core_of s) now)
+    c.clear_each.ensures.done c.clear_each.ensures.err
+    (λ leaves h. all_cleared_stay m (core_of s) leaves.items now record { stepped = h; rest = refl })
+    (λ same. stays_same (core_of s) now (ap (λ (l : List (State g.row.K.Denot g.row.V.Denot g.row.P.Denot g.E.Eviction.View)). record (core_of s) { shards = l }) same))

@@ -1,0 +1,48 @@
+use Rattle.std.proofs.Common.{map, refl}
+use Rattle.foyer_core.specs.Bulk.{EvictsUnpinned, EvictingUnpinned}
+use Rattle.foyer_core.specs.CoreBulk.{InTurn, InTurnUntil, OfShards}
+use Rattle.foyer_core.specs.Cores.{core_of, meaning_of_core}
+use Rattle.foyer_core.specs.Shards.{state_of}
+use Rattle.foyer_core.proofs.CoreLemmas.{core_over}
+use Rattle.foyer_core.proofs.Told.{goes_all}
+use Rattle.foyer_core.proofs.TurnEnds.{all_evicted}
+use Rattle.foyer_core.proofs.TurnLaws.{all_unpinned_stay, all_unpinned_until_stay}
+use Rattle.foyer_core.proofs.cache_core.CacheCore.evict_all.Goals as goal
+
+pub returns-in-Ok-clause-emptied : goal.returns-in-Ok-clause-emptied
+returns-in-Ok-clause-emptied g c =
+    let s = c.args.self.now in
+    let m = meaning_of_core s in
+    let new = c.evict_each.new.shards in
+    let ls = c.evict_each.new.leaves.items in
+    let done = goes_all ls (λ l. InTurn (EvictsUnpinned m) (map state_of s.shards.items) l (map state_of new.items)) (rw c.new-leaves.ensures.items at c.in-Ok.ensures.done) in
+    all_evicted m g.met.E.Eviction.lawful (core_of s) ls (core_over state_of s.capacity s.hash_builder s.weighter new.items) record { stepped = done; rest = refl }
+
+pub returns-in-Ok-clause-stay : goal.returns-in-Ok-clause-stay
+returns-in-Ok-clause-stay g c =
+    let s = c.args.self.now in
+    let m = meaning_of_core s in
+    let new = c.evict_each.new.shards in
+    let ls = c.evict_each.new.leaves.items in
+    let done = goes_all ls (λ l. InTurn (EvictsUnpinned m) (map state_of s.shards.items) l (map state_of new.items)) (rw c.new-leaves.ensures.items at c.in-Ok.ensures.done) in
+    all_unpinned_stay m (core_of s) ls (core_over state_of s.capacity s.hash_builder s.weighter new.items) record { stepped = done; rest = refl }
+
+pub returns-in-Err-clause-refused : goal.returns-in-Err-clause-refused
+returns-in-Err-clause-refused g c =
+    let s = c.args.self.now in
+    let m = meaning_of_core s in
+    let new = c.evict_each.new.shards in
+    let ls = c.evict_each.new.leaves.items in
+    record {
+      stepped = goes_all ls (λ l. InTurnUntil (EvictsUnpinned m) (EvictingUnpinned m) (map state_of s.shards.items) l (map state_of new.items)) (rw c.new-leaves.ensures.items at c.in-Err.ensures.refused);
+      rest = refl;
+    }
+
+pub returns-in-Err-clause-stay : goal.returns-in-Err-clause-stay
+returns-in-Err-clause-stay g c =
+    let s = c.args.self.now in
+    let m = meaning_of_core s in
+    let new = c.evict_each.new.shards in
+    let ls = c.evict_each.new.leaves.items in
+    let part = goes_all ls (λ l. InTurnUntil (EvictsUnpinned m) (EvictingUnpinned m) (map state_of s.shards.items) l (map state_of new.items)) (rw c.new-leaves.ensures.items at c.in-Err.ensures.refused) in
+    all_unpinned_until_stay m (core_of s) ls (core_over state_of s.capacity s.hash_builder s.weighter new.items) record { stepped = part; rest = refl }

@@ -1,0 +1,29 @@
+use Rattle.std.proofs.Common.{◌≡◌, List, map, refl, ap}
+use Rattle.std.proofs.lemmas.Result.{IfOk-weaker, on_err_weaker}
+use Rattle.foyer_core.specs.Bulk.{EvictsIf, Says}
+use Rattle.foyer_core.specs.CoreBulk.{InTurn}
+use Rattle.foyer_core.specs.Cores.{core_of, meaning_of_core}
+use Rattle.foyer_core.specs.Laws.{HandlesStay}
+use Rattle.foyer_core.specs.Shards.{state_of}
+use Rattle.foyer_core.specs.State.{State}
+use Rattle.foyer_core.proofs.CoreLemmas.{core_over}
+use Rattle.foyer_core.proofs.TurnLaws.{all_picked_stay, stays_same, of_result}
+use Rattle.foyer_core.proofs.cache_core.CacheCore.flush_if.Goals as goal
+
+pub returns-clause-done : goal.returns-clause-done
+returns-clause-done g c = IfOk-weaker c.evict_each_if.result _ _ (λ leaves h. record { stepped = h; rest = refl }) c.evict_each_if.ensures.done
+
+pub returns-clause-err : goal.returns-clause-err
+returns-clause-err g c =
+    on_err_weaker c.evict_each_if.result (λ same. ap (λ (l : List (State g.row.K.Denot g.row.V.Denot g.row.P.Denot g.E.Eviction.View)). record (core_of c.args.self.now) { shards = l }) same) c.evict_each_if.ensures.err
+
+pub returns-clause-stay : goal.returns-clause-stay
+returns-clause-stay g c =
+    let s = c.args.self.now in
+    let m = meaning_of_core s in
+    let says = Says g.F.Fn c.args.predicate.now in
+    let now = core_over state_of s.capacity s.hash_builder s.weighter c.evict_each_if.new.shards.items in
+    of_result c.evict_each_if.result (λ leaves. InTurn (EvictsIf m says) (map state_of s.shards.items) leaves.items now.shards) (now.shards ≡ map state_of s.shards.items) (HandlesStay (λ e. 0) (core_of s) now)
+    c.evict_each_if.ensures.done c.evict_each_if.ensures.err
+    (λ leaves h. all_picked_stay m says (core_of s) leaves.items now record { stepped = h; rest = refl })
+    (λ same. stays_same (core_of s) now (ap (λ (l : List (State g.row.K.Denot g.row.V.Denot g.row.P.Denot g.E.Eviction.View)). record (core_of s) { shards = l }) same))

@@ -1,0 +1,60 @@
+use Rattle.std.proofs.Common.{map, refl}
+use Rattle.foyer_core.specs.CoreBulk.{InTurn, InTurnUntil, EvictsToCapacity, EvictingToCapacity}
+use Rattle.foyer_core.specs.Cores.{core_of, meaning_of_core}
+use Rattle.foyer_core.specs.Shards.{state_of}
+use Rattle.foyer_core.proofs.CoreLemmas.{core_over}
+use Rattle.foyer_core.proofs.Told.{goes_all}
+use Rattle.foyer_core.proofs.TurnEnds.{all_fit}
+use Rattle.foyer_core.proofs.TurnLaws.{resized_stay, resized_until_stay}
+use Rattle.foyer_core.proofs.cache_core.CacheCore.resize.Goals as goal
+
+pub returns-in-Ok-clause-done : goal.returns-in-Ok-clause-done
+returns-in-Ok-clause-done g c =
+    let m = meaning_of_core c.args.self.now in
+    let shared = map state_of c.share_out.new.shards.items in
+    let new = c.evict_each_to_capacity-done.new.shards in
+    let ls = c.evict_each_to_capacity-done.new.leaves.items in
+    let done = goes_all ls (λ l. InTurn (EvictsToCapacity m) shared l (map state_of new.items)) (rw (c.new-leaves.ensures.items, c.in-Ok.is) at c.evict_each_to_capacity-done.ensures.done) in
+    record { shared = shared; shares = c.share_out.ensures.shares; evicted = record { stepped = done; rest = refl } }
+
+pub returns-in-Ok-clause-fits : goal.returns-in-Ok-clause-fits
+returns-in-Ok-clause-fits g c =
+    let s = c.args.self.now in
+    let m = meaning_of_core s in
+    let shared = map state_of c.share_out.new.shards.items in
+    let new = c.evict_each_to_capacity-done.new.shards in
+    let ls = c.evict_each_to_capacity-done.new.leaves.items in
+    let done = goes_all ls (λ l. InTurn (EvictsToCapacity m) shared l (map state_of new.items)) (rw (c.new-leaves.ensures.items, c.in-Ok.is) at c.evict_each_to_capacity-done.ensures.done) in
+    all_fit m g.met.E.Eviction.lawful (core_of s) ls (core_over state_of c.args.capacity s.hash_builder s.weighter new.items) c.args.capacity
+    record { shared = shared; shares = c.share_out.ensures.shares; evicted = record { stepped = done; rest = refl } }
+
+pub returns-in-Ok-clause-stay : goal.returns-in-Ok-clause-stay
+returns-in-Ok-clause-stay g c =
+    let s = c.args.self.now in
+    let m = meaning_of_core s in
+    let shared = map state_of c.share_out.new.shards.items in
+    let new = c.evict_each_to_capacity-done.new.shards in
+    let ls = c.evict_each_to_capacity-done.new.leaves.items in
+    let done = goes_all ls (λ l. InTurn (EvictsToCapacity m) shared l (map state_of new.items)) (rw (c.new-leaves.ensures.items, c.in-Ok.is) at c.evict_each_to_capacity-done.ensures.done) in
+    resized_stay m c.args.capacity (core_of s) ls (core_over state_of c.args.capacity s.hash_builder s.weighter new.items)
+    record { shared = shared; shares = c.share_out.ensures.shares; evicted = record { stepped = done; rest = refl } }
+
+pub returns-in-Err-clause-refused : goal.returns-in-Err-clause-refused
+returns-in-Err-clause-refused g c =
+    let m = meaning_of_core c.args.self.now in
+    let shared = map state_of c.share_out.new.shards.items in
+    let new = c.evict_each_to_capacity-done.new.shards in
+    let ls = c.evict_each_to_capacity-done.new.leaves.items in
+    let part = goes_all ls (λ l. InTurnUntil (EvictsToCapacity m) (EvictingToCapacity m) shared l (map state_of new.items)) (rw (c.new-leaves.ensures.items, c.in-Err.is) at c.evict_each_to_capacity-done.ensures.refused) in
+    record { shared = shared; shares = c.share_out.ensures.shares; evicted = record { stepped = part; rest = refl } }
+
+pub returns-in-Err-clause-stay : goal.returns-in-Err-clause-stay
+returns-in-Err-clause-stay g c =
+    let s = c.args.self.now in
+    let m = meaning_of_core s in
+    let shared = map state_of c.share_out.new.shards.items in
+    let new = c.evict_each_to_capacity-done.new.shards in
+    let ls = c.evict_each_to_capacity-done.new.leaves.items in
+    let part = goes_all ls (λ l. InTurnUntil (EvictsToCapacity m) (EvictingToCapacity m) shared l (map state_of new.items)) (rw (c.new-leaves.ensures.items, c.in-Err.is) at c.evict_each_to_capacity-done.ensures.refused) in
+    resized_until_stay m c.args.capacity (core_of s) ls (core_over state_of c.args.capacity s.hash_builder s.weighter new.items)
+    record { shared = shared; shares = c.share_out.ensures.shares; evicted = record { stepped = part; rest = refl } }

@@ -1,0 +1,21 @@
+use Rattle.std.proofs.Common.{map, vec_len, arith}
+use Rattle.foyer_core.specs.Shards.{state_of}
+use Rattle.foyer_core.specs.Stored.{meaning}
+use Rattle.foyer_core.proofs.SharingOut.{shared-over, over-shared}
+use Rattle.foyer_core.proofs.cache_core.in_turn.share_out.Goals as goal
+
+pub loop-place-preserved : goal.loop-place-preserved
+loop-place-preserved g c =
+    let m = meaning g.K.PartialEq.eq g.E.Eviction.model g.P.Properties.hint_of g.P.Properties.phantom_of in
+    let now = c.loop-place.shards in
+    record {
+      begun = shared-over m c.args.capacity c.len-count.result state_of (map state_of c.args.shards.now.items) now.items c.loop-place.place c.index_mut.result.now c.set_capacity.new.self (vec_len now) c.share.result
+          now.ok.0 (omega arith) c.index_mut.ensures.value c.loop-place.invariant.begun c.set_capacity.ensures c.share.ensures;
+      len = c.loop-place.invariant.len;
+    }
+
+pub returns-clause-shares : goal.returns-clause-shares
+returns-clause-shares g c =
+    let m = meaning g.K.PartialEq.eq g.E.Eviction.model g.P.Properties.hint_of g.P.Properties.phantom_of in
+    let old = c.args.shards.now in
+    over-shared m c.args.capacity c.len-count.result state_of old.items (map state_of c.loop-place.shards.items) c.loop-place.place (omega arith) (omega arith) c.loop-place.invariant.begun

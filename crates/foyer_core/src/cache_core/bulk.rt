@@ -1,0 +1,108 @@
+//! What a core does with all of its records.
+
+ghost use Rattle.std.specs.Prelude.{◌≡◌, IfOk, IfErr, OnErr, OnOk};
+ghost use Rattle.foyer_policy.specs.declared.error.Reason.TheVariants.{NoMemory};
+
+use super::CacheCore;
+use super::in_turn::{clear_each, evict_each, evict_each_if, evict_each_to_capacity, share_out};
+use crate::entry::Left;
+use crate::indexer::Indexer;
+use crate::outcome::Refused;
+use crate::weighter::Weighter;
+use foyer_policy::{Event, Eviction, HashBuilder, Key, Properties, Result, Value};
+
+impl<
+    E: Eviction,
+    K: Key,
+    V: Value,
+    P: Properties,
+    S: HashBuilder,
+    W: Weighter<K, V>,
+    N: Drop,
+    I: Indexer<K>,
+> CacheCore<E, K, V, P, S, W, N, I> {
+    ghost use Rattle.foyer_core.specs.Bulk.{Clears, EvictsIf, EvictsUnpinned, EvictingUnpinned, Says};
+    ghost use Rattle.foyer_core.specs.CoreBulk.{InTurn, InTurnUntil, OfShards, EvictsToCapacity, EvictingToCapacity, Resizes, NothingPinned, IsEmptied, FitsOrPinned};
+    ghost use Rattle.foyer_core.specs.Cores.{core_of, meaning_of_core};
+    ghost use Rattle.foyer_core.specs.Laws.{HandlesStay};
+
+    /// Evicts all that is not pinned, shard by shard, in the order in which each policy gives it, and answers
+    /// what left. Refused for want of memory alone (F7); then the first shards are done, and some beginning of
+    /// the next one's evictions has left, which the refusal hands out. Where nothing is pinned and it is not
+    /// refused, nothing is in afterwards.
+    pub fn evict_all(
+        &mut self,
+    ) -> std::result::Result<Vec<(Event, Left<K, V, P>)>, Refused<K, V, P>>
+        ensures done { IfOk result (λ leaves. OfShards (InTurn (EvictsUnpinned (meaning_of_core self.old)))
+            (core_of self.old) leaves.items (core_of self.new)) }
+        ensures refused { IfErr result (λ refused. OfShards (InTurnUntil (EvictsUnpinned (meaning_of_core self.old)) (EvictingUnpinned (meaning_of_core self.old)))
+            (core_of self.old) refused.leaves.items (core_of self.new)) }
+        ensures reason { IfErr result (λ refused. refused.error ≡ NoMemory) }
+        ensures emptied { OnOk result (NothingPinned (meaning_of_core self.old) (core_of self.old) → IsEmptied (meaning_of_core self.new) (core_of self.new)) }
+        ensures stay { HandlesStay (λ _. 0) (core_of self.old) (core_of self.new) }
+    {
+        let mut leaves = Vec::new(self.alloc);
+        match evict_each(&mut self.shards, &mut leaves) {
+            Ok(()) => Ok(leaves),
+            Err(error) => Err(Refused { error, leaves }),
+        }
+    }
+
+    /// Sets the weight that the records may have together: each of the n shards gets one n-th of it, rounded
+    /// down, and the first ones one more, as many as that leaves over, and all policies are told. Then evicts,
+    /// shard by shard, until the usage of each is at most its capacity, or nothing more leaves, and answers
+    /// what left. Refused for want of memory alone (F7); then the capacities are set all the same, the first
+    /// shards are done, and some beginning of the next one's evictions has left, which the refusal hands out.
+    pub fn resize(
+        &mut self,
+        capacity: usize,
+    ) -> std::result::Result<Vec<(Event, Left<K, V, P>)>, Refused<K, V, P>>
+        ensures done { IfOk result (λ leaves. Resizes (meaning_of_core self.old) (InTurn (EvictsToCapacity (meaning_of_core self.old)))
+            capacity (core_of self.old) leaves.items (core_of self.new)) }
+        ensures refused { IfErr result (λ refused. Resizes (meaning_of_core self.old) (InTurnUntil (EvictsToCapacity (meaning_of_core self.old)) (EvictingToCapacity (meaning_of_core self.old)))
+            capacity (core_of self.old) refused.leaves.items (core_of self.new)) }
+        ensures reason { IfErr result (λ refused. refused.error ≡ NoMemory) }
+        ensures fits { OnOk result (FitsOrPinned (meaning_of_core self.new) (core_of self.new)) }
+        ensures stay { HandlesStay (λ _. 0) (core_of self.old) (core_of self.new) }
+    {
+        self.capacity = capacity;
+        share_out(&mut self.shards, capacity);
+        let mut leaves = Vec::new(self.alloc);
+        let done = evict_each_to_capacity(&mut self.shards, &mut leaves);
+        match done {
+            Ok(()) => Ok(leaves),
+            Err(error) => Err(Refused { error, leaves }),
+        }
+    }
+
+    /// Takes everything out, as `Clear`, shard by shard, in each policy's order, and answers what left. Room is
+    /// made for all shards first: refused for want of memory alone (F7), and then nothing has changed. Else
+    /// nothing is in afterwards.
+    pub fn clear(&mut self) -> Result<Vec<(Event, Left<K, V, P>)>>
+        ensures done { IfOk result (λ leaves. OfShards (InTurn (Clears (meaning_of_core self.old)))
+            (core_of self.old) leaves.items (core_of self.new)) }
+        ensures err { OnErr result (core_of self.new ≡ core_of self.old) }
+        ensures refused { IfErr result (λ e. e ≡ NoMemory) }
+        ensures emptied { OnOk result (IsEmptied (meaning_of_core self.new) (core_of self.new)) }
+        ensures stay { HandlesStay (λ _. 0) (core_of self.old) (core_of self.new) }
+    {
+        clear_each(&mut self.shards, self.alloc)
+    }
+
+    /// Takes the records of which the predicate says yes out, pinned or not, as `Evict`, shard by shard, in each
+    /// policy's order, and answers what left. The predicate is asked once of each record, and room is made for
+    /// all shards first: refused for want of memory alone (F7), and then nothing has changed.
+    pub fn flush_if<F: Fn(&K, &V) -> bool>(
+        &mut self,
+        predicate: &F,
+    ) -> Result<Vec<(Event, Left<K, V, P>)>>
+        requires { F.IsAlwaysCallable predicate.now }
+        ensures done { IfOk result (λ leaves. OfShards (InTurn (EvictsIf (meaning_of_core self.old) (Says F.Fn predicate.now)))
+            (core_of self.old) leaves.items (core_of self.new)) }
+        ensures err { OnErr result (core_of self.new ≡ core_of self.old) }
+        ensures refused { IfErr result (λ e. e ≡ NoMemory) }
+        ensures stay { HandlesStay (λ _. 0) (core_of self.old) (core_of self.new) }
+    {
+        evict_each_if(&mut self.shards, self.alloc, predicate)
+    }
+}

@@ -1,0 +1,171 @@
+//! Steps of all shards, in their order.
+
+ghost use Rattle.std.specs.Prelude.{◌≡◌, ◌≤◌, [], OnOk, OnErr, IfOk, IfErr, map, sum_by, vec_len, vec_capacity};
+ghost use Rattle.std.specs.List.{AllZip};
+ghost use Rattle.foyer_policy.specs.Items.{IsWithin};
+ghost use Rattle.foyer_policy.specs.declared.error.Reason.TheVariants.{NoMemory};
+ghost use Rattle.foyer_core.specs.Bulk.{GoesOn, Clears, EvictsIf, EvictsUnpinned, EvictingUnpinned, Picks, Says};
+ghost use Rattle.foyer_core.specs.CoreBulk.{InTurn, InTurnUntil, EvictsToCapacity, EvictingToCapacity, SharesOut};
+ghost use Rattle.foyer_core.specs.Shards.{state_of};
+ghost use Rattle.foyer_core.specs.Stored.{meaning};
+
+use super::shards::share;
+use crate::entry::Left;
+use crate::indexer::Indexer;
+use crate::shard::Shard;
+use foyer_policy::{Error, Event, Eviction, Item, Key, Properties, Reason, Result, Value};
+use std::alloc::Global;
+
+// Evicts all that is not pinned. Refused for want of memory alone; then the first shards are done, and some
+// beginning of the next one's evictions has left.
+pub(super) fn evict_each<E: Eviction, K: Key, V: Value, P: Properties, I: Indexer<K>>(
+    shards: &mut Vec<Shard<E, K, V, P, I>>,
+    leaves: &mut Vec<(Event, Left<K, V, P>)>,
+) -> Result<()>
+    ensures done { OnOk result (GoesOn leaves.old.items leaves.new.items (λ ls. InTurn (EvictsUnpinned (meaning K.eq E.model P.hint_of P.phantom_of))
+        (map state_of shards.old.items) ls (map state_of shards.new.items))) }
+    ensures refused { OnErr result (GoesOn leaves.old.items leaves.new.items (λ ls. InTurnUntil (EvictsUnpinned (meaning K.eq E.model P.hint_of P.phantom_of)) (EvictingUnpinned (meaning K.eq E.model P.hint_of P.phantom_of))
+        (map state_of shards.old.items) ls (map state_of shards.new.items))) }
+    ensures reason { IfErr result (λ e. e ≡ NoMemory) }
+    ensures len { vec_len shards.new ≡ vec_len shards.old }
+{
+    for place in 0..shards.len() {
+        shards[place].evict_unpinned(leaves)?;
+    }
+    Ok(())
+}
+
+// Evicts to the capacity of each shard. Refused for want of memory alone; then the first shards are done, and
+// some beginning of the next one's evictions has left.
+pub(super) fn evict_each_to_capacity<E: Eviction, K: Key, V: Value, P: Properties, I: Indexer<K>>(
+    shards: &mut Vec<Shard<E, K, V, P, I>>,
+    leaves: &mut Vec<(Event, Left<K, V, P>)>,
+) -> Result<()>
+    ensures done { OnOk result (GoesOn leaves.old.items leaves.new.items (λ ls. InTurn (EvictsToCapacity (meaning K.eq E.model P.hint_of P.phantom_of))
+        (map state_of shards.old.items) ls (map state_of shards.new.items))) }
+    ensures refused { OnErr result (GoesOn leaves.old.items leaves.new.items (λ ls. InTurnUntil (EvictsToCapacity (meaning K.eq E.model P.hint_of P.phantom_of)) (EvictingToCapacity (meaning K.eq E.model P.hint_of P.phantom_of))
+        (map state_of shards.old.items) ls (map state_of shards.new.items))) }
+    ensures reason { IfErr result (λ e. e ≡ NoMemory) }
+    ensures len { vec_len shards.new ≡ vec_len shards.old }
+{
+    for place in 0..shards.len() {
+        shards[place].evict_to_capacity(leaves)?;
+    }
+    Ok(())
+}
+
+// Gives each shard its share of a capacity, and tells its policy. Nothing leaves, and it takes no memory.
+pub(super) fn share_out<E: Eviction, K: Key, V: Value, P: Properties, I: Indexer<K>>(
+    shards: &mut Vec<Shard<E, K, V, P, I>>,
+    capacity: usize,
+)
+    ensures shares { SharesOut (meaning K.eq E.model P.hint_of P.phantom_of) capacity (map state_of shards.old.items) (map state_of shards.new.items) }
+    ensures len { vec_len shards.new ≡ vec_len shards.old }
+{
+    let count = shards.len();
+    for place in 0..count {
+        shards[place].set_capacity(share(capacity, count, place));
+    }
+}
+
+// Takes everything out, as `Clear`, and answers what leaves. Room is made for all shards first; only memory can
+// be missing, and then nothing has changed.
+pub(super) fn clear_each<E: Eviction, K: Key, V: Value, P: Properties, I: Indexer<K>>(
+    shards: &mut Vec<Shard<E, K, V, P, I>>,
+    alloc: Global,
+) -> Result<Vec<(Event, Left<K, V, P>)>>
+    ensures done { IfOk result (λ leaves. InTurn (Clears (meaning K.eq E.model P.hint_of P.phantom_of)) (map state_of shards.old.items) leaves.items (map state_of shards.new.items)) }
+    ensures err { OnErr result (map state_of shards.new.items ≡ map state_of shards.old.items) }
+    ensures refused { IfErr result (λ e. e ≡ NoMemory) }
+    ensures len { vec_len shards.new ≡ vec_len shards.old }
+{
+    let held = reserve_each(shards, alloc)?;
+    let mut leaves = room_for(alloc, &held)?;
+    for place in 0..held.len() {
+        shards[place].clear(&held[place], &mut leaves);
+    }
+    Ok(leaves)
+}
+
+// Makes room in each policy for a `clear`, and answers what each shard holds. Only memory can be missing;
+// nothing else changes.
+fn reserve_each<E: Eviction, K: Key, V: Value, P: Properties, I: Indexer<K>>(
+    shards: &mut Vec<Shard<E, K, V, P, I>>,
+    alloc: Global,
+) -> Result<Vec<Vec<Item>>>
+    ensures same { map state_of shards.new.items ≡ map state_of shards.old.items }
+    ensures ready { IfOk result (λ lists. AllZip (λ s list. E.can_clear s.eviction × (list.items ≡ E.model.order (E.view s.eviction))) shards.new.items lists.items) }
+    ensures refused { IfErr result (λ e. e ≡ NoMemory) }
+    ensures len { vec_len shards.new ≡ vec_len shards.old }
+{
+    let mut lists = Vec::with_capacity(alloc, shards.len())?;
+    for place in 0..shards.len() {
+        lists.push_reserved(shards[place].reserve_clear()?);
+    }
+    Ok(lists)
+}
+
+// Takes the records of which the predicate says yes out, as `Evict`, and answers what leaves. It is asked once
+// of each, and room is made for all shards first; only memory can be missing, and then nothing has changed.
+pub(super) fn evict_each_if<
+    E: Eviction,
+    K: Key,
+    V: Value,
+    P: Properties,
+    I: Indexer<K>,
+    F: Fn(&K, &V) -> bool,
+>(
+    shards: &mut Vec<Shard<E, K, V, P, I>>,
+    alloc: Global,
+    predicate: &F,
+) -> Result<Vec<(Event, Left<K, V, P>)>>
+    requires { F.IsAlwaysCallable predicate.now }
+    ensures done { IfOk result (λ leaves. InTurn (EvictsIf (meaning K.eq E.model P.hint_of P.phantom_of) (Says F.Fn predicate.now)) (map state_of shards.old.items) leaves.items (map state_of shards.new.items)) }
+    ensures err { OnErr result (map state_of shards.new.items ≡ map state_of shards.old.items) }
+    ensures refused { IfErr result (λ e. e ≡ NoMemory) }
+    ensures len { vec_len shards.new ≡ vec_len shards.old }
+{
+    let picked = pick_each(shards, alloc, predicate)?;
+    let mut leaves = room_for(alloc, &picked)?;
+    for place in 0..picked.len() {
+        shards[place].evict_picked(&picked[place], &mut leaves);
+    }
+    Ok(leaves)
+}
+
+// The items of each shard of which the predicate says yes. It is asked once of each. Only memory can be missing.
+fn pick_each<E: Eviction, K: Key, V: Value, P: Properties, I: Indexer<K>, F: Fn(&K, &V) -> bool>(
+    shards: &[Shard<E, K, V, P, I>],
+    alloc: Global,
+    predicate: &F,
+) -> Result<Vec<Vec<Item>>>
+    requires { F.IsAlwaysCallable predicate.now }
+    ensures picks { IfOk result (λ lists. AllZip
+        (λ s list. Picks (meaning K.eq E.model P.hint_of P.phantom_of) (Says F.Fn predicate.now) (state_of s) list.items × IsWithin list.items (E.model.order (E.view s.eviction)))
+        shards.now lists.items) }
+    ensures refused { IfErr result (λ e. e ≡ NoMemory) }
+{
+    let mut lists = Vec::with_capacity(alloc, shards.len())?;
+    for shard in shards {
+        lists.push_reserved(shard.pick(alloc, predicate)?);
+    }
+    Ok(lists)
+}
+
+// An empty list with room for as many as these lists have together. Only memory can be missing, as for more
+// than a `usize` counts.
+fn room_for<T: Drop>(alloc: Global, lists: &[Vec<Item>]) -> Result<Vec<T>>
+    ensures empty { IfOk result (λ room. room.items ≡ []) }
+    ensures none { IfOk result (λ room. vec_len room ≡ 0) }
+    ensures room { IfOk result (λ room. sum_by (λ list. vec_len list) lists.now ≤ vec_capacity room) }
+    ensures refused { IfErr result (λ e. e ≡ NoMemory) }
+{
+    let mut count = 0usize;
+    for list in lists {
+        let Some(more) = count.checked_add(list.len()) else {
+            return Err(Error::new(Reason::NoMemory));
+        };
+        count = more;
+    }
+    Ok(Vec::with_capacity(alloc, count)?)
+}

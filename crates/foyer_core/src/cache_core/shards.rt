@@ -1,0 +1,82 @@
+//! The shards of a core: how they are made, and which one has a hash.
+
+ghost use Rattle.std.specs.Prelude.{◌≡◌, ◌<◌, ◌%◌, None, Err, IfOk, IfErr, IfSome, OnOk, map, vec_len};
+ghost use Rattle.foyer_policy.specs.declared.error.Reason.TheVariants.{NoMemory};
+ghost use Rattle.foyer_core.specs.Core.{AreNewShards, share_of};
+ghost use Rattle.foyer_core.specs.Stored.{meaning};
+
+use super::CacheCore;
+use crate::config::RawCacheConfig;
+use crate::indexer::{HashTableIndexer, Indexer};
+use crate::shard::Shard;
+use crate::weighter::Weighter;
+use foyer_policy::{Eviction, HashBuilder, Key, Properties, Result, Value};
+use std::alloc::Global;
+
+impl<
+    E: Eviction,
+    K: Key,
+    V: Value,
+    P: Properties,
+    S: HashBuilder,
+    W: Weighter<K, V>,
+    N: Drop,
+> CacheCore<E, K, V, P, S, W, N> {
+    ghost use Rattle.foyer_core.specs.Shards.{state_of};
+
+    // Shards that hold nothing and share the capacity, as many as there are to be.
+    pub(super) fn new_shards(
+        alloc: Global,
+        config: &RawCacheConfig<E::Config, S, W>,
+    ) -> Result<Vec<Shard<E, K, V, P, HashTableIndexer<K>>>>
+        requires some { 0 < config.now.shards }
+        ensures made { IfOk result (λ shards. AreNewShards (meaning K.eq E.model P.hint_of P.phantom_of) config.now config.now.shards (map state_of shards.items)) }
+        ensures accepted { OnOk result (E.model.fault config.now.eviction_config ≡ None) }
+        ensures refused { IfSome (E.model.fault config.now.eviction_config) (λ reason. result ≡ Err reason) }
+        ensures memory { IfErr result (λ e. E.model.fault config.now.eviction_config ≡ None → e ≡ NoMemory) }
+    {
+        let mut shards = Vec::new(alloc);
+        for number in 0..config.shards {
+            let shard = Shard::new(
+                alloc,
+                config.number,
+                share(config.capacity, config.shards, number),
+                config.limits,
+                &config.eviction_config,
+                HashTableIndexer::new(alloc),
+            )?;
+            // Room for all is asked for at once, and after the configuration's fault.
+            shards.reserve(config.shards - number)?;
+            shards.push_reserved(shard);
+        }
+        Ok(shards)
+    }
+}
+
+// What the shard of a number gets of a capacity.
+pub(super) fn share(capacity: usize, shards: usize, number: usize) -> usize
+    requires { 0 < shards }
+    ensures { result ≡ share_of capacity shards number }
+{
+    capacity / shards + (number < capacity % shards) as usize
+}
+
+impl<
+    E: Eviction,
+    K: Key,
+    V: Value,
+    P: Properties,
+    S: HashBuilder,
+    W: Weighter<K, V>,
+    N: Drop,
+    I: Indexer<K>,
+> CacheCore<E, K, V, P, S, W, N, I> {
+    // The place of the shard of a hash.
+    #[inline]
+    pub(super) fn place(&self, hash: u64) -> usize
+        ensures within { result < vec_len self.now.shards }
+        ensures place { result ≡ hash % vec_len self.now.shards }
+    {
+        (hash % self.shards.len() as u64) as usize
+    }
+}
