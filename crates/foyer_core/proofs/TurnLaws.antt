@@ -119,20 +119,20 @@ module _ {K V P View C : Type 0} (m : Meaning K P View C) where
         → OfShards (InTurn (EvictsIf m says)) old ls new → HandlesStay (λ e. 0) old new
     all_picked_stay old ls new h = zip_stay old new (turn-keeps (RecordsStay nothing) (EvictsIf m says) picked_stay old.shards ls new.shards h.stepped)
 
-  -- with the shares of another capacity the records stay
-  shares_zip : (f : ℕ → ℕ) (old new : List (State K V P View)) → length new ≡ length old
-      → ((i : ℕ) (s : State K V P View) → slice_get old i ≡ Some s → slice_get new i ≡ Some (after_capacity m s (f i))) → AllZip (RecordsStay nothing) old new
-  shares_zip f [] [] long each = tt
-  shares_zip f [] (t ∷ ts) long each = absurd (omega arith)
-  shares_zip f (s ∷ ss) [] long each = absurd (omega arith)
-  shares_zip f (s ∷ ss) (t ∷ ts) long each =
+  -- with the shares of another capacity each shard keeps what it keeps with another capacity
+  pub shares-keep : (R : State K V P View → State K V P View → Type 0) → ((s : State K V P View) (c : ℕ) → R s (after_capacity m s c)) → (f : ℕ → ℕ) (old new : List (State K V P View)) → length new ≡ length old
+      → ((i : ℕ) (s : State K V P View) → slice_get old i ≡ Some s → slice_get new i ≡ Some (after_capacity m s (f i))) → AllZip R old new
+  shares-keep R keep f [] [] long each = tt
+  shares-keep R keep f [] (t ∷ ts) long each = absurd (omega arith)
+  shares-keep R keep f (s ∷ ss) [] long each = absurd (omega arith)
+  shares-keep R keep f (s ∷ ss) (t ∷ ts) long each =
       let first : ◌≡◌ {A = Option (State K V P View)} (Some t) (Some (after_capacity m s (f 0))) = each 0 s refl in
       let is : t ≡ after_capacity m s (f 0) = cc in
-      (subst (RecordsStay nothing s) (sym is) (λ id r there less. (r, there, refl, omega arith)), shares_zip (λ i. f (suc i)) ss ts (omega arith) (λ i a there. each (suc i) a there))
+      (subst (R s) (sym is) (keep s (f 0)), shares-keep R keep (λ i. f (suc i)) ss ts (omega arith) (λ i a there. each (suc i) a there))
 
   module _ {S W : Type 0} (capacity : ℕ) (old : Core K V P View S W) (ls : List (Event × Gone K V P)) (new : Core K V P View S W) where
     shared_stay : (shared : List (State K V P View)) → SharesOut m capacity old.shards shared → HandlesStay (λ e. 0) old (record old { capacity = capacity; shards = shared })
-    shared_stay shared h = zip_stay old (record old { capacity = capacity; shards = shared }) (shares_zip (share_of capacity (length old.shards)) old.shards shared h.counted h.each)
+    shared_stay shared h = zip_stay old (record old { capacity = capacity; shards = shared }) (shares-keep (RecordsStay nothing) (λ s c id r there less. (r, there, refl, omega arith)) (share_of capacity (length old.shards)) old.shards shared h.counted h.each)
 
     pub resized_stay : Resizes m (InTurn (EvictsToCapacity m)) capacity old ls new → HandlesStay (λ e. 0) old new
     resized_stay h = stays_then old (record old { capacity = capacity; shards = h.shared }) new (shared_stay h.shared h.shares) (all_evicted_stay _ ls new h.evicted)

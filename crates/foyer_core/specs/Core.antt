@@ -11,7 +11,7 @@ use Rattle.foyer_core.specs.declared.outcome.Outcome.TheVariants.{Entries}
 use Rattle.foyer_core.specs.declared.outcome.Refused.{Refused}
 use Rattle.foyer_core.specs.declared.record.Data.{Data}
 use Rattle.foyer_core.specs.declared.record.Limits.{Limits}
-use Rattle.foyer_core.specs.State.{Meaning, State, hit, handles_of, handles_in, usage_of}
+use Rattle.foyer_core.specs.State.{Meaning, State, AllData, hit, handles_of, handles_in, usage_of}
 use Rattle.foyer_core.specs.Steps.{Inserts, RefusesInsert, IsOutdated}
 use Rattle.foyer_core.specs.Values.{Held, Rec}
 
@@ -21,6 +21,10 @@ pub record Core (K V P View S W : Type 0) : Type 0 where
   pub hash_builder : S
   pub weighter : W
   pub shards : List (State K V P View)
+
+-- each record stands in the shard of its hash
+abbrev pub Belong : {K V P View : Type 0} → List (State K V P View) → Type 0
+Belong {K} {V} {P} {View} shards = (i : ℕ) (s : State K V P View) → slice_get shards i ≡ Some s → AllData (λ d. d.hash % length shards ≡ i) s
 
 -- the number of the shard of a hash
 abbrev pub shard_of : {K V P View S W : Type 0} → Core K V P View S W → ℕ → ℕ

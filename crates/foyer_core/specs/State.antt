@@ -47,6 +47,10 @@ coming_in location with_phantom p = if is_on_disk (location p) then with_phantom
 abbrev pub MakesPlain : {P : Type 0} → (P → Option Bool) → (P → Option Location) → P → Type 0
 MakesPlain phantom location p = (is_phantom (phantom p) ≡ false) × (is_on_disk (location p) ≡ false)
 
+-- all records of a shard have data of which this holds
+abbrev pub AllData : {K V P View : Type 0} → (Data K V P → Type 0) → State K V P View → Type 0
+AllData {K} {V} {P} Q s = (id : ℕ) (r : Rec K V P) → s.records id ≡ Some r → Q r.kept
+
 -- what a key hits: the one definition of a hit
 abbrev pub hit : {K V P View : Type 0} → State K V P View → ℕ × K → Option ℕ
 hit s k = s.index k

@@ -1,7 +1,9 @@
 //! The sharded core of a cache.
 
-ghost use Rattle.std.specs.Prelude.{◌≡◌, ◌↔◌, ℕ, ◌<◌, true, false, Some, None, Ok, Err, IfOk, IfErr, IfSome, OnOk, OnErr, IsOk, IsTrue, is_some, length, vec_len};
+ghost use Rattle.std.specs.Prelude.{◌≡◌, ◌↔◌, ℕ, ◌<◌, true, false, Some, None, Ok, Err, IfOk, IfErr, IfSome, OnOk, OnErr, IsOk, IsTrue, is_some, length, map, vec_len};
 ghost use Rattle.foyer_policy.specs.declared.error.Reason.TheVariants.{NoMemory};
+ghost use Rattle.foyer_core.specs.Core.{Belong};
+ghost use Rattle.foyer_core.specs.Shards.{state_of};
 ghost use Rattle.foyer_core.specs.State.{MakesPlain, coming_in};
 
 use crate::config::RawCacheConfig;
@@ -44,6 +46,7 @@ pub struct CacheCore<
     // Nothing waits for an answer yet.
     waiters: PhantomData<N>,
     ghost sharded: { 0 < vec_len shards },
+    ghost belong: { Belong (map state_of shards.items) },
 }
 
 impl<
@@ -104,9 +107,10 @@ impl<
         self.capacity
     }
 
-    /// How many shards there are.
+    /// How many shards there are. A record stands in the shard whose place is its hash modulo this number.
     pub fn shards(&self) -> usize
-        ensures { result ≡ length (core_of self.now).shards }
+        ensures many { result ≡ length (core_of self.now).shards }
+        ensures belong { Belong (core_of self.now).shards }
     {
         self.shards.len()
     }

@@ -6,7 +6,17 @@ use Rattle.foyer_core.specs.Steps.{GivesBack}
 use Rattle.foyer_core.proofs.CoreLaws.{gives_at}
 use Rattle.foyer_core.proofs.CoreLemmas.{at_over, same_over}
 use Rattle.foyer_core.proofs.Staying.{RecordsStay, one, given_back_stays}
+use Rattle.foyer_core.proofs.Origins.{belongs_over, given_back_from}
 use Rattle.foyer_core.proofs.cache_core.CacheCore.give_back.Goals as goal
+
+pub invariant_of-self-clause-belong : goal.invariant_of-self-clause-belong
+invariant_of-self-clause-belong g c =
+    let s = c.args.self.now in
+    let e = c.args.entry in
+    let x = c.index_mut.result.now in
+    let y = c.give_back.new.self in
+    belongs_over state_of s.shards.items c.hash.result (vec_len s.shards) c.place-place.result x s.shards.ok.0 c.place-place.ensures.within c.place-place.ensures.place c.index_mut.ensures.value
+    y (given_back_from (λ d. d.hash ≡ c.hash.result) (meaning_of x) (state_of x) e.id (λ leave. e.number ≡ (state_of x).number) c.give_back.result (state_of y) c.give_back.ensures.taken c.give_back.ensures.err) s.belong
 
 pub returns-clause-taken : goal.returns-clause-taken
 returns-clause-taken g c =
