@@ -271,7 +271,7 @@ module _ {K V P View C : Type 0} (m : Meaning K P View C) where
   pub shared_belong : (capacity : ℕ) (ss ts : List (State K V P View)) → SharesOut m capacity ss ts → Belong ss → Belong ts
   shared_belong capacity ss ts h = zip_belongs ss ts (shares-keep m (RecordsFrom nothing_new) (λ s c. same_from s) (share_of capacity (length ss)) ss ts h.counted h.each)
 
-  pub new_belong : {S W : Type 0} (config : RawCacheConfig C S W) (many : ℕ) (ss : List (State K V P View)) → AreNewShards m config many ss → Belong ss
+  pub new_belong : {S W A : Type 0} (config : RawCacheConfig C S W A) (many : ℕ) (ss : List (State K V P View)) → AreNewShards m config many ss → Belong ss
   new_belong config many ss h i s there id r is = absurd (let none : s.records id ≡ None = (h.each i s there).no_records id in cc)
 
 -- after a call on all shards, refused or not

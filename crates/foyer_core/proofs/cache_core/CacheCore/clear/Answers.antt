@@ -31,7 +31,7 @@ pub returns-clause-emptied : goal.returns-clause-emptied
 returns-clause-emptied g c =
     let s = c.args.self.now in
     let m = meaning_of_core s in
-    let now = core_over state_of s.capacity s.hash_builder s.weighter c.clear_each.new.shards.items in
+    let now = core_over state_of s.capacity s.hash_builder s.weighter s.filter c.clear_each.new.shards.items in
     ok_so c.clear_each.result (λ leaves. InTurn (Clears m) (map state_of s.shards.items) leaves.items now.shards) (IsEmptied m now) c.clear_each.ensures.done
     (λ leaves h. all_cleared m g.met.E.Eviction.lawful (core_of s) leaves.items now record { stepped = h; rest = refl })
 
@@ -39,7 +39,7 @@ pub returns-clause-stay : goal.returns-clause-stay
 returns-clause-stay g c =
     let s = c.args.self.now in
     let m = meaning_of_core s in
-    let now = core_over state_of s.capacity s.hash_builder s.weighter c.clear_each.new.shards.items in
+    let now = core_over state_of s.capacity s.hash_builder s.weighter s.filter c.clear_each.new.shards.items in
     of_result c.clear_each.result (λ leaves. InTurn (Clears m) (map state_of s.shards.items) leaves.items now.shards) (now.shards ≡ map state_of s.shards.items) (HandlesStay (λ e. 0) (core_of s) now)
     c.clear_each.ensures.done c.clear_each.ensures.err
     (λ leaves h. all_cleared_stay m (core_of s) leaves.items now record { stepped = h; rest = refl })

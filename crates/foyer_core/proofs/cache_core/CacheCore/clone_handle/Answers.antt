@@ -23,7 +23,7 @@ returns g c =
     let x = c.index_mut.result.now in
     let y = c.clone_handle.new.self in
     let did = c.clone_handle.ensures.clones in
-    let over = at_over state_of s.capacity s.hash_builder s.weighter s.shards.items e.kept.hash (vec_len s.shards) c.place-place.result x
+    let over = at_over state_of s.capacity s.hash_builder s.weighter s.filter s.shards.items e.kept.hash (vec_len s.shards) c.place-place.result x
     s.shards.ok.0 c.place-place.ensures.within (c.place-place.ensures.place ∙ ap (λ (n : ℕ). n % vec_len s.shards) c.hash.ensures) c.index_mut.ensures.value in
     record {
       clones = over (λ a b. ClonesHandle a e c.clone_handle.result b) y did;

@@ -26,7 +26,7 @@ returns-in-Ok-clause-emptied g c =
     let new = c.evict_each.new.shards in
     let ls = c.evict_each.new.leaves.items in
     let done = goes_all ls (λ l. InTurn (EvictsUnpinned m) (map state_of s.shards.items) l (map state_of new.items)) (rw c.new-leaves.ensures.items at c.in-Ok.ensures.done) in
-    all_evicted m g.met.E.Eviction.lawful (core_of s) ls (core_over state_of s.capacity s.hash_builder s.weighter new.items) record { stepped = done; rest = refl }
+    all_evicted m g.met.E.Eviction.lawful (core_of s) ls (core_over state_of s.capacity s.hash_builder s.weighter s.filter new.items) record { stepped = done; rest = refl }
 
 pub returns-in-Ok-clause-stay : goal.returns-in-Ok-clause-stay
 returns-in-Ok-clause-stay g c =
@@ -35,7 +35,7 @@ returns-in-Ok-clause-stay g c =
     let new = c.evict_each.new.shards in
     let ls = c.evict_each.new.leaves.items in
     let done = goes_all ls (λ l. InTurn (EvictsUnpinned m) (map state_of s.shards.items) l (map state_of new.items)) (rw c.new-leaves.ensures.items at c.in-Ok.ensures.done) in
-    all_unpinned_stay m (core_of s) ls (core_over state_of s.capacity s.hash_builder s.weighter new.items) record { stepped = done; rest = refl }
+    all_unpinned_stay m (core_of s) ls (core_over state_of s.capacity s.hash_builder s.weighter s.filter new.items) record { stepped = done; rest = refl }
 
 pub returns-in-Err-clause-refused : goal.returns-in-Err-clause-refused
 returns-in-Err-clause-refused g c =
@@ -55,4 +55,4 @@ returns-in-Err-clause-stay g c =
     let new = c.evict_each.new.shards in
     let ls = c.evict_each.new.leaves.items in
     let part = goes_all ls (λ l. InTurnUntil (EvictsUnpinned m) (EvictingUnpinned m) (map state_of s.shards.items) l (map state_of new.items)) (rw c.new-leaves.ensures.items at c.in-Err.ensures.refused) in
-    all_unpinned_until_stay m (core_of s) ls (core_over state_of s.capacity s.hash_builder s.weighter new.items) record { stepped = part; rest = refl }
+    all_unpinned_until_stay m (core_of s) ls (core_over state_of s.capacity s.hash_builder s.weighter s.filter new.items) record { stepped = part; rest = refl }

@@ -32,7 +32,7 @@ returns-clause-stay g c =
     let s = c.args.self.now in
     let m = meaning_of_core s in
     let says = Says g.F.Fn c.args.predicate.now in
-    let now = core_over state_of s.capacity s.hash_builder s.weighter c.evict_each_if.new.shards.items in
+    let now = core_over state_of s.capacity s.hash_builder s.weighter s.filter c.evict_each_if.new.shards.items in
     of_result c.evict_each_if.result (λ leaves. InTurn (EvictsIf m says) (map state_of s.shards.items) leaves.items now.shards) (now.shards ≡ map state_of s.shards.items) (HandlesStay (λ e. 0) (core_of s) now)
     c.evict_each_if.ensures.done c.evict_each_if.ensures.err
     (λ leaves h. all_picked_stay m says (core_of s) leaves.items now record { stepped = h; rest = refl })

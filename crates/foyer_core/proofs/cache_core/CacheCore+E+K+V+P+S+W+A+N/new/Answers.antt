@@ -2,7 +2,7 @@ use Rattle.std.proofs.Common.{map}
 use Rattle.foyer_core.specs.Shards.{state_of}
 use Rattle.foyer_core.specs.Stored.{meaning}
 use Rattle.foyer_core.proofs.Origins.{new_belong}
-use Rattle.foyer_core.proofs.cache_core.CacheCore+E+K+V+P+S+W+N.new.Goals as goal
+use Rattle.foyer_core.proofs.cache_core.CacheCore+E+K+V+P+S+W+A+N.new.Goals as goal
 
 pub invariant_of-result-clause-belong : goal.invariant_of-result-clause-belong
 invariant_of-result-clause-belong g c =
