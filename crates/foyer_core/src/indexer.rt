@@ -8,8 +8,10 @@ use foyer_policy::{Key, Result};
 
 mod group;
 mod hash_table;
+mod sentry;
 
 pub use hash_table::HashTableIndexer;
+pub use sentry::Sentry;
 
 /// A map from keys to numbers. A key always comes with its hash: the pair of both is looked up,
 /// keys being compared by `==`.

@@ -19,7 +19,7 @@ pub use cache_core::CacheCore;
 pub use config::RawCacheConfig;
 pub use entry::{CoreEntry, Left};
 pub use filter::{AdmitAll, Filter};
-pub use indexer::{HashTableIndexer, Indexer};
+pub use indexer::{HashTableIndexer, Indexer, Sentry};
 pub use outcome::{Answers, Inserted, Outcome, Refused, Waiting};
 pub use piece::Piece;
 pub use properties::CacheProperties;

@@ -2,7 +2,7 @@ ghost use Rattle.std.specs.Prelude.{◌≡◌, ℕ, true, false, Some, None, IfO
 ghost use Rattle.std.specs.List.{IsDistinct};
 ghost use Rattle.foyer_core.specs.Indexer.{same_key};
 
-use super::{HashTableIndexer, Indexer};
+use super::{HashTableIndexer, Indexer, Sentry};
 use foyer_policy::{Key, Result};
 use std::test::Fail;
 
@@ -122,5 +122,56 @@ fn drain_gives_each_number(rt: HostRuntime) -> std::result::Result<(), Fail> {
     }
     assert_eq!(rt; ids, wanted);
     assert_eq!(rt; index.drain()?.len(), 0);
+    Ok(())
+}
+
+// Three keys of one hash, and one more.
+fn fill<I: Indexer<u64>>(index: &mut I) -> Result<()> {
+    for (hash, key, id) in [(7, 10u64, 1u64), (7, 20, 2), (7, 30, 3), (8, 10, 4)] {
+        let _ = index.insert(hash, key, id)?;
+    }
+    Ok(())
+}
+
+// A drain gives the number of each key of one hash, once, and keeps no key.
+#[test]
+fn drain_gives_all_numbers_of_one_hash(rt: HostRuntime) -> std::result::Result<(), Fail> {
+    let mut index = HashTableIndexer::new(rt.alloc());
+    fill(&mut index)?;
+    let mut ids = drained(&mut index)?;
+    ids.sort()?;
+    assert_eq!(rt; ids.as_slice(), [1u64, 2, 3, 4].as_slice());
+    for key in [10u64, 20, 30] {
+        assert_eq!(rt; (index.get(7, &key), index.get(8, &key)), (None, None));
+    }
+    Ok(())
+}
+
+// A guard's calls are those of its index.
+#[test]
+fn a_sentry_is_its_index(rt: HostRuntime) -> std::result::Result<(), Fail> {
+    let mut index = Sentry::new(rt.alloc());
+    assert_eq!(rt; index.get(7, &10u64), None);
+    fill(&mut index)?;
+    assert_eq!(rt; index.insert(7, 20, 5)?, Some(2));
+    assert_eq!(rt; (index.get(7, &20), index.get(8, &20)), (Some(5), None));
+    assert_eq!(rt;
+        (index.remove(7, &10), index.remove(7, &10)),
+        (Some(1), None)
+    );
+    let mut ids = index.drain()?;
+    ids.sort()?;
+    assert_eq!(rt; ids.as_slice(), [3u64, 4, 5].as_slice());
+    assert_eq!(rt; index.get(7, &20), None);
+    Ok(())
+}
+
+// A guard round an index keeps its keys.
+#[test]
+fn a_sentry_keeps_what_is_in(rt: HostRuntime) -> std::result::Result<(), Fail> {
+    let mut inner = HashTableIndexer::new(rt.alloc());
+    fill(&mut inner)?;
+    let index = Sentry::from(inner);
+    assert_eq!(rt; (index.get(7, &30), index.get(8, &30)), (Some(3), None));
     Ok(())
 }

@@ -7,6 +7,8 @@ use foyer_policy::{Event, Lru, LruConfig};
 use std::process::Abort;
 use std::test::Fail;
 
+mod flags;
+
 type Plain = Shard<Lru, u64, u64, CacheProperties, HashTableIndexer<u64>>;
 
 type Entry = CoreEntry<u64, u64, CacheProperties>;
