@@ -15,7 +15,7 @@ use crate::predicate::NoPredicate;
 use crate::session::Session;
 use crate::text::{Line, write_out};
 use foyer_core::{CacheProperties, Indexer};
-use foyer_policy::{Error, Eviction, HashBuilder};
+use foyer_policy::{Error, Eviction, HashBuilder, Properties};
 use std::io;
 use std::io::Write;
 
@@ -37,11 +37,19 @@ pub fn tell<W: Write, E: Eviction, S: HashBuilder, I: Indexer<u64>>(
             let properties = CacheProperties::default();
             tell_command(writer, session, Command::Insert(key, value, properties))
         }
+        Line::Phantom { key, value, weight } => {
+            let value = SimValue { value, weight };
+            let properties = CacheProperties::default().with_phantom(true);
+            tell_command(writer, session, Command::Insert(key, value, properties))
+        }
         Line::Get(key) => tell_command(writer, session, Command::Get(key)),
         Line::Contains(key) => tell_command(writer, session, Command::Contains(key)),
         Line::Touch(key) => tell_command(writer, session, Command::Touch(key)),
         Line::Remove(key) => tell_command(writer, session, Command::Remove(key)),
         Line::Drop(number) => tell_command(writer, session, Command::Drop(number)),
+        Line::Clear => tell_command(writer, session, Command::Clear),
+        Line::Evict => tell_command(writer, session, Command::EvictAll),
+        Line::Resize(capacity) => tell_command(writer, session, Command::Resize(capacity)),
     }
 }
 
