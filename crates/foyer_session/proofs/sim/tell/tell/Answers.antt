@@ -1,7 +1,0 @@
-use Rattle.foyer_session.proofs.sim.tell.tell.Goals as goal
-
-pub returns-in-Insert : goal.returns-in-Insert
-returns-in-Insert g c = rw c.in-Insert.is (rw c.plain_insert.ensures at c.tell_command.ensures)
-
-pub returns-in-Phantom : goal.returns-in-Phantom
-returns-in-Phantom g c = rw c.in-Phantom.is (rw c.phantom_insert.ensures at c.tell_command-in-Phantom.ensures)
