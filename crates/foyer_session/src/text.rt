@@ -18,7 +18,7 @@ pub enum Line {
     Blank,
     /// `insert K V [W]`. A line that leaves out W means the weight 1.
     Insert { key: u64, value: u64, weight: usize },
-    /// `phantom K V [W]`, an insert of a record that no get finds. W as above.
+    /// `phantom K V [W]`, an insert of a phantom record. A line that leaves out W means the weight 1.
     Phantom { key: u64, value: u64, weight: usize },
     /// `get K`.
     Get(u64),
@@ -32,9 +32,9 @@ pub enum Line {
     Drop(u64),
     /// `clear`.
     Clear,
-    /// `evict`, of every record.
+    /// `evict`.
     Evict,
-    /// `resize C`, to this capacity.
+    /// `resize C`, of the capacity.
     Resize(usize),
     /// Any other line.
     Bad,
