@@ -1,5 +1,5 @@
 -- The calls on all records keep what a session owns.
-use Rattle.std.proofs.Common.{◌≡◌, ℕ, zero, suc, ◌%◌, List, [], ◌∷◌, Bool, length, Option, Some, None, refl, sym, ap, ◌∙◌, subst, arith}
+use Rattle.std.proofs.Common.{◌≡◌, ℕ, zero, suc, ◌%◌, List, [], ◌∷◌, Bool, length, Option, Some, refl, sym, ap, ◌∙◌, subst, arith}
 use Rattle.std.specs.Prelude.{slice_get, Result, Ok, Err, IfOk, IfErr, OnErr}
 use Rattle.std.specs.List.{AllZip}
 use Rattle.std.proofs.lemmas.Slice.Zip.{AllZip-long}
@@ -7,7 +7,7 @@ use Rattle.foyer_policy.specs.declared.types.Event.{Event}
 use Rattle.foyer_policy.specs.declared.types.Item.{Item}
 use Rattle.foyer_policy.specs.declared.types.Event.TheVariants.{Evict, Clear}
 use Rattle.foyer_core.specs.Bulk.{after_capacity, Answers, Clears, EvictsIf, EvictsUnpinned, EvictingUnpinned, Picks}
-use Rattle.foyer_core.specs.Core.{Core, share_of, shard_at, shard_of}
+use Rattle.foyer_core.specs.Core.{Core, share_of, shard_of}
 use Rattle.foyer_core.specs.CoreBulk.{InTurn, InTurnUntil, OfShards, SharesOut, EvictsToCapacity, EvictingToCapacity, Resizes}
 use Rattle.foyer_core.specs.State.{Meaning, State}
 use Rattle.foyer_core.specs.Values.{Gone, Held}

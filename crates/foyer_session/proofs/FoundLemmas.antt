@@ -1,5 +1,5 @@
 -- What a shard keeps, as a session uses it.
-use Rattle.std.proofs.Common.{◌≡◌, ℕ, ◌<◌, List, Option, Some, None, Ok, true, false, Bool, refl, sym, ap, ◌∙◌, subst, arith, ◌==◌, ◌&&◌}
+use Rattle.std.proofs.Common.{◌≡◌, ℕ, List, Option, Some, None, Ok, true, false, Bool, refl, ap, ◌∙◌, arith, ◌==◌, ◌&&◌}
 use Rattle.std.proofs.lemmas.Bool.Decides.{nat_tests}
 use Rattle.foyer_core.specs.declared.record.Data.{Data}
 use Rattle.foyer_core.specs.Indexer.{same_key}

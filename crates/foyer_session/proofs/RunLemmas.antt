@@ -1,5 +1,5 @@
 -- A run goes on by one step.
-use Rattle.std.proofs.Common.{◌≡◌, ℕ, Bool, List, [], ◌∷◌, ◌++◌, map, length, refl, sym, ap, ◌∙◌, subst, arith, append-nil}
+use Rattle.std.proofs.Common.{◌≡◌, Bool, List, [], ◌∷◌, ◌++◌, map, length, refl, sym, ap, ◌∙◌, arith, append-nil}
 use Rattle.std.proofs.lemmas.List.{map-append}
 use Rattle.foyer_session.specs.declared.command.Command.{Command}
 use Rattle.foyer_session.specs.declared.command.Reply.{Reply}

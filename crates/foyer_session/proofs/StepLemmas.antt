@@ -1,5 +1,5 @@
 -- The steps of a session keep what it owns.
-use Rattle.std.proofs.Common.{◌≡◌, ℕ, List, [], ◌∷◌, ◌++◌, Option, Some, None, Result, Ok, Err, Bool, true, false, length, refl, sym, ap, ◌∙◌, subst, arith}
+use Rattle.std.proofs.Common.{◌≡◌, ℕ, List, [], ◌∷◌, ◌++◌, Option, Some, None, Result, Ok, Err, Bool, false, length, refl, sym, ap, ◌∙◌, subst, arith}
 use Rattle.std.specs.Prelude.{slice_set, IsOk, IfOk, option_and_then}
 use Rattle.std.proofs.lemmas.Bool.{false≢true}
 use Rattle.foyer_policy.specs.declared.types.Event.{Event}

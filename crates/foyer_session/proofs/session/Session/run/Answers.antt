@@ -1,7 +1,5 @@
 use Rattle.std.proofs.Common.{◌≡◌, length, map, refl, sym, ap, ◌∙◌, arith, append_assoc}
 use Rattle.std.proofs.lemmas.List.{length-map}
-use Rattle.foyer_session.specs.declared.session.ready.Ready.{Ready}
-use Rattle.foyer_session.specs.Run.{Run}
 use Rattle.foyer_session.specs.Sessions.{session_of, terms_of}
 use Rattle.foyer_session.proofs.RunLemmas.{Run-more, all_yielded}
 use Rattle.foyer_session.proofs.session.Session.run.Goals as goal
