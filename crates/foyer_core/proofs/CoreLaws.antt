@@ -29,11 +29,11 @@ and_true false = refl
 same_place : (i j : ℕ) → i ≡ j → (i == j) ≡ true
 same_place i j e = grind (arith, nat_tests)
 
-module _ {K V P View S W : Type 0} (old new : Core K V P View S W) (step : State K V P View → State K V P View → Type 0) (hash : ℕ) (at : AtShard step hash old new) where
+module _ {K V P View S W A : Type 0} (old new : Core K V P View S W A) (step : State K V P View → State K V P View → Type 0) (hash : ℕ) (at : AtShard step hash old new) where
   -- what a shard is after the step
   now_at : (h : ℕ) → shard_at new h ≡ slice_get (slice_set old.shards (shard_of old hash) at.after) (shard_of old h)
   now_at h =
-      let shards : new.shards ≡ slice_set old.shards (shard_of old hash) at.after = ap (λ (c : Core K V P View S W). c.shards) at.rest in
+      let shards : new.shards ≡ slice_set old.shards (shard_of old hash) at.after = ap (λ (c : Core K V P View S W A). c.shards) at.rest in
       let many : length new.shards ≡ length old.shards = ap length shards ∙ length-set old.shards (shard_of old hash) at.after in
       ap (λ (n : ℕ). slice_get new.shards (h % n)) many ∙ ap (λ (l : List (State K V P View)). slice_get l (shard_of old h)) shards
 
@@ -54,7 +54,7 @@ module _ {K V P View S W : Type 0} (old new : Core K V P View S W) (step : State
     | inr ne ↦ (r, ap (option_and_then (λ (x : State K V P View). x.records e.id)) (now_apart e.kept.hash ne.1) ∙ there, refl, omega arith)
   ]
 
-module _ {K V P View S W : Type 0} (old new : Core K V P View S W) where
+module _ {K V P View S W A : Type 0} (old new : Core K V P View S W A) where
   pub stays_at : (hash : ℕ) → AtShard (RecordsStay nothing) hash old new → HandlesStay (λ e. 0) old new
   stays_at hash at = stays_by old new (RecordsStay nothing) hash at nothing (λ e. 0) (λ e is. refl) at.stepped
 
@@ -95,7 +95,7 @@ module _ {K V P View C : Type 0} (m : Meaning K P View C) (laws : IsEquivalence 
   abbrev pub Came : Data K V P → List (Event × Gone K V P) → Held K V P → State K V P View → State K V P View → Type 0
   Came d ls entry old new = ∥ IsKept m old ∥₁ × InsertsPlain m old d ls entry new
 
-  module _ {S W : Type 0} (old new : Core K V P View S W) (d : Data K V P) (ls : List (Event × Gone K V P)) (entry : Held K V P) (at : AtShard (Came d ls entry) d.hash old new) where
+  module _ {S W A : Type 0} (old new : Core K V P View S W A) (d : Data K V P) (ls : List (Event × Gone K V P)) (entry : Held K V P) (at : AtShard (Came d ls entry) d.hash old new) where
     same_state_of : (x y : State K V P View) → Some x ≡ Some y → x ≡ y
     same_state_of x y h = cc
 

@@ -26,13 +26,13 @@ set_same [] i x h = refl
 set_same {A} (a ∷ xs) zero x h = (let e : x ≡ a = cc in ap (λ (y : A). y ∷ xs) e)
 set_same {A} (a ∷ xs) (suc i) x h = ap (λ (ys : List A). a ∷ ys) (set_same xs i x h)
 
-module _ {A K V P View S W : Type 0} (f : A → State K V P View) (capacity : ℕ) (b : S) (w : W) where
+module _ {X K V P View S W A : Type 0} (f : X → State K V P View) (capacity : ℕ) (b : S) (w : W) (a : A) where
   -- a core over what each of these shows
-  abbrev pub core_over : List A → Core K V P View S W
-  core_over xs = record { capacity = capacity; hash_builder = b; weighter = w; shards = map f xs }
+  abbrev pub core_over : List X → Core K V P View S W A
+  core_over xs = record { capacity = capacity; hash_builder = b; weighter = w; filter = a; shards = map f xs }
 
   -- the shard of a hash is what stands at its place
-  module _ (xs : List A) (hash n i : ℕ) (x : A)
+  module _ (xs : List X) (hash n i : ℕ) (x : X)
       (many : n ≡ length xs) (within : i < n) (place : i ≡ hash % n) (read : x ≡ slice_index_or xs i x) where
     there : slice_get xs i ≡ Some x
     there = slice_get_read xs n i x many within read
@@ -44,7 +44,7 @@ module _ {A K V P View S W : Type 0} (f : A → State K V P View) (capacity : �
     shard_over = rw place_is (slice_get-map f xs i ∙ ap (option_map f) there)
 
     -- a step of it is a step at each hash that has it
-    pub at_over : (step : State K V P View → State K V P View → Type 0) (y : A) → step (f x) (f y) → AtShard step hash (core_over xs) (core_over (slice_set xs i y))
+    pub at_over : (step : State K V P View → State K V P View → Type 0) (y : X) → step (f x) (f y) → AtShard step hash (core_over xs) (core_over (slice_set xs i y))
     at_over step y h = record {
       before = f x;
       after = f y;
@@ -54,6 +54,6 @@ module _ {A K V P View S W : Type 0} (f : A → State K V P View) (capacity : �
     }
 
     -- where it stays, all does
-    pub same_over : (y : A) → f y ≡ f x → core_over (slice_set xs i y) ≡ core_over xs
+    pub same_over : (y : X) → f y ≡ f x → core_over (slice_set xs i y) ≡ core_over xs
     same_over y same = ap (λ (l : List (State K V P View)). record (core_over xs) { shards = l })
         (map-set f xs i y ∙ ap (λ (s : State K V P View). slice_set (map f xs) i s) same ∙ set_same (map f xs) i (f x) (slice_get-map f xs i ∙ ap (option_map f) there))

@@ -18,7 +18,7 @@ use Rattle.foyer_core.proofs.Staying.{RecordsStay, nothing, stay_same, stay_then
 
 -- properties that make a plain record come in as they are
 pub comes_same : {P : Type 0} (phantom : P → Option Bool) (location : P → Option Location) (with_phantom : P → Bool → P) (p : P)
-    → MakesPlain phantom location p → coming_in location with_phantom p ≡ p
+    → MakesPlain phantom location p → coming_in location with_phantom true p ≡ p
 comes_same {P} phantom location with_phantom p h = ap (λ (b : Bool). if b then with_phantom p true else p) h.1
 
 module _ {K V P View C : Type 0} (m : Meaning K P View C) where
@@ -49,9 +49,9 @@ module _ {K V P View C : Type 0} (m : Meaning K P View C) where
   came_stays old new d ls entry kept h = inserted_stays (is_phantom_record m d) old d ls entry new h (λ id r there. ∥∥₁_elim kept (hlevel props) (λ k. k.fresh id r there))
 
   -- a plain record comes in as one
-  pub came_plain : (location : P → Option Location) (with_phantom : P → Bool → P) (p : P) → MakesPlain m.phantom location p
-      → (old new : State K V P View) (d : Data K V P) (ls : List (Event × Gone K V P)) (entry : Held K V P) → d.properties ≡ coming_in location with_phantom p → Inserts m old d ls entry new
+  pub came_plain : (location : P → Option Location) (with_phantom : P → Bool → P) (admitted : Bool) (p : P) → MakesPlain m.phantom location p → admitted ≡ true
+      → (old new : State K V P View) (d : Data K V P) (ls : List (Event × Gone K V P)) (entry : Held K V P) → d.properties ≡ coming_in location with_phantom admitted p → Inserts m old d ls entry new
       → InsertsPlain m old d ls entry new
-  came_plain location with_phantom p plain old new d ls entry is h =
-      let same : is_phantom_record m d ≡ false = ap (λ (q : P). is_phantom (m.phantom q)) (is ∙ comes_same m.phantom location with_phantom p plain) ∙ plain.0 in
+  came_plain location with_phantom admitted p plain sure old new d ls entry is h =
+      let same : is_phantom_record m d ≡ false = ap (λ (q : P). is_phantom (m.phantom q)) (is ∙ ap (λ (b : Bool). coming_in location with_phantom b p) sure ∙ comes_same m.phantom location with_phantom p plain) ∙ plain.0 in
       subst (λ (b : Bool). InsertsBy m b old d ls entry new) same h

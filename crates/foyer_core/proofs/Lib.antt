@@ -25,6 +25,7 @@ pub mod Leaving
 pub mod LeftLemmas
 pub mod NumberLemmas
 pub mod Opening
+pub mod Origins
 pub mod Outgoing
 pub mod Outs
 pub mod Phantoms

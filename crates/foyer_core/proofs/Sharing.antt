@@ -17,7 +17,7 @@ get_pushed (a ∷ xs) x (suc i) y h = elim (get_pushed xs x i y h) [
 ]
 
 -- one more new shard
-pub new_pushed : {K V P View C S W : Type 0} (m : Meaning K P View C) (config : RawCacheConfig C S W) (many : ℕ) (shards : List (State K V P View)) (s : State K V P View)
+pub new_pushed : {K V P View C S W A : Type 0} (m : Meaning K P View C) (config : RawCacheConfig C S W A) (many : ℕ) (shards : List (State K V P View)) (s : State K V P View)
     → AreNewShards m config many shards → IsNewShard m config.eviction_config config.number (share_of config.capacity config.shards many) config.limits s
     → AreNewShards m config (many + 1) (shards ++ s ∷ [])
 new_pushed {K} {V} {P} {View} m config many shards s made new = record {

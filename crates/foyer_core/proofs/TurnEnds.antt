@@ -88,7 +88,7 @@ module _ {K V P View C : Type 0} (m : Meaning K P View C) (good : IsPolicy m.pol
     go (inl low) = inl (omega (arith, same, ap (λ (v : View). weight_of (m.policy.order v)) at, low))
     go (inr none) = inr (good.pop_none t.view (ap m.policy.pop at ∙ none))
 
-  module _ {S W : Type 0} (old : Core K V P View S W) (ls : List (Event × Gone K V P)) (new : Core K V P View S W) where
+  module _ {S W A : Type 0} (old : Core K V P View S W A) (ls : List (Event × Gone K V P)) (new : Core K V P View S W A) where
     pub all_cleared : OfShards (InTurn (Clears m)) old ls new → IsEmptied m new
     all_cleared h =
         let all = turn-keeps (λ (s t : State K V P View). IsOut t) (Clears m) cleared-out old.shards ls new.shards h.stepped in (

@@ -48,9 +48,9 @@ module _ {S : Type 0} (R : S → S → Type 0) where
   zip-at (a ∷ ss) (t ∷ ts) h zero s there = (let is : a ≡ s = cc in (t, refl, subst (λ (b : S). R b t) is h.0))
   zip-at (a ∷ ss) (t ∷ ts) h (suc i) s there = zip-at ss ts h.1 i s there
 
-module _ {K V P View S W : Type 0} where
+module _ {K V P View S W A : Type 0} where
   -- where the records of each shard stay, those of the core do
-  pub zip_stay : (old new : Core K V P View S W) → AllZip (RecordsStay nothing) old.shards new.shards → HandlesStay (λ e. 0) old new
+  pub zip_stay : (old new : Core K V P View S W A) → AllZip (RecordsStay nothing) old.shards new.shards → HandlesStay (λ e. 0) old new
   zip_stay old new h e r there less = go (slice_get old.shards (e.kept.hash % length old.shards)) refl there where
     long : length new.shards ≡ length old.shards
     long = AllZip-long (RecordsStay nothing) old.shards new.shards h
@@ -64,14 +64,14 @@ module _ {K V P View S W : Type 0} where
         let here : shard_at new e.kept.hash ≡ Some t.0 = ap (λ (n : ℕ). slice_get new.shards (e.kept.hash % n)) long ∙ t.1 in
         (q.0, ap (option_and_then (λ (x : State K V P View). x.records e.id)) here ∙ q.1, q.2, q.3)
 
-  pub stays_then : (old mid new : Core K V P View S W) → HandlesStay (λ e. 0) old mid → HandlesStay (λ e. 0) mid new → HandlesStay (λ e. 0) old new
+  pub stays_then : (old mid new : Core K V P View S W A) → HandlesStay (λ e. 0) old mid → HandlesStay (λ e. 0) mid new → HandlesStay (λ e. 0) old new
   stays_then old mid new first second e r there less =
       let a = first e r there less in
       let b = second e a.0 a.1 (omega (arith, a.3)) in
       (b.0, b.1, b.2 ∙ a.2, omega (arith, a.3, b.3))
 
-  pub stays_same : (old new : Core K V P View S W) → new ≡ old → HandlesStay (λ e. 0) old new
-  stays_same old new e entry r there less = (r, ap (λ (c : Core K V P View S W). record_of c entry) e ∙ there, refl, omega arith)
+  pub stays_same : (old new : Core K V P View S W A) → new ≡ old → HandlesStay (λ e. 0) old new
+  stays_same old new e entry r there less = (r, ap (λ (c : Core K V P View S W A). record_of c entry) e ∙ there, refl, omega arith)
 
 module _ {K V P View C : Type 0} (m : Meaning K P View C) where
   stay_refl : (s : State K V P View) → RecordsStay nothing s s
@@ -92,7 +92,7 @@ module _ {K V P View C : Type 0} (m : Meaning K P View C) where
   pub cleared_stay : (s t : State K V P View) (ls : List (Event × Gone K V P)) → Clears m s ls t → RecordsStay nothing s t
   cleared_stay s t ls h = leave_stays m Clear (ids_of (m.policy.order s.view)) s ls (m.policy.clear s.view) t h
 
-  module _ {S W : Type 0} (old : Core K V P View S W) (ls : List (Event × Gone K V P)) (new : Core K V P View S W) where
+  module _ {S W A : Type 0} (old : Core K V P View S W A) (ls : List (Event × Gone K V P)) (new : Core K V P View S W A) where
     pub all_unpinned_stay : OfShards (InTurn (EvictsUnpinned m)) old ls new → HandlesStay (λ e. 0) old new
     all_unpinned_stay h = zip_stay old new (turn-keeps (RecordsStay nothing) (EvictsUnpinned m) unpinned_stay old.shards ls new.shards h.stepped)
 
@@ -115,24 +115,24 @@ module _ {K V P View C : Type 0} (m : Meaning K P View C) where
     pub picked_stay : (s t : State K V P View) (ls : List (Event × Gone K V P)) → EvictsIf m says s ls t → RecordsStay nothing s t
     picked_stay s t ls h = leave_stays m Evict (ids_of h.picked) s ls (removed m.policy h.picked s.view) t h.leave
 
-    pub all_picked_stay : {S W : Type 0} (old : Core K V P View S W) (ls : List (Event × Gone K V P)) (new : Core K V P View S W)
+    pub all_picked_stay : {S W A : Type 0} (old : Core K V P View S W A) (ls : List (Event × Gone K V P)) (new : Core K V P View S W A)
         → OfShards (InTurn (EvictsIf m says)) old ls new → HandlesStay (λ e. 0) old new
     all_picked_stay old ls new h = zip_stay old new (turn-keeps (RecordsStay nothing) (EvictsIf m says) picked_stay old.shards ls new.shards h.stepped)
 
-  -- with the shares of another capacity the records stay
-  shares_zip : (f : ℕ → ℕ) (old new : List (State K V P View)) → length new ≡ length old
-      → ((i : ℕ) (s : State K V P View) → slice_get old i ≡ Some s → slice_get new i ≡ Some (after_capacity m s (f i))) → AllZip (RecordsStay nothing) old new
-  shares_zip f [] [] long each = tt
-  shares_zip f [] (t ∷ ts) long each = absurd (omega arith)
-  shares_zip f (s ∷ ss) [] long each = absurd (omega arith)
-  shares_zip f (s ∷ ss) (t ∷ ts) long each =
+  -- with the shares of another capacity each shard keeps what it keeps with another capacity
+  pub shares-keep : (R : State K V P View → State K V P View → Type 0) → ((s : State K V P View) (c : ℕ) → R s (after_capacity m s c)) → (f : ℕ → ℕ) (old new : List (State K V P View)) → length new ≡ length old
+      → ((i : ℕ) (s : State K V P View) → slice_get old i ≡ Some s → slice_get new i ≡ Some (after_capacity m s (f i))) → AllZip R old new
+  shares-keep R keep f [] [] long each = tt
+  shares-keep R keep f [] (t ∷ ts) long each = absurd (omega arith)
+  shares-keep R keep f (s ∷ ss) [] long each = absurd (omega arith)
+  shares-keep R keep f (s ∷ ss) (t ∷ ts) long each =
       let first : ◌≡◌ {A = Option (State K V P View)} (Some t) (Some (after_capacity m s (f 0))) = each 0 s refl in
       let is : t ≡ after_capacity m s (f 0) = cc in
-      (subst (RecordsStay nothing s) (sym is) (λ id r there less. (r, there, refl, omega arith)), shares_zip (λ i. f (suc i)) ss ts (omega arith) (λ i a there. each (suc i) a there))
+      (subst (R s) (sym is) (keep s (f 0)), shares-keep R keep (λ i. f (suc i)) ss ts (omega arith) (λ i a there. each (suc i) a there))
 
-  module _ {S W : Type 0} (capacity : ℕ) (old : Core K V P View S W) (ls : List (Event × Gone K V P)) (new : Core K V P View S W) where
+  module _ {S W A : Type 0} (capacity : ℕ) (old : Core K V P View S W A) (ls : List (Event × Gone K V P)) (new : Core K V P View S W A) where
     shared_stay : (shared : List (State K V P View)) → SharesOut m capacity old.shards shared → HandlesStay (λ e. 0) old (record old { capacity = capacity; shards = shared })
-    shared_stay shared h = zip_stay old (record old { capacity = capacity; shards = shared }) (shares_zip (share_of capacity (length old.shards)) old.shards shared h.counted h.each)
+    shared_stay shared h = zip_stay old (record old { capacity = capacity; shards = shared }) (shares-keep (RecordsStay nothing) (λ s c id r there less. (r, there, refl, omega arith)) (share_of capacity (length old.shards)) old.shards shared h.counted h.each)
 
     pub resized_stay : Resizes m (InTurn (EvictsToCapacity m)) capacity old ls new → HandlesStay (λ e. 0) old new
     resized_stay h = stays_then old (record old { capacity = capacity; shards = h.shared }) new (shared_stay h.shared h.shares) (all_evicted_stay _ ls new h.evicted)

@@ -1,5 +1,5 @@
 -- A core as a list of shards.
-use Rattle.std.specs.Prelude.{◌≡◌, ℕ, ◌+◌, ◌/◌, ◌%◌, ◌==◌, ◌<◌, List, [], Option, Some, None, option_and_then, Result, Ok, Err, IsSomeAnd, if◌then◌else◌, nat_lt, length, slice_get, slice_set, sum_by}
+use Rattle.std.specs.Prelude.{◌≡◌, ℕ, Bool, ◌+◌, ◌/◌, ◌%◌, ◌==◌, ◌<◌, List, [], Option, Some, None, option_and_then, Result, Ok, Err, IsSomeAnd, if◌then◌else◌, nat_lt, length, slice_get, slice_set, sum_by}
 use Rattle.foyer_policy.specs.Policy.{Policy}
 use Rattle.foyer_policy.specs.declared.error.Reason.{Reason}
 use Rattle.foyer_policy.specs.declared.error.Reason.TheVariants.{NoShards}
@@ -11,47 +11,53 @@ use Rattle.foyer_core.specs.declared.outcome.Outcome.TheVariants.{Entries}
 use Rattle.foyer_core.specs.declared.outcome.Refused.{Refused}
 use Rattle.foyer_core.specs.declared.record.Data.{Data}
 use Rattle.foyer_core.specs.declared.record.Limits.{Limits}
-use Rattle.foyer_core.specs.State.{Meaning, State, hit, handles_of, handles_in, usage_of}
+use Rattle.foyer_core.specs.State.{Meaning, State, AllData, hit, handles_of, handles_in, usage_of}
 use Rattle.foyer_core.specs.Steps.{Inserts, RefusesInsert, IsOutdated}
 use Rattle.foyer_core.specs.Values.{Held, Rec}
 
--- a core: its capacity, what gives its keys their hashes and its records their weights, and its shards
-pub record Core (K V P View S W : Type 0) : Type 0 where
+-- a core: its capacity, what gives its keys their hashes and its records their weights, what admits them, and its
+-- shards
+pub record Core (K V P View S W A : Type 0) : Type 0 where
   pub capacity : ℕ
   pub hash_builder : S
   pub weighter : W
+  pub filter : A
   pub shards : List (State K V P View)
 
+-- each record stands in the shard of its hash
+abbrev pub Belong : {K V P View : Type 0} → List (State K V P View) → Type 0
+Belong {K} {V} {P} {View} shards = (i : ℕ) (s : State K V P View) → slice_get shards i ≡ Some s → AllData (λ d. d.hash % length shards ≡ i) s
+
 -- the number of the shard of a hash
-abbrev pub shard_of : {K V P View S W : Type 0} → Core K V P View S W → ℕ → ℕ
+abbrev pub shard_of : {K V P View S W A : Type 0} → Core K V P View S W A → ℕ → ℕ
 shard_of core hash = hash % length core.shards
 
 -- the shard of a hash
-abbrev pub shard_at : {K V P View S W : Type 0} → Core K V P View S W → ℕ → Option (State K V P View)
+abbrev pub shard_at : {K V P View S W A : Type 0} → Core K V P View S W A → ℕ → Option (State K V P View)
 shard_at core hash = slice_get core.shards (shard_of core hash)
 
 -- what a hashed key hits, in its shard
-abbrev pub hit_in : {K V P View S W : Type 0} → Core K V P View S W → ℕ × K → Option ℕ
+abbrev pub hit_in : {K V P View S W A : Type 0} → Core K V P View S W A → ℕ × K → Option ℕ
 hit_in core k = option_and_then (λ s. hit s k) (shard_at core k.0)
 
 -- an entry is this core's where the shard of its hash has its number and a handle of its id
-abbrev pub Owns : {K V P View S W : Type 0} → Core K V P View S W → Held K V P → Type 0
+abbrev pub Owns : {K V P View S W A : Type 0} → Core K V P View S W A → Held K V P → Type 0
 Owns core entry = IsSomeAnd (shard_at core entry.kept.hash) (λ s. (entry.number ≡ s.number) × (0 < handles_in s entry.id))
 
 -- the record of an entry, in its shard
-abbrev pub record_of : {K V P View S W : Type 0} → Core K V P View S W → Held K V P → Option (Rec K V P)
+abbrev pub record_of : {K V P View S W A : Type 0} → Core K V P View S W A → Held K V P → Option (Rec K V P)
 record_of core entry = option_and_then (λ s. s.records entry.id) (shard_at core entry.kept.hash)
 
 -- how many handles the record of an entry has
-abbrev pub refs_in : {K V P View S W : Type 0} → Core K V P View S W → Held K V P → ℕ
+abbrev pub refs_in : {K V P View S W A : Type 0} → Core K V P View S W A → Held K V P → ℕ
 refs_in core entry = handles_of (record_of core entry)
 
 -- the record of an entry is not in the index of its shard
-abbrev pub IsOutdatedIn : {K V P View S W : Type 0} → Core K V P View S W → Held K V P → Type 0
+abbrev pub IsOutdatedIn : {K V P View S W A : Type 0} → Core K V P View S W A → Held K V P → Type 0
 IsOutdatedIn core entry = IsSomeAnd (shard_at core entry.kept.hash) (λ s. IsOutdated s entry.id)
 
 -- the shard of a hash makes a step, and all else stays
-pub record AtShard {K V P View S W : Type 0} (step : State K V P View → State K V P View → Type 0) (hash : ℕ) (old new : Core K V P View S W) : Type 0 where
+pub record AtShard {K V P View S W A : Type 0} (step : State K V P View → State K V P View → Type 0) (hash : ℕ) (old new : Core K V P View S W A) : Type 0 where
   pub before : State K V P View
   pub after : State K V P View
   pub there : shard_at old hash ≡ Some before
@@ -71,16 +77,16 @@ abbrev pub AnswersNobody : {K V P N : Type 0} → Answers K V P N → Type 0
 AnswersNobody answers = (answers.waiters.items ≡ []) × (entries_in answers.outcome ≡ Some [])
 
 -- why a configuration is not accepted: it has no shards, or else the policy's fault
-abbrev pub core_fault : {View C S W : Type 0} → Policy View C → RawCacheConfig C S W → Option Reason
+abbrev pub core_fault : {View C S W A : Type 0} → Policy View C → RawCacheConfig C S W A → Option Reason
 core_fault policy config = if config.shards == 0 then Some NoShards else policy.fault config.eviction_config
 
 module _ {K V P View C : Type 0} (m : Meaning K P View C) where
   -- the sum of the weights of what is in the index, over all shards
-  abbrev pub usage_of_core : {S W : Type 0} → Core K V P View S W → ℕ
+  abbrev pub usage_of_core : {S W A : Type 0} → Core K V P View S W A → ℕ
   usage_of_core core = sum_by (usage_of m) core.shards
 
   -- how many records are in the index, over all shards
-  abbrev pub entries_of_core : {S W : Type 0} → Core K V P View S W → ℕ
+  abbrev pub entries_of_core : {S W A : Type 0} → Core K V P View S W A → ℕ
   entries_of_core core = sum_by (λ s. length (m.policy.order s.view)) core.shards
 
   -- a new shard holds nothing
@@ -94,16 +100,17 @@ module _ {K V P View C : Type 0} (m : Meaning K P View C) where
     pub starts : s.next ≡ 0
 
   -- the first shards of a new core, so many: they hold nothing, and each has its share of the capacity
-  pub record AreNewShards {S W : Type 0} (config : RawCacheConfig C S W) (many : ℕ) (shards : List (State K V P View)) : Type 0 where
+  pub record AreNewShards {S W A : Type 0} (config : RawCacheConfig C S W A) (many : ℕ) (shards : List (State K V P View)) : Type 0 where
     pub counted : length shards ≡ many
     pub each : (i : ℕ) (s : State K V P View) → slice_get shards i ≡ Some s
         → IsNewShard config.eviction_config config.number (share_of config.capacity config.shards i) config.limits s
 
   -- a new core: its shards hold nothing, and share the capacity
-  pub record IsNewCore {S W : Type 0} (config : RawCacheConfig C S W) (core : Core K V P View S W) : Type 0 where
+  pub record IsNewCore {S W A : Type 0} (config : RawCacheConfig C S W A) (core : Core K V P View S W A) : Type 0 where
     pub capacity_is : core.capacity ≡ config.capacity
     pub hash_builder_is : core.hash_builder ≡ config.hash_builder
     pub weighter_is : core.weighter ≡ config.weighter
+    pub filter_is : core.filter ≡ config.filter
     pub shards_are : AreNewShards config config.shards core.shards
 
   -- what an insert makes of its shard, and answers
@@ -111,11 +118,14 @@ module _ {K V P View C : Type 0} (m : Meaning K P View C) where
   InsertsAnswering old d (Ok made) new = Inserts m old d made.leaves.items made.entry new
   InsertsAnswering old d (Err refused) new = RefusesInsert m old d refused.error refused.leaves.items new
 
-  -- an insert of a record, with a weight that the weighter may give it, in the shard of its hash
-  pub record InsertsWeighed {S W N : Type 0} (weighs : ℕ → Type 0) (hash : ℕ) (key : K) (value : V) (properties : P)
-      (result : Result (Inserted K V P N) (Refused K V P)) (old new : Core K V P View S W) : Type 0 where
+  -- An insert of a record in the shard of its hash, with a weight that the weighter may give it, and an answer that
+  -- the filter may give: `properties` says what its properties are with that answer.
+  pub record InsertsWeighed {S W A N : Type 0} (weighs : ℕ → Type 0) (admits : Bool → Type 0) (hash : ℕ) (key : K) (value : V) (properties : Bool → P)
+      (result : Result (Inserted K V P N) (Refused K V P)) (old new : Core K V P View S W A) : Type 0 where
     pub weight : ℕ
     pub weighed : weighs weight
+    pub admitted : Bool
+    pub answered : admits admitted
     pub inserts : AtShard
-        (λ s t. InsertsAnswering s (record { key = key; value = value; properties = properties; hash = hash; weight = weight }) result t)
+        (λ s t. InsertsAnswering s (record { key = key; value = value; properties = properties admitted; hash = hash; weight = weight }) result t)
         hash old new

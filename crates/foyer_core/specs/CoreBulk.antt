@@ -32,10 +32,10 @@ module _ {S L : Type 0} where
     pub wholly : InTurn whole first first_leaves done
     pub partly : part next next_leaves begun
 
-module _ {K V P View S W : Type 0} where
+module _ {K V P View S W A : Type 0} where
   -- the shards change so, with these leaves, and all else of the core stays
   pub record OfShards (steps : List (State K V P View) → List (Event × Gone K V P) → List (State K V P View) → Type 0)
-      (old : Core K V P View S W) (ls : List (Event × Gone K V P)) (new : Core K V P View S W) : Type 0 where
+      (old : Core K V P View S W A) (ls : List (Event × Gone K V P)) (new : Core K V P View S W A) : Type 0 where
     pub stepped : steps old.shards ls new.shards
     pub rest : new ≡ record old { shards = new.shards }
 
@@ -56,21 +56,21 @@ module _ {K V P View C : Type 0} (m : Meaning K P View C) where
 
   -- Another capacity of a core: all shares and the policies' limits are set, and then, with these steps, the shards
   -- evict.
-  pub record Resizes {S W : Type 0} (evicts : List (State K V P View) → List (Event × Gone K V P) → List (State K V P View) → Type 0)
-      (capacity : ℕ) (old : Core K V P View S W) (ls : List (Event × Gone K V P)) (new : Core K V P View S W) : Type 0 where
+  pub record Resizes {S W A : Type 0} (evicts : List (State K V P View) → List (Event × Gone K V P) → List (State K V P View) → Type 0)
+      (capacity : ℕ) (old : Core K V P View S W A) (ls : List (Event × Gone K V P)) (new : Core K V P View S W A) : Type 0 where
     pub shared : List (State K V P View)
     pub shares : SharesOut capacity old.shards shared
     pub evicted : OfShards evicts (record old { capacity = capacity; shards = shared }) ls new
 
   -- no shard holds anything that is pinned
-  abbrev pub NothingPinned : {S W : Type 0} → Core K V P View S W → Type 0
+  abbrev pub NothingPinned : {S W A : Type 0} → Core K V P View S W A → Type 0
   NothingPinned core = (i : ℕ) (s : State K V P View) → slice_get core.shards i ≡ Some s → m.policy.pinned s.view ≡ []
 
   -- nothing is in the index
-  abbrev pub IsEmptied : {S W : Type 0} → Core K V P View S W → Type 0
+  abbrev pub IsEmptied : {S W A : Type 0} → Core K V P View S W A → Type 0
   IsEmptied core = (usage_of_core m core ≡ 0) × (entries_of_core m core ≡ 0)
 
   -- the usage of each shard is at most its capacity, or all that it holds is pinned
-  abbrev pub FitsOrPinned : {S W : Type 0} → Core K V P View S W → Type 0
+  abbrev pub FitsOrPinned : {S W A : Type 0} → Core K V P View S W A → Type 0
   FitsOrPinned core = (i : ℕ) (s : State K V P View) → slice_get core.shards i ≡ Some s
       → (usage_of m s ≤ s.capacity) ⊎ IsWithin (m.policy.order s.view) (m.policy.pinned s.view)

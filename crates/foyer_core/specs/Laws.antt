@@ -7,28 +7,28 @@ use Rattle.foyer_core.specs.Values.{Rec, Held}
 use Rattle.foyer_core.specs.State.{Meaning, State, usage_of}
 use Rattle.foyer_core.specs.Steps.{Gets}
 
-module _ {K V P View S W : Type 0} where
+module _ {K V P View S W A : Type 0} where
   -- Whoever has a handle that is not given back still has it, and its record has the data that it had.
   -- `given e` is how many handles of an entry's record are given back.
-  abbrev pub HandlesStay : (Held K V P → ℕ) → Core K V P View S W → Core K V P View S W → Type 0
+  abbrev pub HandlesStay : (Held K V P → ℕ) → Core K V P View S W A → Core K V P View S W A → Type 0
   HandlesStay given old new = (e : Held K V P) (r : Rec K V P) → record_of old e ≡ Some r → given e < r.handles
       → (q : Rec K V P) × (record_of new e ≡ Some q) × (q.kept ≡ r.kept) × (r.handles ≤ q.handles + given e)
 
   -- one handle, for the record of this entry
-  abbrev pub one_of : Core K V P View S W → Held K V P → Held K V P → ℕ
+  abbrev pub one_of : Core K V P View S W A → Held K V P → Held K V P → ℕ
   one_of core entry e = if (e.id == entry.id) && (shard_of core e.kept.hash == shard_of core entry.kept.hash) then 1 else 0
 
 -- a shard's usage is at most its capacity, or a weight beside what was pinned before
 abbrev pub IsBounded : {K V P View C : Type 0} → Meaning K P View C → ℕ → State K V P View → State K V P View → Type 0
 IsBounded m weight old new = usage_of m new ≤ max old.capacity (weight + weight_of (m.policy.pinned old.view))
 
-module _ {K V P View C S W : Type 0} (m : Meaning K P View C) where
+module _ {K V P View C S W A : Type 0} (m : Meaning K P View C) where
   -- a get of an equal key that is not refused finds this value; `hash` gives each key its hash
-  abbrev pub Finds : (K → ℕ) → Core K V P View S W → K → V → Type 0
+  abbrev pub Finds : (K → ℕ) → Core K V P View S W A → K → V → Type 0
   Finds hash core key value = (k : K) → m.same key k ≡ true
-      → (answer : Result (Option (Held K V P)) Reason) (new : Core K V P View S W) → AtShard (λ s t. Gets m s (hash k, k) answer t) (hash k) core new
+      → (answer : Result (Option (Held K V P)) Reason) (new : Core K V P View S W A) → AtShard (λ s t. Gets m s (hash k, k) answer t) (hash k) core new
       → IfOk answer (λ found. IsSomeAnd found (λ entry. entry.kept.value ≡ value))
 
   -- so it is for the shard of a hash
-  abbrev pub IsBoundedAt : ℕ → ℕ → Core K V P View S W → Core K V P View S W → Type 0
+  abbrev pub IsBoundedAt : ℕ → ℕ → Core K V P View S W A → Core K V P View S W A → Type 0
   IsBoundedAt hash weight old new = (s t : State K V P View) → shard_at old hash ≡ Some s → shard_at new hash ≡ Some t → IsBounded m weight s t

@@ -1,5 +1,5 @@
 -- A shard as maps.
-use Rattle.std.specs.Prelude.{◌≡◌, ℕ, ◌<◌, ◌≤◌, ◌^◌, ◌⊎◌, List, Option, Some, None, Bool, true, false, if◌then◌else◌}
+use Rattle.std.specs.Prelude.{◌≡◌, ℕ, ◌<◌, ◌≤◌, ◌^◌, ◌⊎◌, List, Option, Some, None, Bool, true, false, not, ◌||◌, if◌then◌else◌}
 use Rattle.foyer_policy.specs.Items.{weight_of, count_of, find_id, remove_id, HasIdsOnce}
 use Rattle.foyer_policy.specs.Policy.{Policy}
 use Rattle.foyer_policy.specs.Properties.{is_phantom, hint_or_normal}
@@ -39,13 +39,22 @@ abbrev pub is_on_disk : Option Location → Bool
 is_on_disk (Some OnDisk) = true
 is_on_disk _ = false
 
--- the properties with which a record comes in: where it is to be on disk alone, they say that it is phantom
-abbrev pub coming_in : {P : Type 0} → (P → Option Location) → (P → Bool → P) → P → P
-coming_in location with_phantom p = if is_on_disk (location p) then with_phantom p true else p
+-- the properties with which a record comes in, where this is what the filter answered: where it is not admitted, or
+-- is to be on disk alone, they say that it is phantom
+abbrev pub coming_in : {P : Type 0} → (P → Option Location) → (P → Bool → P) → Bool → P → P
+coming_in location with_phantom admitted p = if not admitted || is_on_disk (location p) then with_phantom p true else p
+
+-- no answer that a filter may give is no
+abbrev pub IsAdmitted : (Bool → Type 0) → Type 0
+IsAdmitted admits = (answer : Bool) → admits answer → answer ≡ true
 
 -- properties that make a plain record: they do not say phantom, and it is not to be on disk alone
 abbrev pub MakesPlain : {P : Type 0} → (P → Option Bool) → (P → Option Location) → P → Type 0
 MakesPlain phantom location p = (is_phantom (phantom p) ≡ false) × (is_on_disk (location p) ≡ false)
+
+-- all records of a shard have data of which this holds
+abbrev pub AllData : {K V P View : Type 0} → (Data K V P → Type 0) → State K V P View → Type 0
+AllData {K} {V} {P} Q s = (id : ℕ) (r : Rec K V P) → s.records id ≡ Some r → Q r.kept
 
 -- what a key hits: the one definition of a hit
 abbrev pub hit : {K V P View : Type 0} → State K V P View → ℕ × K → Option ℕ

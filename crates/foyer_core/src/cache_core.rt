@@ -1,11 +1,14 @@
 //! The sharded core of a cache.
 
-ghost use Rattle.std.specs.Prelude.{◌≡◌, ◌↔◌, ℕ, ◌<◌, true, false, Some, None, Ok, Err, IfOk, IfErr, IfSome, OnOk, OnErr, IsOk, IsTrue, is_some, length, vec_len};
+ghost use Rattle.std.specs.Prelude.{◌≡◌, ◌↔◌, ℕ, ◌<◌, true, false, Some, None, Ok, Err, IfOk, IfErr, IfSome, OnOk, OnErr, IsOk, IsTrue, is_some, length, map, vec_len};
 ghost use Rattle.foyer_policy.specs.declared.error.Reason.TheVariants.{NoMemory};
-ghost use Rattle.foyer_core.specs.State.{MakesPlain, coming_in};
+ghost use Rattle.foyer_core.specs.Core.{Belong};
+ghost use Rattle.foyer_core.specs.Shards.{state_of};
+ghost use Rattle.foyer_core.specs.State.{IsAdmitted, MakesPlain, coming_in};
 
 use crate::config::RawCacheConfig;
 use crate::entry::{CoreEntry, Left};
+use crate::filter::Filter;
 use crate::indexer::{HashTableIndexer, Indexer};
 use crate::outcome::{Answers, Inserted, Outcome, Refused};
 use crate::record::Data;
@@ -23,8 +26,8 @@ mod in_turn;
 mod shards;
 
 /// The records of a cache, found by their keys, in one thread's hands. `N` is what waits for an answer, and
-/// `I` the index of each shard. Contracts see a `Core`: its shards, and what gives its keys their hashes and
-/// its records their weights.
+/// `I` the index of each shard. Contracts see a `Core`: its shards, what gives its keys their hashes and its
+/// records their weights, and what admits them.
 #[derive(Drop)]
 pub struct CacheCore<
     E: Eviction,
@@ -33,6 +36,7 @@ pub struct CacheCore<
     P: Properties,
     S: HashBuilder,
     W: Weighter<K, V>,
+    A: Filter<K, V>,
     N: Drop,
     I: Indexer<K> = HashTableIndexer<K>,
 > {
@@ -40,10 +44,12 @@ pub struct CacheCore<
     capacity: usize,
     hash_builder: S,
     weighter: W,
+    filter: A,
     alloc: Global,
     // Nothing waits for an answer yet.
     waiters: PhantomData<N>,
     ghost sharded: { 0 < vec_len shards },
+    ghost belong: { Belong (map state_of shards.items) },
 }
 
 impl<
@@ -53,15 +59,16 @@ impl<
     P: Properties,
     S: HashBuilder,
     W: Weighter<K, V>,
+    A: Filter<K, V>,
     N: Drop,
-> CacheCore<E, K, V, P, S, W, N> {
+> CacheCore<E, K, V, P, S, W, A, N> {
     ghost use Rattle.foyer_core.specs.Core.{IsNewCore, core_fault};
     ghost use Rattle.foyer_core.specs.Cores.{core_of, meaning_of_core};
 
     /// A core that holds nothing, whose shards share the capacity: each of the n shards gets one n-th of it,
     /// rounded down, and the first ones one more, as many as that leaves over. Refused where there is to be no
     /// shard (F1), then with the policy configuration's first fault, and else only for want of memory (F7).
-    pub fn new(alloc: Global, config: RawCacheConfig<E::Config, S, W>) -> Result<Self>
+    pub fn new(alloc: Global, config: RawCacheConfig<E::Config, S, W, A>) -> Result<Self>
         ensures made { IfOk result (λ core. IsNewCore (meaning_of_core core) config (core_of core)) }
         ensures accepted { OnOk result (core_fault E.model config ≡ None) }
         ensures refused { IfSome (core_fault E.model config) (λ reason. result ≡ Err reason) }
@@ -76,6 +83,7 @@ impl<
             capacity: config.capacity,
             hash_builder: config.hash_builder,
             weighter: config.weighter,
+            filter: config.filter,
             alloc,
             waiters: PhantomData,
         })
@@ -89,9 +97,10 @@ impl<
     P: Properties,
     S: HashBuilder,
     W: Weighter<K, V>,
+    A: Filter<K, V>,
     N: Drop,
     I: Indexer<K>,
-> CacheCore<E, K, V, P, S, W, N, I> {
+> CacheCore<E, K, V, P, S, W, A, N, I> {
     ghost use Rattle.foyer_core.specs.Core.{AnswersNobody, AtShard, InsertsWeighed, Owns, entries_of_core, hit_in, usage_of_core};
     ghost use Rattle.foyer_core.specs.Cores.{core_of, meaning_of_core};
     ghost use Rattle.foyer_core.specs.Laws.{Finds, HandlesStay, IsBoundedAt, one_of};
@@ -104,9 +113,10 @@ impl<
         self.capacity
     }
 
-    /// How many shards there are.
+    /// How many shards there are. A record stands in the shard whose place is its hash modulo this number.
     pub fn shards(&self) -> usize
-        ensures { result ≡ length (core_of self.now).shards }
+        ensures many { result ≡ length (core_of self.now).shards }
+        ensures belong { Belong (core_of self.now).shards }
     {
         self.shards.len()
     }
@@ -181,14 +191,14 @@ impl<
         requires clones { (k c : K) → K.is_clone k c → K.eq c k ≡ true }
         ensures inserted { let hash = S.hash_of (core_of self.old).hash_builder (K.hash_input key) in
             (p : P) × P.is_default p
-            × InsertsWeighed (meaning_of_core self.old) (W.weighs (core_of self.old).weighter key value)
-            hash key value (coming_in P.location_of P.with_phantom_of p) result (core_of self.old) (core_of self.new) }
+            × InsertsWeighed (meaning_of_core self.old) (W.weighs (core_of self.old).weighter key value) (A.admits (core_of self.old).filter key value)
+            hash key value (λ admitted. coming_in P.location_of P.with_phantom_of admitted p) result (core_of self.old) (core_of self.new) }
         ensures answers { IfOk result (λ made. AnswersNobody made.answers) }
-        ensures found { ((p : P) → P.is_default p → MakesPlain P.phantom_of P.location_of p)
+        ensures found { ((p : P) → P.is_default p → MakesPlain P.phantom_of P.location_of p) → IsAdmitted (A.admits (core_of self.old).filter key value)
             → IfOk result (λ _. Finds (meaning_of_core self.new) (λ k. S.hash_of (core_of self.new).hash_builder (K.hash_input k))
             (core_of self.new) key value) }
         ensures bounded { let hash = S.hash_of (core_of self.old).hash_builder (K.hash_input key) in
-            ((p : P) → P.is_default p → MakesPlain P.phantom_of P.location_of p)
+            ((p : P) → P.is_default p → MakesPlain P.phantom_of P.location_of p) → IsAdmitted (A.admits (core_of self.old).filter key value)
             → IfOk result (λ made. IsBoundedAt (meaning_of_core self.old) hash made.entry.kept.weight (core_of self.old) (core_of self.new)) }
         ensures stay { HandlesStay (λ _. 0) (core_of self.old) (core_of self.new) }
     {
@@ -196,8 +206,8 @@ impl<
     }
 
     /// Puts a record in, of the weight that the weighter gives it, and answers an entry of it and what left. A
-    /// clone of the key must equal it. Where the record is to be on disk alone, its properties are made to say
-    /// that it is phantom.
+    /// clone of the key must equal it. Where the filter, which is asked after the weighter, does not admit the
+    /// record, or it is to be on disk alone, its properties are made to say that it is phantom.
     ///
     /// For a plain record others are evicted until its shard's capacity has room for it, or nothing more leaves,
     /// and then the key's record gives way (`Replace`). Afterwards a get of an equal key finds the value, however
@@ -216,18 +226,21 @@ impl<
     ) -> std::result::Result<Inserted<K, V, P, N>, Refused<K, V, P>>
         requires clones { (k c : K) → K.is_clone k c → K.eq c k ≡ true }
         ensures inserted { let hash = S.hash_of (core_of self.old).hash_builder (K.hash_input key) in
-            InsertsWeighed (meaning_of_core self.old) (W.weighs (core_of self.old).weighter key value)
-            hash key value (coming_in P.location_of P.with_phantom_of properties) result (core_of self.old) (core_of self.new) }
+            InsertsWeighed (meaning_of_core self.old) (W.weighs (core_of self.old).weighter key value) (A.admits (core_of self.old).filter key value)
+            hash key value (λ admitted. coming_in P.location_of P.with_phantom_of admitted properties) result (core_of self.old) (core_of self.new) }
         ensures answers { IfOk result (λ made. AnswersNobody made.answers) }
-        ensures found { MakesPlain P.phantom_of P.location_of properties → IfOk result (λ _. Finds (meaning_of_core self.new) (λ k. S.hash_of (core_of self.new).hash_builder (K.hash_input k))
+        ensures found { MakesPlain P.phantom_of P.location_of properties → IsAdmitted (A.admits (core_of self.old).filter key value)
+            → IfOk result (λ _. Finds (meaning_of_core self.new) (λ k. S.hash_of (core_of self.new).hash_builder (K.hash_input k))
             (core_of self.new) key value) }
         ensures bounded { let hash = S.hash_of (core_of self.old).hash_builder (K.hash_input key) in
-            MakesPlain P.phantom_of P.location_of properties → IfOk result (λ made. IsBoundedAt (meaning_of_core self.old) hash made.entry.kept.weight (core_of self.old) (core_of self.new)) }
+            MakesPlain P.phantom_of P.location_of properties → IsAdmitted (A.admits (core_of self.old).filter key value)
+            → IfOk result (λ made. IsBoundedAt (meaning_of_core self.old) hash made.entry.kept.weight (core_of self.old) (core_of self.new)) }
         ensures stay { HandlesStay (λ _. 0) (core_of self.old) (core_of self.new) }
     {
         let hash = self.hash(&key);
         let weight = self.weighter.weigh(&key, &value);
-        let properties = marked(properties);
+        let admitted = self.filter.admit(&key, &value);
+        let properties = marked(properties, admitted);
         let kept = Data {
             key,
             value,
@@ -277,13 +290,15 @@ impl<
     }
 }
 
-// The properties with which a record comes in.
-fn marked<P: Properties>(properties: P) -> P
-    ensures { result ≡ coming_in P.location_of P.with_phantom_of properties }
+// The properties with which a record comes in, where this is what the filter answered.
+fn marked<P: Properties>(properties: P, admitted: bool) -> P
+    ensures { result ≡ coming_in P.location_of P.with_phantom_of admitted properties }
 {
-    match properties.location() {
-        Some(Location::OnDisk) => properties.with_phantom(true),
-        _ => properties,
+    let is_on_disk = matches!(properties.location(), Some(Location::OnDisk));
+    if !admitted || is_on_disk {
+        properties.with_phantom(true)
+    } else {
+        properties
     }
 }
 

@@ -4,6 +4,7 @@
 pub mod cache_core;
 pub mod config;
 pub mod entry;
+pub mod filter;
 pub mod indexer;
 pub mod outcome;
 pub mod piece;
@@ -17,6 +18,7 @@ pub mod weighter;
 pub use cache_core::CacheCore;
 pub use config::RawCacheConfig;
 pub use entry::{CoreEntry, Left};
+pub use filter::{AdmitAll, Filter};
 pub use indexer::{HashTableIndexer, Indexer};
 pub use outcome::{Answers, Inserted, Outcome, Refused, Waiting};
 pub use piece::Piece;

@@ -6,6 +6,7 @@ ghost use Rattle.foyer_policy.specs.declared.error.Reason.TheVariants.{NoMemory}
 use super::CacheCore;
 use super::in_turn::{clear_each, evict_each, evict_each_if, evict_each_to_capacity, share_out};
 use crate::entry::Left;
+use crate::filter::Filter;
 use crate::indexer::Indexer;
 use crate::outcome::Refused;
 use crate::weighter::Weighter;
@@ -18,9 +19,10 @@ impl<
     P: Properties,
     S: HashBuilder,
     W: Weighter<K, V>,
+    A: Filter<K, V>,
     N: Drop,
     I: Indexer<K>,
-> CacheCore<E, K, V, P, S, W, N, I> {
+> CacheCore<E, K, V, P, S, W, A, N, I> {
     ghost use Rattle.foyer_core.specs.Bulk.{Clears, EvictsIf, EvictsUnpinned, EvictingUnpinned, Says};
     ghost use Rattle.foyer_core.specs.CoreBulk.{InTurn, InTurnUntil, OfShards, EvictsToCapacity, EvictingToCapacity, Resizes, NothingPinned, IsEmptied, FitsOrPinned};
     ghost use Rattle.foyer_core.specs.Cores.{core_of, meaning_of_core};

@@ -4,6 +4,7 @@ ghost use Rattle.std.specs.Prelude.{◌≡◌, ◌↔◌, IsTrue};
 
 use super::CacheCore;
 use crate::entry::{CoreEntry, Left};
+use crate::filter::Filter;
 use crate::indexer::Indexer;
 use crate::weighter::Weighter;
 use foyer_policy::{Eviction, HashBuilder, Key, Properties, Result, Value};
@@ -15,9 +16,10 @@ impl<
     P: Properties,
     S: HashBuilder,
     W: Weighter<K, V>,
+    A: Filter<K, V>,
     N: Drop,
     I: Indexer<K>,
-> CacheCore<E, K, V, P, S, W, N, I> {
+> CacheCore<E, K, V, P, S, W, A, N, I> {
     ghost use Rattle.foyer_core.specs.Core.{AtShard, IsOutdatedIn, Owns, refs_in};
     ghost use Rattle.foyer_core.specs.Cores.{core_of, meaning_of_core};
     ghost use Rattle.foyer_core.specs.Laws.{HandlesStay};

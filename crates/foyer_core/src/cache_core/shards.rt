@@ -7,6 +7,7 @@ ghost use Rattle.foyer_core.specs.Stored.{meaning};
 
 use super::CacheCore;
 use crate::config::RawCacheConfig;
+use crate::filter::Filter;
 use crate::indexer::{HashTableIndexer, Indexer};
 use crate::shard::Shard;
 use crate::weighter::Weighter;
@@ -20,14 +21,15 @@ impl<
     P: Properties,
     S: HashBuilder,
     W: Weighter<K, V>,
+    A: Filter<K, V>,
     N: Drop,
-> CacheCore<E, K, V, P, S, W, N> {
+> CacheCore<E, K, V, P, S, W, A, N> {
     ghost use Rattle.foyer_core.specs.Shards.{state_of};
 
     // Shards that hold nothing and share the capacity, as many as there are to be.
     pub(super) fn new_shards(
         alloc: Global,
-        config: &RawCacheConfig<E::Config, S, W>,
+        config: &RawCacheConfig<E::Config, S, W, A>,
     ) -> Result<Vec<Shard<E, K, V, P, HashTableIndexer<K>>>>
         requires some { 0 < config.now.shards }
         ensures made { IfOk result (λ shards. AreNewShards (meaning K.eq E.model P.hint_of P.phantom_of) config.now config.now.shards (map state_of shards.items)) }
@@ -68,9 +70,10 @@ impl<
     P: Properties,
     S: HashBuilder,
     W: Weighter<K, V>,
+    A: Filter<K, V>,
     N: Drop,
     I: Indexer<K>,
-> CacheCore<E, K, V, P, S, W, N, I> {
+> CacheCore<E, K, V, P, S, W, A, N, I> {
     // The place of the shard of a hash.
     #[inline]
     pub(super) fn place(&self, hash: u64) -> usize

@@ -2,6 +2,7 @@ ghost use Rattle.std.specs.Prelude.{◌≡◌};
 ghost use Rattle.foyer_core.specs.Core.{AnswersNobody};
 
 use super::*;
+use crate::filter::AdmitAll;
 use crate::properties::CacheProperties;
 use crate::record::Limits;
 use crate::weighter::UnitWeighter;
@@ -12,13 +13,14 @@ use std::test::Fail;
 mod bulk;
 mod entries;
 mod location;
+mod filter;
 mod memory;
 mod phantom;
 mod pieces;
 mod shards;
 mod weights;
 
-type Core = CacheCore<Fifo, u64, u64, CacheProperties, ModHasher, UnitWeighter, ()>;
+type Core = CacheCore<Fifo, u64, u64, CacheProperties, ModHasher, UnitWeighter, AdmitAll, ()>;
 
 type Entry = CoreEntry<u64, u64, CacheProperties>;
 
@@ -45,6 +47,7 @@ fn sharded(
             eviction_config: FifoConfig {},
             hash_builder: ModHasher::default(),
             weighter: UnitWeighter,
+            filter: AdmitAll,
             number,
             limits,
         },

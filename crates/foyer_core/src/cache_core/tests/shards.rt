@@ -63,19 +63,21 @@ fn shards_count_their_own_handles(rt: HostRuntime) -> std::result::Result<(), Fa
 
 // The number of a core's refusal, where it is refused.
 fn refusal<E: Eviction>(alloc: Global, shards: usize, config: E::Config) -> Option<u8> {
-    let made: Result<CacheCore<E, u64, u64, CacheProperties, ModHasher, UnitWeighter, ()>> =
-        CacheCore::new(
-            alloc,
-            RawCacheConfig {
-                capacity: 10,
-                shards,
-                eviction_config: config,
-                hash_builder: ModHasher::default(),
-                weighter: UnitWeighter,
-                number: 0,
-                limits: Limits::default(),
-            },
-        );
+    let made: Result<
+        CacheCore<E, u64, u64, CacheProperties, ModHasher, UnitWeighter, AdmitAll, ()>,
+    > = CacheCore::new(
+        alloc,
+        RawCacheConfig {
+            capacity: 10,
+            shards,
+            eviction_config: config,
+            hash_builder: ModHasher::default(),
+            weighter: UnitWeighter,
+            filter: AdmitAll,
+            number: 0,
+            limits: Limits::default(),
+        },
+    );
     match made {
         Ok(_) => None,
         Err(error) => Some(error.number()),

@@ -20,7 +20,16 @@ impl Weighter<u64, usize> for ByValue {
     }
 }
 
-pub(super) type Heavy<E> = CacheCore<E, u64, usize, CacheProperties, ModHasher, ByValue, ()>;
+pub(super) type Heavy<E> = CacheCore<
+    E,
+    u64,
+    usize,
+    CacheProperties,
+    ModHasher,
+    ByValue,
+    AdmitAll,
+    (),
+>;
 
 pub(super) type HeavyEntry = CoreEntry<u64, usize, CacheProperties>;
 
@@ -39,6 +48,7 @@ pub(super) fn heavy<E: Eviction>(
             eviction_config: config,
             hash_builder: ModHasher::default(),
             weighter: ByValue,
+            filter: AdmitAll,
             number: 0,
             limits: Limits::default(),
         },

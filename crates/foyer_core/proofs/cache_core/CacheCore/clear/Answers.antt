@@ -9,7 +9,16 @@ use Rattle.foyer_core.specs.State.{State}
 use Rattle.foyer_core.proofs.CoreLemmas.{core_over}
 use Rattle.foyer_core.proofs.TurnEnds.{all_cleared}
 use Rattle.foyer_core.proofs.TurnLaws.{all_cleared_stay, stays_same, of_result, ok_so}
+use Rattle.foyer_core.proofs.Origins.{all_cleared_belong, done_belong}
 use Rattle.foyer_core.proofs.cache_core.CacheCore.clear.Goals as goal
+
+pub invariant_of-self-clause-belong : goal.invariant_of-self-clause-belong
+invariant_of-self-clause-belong g c =
+    let s = c.args.self.now in
+    let m = meaning_of_core s in
+    let ss = map state_of s.shards.items in
+    let ts = map state_of c.clear_each.new.shards.items in
+    done_belong c.clear_each.result ss ts (λ leaves. leaves.items) (InTurn (Clears m)) c.clear_each.ensures.done c.clear_each.ensures.err (λ ls. all_cleared_belong m ss ls ts) s.belong
 
 pub returns-clause-done : goal.returns-clause-done
 returns-clause-done g c = IfOk-weaker c.clear_each.result _ _ (λ leaves h. record { stepped = h; rest = refl }) c.clear_each.ensures.done
@@ -22,7 +31,7 @@ pub returns-clause-emptied : goal.returns-clause-emptied
 returns-clause-emptied g c =
     let s = c.args.self.now in
     let m = meaning_of_core s in
-    let now = core_over state_of s.capacity s.hash_builder s.weighter c.clear_each.new.shards.items in
+    let now = core_over state_of s.capacity s.hash_builder s.weighter s.filter c.clear_each.new.shards.items in
     ok_so c.clear_each.result (λ leaves. InTurn (Clears m) (map state_of s.shards.items) leaves.items now.shards) (IsEmptied m now) c.clear_each.ensures.done
     (λ leaves h. all_cleared m g.met.E.Eviction.lawful (core_of s) leaves.items now record { stepped = h; rest = refl })
 
@@ -30,7 +39,7 @@ pub returns-clause-stay : goal.returns-clause-stay
 returns-clause-stay g c =
     let s = c.args.self.now in
     let m = meaning_of_core s in
-    let now = core_over state_of s.capacity s.hash_builder s.weighter c.clear_each.new.shards.items in
+    let now = core_over state_of s.capacity s.hash_builder s.weighter s.filter c.clear_each.new.shards.items in
     of_result c.clear_each.result (λ leaves. InTurn (Clears m) (map state_of s.shards.items) leaves.items now.shards) (now.shards ≡ map state_of s.shards.items) (HandlesStay (λ e. 0) (core_of s) now)
     c.clear_each.ensures.done c.clear_each.ensures.err
     (λ leaves h. all_cleared_stay m (core_of s) leaves.items now record { stepped = h; rest = refl })

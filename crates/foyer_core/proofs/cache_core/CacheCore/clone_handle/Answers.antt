@@ -1,11 +1,20 @@
-use Rattle.std.proofs.Common.{ap, ◌∙◌, ℕ, ◌%◌, vec_len}
+use Rattle.std.proofs.Common.{ap, ◌∙◌, ℕ, ◌%◌, vec_len, ◌≡◌}
 use Rattle.foyer_core.specs.Cores.{core_of}
 use Rattle.foyer_core.specs.Shards.{state_of}
 use Rattle.foyer_core.specs.Steps.{ClonesHandle}
 use Rattle.foyer_core.proofs.CoreLaws.{stays_at}
 use Rattle.foyer_core.proofs.CoreLemmas.{at_over}
 use Rattle.foyer_core.proofs.Staying.{RecordsStay, nothing, clones_stay}
+use Rattle.foyer_core.proofs.Origins.{belongs_over, clones_from}
 use Rattle.foyer_core.proofs.cache_core.CacheCore.clone_handle.Goals as goal
+
+pub invariant_of-self-clause-belong : goal.invariant_of-self-clause-belong
+invariant_of-self-clause-belong g c =
+    let s = c.args.self.now in
+    let x = c.index_mut.result.now in
+    let y = c.clone_handle.new.self in
+    belongs_over state_of s.shards.items c.hash.result (vec_len s.shards) c.place-place.result x s.shards.ok.0 c.place-place.ensures.within c.place-place.ensures.place c.index_mut.ensures.value
+    y (clones_from (λ d. d.hash ≡ c.hash.result) (state_of x) c.args.entry.now c.clone_handle.result (state_of y) c.clone_handle.ensures.clones) s.belong
 
 pub returns : goal.returns
 returns g c =
@@ -14,7 +23,7 @@ returns g c =
     let x = c.index_mut.result.now in
     let y = c.clone_handle.new.self in
     let did = c.clone_handle.ensures.clones in
-    let over = at_over state_of s.capacity s.hash_builder s.weighter s.shards.items e.kept.hash (vec_len s.shards) c.place-place.result x
+    let over = at_over state_of s.capacity s.hash_builder s.weighter s.filter s.shards.items e.kept.hash (vec_len s.shards) c.place-place.result x
     s.shards.ok.0 c.place-place.ensures.within (c.place-place.ensures.place ∙ ap (λ (n : ℕ). n % vec_len s.shards) c.hash.ensures) c.index_mut.ensures.value in
     record {
       clones = over (λ a b. ClonesHandle a e c.clone_handle.result b) y did;

@@ -7,7 +7,17 @@ use Rattle.foyer_core.proofs.CoreLemmas.{core_over}
 use Rattle.foyer_core.proofs.Told.{goes_all}
 use Rattle.foyer_core.proofs.TurnEnds.{all_evicted}
 use Rattle.foyer_core.proofs.TurnLaws.{all_unpinned_stay, all_unpinned_until_stay}
+use Rattle.foyer_core.proofs.Origins.{all_unpinned_belong, all_unpinned_until_belong, told_belong}
 use Rattle.foyer_core.proofs.cache_core.CacheCore.evict_all.Goals as goal
+
+pub invariant_of-self-clause-belong : goal.invariant_of-self-clause-belong
+invariant_of-self-clause-belong g c =
+    let s = c.args.self.now in
+    let m = meaning_of_core s in
+    let ss = map state_of s.shards.items in
+    let ts = map state_of c.evict_each.new.shards.items in
+    told_belong c.evict_each.result ss ts c.new-leaves.result.items c.evict_each.new.leaves.items (InTurn (EvictsUnpinned m)) (InTurnUntil (EvictsUnpinned m) (EvictingUnpinned m))
+    c.evict_each.ensures.done c.evict_each.ensures.refused (λ ls. all_unpinned_belong m ss ls ts) (λ ls. all_unpinned_until_belong m ss ls ts) s.belong
 
 pub returns-in-Ok-clause-emptied : goal.returns-in-Ok-clause-emptied
 returns-in-Ok-clause-emptied g c =
@@ -16,7 +26,7 @@ returns-in-Ok-clause-emptied g c =
     let new = c.evict_each.new.shards in
     let ls = c.evict_each.new.leaves.items in
     let done = goes_all ls (λ l. InTurn (EvictsUnpinned m) (map state_of s.shards.items) l (map state_of new.items)) (rw c.new-leaves.ensures.items at c.in-Ok.ensures.done) in
-    all_evicted m g.met.E.Eviction.lawful (core_of s) ls (core_over state_of s.capacity s.hash_builder s.weighter new.items) record { stepped = done; rest = refl }
+    all_evicted m g.met.E.Eviction.lawful (core_of s) ls (core_over state_of s.capacity s.hash_builder s.weighter s.filter new.items) record { stepped = done; rest = refl }
 
 pub returns-in-Ok-clause-stay : goal.returns-in-Ok-clause-stay
 returns-in-Ok-clause-stay g c =
@@ -25,7 +35,7 @@ returns-in-Ok-clause-stay g c =
     let new = c.evict_each.new.shards in
     let ls = c.evict_each.new.leaves.items in
     let done = goes_all ls (λ l. InTurn (EvictsUnpinned m) (map state_of s.shards.items) l (map state_of new.items)) (rw c.new-leaves.ensures.items at c.in-Ok.ensures.done) in
-    all_unpinned_stay m (core_of s) ls (core_over state_of s.capacity s.hash_builder s.weighter new.items) record { stepped = done; rest = refl }
+    all_unpinned_stay m (core_of s) ls (core_over state_of s.capacity s.hash_builder s.weighter s.filter new.items) record { stepped = done; rest = refl }
 
 pub returns-in-Err-clause-refused : goal.returns-in-Err-clause-refused
 returns-in-Err-clause-refused g c =
@@ -45,4 +55,4 @@ returns-in-Err-clause-stay g c =
     let new = c.evict_each.new.shards in
     let ls = c.evict_each.new.leaves.items in
     let part = goes_all ls (λ l. InTurnUntil (EvictsUnpinned m) (EvictingUnpinned m) (map state_of s.shards.items) l (map state_of new.items)) (rw c.new-leaves.ensures.items at c.in-Err.ensures.refused) in
-    all_unpinned_until_stay m (core_of s) ls (core_over state_of s.capacity s.hash_builder s.weighter new.items) record { stepped = part; rest = refl }
+    all_unpinned_until_stay m (core_of s) ls (core_over state_of s.capacity s.hash_builder s.weighter s.filter new.items) record { stepped = part; rest = refl }

@@ -8,7 +8,17 @@ use Rattle.foyer_core.specs.Shards.{state_of}
 use Rattle.foyer_core.specs.State.{State}
 use Rattle.foyer_core.proofs.CoreLemmas.{core_over}
 use Rattle.foyer_core.proofs.TurnLaws.{all_picked_stay, stays_same, of_result}
+use Rattle.foyer_core.proofs.Origins.{all_picked_belong, done_belong}
 use Rattle.foyer_core.proofs.cache_core.CacheCore.flush_if.Goals as goal
+
+pub invariant_of-self-clause-belong : goal.invariant_of-self-clause-belong
+invariant_of-self-clause-belong g c =
+    let s = c.args.self.now in
+    let m = meaning_of_core s in
+    let says = Says g.F.Fn c.args.predicate.now in
+    let ss = map state_of s.shards.items in
+    let ts = map state_of c.evict_each_if.new.shards.items in
+    done_belong c.evict_each_if.result ss ts (λ leaves. leaves.items) (InTurn (EvictsIf m says)) c.evict_each_if.ensures.done c.evict_each_if.ensures.err (λ ls. all_picked_belong m ss ls ts says) s.belong
 
 pub returns-clause-done : goal.returns-clause-done
 returns-clause-done g c = IfOk-weaker c.evict_each_if.result _ _ (λ leaves h. record { stepped = h; rest = refl }) c.evict_each_if.ensures.done
@@ -22,7 +32,7 @@ returns-clause-stay g c =
     let s = c.args.self.now in
     let m = meaning_of_core s in
     let says = Says g.F.Fn c.args.predicate.now in
-    let now = core_over state_of s.capacity s.hash_builder s.weighter c.evict_each_if.new.shards.items in
+    let now = core_over state_of s.capacity s.hash_builder s.weighter s.filter c.evict_each_if.new.shards.items in
     of_result c.evict_each_if.result (λ leaves. InTurn (EvictsIf m says) (map state_of s.shards.items) leaves.items now.shards) (now.shards ≡ map state_of s.shards.items) (HandlesStay (λ e. 0) (core_of s) now)
     c.evict_each_if.ensures.done c.evict_each_if.ensures.err
     (λ leaves h. all_picked_stay m says (core_of s) leaves.items now record { stepped = h; rest = refl })

@@ -1,11 +1,20 @@
-use Rattle.std.proofs.Common.{ap, ◌∙◌, ℕ, ◌%◌, vec_len}
+use Rattle.std.proofs.Common.{ap, ◌∙◌, ℕ, ◌%◌, vec_len, ◌≡◌}
 use Rattle.foyer_core.specs.Cores.{core_of}
 use Rattle.foyer_core.specs.Shards.{meaning_of, state_of}
 use Rattle.foyer_core.specs.Steps.{Gets}
 use Rattle.foyer_core.proofs.CoreLaws.{stays_at}
 use Rattle.foyer_core.proofs.CoreLemmas.{at_over}
 use Rattle.foyer_core.proofs.Staying.{RecordsStay, nothing, gets_stay}
+use Rattle.foyer_core.proofs.Origins.{belongs_over, gets_from}
 use Rattle.foyer_core.proofs.cache_core.CacheCore.get.Goals as goal
+
+pub invariant_of-self-clause-belong : goal.invariant_of-self-clause-belong
+invariant_of-self-clause-belong g c =
+    let s = c.args.self.now in
+    let x = c.index_mut.result.now in
+    let y = c.get.new.self in
+    belongs_over state_of s.shards.items c.hash-hash.result (vec_len s.shards) c.place-place.result x s.shards.ok.0 c.place-place.ensures.within c.place-place.ensures.place c.index_mut.ensures.value
+    y (gets_from (λ d. d.hash ≡ c.hash-hash.result) (meaning_of x) (state_of x) (c.hash-hash.result, c.args.key.now) c.get.result (state_of y) c.get.ensures.gets) s.belong
 
 pub returns : goal.returns
 returns g c =
@@ -14,7 +23,7 @@ returns g c =
     let y = c.get.new.self in
     let hash = g.S.HashBuilder.hash_of s.hash_builder (g.K.Hash.hash_input c.args.key.now) in
     let did = rw c.hash-hash.ensures.hash at c.get.ensures.gets in
-    let over = at_over state_of s.capacity s.hash_builder s.weighter s.shards.items hash (vec_len s.shards) c.place-place.result x
+    let over = at_over state_of s.capacity s.hash_builder s.weighter s.filter s.shards.items hash (vec_len s.shards) c.place-place.result x
     s.shards.ok.0 c.place-place.ensures.within (c.place-place.ensures.place ∙ ap (λ (n : ℕ). n % vec_len s.shards) c.hash-hash.ensures.hash) c.index_mut.ensures.value in
     record {
       gets = over (λ a b. Gets (meaning_of x) a (hash, c.args.key.now) c.get.result b) y did;

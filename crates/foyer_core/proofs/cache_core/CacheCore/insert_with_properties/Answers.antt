@@ -1,4 +1,4 @@
-use Rattle.std.proofs.Common.{refl, ap, ◌∙◌, ℕ, ◌%◌, vec_len}
+use Rattle.std.proofs.Common.{refl, ap, ◌∙◌, ℕ, ◌%◌, vec_len, ◌≡◌}
 use Rattle.std.specs.Prelude.{slice_set}
 use Rattle.foyer_core.specs.declared.record.Data.{Data}
 use Rattle.foyer_core.specs.Values.{Held}
@@ -12,7 +12,18 @@ use Rattle.foyer_core.proofs.CoreLemmas.{at_over, core_over}
 use Rattle.foyer_core.proofs.Staying.{RecordsStay, nothing}
 use Rattle.foyer_core.proofs.Inserting.{came_stays, came_plain, refused_stay}
 use Rattle.foyer_core.proofs.StoredLemmas.{err_is}
+use Rattle.foyer_core.proofs.Origins.{belongs_over, emplaced_from}
 use Rattle.foyer_core.proofs.cache_core.CacheCore.insert_with_properties.Goals as goal
+
+pub invariant_of-self-clause-belong : goal.invariant_of-self-clause-belong
+invariant_of-self-clause-belong g c =
+    let s = c.args.self.now in
+    let x = c.index_mut.result.now in
+    let y = c.emplace.new.self in
+    let d : Data g.row.K.Denot g.row.V.Denot g.row.P.Denot = record { key = c.args.key; value = c.args.value; properties = c.marked-properties.result; hash = c.hash-hash.result; weight = c.weigh-weight.result } in
+    belongs_over state_of s.shards.items c.hash-hash.result (vec_len s.shards) c.place-place.result x s.shards.ok.0 c.place-place.ensures.within c.place-place.ensures.place c.index_mut.ensures.value
+    y (emplaced_from (λ e. e.hash ≡ c.hash-hash.result) (meaning_of x) c.emplace.result (λ made. made.1.items) (λ made. made.0) (λ refused. refused.error) (λ refused. refused.leaves.items)
+    (state_of x) d (state_of y) c.emplace.ensures.inserted refl) s.belong
 
 pub returns-in_err-entry-clause-inserted : goal.returns-in_err-entry-clause-inserted
 returns-in_err-entry-clause-inserted g c =
@@ -20,17 +31,19 @@ returns-in_err-entry-clause-inserted g c =
     let x = c.index_mut.result.now in
     let y = c.emplace.new.self in
     let hash = g.S.HashBuilder.hash_of s.hash_builder (g.K.Hash.hash_input c.args.key) in
-    let d : Data g.row.K.Denot g.row.V.Denot g.row.P.Denot = record { key = c.args.key; value = c.args.value; properties = coming_in g.P.Properties.location_of g.P.Properties.with_phantom_of c.args.properties; hash = hash; weight = c.weigh-weight.result } in
-    let over = at_over state_of s.capacity s.hash_builder s.weighter s.shards.items hash (vec_len s.shards) c.place-place.result x
+    let d : Data g.row.K.Denot g.row.V.Denot g.row.P.Denot = record { key = c.args.key; value = c.args.value; properties = coming_in g.P.Properties.location_of g.P.Properties.with_phantom_of c.admit-admitted.result c.args.properties; hash = hash; weight = c.weigh-weight.result } in
+    let over = at_over state_of s.capacity s.hash_builder s.weighter s.filter s.shards.items hash (vec_len s.shards) c.place-place.result x
     s.shards.ok.0 c.place-place.ensures.within (c.place-place.ensures.place ∙ ap (λ (n : ℕ). n % vec_len s.shards) c.hash-hash.ensures.hash) c.index_mut.ensures.value in
     let did = rw (c.hash-hash.ensures.hash, c.marked-properties.ensures) at c.in_err-entry.ensures.inserted in
     err_is c.from_residual.result c.in_err-entry.field-0.0
-    (λ r. InsertsWeighed (meaning_of x) (g.W.Weighter.weighs s.weighter c.args.key c.args.value) hash c.args.key c.args.value (coming_in g.P.Properties.location_of g.P.Properties.with_phantom_of c.args.properties) r (core_of s)
-    (core_over state_of s.capacity s.hash_builder s.weighter (slice_set s.shards.items c.place-place.result y)))
+    (λ r. InsertsWeighed (meaning_of x) (g.W.Weighter.weighs s.weighter c.args.key c.args.value) (g.A.Filter.admits s.filter c.args.key c.args.value) hash c.args.key c.args.value (λ admitted. coming_in g.P.Properties.location_of g.P.Properties.with_phantom_of admitted c.args.properties) r (core_of s)
+    (core_over state_of s.capacity s.hash_builder s.weighter s.filter (slice_set s.shards.items c.place-place.result y)))
     c.from_residual.ensures.1
     record {
       weight = c.weigh-weight.result;
       weighed = c.weigh-weight.ensures;
+      admitted = c.admit-admitted.result;
+      answered = c.admit-admitted.ensures;
       inserts = over (λ a b. RefusesInsert (meaning_of x) a d c.in_err-entry.field-0.0.error c.in_err-entry.field-0.0.leaves.items b) y did;
     }
 
@@ -40,8 +53,8 @@ returns-in_err-entry-clause-stay g c =
     let x = c.index_mut.result.now in
     let y = c.emplace.new.self in
     let hash = g.S.HashBuilder.hash_of s.hash_builder (g.K.Hash.hash_input c.args.key) in
-    let d : Data g.row.K.Denot g.row.V.Denot g.row.P.Denot = record { key = c.args.key; value = c.args.value; properties = coming_in g.P.Properties.location_of g.P.Properties.with_phantom_of c.args.properties; hash = hash; weight = c.weigh-weight.result } in
-    let over = at_over state_of s.capacity s.hash_builder s.weighter s.shards.items hash (vec_len s.shards) c.place-place.result x
+    let d : Data g.row.K.Denot g.row.V.Denot g.row.P.Denot = record { key = c.args.key; value = c.args.value; properties = coming_in g.P.Properties.location_of g.P.Properties.with_phantom_of c.admit-admitted.result c.args.properties; hash = hash; weight = c.weigh-weight.result } in
+    let over = at_over state_of s.capacity s.hash_builder s.weighter s.filter s.shards.items hash (vec_len s.shards) c.place-place.result x
     s.shards.ok.0 c.place-place.ensures.within (c.place-place.ensures.place ∙ ap (λ (n : ℕ). n % vec_len s.shards) c.hash-hash.ensures.hash) c.index_mut.ensures.value in
     let did = rw (c.hash-hash.ensures.hash, c.marked-properties.ensures) at c.in_err-entry.ensures.inserted in
     stays_at (core_of s) _ hash (over (RecordsStay nothing) y (refused_stay (meaning_of x) (is_phantom_record (meaning_of x) d) (state_of x) d _ _ (state_of y) did))
@@ -52,41 +65,43 @@ returns-clause-inserted g c =
     let x = c.index_mut.result.now in
     let y = c.emplace.new.self in
     let hash = g.S.HashBuilder.hash_of s.hash_builder (g.K.Hash.hash_input c.args.key) in
-    let d : Data g.row.K.Denot g.row.V.Denot g.row.P.Denot = record { key = c.args.key; value = c.args.value; properties = coming_in g.P.Properties.location_of g.P.Properties.with_phantom_of c.args.properties; hash = hash; weight = c.weigh-weight.result } in
-    let over = at_over state_of s.capacity s.hash_builder s.weighter s.shards.items hash (vec_len s.shards) c.place-place.result x
+    let d : Data g.row.K.Denot g.row.V.Denot g.row.P.Denot = record { key = c.args.key; value = c.args.value; properties = coming_in g.P.Properties.location_of g.P.Properties.with_phantom_of c.admit-admitted.result c.args.properties; hash = hash; weight = c.weigh-weight.result } in
+    let over = at_over state_of s.capacity s.hash_builder s.weighter s.filter s.shards.items hash (vec_len s.shards) c.place-place.result x
     s.shards.ok.0 c.place-place.ensures.within (c.place-place.ensures.place ∙ ap (λ (n : ℕ). n % vec_len s.shards) c.hash-hash.ensures.hash) c.index_mut.ensures.value in
     let did = rw (c.hash-hash.ensures.hash, c.marked-properties.ensures) at c.in_ok-entry.ensures.inserted in
     record {
       weight = c.weigh-weight.result;
       weighed = c.weigh-weight.ensures;
+      admitted = c.admit-admitted.result;
+      answered = c.admit-admitted.ensures;
       inserts = over (λ a b. Inserts (meaning_of x) a d c.in_ok-entry.leaves.items c.in_ok-entry.entry b) y did;
     }
 
 pub returns-clause-found : goal.returns-clause-found
-returns-clause-found g c plain =
+returns-clause-found g c plain sure =
     let s = c.args.self.now in
     let x = c.index_mut.result.now in
     let y = c.emplace.new.self in
     let hash = g.S.HashBuilder.hash_of s.hash_builder (g.K.Hash.hash_input c.args.key) in
-    let d : Data g.row.K.Denot g.row.V.Denot g.row.P.Denot = record { key = c.args.key; value = c.args.value; properties = coming_in g.P.Properties.location_of g.P.Properties.with_phantom_of c.args.properties; hash = hash; weight = c.weigh-weight.result } in
-    let over = at_over state_of s.capacity s.hash_builder s.weighter s.shards.items hash (vec_len s.shards) c.place-place.result x
+    let d : Data g.row.K.Denot g.row.V.Denot g.row.P.Denot = record { key = c.args.key; value = c.args.value; properties = coming_in g.P.Properties.location_of g.P.Properties.with_phantom_of c.admit-admitted.result c.args.properties; hash = hash; weight = c.weigh-weight.result } in
+    let over = at_over state_of s.capacity s.hash_builder s.weighter s.filter s.shards.items hash (vec_len s.shards) c.place-place.result x
     s.shards.ok.0 c.place-place.ensures.within (c.place-place.ensures.place ∙ ap (λ (n : ℕ). n % vec_len s.shards) c.hash-hash.ensures.hash) c.index_mut.ensures.value in
     let did = rw (c.hash-hash.ensures.hash, c.marked-properties.ensures) at c.in_ok-entry.ensures.inserted in
-    let at = over (Came (meaning_of x) g.met.K.Eq.laws g.met.E.Eviction.lawful d c.in_ok-entry.leaves.items c.in_ok-entry.entry) y (x.kept, came_plain (meaning_of x) g.P.Properties.location_of g.P.Properties.with_phantom_of c.args.properties plain (state_of x) (state_of y) d _ _ refl did) in
+    let at = over (Came (meaning_of x) g.met.K.Eq.laws g.met.E.Eviction.lawful d c.in_ok-entry.leaves.items c.in_ok-entry.entry) y (x.kept, came_plain (meaning_of x) g.P.Properties.location_of g.P.Properties.with_phantom_of c.admit-admitted.result c.args.properties plain (sure c.admit-admitted.result c.admit-admitted.ensures) (state_of x) (state_of y) d _ _ refl did) in
     finds_at (meaning_of x) g.met.K.Eq.laws g.met.E.Eviction.lawful (core_of s) _ d _ _ at
     (λ k. g.S.HashBuilder.hash_of s.hash_builder (g.K.Hash.hash_input k)) (rw c.hash-hash.ensures.hash at c.hash-hash.ensures.equal_keys)
 
 pub returns-clause-bounded : goal.returns-clause-bounded
-returns-clause-bounded g c plain =
+returns-clause-bounded g c plain sure =
     let s = c.args.self.now in
     let x = c.index_mut.result.now in
     let y = c.emplace.new.self in
     let hash = g.S.HashBuilder.hash_of s.hash_builder (g.K.Hash.hash_input c.args.key) in
-    let d : Data g.row.K.Denot g.row.V.Denot g.row.P.Denot = record { key = c.args.key; value = c.args.value; properties = coming_in g.P.Properties.location_of g.P.Properties.with_phantom_of c.args.properties; hash = hash; weight = c.weigh-weight.result } in
-    let over = at_over state_of s.capacity s.hash_builder s.weighter s.shards.items hash (vec_len s.shards) c.place-place.result x
+    let d : Data g.row.K.Denot g.row.V.Denot g.row.P.Denot = record { key = c.args.key; value = c.args.value; properties = coming_in g.P.Properties.location_of g.P.Properties.with_phantom_of c.admit-admitted.result c.args.properties; hash = hash; weight = c.weigh-weight.result } in
+    let over = at_over state_of s.capacity s.hash_builder s.weighter s.filter s.shards.items hash (vec_len s.shards) c.place-place.result x
     s.shards.ok.0 c.place-place.ensures.within (c.place-place.ensures.place ∙ ap (λ (n : ℕ). n % vec_len s.shards) c.hash-hash.ensures.hash) c.index_mut.ensures.value in
     let did = rw (c.hash-hash.ensures.hash, c.marked-properties.ensures) at c.in_ok-entry.ensures.inserted in
-    let at = over (Came (meaning_of x) g.met.K.Eq.laws g.met.E.Eviction.lawful d c.in_ok-entry.leaves.items c.in_ok-entry.entry) y (x.kept, came_plain (meaning_of x) g.P.Properties.location_of g.P.Properties.with_phantom_of c.args.properties plain (state_of x) (state_of y) d _ _ refl did) in
+    let at = over (Came (meaning_of x) g.met.K.Eq.laws g.met.E.Eviction.lawful d c.in_ok-entry.leaves.items c.in_ok-entry.entry) y (x.kept, came_plain (meaning_of x) g.P.Properties.location_of g.P.Properties.with_phantom_of c.admit-admitted.result c.args.properties plain (sure c.admit-admitted.result c.admit-admitted.ensures) (state_of x) (state_of y) d _ _ refl did) in
     bounded_at (meaning_of x) g.met.K.Eq.laws g.met.E.Eviction.lawful (core_of s) _ d _ _ at _ (ap (λ (e : Held g.row.K.Denot g.row.V.Denot g.row.P.Denot). e.kept.weight) at.stepped.1.entry_is)
 
 pub returns-clause-stay : goal.returns-clause-stay
@@ -95,8 +110,8 @@ returns-clause-stay g c =
     let x = c.index_mut.result.now in
     let y = c.emplace.new.self in
     let hash = g.S.HashBuilder.hash_of s.hash_builder (g.K.Hash.hash_input c.args.key) in
-    let d : Data g.row.K.Denot g.row.V.Denot g.row.P.Denot = record { key = c.args.key; value = c.args.value; properties = coming_in g.P.Properties.location_of g.P.Properties.with_phantom_of c.args.properties; hash = hash; weight = c.weigh-weight.result } in
-    let over = at_over state_of s.capacity s.hash_builder s.weighter s.shards.items hash (vec_len s.shards) c.place-place.result x
+    let d : Data g.row.K.Denot g.row.V.Denot g.row.P.Denot = record { key = c.args.key; value = c.args.value; properties = coming_in g.P.Properties.location_of g.P.Properties.with_phantom_of c.admit-admitted.result c.args.properties; hash = hash; weight = c.weigh-weight.result } in
+    let over = at_over state_of s.capacity s.hash_builder s.weighter s.filter s.shards.items hash (vec_len s.shards) c.place-place.result x
     s.shards.ok.0 c.place-place.ensures.within (c.place-place.ensures.place ∙ ap (λ (n : ℕ). n % vec_len s.shards) c.hash-hash.ensures.hash) c.index_mut.ensures.value in
     let did = rw (c.hash-hash.ensures.hash, c.marked-properties.ensures) at c.in_ok-entry.ensures.inserted in
     stays_at (core_of s) _ hash (over (RecordsStay nothing) y

@@ -6,7 +6,19 @@ use Rattle.foyer_core.proofs.CoreLemmas.{core_over}
 use Rattle.foyer_core.proofs.Told.{goes_all}
 use Rattle.foyer_core.proofs.TurnEnds.{all_fit}
 use Rattle.foyer_core.proofs.TurnLaws.{resized_stay, resized_until_stay}
+use Rattle.foyer_core.proofs.Origins.{all_evicted_belong, all_evicted_until_belong, shared_belong, told_belong}
 use Rattle.foyer_core.proofs.cache_core.CacheCore.resize.Goals as goal
+
+pub invariant_of-self-clause-belong : goal.invariant_of-self-clause-belong
+invariant_of-self-clause-belong g c =
+    let s = c.args.self.now in
+    let m = meaning_of_core s in
+    let ss = map state_of c.share_out.new.shards.items in
+    let done = c.evict_each_to_capacity-done in
+    let ts = map state_of done.new.shards.items in
+    told_belong done.result ss ts c.new-evicted.result.items done.new.leaves.items (InTurn (EvictsToCapacity m)) (InTurnUntil (EvictsToCapacity m) (EvictingToCapacity m))
+    done.ensures.done done.ensures.refused (λ ls. all_evicted_belong m ss ls ts) (λ ls. all_evicted_until_belong m ss ls ts)
+    (shared_belong m c.args.capacity (map state_of s.shards.items) ss c.share_out.ensures.shares s.belong)
 
 pub returns-in-Ok-clause-done : goal.returns-in-Ok-clause-done
 returns-in-Ok-clause-done g c =
@@ -25,7 +37,7 @@ returns-in-Ok-clause-fits g c =
     let new = c.evict_each_to_capacity-done.new.shards in
     let ls = c.evict_each_to_capacity-done.new.leaves.items in
     let done = goes_all ls (λ l. InTurn (EvictsToCapacity m) shared l (map state_of new.items)) (rw (c.new-evicted.ensures.items, c.in-Ok.is) at c.evict_each_to_capacity-done.ensures.done) in
-    all_fit m g.met.E.Eviction.lawful (core_of s) ls (core_over state_of c.args.capacity s.hash_builder s.weighter new.items) c.args.capacity
+    all_fit m g.met.E.Eviction.lawful (core_of s) ls (core_over state_of c.args.capacity s.hash_builder s.weighter s.filter new.items) c.args.capacity
     record { shared = shared; shares = c.share_out.ensures.shares; evicted = record { stepped = done; rest = refl } }
 
 pub returns-in-Ok-clause-stay : goal.returns-in-Ok-clause-stay
@@ -36,7 +48,7 @@ returns-in-Ok-clause-stay g c =
     let new = c.evict_each_to_capacity-done.new.shards in
     let ls = c.evict_each_to_capacity-done.new.leaves.items in
     let done = goes_all ls (λ l. InTurn (EvictsToCapacity m) shared l (map state_of new.items)) (rw (c.new-evicted.ensures.items, c.in-Ok.is) at c.evict_each_to_capacity-done.ensures.done) in
-    resized_stay m c.args.capacity (core_of s) ls (core_over state_of c.args.capacity s.hash_builder s.weighter new.items)
+    resized_stay m c.args.capacity (core_of s) ls (core_over state_of c.args.capacity s.hash_builder s.weighter s.filter new.items)
     record { shared = shared; shares = c.share_out.ensures.shares; evicted = record { stepped = done; rest = refl } }
 
 pub returns-in-Err-clause-refused : goal.returns-in-Err-clause-refused
@@ -56,5 +68,5 @@ returns-in-Err-clause-stay g c =
     let new = c.evict_each_to_capacity-done.new.shards in
     let ls = c.evict_each_to_capacity-done.new.leaves.items in
     let part = goes_all ls (λ l. InTurnUntil (EvictsToCapacity m) (EvictingToCapacity m) shared l (map state_of new.items)) (rw (c.new-evicted.ensures.items, c.in-Err.is) at c.evict_each_to_capacity-done.ensures.refused) in
-    resized_until_stay m c.args.capacity (core_of s) ls (core_over state_of c.args.capacity s.hash_builder s.weighter new.items)
+    resized_until_stay m c.args.capacity (core_of s) ls (core_over state_of c.args.capacity s.hash_builder s.weighter s.filter new.items)
     record { shared = shared; shares = c.share_out.ensures.shares; evicted = record { stepped = part; rest = refl } }

@@ -5,7 +5,7 @@ use Rattle.foyer_core.specs.Shards.{state_of}
 use Rattle.foyer_core.specs.Stored.{meaning}
 use Rattle.foyer_core.proofs.Sharing.{new_pushed, refused_by}
 use Rattle.foyer_core.proofs.StoredLemmas.{err_is}
-use Rattle.foyer_core.proofs.cache_core.shards.CacheCore+E+K+V+P+S+W+N.new_shards.Goals as goal
+use Rattle.foyer_core.proofs.cache_core.shards.CacheCore+E+K+V+P+S+W+A+N.new_shards.Goals as goal
 
 pub returns-in_err-shard-clause-refused : goal.returns-in_err-shard-clause-refused
 returns-in_err-shard-clause-refused g c =

@@ -2,7 +2,7 @@ use Rattle.std.proofs.Common.{◌≡◌, ◌<◌, None, map}
 use Rattle.foyer_core.specs.Core.{AreNewShards}
 use Rattle.foyer_core.specs.Shards.{state_of}
 use Rattle.foyer_core.specs.Stored.{meaning}
-use Rattle.foyer_core.proofs.cache_core.shards.CacheCore+E+K+V+P+S+W+N.new_shards.Given as goal
+use Rattle.foyer_core.proofs.cache_core.shards.CacheCore+E+K+V+P+S+W+A+N.new_shards.Given as goal
 
 -- the shards so far are the first ones, and with a first one the configuration has no fault
 abbrev pub invariant-loop-number : goal.invariant-loop-number
