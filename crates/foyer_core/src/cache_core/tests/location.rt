@@ -66,7 +66,7 @@ impl Properties for Placed {
     }
 }
 
-type PlacedCore = CacheCore<Fifo, u64, u64, Placed, ModHasher, UnitWeighter, ()>;
+type PlacedCore = CacheCore<Fifo, u64, u64, Placed, ModHasher, UnitWeighter, AdmitAll, ()>;
 
 // A core of one shard that holds nothing.
 fn placed_core(alloc: Global) -> Result<PlacedCore> {
@@ -78,6 +78,7 @@ fn placed_core(alloc: Global) -> Result<PlacedCore> {
             eviction_config: FifoConfig {},
             hash_builder: ModHasher::default(),
             weighter: UnitWeighter,
+            filter: AdmitAll,
             number: 0,
             limits: Limits::default(),
         },
