@@ -3,24 +3,28 @@ use Rattle.std.proofs.Common.{◌≡◌, ℕ, suc, ◌+◌, ◌*◌, ◌<◌, �
 use Rattle.std.proofs.lemmas.Bool.{false_from_ne_true}
 use Rattle.std.proofs.lemmas.Slice.Eq.{bytes_eq-Decides}
 use Rattle.foyer_session.specs.declared.text.Line.TheVariants.{Bad}
-use Rattle.foyer_session.specs.Text.{number_of, numbers_of, line_with_one, line_with_two, line_with_three, line_with, line_of_words}
+use Rattle.foyer_session.specs.Text.{number_of, numbers_of, line_with_none, line_with_one, line_with_two, line_with_three, line_with, line_of_words}
 use Rattle.foyer_session.proofs.NumberLemmas.{number_of-short}
 
 bytes_eq-long : (word name : List ℕ) → length name < length word → bytes_eq word name ≡ false
 bytes_eq-long word name long = false_from_ne_true (bytes_eq word name) (λ e. omega (arith, ap length ((bytes_eq-Decides word name).0 e)))
 
 -- no first word is longer than 8 bytes
+line_with_none-long : (verb : List ℕ) → 8 < length verb → line_with_none verb ≡ Bad
+unfolding line_with_none
+line_with_none-long verb long = rw (bytes_eq-long verb (codes "clear") (omega arith), bytes_eq-long verb (codes "evict") (omega arith)) refl
+
 line_with_one-long : (verb : List ℕ) (n : ℕ) → 8 < length verb → line_with_one verb n ≡ Bad
 unfolding line_with_one
-line_with_one-long verb n long = rw (bytes_eq-long verb (codes "get") (omega arith), bytes_eq-long verb (codes "contains") (omega arith), bytes_eq-long verb (codes "touch") (omega arith), bytes_eq-long verb (codes "remove") (omega arith), bytes_eq-long verb (codes "drop") (omega arith)) refl
+line_with_one-long verb n long = rw (bytes_eq-long verb (codes "get") (omega arith), bytes_eq-long verb (codes "contains") (omega arith), bytes_eq-long verb (codes "touch") (omega arith), bytes_eq-long verb (codes "remove") (omega arith), bytes_eq-long verb (codes "drop") (omega arith), bytes_eq-long verb (codes "resize") (omega arith)) refl
 
 line_with_two-long : (verb : List ℕ) (m n : ℕ) → 8 < length verb → line_with_two verb m n ≡ Bad
 unfolding line_with_two
-line_with_two-long verb m n long = rw (bytes_eq-long verb (codes "insert") (omega arith)) refl
+line_with_two-long verb m n long = rw (bytes_eq-long verb (codes "insert") (omega arith), bytes_eq-long verb (codes "phantom") (omega arith)) refl
 
 line_with_three-long : (verb : List ℕ) (k m n : ℕ) → 8 < length verb → line_with_three verb k m n ≡ Bad
 unfolding line_with_three
-line_with_three-long verb k m n long = rw (bytes_eq-long verb (codes "insert") (omega arith)) refl
+line_with_three-long verb k m n long = rw (bytes_eq-long verb (codes "insert") (omega arith), bytes_eq-long verb (codes "phantom") (omega arith)) refl
 
 -- the bytes of the words, and one more for each
 abbrev pub weight_of : List (List ℕ) → ℕ
@@ -40,7 +44,7 @@ numbers_of-short (word ∷ more) = at (number_of word) (numbers_of more) (number
 
 line_with-long : (verb : List ℕ) (o : Option (List ℕ)) (count weight : ℕ) → IfSome o (λ ns. (length ns ≡ count) × (weight ≤ 21 * count)) → 84 < suc (length verb) + weight → line_with verb o ≡ Bad
 line_with-long verb None count weight h long = refl
-line_with-long verb (Some []) count weight h long = refl
+line_with-long verb (Some []) count weight h long = line_with_none-long verb (omega (arith, h.0, h.1))
 line_with-long verb (Some (n ∷ [])) count weight h long = line_with_one-long verb n (omega (arith, h.0, h.1))
 line_with-long verb (Some (m ∷ n ∷ [])) count weight h long = line_with_two-long verb m n (omega (arith, h.0, h.1))
 line_with-long verb (Some (k ∷ m ∷ n ∷ [])) count weight h long = line_with_three-long verb k m n (omega (arith, h.0, h.1))

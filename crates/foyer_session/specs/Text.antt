@@ -5,7 +5,7 @@ use Rattle.std.specs.Str.{all_ascii_digits}
 use Rattle.std.specs.Str.Parse.{digits_value}
 use Rattle.std.specs.Io.BufRead.{first_piece, drop_through}
 use Rattle.foyer_session.specs.declared.text.Line.{Line}
-use Rattle.foyer_session.specs.declared.text.Line.TheVariants.{Blank, Insert, Get, Contains, Touch, Remove, Drop, Bad}
+use Rattle.foyer_session.specs.declared.text.Line.TheVariants.{Blank, Insert, Phantom, Get, Contains, Touch, Remove, Drop, Clear, Evict, Resize, Bad}
 
 -- the words: the longest runs of bytes other than the space, in order
 unfoldable pub words : List ℕ → List (List ℕ)
@@ -21,25 +21,37 @@ abbrev pub numbers_of : List (List ℕ) → Option (List ℕ)
 numbers_of [] = Some []
 numbers_of (word ∷ more) = option_and_then (λ n. option_map (λ ns. n ∷ ns) (numbers_of more)) (number_of word)
 
--- the line of a first word and one number
+-- the line of a first word alone
+unfoldable pub line_with_none : List ℕ → Line
+line_with_none verb = if bytes_eq verb (codes "clear") then Clear
+    else (if bytes_eq verb (codes "evict") then Evict
+    else Bad)
+
+-- of a first word and one number
 unfoldable pub line_with_one : List ℕ → ℕ → Line
 line_with_one verb n = if bytes_eq verb (codes "get") then Get n
     else (if bytes_eq verb (codes "contains") then Contains n
     else (if bytes_eq verb (codes "touch") then Touch n
     else (if bytes_eq verb (codes "remove") then Remove n
     else (if bytes_eq verb (codes "drop") then Drop n
-    else Bad))))
+    else (if bytes_eq verb (codes "resize") then Resize n
+    else Bad)))))
 
 -- of a first word and two numbers
 unfoldable pub line_with_two : List ℕ → ℕ → ℕ → Line
-line_with_two verb m n = if bytes_eq verb (codes "insert") then Insert m n 1 else Bad
+line_with_two verb m n = if bytes_eq verb (codes "insert") then Insert m n 1
+    else (if bytes_eq verb (codes "phantom") then Phantom m n 1
+    else Bad)
 
 -- of a first word and three numbers
 unfoldable pub line_with_three : List ℕ → ℕ → ℕ → ℕ → Line
-line_with_three verb k m n = if bytes_eq verb (codes "insert") then Insert k m n else Bad
+line_with_three verb k m n = if bytes_eq verb (codes "insert") then Insert k m n
+    else (if bytes_eq verb (codes "phantom") then Phantom k m n
+    else Bad)
 
 -- of a first word and the numbers after it, `None` where a later word is no number
 abbrev pub line_with : List ℕ → Option (List ℕ) → Line
+line_with verb (Some []) = line_with_none verb
 line_with verb (Some (n ∷ [])) = line_with_one verb n
 line_with verb (Some (m ∷ n ∷ [])) = line_with_two verb m n
 line_with verb (Some (k ∷ m ∷ n ∷ [])) = line_with_three verb k m n

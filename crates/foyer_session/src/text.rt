@@ -18,6 +18,8 @@ pub enum Line {
     Blank,
     /// `insert K V [W]`. A line that leaves out W means the weight 1.
     Insert { key: u64, value: u64, weight: usize },
+    /// `phantom K V [W]`, an insert of a phantom record. A line that leaves out W means the weight 1.
+    Phantom { key: u64, value: u64, weight: usize },
     /// `get K`.
     Get(u64),
     /// `contains K`.
@@ -28,6 +30,12 @@ pub enum Line {
     Remove(u64),
     /// `drop N`, of a handle's number.
     Drop(u64),
+    /// `clear`.
+    Clear,
+    /// `evict`.
+    Evict,
+    /// `resize C`, of the capacity.
+    Resize(usize),
     /// Any other line.
     Bad,
 }

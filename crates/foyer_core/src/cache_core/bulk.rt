@@ -69,11 +69,14 @@ impl<
     {
         self.capacity = capacity;
         share_out(&mut self.shards, capacity);
-        let mut leaves = Vec::new(self.alloc);
-        let done = evict_each_to_capacity(&mut self.shards, &mut leaves);
+        let mut evicted = Vec::new(self.alloc);
+        let done = evict_each_to_capacity(&mut self.shards, &mut evicted);
         match done {
-            Ok(()) => Ok(leaves),
-            Err(error) => Err(Refused { error, leaves }),
+            Ok(()) => Ok(evicted),
+            Err(error) => Err(Refused {
+                error,
+                leaves: evicted,
+            }),
         }
     }
 

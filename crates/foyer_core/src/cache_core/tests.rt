@@ -12,6 +12,7 @@ use std::test::Fail;
 
 mod bulk;
 mod entries;
+mod location;
 mod filter;
 mod memory;
 mod phantom;
@@ -56,23 +57,22 @@ fn sharded(
 // What an insert answers, which is not refused.
 fn put(rt: &impl Abort, core: &mut Core, key: u64, value: u64) -> (Entry, Leaves) {
     match core.insert(key, value) {
-        Ok(made) => {
-            let Inserted {
-                entry,
-                answers,
-                leaves,
-            } = made;
-            end(answers);
-            (entry, leaves)
-        }
+        Ok(made) => came_in(made),
         Err(refused) => panic!(rt; "refused: {}", refused.error),
     }
 }
 
-// Ends answers that nobody waited for.
-fn end(answers: Answers<u64, u64, CacheProperties, ()>)
-    requires { AnswersNobody answers }
+// The entry of what came in, for which nobody waited, and what left.
+fn came_in<V: Value, P: Properties>(
+    made: Inserted<u64, V, P, ()>,
+) -> (CoreEntry<u64, V, P>, Vec<(Event, Left<u64, V, P>)>)
+    requires { AnswersNobody made.answers }
 {
+    let Inserted {
+        entry,
+        answers,
+        leaves,
+    } = made;
     let Answers { waiters, outcome } = answers;
     drop(waiters);
     match outcome {
@@ -80,6 +80,7 @@ fn end(answers: Answers<u64, u64, CacheProperties, ()>)
         Outcome::None => (),
         Outcome::Fault(_) => (),
     }
+    (entry, leaves)
 }
 
 // An entry that the core owns goes back, and nothing leaves with it.
@@ -226,12 +227,7 @@ fn low_records_are_inserted_too(rt: HostRuntime) -> std::result::Result<(), Fail
     let low = CacheProperties::default().with_hint(Hint::Low);
     match core.insert_with_properties(1, 10, low) {
         Ok(made) => {
-            let Inserted {
-                entry,
-                answers,
-                leaves,
-            } = made;
-            end(answers);
+            let (entry, leaves) = came_in(made);
             assert!(rt; leaves.is_empty());
             assert_eq!(rt; entry.properties().hint(), Hint::Low);
             release(&rt, &mut core, entry);

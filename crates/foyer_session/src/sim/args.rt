@@ -70,3 +70,6 @@ fn policy_of(name: &[u8]) -> Option<SimPolicy>
         None
     }
 }
+
+#[cfg(test)]
+mod tests;

@@ -1,23 +1,26 @@
 //! What is printed for a line.
 
-ghost use Rattle.std.specs.Prelude.{ℕ, List, [], None, codes};
+ghost use Rattle.std.specs.Prelude.{◌≡◌, ℕ, List, [], None, codes};
 ghost use Rattle.std.specs.Hash.{u64 as u64_input};
 ghost use Rattle.foyer_policy.specs.Errors.{number_of};
 ghost use Rattle.foyer_session.specs.Print.{WritesText};
 ghost use Rattle.foyer_session.specs.Printed.{answer_text, refusal_text};
 ghost use Rattle.foyer_session.specs.Sessions.{session_of, meaning_of_session};
-ghost use Rattle.foyer_session.specs.Simulated.{CommandTold, LineTold, line_text};
-ghost use Rattle.foyer_session.specs.Step.{IsPlain};
+ghost use Rattle.foyer_session.specs.Simulated.{CommandTold, LineTold, line_text, plain, phantom};
+ghost use Rattle.foyer_session.specs.declared.command.Command.TheVariants.{Insert};
 
 use super::reply::{write_answer, write_refusal, write_rest};
 use super::value::{SimValue, SimWeighter};
 use crate::command::{Command, Reply};
+use crate::predicate::NoPredicate;
 use crate::session::Session;
 use crate::text::{Line, write_out};
 use foyer_core::{CacheProperties, Indexer};
 use foyer_policy::{Error, Eviction, HashBuilder, Properties};
 use std::io;
 use std::io::Write;
+
+type SimCommand = Command<u64, SimValue, CacheProperties, NoPredicate>;
 
 /// Carries out a line, and writes what is printed for it.
 pub fn tell<W: Write, E: Eviction, S: HashBuilder, I: Indexer<u64>>(
@@ -33,25 +36,43 @@ pub fn tell<W: Write, E: Eviction, S: HashBuilder, I: Indexer<u64>>(
         Line::Blank => Ok(()),
         Line::Bad => tell_bad(writer, session),
         Line::Insert { key, value, weight } => {
-            let value = SimValue { value, weight };
-            let properties = CacheProperties::default();
-            tell_command(writer, session, Command::Insert(key, value, properties))
+            tell_command(writer, session, plain_insert(key, value, weight))
+        }
+        Line::Phantom { key, value, weight } => {
+            tell_command(writer, session, phantom_insert(key, value, weight))
         }
         Line::Get(key) => tell_command(writer, session, Command::Get(key)),
         Line::Contains(key) => tell_command(writer, session, Command::Contains(key)),
         Line::Touch(key) => tell_command(writer, session, Command::Touch(key)),
         Line::Remove(key) => tell_command(writer, session, Command::Remove(key)),
         Line::Drop(number) => tell_command(writer, session, Command::Drop(number)),
+        Line::Clear => tell_command(writer, session, Command::Clear),
+        Line::Evict => tell_command(writer, session, Command::EvictAll),
+        Line::Resize(capacity) => tell_command(writer, session, Command::Resize(capacity)),
     }
+}
+
+// The insert of a plain record.
+fn plain_insert(key: u64, value: u64, weight: usize) -> SimCommand
+    ensures { result ≡ Insert key (record { value = value; weight = weight }) plain }
+{
+    Command::Insert(key, SimValue { value, weight }, CacheProperties::default())
+}
+
+// The insert of a phantom record.
+fn phantom_insert(key: u64, value: u64, weight: usize) -> SimCommand
+    ensures { result ≡ Insert key (record { value = value; weight = weight }) phantom }
+{
+    let properties = CacheProperties::default().with_phantom(true);
+    Command::Insert(key, SimValue { value, weight }, properties)
 }
 
 // Carries out a command. Where memory was missing for it, nothing has changed.
 fn tell_command<W: Write, E: Eviction, S: HashBuilder, I: Indexer<u64>>(
     writer: &mut W,
     session: &mut Session<E, u64, SimValue, CacheProperties, S, SimWeighter, I>,
-    command: Command<u64, SimValue, CacheProperties>,
+    command: SimCommand,
 ) -> io::Result<()>
-    requires { IsPlain ⟦<CacheProperties as Properties>⟧.phantom_of ⟦<CacheProperties as Properties>⟧.location_of command }
     ensures { (text : List ℕ)
         × CommandTold (meaning_of_session session.old) (λ builder key. S.hash_of builder (u64_input key)) (session_of session.old) command text (session_of session.new)
         × WritesText (W.contents writer.old) (W.contents writer.new) result text }

@@ -1,4 +1,4 @@
-use super::{SimArgs, SimPolicy, SimValue, SimWeighter, sim_args, simulate};
+use super::{SimValue, SimWeighter, simulate};
 use crate::session::Session;
 use crate::streams::{Parts, Slow};
 use foyer_core::{CacheCore, CacheProperties, Limits, RawCacheConfig};
@@ -9,15 +9,16 @@ use std::test::Fail;
 
 type SimSession<E> = Session<E, u64, SimValue, CacheProperties, ModHasher, SimWeighter>;
 
-// A session over an empty core of one shard.
-fn session<E: Eviction>(
+// A session over an empty core of so many shards.
+fn session_over<E: Eviction>(
     alloc: Global,
     capacity: usize,
+    shards: usize,
     limits: Limits,
 ) -> Result<SimSession<E>, Fail> {
     let config = RawCacheConfig {
         capacity,
-        shards: 1,
+        shards,
         eviction_config: E::Config::default(),
         hash_builder: ModHasher::default(),
         weighter: SimWeighter,
@@ -27,16 +28,35 @@ fn session<E: Eviction>(
     Ok(Session::new(alloc, CacheCore::new(alloc, config)?))
 }
 
-// What is printed for these lines by a cache of this capacity and policy.
+// Over an empty core of one shard.
+fn session<E: Eviction>(
+    alloc: Global,
+    capacity: usize,
+    limits: Limits,
+) -> Result<SimSession<E>, Fail> {
+    session_over::<E>(alloc, capacity, 1, limits)
+}
+
+// What is printed for these lines by a cache of this capacity, of so many shards, and of this policy.
+fn printed_over<E: Eviction, R: BufRead>(
+    alloc: Global,
+    capacity: usize,
+    shards: usize,
+    reader: &mut R,
+) -> Result<Vec<u8>, Fail> {
+    let mut session = session_over::<E>(alloc, capacity, shards, Limits::default())?;
+    let mut written = Vec::new(alloc);
+    simulate(reader, &mut written, &mut session)?;
+    Ok(written)
+}
+
+// By a cache of one shard.
 fn printed_by<E: Eviction, R: BufRead>(
     alloc: Global,
     capacity: usize,
     reader: &mut R,
 ) -> Result<Vec<u8>, Fail> {
-    let mut session = session::<E>(alloc, capacity, Limits::default())?;
-    let mut written = Vec::new(alloc);
-    simulate(reader, &mut written, &mut session)?;
-    Ok(written)
+    printed_over::<E, R>(alloc, capacity, 1, reader)
 }
 
 // By a cache that is first in, first out.
@@ -196,6 +216,90 @@ h1 10 | remove 1=10 | usage 0 entries 0
 }
 
 #[test]
+fn a_phantom_leaves_with_its_last_handle(rt: HostRuntime) -> Result<(), Fail> {
+    let mut script: &[u8] = b"insert 1 1\nphantom 1 100\ndrop 1\ndrop 1\nsteal 1\n";
+    let written = printed(rt.alloc(), 2, &mut script)?;
+    let wanted: &[u8] = b"h0 | - | usage 1 entries 1
+h1 | replace 1=1, remove 1=100 | usage 0 entries 0
+ok | evict 1=100 | usage 0 entries 0
+not held | - | usage 0 entries 0
+bad line | - | usage 0 entries 0
+";
+    assert_eq!(rt; written.as_slice(), wanted);
+    Ok(())
+}
+
+#[test]
+fn what_is_over_a_new_capacity_leaves(rt: HostRuntime) -> Result<(), Fail> {
+    let mut script: &[u8] = b"insert 1 10\ninsert 2 20\ntouch 1\ninsert 3 30\nresize 0\n";
+    let written = printed_by::<Lfu, _>(rt.alloc(), 2, &mut script)?;
+    let wanted: &[u8] = b"h0 | - | usage 1 entries 1
+h1 | - | usage 2 entries 2
+yes | - | usage 2 entries 2
+h2 | evict 2=20 | usage 2 entries 2
+ok | evict 3=30, evict 1=10 | usage 0 entries 0
+";
+    assert_eq!(rt; written.as_slice(), wanted);
+    Ok(())
+}
+
+#[test]
+fn a_clear_goes_through_the_shards(rt: HostRuntime) -> Result<(), Fail> {
+    let mut script: &[u8] = b"insert 1 10\ninsert 2 20\ninsert 3 30\nclear\nget 1\n";
+    let written = printed_over::<Fifo, _>(rt.alloc(), 4, 2, &mut script)?;
+    let wanted: &[u8] = b"h0 | - | usage 1 entries 1
+h1 | - | usage 2 entries 2
+h2 | - | usage 3 entries 3
+ok | clear 2=20, clear 1=10, clear 3=30 | usage 0 entries 0
+none | - | usage 0 entries 0
+";
+    assert_eq!(rt; written.as_slice(), wanted);
+    Ok(())
+}
+
+#[test]
+fn an_evict_goes_through_the_shards(rt: HostRuntime) -> Result<(), Fail> {
+    let mut script: &[u8] = b"insert 1 10\ninsert 2 20\ninsert 3 30\nevict\nget 1\n";
+    let written = printed_over::<Fifo, _>(rt.alloc(), 4, 2, &mut script)?;
+    let wanted: &[u8] = b"h0 | - | usage 1 entries 1
+h1 | - | usage 2 entries 2
+h2 | - | usage 3 entries 3
+ok | evict 2=20, evict 1=10, evict 3=30 | usage 0 entries 0
+none | - | usage 0 entries 0
+";
+    assert_eq!(rt; written.as_slice(), wanted);
+    Ok(())
+}
+
+#[test]
+fn what_is_held_is_not_evicted(rt: HostRuntime) -> Result<(), Fail> {
+    let mut script: &[u8] = b"insert 1 10\nget 1\ninsert 2 20\nevict\nclear\n";
+    let written = printed_by::<Lru, _>(rt.alloc(), 2, &mut script)?;
+    let wanted: &[u8] = b"h0 | - | usage 1 entries 1
+h1 10 | - | usage 1 entries 1
+h2 | - | usage 2 entries 2
+ok | evict 2=20 | usage 1 entries 1
+ok | clear 1=10 | usage 0 entries 0
+";
+    assert_eq!(rt; written.as_slice(), wanted);
+    Ok(())
+}
+
+#[test]
+fn each_shard_has_its_share(rt: HostRuntime) -> Result<(), Fail> {
+    let mut script: &[u8] = b"insert 0 0\ninsert 1 10\ninsert 2 20\nget 2\ninsert 6 60\n";
+    let written = printed_over::<Fifo, _>(rt.alloc(), 2, 4, &mut script)?;
+    let wanted: &[u8] = b"h0 | - | usage 1 entries 1
+h1 | - | usage 2 entries 2
+h2 | - | usage 3 entries 3
+h3 20 | - | usage 3 entries 3
+h4 | evict 2=20 | usage 3 entries 3
+";
+    assert_eq!(rt; written.as_slice(), wanted);
+    Ok(())
+}
+
+#[test]
 fn bad_lines_say_so_and_blank_ones_nothing(rt: HostRuntime) -> Result<(), Fail> {
     let mut script: &[u8] =
         b"\n   \nsteal 1\nget 000000000000000000001\ninsert 1 2\xff\n\x00\x80\nget 1\ndrop 0\ncontains 1\ninsert 1 2";
@@ -277,57 +381,5 @@ fn a_failed_writer_has_a_beginning(rt: HostRuntime) -> Result<(), Fail> {
             "at call {fails_at}"
         );
     }
-    Ok(())
-}
-
-// The arguments that these words are.
-fn args_of(alloc: Global, words: &[&str]) -> Result<Option<SimArgs>, Fail> {
-    let mut strings = Vec::new(alloc);
-    for word in words {
-        strings.push(String::from_str(alloc, word)?)?;
-    }
-    Ok(sim_args(strings.as_slice()))
-}
-
-#[test]
-fn arguments_are_read(rt: HostRuntime) -> Result<(), Fail> {
-    let alloc = rt.alloc();
-    let args = SimArgs {
-        policy: SimPolicy::Fifo,
-        capacity: 2,
-        shards: 1,
-    };
-    assert_eq!(rt; args_of(alloc, &["fifo", "2", "1"])?, Some(args));
-    assert_eq!(rt; args_of(alloc, &["fifo", "0002", "01"])?, Some(args));
-    let four = SimArgs { shards: 4, ..args };
-    assert_eq!(rt; args_of(alloc, &["fifo", "2", "4"])?, Some(four));
-    for (name, policy) in [
-        ("lru", SimPolicy::Lru),
-        ("lfu", SimPolicy::Lfu),
-        ("s3fifo", SimPolicy::S3Fifo),
-        ("sieve", SimPolicy::Sieve),
-    ] {
-        let wanted = SimArgs { policy, ..args };
-        assert_eq!(rt; args_of(alloc, &[name, "2", "1"])?, Some(wanted));
-    }
-    Ok(())
-}
-
-#[test]
-fn bad_arguments_are_none(rt: HostRuntime) -> Result<(), Fail> {
-    let alloc = rt.alloc();
-    assert_eq!(rt; args_of(alloc, &[])?, None);
-    assert_eq!(rt; args_of(alloc, &["fifo", "2"])?, None);
-    assert_eq!(rt; args_of(alloc, &["fifo", "2", "1", "1"])?, None);
-    assert_eq!(rt; args_of(alloc, &["FIFO", "2", "1"])?, None);
-    assert_eq!(rt; args_of(alloc, &["arc", "2", "1"])?, None);
-    assert_eq!(rt; args_of(alloc, &["fifo", "-2", "1"])?, None);
-    assert_eq!(rt; args_of(alloc, &["fifo", "", "1"])?, None);
-    assert_eq!(rt;
-        args_of(alloc, &["fifo", "18446744073709551616", "1"])?,
-        None
-    );
-    assert_eq!(rt; args_of(alloc, &["fifo", "2", "0"])?, None);
-    assert_eq!(rt; args_of(alloc, &["fifo", "2", "one"])?, None);
     Ok(())
 }

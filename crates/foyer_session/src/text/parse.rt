@@ -1,7 +1,7 @@
 //! A line as a command.
 
 ghost use Rattle.std.specs.Prelude.{◌≡◌, ◌≢◌, ◌<◌, ◌≤◌, ◌∷◌, [], All, IfSome, IfNone, bytes_eq, length, slice_index, take};
-ghost use Rattle.foyer_session.specs.Text.{words, line_of, line_with_one, line_with_two, line_with_three};
+ghost use Rattle.foyer_session.specs.Text.{words, line_of, line_with_none, line_with_one, line_with_two, line_with_three};
 
 use super::Line;
 use super::number::number_of;
@@ -14,7 +14,7 @@ pub fn line_of(line: &[u8]) -> Line
         return Line::Blank;
     };
     let Some((word, rest)) = next_word(rest) else {
-        return Line::Bad;
+        return with_none(verb);
     };
     let Some(first) = number_of(word) else {
         return Line::Bad;
@@ -32,8 +32,22 @@ pub fn line_of(line: &[u8]) -> Line
         return Line::Bad;
     };
     match next_word(rest) {
-        None => with_three(verb, first, second, third),
+        None => with_three(verb, first, second, third as usize),
         Some(_) => Line::Bad,
+    }
+}
+
+// The line of a first word alone.
+#[tactic(auto, unfolding(crate::specs::Text::line_with_none))]
+fn with_none(verb: &[u8]) -> Line
+    ensures { result ≡ line_with_none verb.now }
+{
+    if is_word(verb, b"clear") {
+        Line::Clear
+    } else if is_word(verb, b"evict") {
+        Line::Evict
+    } else {
+        Line::Bad
     }
 }
 
@@ -52,38 +66,30 @@ fn with_one(verb: &[u8], number: u64) -> Line
         Line::Remove(number)
     } else if is_word(verb, b"drop") {
         Line::Drop(number)
+    } else if is_word(verb, b"resize") {
+        Line::Resize(number as usize)
     } else {
         Line::Bad
     }
 }
 
-// The line of a first word and two numbers.
-#[tactic(auto, unfolding(crate::specs::Text::line_with_two))]
+// The line of a first word and two numbers. A weight that is left out is 1.
+#[tactic(auto, unfolding(crate::specs::Text::line_with_two, crate::specs::Text::line_with_three))]
 fn with_two(verb: &[u8], first: u64, second: u64) -> Line
     ensures { result ≡ line_with_two verb.now first second }
 {
-    if is_word(verb, b"insert") {
-        Line::Insert {
-            key: first,
-            value: second,
-            weight: 1,
-        }
-    } else {
-        Line::Bad
-    }
+    with_three(verb, first, second, 1)
 }
 
 // The line of a first word and three numbers.
 #[tactic(auto, unfolding(crate::specs::Text::line_with_three))]
-fn with_three(verb: &[u8], first: u64, second: u64, third: u64) -> Line
-    ensures { result ≡ line_with_three verb.now first second third }
+fn with_three(verb: &[u8], key: u64, value: u64, weight: usize) -> Line
+    ensures { result ≡ line_with_three verb.now key value weight }
 {
     if is_word(verb, b"insert") {
-        Line::Insert {
-            key: first,
-            value: second,
-            weight: third as usize,
-        }
+        Line::Insert { key, value, weight }
+    } else if is_word(verb, b"phantom") {
+        Line::Phantom { key, value, weight }
     } else {
         Line::Bad
     }

@@ -66,6 +66,52 @@ fn lines_are_the_same_at_every_cut(rt: HostRuntime) -> Result<(), Fail> {
     Ok(())
 }
 
+const BULK_TEXT: &[u8] =
+    b"clear\n  evict \nresize 0\nresize 18446744073709551615\nphantom 1 100\nphantom 2 20 3\nclear 1\nevict 1\nresize\nresize 1 2\nresize all\nphantom\nphantom 1\nphantom 1 2 3 4\nclear\r\nEvict\nphantoms 1 2";
+
+fn bulk_wanted() -> [Line; 17] {
+    [
+        Line::Clear,
+        Line::Evict,
+        Line::Resize(0),
+        Line::Resize(usize::MAX),
+        Line::Phantom {
+            key: 1,
+            value: 100,
+            weight: 1,
+        },
+        Line::Phantom {
+            key: 2,
+            value: 20,
+            weight: 3,
+        },
+        Line::Bad,
+        Line::Bad,
+        Line::Bad,
+        Line::Bad,
+        Line::Bad,
+        Line::Bad,
+        Line::Bad,
+        Line::Bad,
+        Line::Bad,
+        Line::Bad,
+        Line::Bad,
+    ]
+}
+
+#[test]
+fn lines_take_their_numbers_and_no_more(rt: HostRuntime) -> Result<(), Fail> {
+    for part in 1..BULK_TEXT.len() + 1 {
+        let lines = lines_of(rt.alloc(), &mut Parts::new(BULK_TEXT, part))?;
+        assert_eq!(rt;
+            lines.as_slice(),
+            bulk_wanted().as_slice(),
+            "in parts of {part}"
+        );
+    }
+    Ok(())
+}
+
 #[test]
 fn an_interruption_changes_nothing(rt: HostRuntime) -> Result<(), Fail> {
     for fails_at in 1..100 {

@@ -147,6 +147,19 @@ fn all_is_evicted_that_weighs_nothing_too(rt: HostRuntime) -> std::result::Resul
     Ok(())
 }
 
+#[test]
+fn a_record_evicted_for_its_key_comes_in_last(rt: HostRuntime) -> std::result::Result<(), Fail> {
+    let mut core = heavy::<Fifo>(rt.alloc(), 2, 1, FifoConfig {})?;
+    for (key, gone) in [(1, None), (2, None), (1, Some(1))] {
+        assert_eq!(rt; gone_for(&rt, &mut core, key, 1), gone);
+    }
+    assert_eq!(rt; core.usage(), 2);
+    let leaves = evicted(&rt, &mut core);
+    let keys = heavy_keys(&rt, rt.alloc(), &leaves)?;
+    assert_eq!(rt; keys.as_slice(), [2, 1].as_slice());
+    Ok(())
+}
+
 // An entry of a key that is in, which pins its record.
 fn pin<E: Eviction>(rt: &impl Abort, core: &mut Heavy<E>, key: u64) -> HeavyEntry {
     match core.get(&key) {

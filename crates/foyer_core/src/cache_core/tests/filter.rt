@@ -55,12 +55,7 @@ fn came_and_went(
 ) -> std::result::Result<Told, Fail> {
     match core.insert(key, 10 * (key % 100)) {
         Ok(made) => {
-            let Inserted {
-                entry,
-                answers,
-                leaves,
-            } = made;
-            end(answers);
+            let (entry, leaves) = came_in(made);
             assert_eq!(rt; *entry.key(), key);
             let last = last_of(rt, core, entry);
             let mut told = Vec::new(alloc);

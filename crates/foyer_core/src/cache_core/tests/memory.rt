@@ -6,12 +6,7 @@ use super::*;
 fn leaves_or_refused(rt: &impl Abort, core: &mut Core, key: u64) -> (bool, Leaves) {
     match core.insert(key, key.wrapping_mul(10)) {
         Ok(made) => {
-            let Inserted {
-                entry,
-                answers,
-                leaves,
-            } = made;
-            end(answers);
+            let (entry, leaves) = came_in(made);
             release(rt, core, entry);
             (true, leaves)
         }

@@ -15,12 +15,7 @@ struct Told {
 fn phantom(rt: &impl Abort, core: &mut Core, key: u64, value: u64) -> Told {
     match core.insert_with_properties(key, value, CacheProperties::default().with_phantom(true)) {
         Ok(made) => {
-            let Inserted {
-                entry,
-                answers,
-                leaves,
-            } = made;
-            end(answers);
+            let (entry, leaves) = came_in(made);
             let usage = core.usage();
             Told {
                 leaves,
@@ -44,6 +39,18 @@ fn taken(
             entry.discard();
             panic!(rt; "the entry came back")
         }
+    }
+}
+
+// A get finds nothing under a key.
+fn nothing_found(rt: &impl Abort, core: &mut Core, key: u64) {
+    match core.get(&key) {
+        Ok(None) => (),
+        Ok(Some(entry)) => {
+            entry.discard();
+            assert!(rt; false, "{key} is found");
+        }
+        Err(error) => panic!(rt; "refused: {error}"),
     }
 }
 
@@ -72,7 +79,7 @@ fn a_phantom_record_leaves_with_its_last_handle(rt: HostRuntime) -> std::result:
         Some(leave) => assert!(rt; is_leave(leave, Event::Evict, 1, 100)),
         None => assert!(rt; false, "nothing left with the last handle"),
     }
-    assert!(rt; !core.contains(&1));
+    nothing_found(&rt, &mut core, 1);
     assert_eq!(rt; core.entries(), 0);
     Ok(())
 }
@@ -97,12 +104,7 @@ fn a_phantom_record_needs_a_number(rt: HostRuntime) -> std::result::Result<(), F
     let mut core = core(rt.alloc(), 1, 0, limits)?;
     match core.insert_with_properties(1, 1, CacheProperties::default().with_phantom(true)) {
         Ok(made) => {
-            let Inserted {
-                entry,
-                answers,
-                leaves: _,
-            } = made;
-            end(answers);
+            let (entry, _) = came_in(made);
             entry.discard();
             assert!(rt; false, "a record without a number");
         }

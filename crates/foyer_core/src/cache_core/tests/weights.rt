@@ -1,7 +1,6 @@
 // Weights at the end of what a number holds.
 
 ghost use Rattle.std.specs.Prelude.{◌≡◌};
-ghost use Rattle.foyer_core.specs.Core.{AnswersNobody};
 
 use super::*;
 use crate::weighter::Weighter;
@@ -57,25 +56,6 @@ pub(super) fn heavy<E: Eviction>(
 }
 
 pub(super) type HeavyLeaves = Vec<(Event, Left<u64, usize, CacheProperties>)>;
-
-// The entry of what came in, for which nobody waited, and what left.
-fn came_in(made: Inserted<u64, usize, CacheProperties, ()>) -> (HeavyEntry, HeavyLeaves)
-    requires { AnswersNobody made.answers }
-{
-    let Inserted {
-        entry,
-        answers,
-        leaves,
-    } = made;
-    let Answers { waiters, outcome } = answers;
-    drop(waiters);
-    match outcome {
-        Outcome::Entries(entries) => entries.destroy_empty(),
-        Outcome::None => (),
-        Outcome::Fault(_) => (),
-    }
-    (entry, leaves)
-}
 
 // Puts a weight in, which is not refused: its entry, and the key that left, if any, which is evicted.
 fn put_heavy<E: Eviction>(

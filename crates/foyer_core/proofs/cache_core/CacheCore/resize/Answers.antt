@@ -16,7 +16,7 @@ invariant_of-self-clause-belong g c =
     let ss = map state_of c.share_out.new.shards.items in
     let done = c.evict_each_to_capacity-done in
     let ts = map state_of done.new.shards.items in
-    told_belong done.result ss ts c.new-leaves.result.items done.new.leaves.items (InTurn (EvictsToCapacity m)) (InTurnUntil (EvictsToCapacity m) (EvictingToCapacity m))
+    told_belong done.result ss ts c.new-evicted.result.items done.new.leaves.items (InTurn (EvictsToCapacity m)) (InTurnUntil (EvictsToCapacity m) (EvictingToCapacity m))
     done.ensures.done done.ensures.refused (λ ls. all_evicted_belong m ss ls ts) (λ ls. all_evicted_until_belong m ss ls ts)
     (shared_belong m c.args.capacity (map state_of s.shards.items) ss c.share_out.ensures.shares s.belong)
 
@@ -26,7 +26,7 @@ returns-in-Ok-clause-done g c =
     let shared = map state_of c.share_out.new.shards.items in
     let new = c.evict_each_to_capacity-done.new.shards in
     let ls = c.evict_each_to_capacity-done.new.leaves.items in
-    let done = goes_all ls (λ l. InTurn (EvictsToCapacity m) shared l (map state_of new.items)) (rw (c.new-leaves.ensures.items, c.in-Ok.is) at c.evict_each_to_capacity-done.ensures.done) in
+    let done = goes_all ls (λ l. InTurn (EvictsToCapacity m) shared l (map state_of new.items)) (rw (c.new-evicted.ensures.items, c.in-Ok.is) at c.evict_each_to_capacity-done.ensures.done) in
     record { shared = shared; shares = c.share_out.ensures.shares; evicted = record { stepped = done; rest = refl } }
 
 pub returns-in-Ok-clause-fits : goal.returns-in-Ok-clause-fits
@@ -36,7 +36,7 @@ returns-in-Ok-clause-fits g c =
     let shared = map state_of c.share_out.new.shards.items in
     let new = c.evict_each_to_capacity-done.new.shards in
     let ls = c.evict_each_to_capacity-done.new.leaves.items in
-    let done = goes_all ls (λ l. InTurn (EvictsToCapacity m) shared l (map state_of new.items)) (rw (c.new-leaves.ensures.items, c.in-Ok.is) at c.evict_each_to_capacity-done.ensures.done) in
+    let done = goes_all ls (λ l. InTurn (EvictsToCapacity m) shared l (map state_of new.items)) (rw (c.new-evicted.ensures.items, c.in-Ok.is) at c.evict_each_to_capacity-done.ensures.done) in
     all_fit m g.met.E.Eviction.lawful (core_of s) ls (core_over state_of c.args.capacity s.hash_builder s.weighter s.filter new.items) c.args.capacity
     record { shared = shared; shares = c.share_out.ensures.shares; evicted = record { stepped = done; rest = refl } }
 
@@ -47,7 +47,7 @@ returns-in-Ok-clause-stay g c =
     let shared = map state_of c.share_out.new.shards.items in
     let new = c.evict_each_to_capacity-done.new.shards in
     let ls = c.evict_each_to_capacity-done.new.leaves.items in
-    let done = goes_all ls (λ l. InTurn (EvictsToCapacity m) shared l (map state_of new.items)) (rw (c.new-leaves.ensures.items, c.in-Ok.is) at c.evict_each_to_capacity-done.ensures.done) in
+    let done = goes_all ls (λ l. InTurn (EvictsToCapacity m) shared l (map state_of new.items)) (rw (c.new-evicted.ensures.items, c.in-Ok.is) at c.evict_each_to_capacity-done.ensures.done) in
     resized_stay m c.args.capacity (core_of s) ls (core_over state_of c.args.capacity s.hash_builder s.weighter s.filter new.items)
     record { shared = shared; shares = c.share_out.ensures.shares; evicted = record { stepped = done; rest = refl } }
 
@@ -57,7 +57,7 @@ returns-in-Err-clause-refused g c =
     let shared = map state_of c.share_out.new.shards.items in
     let new = c.evict_each_to_capacity-done.new.shards in
     let ls = c.evict_each_to_capacity-done.new.leaves.items in
-    let part = goes_all ls (λ l. InTurnUntil (EvictsToCapacity m) (EvictingToCapacity m) shared l (map state_of new.items)) (rw (c.new-leaves.ensures.items, c.in-Err.is) at c.evict_each_to_capacity-done.ensures.refused) in
+    let part = goes_all ls (λ l. InTurnUntil (EvictsToCapacity m) (EvictingToCapacity m) shared l (map state_of new.items)) (rw (c.new-evicted.ensures.items, c.in-Err.is) at c.evict_each_to_capacity-done.ensures.refused) in
     record { shared = shared; shares = c.share_out.ensures.shares; evicted = record { stepped = part; rest = refl } }
 
 pub returns-in-Err-clause-stay : goal.returns-in-Err-clause-stay
@@ -67,6 +67,6 @@ returns-in-Err-clause-stay g c =
     let shared = map state_of c.share_out.new.shards.items in
     let new = c.evict_each_to_capacity-done.new.shards in
     let ls = c.evict_each_to_capacity-done.new.leaves.items in
-    let part = goes_all ls (λ l. InTurnUntil (EvictsToCapacity m) (EvictingToCapacity m) shared l (map state_of new.items)) (rw (c.new-leaves.ensures.items, c.in-Err.is) at c.evict_each_to_capacity-done.ensures.refused) in
+    let part = goes_all ls (λ l. InTurnUntil (EvictsToCapacity m) (EvictingToCapacity m) shared l (map state_of new.items)) (rw (c.new-evicted.ensures.items, c.in-Err.is) at c.evict_each_to_capacity-done.ensures.refused) in
     resized_until_stay m c.args.capacity (core_of s) ls (core_over state_of c.args.capacity s.hash_builder s.weighter s.filter new.items)
     record { shared = shared; shares = c.share_out.ensures.shares; evicted = record { stepped = part; rest = refl } }
