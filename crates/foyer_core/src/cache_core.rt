@@ -2,7 +2,7 @@
 
 ghost use Rattle.std.specs.Prelude.{◌≡◌, ◌↔◌, ℕ, ◌<◌, true, false, Some, None, Ok, Err, IfOk, IfErr, IfSome, OnOk, OnErr, IsOk, IsTrue, is_some, length, map, vec_len};
 ghost use Rattle.foyer_policy.specs.declared.error.Reason.TheVariants.{NoMemory};
-ghost use Rattle.foyer_core.specs.Core.{Belong};
+ghost use Rattle.foyer_core.specs.Core.{AreHashed, Belong};
 ghost use Rattle.foyer_core.specs.Shards.{state_of};
 ghost use Rattle.foyer_core.specs.State.{MakesPlain, coming_in};
 
@@ -47,6 +47,7 @@ pub struct CacheCore<
     waiters: PhantomData<N>,
     ghost sharded: { 0 < vec_len shards },
     ghost belong: { Belong (map state_of shards.items) },
+    ghost hashed: { AreHashed (λ k. S.hash_of hash_builder (K.hash_input k)) (map state_of shards.items) },
 }
 
 impl<
@@ -146,9 +147,10 @@ impl<
         self.hash_builder.hash_one(key)
     }
 
-    /// What gives the keys their hashes.
+    /// What gives the keys their hashes. Each record has the hash of its key.
     pub fn hash_builder(&self) -> &S
-        ensures { result.now ≡ (core_of self.now).hash_builder }
+        ensures builder { result.now ≡ (core_of self.now).hash_builder }
+        ensures hashed { AreHashed (λ k. S.hash_of (core_of self.now).hash_builder (K.hash_input k)) (core_of self.now).shards }
     {
         &self.hash_builder
     }

@@ -9,6 +9,7 @@ use Rattle.foyer_core.specs.State.{State}
 use Rattle.foyer_core.proofs.CoreLemmas.{core_over}
 use Rattle.foyer_core.proofs.TurnEnds.{all_cleared}
 use Rattle.foyer_core.proofs.TurnLaws.{all_cleared_stay, stays_same, of_result, ok_so}
+use Rattle.foyer_core.proofs.Hashing.{all_cleared_hashed, done_hashed}
 use Rattle.foyer_core.proofs.Origins.{all_cleared_belong, done_belong}
 use Rattle.foyer_core.proofs.cache_core.CacheCore.clear.Goals as goal
 
@@ -19,6 +20,15 @@ invariant_of-self-clause-belong g c =
     let ss = map state_of s.shards.items in
     let ts = map state_of c.clear_each.new.shards.items in
     done_belong c.clear_each.result ss ts (λ leaves. leaves.items) (InTurn (Clears m)) c.clear_each.ensures.done c.clear_each.ensures.err (λ ls. all_cleared_belong m ss ls ts) s.belong
+
+pub invariant_of-self-clause-hashed : goal.invariant_of-self-clause-hashed
+invariant_of-self-clause-hashed g c =
+    let s = c.args.self.now in
+    let hash = λ (k : g.row.K.Denot). g.S.HashBuilder.hash_of s.hash_builder (g.K.Hash.hash_input k) in
+    let m = meaning_of_core s in
+    let ss = map state_of s.shards.items in
+    let ts = map state_of c.clear_each.new.shards.items in
+    done_hashed hash c.clear_each.result ss ts (λ leaves. leaves.items) (InTurn (Clears m)) c.clear_each.ensures.done c.clear_each.ensures.err (λ ls. all_cleared_hashed hash m ss ls ts) s.hashed
 
 pub returns-clause-done : goal.returns-clause-done
 returns-clause-done g c = IfOk-weaker c.clear_each.result _ _ (λ leaves h. record { stepped = h; rest = refl }) c.clear_each.ensures.done

@@ -7,6 +7,7 @@ use Rattle.foyer_core.proofs.CoreLemmas.{core_over}
 use Rattle.foyer_core.proofs.Told.{goes_all}
 use Rattle.foyer_core.proofs.TurnEnds.{all_evicted}
 use Rattle.foyer_core.proofs.TurnLaws.{all_unpinned_stay, all_unpinned_until_stay}
+use Rattle.foyer_core.proofs.Hashing.{all_unpinned_hashed, all_unpinned_until_hashed, told_hashed}
 use Rattle.foyer_core.proofs.Origins.{all_unpinned_belong, all_unpinned_until_belong, told_belong}
 use Rattle.foyer_core.proofs.cache_core.CacheCore.evict_all.Goals as goal
 
@@ -18,6 +19,16 @@ invariant_of-self-clause-belong g c =
     let ts = map state_of c.evict_each.new.shards.items in
     told_belong c.evict_each.result ss ts c.new-leaves.result.items c.evict_each.new.leaves.items (InTurn (EvictsUnpinned m)) (InTurnUntil (EvictsUnpinned m) (EvictingUnpinned m))
     c.evict_each.ensures.done c.evict_each.ensures.refused (λ ls. all_unpinned_belong m ss ls ts) (λ ls. all_unpinned_until_belong m ss ls ts) s.belong
+
+pub invariant_of-self-clause-hashed : goal.invariant_of-self-clause-hashed
+invariant_of-self-clause-hashed g c =
+    let s = c.args.self.now in
+    let hash = λ (k : g.row.K.Denot). g.S.HashBuilder.hash_of s.hash_builder (g.K.Hash.hash_input k) in
+    let m = meaning_of_core s in
+    let ss = map state_of s.shards.items in
+    let ts = map state_of c.evict_each.new.shards.items in
+    told_hashed hash c.evict_each.result ss ts c.new-leaves.result.items c.evict_each.new.leaves.items (InTurn (EvictsUnpinned m)) (InTurnUntil (EvictsUnpinned m) (EvictingUnpinned m))
+    c.evict_each.ensures.done c.evict_each.ensures.refused (λ ls. all_unpinned_hashed hash m ss ls ts) (λ ls. all_unpinned_until_hashed hash m ss ls ts) s.hashed
 
 pub returns-in-Ok-clause-emptied : goal.returns-in-Ok-clause-emptied
 returns-in-Ok-clause-emptied g c =

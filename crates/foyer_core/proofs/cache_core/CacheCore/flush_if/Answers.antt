@@ -8,6 +8,7 @@ use Rattle.foyer_core.specs.Shards.{state_of}
 use Rattle.foyer_core.specs.State.{State}
 use Rattle.foyer_core.proofs.CoreLemmas.{core_over}
 use Rattle.foyer_core.proofs.TurnLaws.{all_picked_stay, stays_same, of_result}
+use Rattle.foyer_core.proofs.Hashing.{all_picked_hashed, done_hashed}
 use Rattle.foyer_core.proofs.Origins.{all_picked_belong, done_belong}
 use Rattle.foyer_core.proofs.cache_core.CacheCore.flush_if.Goals as goal
 
@@ -19,6 +20,16 @@ invariant_of-self-clause-belong g c =
     let ss = map state_of s.shards.items in
     let ts = map state_of c.evict_each_if.new.shards.items in
     done_belong c.evict_each_if.result ss ts (λ leaves. leaves.items) (InTurn (EvictsIf m says)) c.evict_each_if.ensures.done c.evict_each_if.ensures.err (λ ls. all_picked_belong m ss ls ts says) s.belong
+
+pub invariant_of-self-clause-hashed : goal.invariant_of-self-clause-hashed
+invariant_of-self-clause-hashed g c =
+    let s = c.args.self.now in
+    let hash = λ (k : g.row.K.Denot). g.S.HashBuilder.hash_of s.hash_builder (g.K.Hash.hash_input k) in
+    let m = meaning_of_core s in
+    let says = Says g.F.Fn c.args.predicate.now in
+    let ss = map state_of s.shards.items in
+    let ts = map state_of c.evict_each_if.new.shards.items in
+    done_hashed hash c.evict_each_if.result ss ts (λ leaves. leaves.items) (InTurn (EvictsIf m says)) c.evict_each_if.ensures.done c.evict_each_if.ensures.err (λ ls. all_picked_hashed hash m ss ls ts says) s.hashed
 
 pub returns-clause-done : goal.returns-clause-done
 returns-clause-done g c = IfOk-weaker c.evict_each_if.result _ _ (λ leaves h. record { stepped = h; rest = refl }) c.evict_each_if.ensures.done

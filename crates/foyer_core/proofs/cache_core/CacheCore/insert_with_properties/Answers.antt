@@ -12,6 +12,7 @@ use Rattle.foyer_core.proofs.CoreLemmas.{at_over, core_over}
 use Rattle.foyer_core.proofs.Staying.{RecordsStay, nothing}
 use Rattle.foyer_core.proofs.Inserting.{came_stays, came_plain, refused_stay}
 use Rattle.foyer_core.proofs.StoredLemmas.{err_is}
+use Rattle.foyer_core.proofs.Hashing.{IsHashed, hashed_over}
 use Rattle.foyer_core.proofs.Origins.{belongs_over, emplaced_from}
 use Rattle.foyer_core.proofs.cache_core.CacheCore.insert_with_properties.Goals as goal
 
@@ -24,6 +25,16 @@ invariant_of-self-clause-belong g c =
     belongs_over state_of s.shards.items c.hash-hash.result (vec_len s.shards) c.place-place.result x s.shards.ok.0 c.place-place.ensures.within c.place-place.ensures.place c.index_mut.ensures.value
     y (emplaced_from (λ e. e.hash ≡ c.hash-hash.result) (meaning_of x) c.emplace.result (λ made. made.1.items) (λ made. made.0) (λ refused. refused.error) (λ refused. refused.leaves.items)
     (state_of x) d (state_of y) c.emplace.ensures.inserted refl) s.belong
+
+pub invariant_of-self-clause-hashed : goal.invariant_of-self-clause-hashed
+invariant_of-self-clause-hashed g c =
+    let s = c.args.self.now in
+    let x = c.index_mut.result.now in
+    let y = c.emplace.new.self in
+    let d : Data g.row.K.Denot g.row.V.Denot g.row.P.Denot = record { key = c.args.key; value = c.args.value; properties = c.marked-properties.result; hash = c.hash-hash.result; weight = c.weigh-weight.result } in
+    hashed_over (λ k. g.S.HashBuilder.hash_of s.hash_builder (g.K.Hash.hash_input k)) state_of s.shards.items (vec_len s.shards) c.place-place.result x s.shards.ok.0 c.place-place.ensures.within c.index_mut.ensures.value
+    y (emplaced_from (IsHashed (λ k. g.S.HashBuilder.hash_of s.hash_builder (g.K.Hash.hash_input k))) (meaning_of x) c.emplace.result (λ made. made.1.items) (λ made. made.0) (λ refused. refused.error) (λ refused. refused.leaves.items)
+    (state_of x) d (state_of y) c.emplace.ensures.inserted c.hash-hash.ensures.hash) s.hashed
 
 pub returns-in_err-entry-clause-inserted : goal.returns-in_err-entry-clause-inserted
 returns-in_err-entry-clause-inserted g c =

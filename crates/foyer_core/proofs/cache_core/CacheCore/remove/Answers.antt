@@ -5,6 +5,7 @@ use Rattle.foyer_core.specs.Steps.{Removes}
 use Rattle.foyer_core.proofs.CoreLaws.{stays_at}
 use Rattle.foyer_core.proofs.CoreLemmas.{at_over}
 use Rattle.foyer_core.proofs.Staying.{RecordsStay, nothing, removes_stay}
+use Rattle.foyer_core.proofs.Hashing.{IsHashed, hashed_over}
 use Rattle.foyer_core.proofs.Origins.{belongs_over, removes_from}
 use Rattle.foyer_core.proofs.cache_core.CacheCore.remove.Goals as goal
 
@@ -15,6 +16,14 @@ invariant_of-self-clause-belong g c =
     let y = c.remove.new.self in
     belongs_over state_of s.shards.items c.hash-hash.result (vec_len s.shards) c.place-place.result x s.shards.ok.0 c.place-place.ensures.within c.place-place.ensures.place c.index_mut.ensures.value
     y (removes_from (λ d. d.hash ≡ c.hash-hash.result) (meaning_of x) (state_of x) (c.hash-hash.result, c.args.key.now) c.remove.result (state_of y) c.remove.ensures.removes) s.belong
+
+pub invariant_of-self-clause-hashed : goal.invariant_of-self-clause-hashed
+invariant_of-self-clause-hashed g c =
+    let s = c.args.self.now in
+    let x = c.index_mut.result.now in
+    let y = c.remove.new.self in
+    hashed_over (λ k. g.S.HashBuilder.hash_of s.hash_builder (g.K.Hash.hash_input k)) state_of s.shards.items (vec_len s.shards) c.place-place.result x s.shards.ok.0 c.place-place.ensures.within c.index_mut.ensures.value
+    y (removes_from (IsHashed (λ k. g.S.HashBuilder.hash_of s.hash_builder (g.K.Hash.hash_input k))) (meaning_of x) (state_of x) (c.hash-hash.result, c.args.key.now) c.remove.result (state_of y) c.remove.ensures.removes) s.hashed
 
 pub returns : goal.returns
 returns g c =

@@ -6,6 +6,7 @@ use Rattle.foyer_core.proofs.CoreLemmas.{core_over}
 use Rattle.foyer_core.proofs.Told.{goes_all}
 use Rattle.foyer_core.proofs.TurnEnds.{all_fit}
 use Rattle.foyer_core.proofs.TurnLaws.{resized_stay, resized_until_stay}
+use Rattle.foyer_core.proofs.Hashing.{all_evicted_hashed, all_evicted_until_hashed, shared_hashed, told_hashed}
 use Rattle.foyer_core.proofs.Origins.{all_evicted_belong, all_evicted_until_belong, shared_belong, told_belong}
 use Rattle.foyer_core.proofs.cache_core.CacheCore.resize.Goals as goal
 
@@ -19,6 +20,18 @@ invariant_of-self-clause-belong g c =
     told_belong done.result ss ts c.new-leaves.result.items done.new.leaves.items (InTurn (EvictsToCapacity m)) (InTurnUntil (EvictsToCapacity m) (EvictingToCapacity m))
     done.ensures.done done.ensures.refused (λ ls. all_evicted_belong m ss ls ts) (λ ls. all_evicted_until_belong m ss ls ts)
     (shared_belong m c.args.capacity (map state_of s.shards.items) ss c.share_out.ensures.shares s.belong)
+
+pub invariant_of-self-clause-hashed : goal.invariant_of-self-clause-hashed
+invariant_of-self-clause-hashed g c =
+    let s = c.args.self.now in
+    let hash = λ (k : g.row.K.Denot). g.S.HashBuilder.hash_of s.hash_builder (g.K.Hash.hash_input k) in
+    let m = meaning_of_core s in
+    let ss = map state_of c.share_out.new.shards.items in
+    let done = c.evict_each_to_capacity-done in
+    let ts = map state_of done.new.shards.items in
+    told_hashed hash done.result ss ts c.new-leaves.result.items done.new.leaves.items (InTurn (EvictsToCapacity m)) (InTurnUntil (EvictsToCapacity m) (EvictingToCapacity m))
+    done.ensures.done done.ensures.refused (λ ls. all_evicted_hashed hash m ss ls ts) (λ ls. all_evicted_until_hashed hash m ss ls ts)
+    (shared_hashed hash m c.args.capacity (map state_of s.shards.items) ss c.share_out.ensures.shares s.hashed)
 
 pub returns-in-Ok-clause-done : goal.returns-in-Ok-clause-done
 returns-in-Ok-clause-done g c =
