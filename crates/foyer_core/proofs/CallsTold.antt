@@ -103,3 +103,8 @@ module _ {K V P View C S W : Type 0} (m : Meaning K P View C) (laws : IsEquivale
 
   pub resized_until_core : Resizes m (InTurnUntil (EvictsToCapacity m) (EvictingToCapacity m)) capacity old ls new → IsTold m.same hash old ls new
   resized_until_core h = resized_told m laws good hash equal capacity old ls new sound (InTurnUntil (EvictsToCapacity m) (EvictingToCapacity m)) (λ mid is did. evicted_until_core m laws good hash equal mid new is ls did) h
+
+-- what follows of an answer, and of a refusal
+pub match_so : {A E : Type 0} (r : Result A E) (P : A → Type 0) (Q : Type 0) (F : A → Type 0) (G : Type 0) → IfOk r P → OnErr r Q → ((a : A) → P a → F a) → (Q → G) → MatchResult r F (λ e. G)
+match_so (Ok a) P Q F G ok err f g = f a ok
+match_so (Err e) P Q F G ok err f g = g err

@@ -1,5 +1,5 @@
 -- What steps of a core's shards tell of its index.
-use Rattle.std.proofs.Common.{◌≡◌, ◌≢◌, ℕ, zero, suc, ◌+◌, ◌%◌, ◌<◌, length, List, [], ◌∷◌, ◌++◌, Option, Some, None, inl, inr, true, refl, sym, ◌∙◌, ap, subst, subst₂, arith, append_assoc, append-nil, length-append}
+use Rattle.std.proofs.Common.{◌≡◌, ◌≢◌, ℕ, zero, suc, ◌+◌, ◌%◌, ◌<◌, length, List, [], ◌∷◌, ◌++◌, map, Option, Some, None, inl, inr, true, refl, sym, ◌∙◌, ap, subst, subst₂, arith, append_assoc, append-nil, length-append}
 use Rattle.std.proofs.Math.Logic.{∥∥₁_map}
 use Rattle.std.proofs.Math.ListN.{length-set}
 use Rattle.std.specs.Prelude.{Bool, option_and_then, slice_get, slice_set}
@@ -81,6 +81,14 @@ module _ {K V P View C : Type 0} (m : Meaning K P View C) (laws : IsEquivalence 
 
   pub are_sound : (ss : List (State K V P View)) → ((i : ℕ) (s : State K V P View) → slice_get ss i ≡ Some s → ∥ IsKept m s ∥₁) → Belong ss → AreHashed hash ss → AreSound (length ss) ss
   are_sound ss kept belong hashed i s there = record { kept = kept i s there; at = λ id r is. (belong i s there id r is, hashed i s there id r is) }
+
+  -- so it is over what each of a list shows that keeps it
+  pub sound_over : {A : Type 0} (f : A → State K V P View) (xs : List A) → ((x : A) → ∥ IsKept m (f x) ∥₁) → Belong (map f xs) → AreHashed hash (map f xs) → AreSound (length (map f xs)) (map f xs)
+  sound_over {A} f xs kept belong hashed = are_sound (map f xs) (each xs) belong hashed where
+    each : (ys : List A) (i : ℕ) (s : State K V P View) → slice_get (map f ys) i ≡ Some s → ∥ IsKept m s ∥₁
+    each [] i s there = absurd cc
+    each (y ∷ ys) zero s there = (let is : f y ≡ s = cc in subst (λ (t : State K V P View). ∥ IsKept m t ∥₁) is (kept y))
+    each (y ∷ ys) (suc i) s there = each ys i s there
 
   -- a step of a shard tells these leaves
   abbrev pub StepTold : ℕ → State K V P View → List (Event × Gone K V P) → State K V P View → Type 0

@@ -1,7 +1,9 @@
-use Rattle.std.proofs.Common.{map, refl}
+use Rattle.std.proofs.Common.{map, refl, ◌≡◌, ap, true}
 use Rattle.foyer_core.specs.CoreBulk.{InTurn, InTurnUntil, EvictsToCapacity, EvictingToCapacity}
-use Rattle.foyer_core.specs.Cores.{core_of, meaning_of_core}
+use Rattle.foyer_core.specs.Cores.{core_of, hashes_of, meaning_of_core}
 use Rattle.foyer_core.specs.Shards.{state_of}
+use Rattle.foyer_core.proofs.CallsTold.{resized_core, resized_until_core}
+use Rattle.foyer_core.proofs.CoreTold.{sound_over}
 use Rattle.foyer_core.proofs.CoreLemmas.{core_over}
 use Rattle.foyer_core.proofs.Told.{goes_all}
 use Rattle.foyer_core.proofs.TurnEnds.{all_fit}
@@ -82,4 +84,30 @@ returns-in-Err-clause-stay g c =
     let ls = c.evict_each_to_capacity-done.new.leaves.items in
     let part = goes_all ls (λ l. InTurnUntil (EvictsToCapacity m) (EvictingToCapacity m) shared l (map state_of new.items)) (rw (c.new-leaves.ensures.items, c.in-Err.is) at c.evict_each_to_capacity-done.ensures.refused) in
     resized_until_stay m c.args.capacity (core_of s) ls (core_over state_of c.args.capacity s.hash_builder s.weighter new.items)
+    record { shared = shared; shares = c.share_out.ensures.shares; evicted = record { stepped = part; rest = refl } }
+
+pub returns-in-Ok-clause-told : goal.returns-in-Ok-clause-told
+returns-in-Ok-clause-told g c =
+    let s = c.args.self.now in
+    let m = meaning_of_core s in
+    let equal : (a b : g.row.K.Denot) → g.K.PartialEq.eq a b ≡ true → hashes_of s a ≡ hashes_of s b = λ a b same. ap (g.S.HashBuilder.hash_of s.hash_builder) (g.met.K.Hash.respects_eq a b same) in
+    let sound = sound_over m g.met.K.Eq.laws g.met.E.Eviction.lawful (hashes_of s) equal state_of s.shards.items (λ x. x.kept) s.belong s.hashed in
+    let shared = map state_of c.share_out.new.shards.items in
+    let new = c.evict_each_to_capacity-done.new.shards in
+    let ls = c.evict_each_to_capacity-done.new.leaves.items in
+    let done = goes_all ls (λ l. InTurn (EvictsToCapacity m) shared l (map state_of new.items)) (rw (c.new-leaves.ensures.items, c.in-Ok.is) at c.evict_each_to_capacity-done.ensures.done) in
+    resized_core m g.met.K.Eq.laws g.met.E.Eviction.lawful (hashes_of s) equal (core_of s) (core_over state_of c.args.capacity s.hash_builder s.weighter new.items) sound c.args.capacity ls
+    record { shared = shared; shares = c.share_out.ensures.shares; evicted = record { stepped = done; rest = refl } }
+
+pub returns-in-Err-clause-told : goal.returns-in-Err-clause-told
+returns-in-Err-clause-told g c =
+    let s = c.args.self.now in
+    let m = meaning_of_core s in
+    let equal : (a b : g.row.K.Denot) → g.K.PartialEq.eq a b ≡ true → hashes_of s a ≡ hashes_of s b = λ a b same. ap (g.S.HashBuilder.hash_of s.hash_builder) (g.met.K.Hash.respects_eq a b same) in
+    let sound = sound_over m g.met.K.Eq.laws g.met.E.Eviction.lawful (hashes_of s) equal state_of s.shards.items (λ x. x.kept) s.belong s.hashed in
+    let shared = map state_of c.share_out.new.shards.items in
+    let new = c.evict_each_to_capacity-done.new.shards in
+    let ls = c.evict_each_to_capacity-done.new.leaves.items in
+    let part = goes_all ls (λ l. InTurnUntil (EvictsToCapacity m) (EvictingToCapacity m) shared l (map state_of new.items)) (rw (c.new-leaves.ensures.items, c.in-Err.is) at c.evict_each_to_capacity-done.ensures.refused) in
+    resized_until_core m g.met.K.Eq.laws g.met.E.Eviction.lawful (hashes_of s) equal (core_of s) (core_over state_of c.args.capacity s.hash_builder s.weighter new.items) sound c.args.capacity ls
     record { shared = shared; shares = c.share_out.ensures.shares; evicted = record { stepped = part; rest = refl } }
