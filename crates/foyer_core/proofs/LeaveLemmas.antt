@@ -26,7 +26,7 @@ taken_from eq f k q b h = go (eq k q) refl where
 
 module _ {K V P View C : Type 0} (m : Meaning K P View C) where
   -- what is under an id after a record left was there with the same data
-  out_data : (s : State K V P View) (i : ℕ) (r : Rec K V P) → s.records i ≡ Some r → (id : ℕ) (q : Rec K V P) → (after_out m s i r).records id ≡ Some q
+  pub out_data : (s : State K V P View) (i : ℕ) (r : Rec K V P) → s.records i ≡ Some r → (id : ℕ) (q : Rec K V P) → (after_out m s i r).records id ≡ Some q
       → (o : Rec K V P) × (s.records id ≡ Some o) × (q.kept ≡ o.kept)
   out_data s i r there id q h = elim (eqb_tells id i) [
     | inl e ↦ (let now : outside r ≡ Some q = sym (update_here s.records i (outside r)) ∙ subst (λ (a : ℕ). (after_out m s i r).records a ≡ Some q) (e.1) h in

@@ -15,7 +15,7 @@ use Rattle.foyer_core.proofs.Keys.{same_key_laws}
 use Rattle.foyer_core.proofs.Taken.{TakesOut}
 
 -- what is under another id stays under its key
-still : {A : Type 0} (eq : A → A → Bool) (f : A → Option ℕ) (k q : A) (a b : ℕ) → ((x y : A) → eq x y ≡ true → f x ≡ f y) → f k ≡ Some a → f q ≡ Some b → b ≢ a
+pub still : {A : Type 0} (eq : A → A → Bool) (f : A → Option ℕ) (k q : A) (a b : ℕ) → ((x y : A) → eq x y ≡ true → f x ≡ f y) → f k ≡ Some a → f q ≡ Some b → b ≢ a
     → (t : Bool) → eq k q ≡ t → update eq f k None q ≡ Some b
 still eq f k q a b resp fk fq apart true is = absurd (let e : ◌≡◌ {A = Option ℕ} (Some a) (Some b) = sym fk ∙ resp k q is ∙ fq in apart cc)
 still eq f k q a b resp fk fq apart false is = rw is fq

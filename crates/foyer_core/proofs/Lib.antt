@@ -1,8 +1,10 @@
 pub mod AdmitLemmas
+pub mod CallsTold
 pub mod Clearing
 pub mod Cloned
 pub mod CoreLaws
 pub mod CoreLemmas
+pub mod CoreTold
 pub mod DrainLemmas
 pub mod Emplaced
 pub mod Evictions
@@ -12,11 +14,13 @@ pub mod GaveLemmas
 pub mod GivingBack
 pub mod GroupLemmas
 pub mod Handles
+pub mod Hashing
 pub mod HoldLemmas
 pub mod Holdings
 pub mod IndexerLemmas
 pub mod InTurn
 pub mod InsertLemmas
+pub mod InsertTold
 pub mod Inserting
 pub mod Keeps
 pub mod Keys
@@ -24,6 +28,7 @@ pub mod LeaveLemmas
 pub mod Leaving
 pub mod LeftLemmas
 pub mod NumberLemmas
+pub mod Observing
 pub mod Opening
 pub mod Origins
 pub mod Outgoing
@@ -37,6 +42,7 @@ pub mod RefusalLemmas
 pub mod Removed
 pub mod Reserving
 pub mod ShardLemmas
+pub mod ShardTold
 pub mod Sharing
 pub mod SharingOut
 pub mod SlotLemmas

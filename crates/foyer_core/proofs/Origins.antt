@@ -69,7 +69,7 @@ module _ {K V P View : Type 0} (New : Data K V P → Type 0) where
   from_new : (old new : State K V P View) (id : ℕ) (now : Rec K V P) → ((j : ℕ) → new.records j ≡ update nat_eq old.records id (Some now) j) → New now.kept → RecordsFrom old new
   from_new old new id now write so = from_update old new id (Some now) write (λ r is. inr (subst New (ap (λ (x : Rec K V P). x.kept) (same_rec now r is)) so))
 
-  handle_from : (old : State K V P View) (id : ℕ) (r : Rec K V P) → old.records id ≡ Some r → RecordsFrom old (after_handle old id r)
+  pub handle_from : (old : State K V P View) (id : ℕ) (r : Rec K V P) → old.records id ≡ Some r → RecordsFrom old (after_handle old id r)
   handle_from old id r there = from_write old (after_handle old id r) id r (record r { handles = r.handles + 1 }) there (λ j. refl) refl
 
   refused_from : (old : State K V P View) (id : ℕ) (reason : Reason) (new : State K V P View) → RefusesHandle old id reason new → RecordsFrom old new
@@ -209,7 +209,7 @@ module _ {K V P View : Type 0} where
       (set_belongs (map f xs) i (f x) (f y) shows
       (from_more (λ d. d.hash ≡ hash) (λ d. d.hash % length (map f xs) ≡ i) (λ d is. ap (λ (h : ℕ). h % length (map f xs)) is ∙ ap (λ (k : ℕ). hash % k) many' ∙ sym place) (f x) (f y) from) belong)
 
-  zip-back : (R : State K V P View → State K V P View → Type 0) (ss ts : List (State K V P View)) → AllZip R ss ts → (i : ℕ) (t : State K V P View) → slice_get ts i ≡ Some t
+  pub zip-back : (R : State K V P View → State K V P View → Type 0) (ss ts : List (State K V P View)) → AllZip R ss ts → (i : ℕ) (t : State K V P View) → slice_get ts i ≡ Some t
       → (s : State K V P View) × (slice_get ss i ≡ Some s) × R s t
   zip-back R [] [] h i t there = absurd cc
   zip-back R [] (b ∷ ts) h i t there = absurd h
@@ -227,23 +227,26 @@ module _ {K V P View : Type 0} where
       ]
 
 module _ {K V P View C : Type 0} (m : Meaning K P View C) where
-  same_from : (s : State K V P View) → RecordsFrom nothing_new s s
+  pub same_from : (s : State K V P View) → RecordsFrom nothing_new s s
   same_from s = from_same nothing_new s s refl
 
-  unpinned_from : (s t : State K V P View) (ls : List (Event × Gone K V P)) → EvictsUnpinned m s ls t → RecordsFrom nothing_new s t
+  pub unpinned_from : (s t : State K V P View) (ls : List (Event × Gone K V P)) → EvictsUnpinned m s ls t → RecordsFrom nothing_new s t
   unpinned_from s t ls h = leave_from nothing_new m Evict (ids_of (pops m.policy s.view)) s ls (after_all_pops m.policy s.view) t h
 
-  some_unpinned_from : (s t : State K V P View) (ls : List (Event × Gone K V P)) → EvictingUnpinned m s ls t → RecordsFrom nothing_new s t
+  pub some_unpinned_from : (s t : State K V P View) (ls : List (Event × Gone K V P)) → EvictingUnpinned m s ls t → RecordsFrom nothing_new s t
   some_unpinned_from s t ls h = leave_from nothing_new m Evict (ids_of h.left) s ls (after_pops m.policy (length h.left) s.view) t h.leave
 
-  evicted_from : (s t : State K V P View) (ls : List (Event × Gone K V P)) → EvictsToCapacity m s ls t → RecordsFrom nothing_new s t
+  pub evicted_from : (s t : State K V P View) (ls : List (Event × Gone K V P)) → EvictsToCapacity m s ls t → RecordsFrom nothing_new s t
   evicted_from s t ls h = leave_from nothing_new m Evict (ids_of (evicted m.policy s.capacity s.view)) s ls (after_pops m.policy (length (evicted m.policy s.capacity s.view)) s.view) t h
 
-  some_evicted_from : (s t : State K V P View) (ls : List (Event × Gone K V P)) → EvictingToCapacity m s ls t → RecordsFrom nothing_new s t
+  pub some_evicted_from : (s t : State K V P View) (ls : List (Event × Gone K V P)) → EvictingToCapacity m s ls t → RecordsFrom nothing_new s t
   some_evicted_from s t ls h = leave_from nothing_new m Evict (ids_of h.left) s ls (after_pops m.policy (length h.left) s.view) t h.leave
 
-  cleared_from : (s t : State K V P View) (ls : List (Event × Gone K V P)) → Clears m s ls t → RecordsFrom nothing_new s t
+  pub cleared_from : (s t : State K V P View) (ls : List (Event × Gone K V P)) → Clears m s ls t → RecordsFrom nothing_new s t
   cleared_from s t ls h = leave_from nothing_new m Clear (ids_of (m.policy.order s.view)) s ls (m.policy.clear s.view) t h
+
+  pub picked_from : (says : K → V → Bool → Type 0) (s t : State K V P View) (ls : List (Event × Gone K V P)) → EvictsIf m says s ls t → RecordsFrom nothing_new s t
+  picked_from says s t ls h = leave_from nothing_new m Evict (ids_of h.picked) s ls (removed m.policy h.picked s.view) t h.leave
 
   -- the calls of a core on all of its shards
   module _ (ss : List (State K V P View)) (ls : List (Event × Gone K V P)) (ts : List (State K V P View)) where
@@ -265,8 +268,7 @@ module _ {K V P View C : Type 0} (m : Meaning K P View C) where
         (until-keeps (RecordsFrom nothing_new) (EvictsToCapacity m) (EvictingToCapacity m) evicted_from some_evicted_from same_from ss ls ts h)
 
     pub all_picked_belong : (says : K → V → Bool → Type 0) → InTurn (EvictsIf m says) ss ls ts → Belong ss → Belong ts
-    all_picked_belong says h = zip_belongs ss ts (turn-keeps (RecordsFrom nothing_new) (EvictsIf m says)
-        (λ s t own k. leave_from nothing_new m Evict (ids_of k.picked) s own (removed m.policy k.picked s.view) t k.leave) ss ls ts h)
+    all_picked_belong says h = zip_belongs ss ts (turn-keeps (RecordsFrom nothing_new) (EvictsIf m says) (picked_from says) ss ls ts h)
 
   pub shared_belong : (capacity : ℕ) (ss ts : List (State K V P View)) → SharesOut m capacity ss ts → Belong ss → Belong ts
   shared_belong capacity ss ts h = zip_belongs ss ts (shares-keep m (RecordsFrom nothing_new) (λ s c. same_from s) (share_of capacity (length ss)) ss ts h.counted h.each)

@@ -23,7 +23,7 @@ yes_more R (a ∷ xs) [] x b h = absurd h
 yes_more {A} R (a ∷ xs) (true ∷ bs) x b h = ap (λ (l : List A). a ∷ l) (yes_more R xs bs x b h.1)
 yes_more R (a ∷ xs) (false ∷ bs) x b h = yes_more R xs bs x b h.1
 
-yes_within : (f : Item → ℕ) (bs : List Bool) (xs : List Item) → sum_by f (items_where_true bs xs) ≤ sum_by f xs
+pub yes_within : (f : Item → ℕ) (bs : List Bool) (xs : List Item) → sum_by f (items_where_true bs xs) ≤ sum_by f xs
 yes_within f [] xs = omega arith
 yes_within f (b ∷ bs) [] = omega arith
 yes_within f (true ∷ bs) (x ∷ xs) = omega (arith, sum_by-cons f x (items_where_true bs xs), sum_by-cons f x xs, yes_within f bs xs)

@@ -28,6 +28,10 @@ pub record Core (K V P View S W A : Type 0) : Type 0 where
 abbrev pub Belong : {K V P View : Type 0} → List (State K V P View) → Type 0
 Belong {K} {V} {P} {View} shards = (i : ℕ) (s : State K V P View) → slice_get shards i ≡ Some s → AllData (λ d. d.hash % length shards ≡ i) s
 
+-- each record has the hash of its key; `hash` gives each key its hash
+abbrev pub AreHashed : {K V P View : Type 0} → (K → ℕ) → List (State K V P View) → Type 0
+AreHashed {K} {V} {P} {View} hash shards = (i : ℕ) (s : State K V P View) → slice_get shards i ≡ Some s → AllData (λ d. d.hash ≡ hash d.key) s
+
 -- the number of the shard of a hash
 abbrev pub shard_of : {K V P View S W A : Type 0} → Core K V P View S W A → ℕ → ℕ
 shard_of core hash = hash % length core.shards

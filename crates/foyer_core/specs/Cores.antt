@@ -1,5 +1,5 @@
 -- A core's struct as a core.
-use Rattle.std.specs.Prelude.{map}
+use Rattle.std.specs.Prelude.{ℕ, map}
 use Rattle.std.specs.declared.cmp.PartialEq.{Ghosts as EqGhosts}
 use Rattle.std.specs.declared.hash.Hash.{Ghosts as HashGhosts}
 use Rattle.std.specs.declared.clone.Clone.{Ghosts as CloneGhosts}
@@ -26,3 +26,7 @@ module _ {E K V P S W A N I C X : Type 0} {e : EvictionGhosts E C X} {e1 : Clone
   -- what a core is over
   abbrev pub meaning_of_core : CacheCore E K V P S W A N I C X e e1 e2 e3 e4 q h c p d b w f i → Meaning K P e.View C
   meaning_of_core s = meaning q.eq e.model p.hint_of p.phantom_of
+
+  -- the hash that each key has in a core
+  abbrev pub hashes_of : CacheCore E K V P S W N I C X e e1 e2 e3 e4 q h c p d b w i → K → ℕ
+  hashes_of s key = b.hash_of s.hash_builder (h.hash_input key)

@@ -12,5 +12,6 @@ pub mod Stored
 pub mod Shards
 pub mod Steps
 pub mod Laws
+pub mod Observed
 pub mod Bulk
 pub mod CoreBulk

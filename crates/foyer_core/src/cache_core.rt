@@ -1,8 +1,9 @@
 //! The sharded core of a cache.
 
-ghost use Rattle.std.specs.Prelude.{◌≡◌, ◌↔◌, ℕ, ◌<◌, true, false, Some, None, Ok, Err, IfOk, IfErr, IfSome, OnOk, OnErr, IsOk, IsTrue, is_some, length, map, vec_len};
+ghost use Rattle.std.specs.Prelude.{◌≡◌, ◌↔◌, ℕ, ◌<◌, true, false, [], Some, None, Ok, Err, IfOk, IfErr, IfSome, OnOk, OnErr, IsOk, IsTrue, MatchResult, is_some, length, map, vec_len};
+ghost use Rattle.std.specs.Option.{option_to_list};
 ghost use Rattle.foyer_policy.specs.declared.error.Reason.TheVariants.{NoMemory};
-ghost use Rattle.foyer_core.specs.Core.{Belong};
+ghost use Rattle.foyer_core.specs.Core.{AreHashed, Belong};
 ghost use Rattle.foyer_core.specs.Shards.{state_of};
 ghost use Rattle.foyer_core.specs.State.{IsAdmitted, MakesPlain, coming_in};
 
@@ -50,6 +51,7 @@ pub struct CacheCore<
     waiters: PhantomData<N>,
     ghost sharded: { 0 < vec_len shards },
     ghost belong: { Belong (map state_of shards.items) },
+    ghost hashed: { AreHashed (λ k. S.hash_of hash_builder (K.hash_input k)) (map state_of shards.items) },
 }
 
 impl<
@@ -102,8 +104,9 @@ impl<
     I: Indexer<K>,
 > CacheCore<E, K, V, P, S, W, A, N, I> {
     ghost use Rattle.foyer_core.specs.Core.{AnswersNobody, AtShard, InsertsWeighed, Owns, entries_of_core, hit_in, usage_of_core};
-    ghost use Rattle.foyer_core.specs.Cores.{core_of, meaning_of_core};
+    ghost use Rattle.foyer_core.specs.Cores.{core_of, hashes_of, meaning_of_core};
     ghost use Rattle.foyer_core.specs.Laws.{Finds, HandlesStay, IsBoundedAt, one_of};
+    ghost use Rattle.foyer_core.specs.Observed.{IsTold, IsToldWith};
     ghost use Rattle.foyer_core.specs.Steps.{Gets, GivesBack};
 
     /// The weight that the records may have together.
@@ -152,9 +155,10 @@ impl<
         self.hash_builder.hash_one(key)
     }
 
-    /// What gives the keys their hashes.
+    /// What gives the keys their hashes. Each record has the hash of its key.
     pub fn hash_builder(&self) -> &S
-        ensures { result.now ≡ (core_of self.now).hash_builder }
+        ensures builder { result.now ≡ (core_of self.now).hash_builder }
+        ensures hashed { AreHashed (hashes_of self.now) (core_of self.now).shards }
     {
         &self.hash_builder
     }
@@ -176,6 +180,7 @@ impl<
             AtShard (λ s t. Gets (meaning_of_core self.old) s (hash, key.now) result t)
             hash (core_of self.old) (core_of self.new) }
         ensures stay { HandlesStay (λ _. 0) (core_of self.old) (core_of self.new) }
+        ensures told { IsTold K.eq (hashes_of self.old) (core_of self.old) [] (core_of self.new) }
     {
         let hash = self.hash(key);
         let place = self.place(hash);
@@ -201,6 +206,9 @@ impl<
             ((p : P) → P.is_default p → MakesPlain P.phantom_of P.location_of p) → IsAdmitted (A.admits (core_of self.old).filter key value)
             → IfOk result (λ made. IsBoundedAt (meaning_of_core self.old) hash made.entry.kept.weight (core_of self.old) (core_of self.new)) }
         ensures stay { HandlesStay (λ _. 0) (core_of self.old) (core_of self.new) }
+        ensures told { MatchResult result
+            (λ made. IsToldWith K.eq (hashes_of self.old) P.phantom_of (core_of self.old) made.leaves.items made.entry.id made.entry.kept (core_of self.new))
+            (λ refused. IsTold K.eq (hashes_of self.old) (core_of self.old) refused.leaves.items (core_of self.new)) }
     {
         self.insert_with_properties(key, value, P::default())
     }
@@ -236,6 +244,9 @@ impl<
             MakesPlain P.phantom_of P.location_of properties → IsAdmitted (A.admits (core_of self.old).filter key value)
             → IfOk result (λ made. IsBoundedAt (meaning_of_core self.old) hash made.entry.kept.weight (core_of self.old) (core_of self.new)) }
         ensures stay { HandlesStay (λ _. 0) (core_of self.old) (core_of self.new) }
+        ensures told { MatchResult result
+            (λ made. IsToldWith K.eq (hashes_of self.old) P.phantom_of (core_of self.old) made.leaves.items made.entry.id made.entry.kept (core_of self.new))
+            (λ refused. IsTold K.eq (hashes_of self.old) (core_of self.old) refused.leaves.items (core_of self.new)) }
     {
         let hash = self.hash(&key);
         let weight = self.weighter.weigh(&key, &value);
@@ -284,6 +295,9 @@ impl<
         ensures returned { IfErr result (λ e. e ≡ entry) }
         ensures err { OnErr result (core_of self.new ≡ core_of self.old) }
         ensures stay { HandlesStay (one_of (core_of self.old) entry) (core_of self.old) (core_of self.new) }
+        ensures told { MatchResult result
+            (λ leave. IsTold K.eq (hashes_of self.old) (core_of self.old) (option_to_list leave) (core_of self.new))
+            (λ _. IsTold K.eq (hashes_of self.old) (core_of self.old) [] (core_of self.new)) }
     {
         let place = self.place(entry.hash());
         self.shards[place].give_back(entry)

@@ -1,6 +1,6 @@
 //! What a core does with all of its records.
 
-ghost use Rattle.std.specs.Prelude.{◌≡◌, IfOk, IfErr, OnErr, OnOk};
+ghost use Rattle.std.specs.Prelude.{◌≡◌, [], IfOk, IfErr, OnErr, OnOk, MatchResult};
 ghost use Rattle.foyer_policy.specs.declared.error.Reason.TheVariants.{NoMemory};
 
 use super::CacheCore;
@@ -25,8 +25,9 @@ impl<
 > CacheCore<E, K, V, P, S, W, A, N, I> {
     ghost use Rattle.foyer_core.specs.Bulk.{Clears, EvictsIf, EvictsUnpinned, EvictingUnpinned, Says};
     ghost use Rattle.foyer_core.specs.CoreBulk.{InTurn, InTurnUntil, OfShards, EvictsToCapacity, EvictingToCapacity, Resizes, NothingPinned, IsEmptied, FitsOrPinned};
-    ghost use Rattle.foyer_core.specs.Cores.{core_of, meaning_of_core};
+    ghost use Rattle.foyer_core.specs.Cores.{core_of, hashes_of, meaning_of_core};
     ghost use Rattle.foyer_core.specs.Laws.{HandlesStay};
+    ghost use Rattle.foyer_core.specs.Observed.{IsTold};
 
     /// Evicts all that is not pinned, shard by shard, in the order in which each policy gives it, and answers
     /// what left. Refused for want of memory alone (F7); then the first shards are done, and some beginning of
@@ -42,6 +43,9 @@ impl<
         ensures reason { IfErr result (λ refused. refused.error ≡ NoMemory) }
         ensures emptied { OnOk result (NothingPinned (meaning_of_core self.old) (core_of self.old) → IsEmptied (meaning_of_core self.new) (core_of self.new)) }
         ensures stay { HandlesStay (λ _. 0) (core_of self.old) (core_of self.new) }
+        ensures told { MatchResult result
+            (λ leaves. IsTold K.eq (hashes_of self.old) (core_of self.old) leaves.items (core_of self.new))
+            (λ refused. IsTold K.eq (hashes_of self.old) (core_of self.old) refused.leaves.items (core_of self.new)) }
     {
         let mut leaves = Vec::new(self.alloc);
         match evict_each(&mut self.shards, &mut leaves) {
@@ -66,6 +70,9 @@ impl<
         ensures reason { IfErr result (λ refused. refused.error ≡ NoMemory) }
         ensures fits { OnOk result (FitsOrPinned (meaning_of_core self.new) (core_of self.new)) }
         ensures stay { HandlesStay (λ _. 0) (core_of self.old) (core_of self.new) }
+        ensures told { MatchResult result
+            (λ leaves. IsTold K.eq (hashes_of self.old) (core_of self.old) leaves.items (core_of self.new))
+            (λ refused. IsTold K.eq (hashes_of self.old) (core_of self.old) refused.leaves.items (core_of self.new)) }
     {
         self.capacity = capacity;
         share_out(&mut self.shards, capacity);
@@ -90,6 +97,9 @@ impl<
         ensures refused { IfErr result (λ e. e ≡ NoMemory) }
         ensures emptied { OnOk result (IsEmptied (meaning_of_core self.new) (core_of self.new)) }
         ensures stay { HandlesStay (λ _. 0) (core_of self.old) (core_of self.new) }
+        ensures told { MatchResult result
+            (λ leaves. IsTold K.eq (hashes_of self.old) (core_of self.old) leaves.items (core_of self.new))
+            (λ _. IsTold K.eq (hashes_of self.old) (core_of self.old) [] (core_of self.new)) }
     {
         clear_each(&mut self.shards, self.alloc)
     }
@@ -107,6 +117,9 @@ impl<
         ensures err { OnErr result (core_of self.new ≡ core_of self.old) }
         ensures refused { IfErr result (λ e. e ≡ NoMemory) }
         ensures stay { HandlesStay (λ _. 0) (core_of self.old) (core_of self.new) }
+        ensures told { MatchResult result
+            (λ leaves. IsTold K.eq (hashes_of self.old) (core_of self.old) leaves.items (core_of self.new))
+            (λ _. IsTold K.eq (hashes_of self.old) (core_of self.old) [] (core_of self.new)) }
     {
         evict_each_if(&mut self.shards, self.alloc, predicate)
     }

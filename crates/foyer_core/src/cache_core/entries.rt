@@ -1,6 +1,8 @@
 //! What a core does with a key, beside a `get`, and with an entry that it owns.
 
-ghost use Rattle.std.specs.Prelude.{◌≡◌, ◌↔◌, IsTrue};
+ghost use Rattle.std.specs.Prelude.{◌≡◌, ◌↔◌, [], IsTrue, MatchResult, option_map};
+ghost use Rattle.std.specs.Option.{option_to_list};
+ghost use Rattle.foyer_policy.specs.declared.types.Event.TheVariants.{Remove};
 
 use super::CacheCore;
 use crate::entry::{CoreEntry, Left};
@@ -21,8 +23,9 @@ impl<
     I: Indexer<K>,
 > CacheCore<E, K, V, P, S, W, A, N, I> {
     ghost use Rattle.foyer_core.specs.Core.{AtShard, IsOutdatedIn, Owns, refs_in};
-    ghost use Rattle.foyer_core.specs.Cores.{core_of, meaning_of_core};
+    ghost use Rattle.foyer_core.specs.Cores.{core_of, hashes_of, meaning_of_core};
     ghost use Rattle.foyer_core.specs.Laws.{HandlesStay};
+    ghost use Rattle.foyer_core.specs.Observed.{IsTold};
     ghost use Rattle.foyer_core.specs.Steps.{ClonesHandle, Removes, Touches};
 
     /// Whether a get finds a record under the key; if it does, that counts as a use, as a `get` does whose
@@ -33,6 +36,7 @@ impl<
             AtShard (λ s t. Touches (meaning_of_core self.old) s (hash, key.now) result t)
             hash (core_of self.old) (core_of self.new) }
         ensures stay { HandlesStay (λ _. 0) (core_of self.old) (core_of self.new) }
+        ensures told { IsTold K.eq (hashes_of self.old) (core_of self.old) [] (core_of self.new) }
     {
         let hash = self.hash(key);
         let place = self.place(hash);
@@ -47,6 +51,9 @@ impl<
             AtShard (λ s t. Removes (meaning_of_core self.old) s (hash, key.now) result t)
             hash (core_of self.old) (core_of self.new) }
         ensures stay { HandlesStay (λ _. 0) (core_of self.old) (core_of self.new) }
+        ensures told { MatchResult result
+            (λ out. IsTold K.eq (hashes_of self.old) (core_of self.old) (option_to_list (option_map (λ o. (Remove, o.1)) out)) (core_of self.new))
+            (λ _. IsTold K.eq (hashes_of self.old) (core_of self.old) [] (core_of self.new)) }
     {
         let hash = self.hash(key);
         let place = self.place(hash);
@@ -61,6 +68,7 @@ impl<
         ensures clones { AtShard (λ s t. ClonesHandle s entry.now result t)
             entry.now.kept.hash (core_of self.old) (core_of self.new) }
         ensures stay { HandlesStay (λ _. 0) (core_of self.old) (core_of self.new) }
+        ensures told { IsTold K.eq (hashes_of self.old) (core_of self.old) [] (core_of self.new) }
     {
         let place = self.place(entry.hash());
         self.shards[place].clone_handle(entry)

@@ -1,11 +1,17 @@
-use Rattle.std.proofs.Common.{◌≡◌, ap, ◌∙◌, ℕ, ◌%◌, vec_len}
+use Rattle.std.proofs.Common.{◌≡◌, ap, ◌∙◌, ℕ, ◌%◌, vec_len, true, []}
 use Rattle.std.proofs.lemmas.Result.{IfOk-weaker, on_err_weaker}
-use Rattle.foyer_core.specs.Cores.{core_of}
+use Rattle.std.specs.Prelude.{slice_set}
+use Rattle.std.specs.Option.{option_to_list}
+use Rattle.foyer_core.specs.Observed.{IsTold}
+use Rattle.foyer_core.specs.Cores.{core_of, hashes_of, meaning_of_core}
 use Rattle.foyer_core.specs.Shards.{meaning_of, state_of}
 use Rattle.foyer_core.specs.Steps.{GivesBack}
+use Rattle.foyer_core.proofs.CallsTold.{give_back_told, match_so, nothing_told}
+use Rattle.foyer_core.proofs.CoreTold.{sound_over}
 use Rattle.foyer_core.proofs.CoreLaws.{gives_at}
-use Rattle.foyer_core.proofs.CoreLemmas.{at_over, same_over}
+use Rattle.foyer_core.proofs.CoreLemmas.{at_over, core_over, same_over}
 use Rattle.foyer_core.proofs.Staying.{RecordsStay, one, given_back_stays}
+use Rattle.foyer_core.proofs.Hashing.{IsHashed, hashed_over}
 use Rattle.foyer_core.proofs.Origins.{belongs_over, given_back_from}
 use Rattle.foyer_core.proofs.cache_core.CacheCore.give_back.Goals as goal
 
@@ -17,6 +23,15 @@ invariant_of-self-clause-belong g c =
     let y = c.give_back.new.self in
     belongs_over state_of s.shards.items c.hash.result (vec_len s.shards) c.place-place.result x s.shards.ok.0 c.place-place.ensures.within c.place-place.ensures.place c.index_mut.ensures.value
     y (given_back_from (λ d. d.hash ≡ c.hash.result) (meaning_of x) (state_of x) e.id (λ leave. e.number ≡ (state_of x).number) c.give_back.result (state_of y) c.give_back.ensures.taken c.give_back.ensures.err) s.belong
+
+pub invariant_of-self-clause-hashed : goal.invariant_of-self-clause-hashed
+invariant_of-self-clause-hashed g c =
+    let s = c.args.self.now in
+    let e = c.args.entry in
+    let x = c.index_mut.result.now in
+    let y = c.give_back.new.self in
+    hashed_over (λ k. g.S.HashBuilder.hash_of s.hash_builder (g.K.Hash.hash_input k)) state_of s.shards.items (vec_len s.shards) c.place-place.result x s.shards.ok.0 c.place-place.ensures.within c.index_mut.ensures.value
+    y (given_back_from (IsHashed (λ k. g.S.HashBuilder.hash_of s.hash_builder (g.K.Hash.hash_input k))) (meaning_of x) (state_of x) e.id (λ leave. e.number ≡ (state_of x).number) c.give_back.result (state_of y) c.give_back.ensures.taken c.give_back.ensures.err) s.hashed
 
 pub returns-clause-taken : goal.returns-clause-taken
 returns-clause-taken g c =
@@ -47,3 +62,22 @@ returns-clause-stay g c =
     s.shards.ok.0 c.place-place.ensures.within (c.place-place.ensures.place ∙ ap (λ (n : ℕ). n % vec_len s.shards) c.hash.ensures) c.index_mut.ensures.value in
     gives_at (core_of s) _ e (over (RecordsStay (one e.id)) y
     (given_back_stays (meaning_of x) (state_of x) e.id (λ leave. e.number ≡ (state_of x).number) c.give_back.result (state_of y) c.give_back.ensures.taken c.give_back.ensures.err))
+
+pub returns-clause-told : goal.returns-clause-told
+returns-clause-told g c =
+    let s = c.args.self.now in
+    let e = c.args.entry in
+    let x = c.index_mut.result.now in
+    let y = c.give_back.new.self in
+    let over = at_over state_of s.capacity s.hash_builder s.weighter s.shards.items e.kept.hash (vec_len s.shards) c.place-place.result x
+    s.shards.ok.0 c.place-place.ensures.within (c.place-place.ensures.place ∙ ap (λ (n : ℕ). n % vec_len s.shards) c.hash.ensures) c.index_mut.ensures.value in
+    let same = same_over state_of s.capacity s.hash_builder s.weighter s.shards.items e.kept.hash (vec_len s.shards) c.place-place.result x
+    s.shards.ok.0 c.place-place.ensures.within (c.place-place.ensures.place ∙ ap (λ (n : ℕ). n % vec_len s.shards) c.hash.ensures) c.index_mut.ensures.value in
+    let new = core_over state_of s.capacity s.hash_builder s.weighter s.filter (slice_set s.shards.items c.place-place.result y) in
+    let m = meaning_of_core s in
+    let equal : (a b : g.row.K.Denot) → g.K.PartialEq.eq a b ≡ true → hashes_of s a ≡ hashes_of s b = λ a b same. ap (g.S.HashBuilder.hash_of s.hash_builder) (g.met.K.Hash.respects_eq a b same) in
+    let sound = sound_over m g.met.K.Eq.laws g.met.E.Eviction.lawful (hashes_of s) equal state_of s.shards.items (λ x. x.kept) s.belong s.hashed in
+    match_so c.give_back.result (λ leave. (e.number ≡ (state_of x).number) × GivesBack (meaning_of x) (state_of x) e.id leave (state_of y)) (state_of y ≡ state_of x)
+    (λ leave. IsTold m.same (hashes_of s) (core_of s) (option_to_list leave) new) (IsTold m.same (hashes_of s) (core_of s) [] new) c.give_back.ensures.taken c.give_back.ensures.err
+    (λ leave given. give_back_told m g.met.K.Eq.laws g.met.E.Eviction.lawful (hashes_of s) equal (core_of s) new sound e.id e.kept.hash leave (over (λ a b. GivesBack (meaning_of x) a e.id leave b) y given.1))
+    (λ stays. nothing_told m g.met.K.Eq.laws g.met.E.Eviction.lawful (hashes_of s) equal (core_of s) new sound (same y stays))

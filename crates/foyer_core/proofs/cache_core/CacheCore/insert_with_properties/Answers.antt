@@ -1,17 +1,21 @@
-use Rattle.std.proofs.Common.{refl, ap, ◌∙◌, ℕ, ◌%◌, vec_len, ◌≡◌}
-use Rattle.std.specs.Prelude.{slice_set}
+use Rattle.std.proofs.Common.{refl, ap, ◌∙◌, ℕ, ◌%◌, vec_len, ◌≡◌, true}
+use Rattle.std.specs.Prelude.{MatchResult, slice_set}
+use Rattle.foyer_core.specs.Observed.{IsTold, IsToldWith}
 use Rattle.foyer_core.specs.declared.record.Data.{Data}
 use Rattle.foyer_core.specs.Values.{Held}
-use Rattle.foyer_core.specs.Cores.{core_of}
+use Rattle.foyer_core.specs.Cores.{core_of, hashes_of, meaning_of_core}
 use Rattle.foyer_core.specs.Core.{InsertsWeighed}
 use Rattle.foyer_core.specs.State.{is_phantom_record, coming_in}
 use Rattle.foyer_core.specs.Shards.{meaning_of, state_of}
 use Rattle.foyer_core.specs.Steps.{Inserts, RefusesInsert}
+use Rattle.foyer_core.proofs.CallsTold.{insert_told, refused_told}
+use Rattle.foyer_core.proofs.CoreTold.{sound_over}
 use Rattle.foyer_core.proofs.CoreLaws.{Came, stays_at, finds_at, bounded_at}
 use Rattle.foyer_core.proofs.CoreLemmas.{at_over, core_over}
 use Rattle.foyer_core.proofs.Staying.{RecordsStay, nothing}
 use Rattle.foyer_core.proofs.Inserting.{came_stays, came_plain, refused_stay}
 use Rattle.foyer_core.proofs.StoredLemmas.{err_is}
+use Rattle.foyer_core.proofs.Hashing.{IsHashed, hashed_over}
 use Rattle.foyer_core.proofs.Origins.{belongs_over, emplaced_from}
 use Rattle.foyer_core.proofs.cache_core.CacheCore.insert_with_properties.Goals as goal
 
@@ -24,6 +28,16 @@ invariant_of-self-clause-belong g c =
     belongs_over state_of s.shards.items c.hash-hash.result (vec_len s.shards) c.place-place.result x s.shards.ok.0 c.place-place.ensures.within c.place-place.ensures.place c.index_mut.ensures.value
     y (emplaced_from (λ e. e.hash ≡ c.hash-hash.result) (meaning_of x) c.emplace.result (λ made. made.1.items) (λ made. made.0) (λ refused. refused.error) (λ refused. refused.leaves.items)
     (state_of x) d (state_of y) c.emplace.ensures.inserted refl) s.belong
+
+pub invariant_of-self-clause-hashed : goal.invariant_of-self-clause-hashed
+invariant_of-self-clause-hashed g c =
+    let s = c.args.self.now in
+    let x = c.index_mut.result.now in
+    let y = c.emplace.new.self in
+    let d : Data g.row.K.Denot g.row.V.Denot g.row.P.Denot = record { key = c.args.key; value = c.args.value; properties = c.marked-properties.result; hash = c.hash-hash.result; weight = c.weigh-weight.result } in
+    hashed_over (λ k. g.S.HashBuilder.hash_of s.hash_builder (g.K.Hash.hash_input k)) state_of s.shards.items (vec_len s.shards) c.place-place.result x s.shards.ok.0 c.place-place.ensures.within c.index_mut.ensures.value
+    y (emplaced_from (IsHashed (λ k. g.S.HashBuilder.hash_of s.hash_builder (g.K.Hash.hash_input k))) (meaning_of x) c.emplace.result (λ made. made.1.items) (λ made. made.0) (λ refused. refused.error) (λ refused. refused.leaves.items)
+    (state_of x) d (state_of y) c.emplace.ensures.inserted c.hash-hash.ensures.hash) s.hashed
 
 pub returns-in_err-entry-clause-inserted : goal.returns-in_err-entry-clause-inserted
 returns-in_err-entry-clause-inserted g c =
@@ -116,3 +130,40 @@ returns-clause-stay g c =
     let did = rw (c.hash-hash.ensures.hash, c.marked-properties.ensures) at c.in_ok-entry.ensures.inserted in
     stays_at (core_of s) _ hash (over (RecordsStay nothing) y
     (came_stays (meaning_of x) (state_of x) (state_of y) d _ _ x.kept did))
+
+pub returns-in_err-entry-clause-told : goal.returns-in_err-entry-clause-told
+returns-in_err-entry-clause-told g c =
+    let s = c.args.self.now in
+    let x = c.index_mut.result.now in
+    let y = c.emplace.new.self in
+    let hash = g.S.HashBuilder.hash_of s.hash_builder (g.K.Hash.hash_input c.args.key) in
+    let d : Data g.row.K.Denot g.row.V.Denot g.row.P.Denot = record { key = c.args.key; value = c.args.value; properties = coming_in g.P.Properties.location_of g.P.Properties.with_phantom_of c.args.properties; hash = hash; weight = c.weigh-weight.result } in
+    let over = at_over state_of s.capacity s.hash_builder s.weighter s.shards.items hash (vec_len s.shards) c.place-place.result x
+    s.shards.ok.0 c.place-place.ensures.within (c.place-place.ensures.place ∙ ap (λ (n : ℕ). n % vec_len s.shards) c.hash-hash.ensures.hash) c.index_mut.ensures.value in
+    let new = core_over state_of s.capacity s.hash_builder s.weighter s.filter (slice_set s.shards.items c.place-place.result y) in
+    let m = meaning_of_core s in
+    let equal : (a b : g.row.K.Denot) → g.K.PartialEq.eq a b ≡ true → hashes_of s a ≡ hashes_of s b = λ a b same. ap (g.S.HashBuilder.hash_of s.hash_builder) (g.met.K.Hash.respects_eq a b same) in
+    let sound = sound_over m g.met.K.Eq.laws g.met.E.Eviction.lawful (hashes_of s) equal state_of s.shards.items (λ x. x.kept) s.belong s.hashed in
+    let did = rw (c.hash-hash.ensures.hash, c.marked-properties.ensures) at c.in_err-entry.ensures.inserted in
+    let e = c.in_err-entry.field-0.0 in
+    err_is c.from_residual.result e
+    (λ r. MatchResult r (λ made. IsToldWith m.same (hashes_of s) m.phantom (core_of s) made.leaves.items made.entry.id made.entry.kept new) (λ refused. IsTold m.same (hashes_of s) (core_of s) refused.leaves.items new))
+    c.from_residual.ensures.1
+    (refused_told m g.met.K.Eq.laws g.met.E.Eviction.lawful (hashes_of s) equal (core_of s) new sound d refl e.leaves.items e.error (over (λ a b. RefusesInsert (meaning_of x) a d e.error e.leaves.items b) y did))
+
+pub returns-clause-told : goal.returns-clause-told
+returns-clause-told g c =
+    let s = c.args.self.now in
+    let x = c.index_mut.result.now in
+    let y = c.emplace.new.self in
+    let hash = g.S.HashBuilder.hash_of s.hash_builder (g.K.Hash.hash_input c.args.key) in
+    let d : Data g.row.K.Denot g.row.V.Denot g.row.P.Denot = record { key = c.args.key; value = c.args.value; properties = coming_in g.P.Properties.location_of g.P.Properties.with_phantom_of c.args.properties; hash = hash; weight = c.weigh-weight.result } in
+    let over = at_over state_of s.capacity s.hash_builder s.weighter s.shards.items hash (vec_len s.shards) c.place-place.result x
+    s.shards.ok.0 c.place-place.ensures.within (c.place-place.ensures.place ∙ ap (λ (n : ℕ). n % vec_len s.shards) c.hash-hash.ensures.hash) c.index_mut.ensures.value in
+    let new = core_over state_of s.capacity s.hash_builder s.weighter s.filter (slice_set s.shards.items c.place-place.result y) in
+    let m = meaning_of_core s in
+    let equal : (a b : g.row.K.Denot) → g.K.PartialEq.eq a b ≡ true → hashes_of s a ≡ hashes_of s b = λ a b same. ap (g.S.HashBuilder.hash_of s.hash_builder) (g.met.K.Hash.respects_eq a b same) in
+    let sound = sound_over m g.met.K.Eq.laws g.met.E.Eviction.lawful (hashes_of s) equal state_of s.shards.items (λ x. x.kept) s.belong s.hashed in
+    let did = rw (c.hash-hash.ensures.hash, c.marked-properties.ensures) at c.in_ok-entry.ensures.inserted in
+    insert_told m g.met.K.Eq.laws g.met.E.Eviction.lawful (hashes_of s) equal (core_of s) new sound d refl c.in_ok-entry.leaves.items c.in_ok-entry.entry
+    (over (λ a b. Inserts (meaning_of x) a d c.in_ok-entry.leaves.items c.in_ok-entry.entry b) y did)

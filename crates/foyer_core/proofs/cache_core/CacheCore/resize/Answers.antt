@@ -1,11 +1,14 @@
-use Rattle.std.proofs.Common.{map, refl}
+use Rattle.std.proofs.Common.{map, refl, ◌≡◌, ap, true}
 use Rattle.foyer_core.specs.CoreBulk.{InTurn, InTurnUntil, EvictsToCapacity, EvictingToCapacity}
-use Rattle.foyer_core.specs.Cores.{core_of, meaning_of_core}
+use Rattle.foyer_core.specs.Cores.{core_of, hashes_of, meaning_of_core}
 use Rattle.foyer_core.specs.Shards.{state_of}
+use Rattle.foyer_core.proofs.CallsTold.{resized_core, resized_until_core}
+use Rattle.foyer_core.proofs.CoreTold.{sound_over}
 use Rattle.foyer_core.proofs.CoreLemmas.{core_over}
 use Rattle.foyer_core.proofs.Told.{goes_all}
 use Rattle.foyer_core.proofs.TurnEnds.{all_fit}
 use Rattle.foyer_core.proofs.TurnLaws.{resized_stay, resized_until_stay}
+use Rattle.foyer_core.proofs.Hashing.{all_evicted_hashed, all_evicted_until_hashed, shared_hashed, told_hashed}
 use Rattle.foyer_core.proofs.Origins.{all_evicted_belong, all_evicted_until_belong, shared_belong, told_belong}
 use Rattle.foyer_core.proofs.cache_core.CacheCore.resize.Goals as goal
 
@@ -19,6 +22,18 @@ invariant_of-self-clause-belong g c =
     told_belong done.result ss ts c.new-evicted.result.items done.new.leaves.items (InTurn (EvictsToCapacity m)) (InTurnUntil (EvictsToCapacity m) (EvictingToCapacity m))
     done.ensures.done done.ensures.refused (λ ls. all_evicted_belong m ss ls ts) (λ ls. all_evicted_until_belong m ss ls ts)
     (shared_belong m c.args.capacity (map state_of s.shards.items) ss c.share_out.ensures.shares s.belong)
+
+pub invariant_of-self-clause-hashed : goal.invariant_of-self-clause-hashed
+invariant_of-self-clause-hashed g c =
+    let s = c.args.self.now in
+    let hash = λ (k : g.row.K.Denot). g.S.HashBuilder.hash_of s.hash_builder (g.K.Hash.hash_input k) in
+    let m = meaning_of_core s in
+    let ss = map state_of c.share_out.new.shards.items in
+    let done = c.evict_each_to_capacity-done in
+    let ts = map state_of done.new.shards.items in
+    told_hashed hash done.result ss ts c.new-leaves.result.items done.new.leaves.items (InTurn (EvictsToCapacity m)) (InTurnUntil (EvictsToCapacity m) (EvictingToCapacity m))
+    done.ensures.done done.ensures.refused (λ ls. all_evicted_hashed hash m ss ls ts) (λ ls. all_evicted_until_hashed hash m ss ls ts)
+    (shared_hashed hash m c.args.capacity (map state_of s.shards.items) ss c.share_out.ensures.shares s.hashed)
 
 pub returns-in-Ok-clause-done : goal.returns-in-Ok-clause-done
 returns-in-Ok-clause-done g c =
@@ -69,4 +84,30 @@ returns-in-Err-clause-stay g c =
     let ls = c.evict_each_to_capacity-done.new.leaves.items in
     let part = goes_all ls (λ l. InTurnUntil (EvictsToCapacity m) (EvictingToCapacity m) shared l (map state_of new.items)) (rw (c.new-evicted.ensures.items, c.in-Err.is) at c.evict_each_to_capacity-done.ensures.refused) in
     resized_until_stay m c.args.capacity (core_of s) ls (core_over state_of c.args.capacity s.hash_builder s.weighter s.filter new.items)
+    record { shared = shared; shares = c.share_out.ensures.shares; evicted = record { stepped = part; rest = refl } }
+
+pub returns-in-Ok-clause-told : goal.returns-in-Ok-clause-told
+returns-in-Ok-clause-told g c =
+    let s = c.args.self.now in
+    let m = meaning_of_core s in
+    let equal : (a b : g.row.K.Denot) → g.K.PartialEq.eq a b ≡ true → hashes_of s a ≡ hashes_of s b = λ a b same. ap (g.S.HashBuilder.hash_of s.hash_builder) (g.met.K.Hash.respects_eq a b same) in
+    let sound = sound_over m g.met.K.Eq.laws g.met.E.Eviction.lawful (hashes_of s) equal state_of s.shards.items (λ x. x.kept) s.belong s.hashed in
+    let shared = map state_of c.share_out.new.shards.items in
+    let new = c.evict_each_to_capacity-done.new.shards in
+    let ls = c.evict_each_to_capacity-done.new.leaves.items in
+    let done = goes_all ls (λ l. InTurn (EvictsToCapacity m) shared l (map state_of new.items)) (rw (c.new-leaves.ensures.items, c.in-Ok.is) at c.evict_each_to_capacity-done.ensures.done) in
+    resized_core m g.met.K.Eq.laws g.met.E.Eviction.lawful (hashes_of s) equal (core_of s) (core_over state_of c.args.capacity s.hash_builder s.weighter s.filter new.items) sound c.args.capacity ls
+    record { shared = shared; shares = c.share_out.ensures.shares; evicted = record { stepped = done; rest = refl } }
+
+pub returns-in-Err-clause-told : goal.returns-in-Err-clause-told
+returns-in-Err-clause-told g c =
+    let s = c.args.self.now in
+    let m = meaning_of_core s in
+    let equal : (a b : g.row.K.Denot) → g.K.PartialEq.eq a b ≡ true → hashes_of s a ≡ hashes_of s b = λ a b same. ap (g.S.HashBuilder.hash_of s.hash_builder) (g.met.K.Hash.respects_eq a b same) in
+    let sound = sound_over m g.met.K.Eq.laws g.met.E.Eviction.lawful (hashes_of s) equal state_of s.shards.items (λ x. x.kept) s.belong s.hashed in
+    let shared = map state_of c.share_out.new.shards.items in
+    let new = c.evict_each_to_capacity-done.new.shards in
+    let ls = c.evict_each_to_capacity-done.new.leaves.items in
+    let part = goes_all ls (λ l. InTurnUntil (EvictsToCapacity m) (EvictingToCapacity m) shared l (map state_of new.items)) (rw (c.new-leaves.ensures.items, c.in-Err.is) at c.evict_each_to_capacity-done.ensures.refused) in
+    resized_until_core m g.met.K.Eq.laws g.met.E.Eviction.lawful (hashes_of s) equal (core_of s) (core_over state_of c.args.capacity s.hash_builder s.weighter s.filter new.items) sound c.args.capacity ls
     record { shared = shared; shares = c.share_out.ensures.shares; evicted = record { stepped = part; rest = refl } }
