@@ -28,5 +28,5 @@ module _ {E K V P S W A N I C X : Type 0} {e : EvictionGhosts E C X} {e1 : Clone
   meaning_of_core s = meaning q.eq e.model p.hint_of p.phantom_of
 
   -- the hash that each key has in a core
-  abbrev pub hashes_of : CacheCore E K V P S W N I C X e e1 e2 e3 e4 q h c p d b w i → K → ℕ
+  abbrev pub hashes_of : CacheCore E K V P S W A N I C X e e1 e2 e3 e4 q h c p d b w f i → K → ℕ
   hashes_of s key = b.hash_of s.hash_builder (h.hash_input key)

@@ -12,8 +12,8 @@ use std::test::Fail;
 
 mod bulk;
 mod entries;
-mod location;
 mod filter;
+mod location;
 mod memory;
 mod phantom;
 mod pieces;
