@@ -1,10 +1,11 @@
 //! What is printed for a line.
 
-ghost use Rattle.std.specs.Prelude.{◌≡◌, ℕ, List, [], None, codes};
+ghost use Rattle.std.specs.Prelude.{◌≡◌, ℕ, List, [], ◌++◌, None, codes};
 ghost use Rattle.std.specs.Hash.{u64 as u64_input};
 ghost use Rattle.foyer_policy.specs.Errors.{number_of};
 ghost use Rattle.foyer_session.specs.Print.{WritesText};
-ghost use Rattle.foyer_session.specs.Printed.{answer_text, refusal_text};
+ghost use Rattle.foyer_core.specs.Values.{Answered};
+ghost use Rattle.foyer_session.specs.Printed.{answer_text, refusal_text, rest_text};
 ghost use Rattle.foyer_session.specs.Sessions.{session_of, meaning_of_session};
 ghost use Rattle.foyer_session.specs.Simulated.{CommandTold, LineTold, line_text, plain, phantom};
 ghost use Rattle.foyer_session.specs.declared.command.Command.TheVariants.{Insert};
@@ -77,39 +78,39 @@ fn tell_command<W: Write, E: Eviction, S: HashBuilder, I: Indexer<u64>>(
         × CommandTold (meaning_of_session session.old) (λ builder key. S.hash_of builder (u64_input key)) (session_of session.old) command text (session_of session.new)
         × WritesText (W.contents writer.old) (W.contents writer.new) result text }
 {
-    match session.step(command) {
-        Ok(reply) => tell_reply(writer, session, &reply),
-        Err(error) => tell_refusal(writer, session, &error),
+    let stepped = session.step(command);
+    let usage = session.usage();
+    let entries = session.entries();
+    match stepped {
+        Ok(reply) => tell_reply(writer, &reply, usage, entries),
+        Err(error) => tell_refusal(writer, &error, usage, entries),
     }
 }
 
-// Prints a reply.
-fn tell_reply<W: Write, E: Eviction, S: HashBuilder, I: Indexer<u64>>(
+// Prints a reply, with the usage and the entries after it.
+fn tell_reply<W: Write>(
     writer: &mut W,
-    session: &Session<E, u64, SimValue, CacheProperties, S, SimWeighter, I>,
     reply: &Reply<u64, SimValue, CacheProperties>,
+    usage: u128,
+    entries: u128,
 ) -> io::Result<()>
-    ensures { WritesText (W.contents writer.old) (W.contents writer.new) result (line_text (meaning_of_session session.now) (answer_text reply.now.answer) reply.now.leaves (session_of session.now)) }
+    ensures { WritesText (W.contents writer.old) (W.contents writer.new) result (answer_text reply.now.answer ++ rest_text reply.now.leaves usage entries) }
 {
     write_answer(writer, &reply.answer)?;
-    write_rest(
-        writer,
-        reply.leaves.as_slice(),
-        session.usage(),
-        session.entries(),
-    )
+    write_rest(writer, reply.leaves.as_slice(), usage, entries)
 }
 
-// Prints a refusal.
-fn tell_refusal<W: Write, E: Eviction, S: HashBuilder, I: Indexer<u64>>(
+// Prints a refusal, with the usage and the entries after it.
+fn tell_refusal<W: Write>(
     writer: &mut W,
-    session: &Session<E, u64, SimValue, CacheProperties, S, SimWeighter, I>,
     error: &Error,
+    usage: u128,
+    entries: u128,
 ) -> io::Result<()>
-    ensures { WritesText (W.contents writer.old) (W.contents writer.new) result (line_text (meaning_of_session session.now) (refusal_text (number_of error.now)) [] (session_of session.now)) }
+    ensures { WritesText (W.contents writer.old) (W.contents writer.new) result (refusal_text (number_of error.now) ++ rest_text {P = Answered} [] usage entries) }
 {
     write_refusal(writer, error)?;
-    write_rest::<W, CacheProperties>(writer, &[], session.usage(), session.entries())
+    write_rest::<W, CacheProperties>(writer, &[], usage, entries)
 }
 
 // Says that a line is none.

@@ -15,4 +15,4 @@ returns g c =
     let b = g.W.Write.contents c.write_refusal.new.writer in
     let d = g.W.Write.contents c.write_rest.new.writer in
     WritesText-after a b d c.write_rest.result (refusal_text (number_of c.args.error.now)) _ c.in_ok-write_refusal.ensures
-    (rw (c.usage.ensures, c.entries.ensures) at c.write_rest.ensures)
+    c.write_rest.ensures

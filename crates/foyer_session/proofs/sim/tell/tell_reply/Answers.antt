@@ -14,4 +14,4 @@ returns g c =
     let b = g.W.Write.contents c.write_answer.new.writer in
     let d = g.W.Write.contents c.write_rest.new.writer in
     WritesText-after a b d c.write_rest.result (answer_text c.args.reply.now.answer) _ c.in_ok-write_answer.ensures
-    (rw (c.as_slice.ensures, c.usage.ensures, c.entries.ensures) at c.write_rest.ensures)
+    (rw c.as_slice.ensures at c.write_rest.ensures)
