@@ -15,6 +15,7 @@ mod bulk;
 mod handle;
 mod held;
 mod keys;
+mod piece;
 mod ready;
 
 use handle::Handle;

@@ -6,7 +6,7 @@ ghost use Rattle.foyer_core.specs.Cores.{core_of};
 ghost use Rattle.foyer_core.specs.Steps.{ClonesHandle};
 
 use super::ready::with_leave;
-use super::{Session, handle};
+use super::{Session, handle, piece};
 use crate::command::{Answer, Reply};
 use foyer_core::{CacheCore, CoreEntry, Indexer, Left, Weighter};
 use foyer_policy::{Event, Eviction, HashBuilder, Key, Properties, Result, Value};
@@ -81,8 +81,7 @@ impl<
         };
         match entry.piece() {
             Ok(piece) => {
-                let taken = self.pieces.len() as u64;
-                self.pieces.push_reserved(piece);
+                let taken = piece::hand_out(&mut self.pieces, piece);
                 Reply::new(Answer::PieceNo(taken), Vec::new(self.alloc))
             }
             Err(error) => Reply::new(Answer::Refused(error), Vec::new(self.alloc)),
