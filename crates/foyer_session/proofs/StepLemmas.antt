@@ -86,9 +86,8 @@ clone_refused core new entry reason at =
     shard_same core new (λ s t. ClonesHandle s entry (Err reason) t) entry.kept.hash at (refusal_same at.before at.after entry.id reason at.stepped)
 
 -- a session whose core stays, stays
-pub session_same : {K V P View S W : Type 0} (core new : Core K V P View S W) (handles : List (Option (Held K V P))) → new ≡ core
-    → ◌≡◌ {A = SessionState K V P View S W} (record { core = new; handles = handles }) (record { core = core; handles = handles })
-session_same {K} {V} {P} {View} {S} {W} core new handles same = ap (λ (c : Core K V P View S W). record { core = c; handles = handles }) same
+pub session_same : {K V P View S W : Type 0} (old : SessionState K V P View S W) (new : Core K V P View S W) → new ≡ old.core → record old { core = new } ≡ old
+session_same {K} {V} {P} {View} {S} {W} old new same = ap (λ (c : Core K V P View S W). record old { core = c }) same
 
 module _ {K V P View C S W : Type 0} (m : Meaning K P View C) (core new : Core K V P View S W) (k : ℕ × K) where
   hit_there : (at : State K V P View) → shard_at core k.0 ≡ Some at → hit at k ≡ None → hit_in core k ≡ None

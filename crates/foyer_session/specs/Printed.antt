@@ -5,7 +5,7 @@ use Rattle.foyer_policy.specs.declared.types.Event.TheVariants.{Evict, Replace, 
 use Rattle.foyer_policy.specs.Errors.{number_of}
 use Rattle.foyer_core.specs.Values.{Gone}
 use Rattle.foyer_session.specs.declared.command.Answer.{Answer}
-use Rattle.foyer_session.specs.declared.command.Answer.TheVariants.{Entry, Found, Missing, Yes, No, Done, Number, NotHeld, Refused}
+use Rattle.foyer_session.specs.declared.command.Answer.TheVariants.{Entry, Found, Missing, Yes, No, Done, Number, PieceNo, NotHeld, Refused}
 use Rattle.foyer_session.specs.declared.sim.value.SimValue.{SimValue}
 
 -- why a record left
@@ -22,6 +22,10 @@ refusal_text number = codes "F" ++ decimal number
 -- a handle: `h3`
 abbrev pub handle_text : ℕ → List ℕ
 handle_text number = codes "h" ++ decimal number
+
+-- a piece: `p3`
+abbrev pub piece_text : ℕ → List ℕ
+piece_text number = codes "p" ++ decimal number
 
 -- a handle with the value of its record: `h3 21`
 abbrev pub found_text : ℕ → ℕ → List ℕ
@@ -55,6 +59,7 @@ module _ {P : Type 0} where
   answer_text No = codes "no"
   answer_text Done = codes "ok"
   answer_text (Number count) = decimal count
+  answer_text (PieceNo number) = piece_text number
   answer_text NotHeld = codes "not held"
   answer_text (Refused reason) = refusal_text (number_of reason)
 

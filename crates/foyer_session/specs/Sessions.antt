@@ -18,7 +18,7 @@ module _ {E K V P S W I C X : Type 0} {e : EvictionGhosts E C X} {e1 : CloneGhos
     {q : EqGhosts K} {h : HashGhosts K} {c : CloneGhosts K} {p : PropertiesGhosts P} {d : DefaultGhosts P} {b : HashBuilderGhosts S} {w : WeighterGhosts W K V} {i : IndexerGhosts I K} where
   -- what contracts see of a session
   abbrev pub session_of : Session E K V P S W I C X e e1 e2 e3 e4 q h c p d b w i → SessionState K V P e.View S W
-  session_of s = record { core = core_of s.core; handles = s.handles.items }
+  session_of s = record { core = core_of s.core; handles = s.handles.items; pieces = s.pieces.items }
 
   -- when keys are equal, what the policy does, and what properties answer
   abbrev pub meaning_of_session : Session E K V P S W I C X e e1 e2 e3 e4 q h c p d b w i → Meaning K P e.View C

@@ -5,21 +5,22 @@ use Rattle.foyer_policy.specs.declared.types.Event.{Event}
 use Rattle.foyer_policy.specs.declared.types.Event.TheVariants.{Remove as RemoveEvent}
 use Rattle.foyer_policy.specs.declared.error.Reason.TheVariants.{NoMemory}
 use Rattle.foyer_core.specs.declared.record.Data.{Data}
-use Rattle.foyer_core.specs.Values.{Gone, Held}
+use Rattle.foyer_core.specs.Values.{Gone, Held, Carried}
 use Rattle.foyer_core.specs.Bulk.{Clears, EvictsIf, EvictsUnpinned, EvictingUnpinned}
 use Rattle.foyer_core.specs.CoreBulk.{InTurn, InTurnUntil, OfShards, EvictsToCapacity, EvictingToCapacity, Resizes}
 use Rattle.foyer_core.specs.Steps.{Inserts, RefusesInsert, Gets, GivesBack, Touches, Removes, ClonesHandle}
 use Rattle.foyer_core.specs.Core.{Core, AtShard, IsOutdatedIn, hit_in, refs_in, usage_of_core, entries_of_core}
 use Rattle.foyer_session.specs.declared.command.Answer.{Answer}
-use Rattle.foyer_session.specs.declared.command.Answer.TheVariants.{Entry, Found, Missing, Yes, No, Done, Number, NotHeld, Refused}
+use Rattle.foyer_session.specs.declared.command.Answer.TheVariants.{Entry, Found, Missing, Yes, No, Done, Number, PieceNo, NotHeld, Refused}
 use Rattle.foyer_session.specs.declared.command.Command.{Command}
-use Rattle.foyer_session.specs.declared.command.Command.TheVariants.{Insert, Get, Contains, Touch, Remove, Clone, Drop, Refs, Outdated, Clear, EvictAll, FlushIf, Resize, Capacity, Usage, Entries}
+use Rattle.foyer_session.specs.declared.command.Command.TheVariants.{Insert, Get, Contains, Touch, Remove, Clone, Drop, TakePiece, Refs, Outdated, Clear, EvictAll, FlushIf, Resize, Capacity, Usage, Entries}
 use Rattle.foyer_session.specs.Terms.{Terms}
 
--- a core with the handles that were handed out, in order, each held or gone
+-- a core with what was handed out, in order: the handles, each held or gone, and the pieces, which stay held
 pub record SessionState (K V P View S W : Type 0) : Type 0 where
   pub core : Core K V P View S W
   pub handles : List (Option (Held K V P))
+  pub pieces : List (Carried K V P)
 
 -- the held handle of a number
 abbrev pub held_at : {K V P : Type 0} → List (Option (Held K V P)) → ℕ → Option (Held K V P)
@@ -29,16 +30,25 @@ held_at handles n = option_flatten (slice_get handles n)
 abbrev pub record_of : {K V P : Type 0} → Held K V P → Gone K V P
 record_of entry = record { id = entry.id; kept = entry.kept }
 
+-- what a piece keeps of the record of a handle
+abbrev pub piece_of : {K V P : Type 0} → Held K V P → Carried K V P
+piece_of entry = record { number = entry.number; id = entry.id; kept = entry.kept }
+
 -- the leave of a handle that was given back, where there is one
 abbrev pub leaves_of : {A : Type 0} → Option A → List A
 leaves_of None = []
 leaves_of (Some leave) = leave ∷ []
+
+-- the handles and the pieces are those from before
+abbrev pub KeepsTables : {K V P View S W : Type 0} → SessionState K V P View S W → SessionState K V P View S W → Type 0
+KeepsTables old new = (new.handles ≡ old.handles) × (new.pieces ≡ old.pieces)
 
 -- one more handle is handed out under this number, with what tells its record
 pub record HandsOut {K V P View S W : Type 0} (old : SessionState K V P View S W) (number : ℕ) (told : Gone K V P) (entry : Held K V P) (new : SessionState K V P View S W) : Type 0 where
   pub numbered : number ≡ length old.handles
   pub tells : told ≡ record_of entry
   pub handles : new.handles ≡ old.handles ++ Some (record entry { left = false }) ∷ []
+  pub pieces : new.pieces ≡ old.pieces
 
 -- a question whose answer is this number; nothing changes
 abbrev pub NumberStep : {K V P View S W : Type 0} → ℕ → SessionState K V P View S W → Answer K V P → List (Event × Gone K V P) → SessionState K V P View S W → Type 0
@@ -63,7 +73,7 @@ module _ {K V P View C S W : Type 0} (t : Terms K V P View C S W) where
   InsertStep old k v p (Refused reason) leaves new =
       (weight : ℕ) × t.weighs old.core.weighter k v weight
       × AtShard (λ s u. RefusesInsert t.meaning s (data_of old k v p weight) reason leaves u) (hash_in old k) old.core new.core
-      × (new.handles ≡ old.handles)
+      × KeepsTables old new
   InsertStep old k v p _ leaves new = ⊥
 
   abbrev pub GetStep : SessionState K V P View S W → K → Answer K V P → List (Event × Gone K V P) → SessionState K V P View S W → Type 0
@@ -83,7 +93,7 @@ module _ {K V P View C S W : Type 0} (t : Terms K V P View C S W) where
 
   abbrev pub TouchStep : SessionState K V P View S W → K → Answer K V P → List (Event × Gone K V P) → SessionState K V P View S W → Type 0
   TouchStep old k Yes leaves new =
-      AtShard (λ s u. Touches t.meaning s (hash_in old k, k) (Ok true) u) (hash_in old k) old.core new.core × (leaves ≡ []) × (new.handles ≡ old.handles)
+      AtShard (λ s u. Touches t.meaning s (hash_in old k, k) (Ok true) u) (hash_in old k) old.core new.core × (leaves ≡ []) × KeepsTables old new
   TouchStep old k No leaves new = (hit_in old.core (hash_in old k, k) ≡ None) × (leaves ≡ []) × (new ≡ old)
   TouchStep old k (Refused reason) leaves new =
       AtShard (λ s u. Touches t.meaning s (hash_in old k, k) (Err reason) u) (hash_in old k) old.core new.core × (leaves ≡ []) × (new ≡ old)
@@ -114,9 +124,18 @@ module _ {K V P View C S W : Type 0} (t : Terms K V P View C S W) where
   DropStep old n Done leaves new =
       (entry : Held K V P) × (leave : Option (Event × Gone K V P)) × (held_at old.handles n ≡ Some entry)
       × AtShard (λ s u. GivesBack t.meaning s entry.id leave u) entry.kept.hash old.core new.core
-      × (new.handles ≡ slice_set old.handles n None) × (leaves ≡ leaves_of leave)
+      × (new.handles ≡ slice_set old.handles n None) × (new.pieces ≡ old.pieces) × (leaves ≡ leaves_of leave)
   DropStep old n NotHeld leaves new = (held_at old.handles n ≡ None) × (leaves ≡ []) × (new ≡ old)
   DropStep old n _ leaves new = ⊥
+
+  -- a piece of the record of a handle is handed out, or nothing changes
+  abbrev pub TakePieceStep : SessionState K V P View S W → ℕ → Answer K V P → List (Event × Gone K V P) → SessionState K V P View S W → Type 0
+  TakePieceStep old n (PieceNo number) leaves new =
+      (entry : Held K V P) × (held_at old.handles n ≡ Some entry) × (number ≡ length old.pieces)
+      × (leaves ≡ []) × (new ≡ record old { pieces = old.pieces ++ piece_of entry ∷ [] })
+  TakePieceStep old n (Refused NoMemory) leaves new = (entry : Held K V P) × (held_at old.handles n ≡ Some entry) × (leaves ≡ []) × (new ≡ old)
+  TakePieceStep old n NotHeld leaves new = (held_at old.handles n ≡ None) × (leaves ≡ []) × (new ≡ old)
+  TakePieceStep old n _ leaves new = ⊥
 
   abbrev pub RefsStep : SessionState K V P View S W → ℕ → Answer K V P → List (Event × Gone K V P) → SessionState K V P View S W → Type 0
   RefsStep old n (Number count) leaves new =
@@ -134,29 +153,29 @@ module _ {K V P View C S W : Type 0} (t : Terms K V P View C S W) where
 
   -- all that is in leaves, or nothing changes
   abbrev pub ClearStep : SessionState K V P View S W → Answer K V P → List (Event × Gone K V P) → SessionState K V P View S W → Type 0
-  ClearStep old Done leaves new = OfShards (InTurn (Clears t.meaning)) old.core leaves new.core × (new.handles ≡ old.handles)
+  ClearStep old Done leaves new = OfShards (InTurn (Clears t.meaning)) old.core leaves new.core × KeepsTables old new
   ClearStep old (Refused NoMemory) leaves new = (leaves ≡ []) × (new ≡ old)
   ClearStep old _ leaves new = ⊥
 
   -- all that is not pinned leaves, or some beginning of it
   abbrev pub EvictAllStep : SessionState K V P View S W → Answer K V P → List (Event × Gone K V P) → SessionState K V P View S W → Type 0
-  EvictAllStep old Done leaves new = OfShards (InTurn (EvictsUnpinned t.meaning)) old.core leaves new.core × (new.handles ≡ old.handles)
+  EvictAllStep old Done leaves new = OfShards (InTurn (EvictsUnpinned t.meaning)) old.core leaves new.core × KeepsTables old new
   EvictAllStep old (Refused NoMemory) leaves new =
-      OfShards (InTurnUntil (EvictsUnpinned t.meaning) (EvictingUnpinned t.meaning)) old.core leaves new.core × (new.handles ≡ old.handles)
+      OfShards (InTurnUntil (EvictsUnpinned t.meaning) (EvictingUnpinned t.meaning)) old.core leaves new.core × KeepsTables old new
   EvictAllStep old _ leaves new = ⊥
 
   -- what the predicate picks leaves, or nothing changes; `says` is what it may answer
   abbrev pub FlushIfStep : SessionState K V P View S W → (K → V → Bool → Type 0) → Answer K V P → List (Event × Gone K V P) → SessionState K V P View S W → Type 0
-  FlushIfStep old says Done leaves new = OfShards (InTurn (EvictsIf t.meaning says)) old.core leaves new.core × (new.handles ≡ old.handles)
+  FlushIfStep old says Done leaves new = OfShards (InTurn (EvictsIf t.meaning says)) old.core leaves new.core × KeepsTables old new
   FlushIfStep old says (Refused NoMemory) leaves new = (leaves ≡ []) × (new ≡ old)
   FlushIfStep old says _ leaves new = ⊥
 
   -- all capacities are set, and the evictions to them leave, or some beginning of those
   abbrev pub ResizeStep : SessionState K V P View S W → ℕ → Answer K V P → List (Event × Gone K V P) → SessionState K V P View S W → Type 0
   ResizeStep old capacity Done leaves new =
-      Resizes t.meaning (InTurn (EvictsToCapacity t.meaning)) capacity old.core leaves new.core × (new.handles ≡ old.handles)
+      Resizes t.meaning (InTurn (EvictsToCapacity t.meaning)) capacity old.core leaves new.core × KeepsTables old new
   ResizeStep old capacity (Refused NoMemory) leaves new =
-      Resizes t.meaning (InTurnUntil (EvictsToCapacity t.meaning) (EvictingToCapacity t.meaning)) capacity old.core leaves new.core × (new.handles ≡ old.handles)
+      Resizes t.meaning (InTurnUntil (EvictsToCapacity t.meaning) (EvictingToCapacity t.meaning)) capacity old.core leaves new.core × KeepsTables old new
   ResizeStep old capacity _ leaves new = ⊥
 
 -- `picks` is what a predicate may answer of a key and a value.
@@ -170,6 +189,7 @@ module _ {K V P View C S W Q : Type 0} (t : Terms K V P View C S W) (picks : Q �
   Step old (Remove k) answer leaves new = RemoveStep t old k answer leaves new
   Step old (Clone n) answer leaves new = CloneStep t old n answer leaves new
   Step old (Drop n) answer leaves new = DropStep t old n answer leaves new
+  Step old (TakePiece n) answer leaves new = TakePieceStep t old n answer leaves new
   Step old (Refs n) answer leaves new = RefsStep t old n answer leaves new
   Step old (Outdated n) answer leaves new = OutdatedStep t old n answer leaves new
   Step old Clear answer leaves new = ClearStep t old answer leaves new

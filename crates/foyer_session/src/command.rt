@@ -6,8 +6,8 @@ use foyer_core::Left;
 use foyer_policy::{Error, Event};
 use std::marker::Model;
 
-/// What a session is asked. It names a handle by its number: handles are numbered from 0 in the order in
-/// which they were handed out. `Q` is the predicate of a `FlushIf`.
+/// What a session is asked. It names a handle or a piece by its number: handles are numbered from 0 in the
+/// order in which they were handed out, and so are pieces. `Q` is the predicate of a `FlushIf`.
 #[derive(Debug, Drop)]
 pub enum Command<K, V, P, Q> {
     /// Takes a record of this key, value and properties in.
@@ -24,6 +24,8 @@ pub enum Command<K, V, P, Q> {
     Clone(u64),
     /// Gives the handle of this number back.
     Drop(u64),
+    /// Asks for a piece of the record of the handle of this number. The piece stays held.
+    TakePiece(u64),
     /// Asks how many handles the record of the handle of this number has.
     Refs(u64),
     /// Asks whether the record of the handle of this number left.
@@ -134,10 +136,12 @@ pub enum Answer<K, V, P> {
     Done,
     /// To `Refs`, `Capacity`, `Usage` or `Entries`: so many.
     Number(u128),
+    /// To `TakePiece`: the number of the new piece.
+    PieceNo(u64),
     /// To what names a handle: no held handle has this number. Nothing has changed.
     NotHeld,
-    /// To `Insert`, `Get`, `Touch`, `Remove` or `Clone`, and to `Clear`, `EvictAll`, `FlushIf` or `Resize`: why
-    /// it was refused.
+    /// To `Insert`, `Get`, `Touch`, `Remove`, `Clone` or `TakePiece`, and to `Clear`, `EvictAll`, `FlushIf` or
+    /// `Resize`: why it was refused.
     Refused(Error),
 }
 

@@ -1,13 +1,13 @@
-//! A cache in one thread's hands, and the handles that it handed out.
+//! A cache in one thread's hands, and the handles and the pieces that it handed out.
 
-ghost use Rattle.std.specs.Prelude.{◌≡◌, ◌+◌, ◌<◌, ◌≤◌, [], true, IfOk, IfErr, OnErr, vec_len, vec_capacity};
+ghost use Rattle.std.specs.Prelude.{◌≡◌, ◌+◌, ◌*◌, ◌<◌, ◌≤◌, [], true, IfOk, IfErr, OnOk, OnErr, vec_len, vec_capacity};
 ghost use Rattle.foyer_policy.specs.declared.error.Reason.TheVariants.{NoMemory};
 ghost use Rattle.foyer_core.specs.Cores.{core_of};
 ghost use Rattle.foyer_session.specs.Owns.{OwnsHandles};
 
 use crate::command::{Answer, Command, Reply};
 use crate::predicate::Predicate;
-use foyer_core::{CacheCore, HashTableIndexer, Indexer, Weighter};
+use foyer_core::{CacheCore, HashTableIndexer, Indexer, Piece, Weighter};
 use foyer_policy::{Error, Eviction, HashBuilder, Key, Properties, Reason, Result, Value};
 use std::alloc::Global;
 
@@ -15,13 +15,15 @@ mod bulk;
 mod handle;
 mod held;
 mod keys;
+mod piece;
 mod ready;
 
 use handle::Handle;
 use ready::Ready;
 
-/// A core with the handles that it handed out, each held or gone. It carries out commands, which name a
-/// handle by its number. `I` is the index of each shard. Contracts see a `SessionState`.
+/// A core with the handles that it handed out, each held or gone, and the pieces, which stay held. It carries
+/// out commands, which name a handle or a piece by its number. `I` is the index of each shard. Contracts see
+/// a `SessionState`.
 ///
 /// A session that ends drops its held handles with its core, and tells nothing.
 #[derive(Drop)]
@@ -36,6 +38,7 @@ pub struct Session<
 > {
     core: CacheCore<E, K, V, P, S, W, (), I>,
     handles: Vec<Handle<K, V, P>>,
+    pieces: Vec<Piece<K, V, P>>,
     alloc: Global,
     ghost owns: { ∥ OwnsHandles (core_of core) handles.items ∥₁ },
 }
@@ -58,10 +61,12 @@ impl<
     pub fn new(alloc: Global, core: CacheCore<E, K, V, P, S, W, (), I>) -> Self
         ensures core { (session_of result).core ≡ core_of core }
         ensures handles { (session_of result).handles ≡ [] }
+        ensures pieces { (session_of result).pieces ≡ [] }
     {
         Session {
             core,
             handles: Vec::new(alloc),
+            pieces: Vec::new(alloc),
             alloc,
         }
     }
@@ -79,16 +84,11 @@ impl<
         ensures err { OnErr result (session_of self.new ≡ session_of self.old) }
     {
         let count = commands.len();
-        let Some(more) = count.checked_mul(2) else {
-            return Err(Error::new(Reason::NoMemory));
-        };
         let all = ready::ready_all(self.alloc, commands)?;
         let Ok(mut replies) = Vec::with_capacity(self.alloc, count) else {
             return Err(Error::new(Reason::NoMemory));
         };
-        let Ok(()) = self.handles.reserve(more) else {
-            return Err(Error::new(Reason::NoMemory));
-        };
+        self.make_room(count)?;
         for ready in all {
             let reply = self.carry_out(ready);
             replies.push_reserved(reply);
@@ -109,9 +109,7 @@ impl<
         ensures err { OnErr result (session_of self.new ≡ session_of self.old) }
     {
         let ready = Ready::new(self.alloc, command)?;
-        let Ok(()) = self.handles.reserve(2) else {
-            return Err(Error::new(Reason::NoMemory));
-        };
+        self.make_room(1)?;
         Ok(self.carry_out(ready))
     }
 
@@ -129,6 +127,26 @@ impl<
         self.core.entries()
     }
 
+    // Makes room for what so many commands may hand out: two handles and one piece each. Only memory can be
+    // missing (F7).
+    fn make_room(&mut self, commands: usize) -> Result<()>
+        ensures session { session_of self.new ≡ session_of self.old }
+        ensures handles { OnOk result (vec_len self.new.handles + 2 * commands ≤ vec_capacity self.new.handles) }
+        ensures pieces { OnOk result (vec_len self.new.pieces + commands ≤ vec_capacity self.new.pieces) }
+        ensures refused { IfErr result (λ e. e ≡ NoMemory) }
+    {
+        let Some(handles) = commands.checked_mul(2) else {
+            return Err(Error::new(Reason::NoMemory));
+        };
+        let Ok(()) = self.handles.reserve(handles) else {
+            return Err(Error::new(Reason::NoMemory));
+        };
+        let Ok(()) = self.pieces.reserve(commands) else {
+            return Err(Error::new(Reason::NoMemory));
+        };
+        Ok(())
+    }
+
     // Answers a number, and changes nothing.
     fn tell_number(&self, number: u128) -> Reply<K, V, P>
         ensures { NumberStep number (session_of self.now) result.answer result.leaves (session_of self.now) }
@@ -140,10 +158,13 @@ impl<
     fn carry_out<Q: Predicate<K, V>>(&mut self, ready: Ready<K, V, P, Q>) -> Reply<K, V, P>
         requires clones { (k c : K) → K.is_clone k c → K.eq c k ≡ true }
         requires room { vec_len self.old.handles < vec_capacity self.old.handles }
+        requires piece { vec_len self.old.pieces < vec_capacity self.old.pieces }
         ensures step { Step (terms_of self.old) Q.picks
             (session_of self.old) ready.command result.answer result.leaves (session_of self.new) }
         ensures len { vec_len self.new.handles ≤ vec_len self.old.handles + 1 }
         ensures capacity { vec_capacity self.new.handles ≡ vec_capacity self.old.handles }
+        ensures pieces_len { vec_len self.new.pieces ≤ vec_len self.old.pieces + 1 }
+        ensures pieces_capacity { vec_capacity self.new.pieces ≡ vec_capacity self.old.pieces }
     {
         let Ready { command, leaves } = ready;
         match command {
@@ -154,6 +175,7 @@ impl<
             Command::Remove(key) => self.remove(&key, leaves),
             Command::Clone(number) => self.clone_handle(number),
             Command::Drop(number) => self.give_back(number, leaves),
+            Command::TakePiece(number) => self.take_piece(number),
             Command::Refs(number) => self.refs(number),
             Command::Outdated(number) => self.is_outdated(number),
             Command::Clear => self.clear(),

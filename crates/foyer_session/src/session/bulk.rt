@@ -24,6 +24,7 @@ impl<
         ensures step { ClearStep (terms_of self.old) (session_of self.old) result.answer result.leaves (session_of self.new) }
         ensures len { vec_len self.new.handles ≡ vec_len self.old.handles }
         ensures capacity { vec_capacity self.new.handles ≡ vec_capacity self.old.handles }
+        ensures pieces { self.new.pieces ≡ self.old.pieces }
     {
         match self.core.clear() {
             Ok(leaves) => Reply::new(Answer::Done, leaves),
@@ -35,6 +36,7 @@ impl<
         ensures step { EvictAllStep (terms_of self.old) (session_of self.old) result.answer result.leaves (session_of self.new) }
         ensures len { vec_len self.new.handles ≡ vec_len self.old.handles }
         ensures capacity { vec_capacity self.new.handles ≡ vec_capacity self.old.handles }
+        ensures pieces { self.new.pieces ≡ self.old.pieces }
     {
         match self.core.evict_all() {
             Ok(leaves) => Reply::new(Answer::Done, leaves),
@@ -49,6 +51,7 @@ impl<
         ensures step { FlushIfStep (terms_of self.old) (session_of self.old) (Q.picks predicate.now) result.answer result.leaves (session_of self.new) }
         ensures len { vec_len self.new.handles ≡ vec_len self.old.handles }
         ensures capacity { vec_capacity self.new.handles ≡ vec_capacity self.old.handles }
+        ensures pieces { self.new.pieces ≡ self.old.pieces }
     {
         match self
             .core
@@ -63,6 +66,7 @@ impl<
         ensures step { ResizeStep (terms_of self.old) (session_of self.old) capacity result.answer result.leaves (session_of self.new) }
         ensures len { vec_len self.new.handles ≡ vec_len self.old.handles }
         ensures capacity { vec_capacity self.new.handles ≡ vec_capacity self.old.handles }
+        ensures pieces { self.new.pieces ≡ self.old.pieces }
     {
         match self.core.resize(capacity) {
             Ok(leaves) => Reply::new(Answer::Done, leaves),

@@ -6,7 +6,7 @@ ghost use Rattle.foyer_core.specs.Cores.{core_of};
 ghost use Rattle.foyer_core.specs.Steps.{ClonesHandle};
 
 use super::ready::with_leave;
-use super::{Session, handle};
+use super::{Session, handle, piece};
 use crate::command::{Answer, Reply};
 use foyer_core::{CacheCore, CoreEntry, Indexer, Left, Weighter};
 use foyer_policy::{Event, Eviction, HashBuilder, Key, Properties, Result, Value};
@@ -21,7 +21,7 @@ impl<
     I: Indexer<K>,
 > Session<E, K, V, P, S, W, I> {
     ghost use Rattle.foyer_session.specs.Sessions.{session_of, terms_of};
-    ghost use Rattle.foyer_session.specs.Step.{CloneStep, DropStep, RefsStep, OutdatedStep};
+    ghost use Rattle.foyer_session.specs.Step.{CloneStep, DropStep, TakePieceStep, RefsStep, OutdatedStep};
 
     // Hands out one more handle of the record of a handle.
     pub(super) fn clone_handle(&mut self, number: u64) -> Reply<K, V, P>
@@ -29,6 +29,7 @@ impl<
         ensures step { CloneStep (terms_of self.old) (session_of self.old) number result.answer result.leaves (session_of self.new) }
         ensures len { vec_len self.new.handles ≤ vec_len self.old.handles + 1 }
         ensures capacity { vec_capacity self.new.handles ≡ vec_capacity self.old.handles }
+        ensures pieces { self.new.pieces ≡ self.old.pieces }
     {
         let Some(entry) = handle::held(self.handles.as_slice(), number) else {
             return Reply::new(Answer::NotHeld, Vec::new(self.alloc));
@@ -53,6 +54,7 @@ impl<
         ensures step { DropStep (terms_of self.old) (session_of self.old) number result.answer result.leaves (session_of self.new) }
         ensures len { vec_len self.new.handles ≡ vec_len self.old.handles }
         ensures capacity { vec_capacity self.new.handles ≡ vec_capacity self.old.handles }
+        ensures pieces { self.new.pieces ≡ self.old.pieces }
     {
         let Some(entry) = handle::take(&mut self.handles, number) else {
             return Reply::new(Answer::NotHeld, leaves);
@@ -63,6 +65,26 @@ impl<
                 entry.discard();
                 unreachable!()
             }
+        }
+    }
+
+    // Hands out a piece of the record of a handle.
+    pub(super) fn take_piece(&mut self, number: u64) -> Reply<K, V, P>
+        requires room { vec_len self.old.pieces < vec_capacity self.old.pieces }
+        ensures step { TakePieceStep (terms_of self.old) (session_of self.old) number result.answer result.leaves (session_of self.new) }
+        ensures handles { self.new.handles ≡ self.old.handles }
+        ensures len { vec_len self.new.pieces ≤ vec_len self.old.pieces + 1 }
+        ensures capacity { vec_capacity self.new.pieces ≡ vec_capacity self.old.pieces }
+    {
+        let Some(entry) = handle::held(self.handles.as_slice(), number) else {
+            return Reply::new(Answer::NotHeld, Vec::new(self.alloc));
+        };
+        match entry.piece() {
+            Ok(piece) => {
+                let taken = piece::hand_out(&mut self.pieces, piece);
+                Reply::new(Answer::PieceNo(taken), Vec::new(self.alloc))
+            }
+            Err(error) => Reply::new(Answer::Refused(error), Vec::new(self.alloc)),
         }
     }
 

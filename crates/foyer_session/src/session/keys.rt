@@ -27,6 +27,7 @@ impl<
         ensures step { InsertStep (terms_of self.old) (session_of self.old) key value properties result.answer result.leaves (session_of self.new) }
         ensures len { vec_len self.new.handles ≤ vec_len self.old.handles + 1 }
         ensures capacity { vec_capacity self.new.handles ≡ vec_capacity self.old.handles }
+        ensures pieces { self.new.pieces ≡ self.old.pieces }
     {
         match self.core.insert_with_properties(key, value, properties) {
             Ok(inserted) => {
@@ -57,6 +58,7 @@ impl<
         ensures step { GetStep (terms_of self.old) (session_of self.old) key.now result.answer result.leaves (session_of self.new) }
         ensures len { vec_len self.new.handles ≤ vec_len self.old.handles + 1 }
         ensures capacity { vec_capacity self.new.handles ≡ vec_capacity self.old.handles }
+        ensures pieces { self.new.pieces ≡ self.old.pieces }
     {
         match self.core.get(key) {
             Ok(Some(entry)) => {
@@ -83,6 +85,7 @@ impl<
         ensures step { TouchStep (terms_of self.old) (session_of self.old) key.now result.answer result.leaves (session_of self.new) }
         ensures len { vec_len self.new.handles ≡ vec_len self.old.handles }
         ensures capacity { vec_capacity self.new.handles ≡ vec_capacity self.old.handles }
+        ensures pieces { self.new.pieces ≡ self.old.pieces }
     {
         match self.core.touch(key) {
             Ok(true) => Reply::new(Answer::Yes, Vec::new(self.alloc)),
@@ -99,6 +102,7 @@ impl<
         ensures step { RemoveStep (terms_of self.old) (session_of self.old) key.now result.answer result.leaves (session_of self.new) }
         ensures len { vec_len self.new.handles ≤ vec_len self.old.handles + 1 }
         ensures capacity { vec_capacity self.new.handles ≡ vec_capacity self.old.handles }
+        ensures pieces { self.new.pieces ≡ self.old.pieces }
     {
         match self.core.remove(key) {
             Ok(Some((entry, left))) => {

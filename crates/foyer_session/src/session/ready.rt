@@ -52,6 +52,7 @@ fn room_for<K: Drop, V: Drop, P: Drop, Q: Drop>(
         | Command::Contains(_)
         | Command::Touch(_)
         | Command::Clone(_)
+        | Command::TakePiece(_)
         | Command::Refs(_)
         | Command::Outdated(_)
         | Command::Clear

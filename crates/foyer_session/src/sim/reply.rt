@@ -3,7 +3,7 @@
 ghost use Rattle.std.specs.Prelude.{◌≡◌};
 ghost use Rattle.foyer_policy.specs.Errors.{number_of};
 ghost use Rattle.foyer_session.specs.Print.{WritesText};
-ghost use Rattle.foyer_session.specs.Printed.{answer_text, event_text, found_text, handle_text, leave_text, leaves_text, more_text, next_text, refusal_text, rest_text};
+ghost use Rattle.foyer_session.specs.Printed.{answer_text, event_text, found_text, handle_text, leave_text, leaves_text, more_text, next_text, piece_text, refusal_text, rest_text};
 
 use super::value::SimValue;
 use crate::command::Answer;
@@ -28,6 +28,7 @@ pub fn write_answer<W: Write, P>(
         Answer::No => write_out(writer, b"no"),
         Answer::Done => write_out(writer, b"ok"),
         Answer::Number(count) => write_wide_number(writer, *count),
+        Answer::PieceNo(number) => write_piece(writer, *number),
         Answer::NotHeld => write_out(writer, b"not held"),
         Answer::Refused(error) => write_refusal(writer, error),
     }
@@ -63,6 +64,13 @@ fn write_handle<W: Write>(writer: &mut W, number: u64) -> io::Result<()>
     ensures { WritesText (W.contents writer.old) (W.contents writer.new) result (handle_text number) }
 {
     write_out(writer, b"h")?;
+    write_number(writer, number)
+}
+
+fn write_piece<W: Write>(writer: &mut W, number: u64) -> io::Result<()>
+    ensures { WritesText (W.contents writer.old) (W.contents writer.new) result (piece_text number) }
+{
+    write_out(writer, b"p")?;
     write_number(writer, number)
 }
 

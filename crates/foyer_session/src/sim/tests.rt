@@ -1,4 +1,5 @@
-use super::{SimValue, SimWeighter, simulate};
+use super::{SimValue, SimWeighter, simulate, write_answer};
+use crate::command::Answer;
 use crate::session::Session;
 use crate::streams::{Parts, Slow};
 use foyer_core::{CacheCore, CacheProperties, Limits, RawCacheConfig};
@@ -330,6 +331,16 @@ fn a_line_of_megabytes_is_one_line(rt: HostRuntime) -> Result<(), Fail> {
 h0 | - | usage 1 entries 1
 h1 2 | - | usage 1 entries 1
 ";
+    assert_eq!(rt; written.as_slice(), wanted);
+    Ok(())
+}
+
+#[test]
+fn a_piece_is_printed_as_its_number(rt: HostRuntime) -> Result<(), Fail> {
+    let answer: Answer<u64, SimValue, CacheProperties> = Answer::PieceNo(30);
+    let mut written = Vec::new(rt.alloc());
+    write_answer(&mut written, &answer)?;
+    let wanted: &[u8] = b"p30";
     assert_eq!(rt; written.as_slice(), wanted);
     Ok(())
 }

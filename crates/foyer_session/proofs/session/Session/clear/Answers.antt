@@ -17,4 +17,4 @@ invariant_of-self g c =
     }
 
 pub returns-in-Ok-clause-step : goal.returns-in-Ok-clause-step
-returns-in-Ok-clause-step g c = rw (c.new.ensures.answer, c.new.ensures.leaves) (c.in-Ok.ensures.done, refl)
+returns-in-Ok-clause-step g c = rw (c.new.ensures.answer, c.new.ensures.leaves) (c.in-Ok.ensures.done, (refl, refl))

@@ -1,6 +1,7 @@
+use Rattle.std.proofs.Common.{refl}
 use Rattle.std.proofs.Math.Logic.{∥∥₁_map}
 use Rattle.foyer_core.specs.Cores.{core_of}
-use Rattle.foyer_session.specs.Sessions.{meaning_of_session}
+use Rattle.foyer_session.specs.Sessions.{session_of, meaning_of_session}
 use Rattle.foyer_session.proofs.OwnLemmas.{owned_held}
 use Rattle.foyer_session.proofs.StepLemmas.{cloned_owns, clone_refused, session_same, owns_still}
 use Rattle.foyer_session.proofs.session.Session.clone_handle.Goals as goal
@@ -36,6 +37,7 @@ returns-in-Ok-clause-step g c =
         numbered = c.hand_out-handle.ensures.number;
         tells = c.hand_out-handle.ensures.«record»;
         handles = c.hand_out-handle.ensures.handles;
+        pieces = refl;
       },
       c.new-in-Ok.ensures.items,
     )
@@ -49,5 +51,5 @@ returns-in-Err-clause-step g c =
       rw c.as_slice.ensures.value at c.in-Some.ensures.some,
       c.in-Err.ensures,
       c.new-in-Err.ensures.items,
-      session_same (core_of s.core) (core_of c.clone_held.new.core) s.handles.items same,
+      session_same (session_of s) (core_of c.clone_held.new.core) same,
     )

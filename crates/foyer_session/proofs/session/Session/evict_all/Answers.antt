@@ -16,7 +16,7 @@ invariant_of-self g c =
     }
 
 pub returns-in-Ok-clause-step : goal.returns-in-Ok-clause-step
-returns-in-Ok-clause-step g c = rw (c.new.ensures.answer, c.new.ensures.leaves) (c.in-Ok.ensures.done, refl)
+returns-in-Ok-clause-step g c = rw (c.new.ensures.answer, c.new.ensures.leaves) (c.in-Ok.ensures.done, (refl, refl))
 
 pub returns-in-Err-clause-step : goal.returns-in-Err-clause-step
-returns-in-Err-clause-step g c = rw (c.new-in-Err.ensures.answer, c.new-in-Err.ensures.leaves, c.in-Err.ensures.reason) (c.in-Err.ensures.refused, refl)
+returns-in-Err-clause-step g c = rw (c.new-in-Err.ensures.answer, c.new-in-Err.ensures.leaves, c.in-Err.ensures.reason) (c.in-Err.ensures.refused, (refl, refl))

@@ -21,4 +21,4 @@ returns-in-Ok-clause-step g c =
     let s = c.args.self.now in
     let done = flushes_more (meaning_of_session s) _ (g.Q.Predicate.picks c.args.predicate.now) (λ key value answer said. let met = said.says.met in let shows = said.shows in search rules)
     (core_of s.core) c.in-Ok.leaves.items (core_of c.flush_if.new.self) c.in-Ok.ensures.done in
-    rw (c.new.ensures.answer, c.new.ensures.leaves) (done, refl)
+    rw (c.new.ensures.answer, c.new.ensures.leaves) (done, (refl, refl))

@@ -1,7 +1,8 @@
+use Rattle.std.proofs.Common.{refl}
 use Rattle.std.proofs.Math.Logic.{∥∥₁_elim, ∥∥₁_map}
 use Rattle.std.proofs.Props.{props}
 use Rattle.foyer_core.specs.Cores.{core_of}
-use Rattle.foyer_session.specs.Sessions.{meaning_of_session}
+use Rattle.foyer_session.specs.Sessions.{session_of, meaning_of_session}
 use Rattle.foyer_session.proofs.CoreLemmas.{kept_at}
 use Rattle.foyer_session.proofs.FoundLemmas.{found_hash}
 use Rattle.foyer_session.proofs.StepLemmas.{got_owns, get_missing, get_refused, session_same, owns_still}
@@ -29,6 +30,7 @@ returns-in-Ok-Some-clause-step g c =
         numbered = c.hand_out-handle.ensures.number;
         tells = c.hand_out-handle.ensures.«record»;
         handles = c.hand_out-handle.ensures.handles;
+        pieces = refl;
       },
       c.new.ensures.items,
     )
@@ -53,7 +55,7 @@ returns-in-Ok-None-clause-step g c =
     let hash = g.S.HashBuilder.hash_of s.core.hash_builder (g.K.Hash.hash_input c.args.key.now) in
     let gone = get_missing (meaning_of_session s) (core_of s.core) (core_of c.get.new.self) (hash, c.args.key.now) (rw c.in-Ok-None.field-0-is at c.in-Ok-None.ensures.gets) in
     rw (c.new-in-Ok-None-2.ensures.answer, c.new-in-Ok-None-2.ensures.leaves)
-    (gone.0, c.new-in-Ok-None.ensures.items, session_same (core_of s.core) (core_of c.get.new.self) s.handles.items gone.1)
+    (gone.0, c.new-in-Ok-None.ensures.items, session_same (session_of s) (core_of c.get.new.self) gone.1)
 
 pub returns-in-Err-clause-step : goal.returns-in-Err-clause-step
 returns-in-Err-clause-step g c =
@@ -61,4 +63,4 @@ returns-in-Err-clause-step g c =
     let hash = g.S.HashBuilder.hash_of s.core.hash_builder (g.K.Hash.hash_input c.args.key.now) in
     let same = get_refused (meaning_of_session s) (core_of s.core) (core_of c.get.new.self) (hash, c.args.key.now) c.in-Err.error c.in-Err.ensures.gets in
     rw (c.new-in-Err-2.ensures.answer, c.new-in-Err-2.ensures.leaves)
-    (c.in-Err.ensures.gets, c.new-in-Err.ensures.items, session_same (core_of s.core) (core_of c.get.new.self) s.handles.items same)
+    (c.in-Err.ensures.gets, c.new-in-Err.ensures.items, session_same (session_of s) (core_of c.get.new.self) same)

@@ -1,6 +1,6 @@
 use Rattle.std.proofs.Math.Logic.{∥∥₁_elim, ∥∥₁_map}
 use Rattle.std.proofs.Props.{props}
-use Rattle.std.proofs.Common.{sym, ◌∙◌}
+use Rattle.std.proofs.Common.{refl, sym, ◌∙◌}
 use Rattle.std.proofs.lemmas.Bool.{false≢true}
 use Rattle.foyer_core.specs.Cores.{core_of}
 use Rattle.foyer_session.specs.Sessions.{meaning_of_session}
@@ -27,4 +27,4 @@ unreachable-requires g c =
 pub returns-clause-step : goal.returns-clause-step
 returns-clause-step g c =
     let held = sym c.take.ensures.entry ∙ c.in-Some.is in
-    rw (c.new-in-Ok.ensures.answer, c.new-in-Ok.ensures.leaves) (c.in-Some.entry, c.in-Ok.leave, held, c.in-Ok.ensures.taken, c.take.ensures.handles, c.with_leave.ensures)
+    rw (c.new-in-Ok.ensures.answer, c.new-in-Ok.ensures.leaves) (c.in-Some.entry, c.in-Ok.leave, held, c.in-Ok.ensures.taken, c.take.ensures.handles, refl, c.with_leave.ensures)

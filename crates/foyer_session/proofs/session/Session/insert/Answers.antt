@@ -45,6 +45,7 @@ returns-in-Ok-clause-step g c =
         numbered = c.hand_out-handle.ensures.number;
         tells = c.hand_out-handle.ensures.«record»;
         handles = c.hand_out-handle.ensures.handles;
+        pieces = refl;
       },
       c.new-answers.ensures ∙ c.new.ensures.items,
     )
@@ -52,4 +53,4 @@ returns-in-Ok-clause-step g c =
 pub returns-in-Err-clause-step : goal.returns-in-Err-clause-step
 returns-in-Err-clause-step g c =
     let did = c.in-Err.ensures.inserted in
-    rw (c.new-in-Err.ensures.answer, c.new-in-Err.ensures.leaves) (did.weight, did.weighed, did.inserts, refl)
+    rw (c.new-in-Err.ensures.answer, c.new-in-Err.ensures.leaves) (did.weight, did.weighed, did.inserts, (refl, refl))

@@ -1,8 +1,8 @@
-use Rattle.std.proofs.Common.{arith}
+use Rattle.std.proofs.Common.{arith, refl}
 use Rattle.std.proofs.Math.Logic.{∥∥₁_elim, ∥∥₁_map}
 use Rattle.std.proofs.Props.{props}
 use Rattle.foyer_core.specs.Cores.{core_of}
-use Rattle.foyer_session.specs.Sessions.{meaning_of_session}
+use Rattle.foyer_session.specs.Sessions.{session_of, meaning_of_session}
 use Rattle.foyer_session.proofs.CoreLemmas.{kept_at}
 use Rattle.foyer_session.proofs.FoundLemmas.{removed_hash}
 use Rattle.foyer_session.proofs.StepLemmas.{removed_owns, remove_missing, remove_refused, session_same, owns_still, empty_of}
@@ -31,6 +31,7 @@ returns-in-Ok-Some-clause-step g c =
         numbered = c.hand_out-handle.ensures.number;
         tells = c.hand_out-handle.ensures.«record»;
         handles = c.hand_out-handle.ensures.handles;
+        pieces = refl;
       },
       c.with_leave-leaves.ensures,
     )
@@ -57,7 +58,7 @@ returns-in-Ok-None-clause-step g c =
     rw (c.new-in-Ok-None.ensures.answer, c.new-in-Ok-None.ensures.leaves) (
       gone.0,
       empty_of c.args.leaves.items (omega (arith, c.args.leaves.ok.0, c.requires.empty)),
-      session_same (core_of s.core) (core_of c.remove.new.self) s.handles.items gone.1,
+      session_same (session_of s) (core_of c.remove.new.self) gone.1,
     )
 
 pub returns-in-Err-clause-step : goal.returns-in-Err-clause-step
@@ -68,5 +69,5 @@ returns-in-Err-clause-step g c =
     rw (c.new-in-Err.ensures.answer, c.new-in-Err.ensures.leaves) (
       c.in-Err.ensures.removes,
       empty_of c.args.leaves.items (omega (arith, c.args.leaves.ok.0, c.requires.empty)),
-      session_same (core_of s.core) (core_of c.remove.new.self) s.handles.items same,
+      session_same (session_of s) (core_of c.remove.new.self) same,
     )

@@ -1,4 +1,4 @@
-use Rattle.std.proofs.Common.{◌≡◌, length, map, refl, sym, ap, ◌∙◌, arith, append_assoc}
+use Rattle.std.proofs.Common.{◌≡◌, length, map, sym, ap, ◌∙◌, arith, append_assoc}
 use Rattle.std.proofs.lemmas.List.{length-map}
 use Rattle.foyer_session.specs.Sessions.{session_of, terms_of}
 use Rattle.foyer_session.proofs.RunLemmas.{Run-more, all_yielded}
@@ -11,23 +11,25 @@ loop-ready-init g c =
     let count : length c.into_iter-ready-iterator.result.rest.items ≡ length c.args.commands.items =
     sym (length-map c.into_iter-ready-iterator.result.rest.items (λ ready. ready.command)) ∙ ap length commands in
     record {
-      run = rw (c.in-Ok.ensures.items, c.reserve.ensures.items) refl;
+      run = rw c.in-Ok.ensures.items c.make_room.ensures.session;
       commands = commands;
-      handles = omega (arith, count, c.in-Ok-reserve.ensures.ok, c.in-Some.ensures.1, c.len-count.ensures, c.args.commands.ok.0);
+      handles = omega (arith, count, c.in_ok-make_room.ensures.handles, c.len-count.ensures, c.args.commands.ok.0);
+      pieces = omega (arith, count, c.in_ok-make_room.ensures.pieces, c.len-count.ensures, c.args.commands.ok.0);
       replies = omega (arith, count, c.in-Ok.ensures.len, c.in-Ok.ensures.capacity, c.len-count.ensures, c.args.commands.ok.0);
     }
 
 pub loop-ready-preserved : goal.loop-ready-preserved
 loop-ready-preserved g c =
     let inv = c.loop-ready.invariant in
-    let rest = c.in-Some-ready.ensures.steps.0 in
+    let rest = c.in-Some.ensures.steps.0 in
     let one = ap length rest in
     record {
       run = rw c.push_reserved.ensures.items (Run-more (terms_of c.args.self.now) g.Q.Predicate.picks
-          (λ ready. ready.command) (session_of c.args.self.now) c.loop-ready.yielded c.loop-ready.replies.items (session_of c.loop-ready.self) c.in-Some-ready.ready c.carry_out-reply.result
+          (λ ready. ready.command) (session_of c.args.self.now) c.loop-ready.yielded c.loop-ready.replies.items (session_of c.loop-ready.self) c.in-Some.ready c.carry_out-reply.result
           (session_of c.carry_out-reply.new.self) inv.run c.carry_out-reply.ensures.step);
       commands = rw append_assoc (rw rest at inv.commands);
       handles = omega (arith, inv.handles, one, c.carry_out-reply.ensures.len, c.carry_out-reply.ensures.capacity);
+      pieces = omega (arith, inv.pieces, one, c.carry_out-reply.ensures.pieces_len, c.carry_out-reply.ensures.pieces_capacity);
       replies = omega (arith, inv.replies, one, c.push_reserved.ensures.len, c.push_reserved.ensures.capacity);
     }
 

@@ -10,5 +10,6 @@ invariant-loop-ready g l = record {
       (map (λ ready. ready.command) l.yielded) l.replies.items (session_of l.self);
   commands : map (λ ready. ready.command) (l.yielded ++ l.ready-iterator.rest.items) ≡ l.fn.commands.items;
   handles : vec_len l.self.handles + 2 * length l.ready-iterator.rest.items ≤ vec_capacity l.self.handles;
+  pieces : vec_len l.self.pieces + length l.ready-iterator.rest.items ≤ vec_capacity l.self.pieces;
   replies : vec_len l.replies + length l.ready-iterator.rest.items ≤ vec_capacity l.replies;
 }

@@ -1,0 +1,20 @@
+//! The pieces that a session handed out.
+
+ghost use Rattle.std.specs.Prelude.{◌≡◌, ◌<◌, ◌++◌, ◌∷◌, [], length, vec_len, vec_capacity};
+
+use foyer_core::Piece;
+
+/// Hands a new piece out, where there is room: its number.
+pub fn hand_out<K: Drop, V: Drop, P: Drop>(
+    pieces: &mut Vec<Piece<K, V, P>>,
+    piece: Piece<K, V, P>,
+) -> u64
+    requires room { vec_len pieces.old < vec_capacity pieces.old }
+    ensures number { result ≡ length pieces.old.items }
+    ensures pieces { pieces.new.items ≡ pieces.old.items ++ piece ∷ [] }
+    ensures capacity { vec_capacity pieces.new ≡ vec_capacity pieces.old }
+{
+    let number = pieces.len() as u64;
+    pieces.push_reserved(piece);
+    number
+}

@@ -1,0 +1,100 @@
+// Commands of pieces.
+
+use super::*;
+
+// What a session answers to a request for a piece of the record of a handle.
+fn answer_to_take(
+    session: &mut FifoSession,
+    handle: u64,
+) -> Result<Answer<u64, u64, CacheProperties>> {
+    Ok(session.step(Plain::TakePiece(handle))?.answer)
+}
+
+// The number of the piece that an answer hands out.
+fn piece_number(answer: &Answer<u64, u64, CacheProperties>) -> Option<u64> {
+    match answer {
+        Answer::PieceNo(number) => Some(*number),
+        _ => None,
+    }
+}
+
+// Each held piece: its key and its value.
+fn held_pieces(
+    alloc: Global,
+    session: &FifoSession,
+) -> std::result::Result<Vec<(u64, u64)>, AllocError> {
+    let mut held = Vec::new(alloc);
+    for piece in &session.pieces {
+        held.push((*piece.key(), *piece.value()))?;
+    }
+    Ok(held)
+}
+
+#[test]
+fn pieces_have_numbers_of_their_own(rt: HostRuntime) -> std::result::Result<(), Fail> {
+    let alloc = rt.alloc();
+    let mut session = session(alloc, 2, Limits::default())?;
+    session.step(insert(1, 10))?;
+    session.step(insert(2, 20))?;
+    assert_eq!(rt; piece_number(&answer_to_take(&mut session, 1)?), Some(0));
+    assert_eq!(rt; piece_number(&answer_to_take(&mut session, 0)?), Some(1));
+    assert_eq!(rt; piece_number(&answer_to_take(&mut session, 1)?), Some(2));
+    let held = held_pieces(alloc, &session)?;
+    assert_eq!(rt; held.as_slice(), [(2, 20), (1, 10), (2, 20)].as_slice());
+    Ok(())
+}
+
+#[test]
+fn a_piece_stays_when_its_record_is_gone(rt: HostRuntime) -> std::result::Result<(), Fail> {
+    let alloc = rt.alloc();
+    let mut session = session(alloc, 2, Limits::default())?;
+    session.step(insert(1, 10))?;
+    assert_eq!(rt; piece_number(&answer_to_take(&mut session, 0)?), Some(0));
+    session.step(Plain::Drop(0))?;
+    session.step(Plain::Remove(1))?;
+    session.step(Plain::Drop(1))?;
+    let held = held_pieces(alloc, &session)?;
+    assert_eq!(rt; held.as_slice(), [(1, 10)].as_slice());
+    assert_eq!(rt; session.entries(), 0);
+    Ok(())
+}
+
+#[test]
+fn a_piece_is_no_handle(rt: HostRuntime) -> std::result::Result<(), Fail> {
+    let mut session = session(rt.alloc(), 2, Limits::default())?;
+    session.step(insert(1, 10))?;
+    answer_to_take(&mut session, 0)?;
+    let refs = session.step(Plain::Refs(0))?;
+    assert_eq!(rt; number(&refs.answer), Some(1));
+    let cloned = session.step(Plain::Clone(0))?;
+    assert_eq!(rt; handed_out(&cloned.answer), Some((1, 10)));
+    Ok(())
+}
+
+#[test]
+fn a_handle_that_is_gone_gives_no_piece(rt: HostRuntime) -> std::result::Result<(), Fail> {
+    let mut session = session(rt.alloc(), 2, Limits::default())?;
+    assert!(rt; matches!(answer_to_take(&mut session, 0)?, Answer::NotHeld));
+    session.step(insert(1, 10))?;
+    session.step(Plain::Drop(0))?;
+    assert!(rt; matches!(answer_to_take(&mut session, 0)?, Answer::NotHeld));
+    assert!(rt; session.pieces.is_empty());
+    Ok(())
+}
+
+#[test]
+fn each_command_has_room_for_a_piece(rt: HostRuntime) -> std::result::Result<(), Fail> {
+    let alloc = rt.alloc();
+    let mut session = session(alloc, 2, Limits::default())?;
+    let commands = vec![in alloc;
+        insert(1, 10),
+        Command::TakePiece(0),
+        Command::TakePiece(0),
+        Command::TakePiece(1),
+    ]?;
+    let replies = run_fifo(&mut session, commands)?;
+    assert_eq!(rt; piece_number(&replies[1].answer), Some(0));
+    assert_eq!(rt; piece_number(&replies[2].answer), Some(1));
+    assert!(rt; matches!(replies[3].answer, Answer::NotHeld));
+    Ok(())
+}
