@@ -24,7 +24,7 @@ zip-back R (s ∷ ss) [] h i t there = absurd h
 zip-back R (s ∷ ss) (u ∷ ts) h zero t there = (let is : u ≡ t = cc in (s, refl, subst (λ (x : _). R s x) is h.0))
 zip-back R (s ∷ ss) (u ∷ ts) h (suc i) t there = zip-back R ss ts h.1 i t there
 
-module _ {K V P View S W : Type 0} (core new : Core K V P View S W) (handles : List (Option (Held K V P))) where
+module _ {K V P View S W A : Type 0} (core new : Core K V P View S W A) (handles : List (Option (Held K V P))) where
   -- where the shards have the handles that they had
   alike_owns : AllZip Alike core.shards new.shards → OwnsHandles core handles → OwnsHandles new handles
   alike_owns alike owns = record {
@@ -76,7 +76,7 @@ module _ {K V P View C : Type 0} (m : Meaning K P View C) where
         shared_alike (λ i. f (suc i)) ss us (omega arith) (λ i a there. each (suc i) a there),
       )
 
-  module _ {S W : Type 0} (core : Core K V P View S W) (ls : List (Event × Gone K V P)) (new : Core K V P View S W) (handles : List (Option (Held K V P))) where
+  module _ {S W A : Type 0} (core : Core K V P View S W A) (ls : List (Event × Gone K V P)) (new : Core K V P View S W A) (handles : List (Option (Held K V P))) where
     turn_owns : (step : State K V P View → List (Event × Gone K V P) → State K V P View → Type 0) → ((s u : State K V P View) (own : List (Event × Gone K V P)) → step s own u → Alike s u)
         → OfShards (InTurn step) core ls new → OwnsHandles core handles → OwnsHandles new handles
     turn_owns step alike h owns = alike_owns core new handles (turn-keeps Alike step alike core.shards ls new.shards h.stepped) owns
@@ -99,7 +99,7 @@ module _ {K V P View C : Type 0} (m : Meaning K P View C) where
     pub flushed_owns : (says : K → V → Bool → Type 0) → OfShards (InTurn (EvictsIf m says)) core ls new → OwnsHandles core handles → OwnsHandles new handles
     flushed_owns says h owns = turn_owns (EvictsIf m says) (picked_alike says) h owns
 
-  module _ {S W : Type 0} (capacity : ℕ) (core : Core K V P View S W) (ls : List (Event × Gone K V P)) (new : Core K V P View S W) (handles : List (Option (Held K V P))) where
+  module _ {S W A : Type 0} (capacity : ℕ) (core : Core K V P View S W A) (ls : List (Event × Gone K V P)) (new : Core K V P View S W A) (handles : List (Option (Held K V P))) where
     shared_owns : (shared : List (State K V P View)) → SharesOut m capacity core.shards shared → OwnsHandles core handles → OwnsHandles (record core { capacity = capacity; shards = shared }) handles
     shared_owns shared h owns = alike_owns core (record core { capacity = capacity; shards = shared }) handles (shared_alike (share_of capacity (length core.shards)) core.shards shared h.counted h.each) owns
 
@@ -132,7 +132,7 @@ module _ {K V P View C : Type 0} (m : Meaning K P View C) (says tells : K → V 
   turn_more (s ∷ ss) ls (u ∷ us) h = (h.0, h.1, h.2, evicts_more s h.0 u h.3, turn_more ss h.1 us h.4)
 
   -- what leaves by the one, leaves by the other
-  pub flushes_more : {S W : Type 0} (core : Core K V P View S W) (ls : List (Event × Gone K V P)) (new : Core K V P View S W)
+  pub flushes_more : {S W A : Type 0} (core : Core K V P View S W A) (ls : List (Event × Gone K V P)) (new : Core K V P View S W A)
       → OfShards (InTurn (EvictsIf m says)) core ls new → OfShards (InTurn (EvictsIf m tells)) core ls new
   flushes_more core ls new h = record { stepped = turn_more core.shards ls new.shards h.stepped; rest = h.rest }
 

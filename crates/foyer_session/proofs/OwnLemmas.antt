@@ -105,21 +105,21 @@ held_taken (x ∷ handles) zero (suc j) e h = h
 held_taken (x ∷ handles) (suc n) zero e h = h
 held_taken (x ∷ handles) (suc n) (suc j) e h = held_taken handles n j e h
 
-module _ {K V P View S W : Type 0} (core new : Core K V P View S W) (step : State K V P View → State K V P View → Type 0) (hash : ℕ)
+module _ {K V P View S W A : Type 0} (core new : Core K V P View S W A) (step : State K V P View → State K V P View → Type 0) (hash : ℕ)
     (at : AtShard step hash core new) (number : at.after.number ≡ at.before.number) where
   shards_same : length new.shards ≡ length core.shards
-  shards_same = ap (λ (c : Core K V P View S W). length c.shards) at.rest ∙ length-set core.shards (shard_of core hash) at.after
+  shards_same = ap (λ (c : Core K V P View S W A). length c.shards) at.rest ∙ length-set core.shards (shard_of core hash) at.after
 
   -- what a shard is now
   now_at : (i : ℕ) (s : State K V P View) → slice_get new.shards i ≡ Some s
       → ((i ≡ shard_of core hash) × (s ≡ at.after)) ⊎ ((i ≢ shard_of core hash) × (slice_get core.shards i ≡ Some s))
-  now_at i s h = get_written core.shards (shard_of core hash) at.after i s (sym (ap (λ (c : Core K V P View S W). slice_get c.shards i) at.rest) ∙ h)
+  now_at i s h = get_written core.shards (shard_of core hash) at.after i s (sym (ap (λ (c : Core K V P View S W A). slice_get c.shards i) at.rest) ∙ h)
 
   -- what a shard was is there, with the same number
   was_at : (h : ℕ) (s : State K V P View) → shard_at core h ≡ Some s → (t : State K V P View) × (shard_at new h ≡ Some t) × (t.number ≡ s.number)
   was_at h s e =
       let place : shard_at new h ≡ slice_get (slice_set core.shards (shard_of core hash) at.after) (shard_of core h) =
-      ap (λ (n : ℕ). slice_get new.shards (h % n)) shards_same ∙ ap (λ (c : Core K V P View S W). slice_get c.shards (shard_of core h)) at.rest in
+      ap (λ (n : ℕ). slice_get new.shards (h % n)) shards_same ∙ ap (λ (c : Core K V P View S W A). slice_get c.shards (shard_of core h)) at.rest in
       elim (written_get core.shards (shard_of core hash) at.after (shard_of core h) s e) [
         | inl w ↦ (let was : ◌≡◌ {A = Option (State K V P View)} (Some at.before) (Some s) = sym at.there ∙ ap (λ (j : ℕ). slice_get core.shards j) (sym w.0) ∙ e in
             let same : at.before ≡ s = cc in
@@ -177,11 +177,11 @@ module _ {K V P View S W : Type 0} (core new : Core K V P View S W) (step : Stat
   }
 
 -- nothing was handed out
-pub owns_none : {K V P View S W : Type 0} (core : Core K V P View S W) → OwnsHandles core []
+pub owns_none : {K V P View S W A : Type 0} (core : Core K V P View S W A) → OwnsHandles core []
 owns_none core = record { numbered = λ n e h. absurd cc; counts = λ i s h id. omega arith }
 
 -- a held handle is the core's
-pub owned_entry : {K V P View S W : Type 0} (core : Core K V P View S W) (handles : List (Option (Held K V P))) (n : ℕ) (entry : Held K V P)
+pub owned_entry : {K V P View S W A : Type 0} (core : Core K V P View S W A) (handles : List (Option (Held K V P))) (n : ℕ) (entry : Held K V P)
     → OwnsHandles core handles → held_at handles n ≡ Some entry → Owns core entry
 owned_entry core handles n entry owns there =
     let s = owns.numbered n entry there in
@@ -191,7 +191,7 @@ owned_entry core handles n entry owns there =
     rw s.1 (s.2, omega (arith, c, t, one))
 
 -- the same where it is only known that the core owns the handles
-pub owned_held : {K V P View S W : Type 0} (core : Core K V P View S W) (handles : List (Option (Held K V P))) (n : ℕ) (entry : Held K V P)
+pub owned_held : {K V P View S W A : Type 0} (core : Core K V P View S W A) (handles : List (Option (Held K V P))) (n : ℕ) (entry : Held K V P)
     → ∥ OwnsHandles core handles ∥₁ → held_at handles n ≡ Some entry → Owns core entry
 owned_held {K} {V} {P} {View} core handles n entry owns there = go (shard_at core entry.kept.hash) refl
   where
@@ -200,7 +200,7 @@ owned_held {K} {V} {P} {View} core handles n entry owns there = go (shard_at cor
     go (Some s) is = rw is (∥∥₁_elim owns (hlevel props) (λ o. rw is at (owned_entry core handles n entry o there)))
 
 -- where the shard of a hash stays, all does
-pub shard_same : {K V P View S W : Type 0} (core new : Core K V P View S W) (step : State K V P View → State K V P View → Type 0) (hash : ℕ)
+pub shard_same : {K V P View S W A : Type 0} (core new : Core K V P View S W A) (step : State K V P View → State K V P View → Type 0) (hash : ℕ)
     (at : AtShard step hash core new) → at.after ≡ at.before → new ≡ core
 shard_same core new step hash at same =
     at.rest ∙ ap (λ (l : List (State _ _ _ _)). record core { shards = l }) (ap (λ (x : State _ _ _ _). slice_set core.shards (shard_of core hash) x) same ∙ set_same core.shards (shard_of core hash) at.before at.there)

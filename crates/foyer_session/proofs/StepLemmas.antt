@@ -19,7 +19,7 @@ use Rattle.foyer_session.proofs.OwnLemmas.{owns_same, owns_more, owns_less, owne
 some_same : {A : Type 0} {a b : A} → ◌≡◌ {A = Option A} (Some a) (Some b) → a ≡ b
 some_same h = cc
 
-module _ {K V P View C S W : Type 0} (m : Meaning K P View C) (core new : Core K V P View S W) (handles : List (Option (Held K V P))) (owns : OwnsHandles core handles) where
+module _ {K V P View C S W A : Type 0} (m : Meaning K P View C) (core new : Core K V P View S W A) (handles : List (Option (Held K V P))) (owns : OwnsHandles core handles) where
   -- a record came in, under an id of which there was no handle
   pub inserted_owns : (d : Data K V P) (leaves : List (Event × Gone K V P)) (entry : Held K V P) (at : AtShard (λ s t. Inserts m s d leaves entry t) d.hash core new)
       → handles_in at.before entry.id ≡ 0 → OwnsHandles new (handles ++ Some (record entry { left = false }) ∷ [])
@@ -80,16 +80,16 @@ refusal_same old new id NoMemory h = h.3
 refusal_same old new id _ h = absurd h
 
 -- a refused clone changes no core
-pub clone_refused : {K V P View S W : Type 0} (core new : Core K V P View S W) (entry : Held K V P) (reason : Reason)
+pub clone_refused : {K V P View S W A : Type 0} (core new : Core K V P View S W A) (entry : Held K V P) (reason : Reason)
     → AtShard (λ s t. ClonesHandle s entry (Err reason) t) entry.kept.hash core new → new ≡ core
 clone_refused core new entry reason at =
     shard_same core new (λ s t. ClonesHandle s entry (Err reason) t) entry.kept.hash at (refusal_same at.before at.after entry.id reason at.stepped)
 
 -- a session whose core stays, stays
-pub session_same : {K V P View S W : Type 0} (old : SessionState K V P View S W) (new : Core K V P View S W) → new ≡ old.core → record old { core = new } ≡ old
-session_same {K} {V} {P} {View} {S} {W} old new same = ap (λ (c : Core K V P View S W). record old { core = c }) same
+pub session_same : {K V P View S W A : Type 0} (old : SessionState K V P View S W A) (new : Core K V P View S W A) → new ≡ old.core → record old { core = new } ≡ old
+session_same {K} {V} {P} {View} {S} {W} {A} old new same = ap (λ (c : Core K V P View S W A). record old { core = c }) same
 
-module _ {K V P View C S W : Type 0} (m : Meaning K P View C) (core new : Core K V P View S W) (k : ℕ × K) where
+module _ {K V P View C S W A : Type 0} (m : Meaning K P View C) (core new : Core K V P View S W A) (k : ℕ × K) where
   hit_there : (at : State K V P View) → shard_at core k.0 ≡ Some at → hit at k ≡ None → hit_in core k ≡ None
   hit_there at there none = ap (option_and_then (λ s. hit s k)) there ∙ none
 
@@ -126,8 +126,8 @@ module _ {K V P View C S W : Type 0} (m : Meaning K P View C) (core new : Core K
       shard_same core new (λ s t. Removes m s k (Err reason) t) k.0 at (refusal_same at.before at.after at.stepped.0 reason at.stepped.2)
 
 -- and owns what it owned
-pub owns_still : {K V P View S W : Type 0} (core new : Core K V P View S W) (handles : List (Option (Held K V P))) → new ≡ core → ∥ OwnsHandles core handles ∥₁ → ∥ OwnsHandles new handles ∥₁
-owns_still core new handles same owns = subst (λ (c : Core _ _ _ _ _ _). ∥ OwnsHandles c handles ∥₁) (sym same) owns
+pub owns_still : {K V P View S W A : Type 0} (core new : Core K V P View S W A) (handles : List (Option (Held K V P))) → new ≡ core → ∥ OwnsHandles core handles ∥₁ → ∥ OwnsHandles new handles ∥₁
+owns_still core new handles same owns = subst (λ (c : Core _ _ _ _ _ _ _). ∥ OwnsHandles c handles ∥₁) (sym same) owns
 
 -- a list of no length has nothing
 pub empty_of : {A : Type 0} (xs : List A) → length xs ≡ 0 → xs ≡ []

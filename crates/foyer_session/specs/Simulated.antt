@@ -3,7 +3,7 @@ use Rattle.std.specs.Prelude.{◌≡◌, ℕ, Bool, true, false, List, [], ◌++
 use Rattle.foyer_policy.specs.declared.types.Event.{Event}
 use Rattle.foyer_policy.specs.declared.types.Hint.TheVariants.{Normal}
 use Rattle.foyer_core.specs.Values.{Gone, Answered}
-use Rattle.foyer_core.specs.State.{Meaning}
+use Rattle.foyer_core.specs.State.{Meaning, coming_in}
 use Rattle.foyer_core.specs.Core.{usage_of_core, entries_of_core}
 use Rattle.foyer_session.specs.declared.command.Answer.{Answer}
 use Rattle.foyer_session.specs.declared.command.Command.{Command}
@@ -20,9 +20,14 @@ use Rattle.foyer_session.specs.Terms.{Terms}
 abbrev pub sim_weighs : {W : Type 0} → W → ℕ → SimValue → ℕ → Type 0
 sim_weighs weighter key value weight = weight ≡ value.weight
 
--- what a session of a program is over: its records come in with their own properties
-abbrev pub sim_terms : {View C S W : Type 0} → Meaning ℕ Answered View C → (S → ℕ → ℕ) → Terms ℕ SimValue Answered View C S W
-sim_terms m hash = record { meaning = m; hash = hash; weighs = sim_weighs; incoming = λ p. p }
+-- each record is admitted
+abbrev pub sim_admits : {A : Type 0} → A → ℕ → SimValue → Bool → Type 0
+sim_admits filter key value admitted = admitted ≡ true
+
+-- what a session of a program is over: its records are to be nowhere, and come in with their own properties where
+-- they are admitted
+abbrev pub sim_terms : {View C S W A : Type 0} → Meaning ℕ Answered View C → (S → ℕ → ℕ) → Terms ℕ SimValue Answered View C S W A
+sim_terms m hash = record { meaning = m; hash = hash; weighs = sim_weighs; admits = sim_admits; incoming = coming_in (λ p. None) (λ p b. record p { phantom = Some b }) }
 
 -- a program's commands have no predicate that picks
 abbrev pub no_picks : NoPredicate → ℕ → SimValue → Bool → Type 0
@@ -36,22 +41,22 @@ plain = record { phantom = None; hint = Normal }
 abbrev pub phantom : Answered
 phantom = record { phantom = Some true; hint = Normal }
 
-module _ {View C S W : Type 0} (m : Meaning ℕ Answered View C) where
+module _ {View C S W A : Type 0} (m : Meaning ℕ Answered View C) where
   -- a printed line: the answer, what left, and usage and entries then
-  abbrev pub line_text : List ℕ → List (Event × Gone ℕ SimValue Answered) → SessionState ℕ SimValue Answered View S W → List ℕ
+  abbrev pub line_text : List ℕ → List (Event × Gone ℕ SimValue Answered) → SessionState ℕ SimValue Answered View S W A → List ℕ
   line_text answer leaves s = answer ++ rest_text leaves (usage_of_core m s.core) (entries_of_core m s.core)
 
 -- `hash` is what a hash builder gives a key.
-module _ {View C S W : Type 0} (m : Meaning ℕ Answered View C) (hash : S → ℕ → ℕ) where
+module _ {View C S W A : Type 0} (m : Meaning ℕ Answered View C) (hash : S → ℕ → ℕ) where
   -- a command is a step, or is refused for want of memory before it is made
-  abbrev pub CommandTold : SessionState ℕ SimValue Answered View S W → Command ℕ SimValue Answered NoPredicate → List ℕ → SessionState ℕ SimValue Answered View S W → Type 0
+  abbrev pub CommandTold : SessionState ℕ SimValue Answered View S W A → Command ℕ SimValue Answered NoPredicate → List ℕ → SessionState ℕ SimValue Answered View S W A → Type 0
   CommandTold old command text new =
       ((answer : Answer ℕ SimValue Answered) × (leaves : List (Event × Gone ℕ SimValue Answered))
       × Step (sim_terms m hash) no_picks old command answer leaves new × (text ≡ line_text m (answer_text answer) leaves new))
       ⊎ ((text ≡ line_text m (refusal_text 7) [] new) × (new ≡ old))
 
   -- the text of a line, and the state then
-  abbrev pub LineTold : SessionState ℕ SimValue Answered View S W → Line → List ℕ → SessionState ℕ SimValue Answered View S W → Type 0
+  abbrev pub LineTold : SessionState ℕ SimValue Answered View S W A → Line → List ℕ → SessionState ℕ SimValue Answered View S W A → Type 0
   LineTold old Blank text new = (text ≡ []) × (new ≡ old)
   LineTold old Bad text new = (text ≡ line_text m (codes "bad line") [] new) × (new ≡ old)
   LineTold old (InsertLine key value weight) text new = CommandTold old (Insert key (record { value = value; weight = weight }) plain) text new

@@ -17,8 +17,8 @@ use Rattle.foyer_session.specs.declared.command.Command.TheVariants.{Insert, Get
 use Rattle.foyer_session.specs.Terms.{Terms}
 
 -- a core with what was handed out, in order: the handles, each held or gone, and the pieces, which stay held
-pub record SessionState (K V P View S W : Type 0) : Type 0 where
-  pub core : Core K V P View S W
+pub record SessionState (K V P View S W A : Type 0) : Type 0 where
+  pub core : Core K V P View S W A
   pub handles : List (Option (Held K V P))
   pub pieces : List (Carried K V P)
 
@@ -40,43 +40,43 @@ leaves_of None = []
 leaves_of (Some leave) = leave ∷ []
 
 -- the handles and the pieces are those from before
-abbrev pub KeepsTables : {K V P View S W : Type 0} → SessionState K V P View S W → SessionState K V P View S W → Type 0
+abbrev pub KeepsTables : {K V P View S W A : Type 0} → SessionState K V P View S W A → SessionState K V P View S W A → Type 0
 KeepsTables old new = (new.handles ≡ old.handles) × (new.pieces ≡ old.pieces)
 
 -- one more handle is handed out under this number, with what tells its record
-pub record HandsOut {K V P View S W : Type 0} (old : SessionState K V P View S W) (number : ℕ) (told : Gone K V P) (entry : Held K V P) (new : SessionState K V P View S W) : Type 0 where
+pub record HandsOut {K V P View S W A : Type 0} (old : SessionState K V P View S W A) (number : ℕ) (told : Gone K V P) (entry : Held K V P) (new : SessionState K V P View S W A) : Type 0 where
   pub numbered : number ≡ length old.handles
   pub tells : told ≡ record_of entry
   pub handles : new.handles ≡ old.handles ++ Some (record entry { left = false }) ∷ []
   pub pieces : new.pieces ≡ old.pieces
 
 -- a question whose answer is this number; nothing changes
-abbrev pub NumberStep : {K V P View S W : Type 0} → ℕ → SessionState K V P View S W → Answer K V P → List (Event × Gone K V P) → SessionState K V P View S W → Type 0
+abbrev pub NumberStep : {K V P View S W A : Type 0} → ℕ → SessionState K V P View S W A → Answer K V P → List (Event × Gone K V P) → SessionState K V P View S W A → Type 0
 NumberStep count old (Number told) leaves new = (told ≡ count) × (leaves ≡ []) × (new ≡ old)
 NumberStep count old _ leaves new = ⊥
 
-module _ {K V P View C S W : Type 0} (t : Terms K V P View C S W) where
+module _ {K V P View C S W A : Type 0} (t : Terms K V P View C S W A) where
   -- the hash of a key
-  abbrev pub hash_in : SessionState K V P View S W → K → ℕ
+  abbrev pub hash_in : SessionState K V P View S W A → K → ℕ
   hash_in s k = t.hash s.core.hash_builder k
 
-  -- what comes in
-  abbrev pub data_of : SessionState K V P View S W → K → V → P → ℕ → Data K V P
-  data_of s k v p weight = record { key = k; value = v; properties = t.incoming p; hash = hash_in s k; weight = weight }
+  -- what comes in, by what the weighter and the filter answered
+  abbrev pub data_of : SessionState K V P View S W A → K → V → P → ℕ → Bool → Data K V P
+  data_of s k v p weight admitted = record { key = k; value = v; properties = t.incoming admitted p; hash = hash_in s k; weight = weight }
 
   -- what an insert answers, what leaves, and the state then
-  abbrev pub InsertStep : SessionState K V P View S W → K → V → P → Answer K V P → List (Event × Gone K V P) → SessionState K V P View S W → Type 0
+  abbrev pub InsertStep : SessionState K V P View S W A → K → V → P → Answer K V P → List (Event × Gone K V P) → SessionState K V P View S W A → Type 0
   InsertStep old k v p (Entry number told answers) leaves new =
-      (weight : ℕ) × (entry : Held K V P) × t.weighs old.core.weighter k v weight
-      × AtShard (λ s u. Inserts t.meaning s (data_of old k v p weight) leaves entry u) (hash_in old k) old.core new.core
+      (weight : ℕ) × (admitted : Bool) × (entry : Held K V P) × t.weighs old.core.weighter k v weight × t.admits old.core.filter k v admitted
+      × AtShard (λ s u. Inserts t.meaning s (data_of old k v p weight admitted) leaves entry u) (hash_in old k) old.core new.core
       × HandsOut old number told entry new × (answers ≡ [])
   InsertStep old k v p (Refused reason) leaves new =
-      (weight : ℕ) × t.weighs old.core.weighter k v weight
-      × AtShard (λ s u. RefusesInsert t.meaning s (data_of old k v p weight) reason leaves u) (hash_in old k) old.core new.core
+      (weight : ℕ) × (admitted : Bool) × t.weighs old.core.weighter k v weight × t.admits old.core.filter k v admitted
+      × AtShard (λ s u. RefusesInsert t.meaning s (data_of old k v p weight admitted) reason leaves u) (hash_in old k) old.core new.core
       × KeepsTables old new
   InsertStep old k v p _ leaves new = ⊥
 
-  abbrev pub GetStep : SessionState K V P View S W → K → Answer K V P → List (Event × Gone K V P) → SessionState K V P View S W → Type 0
+  abbrev pub GetStep : SessionState K V P View S W A → K → Answer K V P → List (Event × Gone K V P) → SessionState K V P View S W A → Type 0
   GetStep old k (Found number told) leaves new =
       (entry : Held K V P)
       × AtShard (λ s u. Gets t.meaning s (hash_in old k, k) (Ok (Some entry)) u) (hash_in old k) old.core new.core
@@ -86,12 +86,12 @@ module _ {K V P View C S W : Type 0} (t : Terms K V P View C S W) where
       AtShard (λ s u. Gets t.meaning s (hash_in old k, k) (Err reason) u) (hash_in old k) old.core new.core × (leaves ≡ []) × (new ≡ old)
   GetStep old k _ leaves new = ⊥
 
-  abbrev pub ContainsStep : SessionState K V P View S W → K → Answer K V P → List (Event × Gone K V P) → SessionState K V P View S W → Type 0
+  abbrev pub ContainsStep : SessionState K V P View S W A → K → Answer K V P → List (Event × Gone K V P) → SessionState K V P View S W A → Type 0
   ContainsStep old k Yes leaves new = (is_some (hit_in old.core (hash_in old k, k)) ≡ true) × (leaves ≡ []) × (new ≡ old)
   ContainsStep old k No leaves new = (is_some (hit_in old.core (hash_in old k, k)) ≡ false) × (leaves ≡ []) × (new ≡ old)
   ContainsStep old k _ leaves new = ⊥
 
-  abbrev pub TouchStep : SessionState K V P View S W → K → Answer K V P → List (Event × Gone K V P) → SessionState K V P View S W → Type 0
+  abbrev pub TouchStep : SessionState K V P View S W A → K → Answer K V P → List (Event × Gone K V P) → SessionState K V P View S W A → Type 0
   TouchStep old k Yes leaves new =
       AtShard (λ s u. Touches t.meaning s (hash_in old k, k) (Ok true) u) (hash_in old k) old.core new.core × (leaves ≡ []) × KeepsTables old new
   TouchStep old k No leaves new = (hit_in old.core (hash_in old k, k) ≡ None) × (leaves ≡ []) × (new ≡ old)
@@ -99,7 +99,7 @@ module _ {K V P View C S W : Type 0} (t : Terms K V P View C S W) where
       AtShard (λ s u. Touches t.meaning s (hash_in old k, k) (Err reason) u) (hash_in old k) old.core new.core × (leaves ≡ []) × (new ≡ old)
   TouchStep old k _ leaves new = ⊥
 
-  abbrev pub RemoveStep : SessionState K V P View S W → K → Answer K V P → List (Event × Gone K V P) → SessionState K V P View S W → Type 0
+  abbrev pub RemoveStep : SessionState K V P View S W A → K → Answer K V P → List (Event × Gone K V P) → SessionState K V P View S W A → Type 0
   RemoveStep old k (Found number told) leaves new =
       (entry : Held K V P) × (gone : Gone K V P)
       × AtShard (λ s u. Removes t.meaning s (hash_in old k, k) (Ok (Some (entry, gone))) u) (hash_in old k) old.core new.core
@@ -109,7 +109,7 @@ module _ {K V P View C S W : Type 0} (t : Terms K V P View C S W) where
       AtShard (λ s u. Removes t.meaning s (hash_in old k, k) (Err reason) u) (hash_in old k) old.core new.core × (leaves ≡ []) × (new ≡ old)
   RemoveStep old k _ leaves new = ⊥
 
-  abbrev pub CloneStep : SessionState K V P View S W → ℕ → Answer K V P → List (Event × Gone K V P) → SessionState K V P View S W → Type 0
+  abbrev pub CloneStep : SessionState K V P View S W A → ℕ → Answer K V P → List (Event × Gone K V P) → SessionState K V P View S W A → Type 0
   CloneStep old n (Found number told) leaves new =
       (entry : Held K V P) × (clone : Held K V P) × (held_at old.handles n ≡ Some entry)
       × AtShard (λ s u. ClonesHandle s entry (Ok clone) u) entry.kept.hash old.core new.core
@@ -120,7 +120,7 @@ module _ {K V P View C S W : Type 0} (t : Terms K V P View C S W) where
   CloneStep old n NotHeld leaves new = (held_at old.handles n ≡ None) × (leaves ≡ []) × (new ≡ old)
   CloneStep old n _ leaves new = ⊥
 
-  abbrev pub DropStep : SessionState K V P View S W → ℕ → Answer K V P → List (Event × Gone K V P) → SessionState K V P View S W → Type 0
+  abbrev pub DropStep : SessionState K V P View S W A → ℕ → Answer K V P → List (Event × Gone K V P) → SessionState K V P View S W A → Type 0
   DropStep old n Done leaves new =
       (entry : Held K V P) × (leave : Option (Event × Gone K V P)) × (held_at old.handles n ≡ Some entry)
       × AtShard (λ s u. GivesBack t.meaning s entry.id leave u) entry.kept.hash old.core new.core
@@ -129,7 +129,7 @@ module _ {K V P View C S W : Type 0} (t : Terms K V P View C S W) where
   DropStep old n _ leaves new = ⊥
 
   -- a piece of the record of a handle is handed out, or nothing changes
-  abbrev pub TakePieceStep : SessionState K V P View S W → ℕ → Answer K V P → List (Event × Gone K V P) → SessionState K V P View S W → Type 0
+  abbrev pub TakePieceStep : SessionState K V P View S W A → ℕ → Answer K V P → List (Event × Gone K V P) → SessionState K V P View S W A → Type 0
   TakePieceStep old n (PieceNo number) leaves new =
       (entry : Held K V P) × (held_at old.handles n ≡ Some entry) × (number ≡ length old.pieces)
       × (leaves ≡ []) × (new ≡ record old { pieces = old.pieces ++ piece_of entry ∷ [] })
@@ -137,13 +137,13 @@ module _ {K V P View C S W : Type 0} (t : Terms K V P View C S W) where
   TakePieceStep old n NotHeld leaves new = (held_at old.handles n ≡ None) × (leaves ≡ []) × (new ≡ old)
   TakePieceStep old n _ leaves new = ⊥
 
-  abbrev pub RefsStep : SessionState K V P View S W → ℕ → Answer K V P → List (Event × Gone K V P) → SessionState K V P View S W → Type 0
+  abbrev pub RefsStep : SessionState K V P View S W A → ℕ → Answer K V P → List (Event × Gone K V P) → SessionState K V P View S W A → Type 0
   RefsStep old n (Number count) leaves new =
       (entry : Held K V P) × (held_at old.handles n ≡ Some entry) × (count ≡ refs_in old.core entry) × (leaves ≡ []) × (new ≡ old)
   RefsStep old n NotHeld leaves new = (held_at old.handles n ≡ None) × (leaves ≡ []) × (new ≡ old)
   RefsStep old n _ leaves new = ⊥
 
-  abbrev pub OutdatedStep : SessionState K V P View S W → ℕ → Answer K V P → List (Event × Gone K V P) → SessionState K V P View S W → Type 0
+  abbrev pub OutdatedStep : SessionState K V P View S W A → ℕ → Answer K V P → List (Event × Gone K V P) → SessionState K V P View S W A → Type 0
   OutdatedStep old n Yes leaves new =
       (entry : Held K V P) × (held_at old.handles n ≡ Some entry) × IsOutdatedIn old.core entry × (leaves ≡ []) × (new ≡ old)
   OutdatedStep old n No leaves new =
@@ -152,26 +152,26 @@ module _ {K V P View C S W : Type 0} (t : Terms K V P View C S W) where
   OutdatedStep old n _ leaves new = ⊥
 
   -- all that is in leaves, or nothing changes
-  abbrev pub ClearStep : SessionState K V P View S W → Answer K V P → List (Event × Gone K V P) → SessionState K V P View S W → Type 0
+  abbrev pub ClearStep : SessionState K V P View S W A → Answer K V P → List (Event × Gone K V P) → SessionState K V P View S W A → Type 0
   ClearStep old Done leaves new = OfShards (InTurn (Clears t.meaning)) old.core leaves new.core × KeepsTables old new
   ClearStep old (Refused NoMemory) leaves new = (leaves ≡ []) × (new ≡ old)
   ClearStep old _ leaves new = ⊥
 
   -- all that is not pinned leaves, or some beginning of it
-  abbrev pub EvictAllStep : SessionState K V P View S W → Answer K V P → List (Event × Gone K V P) → SessionState K V P View S W → Type 0
+  abbrev pub EvictAllStep : SessionState K V P View S W A → Answer K V P → List (Event × Gone K V P) → SessionState K V P View S W A → Type 0
   EvictAllStep old Done leaves new = OfShards (InTurn (EvictsUnpinned t.meaning)) old.core leaves new.core × KeepsTables old new
   EvictAllStep old (Refused NoMemory) leaves new =
       OfShards (InTurnUntil (EvictsUnpinned t.meaning) (EvictingUnpinned t.meaning)) old.core leaves new.core × KeepsTables old new
   EvictAllStep old _ leaves new = ⊥
 
   -- what the predicate picks leaves, or nothing changes; `says` is what it may answer
-  abbrev pub FlushIfStep : SessionState K V P View S W → (K → V → Bool → Type 0) → Answer K V P → List (Event × Gone K V P) → SessionState K V P View S W → Type 0
+  abbrev pub FlushIfStep : SessionState K V P View S W A → (K → V → Bool → Type 0) → Answer K V P → List (Event × Gone K V P) → SessionState K V P View S W A → Type 0
   FlushIfStep old says Done leaves new = OfShards (InTurn (EvictsIf t.meaning says)) old.core leaves new.core × KeepsTables old new
   FlushIfStep old says (Refused NoMemory) leaves new = (leaves ≡ []) × (new ≡ old)
   FlushIfStep old says _ leaves new = ⊥
 
   -- all capacities are set, and the evictions to them leave, or some beginning of those
-  abbrev pub ResizeStep : SessionState K V P View S W → ℕ → Answer K V P → List (Event × Gone K V P) → SessionState K V P View S W → Type 0
+  abbrev pub ResizeStep : SessionState K V P View S W A → ℕ → Answer K V P → List (Event × Gone K V P) → SessionState K V P View S W A → Type 0
   ResizeStep old capacity Done leaves new =
       Resizes t.meaning (InTurn (EvictsToCapacity t.meaning)) capacity old.core leaves new.core × KeepsTables old new
   ResizeStep old capacity (Refused NoMemory) leaves new =
@@ -179,9 +179,9 @@ module _ {K V P View C S W : Type 0} (t : Terms K V P View C S W) where
   ResizeStep old capacity _ leaves new = ⊥
 
 -- `picks` is what a predicate may answer of a key and a value.
-module _ {K V P View C S W Q : Type 0} (t : Terms K V P View C S W) (picks : Q → K → V → Bool → Type 0) where
+module _ {K V P View C S W A Q : Type 0} (t : Terms K V P View C S W A) (picks : Q → K → V → Bool → Type 0) where
   -- what a session answers to a command, what leaves, and the state then
-  abbrev pub Step : SessionState K V P View S W → Command K V P Q → Answer K V P → List (Event × Gone K V P) → SessionState K V P View S W → Type 0
+  abbrev pub Step : SessionState K V P View S W A → Command K V P Q → Answer K V P → List (Event × Gone K V P) → SessionState K V P View S W A → Type 0
   Step old (Insert k v p) answer leaves new = InsertStep t old k v p answer leaves new
   Step old (Get k) answer leaves new = GetStep t old k answer leaves new
   Step old (Contains k) answer leaves new = ContainsStep t old k answer leaves new

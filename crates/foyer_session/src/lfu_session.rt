@@ -10,7 +10,7 @@ ghost use Rattle.foyer_session.specs.Terms.{with_policy};
 use crate::command::{Command, Reply};
 use crate::predicate::Predicate;
 use crate::session::Session;
-use foyer_core::Weighter;
+use foyer_core::{Filter, Weighter};
 use foyer_policy::{HashBuilder, Key, Lfu, Properties, Result, Value};
 
 /// Carries out commands as `Session::run` does. What leaves is the first of the window or of probation, by
@@ -21,9 +21,10 @@ pub fn run_lfu<
     P: Properties,
     S: HashBuilder,
     W: Weighter<K, V>,
+    A: Filter<K, V>,
     Q: Predicate<K, V>,
 >(
-    session: &mut Session<Lfu, K, V, P, S, W>,
+    session: &mut Session<Lfu, K, V, P, S, W, A>,
     commands: Vec<Command<K, V, P, Q>>,
 ) -> Result<Vec<Reply<K, V, P>>>
     requires clones { (k c : K) → K.is_clone k c → K.eq c k ≡ true }

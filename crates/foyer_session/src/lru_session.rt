@@ -10,7 +10,7 @@ ghost use Rattle.foyer_session.specs.Terms.{with_policy};
 use crate::command::{Command, Reply};
 use crate::predicate::Predicate;
 use crate::session::Session;
-use foyer_core::Weighter;
+use foyer_core::{Filter, Weighter};
 use foyer_policy::{HashBuilder, Key, Lru, Properties, Result, Value};
 
 /// Carries out commands as `Session::run` does. What leaves is what was released or came in longest ago, of
@@ -21,9 +21,10 @@ pub fn run_lru<
     P: Properties,
     S: HashBuilder,
     W: Weighter<K, V>,
+    A: Filter<K, V>,
     Q: Predicate<K, V>,
 >(
-    session: &mut Session<Lru, K, V, P, S, W>,
+    session: &mut Session<Lru, K, V, P, S, W, A>,
     commands: Vec<Command<K, V, P, Q>>,
 ) -> Result<Vec<Reply<K, V, P>>>
     requires clones { (k c : K) → K.is_clone k c → K.eq c k ≡ true }

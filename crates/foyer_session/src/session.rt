@@ -7,7 +7,7 @@ ghost use Rattle.foyer_session.specs.Owns.{OwnsHandles};
 
 use crate::command::{Answer, Command, Reply};
 use crate::predicate::Predicate;
-use foyer_core::{CacheCore, HashTableIndexer, Indexer, Piece, Weighter};
+use foyer_core::{CacheCore, Filter, HashTableIndexer, Indexer, Piece, Weighter};
 use foyer_policy::{Error, Eviction, HashBuilder, Key, Properties, Reason, Result, Value};
 use std::alloc::Global;
 
@@ -34,9 +34,10 @@ pub struct Session<
     P: Properties,
     S: HashBuilder,
     W: Weighter<K, V>,
+    A: Filter<K, V>,
     I: Indexer<K> = HashTableIndexer<K>,
 > {
-    core: CacheCore<E, K, V, P, S, W, (), I>,
+    core: CacheCore<E, K, V, P, S, W, A, (), I>,
     handles: Vec<Handle<K, V, P>>,
     pieces: Vec<Piece<K, V, P>>,
     alloc: Global,
@@ -50,15 +51,16 @@ impl<
     P: Properties,
     S: HashBuilder,
     W: Weighter<K, V>,
+    A: Filter<K, V>,
     I: Indexer<K>,
-> Session<E, K, V, P, S, W, I> {
+> Session<E, K, V, P, S, W, A, I> {
     ghost use Rattle.foyer_core.specs.Core.{usage_of_core, entries_of_core};
     ghost use Rattle.foyer_session.specs.Run.{Run};
     ghost use Rattle.foyer_session.specs.Sessions.{session_of, meaning_of_session, terms_of};
     ghost use Rattle.foyer_session.specs.Step.{NumberStep, Step};
 
     /// A session over a core, which has handed nothing out.
-    pub fn new(alloc: Global, core: CacheCore<E, K, V, P, S, W, (), I>) -> Self
+    pub fn new(alloc: Global, core: CacheCore<E, K, V, P, S, W, A, (), I>) -> Self
         ensures core { (session_of result).core ≡ core_of core }
         ensures handles { (session_of result).handles ≡ [] }
         ensures pieces { (session_of result).pieces ≡ [] }

@@ -11,7 +11,7 @@ ghost use Rattle.foyer_session.specs.Terms.{with_policy};
 use crate::command::{Command, Reply};
 use crate::predicate::Predicate;
 use crate::session::Session;
-use foyer_core::Weighter;
+use foyer_core::{Filter, Weighter};
 use foyer_policy::{HashBuilder, Key, Properties, Result, Sieve, Value};
 
 /// Carries out commands as `Session::run` does. What leaves is the first record from the hand on that was
@@ -22,9 +22,10 @@ pub fn run_sieve<
     P: Properties,
     S: HashBuilder,
     W: Weighter<K, V>,
+    A: Filter<K, V>,
     Q: Predicate<K, V>,
 >(
-    session: &mut Session<Sieve, K, V, P, S, W>,
+    session: &mut Session<Sieve, K, V, P, S, W, A>,
     commands: Vec<Command<K, V, P, Q>>,
 ) -> Result<Vec<Reply<K, V, P>>>
     requires clones { (k c : K) → K.is_clone k c → K.eq c k ≡ true }

@@ -8,7 +8,7 @@ ghost use Rattle.foyer_session.specs.Told.{TellsAll, TellsPart};
 
 use crate::session::Session;
 use crate::text::read_line;
-use foyer_core::{CacheProperties, Indexer};
+use foyer_core::{AdmitAll, CacheProperties, Indexer};
 use foyer_policy::{Eviction, HashBuilder};
 use std::io;
 use std::io::{BufRead, ErrorKind, Write};
@@ -30,7 +30,7 @@ pub use value::{SimValue, SimWeighter};
 pub fn simulate<R: BufRead, W: Write, E: Eviction, S: HashBuilder, I: Indexer<u64>>(
     reader: &mut R,
     writer: &mut W,
-    session: &mut Session<E, u64, SimValue, CacheProperties, S, SimWeighter, I>,
+    session: &mut Session<E, u64, SimValue, CacheProperties, S, SimWeighter, AdmitAll, I>,
 ) -> io::Result<()>
     ensures all { OnOk result (TellsAll (LineTold (meaning_of_session session.old) (λ builder key. S.hash_of builder (u64_input key)))
         (session_of session.old) (session_of session.new) (R.remaining reader.old) (W.contents writer.old) (W.contents writer.new)) }

@@ -2,7 +2,7 @@
 //! cache of this policy, and prints the reply to each.
 #![tactic(auto)]
 
-use foyer_core::{CacheCore, Limits, RawCacheConfig};
+use foyer_core::{AdmitAll, CacheCore, Limits, RawCacheConfig};
 use foyer_policy::{Eviction, Fifo, Lfu, Lru, ModHasher, S3Fifo, Sieve};
 use foyer_session::{Session, SimArgs, SimPolicy, SimWeighter, sim_args, simulate};
 use std::env;
@@ -70,10 +70,11 @@ fn run_policy<E: Eviction>(rt: &HostRuntime, args: SimArgs) -> Result<(), Failur
         eviction_config: E::Config::default(),
         hash_builder: ModHasher::default(),
         weighter: SimWeighter,
+        filter: AdmitAll,
         number: 0,
         limits: Limits::default(),
     };
-    let Ok(core) = CacheCore::<E, _, _, _, _, _, _>::new(alloc, config) else {
+    let Ok(core) = CacheCore::<E, _, _, _, _, _, _, _>::new(alloc, config) else {
         return Err(Failure::Memory);
     };
     let mut session = Session::new(alloc, core);

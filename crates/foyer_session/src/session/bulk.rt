@@ -5,7 +5,7 @@ ghost use Rattle.std.specs.Prelude.{◌≡◌, vec_len, vec_capacity};
 use super::Session;
 use crate::command::{Answer, Reply};
 use crate::predicate::Predicate;
-use foyer_core::{Indexer, Refused, Weighter};
+use foyer_core::{Filter, Indexer, Refused, Weighter};
 use foyer_policy::{Eviction, HashBuilder, Key, Properties, Value};
 
 impl<
@@ -15,8 +15,9 @@ impl<
     P: Properties,
     S: HashBuilder,
     W: Weighter<K, V>,
+    A: Filter<K, V>,
     I: Indexer<K>,
-> Session<E, K, V, P, S, W, I> {
+> Session<E, K, V, P, S, W, A, I> {
     ghost use Rattle.foyer_session.specs.Sessions.{session_of, terms_of};
     ghost use Rattle.foyer_session.specs.Step.{ClearStep, EvictAllStep, FlushIfStep, ResizeStep};
 

@@ -8,7 +8,7 @@ ghost use Rattle.foyer_core.specs.Steps.{ClonesHandle};
 use super::ready::with_leave;
 use super::{Session, handle, piece};
 use crate::command::{Answer, Reply};
-use foyer_core::{CacheCore, CoreEntry, Indexer, Left, Weighter};
+use foyer_core::{CacheCore, CoreEntry, Filter, Indexer, Left, Weighter};
 use foyer_policy::{Event, Eviction, HashBuilder, Key, Properties, Result, Value};
 
 impl<
@@ -18,8 +18,9 @@ impl<
     P: Properties,
     S: HashBuilder,
     W: Weighter<K, V>,
+    A: Filter<K, V>,
     I: Indexer<K>,
-> Session<E, K, V, P, S, W, I> {
+> Session<E, K, V, P, S, W, A, I> {
     ghost use Rattle.foyer_session.specs.Sessions.{session_of, terms_of};
     ghost use Rattle.foyer_session.specs.Step.{CloneStep, DropStep, TakePieceStep, RefsStep, OutdatedStep};
 
@@ -120,9 +121,10 @@ fn clone_held<
     P: Properties,
     S: HashBuilder,
     W: Weighter<K, V>,
+    A: Filter<K, V>,
     I: Indexer<K>,
 >(
-    core: &mut CacheCore<E, K, V, P, S, W, (), I>,
+    core: &mut CacheCore<E, K, V, P, S, W, A, (), I>,
     entry: &CoreEntry<K, V, P>,
 ) -> Result<CoreEntry<K, V, P>>
     requires owned { Owns (core_of core.old) entry.now }

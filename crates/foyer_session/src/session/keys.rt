@@ -6,7 +6,7 @@ ghost use Rattle.foyer_core.specs.Core.{AnswersNobody};
 use super::ready::with_leave;
 use super::{Session, handle};
 use crate::command::{Answer, Answers, Reply};
-use foyer_core::{Indexer, Inserted, Left, Outcome, Refused, Weighter};
+use foyer_core::{Filter, Indexer, Inserted, Left, Outcome, Refused, Weighter};
 use foyer_policy::{Event, Eviction, HashBuilder, Key, Properties, Value};
 
 impl<
@@ -16,8 +16,9 @@ impl<
     P: Properties,
     S: HashBuilder,
     W: Weighter<K, V>,
+    A: Filter<K, V>,
     I: Indexer<K>,
-> Session<E, K, V, P, S, W, I> {
+> Session<E, K, V, P, S, W, A, I> {
     ghost use Rattle.foyer_session.specs.Sessions.{session_of, terms_of};
     ghost use Rattle.foyer_session.specs.Step.{InsertStep, GetStep, ContainsStep, TouchStep, RemoveStep};
 

@@ -1,7 +1,7 @@
 use super::*;
 use crate::fifo_session::run_fifo;
 use crate::predicate::NoPredicate;
-use foyer_core::{CacheProperties, Limits, RawCacheConfig, UnitWeighter};
+use foyer_core::{AdmitAll, CacheProperties, Limits, RawCacheConfig, UnitWeighter};
 use foyer_policy::{Event, Fifo, FifoConfig, ModHasher};
 use std::alloc::AllocError;
 use std::process::Abort;
@@ -10,7 +10,7 @@ use std::test::Fail;
 mod bulk;
 mod pieces;
 
-type FifoSession = Session<Fifo, u64, u64, CacheProperties, ModHasher, UnitWeighter>;
+type FifoSession = Session<Fifo, u64, u64, CacheProperties, ModHasher, UnitWeighter, AdmitAll>;
 
 type Plain = Command<u64, u64, CacheProperties, NoPredicate>;
 
@@ -22,6 +22,7 @@ fn session(alloc: Global, capacity: usize, limits: Limits) -> Result<FifoSession
         eviction_config: FifoConfig {},
         hash_builder: ModHasher::default(),
         weighter: UnitWeighter,
+        filter: AdmitAll,
         number: 0,
         limits,
     };

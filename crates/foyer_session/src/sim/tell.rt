@@ -16,7 +16,7 @@ use crate::command::{Command, Reply};
 use crate::predicate::NoPredicate;
 use crate::session::Session;
 use crate::text::{Line, write_out};
-use foyer_core::{CacheProperties, Indexer};
+use foyer_core::{AdmitAll, CacheProperties, Indexer};
 use foyer_policy::{Error, Eviction, HashBuilder, Properties};
 use std::io;
 use std::io::Write;
@@ -26,7 +26,7 @@ type SimCommand = Command<u64, SimValue, CacheProperties, NoPredicate>;
 /// Carries out a line, and writes what is printed for it.
 pub fn tell<W: Write, E: Eviction, S: HashBuilder, I: Indexer<u64>>(
     writer: &mut W,
-    session: &mut Session<E, u64, SimValue, CacheProperties, S, SimWeighter, I>,
+    session: &mut Session<E, u64, SimValue, CacheProperties, S, SimWeighter, AdmitAll, I>,
     line: Line,
 ) -> io::Result<()>
     ensures { (text : List ℕ)
@@ -71,7 +71,7 @@ fn phantom_insert(key: u64, value: u64, weight: usize) -> SimCommand
 // Carries out a command. Where memory was missing for it, nothing has changed.
 fn tell_command<W: Write, E: Eviction, S: HashBuilder, I: Indexer<u64>>(
     writer: &mut W,
-    session: &mut Session<E, u64, SimValue, CacheProperties, S, SimWeighter, I>,
+    session: &mut Session<E, u64, SimValue, CacheProperties, S, SimWeighter, AdmitAll, I>,
     command: SimCommand,
 ) -> io::Result<()>
     ensures { (text : List ℕ)
@@ -116,7 +116,7 @@ fn tell_refusal<W: Write>(
 // Says that a line is none.
 fn tell_bad<W: Write, E: Eviction, S: HashBuilder, I: Indexer<u64>>(
     writer: &mut W,
-    session: &Session<E, u64, SimValue, CacheProperties, S, SimWeighter, I>,
+    session: &Session<E, u64, SimValue, CacheProperties, S, SimWeighter, AdmitAll, I>,
 ) -> io::Result<()>
     ensures { WritesText (W.contents writer.old) (W.contents writer.new) result (line_text (meaning_of_session session.now) (codes "bad line") [] (session_of session.now)) }
 {

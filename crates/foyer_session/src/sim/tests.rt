@@ -2,13 +2,13 @@ use super::{SimValue, SimWeighter, simulate, write_answer};
 use crate::command::Answer;
 use crate::session::Session;
 use crate::streams::{Parts, Slow};
-use foyer_core::{CacheCore, CacheProperties, Limits, RawCacheConfig};
+use foyer_core::{AdmitAll, CacheCore, CacheProperties, Limits, RawCacheConfig};
 use foyer_policy::{Eviction, Fifo, Lfu, Lru, ModHasher, S3Fifo, Sieve};
 use std::alloc::Global;
 use std::io::{BufRead, ErrorKind};
 use std::test::Fail;
 
-type SimSession<E> = Session<E, u64, SimValue, CacheProperties, ModHasher, SimWeighter>;
+type SimSession<E> = Session<E, u64, SimValue, CacheProperties, ModHasher, SimWeighter, AdmitAll>;
 
 // A session over an empty core of so many shards.
 fn session_over<E: Eviction>(
@@ -23,6 +23,7 @@ fn session_over<E: Eviction>(
         eviction_config: E::Config::default(),
         hash_builder: ModHasher::default(),
         weighter: SimWeighter,
+        filter: AdmitAll,
         number: 0,
         limits,
     };

@@ -14,7 +14,7 @@ invariant_of-self g c =
     let s = c.args.self.now in
     let m = meaning_of_session s in
     let did = c.in-Ok.ensures.inserted in
-    let d = data_of (terms_of s) (session_of s) c.args.key c.args.value c.args.properties did.weight in
+    let d = data_of (terms_of s) (session_of s) c.args.key c.args.value c.args.properties did.weight did.admitted in
     let made = c.in-Ok.inserted in
     record {
       owns = rw c.hand_out-handle.ensures.handles (∥∥₁_elim (kept_at s.core d.hash did.inserts.before did.inserts.there) (hlevel props) (λ k. ∥∥₁_map s.owns (λ o.
@@ -27,7 +27,7 @@ invariant_of-self-in-Err-1 g c =
     let s = c.args.self.now in
     let m = meaning_of_session s in
     let did = c.in-Err.ensures.inserted in
-    let d = data_of (terms_of s) (session_of s) c.args.key c.args.value c.args.properties did.weight in
+    let d = data_of (terms_of s) (session_of s) c.args.key c.args.value c.args.properties did.weight did.admitted in
     record {
       owns = ∥∥₁_map s.owns (λ o.
           refused_owns m (core_of s.core) (core_of c.insert_with_properties.new.self) s.handles.items o d c.in-Err.refused.error c.in-Err.refused.leaves.items did.inserts);
@@ -38,8 +38,10 @@ returns-in-Ok-clause-step g c =
     let did = c.in-Ok.ensures.inserted in
     rw (c.new-in-Ok.ensures.answer, c.new-in-Ok.ensures.leaves) (
       did.weight,
+      did.admitted,
       c.in-Ok.inserted.entry,
       did.weighed,
+      did.answered,
       did.inserts,
       record {
         numbered = c.hand_out-handle.ensures.number;
@@ -53,4 +55,4 @@ returns-in-Ok-clause-step g c =
 pub returns-in-Err-clause-step : goal.returns-in-Err-clause-step
 returns-in-Err-clause-step g c =
     let did = c.in-Err.ensures.inserted in
-    rw (c.new-in-Err.ensures.answer, c.new-in-Err.ensures.leaves) (did.weight, did.weighed, did.inserts, (refl, refl))
+    rw (c.new-in-Err.ensures.answer, c.new-in-Err.ensures.leaves) (did.weight, did.admitted, did.weighed, did.answered, did.inserts, (refl, refl))
