@@ -74,7 +74,7 @@ module _ {K V P View : Type 0} (hash : K → ℕ) where
     pub shared_hashed : (capacity : ℕ) (ss ts : List (State K V P View)) → SharesOut m capacity ss ts → AreHashed hash ss → AreHashed hash ts
     shared_hashed capacity ss ts h = zip_hashed ss ts (shares-keep m (RecordsFrom nothing_new) (λ s c. same_from m s) (share_of capacity (length ss)) ss ts h.counted h.each)
 
-    pub new_hashed : {S W : Type 0} (config : RawCacheConfig C S W) (many : ℕ) (ss : List (State K V P View)) → AreNewShards m config many ss → AreHashed hash ss
+    pub new_hashed : {S W A : Type 0} (config : RawCacheConfig C S W A) (many : ℕ) (ss : List (State K V P View)) → AreNewShards m config many ss → AreHashed hash ss
     new_hashed config many ss h i s there id r is = absurd (let none : s.records id ≡ None = (h.each i s there).no_records id in cc)
 
 -- after a call on all shards, refused or not

@@ -69,9 +69,9 @@ returns-clause-told g c =
     let e = c.args.entry in
     let x = c.index_mut.result.now in
     let y = c.give_back.new.self in
-    let over = at_over state_of s.capacity s.hash_builder s.weighter s.shards.items e.kept.hash (vec_len s.shards) c.place-place.result x
+    let over = at_over state_of s.capacity s.hash_builder s.weighter s.filter s.shards.items e.kept.hash (vec_len s.shards) c.place-place.result x
     s.shards.ok.0 c.place-place.ensures.within (c.place-place.ensures.place ∙ ap (λ (n : ℕ). n % vec_len s.shards) c.hash.ensures) c.index_mut.ensures.value in
-    let same = same_over state_of s.capacity s.hash_builder s.weighter s.shards.items e.kept.hash (vec_len s.shards) c.place-place.result x
+    let same = same_over state_of s.capacity s.hash_builder s.weighter s.filter s.shards.items e.kept.hash (vec_len s.shards) c.place-place.result x
     s.shards.ok.0 c.place-place.ensures.within (c.place-place.ensures.place ∙ ap (λ (n : ℕ). n % vec_len s.shards) c.hash.ensures) c.index_mut.ensures.value in
     let new = core_over state_of s.capacity s.hash_builder s.weighter s.filter (slice_set s.shards.items c.place-place.result y) in
     let m = meaning_of_core s in

@@ -137,8 +137,8 @@ returns-in_err-entry-clause-told g c =
     let x = c.index_mut.result.now in
     let y = c.emplace.new.self in
     let hash = g.S.HashBuilder.hash_of s.hash_builder (g.K.Hash.hash_input c.args.key) in
-    let d : Data g.row.K.Denot g.row.V.Denot g.row.P.Denot = record { key = c.args.key; value = c.args.value; properties = coming_in g.P.Properties.location_of g.P.Properties.with_phantom_of c.args.properties; hash = hash; weight = c.weigh-weight.result } in
-    let over = at_over state_of s.capacity s.hash_builder s.weighter s.shards.items hash (vec_len s.shards) c.place-place.result x
+    let d : Data g.row.K.Denot g.row.V.Denot g.row.P.Denot = record { key = c.args.key; value = c.args.value; properties = coming_in g.P.Properties.location_of g.P.Properties.with_phantom_of c.admit-admitted.result c.args.properties; hash = hash; weight = c.weigh-weight.result } in
+    let over = at_over state_of s.capacity s.hash_builder s.weighter s.filter s.shards.items hash (vec_len s.shards) c.place-place.result x
     s.shards.ok.0 c.place-place.ensures.within (c.place-place.ensures.place ∙ ap (λ (n : ℕ). n % vec_len s.shards) c.hash-hash.ensures.hash) c.index_mut.ensures.value in
     let new = core_over state_of s.capacity s.hash_builder s.weighter s.filter (slice_set s.shards.items c.place-place.result y) in
     let m = meaning_of_core s in
@@ -157,8 +157,8 @@ returns-clause-told g c =
     let x = c.index_mut.result.now in
     let y = c.emplace.new.self in
     let hash = g.S.HashBuilder.hash_of s.hash_builder (g.K.Hash.hash_input c.args.key) in
-    let d : Data g.row.K.Denot g.row.V.Denot g.row.P.Denot = record { key = c.args.key; value = c.args.value; properties = coming_in g.P.Properties.location_of g.P.Properties.with_phantom_of c.args.properties; hash = hash; weight = c.weigh-weight.result } in
-    let over = at_over state_of s.capacity s.hash_builder s.weighter s.shards.items hash (vec_len s.shards) c.place-place.result x
+    let d : Data g.row.K.Denot g.row.V.Denot g.row.P.Denot = record { key = c.args.key; value = c.args.value; properties = coming_in g.P.Properties.location_of g.P.Properties.with_phantom_of c.admit-admitted.result c.args.properties; hash = hash; weight = c.weigh-weight.result } in
+    let over = at_over state_of s.capacity s.hash_builder s.weighter s.filter s.shards.items hash (vec_len s.shards) c.place-place.result x
     s.shards.ok.0 c.place-place.ensures.within (c.place-place.ensures.place ∙ ap (λ (n : ℕ). n % vec_len s.shards) c.hash-hash.ensures.hash) c.index_mut.ensures.value in
     let new = core_over state_of s.capacity s.hash_builder s.weighter s.filter (slice_set s.shards.items c.place-place.result y) in
     let m = meaning_of_core s in

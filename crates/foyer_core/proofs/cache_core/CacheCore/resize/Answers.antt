@@ -31,7 +31,7 @@ invariant_of-self-clause-hashed g c =
     let ss = map state_of c.share_out.new.shards.items in
     let done = c.evict_each_to_capacity-done in
     let ts = map state_of done.new.shards.items in
-    told_hashed hash done.result ss ts c.new-leaves.result.items done.new.leaves.items (InTurn (EvictsToCapacity m)) (InTurnUntil (EvictsToCapacity m) (EvictingToCapacity m))
+    told_hashed hash done.result ss ts c.new-evicted.result.items done.new.leaves.items (InTurn (EvictsToCapacity m)) (InTurnUntil (EvictsToCapacity m) (EvictingToCapacity m))
     done.ensures.done done.ensures.refused (λ ls. all_evicted_hashed hash m ss ls ts) (λ ls. all_evicted_until_hashed hash m ss ls ts)
     (shared_hashed hash m c.args.capacity (map state_of s.shards.items) ss c.share_out.ensures.shares s.hashed)
 
@@ -95,7 +95,7 @@ returns-in-Ok-clause-told g c =
     let shared = map state_of c.share_out.new.shards.items in
     let new = c.evict_each_to_capacity-done.new.shards in
     let ls = c.evict_each_to_capacity-done.new.leaves.items in
-    let done = goes_all ls (λ l. InTurn (EvictsToCapacity m) shared l (map state_of new.items)) (rw (c.new-leaves.ensures.items, c.in-Ok.is) at c.evict_each_to_capacity-done.ensures.done) in
+    let done = goes_all ls (λ l. InTurn (EvictsToCapacity m) shared l (map state_of new.items)) (rw (c.new-evicted.ensures.items, c.in-Ok.is) at c.evict_each_to_capacity-done.ensures.done) in
     resized_core m g.met.K.Eq.laws g.met.E.Eviction.lawful (hashes_of s) equal (core_of s) (core_over state_of c.args.capacity s.hash_builder s.weighter s.filter new.items) sound c.args.capacity ls
     record { shared = shared; shares = c.share_out.ensures.shares; evicted = record { stepped = done; rest = refl } }
 
@@ -108,6 +108,6 @@ returns-in-Err-clause-told g c =
     let shared = map state_of c.share_out.new.shards.items in
     let new = c.evict_each_to_capacity-done.new.shards in
     let ls = c.evict_each_to_capacity-done.new.leaves.items in
-    let part = goes_all ls (λ l. InTurnUntil (EvictsToCapacity m) (EvictingToCapacity m) shared l (map state_of new.items)) (rw (c.new-leaves.ensures.items, c.in-Err.is) at c.evict_each_to_capacity-done.ensures.refused) in
+    let part = goes_all ls (λ l. InTurnUntil (EvictsToCapacity m) (EvictingToCapacity m) shared l (map state_of new.items)) (rw (c.new-evicted.ensures.items, c.in-Err.is) at c.evict_each_to_capacity-done.ensures.refused) in
     resized_until_core m g.met.K.Eq.laws g.met.E.Eviction.lawful (hashes_of s) equal (core_of s) (core_over state_of c.args.capacity s.hash_builder s.weighter s.filter new.items) sound c.args.capacity ls
     record { shared = shared; shares = c.share_out.ensures.shares; evicted = record { stepped = part; rest = refl } }
