@@ -1,5 +1,5 @@
 -- The steps of a shard keep each record's handles, but for the one that they say.
-use Rattle.std.proofs.Common.{◌≡◌, ◌≢◌, ℕ, ◌+◌, ◌-◌, ◌<◌, ◌≤◌, ◌⊎◌, List, [], ◌∷◌, ◌++◌, length, Option, Some, None, Result, Ok, Err, arith, refl, sym, ap, ◌∙◌, subst, ◌==◌, Bool, true, false, nat_eq, cond, inl, inr}
+use Rattle.std.proofs.Common.{◌≡◌, ◌≢◌, ℕ, ◌+◌, ◌-◌, ◌⊎◌, List, [], ◌∷◌, Option, Some, None, Ok, arith, refl, sym, ap, ◌∙◌, subst, ◌==◌, Bool, true, false, nat_eq, cond, inl, inr}
 use Rattle.std.specs.Map.{update}
 use Rattle.std.proofs.lemmas.Map.{update_here, update_apart}
 use Rattle.std.proofs.lemmas.Bool.Decides.{eqb_tells, nat_tests}
@@ -8,11 +8,10 @@ use Rattle.foyer_policy.specs.declared.types.Event.TheVariants.{Evict, Replace}
 use Rattle.foyer_policy.specs.declared.error.Reason.{Reason}
 use Rattle.foyer_policy.specs.declared.error.Reason.TheVariants.{Ids, Handles, Weight, NoMemory}
 use Rattle.foyer_policy.specs.declared.types.Source.TheVariants.{Outer}
-use Rattle.foyer_policy.specs.Policy.{after_pops, evicted}
 use Rattle.foyer_core.specs.declared.record.Data.{Data}
 use Rattle.foyer_core.specs.Values.{Rec, Gone, Held}
 use Rattle.foyer_core.specs.State.{Meaning, State, key_of, handles_of, handles_in}
-use Rattle.foyer_core.specs.Steps.{outside, after_out, after_push, after_get, after_last, after_give_back, Leave, Evicting, Evicts, GivesWay, InsertsBy, InsertsPlain, RefusesBy, RefusesPlain, after_hold, entry_of, Gets, GivesBack}
+use Rattle.foyer_core.specs.Steps.{outside, after_out, after_push, after_last, after_give_back, Leave, Evicting, Evicts, GivesWay, InsertsBy, InsertsPlain, RefusesBy, RefusesPlain, after_hold, entry_of, Gets, GivesBack}
 use Rattle.foyer_session.specs.Owns.{Counts}
 
 -- one more handle of this id

@@ -1,11 +1,11 @@
 -- A touch keeps each record's handles; a remove and a clone give one more of the record of the entry.
-use Rattle.std.proofs.Common.{◌≡◌, ◌≢◌, ℕ, ◌+◌, ◌<◌, List, [], ◌∷◌, Option, Some, None, Result, Ok, Err, refl, sym, ap, ◌∙◌, Bool, true, false}
+use Rattle.std.proofs.Common.{◌≡◌, ℕ, ◌+◌, [], ◌∷◌, Some, None, Result, Ok, Err, refl, ap, ◌∙◌, Bool, true, false}
 use Rattle.foyer_policy.specs.declared.types.Event.TheVariants.{Remove}
 use Rattle.foyer_policy.specs.declared.error.Reason.{Reason}
 use Rattle.foyer_policy.specs.declared.error.Reason.TheVariants.{Handles}
 use Rattle.foyer_core.specs.Values.{Rec, Gone, Held}
-use Rattle.foyer_core.specs.State.{Meaning, State, handles_in}
-use Rattle.foyer_core.specs.Steps.{after_handle, Gets, GivesBack, Touches, Removes, ClonesHandle}
+use Rattle.foyer_core.specs.State.{Meaning, State}
+use Rattle.foyer_core.specs.Steps.{after_handle, Touches, Removes, ClonesHandle}
 use Rattle.foyer_session.specs.Owns.{Counts}
 use Rattle.foyer_session.proofs.CountLemmas.{one_more, leave_alike, alike_counts, more_counts, gets_counts, gives_back_counts, gives_back_number}
 

@@ -1,14 +1,10 @@
 -- What a shard keeps, as a session uses it.
-use Rattle.std.proofs.Common.{◌≡◌, ◌≢◌, ℕ, ◌<◌, List, Option, Some, None, Ok, true, false, Bool, refl, sym, ap, ◌∙◌, subst, arith, ◌==◌, ◌&&◌}
+use Rattle.std.proofs.Common.{◌≡◌, ℕ, List, Option, Some, None, Ok, true, false, Bool, refl, ap, ◌∙◌, arith, ◌==◌, ◌&&◌}
 use Rattle.std.proofs.lemmas.Bool.Decides.{nat_tests}
 use Rattle.foyer_core.specs.declared.record.Data.{Data}
 use Rattle.foyer_core.specs.Indexer.{same_key}
 use Rattle.foyer_core.specs.Values.{Rec, Gone, Held}
-use Rattle.foyer_core.specs.State.{Meaning, State, IsKept, key_of, handles_of, handles_in, is_phantom_record, is_on_disk, coming_in}
-use Rattle.std.specs.Prelude.{if◌then◌else◌}
-use Rattle.foyer_policy.specs.Properties.{is_phantom}
-use Rattle.foyer_policy.specs.declared.types.Location.{Location}
-use Rattle.foyer_policy.specs.declared.types.Location.TheVariants.{Default, InMem, OnDisk}
+use Rattle.foyer_core.specs.State.{Meaning, State, IsKept, key_of, handles_of, handles_in, is_phantom_record}
 use Rattle.foyer_policy.specs.declared.types.Event.{Event}
 use Rattle.foyer_core.specs.Steps.{Gets, Inserts, Removes}
 use Rattle.foyer_session.proofs.CountLemmas.{inserts_entry}
@@ -45,13 +41,3 @@ module _ {K V P View C : Type 0} (m : Meaning K P View C) (s : State K V P View)
   -- nor of the id of a record that came in
   pub new_unused : (d : Data K V P) (leaves : List (Event × Gone K V P)) (entry : Held K V P) (t : State K V P View) → Inserts m s d leaves entry t → handles_in s entry.id ≡ 0
   new_unused d leaves entry t h = ap (λ (x : Held K V P). handles_in s x.id) (inserts_entry m (is_phantom_record m d) s d leaves entry t h) ∙ next_unused m s kept
-
--- properties that make a plain record come in as they are
-pub comes_as_it_is : {P : Type 0} (phantom : P → Option Bool) (location : P → Option Location) (with_phantom : P → Bool → P) (p : P)
-    → is_phantom (phantom p) ≡ false → location p ≢ Some OnDisk → coming_in location with_phantom p ≡ p
-comes_as_it_is {P} phantom location with_phantom p plain in_memory = ap (λ (b : Bool). if b then with_phantom p true else p) (go (location p) in_memory) where
-  go : (o : Option Location) → o ≢ Some OnDisk → is_on_disk o ≡ false
-  go (Some OnDisk) h = absurd (h refl)
-  go (Some Default) h = refl
-  go (Some InMem) h = refl
-  go None h = refl

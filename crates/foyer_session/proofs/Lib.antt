@@ -1,3 +1,4 @@
+pub mod BulkLemmas
 pub mod CoreLemmas
 pub mod CountLemmas
 pub mod EntryCounts

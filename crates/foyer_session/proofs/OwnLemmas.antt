@@ -1,16 +1,16 @@
 -- The steps of a core keep what a session owns.
-use Rattle.std.proofs.Common.{◌≡◌, ◌≢◌, ℕ, zero, suc, ◌+◌, ◌-◌, ◌<◌, ◌≤◌, ◌⊎◌, ◌%◌, List, [], ◌∷◌, ◌++◌, length, set, sum_by, Option, Some, None, Result, Ok, Err, arith, refl, sym, ap, ◌∙◌, subst, ◌==◌, ◌&&◌, Bool, true, false, nat_eq, cond, inl, inr, get_or}
-use Rattle.std.specs.Prelude.{slice_get, slice_set, if◌then◌else◌}
+use Rattle.std.proofs.Common.{◌≡◌, ◌≢◌, ℕ, zero, suc, ◌+◌, ◌⊎◌, ◌%◌, List, [], ◌∷◌, ◌++◌, length, set, sum_by, Option, Some, None, arith, refl, sym, ap, ◌∙◌, subst, ◌==◌, true, false, cond, inl, inr, get_or}
+use Rattle.std.specs.Prelude.{slice_get, slice_set}
 use Rattle.std.specs.Option.{option_flatten}
 use Rattle.std.proofs.Math.Logic.{∥∥₁_elim}
 use Rattle.std.proofs.Props.{props}
-use Rattle.std.proofs.lemmas.Bool.Decides.{eqb_tells, nat_tests}
+use Rattle.std.proofs.lemmas.Bool.Decides.{nat_tests}
 use Rattle.std.proofs.lemmas.List.Sums.{sum_by_push, sum_by-set}
 use Rattle.std.proofs.lemmas.List.{set-get_or}
 use Rattle.std.proofs.lemmas.Option.{get_or_from_slice_get, slice_get_within}
 use Rattle.std.proofs.Math.ListN.{length-set}
-use Rattle.foyer_core.specs.Values.{Rec, Gone, Held}
-use Rattle.foyer_core.specs.State.{Meaning, State, handles_in}
+use Rattle.foyer_core.specs.Values.{Held}
+use Rattle.foyer_core.specs.State.{State}
 use Rattle.foyer_core.specs.Core.{Core, AtShard, Owns, shard_at, shard_of}
 use Rattle.foyer_session.specs.Step.{held_at}
 use Rattle.foyer_session.specs.Owns.{Counts, held_in, held_count, OwnsHandles}

@@ -1,29 +1,24 @@
 -- A run goes on by one step.
-use Rattle.std.proofs.Common.{◌≡◌, ℕ, List, [], ◌∷◌, ◌++◌, map, length, refl, sym, ap, ◌∙◌, subst, arith, append-nil}
-use Rattle.std.specs.Prelude.{All}
-use Rattle.std.proofs.lemmas.List.{map-append, length-map, get_or-map}
-use Rattle.foyer_core.specs.State.{Meaning}
+use Rattle.std.proofs.Common.{◌≡◌, Bool, List, [], ◌∷◌, ◌++◌, map, length, refl, sym, ap, ◌∙◌, arith, append-nil}
+use Rattle.std.proofs.lemmas.List.{map-append}
 use Rattle.foyer_session.specs.declared.command.Command.{Command}
 use Rattle.foyer_session.specs.declared.command.Reply.{Reply}
 use Rattle.foyer_session.specs.Step.{SessionState, Step}
 use Rattle.foyer_session.specs.Run.{Run}
+use Rattle.foyer_session.specs.Terms.{Terms}
 
-module _ {K V P View C S W : Type 0} (m : Meaning K P View C) (hash : S → K → ℕ) (weighs : W → K → V → ℕ → Type 0) where
-  Run-snoc : (old : SessionState K V P View S W) (cs : List (Command K V P)) (rs : List (Reply K V P)) (mid : SessionState K V P View S W) (c : Command K V P) (r : Reply K V P) (new : SessionState K V P View S W)
-      → Run m hash weighs old cs rs mid → Step m hash weighs mid c r.answer r.leaves new → Run m hash weighs old (cs ++ c ∷ []) (rs ++ r ∷ []) new
+module _ {K V P View C S W Q : Type 0} (t : Terms K V P View C S W) (picks : Q → K → V → Bool → Type 0) where
+  Run-snoc : (old : SessionState K V P View S W) (cs : List (Command K V P Q)) (rs : List (Reply K V P)) (mid : SessionState K V P View S W) (c : Command K V P Q) (r : Reply K V P) (new : SessionState K V P View S W)
+      → Run t picks old cs rs mid → Step t picks mid c r.answer r.leaves new → Run t picks old (cs ++ c ∷ []) (rs ++ r ∷ []) new
   Run-snoc old [] [] mid c r new h s = rw (sym h) (new, s, refl)
   Run-snoc old [] (x ∷ rs) mid c r new h s = absurd h
   Run-snoc old (y ∷ cs) [] mid c r new h s = absurd h
   Run-snoc old (y ∷ cs) (x ∷ rs) mid c r new h s = (h.0, h.1, Run-snoc h.0 cs rs mid c r new h.2 s)
 
   -- the same over what holds the commands
-  pub Run-more : {A : Type 0} (f : A → Command K V P) (old : SessionState K V P View S W) (xs : List A) (rs : List (Reply K V P)) (mid : SessionState K V P View S W) (x : A) (r : Reply K V P) (new : SessionState K V P View S W)
-      → Run m hash weighs old (map f xs) rs mid → Step m hash weighs mid (f x) r.answer r.leaves new → Run m hash weighs old (map f (xs ++ x ∷ [])) (rs ++ r ∷ []) new
+  pub Run-more : {A : Type 0} (f : A → Command K V P Q) (old : SessionState K V P View S W) (xs : List A) (rs : List (Reply K V P)) (mid : SessionState K V P View S W) (x : A) (r : Reply K V P) (new : SessionState K V P View S W)
+      → Run t picks old (map f xs) rs mid → Step t picks mid (f x) r.answer r.leaves new → Run t picks old (map f (xs ++ x ∷ [])) (rs ++ r ∷ []) new
   Run-more f old xs rs mid x r new h s = rw map-append (Run-snoc old (map f xs) rs mid (f x) r new h s)
-
--- what holds of what the elements hold
-pub All-unmap : {A B : Type 0} (P : B → Type 0) (f : A → B) (xs : List A) → All P (map f xs) → All (λ x. P (f x)) xs
-All-unmap P f xs h k d lt = subst P (get_or-map f xs k d (f d) lt) (h k (f d) (rw length-map lt))
 
 -- the last parts of a list are none
 pub all_yielded : {A B : Type 0} (f : A → B) (xs ys : List A) (zs : List B) → length ys ≡ 0 → map f (xs ++ ys) ≡ zs → map f xs ≡ zs

@@ -1,15 +1,15 @@
 -- The steps of a session keep what it owns.
-use Rattle.std.proofs.Common.{◌≡◌, ℕ, List, [], ◌∷◌, ◌++◌, Option, Some, None, Result, Ok, Err, Bool, true, false, refl, sym, ap, ◌∙◌, subst}
-use Rattle.std.specs.Prelude.{slice_set, IsOk, IfOk}
+use Rattle.std.proofs.Common.{◌≡◌, ℕ, List, [], ◌∷◌, ◌++◌, Option, Some, None, Result, Ok, Err, Bool, false, length, refl, sym, ap, ◌∙◌, subst, arith}
+use Rattle.std.specs.Prelude.{slice_set, IsOk, IfOk, option_and_then}
 use Rattle.std.proofs.lemmas.Bool.{false≢true}
 use Rattle.foyer_policy.specs.declared.types.Event.{Event}
 use Rattle.foyer_policy.specs.declared.error.Reason.{Reason}
 use Rattle.foyer_policy.specs.declared.error.Reason.TheVariants.{Handles, NoMemory}
 use Rattle.foyer_core.specs.declared.record.Data.{Data}
 use Rattle.foyer_core.specs.Values.{Gone, Held}
-use Rattle.foyer_core.specs.State.{Meaning, State, handles_in, is_phantom_record}
+use Rattle.foyer_core.specs.State.{Meaning, State, hit, handles_in, is_phantom_record}
 use Rattle.foyer_core.specs.Steps.{Inserts, RefusesInsert, Gets, GivesBack, Touches, Removes, RefusesHandle, ClonesHandle}
-use Rattle.foyer_core.specs.Core.{Core, AtShard, Owns}
+use Rattle.foyer_core.specs.Core.{Core, AtShard, Owns, hit_in, shard_at}
 use Rattle.foyer_session.specs.Step.{SessionState, held_at}
 use Rattle.foyer_session.specs.Owns.{OwnsHandles}
 use Rattle.foyer_session.proofs.CountLemmas.{inserts_counts, inserts_number, inserts_entry, refuses_counts, refuses_number, gets_counts, gives_back_counts, gives_back_number}
@@ -79,10 +79,58 @@ refusal_same old new id Handles h = h.3
 refusal_same old new id NoMemory h = h.3
 refusal_same old new id _ h = absurd h
 
--- a refused clone changes no session
-pub clone_refused : {K V P View S W : Type 0} (core new : Core K V P View S W) (handles : List (Option (Held K V P))) (entry : Held K V P) (reason : Reason)
-    → AtShard (λ s t. ClonesHandle s entry (Err reason) t) entry.kept.hash core new
+-- a refused clone changes no core
+pub clone_refused : {K V P View S W : Type 0} (core new : Core K V P View S W) (entry : Held K V P) (reason : Reason)
+    → AtShard (λ s t. ClonesHandle s entry (Err reason) t) entry.kept.hash core new → new ≡ core
+clone_refused core new entry reason at =
+    shard_same core new (λ s t. ClonesHandle s entry (Err reason) t) entry.kept.hash at (refusal_same at.before at.after entry.id reason at.stepped)
+
+-- a session whose core stays, stays
+pub session_same : {K V P View S W : Type 0} (core new : Core K V P View S W) (handles : List (Option (Held K V P))) → new ≡ core
     → ◌≡◌ {A = SessionState K V P View S W} (record { core = new; handles = handles }) (record { core = core; handles = handles })
-clone_refused {K} {V} {P} {View} {S} {W} core new handles entry reason at =
-    ap (λ (c : Core K V P View S W). record { core = c; handles = handles })
-    (shard_same core new (λ s t. ClonesHandle s entry (Err reason) t) entry.kept.hash at (refusal_same at.before at.after entry.id reason at.stepped))
+session_same {K} {V} {P} {View} {S} {W} core new handles same = ap (λ (c : Core K V P View S W). record { core = c; handles = handles }) same
+
+module _ {K V P View C S W : Type 0} (m : Meaning K P View C) (core new : Core K V P View S W) (k : ℕ × K) where
+  hit_there : (at : State K V P View) → shard_at core k.0 ≡ Some at → hit at k ≡ None → hit_in core k ≡ None
+  hit_there at there none = ap (option_and_then (λ s. hit s k)) there ∙ none
+
+  -- a get that finds nothing changes nothing
+  pub get_missing : AtShard (λ s t. Gets m s k (Ok None) t) k.0 core new → (hit_in core k ≡ None) × (new ≡ core)
+  get_missing at = (hit_there at.before at.there at.stepped.0, shard_same core new (λ s t. Gets m s k (Ok None) t) k.0 at at.stepped.1)
+
+  gets_refused : (s t : State K V P View) (reason : Reason) → Gets m s k (Err reason) t → t ≡ s
+  gets_refused s t Handles h = h.5
+  gets_refused s t NoMemory h = h.5
+  gets_refused s t _ h = absurd h
+
+  -- nor does one that is refused
+  pub get_refused : (reason : Reason) → AtShard (λ s t. Gets m s k (Err reason) t) k.0 core new → new ≡ core
+  get_refused reason at = shard_same core new (λ s t. Gets m s k (Err reason) t) k.0 at (gets_refused at.before at.after reason at.stepped)
+
+  -- the same of a touch
+  pub touch_missing : AtShard (λ s t. Touches m s k (Ok false) t) k.0 core new → (hit_in core k ≡ None) × (new ≡ core)
+  touch_missing at = (hit_there at.before at.there at.stepped.0, shard_same core new (λ s t. Touches m s k (Ok false) t) k.0 at at.stepped.1)
+
+  touches_refused : (s t : State K V P View) (reason : Reason) → Touches m s k (Err reason) t → t ≡ s
+  touches_refused s t Handles h = h.5
+  touches_refused s t _ h = absurd h
+
+  pub touch_refused : (reason : Reason) → AtShard (λ s t. Touches m s k (Err reason) t) k.0 core new → new ≡ core
+  touch_refused reason at = shard_same core new (λ s t. Touches m s k (Err reason) t) k.0 at (touches_refused at.before at.after reason at.stepped)
+
+  -- and of a remove
+  pub remove_missing : AtShard (λ s t. Removes m s k (Ok None) t) k.0 core new → (hit_in core k ≡ None) × (new ≡ core)
+  remove_missing at = (hit_there at.before at.there at.stepped.0, shard_same core new (λ s t. Removes m s k (Ok None) t) k.0 at at.stepped.1)
+
+  pub remove_refused : (reason : Reason) → AtShard (λ s t. Removes m s k (Err reason) t) k.0 core new → new ≡ core
+  remove_refused reason at =
+      shard_same core new (λ s t. Removes m s k (Err reason) t) k.0 at (refusal_same at.before at.after at.stepped.0 reason at.stepped.2)
+
+-- and owns what it owned
+pub owns_still : {K V P View S W : Type 0} (core new : Core K V P View S W) (handles : List (Option (Held K V P))) → new ≡ core → ∥ OwnsHandles core handles ∥₁ → ∥ OwnsHandles new handles ∥₁
+owns_still core new handles same owns = subst (λ (c : Core _ _ _ _ _ _). ∥ OwnsHandles c handles ∥₁) (sym same) owns
+
+-- a list of no length has nothing
+pub empty_of : {A : Type 0} (xs : List A) → length xs ≡ 0 → xs ≡ []
+empty_of [] h = refl
+empty_of (x ∷ xs) h = absurd (omega arith)

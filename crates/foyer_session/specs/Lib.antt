@@ -3,6 +3,7 @@ pub mod Print
 pub mod Kept
 pub mod Reading
 pub mod Told
+pub mod Terms
 pub mod Step
 pub mod Run
 pub mod Owns

@@ -9,9 +9,10 @@ use Rattle.foyer_policy.specs.declared.hash.HashBuilder.{Ghosts as HashBuilderGh
 use Rattle.foyer_core.specs.declared.weighter.Weighter.{Ghosts as WeighterGhosts}
 use Rattle.foyer_core.specs.declared.indexer.Indexer.{Ghosts as IndexerGhosts}
 use Rattle.foyer_core.specs.Cores.{core_of, meaning_of_core}
-use Rattle.foyer_core.specs.State.{Meaning}
+use Rattle.foyer_core.specs.State.{Meaning, coming_in}
 use Rattle.foyer_session.specs.declared.session.Session.{Session}
 use Rattle.foyer_session.specs.Step.{SessionState}
+use Rattle.foyer_session.specs.Terms.{Terms}
 
 module _ {E K V P S W I C X : Type 0} {e : EvictionGhosts E C X} {e1 : CloneGhosts C} {e2 : DefaultGhosts C} {e3 : _} {e4 : DefaultGhosts X}
     {q : EqGhosts K} {h : HashGhosts K} {c : CloneGhosts K} {p : PropertiesGhosts P} {d : DefaultGhosts P} {b : HashBuilderGhosts S} {w : WeighterGhosts W K V} {i : IndexerGhosts I K} where
@@ -19,6 +20,15 @@ module _ {E K V P S W I C X : Type 0} {e : EvictionGhosts E C X} {e1 : CloneGhos
   abbrev pub session_of : Session E K V P S W I C X e e1 e2 e3 e4 q h c p d b w i → SessionState K V P e.View S W
   session_of s = record { core = core_of s.core; handles = s.handles.items }
 
-  -- what a session is over
+  -- when keys are equal, what the policy does, and what properties answer
   abbrev pub meaning_of_session : Session E K V P S W I C X e e1 e2 e3 e4 q h c p d b w i → Meaning K P e.View C
   meaning_of_session s = meaning_of_core s.core
+
+  -- what a session is over
+  abbrev pub terms_of : Session E K V P S W I C X e e1 e2 e3 e4 q h c p d b w i → Terms K V P e.View C S W
+  terms_of s = record {
+    meaning = meaning_of_session s;
+    hash = λ builder key. b.hash_of builder (h.hash_input key);
+    weighs = w.weighs;
+    incoming = coming_in p.location_of p.with_phantom_of;
+  }

@@ -1,20 +1,20 @@
 -- What a session may do.
-use Rattle.std.specs.Prelude.{◌≡◌, ◌≢◌, ℕ, List, [], ◌∷◌, ◌++◌, Option, Some, None, Bool, true, false, Result, Ok, Err, is_some, length, slice_get, slice_set}
+use Rattle.std.specs.Prelude.{◌≡◌, ℕ, List, [], ◌∷◌, ◌++◌, Option, Some, None, Bool, true, false, Ok, Err, is_some, length, slice_get, slice_set}
 use Rattle.std.specs.Option.{option_flatten}
-use Rattle.foyer_policy.specs.Properties.{is_phantom}
 use Rattle.foyer_policy.specs.declared.types.Event.{Event}
 use Rattle.foyer_policy.specs.declared.types.Event.TheVariants.{Remove as RemoveEvent}
-use Rattle.foyer_policy.specs.declared.types.Location.{Location}
-use Rattle.foyer_policy.specs.declared.types.Location.TheVariants.{OnDisk}
+use Rattle.foyer_policy.specs.declared.error.Reason.TheVariants.{NoMemory}
 use Rattle.foyer_core.specs.declared.record.Data.{Data}
 use Rattle.foyer_core.specs.Values.{Gone, Held}
-use Rattle.foyer_core.specs.State.{Meaning, State}
+use Rattle.foyer_core.specs.Bulk.{Clears, EvictsIf, EvictsUnpinned, EvictingUnpinned}
+use Rattle.foyer_core.specs.CoreBulk.{InTurn, InTurnUntil, OfShards, EvictsToCapacity, EvictingToCapacity, Resizes}
 use Rattle.foyer_core.specs.Steps.{Inserts, RefusesInsert, Gets, GivesBack, Touches, Removes, ClonesHandle}
 use Rattle.foyer_core.specs.Core.{Core, AtShard, IsOutdatedIn, hit_in, refs_in, usage_of_core, entries_of_core}
 use Rattle.foyer_session.specs.declared.command.Answer.{Answer}
 use Rattle.foyer_session.specs.declared.command.Answer.TheVariants.{Entry, Found, Missing, Yes, No, Done, Number, NotHeld, Refused}
 use Rattle.foyer_session.specs.declared.command.Command.{Command}
-use Rattle.foyer_session.specs.declared.command.Command.TheVariants.{Insert, Get, Contains, Touch, Remove, Clone, Drop, Refs, Outdated, Capacity, Usage, Entries}
+use Rattle.foyer_session.specs.declared.command.Command.TheVariants.{Insert, Get, Contains, Touch, Remove, Clone, Drop, Refs, Outdated, Clear, EvictAll, FlushIf, Resize, Capacity, Usage, Entries}
+use Rattle.foyer_session.specs.Terms.{Terms}
 
 -- a core with the handles that were handed out, in order, each held or gone
 pub record SessionState (K V P View S W : Type 0) : Type 0 where
@@ -34,47 +34,46 @@ abbrev pub leaves_of : {A : Type 0} → Option A → List A
 leaves_of None = []
 leaves_of (Some leave) = leave ∷ []
 
--- an insert has properties that make a plain record
-abbrev pub IsPlain : {K V P : Type 0} → (P → Option Bool) → (P → Option Location) → Command K V P → Type 0
-IsPlain phantom location (Insert k v p) = (is_phantom (phantom p) ≡ false) × (location p ≢ Some OnDisk)
-IsPlain phantom location _ = Unit {0}
-
 -- one more handle is handed out under this number, with what tells its record
 pub record HandsOut {K V P View S W : Type 0} (old : SessionState K V P View S W) (number : ℕ) (told : Gone K V P) (entry : Held K V P) (new : SessionState K V P View S W) : Type 0 where
   pub numbered : number ≡ length old.handles
   pub tells : told ≡ record_of entry
   pub handles : new.handles ≡ old.handles ++ Some (record entry { left = false }) ∷ []
 
--- `hash` is what a hash builder gives a key, and `weighs` is what a weighter may answer.
-module _ {K V P View C S W : Type 0} (m : Meaning K P View C) (hash : S → K → ℕ) (weighs : W → K → V → ℕ → Type 0) where
+-- a question whose answer is this number; nothing changes
+abbrev pub NumberStep : {K V P View S W : Type 0} → ℕ → SessionState K V P View S W → Answer K V P → List (Event × Gone K V P) → SessionState K V P View S W → Type 0
+NumberStep count old (Number told) leaves new = (told ≡ count) × (leaves ≡ []) × (new ≡ old)
+NumberStep count old _ leaves new = ⊥
+
+module _ {K V P View C S W : Type 0} (t : Terms K V P View C S W) where
   -- the hash of a key
   abbrev pub hash_in : SessionState K V P View S W → K → ℕ
-  hash_in s k = hash s.core.hash_builder k
+  hash_in s k = t.hash s.core.hash_builder k
 
   -- what comes in
   abbrev pub data_of : SessionState K V P View S W → K → V → P → ℕ → Data K V P
-  data_of s k v p weight = record { key = k; value = v; properties = p; hash = hash_in s k; weight = weight }
+  data_of s k v p weight = record { key = k; value = v; properties = t.incoming p; hash = hash_in s k; weight = weight }
 
   -- what an insert answers, what leaves, and the state then
   abbrev pub InsertStep : SessionState K V P View S W → K → V → P → Answer K V P → List (Event × Gone K V P) → SessionState K V P View S W → Type 0
   InsertStep old k v p (Entry number told answers) leaves new =
-      (weight : ℕ) × (entry : Held K V P) × weighs old.core.weighter k v weight
-      × AtShard (λ s t. Inserts m s (data_of old k v p weight) leaves entry t) (hash_in old k) old.core new.core
+      (weight : ℕ) × (entry : Held K V P) × t.weighs old.core.weighter k v weight
+      × AtShard (λ s u. Inserts t.meaning s (data_of old k v p weight) leaves entry u) (hash_in old k) old.core new.core
       × HandsOut old number told entry new × (answers ≡ [])
   InsertStep old k v p (Refused reason) leaves new =
-      (weight : ℕ) × weighs old.core.weighter k v weight
-      × AtShard (λ s t. RefusesInsert m s (data_of old k v p weight) reason leaves t) (hash_in old k) old.core new.core
+      (weight : ℕ) × t.weighs old.core.weighter k v weight
+      × AtShard (λ s u. RefusesInsert t.meaning s (data_of old k v p weight) reason leaves u) (hash_in old k) old.core new.core
       × (new.handles ≡ old.handles)
   InsertStep old k v p _ leaves new = ⊥
 
   abbrev pub GetStep : SessionState K V P View S W → K → Answer K V P → List (Event × Gone K V P) → SessionState K V P View S W → Type 0
   GetStep old k (Found number told) leaves new =
       (entry : Held K V P)
-      × AtShard (λ s t. Gets m s (hash_in old k, k) (Ok (Some entry)) t) (hash_in old k) old.core new.core
+      × AtShard (λ s u. Gets t.meaning s (hash_in old k, k) (Ok (Some entry)) u) (hash_in old k) old.core new.core
       × HandsOut old number told entry new × (leaves ≡ [])
   GetStep old k Missing leaves new = (hit_in old.core (hash_in old k, k) ≡ None) × (leaves ≡ []) × (new ≡ old)
   GetStep old k (Refused reason) leaves new =
-      AtShard (λ s t. Gets m s (hash_in old k, k) (Err reason) t) (hash_in old k) old.core new.core × (leaves ≡ []) × (new ≡ old)
+      AtShard (λ s u. Gets t.meaning s (hash_in old k, k) (Err reason) u) (hash_in old k) old.core new.core × (leaves ≡ []) × (new ≡ old)
   GetStep old k _ leaves new = ⊥
 
   abbrev pub ContainsStep : SessionState K V P View S W → K → Answer K V P → List (Event × Gone K V P) → SessionState K V P View S W → Type 0
@@ -84,37 +83,37 @@ module _ {K V P View C S W : Type 0} (m : Meaning K P View C) (hash : S → K �
 
   abbrev pub TouchStep : SessionState K V P View S W → K → Answer K V P → List (Event × Gone K V P) → SessionState K V P View S W → Type 0
   TouchStep old k Yes leaves new =
-      AtShard (λ s t. Touches m s (hash_in old k, k) (Ok true) t) (hash_in old k) old.core new.core × (leaves ≡ []) × (new.handles ≡ old.handles)
+      AtShard (λ s u. Touches t.meaning s (hash_in old k, k) (Ok true) u) (hash_in old k) old.core new.core × (leaves ≡ []) × (new.handles ≡ old.handles)
   TouchStep old k No leaves new = (hit_in old.core (hash_in old k, k) ≡ None) × (leaves ≡ []) × (new ≡ old)
   TouchStep old k (Refused reason) leaves new =
-      AtShard (λ s t. Touches m s (hash_in old k, k) (Err reason) t) (hash_in old k) old.core new.core × (leaves ≡ []) × (new ≡ old)
+      AtShard (λ s u. Touches t.meaning s (hash_in old k, k) (Err reason) u) (hash_in old k) old.core new.core × (leaves ≡ []) × (new ≡ old)
   TouchStep old k _ leaves new = ⊥
 
   abbrev pub RemoveStep : SessionState K V P View S W → K → Answer K V P → List (Event × Gone K V P) → SessionState K V P View S W → Type 0
   RemoveStep old k (Found number told) leaves new =
       (entry : Held K V P) × (gone : Gone K V P)
-      × AtShard (λ s t. Removes m s (hash_in old k, k) (Ok (Some (entry, gone))) t) (hash_in old k) old.core new.core
+      × AtShard (λ s u. Removes t.meaning s (hash_in old k, k) (Ok (Some (entry, gone))) u) (hash_in old k) old.core new.core
       × HandsOut old number told entry new × (leaves ≡ (RemoveEvent, gone) ∷ [])
   RemoveStep old k Missing leaves new = (hit_in old.core (hash_in old k, k) ≡ None) × (leaves ≡ []) × (new ≡ old)
   RemoveStep old k (Refused reason) leaves new =
-      AtShard (λ s t. Removes m s (hash_in old k, k) (Err reason) t) (hash_in old k) old.core new.core × (leaves ≡ []) × (new ≡ old)
+      AtShard (λ s u. Removes t.meaning s (hash_in old k, k) (Err reason) u) (hash_in old k) old.core new.core × (leaves ≡ []) × (new ≡ old)
   RemoveStep old k _ leaves new = ⊥
 
   abbrev pub CloneStep : SessionState K V P View S W → ℕ → Answer K V P → List (Event × Gone K V P) → SessionState K V P View S W → Type 0
   CloneStep old n (Found number told) leaves new =
       (entry : Held K V P) × (clone : Held K V P) × (held_at old.handles n ≡ Some entry)
-      × AtShard (λ s t. ClonesHandle s entry (Ok clone) t) entry.kept.hash old.core new.core
+      × AtShard (λ s u. ClonesHandle s entry (Ok clone) u) entry.kept.hash old.core new.core
       × HandsOut old number told clone new × (leaves ≡ [])
   CloneStep old n (Refused reason) leaves new =
       (entry : Held K V P) × (held_at old.handles n ≡ Some entry)
-      × AtShard (λ s t. ClonesHandle s entry (Err reason) t) entry.kept.hash old.core new.core × (leaves ≡ []) × (new ≡ old)
+      × AtShard (λ s u. ClonesHandle s entry (Err reason) u) entry.kept.hash old.core new.core × (leaves ≡ []) × (new ≡ old)
   CloneStep old n NotHeld leaves new = (held_at old.handles n ≡ None) × (leaves ≡ []) × (new ≡ old)
   CloneStep old n _ leaves new = ⊥
 
   abbrev pub DropStep : SessionState K V P View S W → ℕ → Answer K V P → List (Event × Gone K V P) → SessionState K V P View S W → Type 0
   DropStep old n Done leaves new =
       (entry : Held K V P) × (leave : Option (Event × Gone K V P)) × (held_at old.handles n ≡ Some entry)
-      × AtShard (λ s t. GivesBack m s entry.id leave t) entry.kept.hash old.core new.core
+      × AtShard (λ s u. GivesBack t.meaning s entry.id leave u) entry.kept.hash old.core new.core
       × (new.handles ≡ slice_set old.handles n None) × (leaves ≡ leaves_of leave)
   DropStep old n NotHeld leaves new = (held_at old.handles n ≡ None) × (leaves ≡ []) × (new ≡ old)
   DropStep old n _ leaves new = ⊥
@@ -133,22 +132,50 @@ module _ {K V P View C S W : Type 0} (m : Meaning K P View C) (hash : S → K �
   OutdatedStep old n NotHeld leaves new = (held_at old.handles n ≡ None) × (leaves ≡ []) × (new ≡ old)
   OutdatedStep old n _ leaves new = ⊥
 
-  -- a question whose answer is this number; nothing changes
-  abbrev pub NumberStep : ℕ → SessionState K V P View S W → Answer K V P → List (Event × Gone K V P) → SessionState K V P View S W → Type 0
-  NumberStep count old (Number told) leaves new = (told ≡ count) × (leaves ≡ []) × (new ≡ old)
-  NumberStep count old _ leaves new = ⊥
+  -- all that is in leaves, or nothing changes
+  abbrev pub ClearStep : SessionState K V P View S W → Answer K V P → List (Event × Gone K V P) → SessionState K V P View S W → Type 0
+  ClearStep old Done leaves new = OfShards (InTurn (Clears t.meaning)) old.core leaves new.core × (new.handles ≡ old.handles)
+  ClearStep old (Refused NoMemory) leaves new = (leaves ≡ []) × (new ≡ old)
+  ClearStep old _ leaves new = ⊥
 
+  -- all that is not pinned leaves, or some beginning of it
+  abbrev pub EvictAllStep : SessionState K V P View S W → Answer K V P → List (Event × Gone K V P) → SessionState K V P View S W → Type 0
+  EvictAllStep old Done leaves new = OfShards (InTurn (EvictsUnpinned t.meaning)) old.core leaves new.core × (new.handles ≡ old.handles)
+  EvictAllStep old (Refused NoMemory) leaves new =
+      OfShards (InTurnUntil (EvictsUnpinned t.meaning) (EvictingUnpinned t.meaning)) old.core leaves new.core × (new.handles ≡ old.handles)
+  EvictAllStep old _ leaves new = ⊥
+
+  -- what the predicate picks leaves, or nothing changes; `says` is what it may answer
+  abbrev pub FlushIfStep : SessionState K V P View S W → (K → V → Bool → Type 0) → Answer K V P → List (Event × Gone K V P) → SessionState K V P View S W → Type 0
+  FlushIfStep old says Done leaves new = OfShards (InTurn (EvictsIf t.meaning says)) old.core leaves new.core × (new.handles ≡ old.handles)
+  FlushIfStep old says (Refused NoMemory) leaves new = (leaves ≡ []) × (new ≡ old)
+  FlushIfStep old says _ leaves new = ⊥
+
+  -- all capacities are set, and the evictions to them leave, or some beginning of those
+  abbrev pub ResizeStep : SessionState K V P View S W → ℕ → Answer K V P → List (Event × Gone K V P) → SessionState K V P View S W → Type 0
+  ResizeStep old capacity Done leaves new =
+      Resizes t.meaning (InTurn (EvictsToCapacity t.meaning)) capacity old.core leaves new.core × (new.handles ≡ old.handles)
+  ResizeStep old capacity (Refused NoMemory) leaves new =
+      Resizes t.meaning (InTurnUntil (EvictsToCapacity t.meaning) (EvictingToCapacity t.meaning)) capacity old.core leaves new.core × (new.handles ≡ old.handles)
+  ResizeStep old capacity _ leaves new = ⊥
+
+-- `picks` is what a predicate may answer of a key and a value.
+module _ {K V P View C S W Q : Type 0} (t : Terms K V P View C S W) (picks : Q → K → V → Bool → Type 0) where
   -- what a session answers to a command, what leaves, and the state then
-  abbrev pub Step : SessionState K V P View S W → Command K V P → Answer K V P → List (Event × Gone K V P) → SessionState K V P View S W → Type 0
-  Step old (Insert k v p) answer leaves new = InsertStep old k v p answer leaves new
-  Step old (Get k) answer leaves new = GetStep old k answer leaves new
-  Step old (Contains k) answer leaves new = ContainsStep old k answer leaves new
-  Step old (Touch k) answer leaves new = TouchStep old k answer leaves new
-  Step old (Remove k) answer leaves new = RemoveStep old k answer leaves new
-  Step old (Clone n) answer leaves new = CloneStep old n answer leaves new
-  Step old (Drop n) answer leaves new = DropStep old n answer leaves new
-  Step old (Refs n) answer leaves new = RefsStep old n answer leaves new
-  Step old (Outdated n) answer leaves new = OutdatedStep old n answer leaves new
+  abbrev pub Step : SessionState K V P View S W → Command K V P Q → Answer K V P → List (Event × Gone K V P) → SessionState K V P View S W → Type 0
+  Step old (Insert k v p) answer leaves new = InsertStep t old k v p answer leaves new
+  Step old (Get k) answer leaves new = GetStep t old k answer leaves new
+  Step old (Contains k) answer leaves new = ContainsStep t old k answer leaves new
+  Step old (Touch k) answer leaves new = TouchStep t old k answer leaves new
+  Step old (Remove k) answer leaves new = RemoveStep t old k answer leaves new
+  Step old (Clone n) answer leaves new = CloneStep t old n answer leaves new
+  Step old (Drop n) answer leaves new = DropStep t old n answer leaves new
+  Step old (Refs n) answer leaves new = RefsStep t old n answer leaves new
+  Step old (Outdated n) answer leaves new = OutdatedStep t old n answer leaves new
+  Step old Clear answer leaves new = ClearStep t old answer leaves new
+  Step old EvictAll answer leaves new = EvictAllStep t old answer leaves new
+  Step old (FlushIf q) answer leaves new = FlushIfStep t old (picks q) answer leaves new
+  Step old (Resize capacity) answer leaves new = ResizeStep t old capacity answer leaves new
   Step old Capacity answer leaves new = NumberStep old.core.capacity old answer leaves new
-  Step old Usage answer leaves new = NumberStep (usage_of_core m old.core) old answer leaves new
-  Step old Entries answer leaves new = NumberStep (entries_of_core m old.core) old answer leaves new
+  Step old Usage answer leaves new = NumberStep (usage_of_core t.meaning old.core) old answer leaves new
+  Step old Entries answer leaves new = NumberStep (entries_of_core t.meaning old.core) old answer leaves new

@@ -7,9 +7,9 @@ use foyer_policy::{Error, Event};
 use std::marker::Model;
 
 /// What a session is asked. It names a handle by its number: handles are numbered from 0 in the order in
-/// which they were handed out.
+/// which they were handed out. `Q` is the predicate of a `FlushIf`.
 #[derive(Debug, Drop)]
-pub enum Command<K, V, P> {
+pub enum Command<K, V, P, Q> {
     /// Takes a record of this key, value and properties in.
     Insert(K, V, P),
     /// Asks for a handle of the key's record.
@@ -28,6 +28,14 @@ pub enum Command<K, V, P> {
     Refs(u64),
     /// Asks whether the record of the handle of this number left.
     Outdated(u64),
+    /// Takes all records out.
+    Clear,
+    /// Evicts all records that are not pinned.
+    EvictAll,
+    /// Evicts the records that the predicate picks, pinned or not.
+    FlushIf(Q),
+    /// Sets the weight that the records may have together, and evicts to it.
+    Resize(usize),
     /// Asks for the weight that the records may have together.
     Capacity,
     /// Asks for the sum of the weights of the records that a get finds.
@@ -122,13 +130,14 @@ pub enum Answer<K, V, P> {
     /// To `Contains` or `Touch`: the key has no record. To `Outdated`: a get of its key finds the handle's
     /// record.
     No,
-    /// To `Drop`: the handle was given back.
+    /// To `Drop`: the handle was given back. To `Clear`, `EvictAll`, `FlushIf` or `Resize`: it is done.
     Done,
     /// To `Refs`, `Capacity`, `Usage` or `Entries`: so many.
     Number(u128),
     /// To what names a handle: no held handle has this number. Nothing has changed.
     NotHeld,
-    /// To `Insert`, `Get`, `Touch`, `Remove` or `Clone`: why it was refused.
+    /// To `Insert`, `Get`, `Touch`, `Remove` or `Clone`, and to `Clear`, `EvictAll`, `FlushIf` or `Resize`: why
+    /// it was refused.
     Refused(Error),
 }
 

@@ -1,15 +1,17 @@
 //! A cache in one thread's hands, and the handles that it handed out.
 
-ghost use Rattle.std.specs.Prelude.{◌≡◌, ◌+◌, ◌<◌, ◌≤◌, [], true, IfOk, IfErr, OnErr, All, vec_len, vec_capacity};
+ghost use Rattle.std.specs.Prelude.{◌≡◌, ◌+◌, ◌<◌, ◌≤◌, [], true, IfOk, IfErr, OnErr, vec_len, vec_capacity};
 ghost use Rattle.foyer_policy.specs.declared.error.Reason.TheVariants.{NoMemory};
 ghost use Rattle.foyer_core.specs.Cores.{core_of};
 ghost use Rattle.foyer_session.specs.Owns.{OwnsHandles};
 
 use crate::command::{Answer, Command, Reply};
+use crate::predicate::Predicate;
 use foyer_core::{CacheCore, HashTableIndexer, Indexer, Weighter};
 use foyer_policy::{Error, Eviction, HashBuilder, Key, Properties, Reason, Result, Value};
 use std::alloc::Global;
 
+mod bulk;
 mod handle;
 mod held;
 mod keys;
@@ -49,8 +51,8 @@ impl<
 > Session<E, K, V, P, S, W, I> {
     ghost use Rattle.foyer_core.specs.Core.{usage_of_core, entries_of_core};
     ghost use Rattle.foyer_session.specs.Run.{Run};
-    ghost use Rattle.foyer_session.specs.Sessions.{session_of, meaning_of_session};
-    ghost use Rattle.foyer_session.specs.Step.{NumberStep, Step, IsPlain};
+    ghost use Rattle.foyer_session.specs.Sessions.{session_of, meaning_of_session, terms_of};
+    ghost use Rattle.foyer_session.specs.Step.{NumberStep, Step};
 
     /// A session over a core, which has handed nothing out.
     pub fn new(alloc: Global, core: CacheCore<E, K, V, P, S, W, (), I>) -> Self
@@ -65,14 +67,14 @@ impl<
     }
 
     /// Carries out commands, each as `step` does, and answers their replies in order. A clone of a key must
-    /// equal it, and each insert's properties make a plain record, neither phantom nor on disk alone. Refused
-    /// only for want of memory (F7), before any command, and then nothing has changed.
-    pub fn run(&mut self, commands: Vec<Command<K, V, P>>) -> Result<Vec<Reply<K, V, P>>>
+    /// equal it. Refused only for want of memory (F7), before any command, and then nothing has changed.
+    pub fn run<Q: Predicate<K, V>>(
+        &mut self,
+        commands: Vec<Command<K, V, P, Q>>,
+    ) -> Result<Vec<Reply<K, V, P>>>
         requires clones { (k c : K) → K.is_clone k c → K.eq c k ≡ true }
-        requires plain { All (IsPlain P.phantom_of P.location_of) commands.items }
         ensures run { IfOk result (λ replies.
-            Run (meaning_of_session self.old) (λ builder key. S.hash_of builder (K.hash_input key)) W.weighs
-            (session_of self.old) commands.items replies.items (session_of self.new)) }
+            Run (terms_of self.old) Q.picks (session_of self.old) commands.items replies.items (session_of self.new)) }
         ensures refused { IfErr result (λ e. e ≡ NoMemory) }
         ensures err { OnErr result (session_of self.new ≡ session_of self.old) }
     {
@@ -94,15 +96,15 @@ impl<
         Ok(replies)
     }
 
-    /// Carries out one command. A clone of a key must equal it, and an insert's properties make a plain
-    /// record, neither phantom nor on disk alone. Refused only for want of memory (F7), before the command,
-    /// and then nothing has changed.
-    pub fn step(&mut self, command: Command<K, V, P>) -> Result<Reply<K, V, P>>
+    /// Carries out one command. A clone of a key must equal it. Refused only for want of memory (F7), before
+    /// the command, and then nothing has changed.
+    pub fn step<Q: Predicate<K, V>>(
+        &mut self,
+        command: Command<K, V, P, Q>,
+    ) -> Result<Reply<K, V, P>>
         requires clones { (k c : K) → K.is_clone k c → K.eq c k ≡ true }
-        requires plain { IsPlain P.phantom_of P.location_of command }
         ensures step { IfOk result (λ reply.
-            Step (meaning_of_session self.old) (λ builder key. S.hash_of builder (K.hash_input key)) W.weighs
-            (session_of self.old) command reply.answer reply.leaves (session_of self.new)) }
+            Step (terms_of self.old) Q.picks (session_of self.old) command reply.answer reply.leaves (session_of self.new)) }
         ensures refused { IfErr result (λ e. e ≡ NoMemory) }
         ensures err { OnErr result (session_of self.new ≡ session_of self.old) }
     {
@@ -129,18 +131,16 @@ impl<
 
     // Answers a number, and changes nothing.
     fn tell_number(&self, number: u128) -> Reply<K, V, P>
-        ensures { NumberStep (meaning_of_session self.now) (λ builder key. S.hash_of builder (K.hash_input key)) W.weighs
-            number (session_of self.now) result.answer result.leaves (session_of self.now) }
+        ensures { NumberStep number (session_of self.now) result.answer result.leaves (session_of self.now) }
     {
         Reply::new(Answer::Number(number), Vec::new(self.alloc))
     }
 
     // Carries out a command that nothing can be missing for.
-    fn carry_out(&mut self, ready: Ready<K, V, P>) -> Reply<K, V, P>
+    fn carry_out<Q: Predicate<K, V>>(&mut self, ready: Ready<K, V, P, Q>) -> Reply<K, V, P>
         requires clones { (k c : K) → K.is_clone k c → K.eq c k ≡ true }
-        requires plain { IsPlain P.phantom_of P.location_of ready.command }
         requires room { vec_len self.old.handles < vec_capacity self.old.handles }
-        ensures step { Step (meaning_of_session self.old) (λ builder key. S.hash_of builder (K.hash_input key)) W.weighs
+        ensures step { Step (terms_of self.old) Q.picks
             (session_of self.old) ready.command result.answer result.leaves (session_of self.new) }
         ensures len { vec_len self.new.handles ≤ vec_len self.old.handles + 1 }
         ensures capacity { vec_capacity self.new.handles ≡ vec_capacity self.old.handles }
@@ -156,6 +156,10 @@ impl<
             Command::Drop(number) => self.give_back(number, leaves),
             Command::Refs(number) => self.refs(number),
             Command::Outdated(number) => self.is_outdated(number),
+            Command::Clear => self.clear(),
+            Command::EvictAll => self.evict_all(),
+            Command::FlushIf(predicate) => self.flush_if(&predicate),
+            Command::Resize(capacity) => self.resize(capacity),
             Command::Capacity => self.tell_number(self.core.capacity() as u128),
             Command::Usage => self.tell_number(self.core.usage()),
             Command::Entries => self.tell_number(self.core.entries()),

@@ -1,30 +1,35 @@
 //! A session over a cache whose hand looks for what was not used.
 
-ghost use Rattle.std.specs.Prelude.{◌≡◌, true, IfOk, IfErr, OnErr, All};
+ghost use Rattle.std.specs.Prelude.{◌≡◌, true, IfOk, IfErr, OnErr};
 ghost use Rattle.foyer_policy.specs.Sieve.{sieve};
 ghost use Rattle.foyer_policy.specs.declared.error.Reason.TheVariants.{NoMemory};
 ghost use Rattle.foyer_policy.specs.declared.sieve.SieveConfig.{SieveConfig};
-ghost use Rattle.foyer_core.specs.Stored.{meaning};
 ghost use Rattle.foyer_session.specs.Run.{Run};
-ghost use Rattle.foyer_session.specs.Sessions.{session_of};
-ghost use Rattle.foyer_session.specs.Step.{IsPlain};
+ghost use Rattle.foyer_session.specs.Sessions.{session_of, terms_of};
+ghost use Rattle.foyer_session.specs.Terms.{with_policy};
 
 use crate::command::{Command, Reply};
+use crate::predicate::Predicate;
 use crate::session::Session;
 use foyer_core::Weighter;
 use foyer_policy::{HashBuilder, Key, Properties, Result, Sieve, Value};
 
 /// Carries out commands as `Session::run` does. What leaves is the first record from the hand on that was
 /// not used since the hand last passed it.
-pub fn run_sieve<K: Key, V: Value, P: Properties, S: HashBuilder, W: Weighter<K, V>>(
+pub fn run_sieve<
+    K: Key,
+    V: Value,
+    P: Properties,
+    S: HashBuilder,
+    W: Weighter<K, V>,
+    Q: Predicate<K, V>,
+>(
     session: &mut Session<Sieve, K, V, P, S, W>,
-    commands: Vec<Command<K, V, P>>,
+    commands: Vec<Command<K, V, P, Q>>,
 ) -> Result<Vec<Reply<K, V, P>>>
     requires clones { (k c : K) → K.is_clone k c → K.eq c k ≡ true }
-    requires plain { All (IsPlain P.phantom_of P.location_of) commands.items }
     ensures run { IfOk result (λ replies.
-        Run (meaning K.eq (sieve SieveConfig) P.hint_of P.phantom_of)
-        (λ builder key. S.hash_of builder (K.hash_input key)) W.weighs
+        Run (with_policy (sieve SieveConfig) (terms_of session.old)) Q.picks
         (session_of session.old) commands.items replies.items (session_of session.new)) }
     ensures refused { IfErr result (λ e. e ≡ NoMemory) }
     ensures err { OnErr result (session_of session.new ≡ session_of session.old) }

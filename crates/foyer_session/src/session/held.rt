@@ -20,14 +20,13 @@ impl<
     W: Weighter<K, V>,
     I: Indexer<K>,
 > Session<E, K, V, P, S, W, I> {
-    ghost use Rattle.foyer_session.specs.Sessions.{session_of, meaning_of_session};
+    ghost use Rattle.foyer_session.specs.Sessions.{session_of, terms_of};
     ghost use Rattle.foyer_session.specs.Step.{CloneStep, DropStep, RefsStep, OutdatedStep};
 
     // Hands out one more handle of the record of a handle.
     pub(super) fn clone_handle(&mut self, number: u64) -> Reply<K, V, P>
         requires room { vec_len self.old.handles < vec_capacity self.old.handles }
-        ensures step { CloneStep (meaning_of_session self.old) (λ builder key. S.hash_of builder (K.hash_input key)) W.weighs
-            (session_of self.old) number result.answer result.leaves (session_of self.new) }
+        ensures step { CloneStep (terms_of self.old) (session_of self.old) number result.answer result.leaves (session_of self.new) }
         ensures len { vec_len self.new.handles ≤ vec_len self.old.handles + 1 }
         ensures capacity { vec_capacity self.new.handles ≡ vec_capacity self.old.handles }
     {
@@ -51,8 +50,7 @@ impl<
     ) -> Reply<K, V, P>
         requires empty { vec_len leaves ≡ 0 }
         requires room { 0 < vec_capacity leaves }
-        ensures step { DropStep (meaning_of_session self.old) (λ builder key. S.hash_of builder (K.hash_input key)) W.weighs
-            (session_of self.old) number result.answer result.leaves (session_of self.new) }
+        ensures step { DropStep (terms_of self.old) (session_of self.old) number result.answer result.leaves (session_of self.new) }
         ensures len { vec_len self.new.handles ≡ vec_len self.old.handles }
         ensures capacity { vec_capacity self.new.handles ≡ vec_capacity self.old.handles }
     {
@@ -69,8 +67,7 @@ impl<
     }
 
     pub(super) fn refs(&self, number: u64) -> Reply<K, V, P>
-        ensures { RefsStep (meaning_of_session self.now) (λ builder key. S.hash_of builder (K.hash_input key)) W.weighs
-            (session_of self.now) number result.answer result.leaves (session_of self.now) }
+        ensures { RefsStep (terms_of self.now) (session_of self.now) number result.answer result.leaves (session_of self.now) }
     {
         let Some(entry) = handle::held(self.handles.as_slice(), number) else {
             return Reply::new(Answer::NotHeld, Vec::new(self.alloc));
@@ -80,8 +77,7 @@ impl<
     }
 
     pub(super) fn is_outdated(&self, number: u64) -> Reply<K, V, P>
-        ensures { OutdatedStep (meaning_of_session self.now) (λ builder key. S.hash_of builder (K.hash_input key)) W.weighs
-            (session_of self.now) number result.answer result.leaves (session_of self.now) }
+        ensures { OutdatedStep (terms_of self.now) (session_of self.now) number result.answer result.leaves (session_of self.now) }
     {
         let Some(entry) = handle::held(self.handles.as_slice(), number) else {
             return Reply::new(Answer::NotHeld, Vec::new(self.alloc));

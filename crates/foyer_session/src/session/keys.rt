@@ -1,8 +1,6 @@
 //! What a session does with a key.
 
-ghost use Rattle.std.specs.Prelude.{◌≡◌, ◌≢◌, ◌+◌, ◌<◌, ◌≤◌, true, false, Some, vec_len, vec_capacity};
-ghost use Rattle.foyer_policy.specs.Properties.{is_phantom};
-ghost use Rattle.foyer_policy.specs.declared.types.Location.TheVariants.{OnDisk};
+ghost use Rattle.std.specs.Prelude.{◌≡◌, ◌+◌, ◌<◌, ◌≤◌, true, vec_len, vec_capacity};
 ghost use Rattle.foyer_core.specs.Core.{AnswersNobody};
 
 use super::ready::with_leave;
@@ -20,16 +18,13 @@ impl<
     W: Weighter<K, V>,
     I: Indexer<K>,
 > Session<E, K, V, P, S, W, I> {
-    ghost use Rattle.foyer_session.specs.Sessions.{session_of, meaning_of_session};
+    ghost use Rattle.foyer_session.specs.Sessions.{session_of, terms_of};
     ghost use Rattle.foyer_session.specs.Step.{InsertStep, GetStep, ContainsStep, TouchStep, RemoveStep};
 
     pub(super) fn insert(&mut self, key: K, value: V, properties: P) -> Reply<K, V, P>
         requires clones { (k c : K) → K.is_clone k c → K.eq c k ≡ true }
-        requires plain { is_phantom (P.phantom_of properties) ≡ false }
-        requires in_memory { P.location_of properties ≢ Some OnDisk }
         requires room { vec_len self.old.handles < vec_capacity self.old.handles }
-        ensures step { InsertStep (meaning_of_session self.old) (λ builder key. S.hash_of builder (K.hash_input key)) W.weighs
-            (session_of self.old) key value properties result.answer result.leaves (session_of self.new) }
+        ensures step { InsertStep (terms_of self.old) (session_of self.old) key value properties result.answer result.leaves (session_of self.new) }
         ensures len { vec_len self.new.handles ≤ vec_len self.old.handles + 1 }
         ensures capacity { vec_capacity self.new.handles ≡ vec_capacity self.old.handles }
     {
@@ -59,8 +54,7 @@ impl<
 
     pub(super) fn get(&mut self, key: &K) -> Reply<K, V, P>
         requires room { vec_len self.old.handles < vec_capacity self.old.handles }
-        ensures step { GetStep (meaning_of_session self.old) (λ builder key. S.hash_of builder (K.hash_input key)) W.weighs
-            (session_of self.old) key.now result.answer result.leaves (session_of self.new) }
+        ensures step { GetStep (terms_of self.old) (session_of self.old) key.now result.answer result.leaves (session_of self.new) }
         ensures len { vec_len self.new.handles ≤ vec_len self.old.handles + 1 }
         ensures capacity { vec_capacity self.new.handles ≡ vec_capacity self.old.handles }
     {
@@ -75,8 +69,7 @@ impl<
     }
 
     pub(super) fn contains(&self, key: &K) -> Reply<K, V, P>
-        ensures { ContainsStep (meaning_of_session self.now) (λ builder key. S.hash_of builder (K.hash_input key)) W.weighs
-            (session_of self.now) key.now result.answer result.leaves (session_of self.now) }
+        ensures { ContainsStep (terms_of self.now) (session_of self.now) key.now result.answer result.leaves (session_of self.now) }
     {
         let answer = if self.core.contains(key) {
             Answer::Yes
@@ -87,8 +80,7 @@ impl<
     }
 
     pub(super) fn touch(&mut self, key: &K) -> Reply<K, V, P>
-        ensures step { TouchStep (meaning_of_session self.old) (λ builder key. S.hash_of builder (K.hash_input key)) W.weighs
-            (session_of self.old) key.now result.answer result.leaves (session_of self.new) }
+        ensures step { TouchStep (terms_of self.old) (session_of self.old) key.now result.answer result.leaves (session_of self.new) }
         ensures len { vec_len self.new.handles ≡ vec_len self.old.handles }
         ensures capacity { vec_capacity self.new.handles ≡ vec_capacity self.old.handles }
     {
@@ -104,8 +96,7 @@ impl<
         requires room { vec_len self.old.handles < vec_capacity self.old.handles }
         requires empty { vec_len leaves ≡ 0 }
         requires leave { 0 < vec_capacity leaves }
-        ensures step { RemoveStep (meaning_of_session self.old) (λ builder key. S.hash_of builder (K.hash_input key)) W.weighs
-            (session_of self.old) key.now result.answer result.leaves (session_of self.new) }
+        ensures step { RemoveStep (terms_of self.old) (session_of self.old) key.now result.answer result.leaves (session_of self.new) }
         ensures len { vec_len self.new.handles ≤ vec_len self.old.handles + 1 }
         ensures capacity { vec_capacity self.new.handles ≡ vec_capacity self.old.handles }
     {

@@ -1,15 +1,17 @@
-ghost use Rattle.foyer_session.specs.Step.{IsPlain};
-
 use super::*;
-use crate::command::Answer;
 use crate::fifo_session::run_fifo;
+use crate::predicate::NoPredicate;
 use foyer_core::{CacheProperties, Limits, RawCacheConfig, UnitWeighter};
 use foyer_policy::{Event, Fifo, FifoConfig, ModHasher};
 use std::alloc::AllocError;
 use std::process::Abort;
 use std::test::Fail;
 
+mod bulk;
+
 type FifoSession = Session<Fifo, u64, u64, CacheProperties, ModHasher, UnitWeighter>;
+
+type Plain = Command<u64, u64, CacheProperties, NoPredicate>;
 
 // A session over an empty core of one shard.
 fn session(alloc: Global, capacity: usize, limits: Limits) -> Result<FifoSession> {
@@ -25,9 +27,7 @@ fn session(alloc: Global, capacity: usize, limits: Limits) -> Result<FifoSession
     Ok(Session::new(alloc, CacheCore::new(alloc, config)?))
 }
 
-fn insert(key: u64, value: u64) -> Command<u64, u64, CacheProperties>
-    ensures { IsPlain ⟦<CacheProperties as Properties>⟧.phantom_of ⟦<CacheProperties as Properties>⟧.location_of result }
-{
+fn insert(key: u64, value: u64) -> Plain {
     Command::Insert(key, value, CacheProperties::default())
 }
 
@@ -108,14 +108,14 @@ fn number(answer: &Answer<u64, u64, CacheProperties>) -> Option<u128> {
 
 // What a session answers to a get, and to a drop of a handle.
 fn answer_to_get(session: &mut FifoSession, key: u64) -> Result<Answer<u64, u64, CacheProperties>> {
-    Ok(session.step(Command::Get(key))?.answer)
+    Ok(session.step(Plain::Get(key))?.answer)
 }
 
 fn answer_to_drop(
     session: &mut FifoSession,
     number: u64,
 ) -> Result<Answer<u64, u64, CacheProperties>> {
-    Ok(session.step(Command::Drop(number))?.answer)
+    Ok(session.step(Plain::Drop(number))?.answer)
 }
 
 #[test]
@@ -140,21 +140,21 @@ fn a_removed_record_is_told_and_outdated(rt: HostRuntime) -> std::result::Result
     let alloc = rt.alloc();
     let mut session = session(alloc, 2, Limits::default())?;
     session.step(insert(1, 10))?;
-    let fresh = session.step(Command::Outdated(0))?;
+    let fresh = session.step(Plain::Outdated(0))?;
     assert!(rt; matches!(fresh.answer, Answer::No));
-    let removed = session.step(Command::Remove(1))?;
+    let removed = session.step(Plain::Remove(1))?;
     assert_eq!(rt; handed_out(&removed.answer), Some((1, 10)));
     let left = told(alloc, &removed)?;
     assert_eq!(rt; left.as_slice(), [(Event::Remove, 1, 10)].as_slice());
     assert_eq!(rt; session.usage(), 0);
     assert_eq!(rt; session.entries(), 0);
-    let again = session.step(Command::Remove(1))?;
+    let again = session.step(Plain::Remove(1))?;
     assert!(rt; matches!(again.answer, Answer::Missing));
-    let outdated = session.step(Command::Outdated(1))?;
+    let outdated = session.step(Plain::Outdated(1))?;
     assert!(rt; matches!(outdated.answer, Answer::Yes));
-    let unknown = session.step(Command::Outdated(2))?;
+    let unknown = session.step(Plain::Outdated(2))?;
     assert!(rt; matches!(unknown.answer, Answer::NotHeld));
-    let refs = session.step(Command::Refs(0))?;
+    let refs = session.step(Plain::Refs(0))?;
     assert_eq!(rt; number(&refs.answer), Some(2));
     Ok(())
 }
@@ -168,16 +168,16 @@ fn a_clone_is_a_handle_of_the_same_record(rt: HostRuntime) -> std::result::Resul
     };
     let mut session = session(alloc, 2, limits)?;
     session.step(insert(1, 10))?;
-    let cloned = session.step(Command::Clone(0))?;
+    let cloned = session.step(Plain::Clone(0))?;
     assert_eq!(rt; handed_out(&cloned.answer), Some((1, 10)));
-    let refused_clone = session.step(Command::Clone(1))?;
+    let refused_clone = session.step(Plain::Clone(1))?;
     assert_eq!(rt; refused(&refused_clone.answer), Some(9));
-    session.step(Command::Drop(0))?;
-    let gone = session.step(Command::Clone(0))?;
+    session.step(Plain::Drop(0))?;
+    let gone = session.step(Plain::Clone(0))?;
     assert!(rt; matches!(gone.answer, Answer::NotHeld));
-    let refs = session.step(Command::Refs(1))?;
+    let refs = session.step(Plain::Refs(1))?;
     assert_eq!(rt; number(&refs.answer), Some(1));
-    let missing = session.step(Command::Refs(0))?;
+    let missing = session.step(Plain::Refs(0))?;
     assert!(rt; matches!(missing.answer, Answer::NotHeld));
     Ok(())
 }

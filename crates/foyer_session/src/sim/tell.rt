@@ -7,15 +7,15 @@ ghost use Rattle.foyer_session.specs.Print.{WritesText};
 ghost use Rattle.foyer_session.specs.Printed.{answer_text, refusal_text};
 ghost use Rattle.foyer_session.specs.Sessions.{session_of, meaning_of_session};
 ghost use Rattle.foyer_session.specs.Simulated.{CommandTold, LineTold, line_text};
-ghost use Rattle.foyer_session.specs.Step.{IsPlain};
 
 use super::reply::{write_answer, write_refusal, write_rest};
 use super::value::{SimValue, SimWeighter};
 use crate::command::{Command, Reply};
+use crate::predicate::NoPredicate;
 use crate::session::Session;
 use crate::text::{Line, write_out};
 use foyer_core::{CacheProperties, Indexer};
-use foyer_policy::{Error, Eviction, HashBuilder, Properties};
+use foyer_policy::{Error, Eviction, HashBuilder};
 use std::io;
 use std::io::Write;
 
@@ -49,9 +49,8 @@ pub fn tell<W: Write, E: Eviction, S: HashBuilder, I: Indexer<u64>>(
 fn tell_command<W: Write, E: Eviction, S: HashBuilder, I: Indexer<u64>>(
     writer: &mut W,
     session: &mut Session<E, u64, SimValue, CacheProperties, S, SimWeighter, I>,
-    command: Command<u64, SimValue, CacheProperties>,
+    command: Command<u64, SimValue, CacheProperties, NoPredicate>,
 ) -> io::Result<()>
-    requires { IsPlain ⟦<CacheProperties as Properties>⟧.phantom_of ⟦<CacheProperties as Properties>⟧.location_of command }
     ensures { (text : List ℕ)
         × CommandTold (meaning_of_session session.old) (λ builder key. S.hash_of builder (u64_input key)) (session_of session.old) command text (session_of session.new)
         × WritesText (W.contents writer.old) (W.contents writer.new) result text }

@@ -1,4 +1,3 @@
-use Rattle.std.proofs.Common.{Some, IfSome}
 use Rattle.std.specs.Hash.{u64 as u64_input}
 use Rattle.foyer_session.specs.Sessions.{session_of, meaning_of_session}
 use Rattle.foyer_session.specs.Simulated.{LineTold}

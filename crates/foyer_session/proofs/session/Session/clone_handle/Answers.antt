@@ -2,7 +2,7 @@ use Rattle.std.proofs.Math.Logic.{∥∥₁_map}
 use Rattle.foyer_core.specs.Cores.{core_of}
 use Rattle.foyer_session.specs.Sessions.{meaning_of_session}
 use Rattle.foyer_session.proofs.OwnLemmas.{owned_held}
-use Rattle.foyer_session.proofs.StepLemmas.{cloned_owns, clone_refused}
+use Rattle.foyer_session.proofs.StepLemmas.{cloned_owns, clone_refused, session_same, owns_still}
 use Rattle.foyer_session.proofs.session.Session.clone_handle.Goals as goal
 
 pub clone_held-requires-clause-owned : goal.clone_held-requires-clause-owned
@@ -18,6 +18,12 @@ invariant_of-self-in-Ok g c =
       owns = rw c.hand_out-handle.ensures.handles (∥∥₁_map s.owns (λ o.
           cloned_owns (meaning_of_session s) (core_of s.core) (core_of c.clone_held.new.core) s.handles.items o c.args.number c.in-Some.entry.now c.in-Ok.clone there c.in-Ok.ensures));
     }
+
+pub invariant_of-self-in-Err-1 : goal.invariant_of-self-in-Err-1
+invariant_of-self-in-Err-1 g c =
+    let s = c.args.self.now in
+    let same = clone_refused (core_of s.core) (core_of c.clone_held.new.core) c.in-Some.entry.now c.in-Err.error c.in-Err.ensures in
+    record { owns = owns_still (core_of s.core) (core_of c.clone_held.new.core) s.handles.items same s.owns }
 
 pub returns-in-Ok-clause-step : goal.returns-in-Ok-clause-step
 returns-in-Ok-clause-step g c =
@@ -37,10 +43,11 @@ returns-in-Ok-clause-step g c =
 pub returns-in-Err-clause-step : goal.returns-in-Err-clause-step
 returns-in-Err-clause-step g c =
     let s = c.args.self.now in
+    let same = clone_refused (core_of s.core) (core_of c.clone_held.new.core) c.in-Some.entry.now c.in-Err.error c.in-Err.ensures in
     rw (c.new-in-Err-2.ensures.answer, c.new-in-Err-2.ensures.leaves) (
       c.in-Some.entry.now,
       rw c.as_slice.ensures.value at c.in-Some.ensures.some,
       c.in-Err.ensures,
       c.new-in-Err.ensures.items,
-      clone_refused (core_of s.core) (core_of c.clone_held.new.core) s.handles.items c.in-Some.entry.now c.in-Err.error c.in-Err.ensures,
+      session_same (core_of s.core) (core_of c.clone_held.new.core) s.handles.items same,
     )

@@ -4,7 +4,7 @@ use Rattle.foyer_core.specs.Cores.{core_of}
 use Rattle.foyer_session.specs.Sessions.{meaning_of_session}
 use Rattle.foyer_session.proofs.CoreLemmas.{kept_at}
 use Rattle.foyer_session.proofs.FoundLemmas.{found_hash}
-use Rattle.foyer_session.proofs.StepLemmas.{got_owns}
+use Rattle.foyer_session.proofs.StepLemmas.{got_owns, get_missing, get_refused, session_same, owns_still}
 use Rattle.foyer_session.proofs.session.Session.get.Goals as goal
 
 pub invariant_of-self : goal.invariant_of-self
@@ -32,3 +32,33 @@ returns-in-Ok-Some-clause-step g c =
       },
       c.new.ensures.items,
     )
+
+pub invariant_of-self-in-Ok-None : goal.invariant_of-self-in-Ok-None
+invariant_of-self-in-Ok-None g c =
+    let s = c.args.self.now in
+    let hash = g.S.HashBuilder.hash_of s.core.hash_builder (g.K.Hash.hash_input c.args.key.now) in
+    let gone = get_missing (meaning_of_session s) (core_of s.core) (core_of c.get.new.self) (hash, c.args.key.now) (rw c.in-Ok-None.field-0-is at c.in-Ok-None.ensures.gets) in
+    record { owns = owns_still (core_of s.core) (core_of c.get.new.self) s.handles.items gone.1 s.owns }
+
+pub invariant_of-self-in-Err-1 : goal.invariant_of-self-in-Err-1
+invariant_of-self-in-Err-1 g c =
+    let s = c.args.self.now in
+    let hash = g.S.HashBuilder.hash_of s.core.hash_builder (g.K.Hash.hash_input c.args.key.now) in
+    let same = get_refused (meaning_of_session s) (core_of s.core) (core_of c.get.new.self) (hash, c.args.key.now) c.in-Err.error c.in-Err.ensures.gets in
+    record { owns = owns_still (core_of s.core) (core_of c.get.new.self) s.handles.items same s.owns }
+
+pub returns-in-Ok-None-clause-step : goal.returns-in-Ok-None-clause-step
+returns-in-Ok-None-clause-step g c =
+    let s = c.args.self.now in
+    let hash = g.S.HashBuilder.hash_of s.core.hash_builder (g.K.Hash.hash_input c.args.key.now) in
+    let gone = get_missing (meaning_of_session s) (core_of s.core) (core_of c.get.new.self) (hash, c.args.key.now) (rw c.in-Ok-None.field-0-is at c.in-Ok-None.ensures.gets) in
+    rw (c.new-in-Ok-None-2.ensures.answer, c.new-in-Ok-None-2.ensures.leaves)
+    (gone.0, c.new-in-Ok-None.ensures.items, session_same (core_of s.core) (core_of c.get.new.self) s.handles.items gone.1)
+
+pub returns-in-Err-clause-step : goal.returns-in-Err-clause-step
+returns-in-Err-clause-step g c =
+    let s = c.args.self.now in
+    let hash = g.S.HashBuilder.hash_of s.core.hash_builder (g.K.Hash.hash_input c.args.key.now) in
+    let same = get_refused (meaning_of_session s) (core_of s.core) (core_of c.get.new.self) (hash, c.args.key.now) c.in-Err.error c.in-Err.ensures.gets in
+    rw (c.new-in-Err-2.ensures.answer, c.new-in-Err-2.ensures.leaves)
+    (c.in-Err.ensures.gets, c.new-in-Err.ensures.items, session_same (core_of s.core) (core_of c.get.new.self) s.handles.items same)

@@ -1,11 +1,9 @@
 use Rattle.std.proofs.Math.Logic.{∥∥₁_elim, ∥∥₁_map}
 use Rattle.std.proofs.Props.{props}
-use Rattle.std.proofs.Common.{Some, sym, ◌∙◌, refl}
+use Rattle.std.proofs.Common.{sym, ◌∙◌}
 use Rattle.std.proofs.lemmas.Bool.{false≢true}
 use Rattle.foyer_core.specs.Cores.{core_of}
-use Rattle.foyer_core.specs.Core.{Owns}
-use Rattle.foyer_session.specs.Sessions.{session_of, meaning_of_session}
-use Rattle.foyer_session.specs.Step.{held_at}
+use Rattle.foyer_session.specs.Sessions.{meaning_of_session}
 use Rattle.foyer_session.proofs.OwnLemmas.{owned_entry}
 use Rattle.foyer_session.proofs.StepLemmas.{gave_back_owns}
 use Rattle.foyer_session.proofs.session.Session.give_back.Goals as goal

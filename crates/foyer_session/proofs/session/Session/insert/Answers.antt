@@ -1,13 +1,11 @@
 use Rattle.std.proofs.Math.Logic.{∥∥₁_elim, ∥∥₁_map}
 use Rattle.std.proofs.Props.{props}
-use Rattle.std.proofs.Common.{◌≡◌, ◌∙◌, Ok, Err, refl, subst}
-use Rattle.foyer_core.specs.Core.{InsertsWeighed}
+use Rattle.std.proofs.Common.{◌∙◌, refl}
 use Rattle.foyer_core.specs.Cores.{core_of}
-use Rattle.foyer_core.specs.State.{coming_in}
-use Rattle.foyer_session.specs.Sessions.{session_of, meaning_of_session}
+use Rattle.foyer_session.specs.Sessions.{session_of, meaning_of_session, terms_of}
 use Rattle.foyer_session.specs.Step.{data_of}
 use Rattle.foyer_session.proofs.CoreLemmas.{kept_at}
-use Rattle.foyer_session.proofs.FoundLemmas.{new_unused, comes_as_it_is}
+use Rattle.foyer_session.proofs.FoundLemmas.{new_unused}
 use Rattle.foyer_session.proofs.StepLemmas.{inserted_owns, refused_owns}
 use Rattle.foyer_session.proofs.session.Session.insert.Goals as goal
 
@@ -15,11 +13,8 @@ pub invariant_of-self : goal.invariant_of-self
 invariant_of-self g c =
     let s = c.args.self.now in
     let m = meaning_of_session s in
-    let came : coming_in g.P.Properties.location_of g.P.Properties.with_phantom_of c.args.properties ≡ c.args.properties =
-    comes_as_it_is g.P.Properties.phantom_of g.P.Properties.location_of g.P.Properties.with_phantom_of c.args.properties c.requires.plain c.requires.in_memory in
-    let hash = g.S.HashBuilder.hash_of s.core.hash_builder (g.K.Hash.hash_input c.args.key) in
-    let did = subst (λ p. InsertsWeighed (meaning_of_session s) {N = Unit {0}} (g.W.Weighter.weighs s.core.weighter c.args.key c.args.value) hash c.args.key c.args.value p (Ok c.in-Ok.inserted) (core_of s.core) (core_of c.insert_with_properties.new.self)) came c.in-Ok.ensures.inserted in
-    let d = data_of m (λ builder key. g.S.HashBuilder.hash_of builder (g.K.Hash.hash_input key)) g.W.Weighter.weighs (session_of s) c.args.key c.args.value c.args.properties did.weight in
+    let did = c.in-Ok.ensures.inserted in
+    let d = data_of (terms_of s) (session_of s) c.args.key c.args.value c.args.properties did.weight in
     let made = c.in-Ok.inserted in
     record {
       owns = rw c.hand_out-handle.ensures.handles (∥∥₁_elim (kept_at s.core d.hash did.inserts.before did.inserts.there) (hlevel props) (λ k. ∥∥₁_map s.owns (λ o.
@@ -31,11 +26,8 @@ pub invariant_of-self-in-Err-1 : goal.invariant_of-self-in-Err-1
 invariant_of-self-in-Err-1 g c =
     let s = c.args.self.now in
     let m = meaning_of_session s in
-    let came : coming_in g.P.Properties.location_of g.P.Properties.with_phantom_of c.args.properties ≡ c.args.properties =
-    comes_as_it_is g.P.Properties.phantom_of g.P.Properties.location_of g.P.Properties.with_phantom_of c.args.properties c.requires.plain c.requires.in_memory in
-    let hash = g.S.HashBuilder.hash_of s.core.hash_builder (g.K.Hash.hash_input c.args.key) in
-    let did = subst (λ p. InsertsWeighed (meaning_of_session s) {N = Unit {0}} (g.W.Weighter.weighs s.core.weighter c.args.key c.args.value) hash c.args.key c.args.value p (Err c.in-Err.refused) (core_of s.core) (core_of c.insert_with_properties.new.self)) came c.in-Err.ensures.inserted in
-    let d = data_of m (λ builder key. g.S.HashBuilder.hash_of builder (g.K.Hash.hash_input key)) g.W.Weighter.weighs (session_of s) c.args.key c.args.value c.args.properties did.weight in
+    let did = c.in-Err.ensures.inserted in
+    let d = data_of (terms_of s) (session_of s) c.args.key c.args.value c.args.properties did.weight in
     record {
       owns = ∥∥₁_map s.owns (λ o.
           refused_owns m (core_of s.core) (core_of c.insert_with_properties.new.self) s.handles.items o d c.in-Err.refused.error c.in-Err.refused.leaves.items did.inserts);
@@ -43,11 +35,7 @@ invariant_of-self-in-Err-1 g c =
 
 pub returns-in-Ok-clause-step : goal.returns-in-Ok-clause-step
 returns-in-Ok-clause-step g c =
-    let s = c.args.self.now in
-    let came : coming_in g.P.Properties.location_of g.P.Properties.with_phantom_of c.args.properties ≡ c.args.properties =
-    comes_as_it_is g.P.Properties.phantom_of g.P.Properties.location_of g.P.Properties.with_phantom_of c.args.properties c.requires.plain c.requires.in_memory in
-    let hash = g.S.HashBuilder.hash_of s.core.hash_builder (g.K.Hash.hash_input c.args.key) in
-    let did = subst (λ p. InsertsWeighed (meaning_of_session s) {N = Unit {0}} (g.W.Weighter.weighs s.core.weighter c.args.key c.args.value) hash c.args.key c.args.value p (Ok c.in-Ok.inserted) (core_of s.core) (core_of c.insert_with_properties.new.self)) came c.in-Ok.ensures.inserted in
+    let did = c.in-Ok.ensures.inserted in
     rw (c.new-in-Ok.ensures.answer, c.new-in-Ok.ensures.leaves) (
       did.weight,
       c.in-Ok.inserted.entry,
@@ -63,9 +51,5 @@ returns-in-Ok-clause-step g c =
 
 pub returns-in-Err-clause-step : goal.returns-in-Err-clause-step
 returns-in-Err-clause-step g c =
-    let s = c.args.self.now in
-    let came : coming_in g.P.Properties.location_of g.P.Properties.with_phantom_of c.args.properties ≡ c.args.properties =
-    comes_as_it_is g.P.Properties.phantom_of g.P.Properties.location_of g.P.Properties.with_phantom_of c.args.properties c.requires.plain c.requires.in_memory in
-    let hash = g.S.HashBuilder.hash_of s.core.hash_builder (g.K.Hash.hash_input c.args.key) in
-    let did = subst (λ p. InsertsWeighed (meaning_of_session s) {N = Unit {0}} (g.W.Weighter.weighs s.core.weighter c.args.key c.args.value) hash c.args.key c.args.value p (Err c.in-Err.refused) (core_of s.core) (core_of c.insert_with_properties.new.self)) came c.in-Err.ensures.inserted in
+    let did = c.in-Err.ensures.inserted in
     rw (c.new-in-Err.ensures.answer, c.new-in-Err.ensures.leaves) (did.weight, did.weighed, did.inserts, refl)

@@ -1,4 +1,4 @@
-use Rattle.std.proofs.Common.{refl, sym, ◌∙◌, true}
+use Rattle.std.proofs.Common.{refl, sym, ◌∙◌}
 use Rattle.std.proofs.lemmas.Bool.{false≢true}
 use Rattle.foyer_core.specs.Cores.{core_of}
 use Rattle.foyer_session.proofs.OwnLemmas.{owned_held}

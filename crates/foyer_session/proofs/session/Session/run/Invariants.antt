@@ -1,17 +1,14 @@
 use Rattle.std.proofs.Common.{◌≡◌, ◌+◌, ◌*◌, ◌≤◌, ◌++◌, length, map, vec_len, vec_capacity}
-use Rattle.std.specs.Prelude.{All}
 use Rattle.foyer_session.specs.Run.{Run}
-use Rattle.foyer_session.specs.Sessions.{session_of, meaning_of_session}
-use Rattle.foyer_session.specs.Step.{IsPlain}
+use Rattle.foyer_session.specs.Sessions.{session_of, terms_of}
 use Rattle.foyer_session.proofs.session.Session.run.Given as goal
 
 -- the replies so far are a run of the commands so far, and there is room for the rest
 abbrev pub invariant-loop-ready : goal.invariant-loop-ready
 invariant-loop-ready g l = record {
-  run : Run (meaning_of_session l.fn.self) (λ builder key. g.S.HashBuilder.hash_of builder (g.K.Hash.hash_input key)) g.W.Weighter.weighs (session_of l.fn.self)
+  run : Run (terms_of l.fn.self) g.Q.Predicate.picks (session_of l.fn.self)
       (map (λ ready. ready.command) l.yielded) l.replies.items (session_of l.self);
   commands : map (λ ready. ready.command) (l.yielded ++ l.ready-iterator.rest.items) ≡ l.fn.commands.items;
-  plain : All (λ ready. IsPlain g.P.Properties.phantom_of g.P.Properties.location_of ready.command) l.ready-iterator.rest.items;
   handles : vec_len l.self.handles + 2 * length l.ready-iterator.rest.items ≤ vec_capacity l.self.handles;
   replies : vec_len l.replies + length l.ready-iterator.rest.items ≤ vec_capacity l.replies;
 }

@@ -2,7 +2,7 @@ use Rattle.std.proofs.Common.{refl}
 use Rattle.std.proofs.Math.Logic.{∥∥₁_map}
 use Rattle.foyer_core.specs.Cores.{core_of}
 use Rattle.foyer_session.specs.Sessions.{meaning_of_session}
-use Rattle.foyer_session.proofs.StepLemmas.{touched_owns}
+use Rattle.foyer_session.proofs.StepLemmas.{touched_owns, touch_missing, touch_refused, session_same}
 use Rattle.foyer_session.proofs.session.Session.touch.Goals as goal
 
 pub invariant_of-self : goal.invariant_of-self
@@ -16,3 +16,19 @@ invariant_of-self g c =
 pub returns-in-Ok-true-clause-step : goal.returns-in-Ok-true-clause-step
 returns-in-Ok-true-clause-step g c =
     rw (c.new-in-Ok-true.ensures.answer, c.new-in-Ok-true.ensures.leaves) (rw c.in-Ok-true.field-0-test at c.in-Ok-true.ensures.touches, c.new.ensures.items, refl)
+
+pub returns-in-Ok-false-clause-step : goal.returns-in-Ok-false-clause-step
+returns-in-Ok-false-clause-step g c =
+    let s = c.args.self.now in
+    let hash = g.S.HashBuilder.hash_of s.core.hash_builder (g.K.Hash.hash_input c.args.key.now) in
+    let gone = touch_missing (meaning_of_session s) (core_of s.core) (core_of c.touch.new.self) (hash, c.args.key.now) (rw c.in-Ok-false.field-0-test at c.in-Ok-false.ensures.touches) in
+    rw (c.new-in-Ok-false-2.ensures.answer, c.new-in-Ok-false-2.ensures.leaves)
+    (gone.0, c.new-in-Ok-false.ensures.items, session_same (core_of s.core) (core_of c.touch.new.self) s.handles.items gone.1)
+
+pub returns-in-Err-clause-step : goal.returns-in-Err-clause-step
+returns-in-Err-clause-step g c =
+    let s = c.args.self.now in
+    let hash = g.S.HashBuilder.hash_of s.core.hash_builder (g.K.Hash.hash_input c.args.key.now) in
+    let same = touch_refused (meaning_of_session s) (core_of s.core) (core_of c.touch.new.self) (hash, c.args.key.now) c.in-Err.error c.in-Err.ensures.touches in
+    rw (c.new-in-Err-2.ensures.answer, c.new-in-Err-2.ensures.leaves)
+    (c.in-Err.ensures.touches, c.new-in-Err.ensures.items, session_same (core_of s.core) (core_of c.touch.new.self) s.handles.items same)

@@ -1,7 +1,7 @@
 use Rattle.std.proofs.Common.{◌++◌}
-use Rattle.std.specs.Prelude.{codes, decimal}
+use Rattle.std.specs.Prelude.{codes}
 use Rattle.foyer_session.specs.Printed.{leave_text}
-use Rattle.foyer_session.proofs.Joins.{AppendsFront-append, AppendsFront-after, WritesText-after, WritesText-stops}
+use Rattle.foyer_session.proofs.Joins.{AppendsFront-append, WritesText-after, WritesText-stops}
 use Rattle.foyer_session.proofs.sim.reply.write_next.Goals as goal
 
 pub returns-in_err-write_out : goal.returns-in_err-write_out

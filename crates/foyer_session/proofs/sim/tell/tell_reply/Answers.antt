@@ -1,4 +1,4 @@
-use Rattle.foyer_session.specs.Printed.{answer_text, rest_text}
+use Rattle.foyer_session.specs.Printed.{answer_text}
 use Rattle.foyer_session.proofs.Joins.{AppendsFront-append, WritesText-after, WritesText-stops}
 use Rattle.foyer_session.proofs.sim.tell.tell_reply.Goals as goal
 

@@ -1,0 +1,16 @@
+-- What a session is over.
+use Rattle.std.specs.Prelude.{ℕ}
+use Rattle.foyer_policy.specs.Policy.{Policy}
+use Rattle.foyer_core.specs.State.{Meaning}
+
+-- When keys are equal, what its policy does and what properties answer, the hash that a hash builder gives a key,
+-- what a weighter may answer of a key and a value, and the properties with which a record comes in.
+pub record Terms (K V P View C S W : Type 0) : Type 1 where
+  pub meaning : Meaning K P View C
+  pub hash : S → K → ℕ
+  pub weighs : W → K → V → ℕ → Type 0
+  pub incoming : P → P
+
+-- the same with this policy
+abbrev pub with_policy : {K V P View C S W : Type 0} → Policy View C → Terms K V P View C S W → Terms K V P View C S W
+with_policy policy t = record t { meaning = record t.meaning { policy = policy } }

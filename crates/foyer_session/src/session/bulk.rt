@@ -1,0 +1,75 @@
+//! What a session does with all of its records.
+
+ghost use Rattle.std.specs.Prelude.{◌≡◌, vec_len, vec_capacity};
+
+use super::Session;
+use crate::command::{Answer, Reply};
+use crate::predicate::Predicate;
+use foyer_core::{Indexer, Refused, Weighter};
+use foyer_policy::{Eviction, HashBuilder, Key, Properties, Value};
+
+impl<
+    E: Eviction,
+    K: Key,
+    V: Value,
+    P: Properties,
+    S: HashBuilder,
+    W: Weighter<K, V>,
+    I: Indexer<K>,
+> Session<E, K, V, P, S, W, I> {
+    ghost use Rattle.foyer_session.specs.Sessions.{session_of, terms_of};
+    ghost use Rattle.foyer_session.specs.Step.{ClearStep, EvictAllStep, FlushIfStep, ResizeStep};
+
+    pub(super) fn clear(&mut self) -> Reply<K, V, P>
+        ensures step { ClearStep (terms_of self.old) (session_of self.old) result.answer result.leaves (session_of self.new) }
+        ensures len { vec_len self.new.handles ≡ vec_len self.old.handles }
+        ensures capacity { vec_capacity self.new.handles ≡ vec_capacity self.old.handles }
+    {
+        match self.core.clear() {
+            Ok(leaves) => Reply::new(Answer::Done, leaves),
+            Err(error) => Reply::new(Answer::Refused(error), Vec::new(self.alloc)),
+        }
+    }
+
+    pub(super) fn evict_all(&mut self) -> Reply<K, V, P>
+        ensures step { EvictAllStep (terms_of self.old) (session_of self.old) result.answer result.leaves (session_of self.new) }
+        ensures len { vec_len self.new.handles ≡ vec_len self.old.handles }
+        ensures capacity { vec_capacity self.new.handles ≡ vec_capacity self.old.handles }
+    {
+        match self.core.evict_all() {
+            Ok(leaves) => Reply::new(Answer::Done, leaves),
+            Err(refused) => {
+                let Refused { error, leaves } = refused;
+                Reply::new(Answer::Refused(error), leaves)
+            }
+        }
+    }
+
+    pub(super) fn flush_if<Q: Predicate<K, V>>(&mut self, predicate: &Q) -> Reply<K, V, P>
+        ensures step { FlushIfStep (terms_of self.old) (session_of self.old) (Q.picks predicate.now) result.answer result.leaves (session_of self.new) }
+        ensures len { vec_len self.new.handles ≡ vec_len self.old.handles }
+        ensures capacity { vec_capacity self.new.handles ≡ vec_capacity self.old.handles }
+    {
+        match self
+            .core
+            .flush_if(&|key: &K, value: &V| predicate.pick(key, value))
+        {
+            Ok(leaves) => Reply::new(Answer::Done, leaves),
+            Err(error) => Reply::new(Answer::Refused(error), Vec::new(self.alloc)),
+        }
+    }
+
+    pub(super) fn resize(&mut self, capacity: usize) -> Reply<K, V, P>
+        ensures step { ResizeStep (terms_of self.old) (session_of self.old) capacity result.answer result.leaves (session_of self.new) }
+        ensures len { vec_len self.new.handles ≡ vec_len self.old.handles }
+        ensures capacity { vec_capacity self.new.handles ≡ vec_capacity self.old.handles }
+    {
+        match self.core.resize(capacity) {
+            Ok(leaves) => Reply::new(Answer::Done, leaves),
+            Err(refused) => {
+                let Refused { error, leaves } = refused;
+                Reply::new(Answer::Refused(error), leaves)
+            }
+        }
+    }
+}
