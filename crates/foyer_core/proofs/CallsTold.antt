@@ -1,5 +1,5 @@
 -- What each call of a core tells of its index.
-use Rattle.std.proofs.Common.{◌≡◌, ℕ, ◌%◌, length, List, [], ◌∷◌, Option, Some, None, Ok, Err, true, refl, sym, ap, subst}
+use Rattle.std.proofs.Common.{◌≡◌, ℕ, length, List, [], ◌∷◌, Option, Some, None, Ok, Err, true, refl, ap}
 use Rattle.std.specs.Prelude.{Bool, Result, MatchResult, IfOk, OnErr, option_map}
 use Rattle.std.specs.Option.{option_to_list}
 use Rattle.std.specs.Cmp.{IsEquivalence}
@@ -15,7 +15,7 @@ use Rattle.foyer_core.specs.Observed.{IsTold, IsToldWith, after_entry, after_lea
 use Rattle.foyer_core.specs.State.{Meaning, State}
 use Rattle.foyer_core.specs.Steps.{ClonesHandle, Gets, GivesBack, Inserts, RefusesInsert, Removes, Touches}
 use Rattle.foyer_core.specs.Values.{Gone, Held}
-use Rattle.foyer_core.proofs.CoreTold.{AreSound, StepTold, all_told, at_told, resized_told, until_told}
+use Rattle.foyer_core.proofs.CoreTold.{AreSound, all_told, at_told, resized_told, until_told}
 use Rattle.foyer_core.proofs.InsertTold.{inserts_told, refuses_told}
 use Rattle.foyer_core.proofs.ShardTold.{SameIndex, ToldBy, cleared_told, clones_index, evicting_told, evicts_told, gets_index, gives_back_told, picked_told, refused_index, removed_told, same_index, same_told, some_unpinned_told, touches_index, unpinned_told}
 

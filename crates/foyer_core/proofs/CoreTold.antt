@@ -2,7 +2,7 @@
 use Rattle.std.proofs.Common.{◌≡◌, ◌≢◌, ℕ, zero, suc, ◌+◌, ◌%◌, ◌<◌, length, List, [], ◌∷◌, ◌++◌, map, Option, Some, None, inl, inr, true, refl, sym, ◌∙◌, ap, subst, subst₂, arith, append_assoc, append-nil, length-append}
 use Rattle.std.proofs.Math.Logic.{∥∥₁_map}
 use Rattle.std.proofs.Math.ListN.{length-set}
-use Rattle.std.specs.Prelude.{Bool, option_and_then, slice_get, slice_set}
+use Rattle.std.specs.Prelude.{option_and_then, slice_get, slice_set}
 use Rattle.std.specs.Cmp.{IsEquivalence}
 use Rattle.std.specs.List.{AllZip}
 use Rattle.std.proofs.lemmas.Bool.Decides.{eqb_tells}
@@ -10,15 +10,14 @@ use Rattle.std.proofs.lemmas.Slice.Zip.{AllZip-long}
 use Rattle.foyer_policy.specs.Items.{count_of}
 use Rattle.foyer_policy.specs.Policy.{IsPolicy}
 use Rattle.foyer_policy.specs.declared.types.Event.{Event}
-use Rattle.foyer_core.specs.declared.record.Data.{Data}
 use Rattle.foyer_core.specs.Bulk.{after_capacity}
-use Rattle.foyer_core.specs.Core.{Core, AreHashed, AtShard, Belong, share_of, shard_at, shard_of}
-use Rattle.foyer_core.specs.CoreBulk.{InTurn, InTurnUntil, OfShards, SharesOut, Resizes}
+use Rattle.foyer_core.specs.Core.{Core, AreHashed, AtShard, Belong, share_of, shard_of}
+use Rattle.foyer_core.specs.CoreBulk.{InTurn, InTurnUntil, SharesOut, Resizes}
 use Rattle.foyer_core.specs.Observed.{IsTold, after_leaves, known}
 use Rattle.foyer_core.specs.State.{Meaning, State, IsKept, AllData, hit}
 use Rattle.foyer_core.specs.Values.{Gone}
 use Rattle.foyer_core.proofs.CoreLemmas.{set_here, set_apart}
-use Rattle.foyer_core.proofs.Observing.{AgreeApart, BelongsAt, Knows, Tells, leaves_append, leaves_congr}
+use Rattle.foyer_core.proofs.Observing.{BelongsAt, Knows, Tells, leaves_append, leaves_congr}
 use Rattle.foyer_core.proofs.Origins.{zip-back}
 use Rattle.foyer_core.proofs.ShardTold.{ToldBy}
 use Rattle.foyer_core.proofs.TurnLaws.{turn-keeps, shares-keep, zip-at}

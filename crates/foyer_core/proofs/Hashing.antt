@@ -1,5 +1,5 @@
 -- Each record has the hash of its key: what each step keeps of that.
-use Rattle.std.proofs.Common.{◌≡◌, ℕ, ◌<◌, ◌⊎◌, inl, inr, length, List, map, Option, Some, None, Ok, Err, Bool, true, refl, sym, ◌∙◌, ap, subst}
+use Rattle.std.proofs.Common.{◌≡◌, ℕ, ◌<◌, ◌⊎◌, inl, inr, length, List, map, Some, None, Ok, Err, Bool, sym, ◌∙◌, ap, subst}
 use Rattle.std.specs.Prelude.{Result, IfOk, OnOk, OnErr, slice_get, slice_set, slice_index_or, option_map}
 use Rattle.std.specs.List.{AllZip}
 use Rattle.std.proofs.lemmas.Bool.Decides.{eqb_tells}

@@ -1,10 +1,9 @@
 -- What an insert tells of its shard's index.
-use Rattle.std.proofs.Common.{◌≡◌, ◌≢◌, ℕ, ◌-◌, ◌%◌, ◌<◌, List, [], ◌∷◌, ◌++◌, Option, Some, None, Bool, true, false, refl, sym, ◌∙◌, ap, subst, arith}
+use Rattle.std.proofs.Common.{◌≡◌, ◌≢◌, ℕ, ◌-◌, ◌<◌, List, [], ◌∷◌, ◌++◌, Option, Some, Bool, true, false, refl, sym, ◌∙◌, ap, subst, arith}
 use Rattle.std.proofs.Math.Logic.{∥∥₁_map}
 use Rattle.std.specs.Cmp.{IsEquivalence}
 use Rattle.std.specs.Map.{update}
 use Rattle.foyer_policy.specs.Policy.{IsPolicy}
-use Rattle.foyer_policy.specs.Properties.{is_phantom}
 use Rattle.foyer_policy.specs.declared.error.Reason.{Reason}
 use Rattle.foyer_policy.specs.declared.error.Reason.TheVariants.{Ids, Handles, Weight, NoMemory}
 use Rattle.foyer_policy.specs.declared.types.Event.{Event}
@@ -13,12 +12,12 @@ use Rattle.foyer_core.specs.declared.record.Data.{Data}
 use Rattle.foyer_core.specs.Indexer.{same_key}
 use Rattle.foyer_core.specs.Observed.{after_leave, after_leaves, after_entry}
 use Rattle.foyer_core.specs.State.{Meaning, State, IsKept, AllData, key_of, is_phantom_record}
-use Rattle.foyer_core.specs.Steps.{after_handle, after_hold, after_push, GivesWay, Inserts, InsertsBy, InsertsPhantom, InsertsPlain, Leave, RefusesBy, RefusesHandle, RefusesInsert, Removes}
-use Rattle.foyer_core.specs.Values.{Rec, Gone, Held}
+use Rattle.foyer_core.specs.Steps.{Inserts, InsertsBy, InsertsPhantom, InsertsPlain, RefusesBy, RefusesInsert}
+use Rattle.foyer_core.specs.Values.{Gone, Held}
 use Rattle.foyer_core.proofs.Emplaced.{evicts_rests}
 use Rattle.foyer_core.proofs.LeaveLemmas.{Rests, rests-rests, evicts_keeps}
 use Rattle.foyer_core.proofs.Observing.{BelongsAt, Knows, Tells, known_key, leave_unknown, leaves_append, stays_told, tells_same, tells_then, write_apart, write_knows}
-use Rattle.foyer_core.proofs.ShardTold.{ToldBy, evicting_told, evicts_told, one_told, refused_index, same_index, same_told, stands, way_told}
+use Rattle.foyer_core.proofs.ShardTold.{ToldBy, evicting_told, evicts_told, same_index, same_told, stands, way_told}
 use Rattle.foyer_core.proofs.Staying.{way_rests}
 
 module _ {K V P View C : Type 0} (m : Meaning K P View C) (laws : IsEquivalence m.same) (good : IsPolicy m.policy)

@@ -49,6 +49,7 @@ pub mod SlotLemmas
 pub mod States
 pub mod Staying
 pub mod Stepped
+pub mod Sound
 pub mod StoredLemmas
 pub mod TableLemmas
 pub mod Taken

@@ -1,23 +1,19 @@
 -- What one shard's leaves tell of the index.
-use Rattle.std.proofs.Common.{◌≡◌, ◌≢◌, ℕ, zero, suc, ◌+◌, ◌%◌, ◌<◌, ◌≤◌, ◌==◌, ◌&&◌, length, List, [], ◌∷◌, ◌++◌, Option, Some, None, inl, inr, Bool, true, false, cond, nat_eq, refl, sym, ◌∙◌, ap, subst, arith}
-use Rattle.std.proofs.Math.Logic.{∥∥₁_elim, ∥∥₁_map}
-use Rattle.std.proofs.Props.{props}
+use Rattle.std.proofs.Common.{◌≡◌, ◌≢◌, ℕ, ◌%◌, ◌<◌, ◌==◌, ◌&&◌, List, [], ◌∷◌, ◌++◌, Option, Some, None, inl, inr, Bool, true, false, cond, refl, sym, ◌∙◌, ap, subst, arith}
 use Rattle.std.specs.Cmp.{IsEquivalence}
 use Rattle.std.specs.Map.{update}
 use Rattle.std.proofs.lemmas.Bool.Decides.{eqb_tells, nat_tests}
-use Rattle.std.proofs.lemmas.Map.{update_here, update_apart}
+use Rattle.std.proofs.lemmas.Map.{update_apart}
 use Rattle.foyer_policy.specs.Items.{count_of, HasIdsOnce, IsNewIn}
-use Rattle.foyer_policy.specs.Policy.{IsPolicy}
 use Rattle.foyer_policy.specs.declared.types.Event.{Event}
 use Rattle.foyer_policy.specs.declared.types.Item.{Item}
 use Rattle.foyer_policy.proofs.ItemLemmas.{count-cons, once-head, once-tail}
 use Rattle.foyer_core.specs.declared.record.Data.{Data}
 use Rattle.foyer_core.specs.Indexer.{same_key}
-use Rattle.foyer_core.specs.Observed.{is_known, after_leave, after_leaves, after_entry}
-use Rattle.foyer_core.specs.State.{Meaning, State, IsKept, AllData, key_of}
+use Rattle.foyer_core.specs.Observed.{is_known, after_leave, after_leaves}
+use Rattle.foyer_core.specs.State.{Meaning, State, AllData, key_of}
 use Rattle.foyer_core.specs.Steps.{after_out, gone_of, ids_of, outside, Leave}
 use Rattle.foyer_core.specs.Values.{Rec, Gone}
-use Rattle.foyer_core.proofs.Keeps.{counted_there}
 use Rattle.foyer_core.proofs.Keys.{same_key_laws}
 use Rattle.foyer_core.proofs.LeaveLemmas.{out_data}
 use Rattle.foyer_core.proofs.Leaving.{still, respects_update}

@@ -16,14 +16,14 @@ use Rattle.foyer_policy.specs.declared.error.Reason.{Reason}
 use Rattle.foyer_policy.specs.declared.error.Reason.TheVariants.{Ids, Handles, Weight, NoMemory}
 use Rattle.foyer_core.specs.declared.config.RawCacheConfig.{RawCacheConfig}
 use Rattle.foyer_core.specs.declared.record.Data.{Data}
-use Rattle.foyer_core.specs.Bulk.{GoesOn, after_capacity, EvictsUnpinned, EvictingUnpinned, Clears, EvictsIf}
+use Rattle.foyer_core.specs.Bulk.{GoesOn, EvictsUnpinned, EvictingUnpinned, Clears, EvictsIf}
 use Rattle.foyer_core.specs.Core.{AreNewShards, Belong, share_of}
 use Rattle.foyer_core.specs.CoreBulk.{InTurn, InTurnUntil, SharesOut, EvictsToCapacity, EvictingToCapacity}
-use Rattle.foyer_core.specs.State.{Meaning, State, AllData, key_of, is_phantom_record}
+use Rattle.foyer_core.specs.State.{Meaning, State, key_of, is_phantom_record}
 use Rattle.foyer_core.specs.Steps.{after_push, after_hold, after_get, after_handle, after_give_back, ids_of, Leave, GivesWay, Inserts, InsertsBy, RefusesBy, RefusesPlain, RefusesInsert, Gets, GivesBack, Touches, Removes, ClonesHandle, RefusesHandle}
 use Rattle.foyer_core.specs.Values.{Rec, Gone, Held}
 use Rattle.foyer_core.proofs.CoreLemmas.{set_here, set_apart}
-use Rattle.foyer_core.proofs.LeaveLemmas.{Rests, leave-rests}
+use Rattle.foyer_core.proofs.LeaveLemmas.{leave-rests}
 use Rattle.foyer_core.proofs.TurnLaws.{turn-keeps, until-keeps, shares-keep}
 
 same_rec : {K V P : Type 0} (a b : Rec K V P) → Some a ≡ Some b → a ≡ b

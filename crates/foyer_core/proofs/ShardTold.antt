@@ -1,6 +1,6 @@
 -- What each step of a shard tells of its index.
-use Rattle.std.proofs.Common.{◌≡◌, ◌≢◌, ℕ, ◌+◌, ◌-◌, ◌%◌, ◌<◌, ◌≤◌, ◌==◌, length, List, [], ◌∷◌, ◌++◌, Option, Some, None, Ok, Err, inl, inr, Bool, true, false, cond, not, ◌&&◌, nat_eq, refl, sym, ◌∙◌, ap, subst, arith, append_assoc, add-one}
-use Rattle.std.proofs.Math.Logic.{∥∥₁_elim, ∥∥₁_map}
+use Rattle.std.proofs.Common.{◌≡◌, ◌≢◌, ℕ, ◌+◌, ◌-◌, ◌<◌, ◌==◌, length, List, [], ◌∷◌, ◌++◌, Option, Some, None, Ok, Err, Bool, true, false, cond, not, ◌&&◌, nat_eq, refl, sym, ◌∙◌, ap, subst, arith}
+use Rattle.std.proofs.Math.Logic.{∥∥₁_elim}
 use Rattle.std.proofs.Props.{props}
 use Rattle.std.specs.Prelude.{Result, sum_by}
 use Rattle.std.specs.Option.{option_to_list}
@@ -10,9 +10,8 @@ use Rattle.std.proofs.lemmas.Map.{update_here}
 use Rattle.std.proofs.lemmas.List.Sums.{sum_by-append}
 use Rattle.foyer_policy.specs.Items.{count_of, HasIdsOnce, IsWithin, weight_of}
 use Rattle.foyer_policy.specs.Policy.{Policy, IsPolicy, pops, after_pops, after_all_pops, evicted, removed}
-use Rattle.foyer_policy.specs.Properties.{is_phantom}
 use Rattle.foyer_policy.specs.declared.error.Reason.{Reason}
-use Rattle.foyer_policy.specs.declared.error.Reason.TheVariants.{Ids, Handles, Weight, NoMemory}
+use Rattle.foyer_policy.specs.declared.error.Reason.TheVariants.{Handles, NoMemory}
 use Rattle.foyer_policy.specs.declared.types.Event.{Event}
 use Rattle.foyer_policy.specs.declared.types.Event.TheVariants.{Evict, Replace, Remove, Clear}
 use Rattle.foyer_policy.specs.declared.types.Item.{Item}
@@ -20,20 +19,15 @@ use Rattle.foyer_policy.proofs.ItemLemmas.{one_if}
 use Rattle.foyer_policy.proofs.PopsLemmas.Repeated.{victims-sum}
 use Rattle.foyer_core.specs.declared.record.Data.{Data}
 use Rattle.foyer_core.specs.Bulk.{EvictsUnpinned, EvictingUnpinned, Clears, EvictsIf}
-use Rattle.foyer_core.specs.CoreBulk.{EvictsToCapacity, EvictingToCapacity}
 use Rattle.foyer_core.specs.Indexer.{same_key}
-use Rattle.foyer_core.specs.Observed.{after_leave, after_leaves, after_entry}
+use Rattle.foyer_core.specs.Observed.{after_leave, after_leaves}
 use Rattle.foyer_core.specs.State.{Meaning, State, IsKept, AllData, key_of, is_phantom_record}
-use Rattle.foyer_core.specs.Steps.{after_out, after_handle, after_get, after_give_back, after_hold, after_push, gone_of, ids_of, last_leave, Leave, Evicting, Evicts, GivesWay, Gets, GivesBack, Touches, Removes, ClonesHandle, RefusesHandle, InsertsPlain, InsertsPhantom, RefusesPlain, RefusesBy, Inserts, InsertsBy, RefusesInsert}
+use Rattle.foyer_core.specs.Steps.{after_out, after_handle, gone_of, ids_of, last_leave, Leave, Evicting, Evicts, GivesWay, Gets, GivesBack, Touches, Removes, ClonesHandle, RefusesHandle}
 use Rattle.foyer_core.specs.Values.{Rec, Gone, Held}
-use Rattle.foyer_core.proofs.Emplaced.{evicts_rests}
 use Rattle.foyer_core.proofs.Keeps.{counted_there}
-use Rattle.foyer_core.proofs.LeaveLemmas.{Rests, rests-rests, evicts_keeps}
-use Rattle.foyer_core.proofs.Observing.{BelongsAt, Knows, Tells, known_key, leave_unknown, leave_told, leaves_append, out_told, stays_told, tells_same, tells_then, write_apart, write_knows}
-use Rattle.foyer_core.proofs.Origins.{handle_from, nothing_new}
+use Rattle.foyer_core.proofs.Observing.{BelongsAt, Knows, Tells, known_key, leave_unknown, leave_told, out_told, stays_told, tells_same, tells_then}
 use Rattle.foyer_core.proofs.Picking.{yes_within}
 use Rattle.foyer_core.proofs.Popped.{until_begins}
-use Rattle.foyer_core.proofs.Staying.{way_rests}
 
 same_rec : {K V P : Type 0} (a b : Rec K V P) → Some a ≡ Some b → a ≡ b
 same_rec a b h = cc

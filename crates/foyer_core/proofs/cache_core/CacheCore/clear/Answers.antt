@@ -8,12 +8,12 @@ use Rattle.foyer_core.specs.Laws.{HandlesStay}
 use Rattle.foyer_core.specs.Shards.{state_of}
 use Rattle.foyer_core.specs.State.{State}
 use Rattle.foyer_core.proofs.CallsTold.{cleared_core, match_so, nothing_told}
-use Rattle.foyer_core.proofs.CoreTold.{sound_over}
 use Rattle.foyer_core.proofs.CoreLemmas.{core_over}
 use Rattle.foyer_core.proofs.TurnEnds.{all_cleared}
 use Rattle.foyer_core.proofs.TurnLaws.{all_cleared_stay, stays_same, of_result, ok_so}
 use Rattle.foyer_core.proofs.Hashing.{all_cleared_hashed, done_hashed}
 use Rattle.foyer_core.proofs.Origins.{all_cleared_belong, done_belong}
+use Rattle.foyer_core.proofs.Sound.{core_sound}
 use Rattle.foyer_core.proofs.cache_core.CacheCore.clear.Goals as goal
 
 pub invariant_of-self-clause-belong : goal.invariant_of-self-clause-belong
@@ -63,7 +63,7 @@ returns-clause-told g c =
     let s = c.args.self.now in
     let m = meaning_of_core s in
     let equal : (a b : g.row.K.Denot) → g.K.PartialEq.eq a b ≡ true → hashes_of s a ≡ hashes_of s b = λ a b same. ap (g.S.HashBuilder.hash_of s.hash_builder) (g.met.K.Hash.respects_eq a b same) in
-    let sound = sound_over m g.met.K.Eq.laws g.met.E.Eviction.lawful (hashes_of s) equal state_of s.shards.items (λ x. x.kept) s.belong s.hashed in
+    let sound = core_sound s g.met.K.Eq.laws g.met.E.Eviction.lawful equal in
     let now = core_over state_of s.capacity s.hash_builder s.weighter s.filter c.clear_each.new.shards.items in
     match_so c.clear_each.result (λ leaves. InTurn (Clears m) (map state_of s.shards.items) leaves.items now.shards) (now.shards ≡ map state_of s.shards.items)
     (λ leaves. IsTold m.same (hashes_of s) (core_of s) leaves.items now) (IsTold m.same (hashes_of s) (core_of s) [] now) c.clear_each.ensures.done c.clear_each.ensures.err

@@ -1,16 +1,16 @@
 use Rattle.std.proofs.Common.{map, refl, ◌≡◌, ap, true}
 use Rattle.foyer_core.specs.Bulk.{EvictsUnpinned, EvictingUnpinned}
-use Rattle.foyer_core.specs.CoreBulk.{InTurn, InTurnUntil, OfShards}
+use Rattle.foyer_core.specs.CoreBulk.{InTurn, InTurnUntil}
 use Rattle.foyer_core.specs.Cores.{core_of, hashes_of, meaning_of_core}
 use Rattle.foyer_core.specs.Shards.{state_of}
 use Rattle.foyer_core.proofs.CallsTold.{unpinned_core, unpinned_until_core}
-use Rattle.foyer_core.proofs.CoreTold.{sound_over}
 use Rattle.foyer_core.proofs.CoreLemmas.{core_over}
 use Rattle.foyer_core.proofs.Told.{goes_all}
 use Rattle.foyer_core.proofs.TurnEnds.{all_evicted}
 use Rattle.foyer_core.proofs.TurnLaws.{all_unpinned_stay, all_unpinned_until_stay}
 use Rattle.foyer_core.proofs.Hashing.{all_unpinned_hashed, all_unpinned_until_hashed, told_hashed}
 use Rattle.foyer_core.proofs.Origins.{all_unpinned_belong, all_unpinned_until_belong, told_belong}
+use Rattle.foyer_core.proofs.Sound.{core_sound}
 use Rattle.foyer_core.proofs.cache_core.CacheCore.evict_all.Goals as goal
 
 pub invariant_of-self-clause-belong : goal.invariant_of-self-clause-belong
@@ -75,7 +75,7 @@ returns-in-Ok-clause-told g c =
     let s = c.args.self.now in
     let m = meaning_of_core s in
     let equal : (a b : g.row.K.Denot) → g.K.PartialEq.eq a b ≡ true → hashes_of s a ≡ hashes_of s b = λ a b same. ap (g.S.HashBuilder.hash_of s.hash_builder) (g.met.K.Hash.respects_eq a b same) in
-    let sound = sound_over m g.met.K.Eq.laws g.met.E.Eviction.lawful (hashes_of s) equal state_of s.shards.items (λ x. x.kept) s.belong s.hashed in
+    let sound = core_sound s g.met.K.Eq.laws g.met.E.Eviction.lawful equal in
     let new = c.evict_each.new.shards in
     let ls = c.evict_each.new.leaves.items in
     let done = goes_all ls (λ l. InTurn (EvictsUnpinned m) (map state_of s.shards.items) l (map state_of new.items)) (rw c.new-leaves.ensures.items at c.in-Ok.ensures.done) in
@@ -86,7 +86,7 @@ returns-in-Err-clause-told g c =
     let s = c.args.self.now in
     let m = meaning_of_core s in
     let equal : (a b : g.row.K.Denot) → g.K.PartialEq.eq a b ≡ true → hashes_of s a ≡ hashes_of s b = λ a b same. ap (g.S.HashBuilder.hash_of s.hash_builder) (g.met.K.Hash.respects_eq a b same) in
-    let sound = sound_over m g.met.K.Eq.laws g.met.E.Eviction.lawful (hashes_of s) equal state_of s.shards.items (λ x. x.kept) s.belong s.hashed in
+    let sound = core_sound s g.met.K.Eq.laws g.met.E.Eviction.lawful equal in
     let new = c.evict_each.new.shards in
     let ls = c.evict_each.new.leaves.items in
     let part = goes_all ls (λ l. InTurnUntil (EvictsUnpinned m) (EvictingUnpinned m) (map state_of s.shards.items) l (map state_of new.items)) (rw c.new-leaves.ensures.items at c.in-Err.ensures.refused) in

@@ -7,12 +7,12 @@ use Rattle.foyer_core.specs.Cores.{core_of, hashes_of, meaning_of_core}
 use Rattle.foyer_core.specs.Shards.{meaning_of, state_of}
 use Rattle.foyer_core.specs.Steps.{GivesBack}
 use Rattle.foyer_core.proofs.CallsTold.{give_back_told, match_so, nothing_told}
-use Rattle.foyer_core.proofs.CoreTold.{sound_over}
 use Rattle.foyer_core.proofs.CoreLaws.{gives_at}
 use Rattle.foyer_core.proofs.CoreLemmas.{at_over, core_over, same_over}
 use Rattle.foyer_core.proofs.Staying.{RecordsStay, one, given_back_stays}
 use Rattle.foyer_core.proofs.Hashing.{IsHashed, hashed_over}
 use Rattle.foyer_core.proofs.Origins.{belongs_over, given_back_from}
+use Rattle.foyer_core.proofs.Sound.{core_sound}
 use Rattle.foyer_core.proofs.cache_core.CacheCore.give_back.Goals as goal
 
 pub invariant_of-self-clause-belong : goal.invariant_of-self-clause-belong
@@ -76,7 +76,7 @@ returns-clause-told g c =
     let new = core_over state_of s.capacity s.hash_builder s.weighter s.filter (slice_set s.shards.items c.place-place.result y) in
     let m = meaning_of_core s in
     let equal : (a b : g.row.K.Denot) → g.K.PartialEq.eq a b ≡ true → hashes_of s a ≡ hashes_of s b = λ a b same. ap (g.S.HashBuilder.hash_of s.hash_builder) (g.met.K.Hash.respects_eq a b same) in
-    let sound = sound_over m g.met.K.Eq.laws g.met.E.Eviction.lawful (hashes_of s) equal state_of s.shards.items (λ x. x.kept) s.belong s.hashed in
+    let sound = core_sound s g.met.K.Eq.laws g.met.E.Eviction.lawful equal in
     match_so c.give_back.result (λ leave. (e.number ≡ (state_of x).number) × GivesBack (meaning_of x) (state_of x) e.id leave (state_of y)) (state_of y ≡ state_of x)
     (λ leave. IsTold m.same (hashes_of s) (core_of s) (option_to_list leave) new) (IsTold m.same (hashes_of s) (core_of s) [] new) c.give_back.ensures.taken c.give_back.ensures.err
     (λ leave given. give_back_told m g.met.K.Eq.laws g.met.E.Eviction.lawful (hashes_of s) equal (core_of s) new sound e.id e.kept.hash leave (over (λ a b. GivesBack (meaning_of x) a e.id leave b) y given.1))

@@ -3,13 +3,13 @@ use Rattle.foyer_core.specs.CoreBulk.{InTurn, InTurnUntil, EvictsToCapacity, Evi
 use Rattle.foyer_core.specs.Cores.{core_of, hashes_of, meaning_of_core}
 use Rattle.foyer_core.specs.Shards.{state_of}
 use Rattle.foyer_core.proofs.CallsTold.{resized_core, resized_until_core}
-use Rattle.foyer_core.proofs.CoreTold.{sound_over}
 use Rattle.foyer_core.proofs.CoreLemmas.{core_over}
 use Rattle.foyer_core.proofs.Told.{goes_all}
 use Rattle.foyer_core.proofs.TurnEnds.{all_fit}
 use Rattle.foyer_core.proofs.TurnLaws.{resized_stay, resized_until_stay}
 use Rattle.foyer_core.proofs.Hashing.{all_evicted_hashed, all_evicted_until_hashed, shared_hashed, told_hashed}
 use Rattle.foyer_core.proofs.Origins.{all_evicted_belong, all_evicted_until_belong, shared_belong, told_belong}
+use Rattle.foyer_core.proofs.Sound.{core_sound}
 use Rattle.foyer_core.proofs.cache_core.CacheCore.resize.Goals as goal
 
 pub invariant_of-self-clause-belong : goal.invariant_of-self-clause-belong
@@ -91,7 +91,7 @@ returns-in-Ok-clause-told g c =
     let s = c.args.self.now in
     let m = meaning_of_core s in
     let equal : (a b : g.row.K.Denot) → g.K.PartialEq.eq a b ≡ true → hashes_of s a ≡ hashes_of s b = λ a b same. ap (g.S.HashBuilder.hash_of s.hash_builder) (g.met.K.Hash.respects_eq a b same) in
-    let sound = sound_over m g.met.K.Eq.laws g.met.E.Eviction.lawful (hashes_of s) equal state_of s.shards.items (λ x. x.kept) s.belong s.hashed in
+    let sound = core_sound s g.met.K.Eq.laws g.met.E.Eviction.lawful equal in
     let shared = map state_of c.share_out.new.shards.items in
     let new = c.evict_each_to_capacity-done.new.shards in
     let ls = c.evict_each_to_capacity-done.new.leaves.items in
@@ -104,7 +104,7 @@ returns-in-Err-clause-told g c =
     let s = c.args.self.now in
     let m = meaning_of_core s in
     let equal : (a b : g.row.K.Denot) → g.K.PartialEq.eq a b ≡ true → hashes_of s a ≡ hashes_of s b = λ a b same. ap (g.S.HashBuilder.hash_of s.hash_builder) (g.met.K.Hash.respects_eq a b same) in
-    let sound = sound_over m g.met.K.Eq.laws g.met.E.Eviction.lawful (hashes_of s) equal state_of s.shards.items (λ x. x.kept) s.belong s.hashed in
+    let sound = core_sound s g.met.K.Eq.laws g.met.E.Eviction.lawful equal in
     let shared = map state_of c.share_out.new.shards.items in
     let new = c.evict_each_to_capacity-done.new.shards in
     let ls = c.evict_each_to_capacity-done.new.leaves.items in
