@@ -1,37 +1,36 @@
 //! Slots: where a shard keeps its records.
 
 ghost use Rattle.std.specs.Prelude.{◌≡◌, ◌+◌, ◌-◌, ◌<◌, ◌^◌, IfOk, IfErr, OnErr, true, false, IsTrue, Some, None};
-ghost use Rattle.std.specs.Arc.{arc_value};
 ghost use Rattle.foyer_policy.specs.declared.error.Reason.TheVariants.{NoMemory};
-ghost use Rattle.foyer_core.specs.Values.{Kept};
 
 use crate::entry::{CoreEntry, Left};
 use crate::record::{Data, Record};
+use crate::share::{Body, Share};
 use foyer_policy::{Place, Result, Source};
 use std::alloc::Global;
 use std::marker::Model;
 use std::sync::Arc;
 
 /// A record with its id. While the record is in the index and the policy, it has one more share of its
-/// data, with which it leaves.
+/// body, with which it leaves.
 #[derive(Drop)]
 pub struct Slot<K, V, P> {
     id: u64,
     record: Record<K, V, P>,
-    leave: Option<Arc<Data<K, V, P>, Global>>,
+    leave: Option<Arc<Body<K, V, P>, Global>>,
 }
 
 impl<K, V, P> Model for Slot<K, V, P> {
     ghost use Rattle.std.specs.Prelude.{◌≡◌, is_some};
     ghost use Rattle.std.specs.Option.{ForSome};
     ghost use Rattle.std.specs.Arc.{arc_value};
-    ghost use Rattle.foyer_core.specs.Values.{Kept};
+    ghost use Rattle.foyer_core.specs.Values.{Kept, body_of};
 
     ghost Value = { Kept K V P };
 
     ghost view = { λ s. record { id = s.id; kept = s.record.kept; handles = s.record.handles; resident = s.record.flags.in_indexer; place = s.record.place } };
 
-    ghost invariant = { λ s. (s.record.flags.in_indexer ≡ is_some s.leave) × ForSome s.leave (λ share. arc_value share ≡ s.record.kept) };
+    ghost invariant = { λ s. (s.record.flags.in_indexer ≡ is_some s.leave) × ForSome s.leave (λ body. arc_value body ≡ body_of s.record.kept) };
 }
 
 impl<K: Drop, V: Drop, P: Drop> Slot<K, V, P> {
@@ -41,7 +40,7 @@ impl<K: Drop, V: Drop, P: Drop> Slot<K, V, P> {
         ensures refused { IfErr result (λ e. e ≡ NoMemory) }
     {
         let mut record = Record::new(alloc, kept)?;
-        let leave = Some(record.share()?);
+        let leave = Some(record.body()?);
         record.set_in_indexer(true);
         Ok(Slot { id, record, leave })
     }
@@ -74,10 +73,34 @@ impl<K: Drop, V: Drop, P: Drop> Slot<K, V, P> {
         self.id
     }
 
-    pub fn data(&self) -> &Data<K, V, P>
-        ensures { result.now ≡ self.now.kept }
+    pub fn hash(&self) -> u64
+        ensures { result ≡ self.now.kept.hash }
     {
-        self.record.data()
+        self.record.hash()
+    }
+
+    pub fn key(&self) -> &K
+        ensures { result.now ≡ self.now.kept.key }
+    {
+        self.record.key()
+    }
+
+    pub fn value(&self) -> &V
+        ensures { result.now ≡ self.now.kept.value }
+    {
+        self.record.value()
+    }
+
+    pub fn properties(&self) -> &P
+        ensures { result.now ≡ self.now.kept.properties }
+    {
+        self.record.properties()
+    }
+
+    pub fn weight(&self) -> usize
+        ensures { result ≡ self.now.kept.weight }
+    {
+        self.record.weight()
     }
 
     pub fn handles(&self) -> usize
@@ -112,7 +135,7 @@ impl<K: Drop, V: Drop, P: Drop> Slot<K, V, P> {
         ensures refused { IfErr result (λ e. e ≡ NoMemory) }
     {
         let share = self.record.share()?;
-        let left = self.record.share()?;
+        let left = self.record.body()?;
         Ok(CoreEntry::new(number, self.id, slot, share, left, source))
     }
 
@@ -144,7 +167,10 @@ impl<K: Drop, V: Drop, P: Drop> Slot<K, V, P> {
         self.record.set_in_eviction(false);
         self.record.set_state(None);
         match self.leave.take() {
-            Some(share) => Left::new(self.id, share),
+            Some(body) => Left::new(
+                self.id,
+                Share::of_body(body, self.record.hash(), self.record.weight()),
+            ),
             None => unreachable!(),
         }
     }
@@ -158,6 +184,6 @@ impl<K: Drop, V: Drop, P: Drop> Slot<K, V, P> {
             record,
             leave: _,
         } = self;
-        Left::new(id, record.into_data())
+        Left::new(id, record.into_share())
     }
 }

@@ -88,7 +88,6 @@ pub(super) fn leave_slot<K: Key, V: Drop, P: Drop, I: Indexer<K>>(
     let Some(found) = records.get(slot) else {
         unreachable!();
     };
-    let data = found.data();
-    let _ = index.remove(data.hash, &data.key);
+    let _ = index.remove(found.hash(), found.key());
     records.leave(slot)
 }

@@ -32,8 +32,7 @@ impl<E: Eviction, K: Key, V: Value, P: Properties, I: Indexer<K>> Shard<E, K, V,
         let Some(found) = self.records.get(slot) else {
             unreachable!();
         };
-        let data = found.data();
-        let _ = self.index.remove(data.hash, &data.key);
+        let _ = self.index.remove(found.hash(), found.key());
         self.usage -= item.weight;
         self.entries -= 1;
         Ok(Some(self.records.leave(slot)))

@@ -130,9 +130,9 @@ impl<E: Eviction, K: Key, V: Value, P: Properties, I: Indexer<K>> Shard<E, K, V,
         ensures admitted { IfOk result (λ made. Admits (meaning_of self.old) (state_of self.old) slot.kept made.1 (state_of self.new)) }
         ensures err { OnErr result (state_of self.new ≡ state_of self.old) }
     {
-        let hash = slot.data().hash;
-        let weight = slot.data().weight;
-        let hint = slot.data().properties.hint().unwrap_or(Hint::Normal);
+        let hash = slot.hash();
+        let weight = slot.weight();
+        let hint = slot.properties().hint().unwrap_or(Hint::Normal);
         let id = self.next;
         let number = self.records.put(slot);
         let was = match self.index.insert(hash, key, number as u64) {

@@ -34,7 +34,7 @@ impl<E: Eviction, K: Key, V: Value, P: Properties, I: Indexer<K>> Shard<E, K, V,
         let Ok((slot, mut entry, gone, mut leaves)) = self.prepare_phantom(alloc, kept) else {
             return Err(Refused::new(Reason::NoMemory, Vec::new(alloc)));
         };
-        if let Some(left) = self.make_way(slot.data().hash, &slot.data().key) {
+        if let Some(left) = self.make_way(slot.hash(), slot.key()) {
             leaves.push_reserved((Event::Replace, left));
         }
         leaves.push_reserved((Event::Remove, gone));

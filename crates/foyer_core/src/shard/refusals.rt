@@ -54,6 +54,6 @@ impl<E: Eviction, K: Key, V: Value, P: Properties, I: Indexer<K>> Shard<E, K, V,
             unreachable!();
         };
         let pinned = self.eviction.is_pinned(place);
-        if pinned { found.data().weight } else { 0 }
+        if pinned { found.weight() } else { 0 }
     }
 }

@@ -2,7 +2,6 @@ use Rattle.std.proofs.Common.{◌≡◌, ◌-◌, ℕ, Some, true, cond, nat_eq,
 use Rattle.std.specs.Prelude.{is_some}
 use Rattle.std.specs.Map.{update}
 use Rattle.foyer_policy.specs.declared.types.Item.{Item}
-use Rattle.foyer_core.specs.declared.record.Data.{Data}
 use Rattle.foyer_core.specs.Values.{Kept}
 use Rattle.foyer_core.specs.Indexer.{same_key}
 use Rattle.foyer_core.specs.Shards.{meaning_of}
@@ -41,7 +40,7 @@ pub give_way-gone-requires-after_bounds : goal.give_way-gone-requires-after_boun
 give_way-gone-requires-after_bounds g c κs within =
     let s = c.args.self.now in
     let d = c.args.slot.kept in
-    let hash : c.data.result.now.hash ≡ d.hash = ap (λ (x : Data g.row.K.Denot g.row.V.Denot g.row.P.Denot). x.hash) c.data.ensures in
+    let hash : c.hash-hash.result ≡ d.hash = c.hash-hash.ensures in
     let was : c.in-Ok.was ≡ g.I.Indexer.view s.index (key_of d) = c.in-Ok.ensures.was ∙ ap (λ (h : ℕ). g.I.Indexer.view s.index (h, c.args.key)) hash ∙ g.met.I.Indexer.respects s.index (d.hash, c.args.key) (key_of d) (alike_key g.K.PartialEq.eq d.hash c.args.key d.key c.requires.same) in
     may_give_way (meaning_of c.args.self.now) g.met.K.Eq.laws g.met.E.Eviction.lawful (holding c.args.self.now) c.args.slot.kept c.put-number.result c.put-number.ensures.free c.put-number.new.self c.args.slot c.put-number.ensures.slots c.in-Ok.was was
 
@@ -49,7 +48,7 @@ pub overflow_sub-self : goal.overflow_sub-self
 overflow_sub-self g c =
     let s = c.args.self.now in
     let d = c.args.slot.kept in
-    let hash : c.data.result.now.hash ≡ d.hash = ap (λ (x : Data g.row.K.Denot g.row.V.Denot g.row.P.Denot). x.hash) c.data.ensures in
+    let hash : c.hash-hash.result ≡ d.hash = c.hash-hash.ensures in
     let was : c.in-Ok.was ≡ g.I.Indexer.view s.index (key_of d) = c.in-Ok.ensures.was ∙ ap (λ (h : ℕ). g.I.Indexer.view s.index (h, c.args.key)) hash ∙ g.met.I.Indexer.respects s.index (d.hash, c.args.key) (key_of d) (alike_key g.K.PartialEq.eq d.hash c.args.key d.key c.requires.same) in
     let w = c.give_way-gone.ensures in
     let gv : Gave (meaning_of c.args.self.now) g.met.K.Eq.laws g.met.E.Eviction.lawful (holding c.args.self.now) c.args.slot.kept c.put-number.result c.put-number.ensures.free c.put-number.new.self c.args.slot c.put-number.ensures.slots c.give_way-gone.result.0 c.give_way-gone.result.1 c.give_way-gone.new.records (g.E.Eviction.at c.give_way-gone.new.eviction) (g.E.Eviction.view c.give_way-gone.new.eviction) =
@@ -61,7 +60,7 @@ pub overflow_sub-self-2 : goal.overflow_sub-self-2
 overflow_sub-self-2 g c =
     let s = c.args.self.now in
     let d = c.args.slot.kept in
-    let hash : c.data.result.now.hash ≡ d.hash = ap (λ (x : Data g.row.K.Denot g.row.V.Denot g.row.P.Denot). x.hash) c.data.ensures in
+    let hash : c.hash-hash.result ≡ d.hash = c.hash-hash.ensures in
     let was : c.in-Ok.was ≡ g.I.Indexer.view s.index (key_of d) = c.in-Ok.ensures.was ∙ ap (λ (h : ℕ). g.I.Indexer.view s.index (h, c.args.key)) hash ∙ g.met.I.Indexer.respects s.index (d.hash, c.args.key) (key_of d) (alike_key g.K.PartialEq.eq d.hash c.args.key d.key c.requires.same) in
     let w = c.give_way-gone.ensures in
     let gv : Gave (meaning_of c.args.self.now) g.met.K.Eq.laws g.met.E.Eviction.lawful (holding c.args.self.now) c.args.slot.kept c.put-number.result c.put-number.ensures.free c.put-number.new.self c.args.slot c.put-number.ensures.slots c.give_way-gone.result.0 c.give_way-gone.result.1 c.give_way-gone.new.records (g.E.Eviction.at c.give_way-gone.new.eviction) (g.E.Eviction.view c.give_way-gone.new.eviction) =
@@ -73,7 +72,7 @@ pub push-place-requires-clause-new_id : goal.push-place-requires-clause-new_id
 push-place-requires-clause-new_id g c κs within =
     let s = c.args.self.now in
     let d = c.args.slot.kept in
-    let hash : c.data.result.now.hash ≡ d.hash = ap (λ (x : Data g.row.K.Denot g.row.V.Denot g.row.P.Denot). x.hash) c.data.ensures in
+    let hash : c.hash-hash.result ≡ d.hash = c.hash-hash.ensures in
     let was : c.in-Ok.was ≡ g.I.Indexer.view s.index (key_of d) = c.in-Ok.ensures.was ∙ ap (λ (h : ℕ). g.I.Indexer.view s.index (h, c.args.key)) hash ∙ g.met.I.Indexer.respects s.index (d.hash, c.args.key) (key_of d) (alike_key g.K.PartialEq.eq d.hash c.args.key d.key c.requires.same) in
     let w = c.give_way-gone.ensures in
     let gv : Gave (meaning_of c.args.self.now) g.met.K.Eq.laws g.met.E.Eviction.lawful (holding c.args.self.now) c.args.slot.kept c.put-number.result c.put-number.ensures.free c.put-number.new.self c.args.slot c.put-number.ensures.slots c.give_way-gone.result.0 c.give_way-gone.result.1 c.give_way-gone.new.records (g.E.Eviction.at c.give_way-gone.new.eviction) (g.E.Eviction.view c.give_way-gone.new.eviction) =
@@ -85,19 +84,19 @@ pub push-place-requires-clause-fits : goal.push-place-requires-clause-fits
 push-place-requires-clause-fits g c κs within =
     let s = c.args.self.now in
     let d = c.args.slot.kept in
-    let hash : c.data.result.now.hash ≡ d.hash = ap (λ (x : Data g.row.K.Denot g.row.V.Denot g.row.P.Denot). x.hash) c.data.ensures in
+    let hash : c.hash-hash.result ≡ d.hash = c.hash-hash.ensures in
     let was : c.in-Ok.was ≡ g.I.Indexer.view s.index (key_of d) = c.in-Ok.ensures.was ∙ ap (λ (h : ℕ). g.I.Indexer.view s.index (h, c.args.key)) hash ∙ g.met.I.Indexer.respects s.index (d.hash, c.args.key) (key_of d) (alike_key g.K.PartialEq.eq d.hash c.args.key d.key c.requires.same) in
     let w = c.give_way-gone.ensures in
     let gv : Gave (meaning_of c.args.self.now) g.met.K.Eq.laws g.met.E.Eviction.lawful (holding c.args.self.now) c.args.slot.kept c.put-number.result c.put-number.ensures.free c.put-number.new.self c.args.slot c.put-number.ensures.slots c.give_way-gone.result.0 c.give_way-gone.result.1 c.give_way-gone.new.records (g.E.Eviction.at c.give_way-gone.new.eviction) (g.E.Eviction.view c.give_way-gone.new.eviction) =
     gave (meaning_of c.args.self.now) g.met.K.Eq.laws g.met.E.Eviction.lawful (holding c.args.self.now) c.args.slot.kept c.put-number.result c.put-number.ensures.free c.put-number.new.self c.args.slot c.put-number.ensures.slots c.in-Ok.was was c.give_way-gone.result c.give_way-gone.new.records (g.E.Eviction.at c.give_way-gone.new.eviction) (g.E.Eviction.view c.give_way-gone.new.eviction)
     w.none w.none_slots w.none_records w.none_places w.some w.some_slots w.some_records w.some_places in
-    rw c.data-2.ensures (gave_push (meaning_of c.args.self.now) g.met.K.Eq.laws g.met.E.Eviction.lawful (holding c.args.self.now) c.args.slot.kept c.put-number.result c.put-number.ensures.free c.put-number.new.self c.args.slot c.put-number.ensures.slots c.give_way-gone.result.0 c.give_way-gone.result.1 c.give_way-gone.new.records (g.E.Eviction.at c.give_way-gone.new.eviction) (g.E.Eviction.view c.give_way-gone.new.eviction) gv c.requires.fits).fits
+    rw c.weight-weight.ensures (gave_push (meaning_of c.args.self.now) g.met.K.Eq.laws g.met.E.Eviction.lawful (holding c.args.self.now) c.args.slot.kept c.put-number.result c.put-number.ensures.free c.put-number.new.self c.args.slot c.put-number.ensures.slots c.give_way-gone.result.0 c.give_way-gone.result.1 c.give_way-gone.new.records (g.E.Eviction.at c.give_way-gone.new.eviction) (g.E.Eviction.view c.give_way-gone.new.eviction) gv c.requires.fits).fits
 
 pub set_place-requires : goal.set_place-requires
 set_place-requires g c =
     let s = c.args.self.now in
     let d = c.args.slot.kept in
-    let hash : c.data.result.now.hash ≡ d.hash = ap (λ (x : Data g.row.K.Denot g.row.V.Denot g.row.P.Denot). x.hash) c.data.ensures in
+    let hash : c.hash-hash.result ≡ d.hash = c.hash-hash.ensures in
     let was : c.in-Ok.was ≡ g.I.Indexer.view s.index (key_of d) = c.in-Ok.ensures.was ∙ ap (λ (h : ℕ). g.I.Indexer.view s.index (h, c.args.key)) hash ∙ g.met.I.Indexer.respects s.index (d.hash, c.args.key) (key_of d) (alike_key g.K.PartialEq.eq d.hash c.args.key d.key c.requires.same) in
     let w = c.give_way-gone.ensures in
     let gv : Gave (meaning_of c.args.self.now) g.met.K.Eq.laws g.met.E.Eviction.lawful (holding c.args.self.now) c.args.slot.kept c.put-number.result c.put-number.ensures.free c.put-number.new.self c.args.slot c.put-number.ensures.slots c.give_way-gone.result.0 c.give_way-gone.result.1 c.give_way-gone.new.records (g.E.Eviction.at c.give_way-gone.new.eviction) (g.E.Eviction.view c.give_way-gone.new.eviction) =
@@ -109,19 +108,19 @@ pub overflow_add-self : goal.overflow_add-self
 overflow_add-self g c =
     let s = c.args.self.now in
     let d = c.args.slot.kept in
-    let hash : c.data.result.now.hash ≡ d.hash = ap (λ (x : Data g.row.K.Denot g.row.V.Denot g.row.P.Denot). x.hash) c.data.ensures in
+    let hash : c.hash-hash.result ≡ d.hash = c.hash-hash.ensures in
     let was : c.in-Ok.was ≡ g.I.Indexer.view s.index (key_of d) = c.in-Ok.ensures.was ∙ ap (λ (h : ℕ). g.I.Indexer.view s.index (h, c.args.key)) hash ∙ g.met.I.Indexer.respects s.index (d.hash, c.args.key) (key_of d) (alike_key g.K.PartialEq.eq d.hash c.args.key d.key c.requires.same) in
     let w = c.give_way-gone.ensures in
     let gv : Gave (meaning_of c.args.self.now) g.met.K.Eq.laws g.met.E.Eviction.lawful (holding c.args.self.now) c.args.slot.kept c.put-number.result c.put-number.ensures.free c.put-number.new.self c.args.slot c.put-number.ensures.slots c.give_way-gone.result.0 c.give_way-gone.result.1 c.give_way-gone.new.records (g.E.Eviction.at c.give_way-gone.new.eviction) (g.E.Eviction.view c.give_way-gone.new.eviction) =
     gave (meaning_of c.args.self.now) g.met.K.Eq.laws g.met.E.Eviction.lawful (holding c.args.self.now) c.args.slot.kept c.put-number.result c.put-number.ensures.free c.put-number.new.self c.args.slot c.put-number.ensures.slots c.in-Ok.was was c.give_way-gone.result c.give_way-gone.new.records (g.E.Eviction.at c.give_way-gone.new.eviction) (g.E.Eviction.view c.give_way-gone.new.eviction)
     w.none w.none_slots w.none_records w.none_places w.some w.some_slots w.some_records w.some_places in
-    rw c.data-2.ensures (let f = gave_fits (meaning_of c.args.self.now) g.met.K.Eq.laws g.met.E.Eviction.lawful (holding c.args.self.now) c.args.slot.kept c.put-number.result c.put-number.ensures.free c.put-number.new.self c.args.slot c.put-number.ensures.slots c.give_way-gone.result.0 c.give_way-gone.result.1 c.give_way-gone.new.records (g.E.Eviction.at c.give_way-gone.new.eviction) (g.E.Eviction.view c.give_way-gone.new.eviction) gv s.usage s.weighed c.requires.fits in search (rules, f))
+    rw c.weight-weight.ensures (let f = gave_fits (meaning_of c.args.self.now) g.met.K.Eq.laws g.met.E.Eviction.lawful (holding c.args.self.now) c.args.slot.kept c.put-number.result c.put-number.ensures.free c.put-number.new.self c.args.slot c.put-number.ensures.slots c.give_way-gone.result.0 c.give_way-gone.result.1 c.give_way-gone.new.records (g.E.Eviction.at c.give_way-gone.new.eviction) (g.E.Eviction.view c.give_way-gone.new.eviction) gv s.usage s.weighed c.requires.fits in search (rules, f))
 
 pub invariant_of-self-2 : goal.invariant_of-self-2
 invariant_of-self-2 g c =
     let s = c.args.self.now in
     let d = c.args.slot.kept in
-    let hash : c.data.result.now.hash ≡ d.hash = ap (λ (x : Data g.row.K.Denot g.row.V.Denot g.row.P.Denot). x.hash) c.data.ensures in
+    let hash : c.hash-hash.result ≡ d.hash = c.hash-hash.ensures in
     let was : c.in-Ok.was ≡ g.I.Indexer.view s.index (key_of d) = c.in-Ok.ensures.was ∙ ap (λ (h : ℕ). g.I.Indexer.view s.index (h, c.args.key)) hash ∙ g.met.I.Indexer.respects s.index (d.hash, c.args.key) (key_of d) (alike_key g.K.PartialEq.eq d.hash c.args.key d.key c.requires.same) in
     let w = c.give_way-gone.ensures in
     let gv : Gave (meaning_of c.args.self.now) g.met.K.Eq.laws g.met.E.Eviction.lawful (holding c.args.self.now) c.args.slot.kept c.put-number.result c.put-number.ensures.free c.put-number.new.self c.args.slot c.put-number.ensures.slots c.give_way-gone.result.0 c.give_way-gone.result.1 c.give_way-gone.new.records (g.E.Eviction.at c.give_way-gone.new.eviction) (g.E.Eviction.view c.give_way-gone.new.eviction) =
@@ -136,7 +135,7 @@ invariant_of-self-2 g c =
     let led1 : (q : _) → g.I.Indexer.view c.insert.new.self q ≡ update (same_key g.K.PartialEq.eq) (g.I.Indexer.view s.index) (key_of d) (Some c.put-number.result) q =
     update_alike (same_key g.K.PartialEq.eq) (same_key_laws g.K.PartialEq.eq g.met.K.Eq.laws) (g.I.Indexer.view s.index) (g.I.Indexer.view c.insert.new.self) (d.hash, c.args.key) (key_of d) (Some c.put-number.result)
     (alike_key g.K.PartialEq.eq d.hash c.args.key d.key c.requires.same) (λ q. c.in-Ok.ensures.view q ∙ ap (λ (h : ℕ). update (same_key g.K.PartialEq.eq) (g.I.Indexer.view s.index) (h, c.args.key) (Some c.put-number.result) q) hash) in
-    let item : (let i : Item = record { id = s.next; hash = c.data.result.now.hash; weight = c.data-2.result.now.weight; hint = c.unwrap_or-hint.result } in i) ≡ item_of (meaning_of s) s.next d = (rw (c.data.ensures, c.data-2.ensures, c.unwrap_or-hint.ensures, c.hint.ensures, c.data-3.ensures) refl) in
+    let item : (let i : Item = record { id = s.next; hash = c.hash-hash.result; weight = c.weight-weight.result; hint = c.unwrap_or-hint.result } in i) ≡ item_of (meaning_of s) s.next d = (rw (c.hash-hash.ensures, c.weight-weight.ensures, c.unwrap_or-hint.ensures, c.hint.ensures, c.properties.ensures) refl) in
     let done : Admitted (meaning_of c.args.self.now) g.met.K.Eq.laws g.met.E.Eviction.lawful (holding c.args.self.now) c.args.slot.kept c.put-number.result c.put-number.ensures.free c.give_way-gone.result.1 (s.usage - c.give_way-gone.result.0) (s.entries - cond (is_some c.give_way-gone.result.1) 1 0) (g.E.Eviction.view c.push-place.new.self) (g.I.Indexer.view c.insert.new.self) c.set_place.new.self (g.E.Eviction.at c.push-place.new.self) =
     gave_admitted (meaning_of c.args.self.now) g.met.K.Eq.laws g.met.E.Eviction.lawful (holding c.args.self.now) c.args.slot.kept c.put-number.result c.put-number.ensures.free c.put-number.new.self c.args.slot c.put-number.ensures.slots c.give_way-gone.result.0 c.give_way-gone.result.1 c.give_way-gone.new.records (g.E.Eviction.at c.give_way-gone.new.eviction) (g.E.Eviction.view c.give_way-gone.new.eviction) gv c.requires.new c.set_place.new.self c.push-place.result (g.I.Indexer.view c.insert.new.self) (g.E.Eviction.at c.push-place.new.self) (g.E.Eviction.view c.push-place.new.self) recs1 led1 slots3 c.set_place.ensures.records
     (c.push-place.ensures.here ∙ ap (λ (i : Item). Some i) item) c.push-place.ensures.was_free c.push-place.ensures.others (c.push-place.ensures.view ∙ ap (g.E.Eviction.model.push (g.E.Eviction.view c.give_way-gone.new.eviction)) item)
@@ -144,7 +143,7 @@ invariant_of-self-2 g c =
     record {
       kept = done.kept3;
       stored = done.stored3;
-      weighed = rw c.data-2.ensures done.weighed3;
+      weighed = rw c.weight-weight.ensures done.weighed3;
       counted = rw (c.is_some.ensures, byte_is) done.counted3;
       numbered = omega (arith, s.numbered);
     }
@@ -153,7 +152,7 @@ pub returns-clause-admitted : goal.returns-clause-admitted
 returns-clause-admitted g c =
     let s = c.args.self.now in
     let d = c.args.slot.kept in
-    let hash : c.data.result.now.hash ≡ d.hash = ap (λ (x : Data g.row.K.Denot g.row.V.Denot g.row.P.Denot). x.hash) c.data.ensures in
+    let hash : c.hash-hash.result ≡ d.hash = c.hash-hash.ensures in
     let was : c.in-Ok.was ≡ g.I.Indexer.view s.index (key_of d) = c.in-Ok.ensures.was ∙ ap (λ (h : ℕ). g.I.Indexer.view s.index (h, c.args.key)) hash ∙ g.met.I.Indexer.respects s.index (d.hash, c.args.key) (key_of d) (alike_key g.K.PartialEq.eq d.hash c.args.key d.key c.requires.same) in
     let w = c.give_way-gone.ensures in
     let gv : Gave (meaning_of c.args.self.now) g.met.K.Eq.laws g.met.E.Eviction.lawful (holding c.args.self.now) c.args.slot.kept c.put-number.result c.put-number.ensures.free c.put-number.new.self c.args.slot c.put-number.ensures.slots c.give_way-gone.result.0 c.give_way-gone.result.1 c.give_way-gone.new.records (g.E.Eviction.at c.give_way-gone.new.eviction) (g.E.Eviction.view c.give_way-gone.new.eviction) =
@@ -168,7 +167,7 @@ returns-clause-admitted g c =
     let led1 : (q : _) → g.I.Indexer.view c.insert.new.self q ≡ update (same_key g.K.PartialEq.eq) (g.I.Indexer.view s.index) (key_of d) (Some c.put-number.result) q =
     update_alike (same_key g.K.PartialEq.eq) (same_key_laws g.K.PartialEq.eq g.met.K.Eq.laws) (g.I.Indexer.view s.index) (g.I.Indexer.view c.insert.new.self) (d.hash, c.args.key) (key_of d) (Some c.put-number.result)
     (alike_key g.K.PartialEq.eq d.hash c.args.key d.key c.requires.same) (λ q. c.in-Ok.ensures.view q ∙ ap (λ (h : ℕ). update (same_key g.K.PartialEq.eq) (g.I.Indexer.view s.index) (h, c.args.key) (Some c.put-number.result) q) hash) in
-    let item : (let i : Item = record { id = s.next; hash = c.data.result.now.hash; weight = c.data-2.result.now.weight; hint = c.unwrap_or-hint.result } in i) ≡ item_of (meaning_of s) s.next d = (rw (c.data.ensures, c.data-2.ensures, c.unwrap_or-hint.ensures, c.hint.ensures, c.data-3.ensures) refl) in
+    let item : (let i : Item = record { id = s.next; hash = c.hash-hash.result; weight = c.weight-weight.result; hint = c.unwrap_or-hint.result } in i) ≡ item_of (meaning_of s) s.next d = (rw (c.hash-hash.ensures, c.weight-weight.ensures, c.unwrap_or-hint.ensures, c.hint.ensures, c.properties.ensures) refl) in
     let done : Admitted (meaning_of c.args.self.now) g.met.K.Eq.laws g.met.E.Eviction.lawful (holding c.args.self.now) c.args.slot.kept c.put-number.result c.put-number.ensures.free c.give_way-gone.result.1 (s.usage - c.give_way-gone.result.0) (s.entries - cond (is_some c.give_way-gone.result.1) 1 0) (g.E.Eviction.view c.push-place.new.self) (g.I.Indexer.view c.insert.new.self) c.set_place.new.self (g.E.Eviction.at c.push-place.new.self) =
     gave_admitted (meaning_of c.args.self.now) g.met.K.Eq.laws g.met.E.Eviction.lawful (holding c.args.self.now) c.args.slot.kept c.put-number.result c.put-number.ensures.free c.put-number.new.self c.args.slot c.put-number.ensures.slots c.give_way-gone.result.0 c.give_way-gone.result.1 c.give_way-gone.new.records (g.E.Eviction.at c.give_way-gone.new.eviction) (g.E.Eviction.view c.give_way-gone.new.eviction) gv c.requires.new c.set_place.new.self c.push-place.result (g.I.Indexer.view c.insert.new.self) (g.E.Eviction.at c.push-place.new.self) (g.E.Eviction.view c.push-place.new.self) recs1 led1 slots3 c.set_place.ensures.records
     (c.push-place.ensures.here ∙ ap (λ (i : Item). Some i) item) c.push-place.ensures.was_free c.push-place.ensures.others (c.push-place.ensures.view ∙ ap (g.E.Eviction.model.push (g.E.Eviction.view c.give_way-gone.new.eviction)) item)
