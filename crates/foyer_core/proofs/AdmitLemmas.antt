@@ -210,8 +210,8 @@ module _ {K V P View C : Type 0} (m : Meaning K P View C) (laws : IsEquivalence 
       id_apart : y.id ≢ next
       id_apart = ∥∥₁_elim kept (hlevel props) (λ k'. λ e. absurd (let f = k'.fresh y.id (rec_of y) (slot_record m at keys t old y there) in omega arith))
 
-      pub gives_way_some : GivesWay m (now.index (key_of d)) now (replaced_leaves (Some record { id = y.id; kept = y.kept })) last_of
-      gives_way_some = subst (λ (w : Option ℕ). GivesWay m w now (replaced_leaves (Some record { id = y.id; kept = y.kept })) last_of) (sym hits_old)
+      pub gives_way_some : GivesWay m (now.index (key_of d)) now (replaced_leaves (Some record { number = number; id = y.id; kept = y.kept })) last_of
+      gives_way_some = subst (λ (w : Option ℕ). GivesWay m w now (replaced_leaves (Some record { number = number; id = y.id; kept = y.kept })) last_of) (sym hits_old)
           (rec_of y, slot_record m at keys t old y there, refl, refl)
 
       pub old_weight : (usage : ℕ) → usage ≡ weight_of (m.policy.order view) → (y.kept.weight ≤ usage) × (usage - y.kept.weight ≡ usage_of m last_of)
@@ -299,7 +299,7 @@ module _ {K V P View C : Type 0} (m : Meaning K P View C) (laws : IsEquivalence 
         viewed_some = viewed3 ∙ ap (λ (v : View). m.policy.push v (item_of m next d)) viewed2
 
         pub admitted_some : (usage entries : ℕ) → usage ≡ weight_of (m.policy.order view) → entries ≡ length (m.policy.order view)
-            → Admitted (Some record { id = y.id; kept = y.kept }) (usage - y.kept.weight) (entries - 1) view3 keys1 t3 at3
+            → Admitted (Some record { number = number; id = y.id; kept = y.kept }) (usage - y.kept.weight) (entries - 1) view3 keys1 t3 at3
         admitted_some usage entries hu he =
             let base = base_some old led y there at2 places2 in
             let last : State K V P View = last_of old led y there at2 places2 in
@@ -309,7 +309,7 @@ module _ {K V P View C : Type 0} (m : Meaning K P View C) (laws : IsEquivalence 
             let led3 : (q : ℕ × K) → keys1 q ≡ update (same_key m.same) keys2 (key_of d) (Some n) q = (λ q. led1 q ∙ led_over old led y there at2 places2 q) in
             record {
               admits = record { last = last; gives_way = way; after = admit_after slots keys2 at2 last base t3 p keys1 at3 view3 slots_some recs_some led3 here3 free3 others3 viewed_some };
-              kept3 = admit_kept slots keys2 at2 last base t3 p keys1 at3 view3 slots_some recs_some led3 here3 free3 others3 viewed_some plain (fits (replaced_leaves (Some record { id = y.id; kept = y.kept })) last way) handle;
+              kept3 = admit_kept slots keys2 at2 last base t3 p keys1 at3 view3 slots_some recs_some led3 here3 free3 others3 viewed_some plain (fits (replaced_leaves (Some record { number = number; id = y.id; kept = y.kept })) last way) handle;
               stored3 = admit_stored slots keys2 at2 last base t3 p keys1 at3 view3 slots_some recs_some led3 here3 free3 others3 viewed_some;
               weighed3 = (let w : weight_of (m.policy.order view3) ≡ d.weight + usage_of m last = ap (λ (v : View). weight_of (m.policy.order v)) viewed_some ∙ push_weight m laws good last d in
                   let u = old_weight old led y there at2 places2 usage hu in omega (arith, u.0, u.1));

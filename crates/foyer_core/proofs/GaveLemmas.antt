@@ -62,7 +62,7 @@ module _ {K V P View C : Type 0} (m : Meaning K P View C) (laws : IsEquivalence 
       pub led : keys (key_of d) ≡ Some old
       pub there : slot_in t old ≡ Some y
       pub gone_is : gone ≡ y.kept.weight
-      pub replaced_is : replaced ≡ Some record { id = y.id; kept = y.kept }
+      pub replaced_is : replaced ≡ Some record { number = number; id = y.id; kept = y.kept }
       pub viewed : view2 ≡ m.policy.remove view y.id
       pub slots : (q : ℕ) → slot_in t2 q ≡ update nat_eq (slot_in t1) old (slot_outside y) q
       pub recs : (id : ℕ) → record_in t2 id ≡ update nat_eq (record_in t1) y.id (outside (rec_of y)) id
@@ -84,7 +84,7 @@ module _ {K V P View C : Type 0} (m : Meaning K P View C) (laws : IsEquivalence 
         (none : was ≡ None → (result ≡ (0, None)) × (view2 ≡ view)) (none_slots : was ≡ None → (q : ℕ) → slot_in t2 q ≡ slot_in t1 q)
         (none_records : was ≡ None → (id : ℕ) → record_in t2 id ≡ record_in t1 id) (none_places : was ≡ None → (p : ℕ) → at2 p ≡ at p)
         (some : (k : ℕ) (s : Kept K V P) (i : Item) → was ≡ Some k → slot_in t1 k ≡ Some s → option_and_then at s.place ≡ Some i
-        → (result ≡ (i.weight, Some record { id = s.id; kept = s.kept })) × (view2 ≡ m.policy.remove view i.id))
+        → (result ≡ (i.weight, Some record { number = number; id = s.id; kept = s.kept })) × (view2 ≡ m.policy.remove view i.id))
         (some_slots : (k : ℕ) (s : Kept K V P) → was ≡ Some k → slot_in t1 k ≡ Some s → (q : ℕ) → slot_in t2 q ≡ update nat_eq (slot_in t1) k (slot_outside s) q)
         (some_records : (k : ℕ) (s : Kept K V P) → was ≡ Some k → slot_in t1 k ≡ Some s → (id : ℕ) → record_in t2 id ≡ update nat_eq (record_in t1) s.id (outside (rec_of s)) id)
         (some_places : (k : ℕ) (s : Kept K V P) (i : Item) → was ≡ Some k → slot_in t1 k ≡ Some s → option_and_then at s.place ≡ Some i → (p : ℕ) → at2 p ≡ without i.id (at p)) where

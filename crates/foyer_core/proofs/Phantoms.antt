@@ -37,7 +37,7 @@ module _ {K V P View C : Type 0} (m : Meaning K P View C) where
     pub way_rests : (laws : IsEquivalence m.same) → IsPolicy m.policy → Rests m old last
     way_rests laws good = gives_way_rests m laws good (old.index (key_of d)) old (replaced_leaves replaced) last way
 
-    pub phantom_came : MayHold m old → (ls : List (Event × Gone K V P)) → ls ≡ replaced_leaves replaced ++ (Remove, record { id = old.next; kept = d }) ∷ []
+    pub phantom_came : MayHold m old → (ls : List (Event × Gone K V P)) → ls ≡ replaced_leaves replaced ++ (Remove, record { number = old.number; id = old.next; kept = d }) ∷ []
         → InsertsPhantom m old d ls (entry_of old old.next d Outer) (after_hold m last d)
     phantom_came may ls is = record {
       may = may;

@@ -18,9 +18,9 @@ use Rattle.foyer_core.specs.State.{Meaning, State, key_of, hit, item_of, is_phan
 abbrev pub outside : {K V P : Type 0} → Rec K V P → Option (Rec K V P)
 outside r = if r.handles == 0 then None else Some (record r { resident = false })
 
--- what a leave tells of a record
-abbrev pub gone_of : {K V P : Type 0} → ℕ → Rec K V P → Gone K V P
-gone_of id r = record { id = id; kept = r.kept }
+-- what a leave tells of a record of the core of this number
+abbrev pub gone_of : {K V P : Type 0} → ℕ → ℕ → Rec K V P → Gone K V P
+gone_of number id r = record { number = number; id = id; kept = r.kept }
 
 -- an entry of a record
 abbrev pub entry_of : {K V P View : Type 0} → State K V P View → ℕ → Data K V P → Source → Held K V P
@@ -66,7 +66,7 @@ module _ {K V P View C : Type 0} (m : Meaning K P View C) where
   abbrev pub Leave : Event → List ℕ → State K V P View → List (Event × Gone K V P) → View → State K V P View → Type 0
   Leave event [] old [] v new = new ≡ record old { view = v }
   Leave event (id ∷ ids) old (l ∷ ls) v new =
-      (r : Rec K V P) × (old.records id ≡ Some r) × (l ≡ (event, gone_of id r)) × Leave event ids (after_out old id r) ls v new
+      (r : Rec K V P) × (old.records id ≡ Some r) × (l ≡ (event, gone_of old.number id r)) × Leave event ids (after_out old id r) ls v new
   Leave event [] old (l ∷ ls) v new = ⊥
   Leave event (id ∷ ids) old [] v new = ⊥
 
@@ -89,7 +89,7 @@ module _ {K V P View C : Type 0} (m : Meaning K P View C) where
     pub rec : Rec K V P
     pub popped : victim m.policy old.view ≡ Some (item, view)
     pub there : old.records item.id ≡ Some rec
-    pub gone_is : gone ≡ gone_of item.id rec
+    pub gone_is : gone ≡ gone_of old.number item.id rec
     pub after : new ≡ record (after_out old item.id rec) { view = view }
 
   -- the record of this id, where there is one, gives way to a newer one
@@ -157,7 +157,7 @@ module _ {K V P View C : Type 0} (m : Meaning K P View C) where
     pub may : MayHold old
     pub replaced : List (Event × Gone K V P)
     pub last : State K V P View
-    pub leaves : ls ≡ replaced ++ (Remove, record { id = old.next; kept = d }) ∷ []
+    pub leaves : ls ≡ replaced ++ (Remove, record { number = old.number; id = old.next; kept = d }) ∷ []
     pub gives_way : GivesWay (old.index (key_of d)) old replaced last
     pub entry_is : entry ≡ entry_of old old.next d Outer
     pub after : new ≡ after_hold last d
@@ -213,15 +213,15 @@ module _ {K V P View C : Type 0} (m : Meaning K P View C) where
   after_give_back s id r = if r.handles == 1 then after_last s id r else record s { records = update nat_eq s.records id (Some (record r { handles = r.handles - 1 })) }
 
   -- a phantom record leaves with its last handle
-  abbrev pub last_leave : ℕ → Rec K V P → Option (Event × Gone K V P)
-  last_leave id r = if (r.handles == 1) && (not r.resident && is_phantom_record m r.kept) then Some (Evict, gone_of id r) else None
+  abbrev pub last_leave : ℕ → ℕ → Rec K V P → Option (Event × Gone K V P)
+  last_leave number id r = if (r.handles == 1) && (not r.resident && is_phantom_record m r.kept) then Some (Evict, gone_of number id r) else None
 
   -- a handle is taken back
   pub record GivesBack (old : State K V P View) (id : ℕ) (leave : Option (Event × Gone K V P)) (new : State K V P View) : Type 0 where
     pub rec : Rec K V P
     pub there : old.records id ≡ Some rec
     pub held : 0 < rec.handles
-    pub leaves : leave ≡ last_leave id rec
+    pub leaves : leave ≡ last_leave old.number id rec
     pub after : new ≡ after_give_back old id rec
 
   -- What a touch answers: a get, whose entry is given back at once. It is refused at the limit of handles

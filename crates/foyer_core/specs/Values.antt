@@ -38,8 +38,9 @@ pub record Held (K V P : Type 0) : Type 0 where
   pub source : Source
   pub left : Bool
 
--- what left
+-- what left: the record of this id of the core of this number
 pub record Gone (K V P : Type 0) : Type 0 where
+  pub number : ℕ
   pub id : ℕ
   pub kept : Data K V P
 

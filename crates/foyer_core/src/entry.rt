@@ -15,6 +15,7 @@ use std::sync::Arc;
 /// A record that left. It stays readable.
 #[derive(Drop)]
 pub struct Left<K, V, P> {
+    number: u64,
     id: u64,
     kept: Share<K, V, P>,
 }
@@ -24,14 +25,14 @@ impl<K, V, P> Model for Left<K, V, P> {
 
     ghost Value = { Gone K V P };
 
-    ghost view = { λ l. record { id = l.id; kept = l.kept } };
+    ghost view = { λ l. record { number = l.number; id = l.id; kept = l.kept } };
 }
 
 impl<K, V, P> Left<K, V, P> {
-    pub(crate) fn new(id: u64, kept: Share<K, V, P>) -> Self
-        ensures { result ≡ record { id = id; kept = kept } }
+    pub(crate) fn new(number: u64, id: u64, kept: Share<K, V, P>) -> Self
+        ensures { result ≡ record { number = number; id = id; kept = kept } }
     {
-        Left { id, kept }
+        Left { number, id, kept }
     }
 
     /// The record's number, which its shard gave once.
@@ -74,6 +75,14 @@ impl<K, V, P> Left<K, V, P> {
         ensures { result ≡ self.now.kept.weight }
     {
         self.kept.weight()
+    }
+
+    /// A piece of the record. It takes no memory.
+    pub fn piece(self) -> Piece<K, V, P>
+        ensures { result ≡ record { number = self.number; id = self.id; kept = self.kept } }
+    {
+        let Left { number, id, kept } = self;
+        Piece::of_share(number, id, 0, kept)
     }
 }
 
@@ -195,12 +204,13 @@ impl<K: Drop, V: Drop, P: Drop> CoreEntry<K, V, P> {
 
     /// What a leave of the record would show, from a share of its own. It is given once.
     pub fn left(&mut self) -> Option<Left<K, V, P>>
-        ensures given { IfSome result (λ l. (self.old.left ≡ true) × (l ≡ record { id = self.old.id; kept = self.old.kept })) }
+        ensures given { IfSome result (λ l. (self.old.left ≡ true) × (l ≡ record { number = self.old.number; id = self.old.id; kept = self.old.kept })) }
         ensures once { IsNone result → self.old.left ≡ false }
         ensures taken { self.new ≡ record self.old { left = false } }
     {
         match self.left.take() {
             Some(body) => Some(Left::new(
+                self.number,
                 self.id,
                 Share::of_body(body, self.kept.hash(), self.kept.weight()),
             )),

@@ -29,16 +29,7 @@ impl<K, V, P> Model for Piece<K, V, P> {
     ghost view = { λ p. record { number = p.number; id = p.id; kept = p.kept } };
 }
 
-impl<K: Drop, V: Drop, P: Drop> Piece<K, V, P> {
-    /// A piece of a record, which has this id in the core of this number. Only memory can be missing (F7).
-    pub fn new(kept: &Record<K, V, P>, number: u64, id: u64) -> Result<Self>
-        ensures made { IfOk result (λ p. p ≡ record { number = number; id = id; kept = kept.now.kept }) }
-        ensures refused { IfErr result (λ e. e ≡ NoMemory) }
-    {
-        let share = kept.share()?;
-        Ok(Piece::of_share(number, id, 0, share))
-    }
-
+impl<K, V, P> Piece<K, V, P> {
     // A piece with this share of a record's data. The record may stand in this slot.
     pub(crate) fn of_share(number: u64, id: u64, slot: usize, kept: Share<K, V, P>) -> Self
         ensures { result ≡ record { number = number; id = id; kept = kept } }
@@ -49,6 +40,17 @@ impl<K: Drop, V: Drop, P: Drop> Piece<K, V, P> {
             slot,
             kept,
         }
+    }
+}
+
+impl<K: Drop, V: Drop, P: Drop> Piece<K, V, P> {
+    /// A piece of a record, which has this id in the core of this number. Only memory can be missing (F7).
+    pub fn new(kept: &Record<K, V, P>, number: u64, id: u64) -> Result<Self>
+        ensures made { IfOk result (λ p. p ≡ record { number = number; id = id; kept = kept.now.kept }) }
+        ensures refused { IfErr result (λ e. e ≡ NoMemory) }
+    {
+        let share = kept.share()?;
+        Ok(Piece::of_share(number, id, 0, share))
     }
 
     /// The key.

@@ -144,11 +144,11 @@ impl<K: Drop, V: Drop, P: Drop> Records<K, V, P> {
         found
     }
 
-    /// A slot's record is out of the index and the policy: what leaves with it. It stays only while it has
-    /// a handle.
-    pub fn leave(&mut self, slot: usize) -> Left<K, V, P>
+    /// A slot's record is out of the index and the policy: what leaves with it, in the core of this number. It
+    /// stays only while it has a handle.
+    pub fn leave(&mut self, slot: usize, number: u64) -> Left<K, V, P>
         requires { IsSomeAnd (slot_in self.old slot) (λ s. s.resident ≡ true) }
-        ensures left { (s : Kept K V P) → slot_in self.old slot ≡ Some s → result ≡ record { id = s.id; kept = s.kept } }
+        ensures left { (s : Kept K V P) → slot_in self.old slot ≡ Some s → result ≡ record { number = number; id = s.id; kept = s.kept } }
         ensures slots { (s : Kept K V P) → slot_in self.old slot ≡ Some s → (n : ℕ) → slot_in self.new n ≡ update nat_eq (slot_in self.old) slot (slot_outside s) n }
         ensures records { (s : Kept K V P) → slot_in self.old slot ≡ Some s → (id : ℕ) → record_in self.new id ≡ update nat_eq (record_in self.old) s.id (outside (rec_of s)) id }
         ensures room { HasRoom self.old → HasRoom self.new }
@@ -156,7 +156,7 @@ impl<K: Drop, V: Drop, P: Drop> Records<K, V, P> {
         let Some(found) = self.slots.get_mut(slot) else {
             unreachable!();
         };
-        let left = found.leave();
+        let left = found.leave(number);
         if found.handles() == 0 {
             let _ = self.forget(slot);
         }

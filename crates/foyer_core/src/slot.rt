@@ -58,13 +58,13 @@ impl<K: Drop, V: Drop, P: Drop> Slot<K, V, P> {
         })
     }
 
-    /// What a leave of the record shows. Only memory can be missing.
-    pub fn left(&self) -> Result<Left<K, V, P>>
-        ensures left { IfOk result (λ l. l ≡ record { id = self.now.id; kept = self.now.kept }) }
+    /// What a leave of the record shows, in the core of this number. Only memory can be missing.
+    pub fn left(&self, number: u64) -> Result<Left<K, V, P>>
+        ensures left { IfOk result (λ l. l ≡ record { number = number; id = self.now.id; kept = self.now.kept }) }
         ensures refused { IfErr result (λ e. e ≡ NoMemory) }
     {
         let share = self.record.share()?;
-        Ok(Left::new(self.id, share))
+        Ok(Left::new(number, self.id, share))
     }
 
     pub fn id(&self) -> u64
@@ -157,10 +157,10 @@ impl<K: Drop, V: Drop, P: Drop> Slot<K, V, P> {
         self.record.dec_refs(1)
     }
 
-    /// The record is out of the index and the policy: what leaves with it.
-    pub fn leave(&mut self) -> Left<K, V, P>
+    /// The record is out of the index and the policy: what leaves with it, in the core of this number.
+    pub fn leave(&mut self, number: u64) -> Left<K, V, P>
         requires { IsTrue self.old.resident }
-        ensures left { result ≡ record { id = self.old.id; kept = self.old.kept } }
+        ensures left { result ≡ record { number = number; id = self.old.id; kept = self.old.kept } }
         ensures out { self.new ≡ record self.old { resident = false; place = None } }
     {
         self.record.set_in_indexer(false);
@@ -168,6 +168,7 @@ impl<K: Drop, V: Drop, P: Drop> Slot<K, V, P> {
         self.record.set_state(None);
         match self.leave.take() {
             Some(body) => Left::new(
+                number,
                 self.id,
                 Share::of_body(body, self.record.hash(), self.record.weight()),
             ),
@@ -175,15 +176,15 @@ impl<K: Drop, V: Drop, P: Drop> Slot<K, V, P> {
         }
     }
 
-    /// What a record that is let go shows.
-    pub fn into_left(self) -> Left<K, V, P>
-        ensures { result ≡ record { id = self.id; kept = self.kept } }
+    /// What a record that is let go shows, in the core of this number.
+    pub fn into_left(self, number: u64) -> Left<K, V, P>
+        ensures { result ≡ record { number = number; id = self.id; kept = self.kept } }
     {
         let Slot {
             id,
             record,
             leave: _,
         } = self;
-        Left::new(id, record.into_share())
+        Left::new(number, id, record.into_share())
     }
 }

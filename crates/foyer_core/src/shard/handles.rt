@@ -87,7 +87,7 @@ impl<E: Eviction, K: Key, V: Value, P: Properties, I: Indexer<K>> Shard<E, K, V,
     {
         let gone = self.records.forget(slot);
         if gone.properties().phantom().unwrap_or(false) {
-            return Some((Event::Evict, gone.into_left()));
+            return Some((Event::Evict, gone.into_left(self.number)));
         }
         None
     }

@@ -142,7 +142,7 @@ impl<E: Eviction, K: Key, V: Value, P: Properties, I: Indexer<K>> Shard<E, K, V,
                 return Err(error);
             }
         };
-        let (gone, replaced) = give_way(&mut self.eviction, &mut self.records, was);
+        let (gone, replaced) = give_way(&mut self.eviction, &mut self.records, self.number, was);
         self.usage -= gone;
         self.entries -= replaced.is_some() as u64;
         let place = self.eviction.push(Item {
@@ -159,10 +159,12 @@ impl<E: Eviction, K: Key, V: Value, P: Properties, I: Indexer<K>> Shard<E, K, V,
     }
 }
 
-// The record that a key had gives way, where it had one: the weight that is gone, and what leaves.
+// The record that a key had gives way, where it had one: the weight that is gone, and what leaves, in the
+// core of this number.
 fn give_way<E: Eviction, K: Drop, V: Drop, P: Drop>(
     eviction: &mut E,
     records: &mut Records<K, V, P>,
+    number: u64,
     was: Option<u64>,
 ) -> (usize, Option<Left<K, V, P>>)
     requires { ForSome was (λ n. IsSomeAnd (slot_in records.old n) (λ s. (s.resident ≡ true) × IsSome (option_and_then (E.at eviction.old) s.place))) }
@@ -170,16 +172,16 @@ fn give_way<E: Eviction, K: Drop, V: Drop, P: Drop>(
     ensures none_slots { was ≡ None → (n : ℕ) → slot_in records.new n ≡ slot_in records.old n }
     ensures none_records { was ≡ None → (id : ℕ) → record_in records.new id ≡ record_in records.old id }
     ensures none_places { was ≡ None → (p : ℕ) → E.at eviction.new p ≡ E.at eviction.old p }
-    ensures some { (n : ℕ) (s : Kept K V P) (i : Item) → was ≡ Some n → slot_in records.old n ≡ Some s → option_and_then (E.at eviction.old) s.place ≡ Some i → (result ≡ (i.weight, Some record { id = s.id; kept = s.kept })) × (E.view eviction.new ≡ E.model.remove (E.view eviction.old) i.id) }
+    ensures some { (n : ℕ) (s : Kept K V P) (i : Item) → was ≡ Some n → slot_in records.old n ≡ Some s → option_and_then (E.at eviction.old) s.place ≡ Some i → (result ≡ (i.weight, Some record { number = number; id = s.id; kept = s.kept })) × (E.view eviction.new ≡ E.model.remove (E.view eviction.old) i.id) }
     ensures some_slots { (n : ℕ) (s : Kept K V P) → was ≡ Some n → slot_in records.old n ≡ Some s → (q : ℕ) → slot_in records.new q ≡ update nat_eq (slot_in records.old) n (slot_outside s) q }
     ensures some_records { (n : ℕ) (s : Kept K V P) → was ≡ Some n → slot_in records.old n ≡ Some s → (id : ℕ) → record_in records.new id ≡ update nat_eq (record_in records.old) s.id (outside (rec_of s)) id }
     ensures some_places { (n : ℕ) (s : Kept K V P) (i : Item) → was ≡ Some n → slot_in records.old n ≡ Some s → option_and_then (E.at eviction.old) s.place ≡ Some i → (p : ℕ) → E.at eviction.new p ≡ without i.id (E.at eviction.old p) }
     ensures room { E.room eviction.old ≤ E.room eviction.new }
 {
-    let Some(number) = was else {
+    let Some(old) = was else {
         return (0, None);
     };
-    let slot = number as usize;
+    let slot = old as usize;
     let Some(found) = records.get(slot) else {
         unreachable!();
     };
@@ -187,5 +189,5 @@ fn give_way<E: Eviction, K: Drop, V: Drop, P: Drop>(
         unreachable!();
     };
     let item = eviction.remove(place);
-    (item.weight, Some(records.leave(slot)))
+    (item.weight, Some(records.leave(slot, number)))
 }

@@ -75,7 +75,7 @@ impl<E: Eviction, K: Key, V: Value, P: Properties, I: Indexer<K>> Shard<E, K, V,
         ensures same { state_of self.new ≡ state_of self.old }
         ensures slot { IfOk result (λ made. made.0 ≡ record { id = self.old.next; kept = kept; handles = 1; resident = false; place = None }) }
         ensures entry { IfOk result (λ made. made.1 ≡ entry_of (state_of self.old) self.old.next kept Outer) }
-        ensures gone { IfOk result (λ made. made.2 ≡ record { id = self.old.next; kept = kept }) }
+        ensures gone { IfOk result (λ made. made.2 ≡ record { number = self.old.number; id = self.old.next; kept = kept }) }
         ensures leaves { IfOk result (λ made. made.3.items ≡ []) }
         ensures leaves_room { IfOk result (λ made. vec_len made.3 + 2 ≤ vec_capacity made.3) }
         ensures room { OnOk result (HasRoom self.new.records) }
@@ -85,7 +85,7 @@ impl<E: Eviction, K: Key, V: Value, P: Properties, I: Indexer<K>> Shard<E, K, V,
         self.records.reserve()?;
         let mut slot = Slot::outside(alloc, kept, self.next)?;
         slot.add_handle();
-        let gone = slot.left()?;
+        let gone = slot.left(self.number)?;
         let entry = slot.entry(self.number, 0, Source::Outer)?;
         Ok((slot, entry, gone, leaves))
     }

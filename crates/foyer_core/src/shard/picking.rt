@@ -107,6 +107,6 @@ impl<E: Eviction, K: Key, V: Value, P: Properties, I: Indexer<K>> Shard<E, K, V,
         let item = self.eviction.remove(place);
         self.usage -= item.weight;
         self.entries -= 1;
-        leave_slot(&mut self.index, &mut self.records, slot)
+        leave_slot(&mut self.index, &mut self.records, slot, self.number)
     }
 }

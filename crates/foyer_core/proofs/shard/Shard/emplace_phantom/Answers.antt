@@ -53,6 +53,6 @@ returns g c =
       | in-Some-make_way w ↦ rw (w.leaves-is, w.push_reserved.ensures.items, w.in-Some-make_way.is, c.in-Ok.ensures.leaves) refl
       | in_default-make_way w ↦ rw (w.leaves-is, w.in_default-make_way.is, c.in-Ok.ensures.leaves) refl
     ] in
-    let leaves : c.push_reserved-2.new.self.items ≡ replaced_leaves c.make_way.result ++ (Remove, record { id = s.next; kept = c.args.kept }) ∷ [] =
+    let leaves : c.push_reserved-2.new.self.items ≡ replaced_leaves c.make_way.result ++ (Remove, record { number = s.number; id = s.next; kept = c.args.kept }) ∷ [] =
     rw (c.push_reserved-2.ensures.items, first, c.in-Ok.ensures.gone) refl in
     record { inserted = rw (c.set_slot.ensures, c.in-Ok.ensures.entry, c.hold.ensures, kept) (phantom_came m (state_of s) c.args.kept c.make_way.result (state_of c.make_way.new.self) way may c.push_reserved-2.new.self.items leaves) }
