@@ -9,6 +9,7 @@ use Rattle.std.proofs.lemmas.Bool.Decides.{eqb_tells, nat_tests}
 use Rattle.std.proofs.lemmas.Map.{update_here}
 use Rattle.foyer_policy.specs.Policy.{IsPolicy}
 use Rattle.foyer_policy.specs.declared.types.Event.{Event}
+use Rattle.foyer_policy.specs.declared.types.Source.{Source}
 use Rattle.foyer_policy.specs.declared.error.Reason.{Reason}
 use Rattle.foyer_core.specs.declared.record.Data.{Data}
 use Rattle.foyer_core.specs.Indexer.{same_key}
@@ -64,7 +65,7 @@ module _ {K V P View S W : Type 0} (old new : Core K V P View S W) where
       rw same (ap (λ (x : Bool). if x then 1 else 0) (and_true (e.id == entry.id))))) at.stepped
 
 module _ {K V P View C : Type 0} (m : Meaning K P View C) (laws : IsEquivalence m.same) (good : IsPolicy m.policy) where
-  module _ (old : State K V P View) (d : Data K V P) (ls : List (Event × Gone K V P)) (entry : Held K V P) (new : State K V P View) (h : InsertsPlain m old d ls entry new) where
+  module _ (source : Source) (old : State K V P View) (d : Data K V P) (ls : List (Event × Gone K V P)) (entry : Held K V P) (new : State K V P View) (h : InsertsPlain m source old d ls entry new) where
     abbrev came : Rec K V P
     came = record { kept = d; handles = 1; resident = true }
 
@@ -92,23 +93,23 @@ module _ {K V P View C : Type 0} (m : Meaning K P View C) (laws : IsEquivalence 
     finds_came k same (Err reason) after g = tt
 
   -- a shard that keeps what it must takes a plain record in
-  abbrev pub Came : Data K V P → List (Event × Gone K V P) → Held K V P → State K V P View → State K V P View → Type 0
-  Came d ls entry old new = ∥ IsKept m old ∥₁ × InsertsPlain m old d ls entry new
+  abbrev pub Came : Source → Data K V P → List (Event × Gone K V P) → Held K V P → State K V P View → State K V P View → Type 0
+  Came source d ls entry old new = ∥ IsKept m old ∥₁ × InsertsPlain m source old d ls entry new
 
-  module _ {S W : Type 0} (old new : Core K V P View S W) (d : Data K V P) (ls : List (Event × Gone K V P)) (entry : Held K V P) (at : AtShard (Came d ls entry) d.hash old new) where
+  module _ {S W : Type 0} (old new : Core K V P View S W) (source : Source) (d : Data K V P) (ls : List (Event × Gone K V P)) (entry : Held K V P) (at : AtShard (Came source d ls entry) d.hash old new) where
     same_state_of : (x y : State K V P View) → Some x ≡ Some y → x ≡ y
     same_state_of x y h = cc
 
     pub finds_at : (hashes : K → ℕ) → ((k : K) → m.same d.key k ≡ true → hashes k ≡ d.hash) → Finds m hashes new d.key d.value
     finds_at hashes equal k same answer after next =
         let place : shard_of old (hashes k) ≡ shard_of old d.hash = ap (shard_of old) (equal k same) in
-        let here : next.before ≡ at.after = same_state_of next.before at.after (sym next.there ∙ now_here old new (Came d ls entry) d.hash at (hashes k) place) in
-        finds_came at.before d ls entry at.after at.stepped.1 (d.hash, k) (alike_key m.same d.hash d.key k same) answer next.after
+        let here : next.before ≡ at.after = same_state_of next.before at.after (sym next.there ∙ now_here old new (Came source d ls entry) d.hash at (hashes k) place) in
+        finds_came source at.before d ls entry at.after at.stepped.1 (d.hash, k) (alike_key m.same d.hash d.key k same) answer next.after
         (subst (λ (n : ℕ). Gets m at.after (n, k) answer next.after) (equal k same) (subst (λ (x : State K V P View). Gets m x (hashes k, k) answer next.after) here next.stepped))
 
     pub bounded_at : (weight : ℕ) → weight ≡ d.weight → IsBoundedAt m d.hash weight old new
     bounded_at weight weighs x y there gone =
         let was : at.before ≡ x = same_state_of at.before x (sym at.there ∙ there) in
-        let now : at.after ≡ y = same_state_of at.after y (sym (now_here old new (Came d ls entry) d.hash at d.hash refl) ∙ gone) in
+        let now : at.after ≡ y = same_state_of at.after y (sym (now_here old new (Came source d ls entry) d.hash at d.hash refl) ∙ gone) in
         subst (λ (n : ℕ). IsBounded m n x y) (sym weighs) (subst (λ (z : State K V P View). IsBounded m d.weight z y) was (subst (λ (z : State K V P View). IsBounded m d.weight at.before z) now
-        (∥∥₁_elim at.stepped.0 (hlevel props) (λ k. usage_after m laws good at.before k d ls entry at.after at.stepped.1))))
+        (∥∥₁_elim at.stepped.0 (hlevel props) (λ k. usage_after m laws good source at.before k d ls entry at.after at.stepped.1))))

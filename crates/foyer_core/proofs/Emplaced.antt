@@ -3,7 +3,7 @@ use Rattle.std.proofs.Common.{ℕ, ◌-◌, List, [], ◌++◌, Option, length, 
 use Rattle.foyer_policy.specs.Policy.{after_pops, evicted}
 use Rattle.foyer_policy.specs.declared.types.Event.{Event}
 use Rattle.foyer_policy.specs.declared.types.Event.TheVariants.{Evict}
-use Rattle.foyer_policy.specs.declared.types.Source.TheVariants.{Outer}
+use Rattle.foyer_policy.specs.declared.types.Source.{Source}
 use Rattle.foyer_policy.specs.declared.error.Reason.TheVariants.{NoMemory}
 use Rattle.foyer_core.specs.declared.record.Data.{Data}
 use Rattle.foyer_core.specs.Values.{Gone}
@@ -21,9 +21,9 @@ module _ {K V P View C : Type 0} (m : Meaning K P View C) (old : State K V P Vie
     evicts_begin = record { left = evicted m.policy target old.view; rest = []; parts = append-nil (evicted m.policy target old.view); leave = evicts }
 
   module _ (may : MayInsert m old d) where
-    pub emplaced : (evictions : List (Event × Gone K V P)) (mid : State K V P View) → Evicts m (old.capacity - d.weight) old evictions mid
-        → (replaced : Option (Gone K V P)) (new : State K V P View) → Admits m mid d replaced new → InsertsPlain m old d (evictions ++ replaced_leaves replaced) (entry_of old old.next d Outer) new
-    emplaced evictions mid evicts replaced new admits = record {
+    pub emplaced : (source : Source) (evictions : List (Event × Gone K V P)) (mid : State K V P View) → Evicts m (old.capacity - d.weight) old evictions mid
+        → (replaced : Option (Gone K V P)) (new : State K V P View) → Admits m mid d replaced new → InsertsPlain m source old d (evictions ++ replaced_leaves replaced) (entry_of old old.next d source) new
+    emplaced source evictions mid evicts replaced new admits = record {
       may = may;
       evictions = evictions;
       replaced = replaced_leaves replaced;

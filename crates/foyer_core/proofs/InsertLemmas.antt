@@ -6,6 +6,7 @@ use Rattle.foyer_policy.specs.Items.{weight_of, count_of, IsNewIn, IsWithin, rem
 use Rattle.foyer_policy.specs.Policy.{IsPolicy, after_pops, evicted}
 use Rattle.foyer_policy.specs.declared.types.Item.{Item}
 use Rattle.foyer_policy.specs.declared.types.Event.{Event}
+use Rattle.foyer_policy.specs.declared.types.Source.{Source}
 use Rattle.foyer_policy.specs.declared.types.Event.TheVariants.{Evict, Replace}
 use Rattle.foyer_policy.proofs.ItemLemmas.{one_if}
 use Rattle.foyer_core.specs.declared.record.Data.{Data}
@@ -111,7 +112,7 @@ module _ {K V P View C : Type 0} (m : Meaning K P View C) (laws : IsEquivalence 
     | inr low ↦ omega arith
   ]
 
-  module _ (old : State K V P View) (kept : IsKept m old) (d : Data K V P) (ls : List (Event × Gone K V P)) (entry : Held K V P) (new : State K V P View) (inserts : InsertsPlain m old d ls entry new) where
+  module _ (source : Source) (old : State K V P View) (kept : IsKept m old) (d : Data K V P) (ls : List (Event × Gone K V P)) (entry : Held K V P) (new : State K V P View) (inserts : InsertsPlain m source old d ls entry new) where
     before_push : Rests m old inserts.last
     before_push =
         let one = rests (old.capacity - d.weight) old kept inserts.evictions inserts.mid inserts.evicts in

@@ -4,7 +4,7 @@ use Rattle.std.specs.Cmp.{IsEquivalence}
 use Rattle.foyer_policy.specs.Policy.{IsPolicy}
 use Rattle.foyer_policy.specs.declared.types.Event.{Event}
 use Rattle.foyer_policy.specs.declared.types.Event.TheVariants.{Replace, Remove}
-use Rattle.foyer_policy.specs.declared.types.Source.TheVariants.{Outer}
+use Rattle.foyer_policy.specs.declared.types.Source.{Source}
 use Rattle.foyer_policy.specs.declared.error.Reason.{Reason}
 use Rattle.foyer_policy.specs.declared.error.Reason.TheVariants.{Ids, Handles}
 use Rattle.foyer_core.specs.declared.record.Data.{Data}
@@ -37,9 +37,9 @@ module _ {K V P View C : Type 0} (m : Meaning K P View C) where
     pub way_rests : (laws : IsEquivalence m.same) → IsPolicy m.policy → Rests m old last
     way_rests laws good = gives_way_rests m laws good (old.index (key_of d)) old (replaced_leaves replaced) last way
 
-    pub phantom_came : MayHold m old → (ls : List (Event × Gone K V P)) → ls ≡ replaced_leaves replaced ++ (Remove, record { number = old.number; id = old.next; kept = d }) ∷ []
-        → InsertsPhantom m old d ls (entry_of old old.next d Outer) (after_hold m last d)
-    phantom_came may ls is = record {
+    pub phantom_came : (source : Source) → MayHold m old → (ls : List (Event × Gone K V P)) → ls ≡ replaced_leaves replaced ++ (Remove, record { number = old.number; id = old.next; kept = d }) ∷ []
+        → InsertsPhantom m source old d ls (entry_of old old.next d source) (after_hold m last d)
+    phantom_came source may ls is = record {
       may = may;
       replaced = replaced_leaves replaced;
       last = last;

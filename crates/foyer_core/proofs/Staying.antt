@@ -6,6 +6,7 @@ use Rattle.std.proofs.lemmas.Bool.Decides.{eqb_tells, nat_tests}
 use Rattle.std.proofs.lemmas.Map.{update_here, update_apart}
 use Rattle.foyer_policy.specs.Policy.{after_pops, evicted}
 use Rattle.foyer_policy.specs.declared.types.Event.{Event}
+use Rattle.foyer_policy.specs.declared.types.Source.{Source}
 use Rattle.foyer_policy.specs.declared.types.Event.TheVariants.{Evict, Replace, Remove}
 use Rattle.foyer_policy.specs.declared.error.Reason.{Reason}
 use Rattle.foyer_policy.specs.declared.error.Reason.TheVariants.{Ids, Handles, Weight, NoMemory}
@@ -190,7 +191,7 @@ module _ {K V P View C : Type 0} (m : Meaning K P View C) where
   refused_insert_stays old d NoMemory ls new h = leave_stays Evict (ids_of h.1.left) old ls (after_pops m.policy (length h.1.left) old.view) new h.1.leave
   refused_insert_stays old d _ ls new h = absurd h
 
-  module _ (old : State K V P View) (d : Data K V P) (ls : List (Event × Gone K V P)) (entry : Held K V P) (new : State K V P View) (h : InsertsPlain m old d ls entry new) where
+  module _ (source : Source) (old : State K V P View) (d : Data K V P) (ls : List (Event × Gone K V P)) (entry : Held K V P) (new : State K V P View) (h : InsertsPlain m source old d ls entry new) where
     pub rests_before : Rests m old h.last
     rests_before = rests-rests m old h.mid h.last (evicts_rests m old d (old.capacity - d.weight) h.evictions h.mid h.evicts)
         (way_rests (h.mid.index (key_of d)) h.mid h.replaced h.last h.gives_way)

@@ -3,6 +3,7 @@ use Rattle.std.specs.Prelude.{◌≡◌, ℕ, ◌+◌, ◌/◌, ◌%◌, ◌==�
 use Rattle.foyer_policy.specs.Policy.{Policy}
 use Rattle.foyer_policy.specs.declared.error.Reason.{Reason}
 use Rattle.foyer_policy.specs.declared.error.Reason.TheVariants.{NoShards}
+use Rattle.foyer_policy.specs.declared.types.Source.{Source}
 use Rattle.foyer_core.specs.declared.config.RawCacheConfig.{RawCacheConfig}
 use Rattle.foyer_core.specs.declared.outcome.Answers.{Answers}
 use Rattle.foyer_core.specs.declared.outcome.Inserted.{Inserted}
@@ -107,15 +108,16 @@ module _ {K V P View C : Type 0} (m : Meaning K P View C) where
     pub shards_are : AreNewShards config config.shards core.shards
 
   -- what an insert makes of its shard, and answers
-  abbrev pub InsertsAnswering : {N : Type 0} → State K V P View → Data K V P → Result (Inserted K V P N) (Refused K V P) → State K V P View → Type 0
-  InsertsAnswering old d (Ok made) new = Inserts m old d made.leaves.items made.entry new
-  InsertsAnswering old d (Err refused) new = RefusesInsert m old d refused.error refused.leaves.items new
+  abbrev pub InsertsAnswering : {N : Type 0} → Source → State K V P View → Data K V P → Result (Inserted K V P N) (Refused K V P) → State K V P View → Type 0
+  InsertsAnswering source old d (Ok made) new = Inserts m source old d made.leaves.items made.entry new
+  InsertsAnswering source old d (Err refused) new = RefusesInsert m old d refused.error refused.leaves.items new
 
-  -- an insert of a record, with a weight that the weighter may give it, in the shard of its hash
-  pub record InsertsWeighed {S W N : Type 0} (weighs : ℕ → Type 0) (hash : ℕ) (key : K) (value : V) (properties : P)
+  -- an insert of a record, with a weight that the weighter may give it, in the shard of its hash, whose entry has
+  -- this source
+  pub record InsertsWeighed {S W N : Type 0} (source : Source) (weighs : ℕ → Type 0) (hash : ℕ) (key : K) (value : V) (properties : P)
       (result : Result (Inserted K V P N) (Refused K V P)) (old new : Core K V P View S W) : Type 0 where
     pub weight : ℕ
     pub weighed : weighs weight
     pub inserts : AtShard
-        (λ s t. InsertsAnswering s (record { key = key; value = value; properties = properties; hash = hash; weight = weight }) result t)
+        (λ s t. InsertsAnswering source s (record { key = key; value = value; properties = properties; hash = hash; weight = weight }) result t)
         hash old new

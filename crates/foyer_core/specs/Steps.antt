@@ -6,7 +6,7 @@ use Rattle.foyer_policy.specs.declared.types.Item.{Item}
 use Rattle.foyer_policy.specs.declared.types.Event.{Event}
 use Rattle.foyer_policy.specs.declared.types.Event.TheVariants.{Evict, Replace, Remove}
 use Rattle.foyer_policy.specs.declared.types.Source.{Source}
-use Rattle.foyer_policy.specs.declared.types.Source.TheVariants.{Outer, Memory}
+use Rattle.foyer_policy.specs.declared.types.Source.TheVariants.{Memory}
 use Rattle.foyer_policy.specs.declared.error.Reason.{Reason}
 use Rattle.foyer_policy.specs.declared.error.Reason.TheVariants.{Ids, Handles, Weight, NoMemory}
 use Rattle.foyer_core.specs.declared.record.Data.{Data}
@@ -124,8 +124,8 @@ module _ {K V P View C : Type 0} (m : Meaning K P View C) where
   }
 
   -- An insert of a plain record that is not refused: the evictions to the capacity less its weight, then
-  -- its key's record, where it is still there, gives way, then the record comes in.
-  pub record InsertsPlain (old : State K V P View) (d : Data K V P) (ls : List (Event × Gone K V P)) (entry : Held K V P) (new : State K V P View) : Type 0 where
+  -- its key's record, where it is still there, gives way, then the record comes in. The entry has this source.
+  pub record InsertsPlain (source : Source) (old : State K V P View) (d : Data K V P) (ls : List (Event × Gone K V P)) (entry : Held K V P) (new : State K V P View) : Type 0 where
     pub may : MayInsert old d
     pub evictions : List (Event × Gone K V P)
     pub replaced : List (Event × Gone K V P)
@@ -134,7 +134,7 @@ module _ {K V P View C : Type 0} (m : Meaning K P View C) where
     pub leaves : ls ≡ evictions ++ replaced
     pub evicts : Evicts (old.capacity - d.weight) old evictions mid
     pub gives_way : GivesWay (mid.index (key_of d)) mid replaced last
-    pub entry_is : entry ≡ entry_of old old.next d Outer
+    pub entry_is : entry ≡ entry_of old old.next d source
     pub after : new ≡ after_push last d
 
   -- An insert of a plain record that is refused: for a number, a handle or the weight before anything,
@@ -152,14 +152,14 @@ module _ {K V P View C : Type 0} (m : Meaning K P View C) where
   MayHold old = (old.next < old.limits.ids) × (1 ≤ old.limits.handles)
 
   -- An insert of a phantom record that is not refused: its key's record gives way, then it is told as
-  -- `Remove`. Nothing is evicted, and it is in the index at no time.
-  pub record InsertsPhantom (old : State K V P View) (d : Data K V P) (ls : List (Event × Gone K V P)) (entry : Held K V P) (new : State K V P View) : Type 0 where
+  -- `Remove`. Nothing is evicted, and it is in the index at no time. The entry has this source.
+  pub record InsertsPhantom (source : Source) (old : State K V P View) (d : Data K V P) (ls : List (Event × Gone K V P)) (entry : Held K V P) (new : State K V P View) : Type 0 where
     pub may : MayHold old
     pub replaced : List (Event × Gone K V P)
     pub last : State K V P View
     pub leaves : ls ≡ replaced ++ (Remove, record { number = old.number; id = old.next; kept = d }) ∷ []
     pub gives_way : GivesWay (old.index (key_of d)) old replaced last
-    pub entry_is : entry ≡ entry_of old old.next d Outer
+    pub entry_is : entry ≡ entry_of old old.next d source
     pub after : new ≡ after_hold last d
 
   -- An insert of a phantom record that is refused: for a number, a handle or for want of memory. Nothing has
@@ -171,17 +171,17 @@ module _ {K V P View C : Type 0} (m : Meaning K P View C) where
   RefusesPhantom old d _ ls new = ⊥
 
   -- an insert of a record that is phantom, or is not
-  abbrev pub InsertsBy : Bool → State K V P View → Data K V P → List (Event × Gone K V P) → Held K V P → State K V P View → Type 0
-  InsertsBy true old d ls entry new = InsertsPhantom old d ls entry new
-  InsertsBy false old d ls entry new = InsertsPlain old d ls entry new
+  abbrev pub InsertsBy : Bool → Source → State K V P View → Data K V P → List (Event × Gone K V P) → Held K V P → State K V P View → Type 0
+  InsertsBy true source old d ls entry new = InsertsPhantom source old d ls entry new
+  InsertsBy false source old d ls entry new = InsertsPlain source old d ls entry new
 
   abbrev pub RefusesBy : Bool → State K V P View → Data K V P → Reason → List (Event × Gone K V P) → State K V P View → Type 0
   RefusesBy true old d reason ls new = RefusesPhantom old d reason ls new
   RefusesBy false old d reason ls new = RefusesPlain old d reason ls new
 
   -- an insert that is not refused, and one that is
-  abbrev pub Inserts : State K V P View → Data K V P → List (Event × Gone K V P) → Held K V P → State K V P View → Type 0
-  Inserts old d ls entry new = InsertsBy (is_phantom_record m d) old d ls entry new
+  abbrev pub Inserts : Source → State K V P View → Data K V P → List (Event × Gone K V P) → Held K V P → State K V P View → Type 0
+  Inserts source old d ls entry new = InsertsBy (is_phantom_record m d) source old d ls entry new
 
   abbrev pub RefusesInsert : State K V P View → Data K V P → Reason → List (Event × Gone K V P) → State K V P View → Type 0
   RefusesInsert old d reason ls new = RefusesBy (is_phantom_record m d) old d reason ls new

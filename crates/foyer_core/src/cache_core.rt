@@ -2,6 +2,7 @@
 
 ghost use Rattle.std.specs.Prelude.{◌≡◌, ◌↔◌, ℕ, ◌<◌, true, false, Some, None, Ok, Err, IfOk, IfErr, IfSome, OnOk, OnErr, IsOk, IsTrue, is_some, length, vec_len};
 ghost use Rattle.foyer_policy.specs.declared.error.Reason.TheVariants.{NoMemory};
+ghost use Rattle.foyer_policy.specs.declared.types.Source.TheVariants.{Outer};
 ghost use Rattle.foyer_core.specs.State.{MakesPlain, coming_in};
 
 use crate::config::RawCacheConfig;
@@ -12,7 +13,7 @@ use crate::record::Data;
 use crate::shard::Shard;
 use crate::weighter::Weighter;
 use foyer_policy::{
-    Error, Event, Eviction, HashBuilder, Key, Location, Properties, Reason, Result, Value,
+    Error, Event, Eviction, HashBuilder, Key, Location, Properties, Reason, Result, Source, Value,
 };
 use std::alloc::Global;
 use std::marker::PhantomData;
@@ -181,7 +182,7 @@ impl<
         requires clones { (k c : K) → K.is_clone k c → K.eq c k ≡ true }
         ensures inserted { let hash = S.hash_of (core_of self.old).hash_builder (K.hash_input key) in
             (p : P) × P.is_default p
-            × InsertsWeighed (meaning_of_core self.old) (W.weighs (core_of self.old).weighter key value)
+            × InsertsWeighed (meaning_of_core self.old) Outer (W.weighs (core_of self.old).weighter key value)
             hash key value (coming_in P.location_of P.with_phantom_of p) result (core_of self.old) (core_of self.new) }
         ensures answers { IfOk result (λ made. AnswersNobody made.answers) }
         ensures found { ((p : P) → P.is_default p → MakesPlain P.phantom_of P.location_of p)
@@ -216,7 +217,7 @@ impl<
     ) -> std::result::Result<Inserted<K, V, P, N>, Refused<K, V, P>>
         requires clones { (k c : K) → K.is_clone k c → K.eq c k ≡ true }
         ensures inserted { let hash = S.hash_of (core_of self.old).hash_builder (K.hash_input key) in
-            InsertsWeighed (meaning_of_core self.old) (W.weighs (core_of self.old).weighter key value)
+            InsertsWeighed (meaning_of_core self.old) Outer (W.weighs (core_of self.old).weighter key value)
             hash key value (coming_in P.location_of P.with_phantom_of properties) result (core_of self.old) (core_of self.new) }
         ensures answers { IfOk result (λ made. AnswersNobody made.answers) }
         ensures found { MakesPlain P.phantom_of P.location_of properties → IfOk result (λ _. Finds (meaning_of_core self.new) (λ k. S.hash_of (core_of self.new).hash_builder (K.hash_input k))
@@ -236,7 +237,7 @@ impl<
             weight,
         };
         let place = self.place(hash);
-        let (entry, leaves) = self.shards[place].emplace(self.alloc, kept)?;
+        let (entry, leaves) = self.shards[place].emplace(self.alloc, kept, Source::Outer)?;
         Ok(Inserted {
             entry,
             answers: Answers {

@@ -25,9 +25,9 @@ impl<E: Eviction, K: Key, V: Value, P: Properties, I: Indexer<K>> Shard<E, K, V,
     ghost use Rattle.foyer_core.specs.Shards.{state_of, meaning_of};
     ghost use Rattle.foyer_core.specs.State.{usage_of, key_of};
     ghost use Rattle.foyer_core.specs.Steps.{Inserts, RefusesInsert, InsertsPlain, RefusesPlain, GivesWay, Admits, entry_of};
-    ghost use Rattle.foyer_policy.specs.declared.types.Source.TheVariants.{Outer};
 
-    /// Takes a record in, and answers an entry of it and what left. A clone of the key must equal it.
+    /// Takes a record in, and answers an entry of it, with this source, and what left. A clone of the key must
+    /// equal it.
     ///
     /// For a plain record others are evicted until the capacity has room for it, or nothing more leaves, and
     /// then the key's record gives way (`Replace`). For a phantom one, which its properties say, the key's
@@ -41,16 +41,17 @@ impl<E: Eviction, K: Key, V: Value, P: Properties, I: Indexer<K>> Shard<E, K, V,
         &mut self,
         alloc: Global,
         kept: Data<K, V, P>,
+        source: Source,
     ) -> std::result::Result<(CoreEntry<K, V, P>, Vec<(Event, Left<K, V, P>)>), Refused<K, V, P>>
         requires clones { (k c : K) → K.is_clone k c → K.eq c k ≡ true }
         ensures inserted { MatchResult result
-            (λ made. Inserts (meaning_of self.old) (state_of self.old) kept made.1.items made.0 (state_of self.new))
+            (λ made. Inserts (meaning_of self.old) source (state_of self.old) kept made.1.items made.0 (state_of self.new))
             (λ refused. RefusesInsert (meaning_of self.old) (state_of self.old) kept refused.error refused.leaves.items (state_of self.new)) }
     {
         if kept.properties.phantom().unwrap_or(false) {
-            return self.emplace_phantom(alloc, kept);
+            return self.emplace_phantom(alloc, kept, source);
         }
-        self.emplace_plain(alloc, kept)
+        self.emplace_plain(alloc, kept, source)
     }
 
     // Takes a plain record in.
@@ -58,18 +59,19 @@ impl<E: Eviction, K: Key, V: Value, P: Properties, I: Indexer<K>> Shard<E, K, V,
         &mut self,
         alloc: Global,
         kept: Data<K, V, P>,
+        source: Source,
     ) -> std::result::Result<(CoreEntry<K, V, P>, Vec<(Event, Left<K, V, P>)>), Refused<K, V, P>>
         requires clones { (k c : K) → K.is_clone k c → K.eq c k ≡ true }
         requires plain { is_phantom (P.phantom_of kept.properties) ≡ false }
         ensures inserted { MatchResult result
-            (λ made. InsertsPlain (meaning_of self.old) (state_of self.old) kept made.1.items made.0 (state_of self.new))
+            (λ made. InsertsPlain (meaning_of self.old) source (state_of self.old) kept made.1.items made.0 (state_of self.new))
             (λ refused. RefusesPlain (meaning_of self.old) (state_of self.old) kept refused.error refused.leaves.items (state_of self.new)) }
     {
         if let Some(reason) = self.refusal(kept.hash, &kept.key, kept.weight) {
             return Err(Refused::new(reason, Vec::new(alloc)));
         }
         let target = self.capacity.saturating_sub(kept.weight);
-        let Ok((key, slot, mut entry)) = self.prepare(alloc, kept) else {
+        let Ok((key, slot, mut entry)) = self.prepare(alloc, kept, source) else {
             return Err(Refused::new(Reason::NoMemory, Vec::new(alloc)));
         };
         let mut leaves = match self.evict_to(alloc, target) {
@@ -99,11 +101,12 @@ impl<E: Eviction, K: Key, V: Value, P: Properties, I: Indexer<K>> Shard<E, K, V,
         &mut self,
         alloc: Global,
         kept: Data<K, V, P>,
+        source: Source,
     ) -> Result<(K, Slot<K, V, P>, CoreEntry<K, V, P>)>
         ensures same { state_of self.new ≡ state_of self.old }
         ensures key { IfOk result (λ made. K.is_clone kept.key made.0) }
         ensures slot { IfOk result (λ made. made.1 ≡ record { id = self.old.next; kept = kept; handles = 1; resident = true; place = None }) }
-        ensures entry { IfOk result (λ made. made.2 ≡ entry_of (state_of self.old) self.old.next kept Outer) }
+        ensures entry { IfOk result (λ made. made.2 ≡ entry_of (state_of self.old) self.old.next kept source) }
         ensures room { OnOk result (HasRoom self.new.records) }
         ensures policy_room { OnOk result (0 < E.room self.new.eviction) }
     {
@@ -112,7 +115,7 @@ impl<E: Eviction, K: Key, V: Value, P: Properties, I: Indexer<K>> Shard<E, K, V,
         self.eviction.reserve()?;
         let mut slot = Slot::new(alloc, kept, self.next)?;
         slot.add_handle();
-        let entry = slot.entry(self.number, 0, Source::Outer)?;
+        let entry = slot.entry(self.number, 0, source)?;
         Ok((key, slot, entry))
     }
 

@@ -16,22 +16,23 @@ use std::alloc::Global;
 impl<E: Eviction, K: Key, V: Value, P: Properties, I: Indexer<K>> Shard<E, K, V, P, I> {
     ghost use Rattle.foyer_core.specs.Shards.{state_of, meaning_of};
     ghost use Rattle.foyer_core.specs.Steps.{InsertsPhantom, RefusesPhantom, GivesWay, after_hold, entry_of, replaced_leaves};
-    ghost use Rattle.foyer_policy.specs.declared.types.Source.TheVariants.{Outer};
 
     // Takes a phantom record in: its key's record gives way, and it is held by its entry alone.
     pub(super) fn emplace_phantom(
         &mut self,
         alloc: Global,
         kept: Data<K, V, P>,
+        source: Source,
     ) -> std::result::Result<(CoreEntry<K, V, P>, Vec<(Event, Left<K, V, P>)>), Refused<K, V, P>>
         ensures inserted { MatchResult result
-            (λ made. InsertsPhantom (meaning_of self.old) (state_of self.old) kept made.1.items made.0 (state_of self.new))
+            (λ made. InsertsPhantom (meaning_of self.old) source (state_of self.old) kept made.1.items made.0 (state_of self.new))
             (λ refused. RefusesPhantom (meaning_of self.old) (state_of self.old) kept refused.error refused.leaves.items (state_of self.new)) }
     {
         if let Some(reason) = self.hold_refusal() {
             return Err(Refused::new(reason, Vec::new(alloc)));
         }
-        let Ok((slot, mut entry, gone, mut leaves)) = self.prepare_phantom(alloc, kept) else {
+        let Ok((slot, mut entry, gone, mut leaves)) = self.prepare_phantom(alloc, kept, source)
+        else {
             return Err(Refused::new(Reason::NoMemory, Vec::new(alloc)));
         };
         if let Some(left) = self.make_way(slot.hash(), slot.key()) {
@@ -64,6 +65,7 @@ impl<E: Eviction, K: Key, V: Value, P: Properties, I: Indexer<K>> Shard<E, K, V,
         &mut self,
         alloc: Global,
         kept: Data<K, V, P>,
+        source: Source,
     ) -> Result<
         (
             Slot<K, V, P>,
@@ -74,7 +76,7 @@ impl<E: Eviction, K: Key, V: Value, P: Properties, I: Indexer<K>> Shard<E, K, V,
     >
         ensures same { state_of self.new ≡ state_of self.old }
         ensures slot { IfOk result (λ made. made.0 ≡ record { id = self.old.next; kept = kept; handles = 1; resident = false; place = None }) }
-        ensures entry { IfOk result (λ made. made.1 ≡ entry_of (state_of self.old) self.old.next kept Outer) }
+        ensures entry { IfOk result (λ made. made.1 ≡ entry_of (state_of self.old) self.old.next kept source) }
         ensures gone { IfOk result (λ made. made.2 ≡ record { number = self.old.number; id = self.old.next; kept = kept }) }
         ensures leaves { IfOk result (λ made. made.3.items ≡ []) }
         ensures leaves_room { IfOk result (λ made. vec_len made.3 + 2 ≤ vec_capacity made.3) }
@@ -86,7 +88,7 @@ impl<E: Eviction, K: Key, V: Value, P: Properties, I: Indexer<K>> Shard<E, K, V,
         let mut slot = Slot::outside(alloc, kept, self.next)?;
         slot.add_handle();
         let gone = slot.left(self.number)?;
-        let entry = slot.entry(self.number, 0, Source::Outer)?;
+        let entry = slot.entry(self.number, 0, source)?;
         Ok((slot, entry, gone, leaves))
     }
 

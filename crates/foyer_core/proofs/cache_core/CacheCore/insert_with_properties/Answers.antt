@@ -1,5 +1,6 @@
 use Rattle.std.proofs.Common.{refl, ap, ◌∙◌, ℕ, ◌%◌, vec_len}
 use Rattle.std.specs.Prelude.{slice_set}
+use Rattle.foyer_policy.specs.declared.types.Source.TheVariants.{Outer}
 use Rattle.foyer_core.specs.declared.record.Data.{Data}
 use Rattle.foyer_core.specs.Values.{Held}
 use Rattle.foyer_core.specs.Cores.{core_of}
@@ -25,7 +26,7 @@ returns-in_err-entry-clause-inserted g c =
     s.shards.ok.0 c.place-place.ensures.within (c.place-place.ensures.place ∙ ap (λ (n : ℕ). n % vec_len s.shards) c.hash-hash.ensures.hash) c.index_mut.ensures.value in
     let did = rw (c.hash-hash.ensures.hash, c.marked-properties.ensures) at c.in_err-entry.ensures.inserted in
     err_is c.from_residual.result c.in_err-entry.field-0.0
-    (λ r. InsertsWeighed (meaning_of x) (g.W.Weighter.weighs s.weighter c.args.key c.args.value) hash c.args.key c.args.value (coming_in g.P.Properties.location_of g.P.Properties.with_phantom_of c.args.properties) r (core_of s)
+    (λ r. InsertsWeighed (meaning_of x) Outer (g.W.Weighter.weighs s.weighter c.args.key c.args.value) hash c.args.key c.args.value (coming_in g.P.Properties.location_of g.P.Properties.with_phantom_of c.args.properties) r (core_of s)
     (core_over state_of s.capacity s.hash_builder s.weighter (slice_set s.shards.items c.place-place.result y)))
     c.from_residual.ensures.1
     record {
@@ -59,7 +60,7 @@ returns-clause-inserted g c =
     record {
       weight = c.weigh-weight.result;
       weighed = c.weigh-weight.ensures;
-      inserts = over (λ a b. Inserts (meaning_of x) a d c.in_ok-entry.leaves.items c.in_ok-entry.entry b) y did;
+      inserts = over (λ a b. Inserts (meaning_of x) Outer a d c.in_ok-entry.leaves.items c.in_ok-entry.entry b) y did;
     }
 
 pub returns-clause-found : goal.returns-clause-found
@@ -72,8 +73,8 @@ returns-clause-found g c plain =
     let over = at_over state_of s.capacity s.hash_builder s.weighter s.shards.items hash (vec_len s.shards) c.place-place.result x
     s.shards.ok.0 c.place-place.ensures.within (c.place-place.ensures.place ∙ ap (λ (n : ℕ). n % vec_len s.shards) c.hash-hash.ensures.hash) c.index_mut.ensures.value in
     let did = rw (c.hash-hash.ensures.hash, c.marked-properties.ensures) at c.in_ok-entry.ensures.inserted in
-    let at = over (Came (meaning_of x) g.met.K.Eq.laws g.met.E.Eviction.lawful d c.in_ok-entry.leaves.items c.in_ok-entry.entry) y (x.kept, came_plain (meaning_of x) g.P.Properties.location_of g.P.Properties.with_phantom_of c.args.properties plain (state_of x) (state_of y) d _ _ refl did) in
-    finds_at (meaning_of x) g.met.K.Eq.laws g.met.E.Eviction.lawful (core_of s) _ d _ _ at
+    let at = over (Came (meaning_of x) g.met.K.Eq.laws g.met.E.Eviction.lawful Outer d c.in_ok-entry.leaves.items c.in_ok-entry.entry) y (x.kept, came_plain (meaning_of x) g.P.Properties.location_of g.P.Properties.with_phantom_of c.args.properties plain Outer (state_of x) (state_of y) d _ _ refl did) in
+    finds_at (meaning_of x) g.met.K.Eq.laws g.met.E.Eviction.lawful (core_of s) _ Outer d _ _ at
     (λ k. g.S.HashBuilder.hash_of s.hash_builder (g.K.Hash.hash_input k)) (rw c.hash-hash.ensures.hash at c.hash-hash.ensures.equal_keys)
 
 pub returns-clause-bounded : goal.returns-clause-bounded
@@ -86,8 +87,8 @@ returns-clause-bounded g c plain =
     let over = at_over state_of s.capacity s.hash_builder s.weighter s.shards.items hash (vec_len s.shards) c.place-place.result x
     s.shards.ok.0 c.place-place.ensures.within (c.place-place.ensures.place ∙ ap (λ (n : ℕ). n % vec_len s.shards) c.hash-hash.ensures.hash) c.index_mut.ensures.value in
     let did = rw (c.hash-hash.ensures.hash, c.marked-properties.ensures) at c.in_ok-entry.ensures.inserted in
-    let at = over (Came (meaning_of x) g.met.K.Eq.laws g.met.E.Eviction.lawful d c.in_ok-entry.leaves.items c.in_ok-entry.entry) y (x.kept, came_plain (meaning_of x) g.P.Properties.location_of g.P.Properties.with_phantom_of c.args.properties plain (state_of x) (state_of y) d _ _ refl did) in
-    bounded_at (meaning_of x) g.met.K.Eq.laws g.met.E.Eviction.lawful (core_of s) _ d _ _ at _ (ap (λ (e : Held g.row.K.Denot g.row.V.Denot g.row.P.Denot). e.kept.weight) at.stepped.1.entry_is)
+    let at = over (Came (meaning_of x) g.met.K.Eq.laws g.met.E.Eviction.lawful Outer d c.in_ok-entry.leaves.items c.in_ok-entry.entry) y (x.kept, came_plain (meaning_of x) g.P.Properties.location_of g.P.Properties.with_phantom_of c.args.properties plain Outer (state_of x) (state_of y) d _ _ refl did) in
+    bounded_at (meaning_of x) g.met.K.Eq.laws g.met.E.Eviction.lawful (core_of s) _ Outer d _ _ at _ (ap (λ (e : Held g.row.K.Denot g.row.V.Denot g.row.P.Denot). e.kept.weight) at.stepped.1.entry_is)
 
 pub returns-clause-stay : goal.returns-clause-stay
 returns-clause-stay g c =
@@ -100,4 +101,4 @@ returns-clause-stay g c =
     s.shards.ok.0 c.place-place.ensures.within (c.place-place.ensures.place ∙ ap (λ (n : ℕ). n % vec_len s.shards) c.hash-hash.ensures.hash) c.index_mut.ensures.value in
     let did = rw (c.hash-hash.ensures.hash, c.marked-properties.ensures) at c.in_ok-entry.ensures.inserted in
     stays_at (core_of s) _ hash (over (RecordsStay nothing) y
-    (came_stays (meaning_of x) (state_of x) (state_of y) d _ _ x.kept did))
+    (came_stays (meaning_of x) Outer (state_of x) (state_of y) d _ _ x.kept did))

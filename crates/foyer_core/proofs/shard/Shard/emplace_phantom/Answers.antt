@@ -55,4 +55,4 @@ returns g c =
     ] in
     let leaves : c.push_reserved-2.new.self.items ≡ replaced_leaves c.make_way.result ++ (Remove, record { number = s.number; id = s.next; kept = c.args.kept }) ∷ [] =
     rw (c.push_reserved-2.ensures.items, first, c.in-Ok.ensures.gone) refl in
-    record { inserted = rw (c.set_slot.ensures, c.in-Ok.ensures.entry, c.hold.ensures, kept) (phantom_came m (state_of s) c.args.kept c.make_way.result (state_of c.make_way.new.self) way may c.push_reserved-2.new.self.items leaves) }
+    record { inserted = rw (c.set_slot.ensures, c.in-Ok.ensures.entry, c.hold.ensures, kept) (phantom_came m (state_of s) c.args.kept c.make_way.result (state_of c.make_way.new.self) way c.args.source may c.push_reserved-2.new.self.items leaves) }

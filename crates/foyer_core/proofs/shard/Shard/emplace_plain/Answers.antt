@@ -69,7 +69,7 @@ returns-in-Ok-admit g c =
     let evicts : Evicts m (s.capacity - c.args.kept.weight) (state_of s) c.in-Ok-evict_to.leaves.items (state_of c.evict_to.new.self) =
     subst (λ (n : ℕ). Evicts m n (state_of s) c.in-Ok-evict_to.leaves.items (state_of c.evict_to.new.self)) c.saturating_sub-target.ensures (subst (λ st. Evicts m c.saturating_sub-target.result st c.in-Ok-evict_to.leaves.items (state_of c.evict_to.new.self)) c.in-Ok.ensures.same c.in-Ok-evict_to.ensures.done) in
     let kept : c.in-Ok.slot.kept ≡ c.args.kept = ap (λ (x : Kept g.row.K.Denot g.row.V.Denot g.row.P.Denot). x.kept) c.in-Ok.ensures.slot in
-    let done = emplaced m (state_of s) c.args.kept may c.in-Ok-evict_to.leaves.items (state_of c.evict_to.new.self) evicts c.in-Ok-admit.replaced (state_of c.admit.new.self) (rw kept at c.in-Ok-admit.ensures.admitted) in
+    let done = emplaced m (state_of s) c.args.kept may c.args.source c.in-Ok-evict_to.leaves.items (state_of c.evict_to.new.self) evicts c.in-Ok-admit.replaced (state_of c.admit.new.self) (rw kept at c.in-Ok-admit.ensures.admitted) in
     let leaves : c.match-replaced.leaves.items ≡ c.in-Ok-evict_to.leaves.items ++ replaced_leaves c.in-Ok-admit.replaced = elim c.match-replaced.branch [
       | in-Some-replaced w ↦ rw (w.leaves-is, w.push_reserved.ensures.items, w.in-Some-replaced.is) refl
       | in_default-replaced w ↦ rw (w.leaves-is, w.in_default-replaced.is) (sym (append-nil c.in-Ok-evict_to.leaves.items))
