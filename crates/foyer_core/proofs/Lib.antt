@@ -3,6 +3,7 @@ pub mod Clearing
 pub mod Cloned
 pub mod CoreLaws
 pub mod CoreLemmas
+pub mod Counting
 pub mod DrainLemmas
 pub mod Emplaced
 pub mod Evictions

@@ -13,8 +13,8 @@ use Rattle.foyer_core.specs.declared.outcome.Refused.{Refused}
 use Rattle.foyer_core.specs.declared.record.Data.{Data}
 use Rattle.foyer_core.specs.declared.record.Limits.{Limits}
 use Rattle.foyer_core.specs.State.{Meaning, State, hit, handles_of, handles_in, usage_of}
-use Rattle.foyer_core.specs.Steps.{Inserts, RefusesInsert, IsOutdated}
-use Rattle.foyer_core.specs.Values.{Held, Rec}
+use Rattle.foyer_core.specs.Steps.{Inserts, RefusesInsert, IsOutdated, newcomer}
+use Rattle.foyer_core.specs.Values.{Held, Incoming, Rec}
 
 -- a core: its capacity, what gives its keys their hashes and its records their weights, and its shards
 pub record Core (K V P View S W : Type 0) : Type 0 where
@@ -108,9 +108,9 @@ module _ {K V P View C : Type 0} (m : Meaning K P View C) where
     pub shards_are : AreNewShards config config.shards core.shards
 
   -- what an insert makes of its shard, and answers
-  abbrev pub InsertsAnswering : {N : Type 0} → Source → State K V P View → Data K V P → Result (Inserted K V P N) (Refused K V P) → State K V P View → Type 0
-  InsertsAnswering source old d (Ok made) new = Inserts m source old d made.leaves.items made.entry new
-  InsertsAnswering source old d (Err refused) new = RefusesInsert m old d refused.error refused.leaves.items new
+  abbrev pub InsertsAnswering : {N : Type 0} → Source → State K V P View → Incoming K V P → Result (Inserted K V P N) (Refused K V P) → State K V P View → Type 0
+  InsertsAnswering source old i (Ok made) new = Inserts m source old i made.leaves.items made.entry new
+  InsertsAnswering source old i (Err refused) new = RefusesInsert m old i refused.error refused.leaves.items new
 
   -- an insert of a record, with a weight that the weighter may give it, in the shard of its hash, whose entry has
   -- this source
@@ -119,5 +119,5 @@ module _ {K V P View C : Type 0} (m : Meaning K P View C) where
     pub weight : ℕ
     pub weighed : weighs weight
     pub inserts : AtShard
-        (λ s t. InsertsAnswering source s (record { key = key; value = value; properties = properties; hash = hash; weight = weight }) result t)
+        (λ s t. InsertsAnswering source s (newcomer s record { key = key; value = value; properties = properties; hash = hash; weight = weight }) result t)
         hash old new

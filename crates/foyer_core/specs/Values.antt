@@ -38,6 +38,16 @@ pub record Held (K V P : Type 0) : Type 0 where
   pub source : Source
   pub left : Bool
 
+-- a record that comes in: its id, what it keeps, and how many handles it then has
+pub record Incoming (K V P : Type 0) : Type 0 where
+  pub id : ℕ
+  pub kept : Data K V P
+  pub handles : ℕ
+
+-- what comes in with a slot
+abbrev pub incoming_of : {K V P : Type 0} → Kept K V P → Incoming K V P
+incoming_of s = record { id = s.id; kept = s.kept; handles = s.handles }
+
 -- what left: the record of this id of the core of this number
 pub record Gone (K V P : Type 0) : Type 0 where
   pub number : ℕ

@@ -90,15 +90,22 @@ impl<K: Drop, V: Drop, P: Drop> Record<K, V, P> {
         ensures made { IfOk result (λ r. (r.kept ≡ kept) × (r.place ≡ None) × (r.handles ≡ 0) × (bits_of r.flags ≡ 0)) }
         ensures refused { IfErr result (λ e. e ≡ NoMemory) }
     {
-        Ok(Record {
-            kept: Share::new(alloc, kept)?,
+        Ok(Record::of_share(Share::new(alloc, kept)?, 0))
+    }
+
+    // A record with this share of its data and so many handles, which is in nothing.
+    pub(crate) fn of_share(kept: Share<K, V, P>, refs: usize) -> Self
+        ensures { (result.kept ≡ kept) × (result.place ≡ None) × (result.handles ≡ refs) × (bits_of result.flags ≡ 0) }
+    {
+        Record {
+            kept,
             state: None,
-            refs: 0,
+            refs,
             flags: Flags {
                 in_eviction: false,
                 in_indexer: false,
             },
-        })
+        }
     }
 
     /// The key.

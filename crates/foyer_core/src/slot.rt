@@ -4,7 +4,7 @@ ghost use Rattle.std.specs.Prelude.{◌≡◌, ◌+◌, ◌-◌, ◌<◌, ◌^�
 ghost use Rattle.foyer_policy.specs.declared.error.Reason.TheVariants.{NoMemory};
 
 use crate::entry::{CoreEntry, Left};
-use crate::record::{Data, Record};
+use crate::record::Record;
 use crate::share::{Body, Share};
 use foyer_policy::{Place, Result, Source};
 use std::alloc::Global;
@@ -34,28 +34,34 @@ impl<K, V, P> Model for Slot<K, V, P> {
 }
 
 impl<K: Drop, V: Drop, P: Drop> Slot<K, V, P> {
-    /// A record that is to come in, with no handle. Only memory can be missing.
-    pub fn new(alloc: Global, kept: Data<K, V, P>, id: u64) -> Result<Self>
-        ensures made { IfOk result (λ s. s ≡ record { id = id; kept = kept; handles = 0; resident = true; place = None }) }
+    /// A record with this share of its data and so many handles, which is in nothing.
+    pub fn outside(kept: Share<K, V, P>, id: u64, handles: usize) -> Self
+        ensures { result ≡ record { id = id; kept = kept; handles = handles; resident = false; place = None } }
+    {
+        Slot {
+            id,
+            record: Record::of_share(kept, handles),
+            leave: None,
+        }
+    }
+
+    /// The record is to come in: it gets the share with which it leaves. Only memory can be missing.
+    pub fn come_in(self) -> Result<Self>
+        ensures came { IfOk result (λ s. s ≡ record self { resident = true }) }
         ensures refused { IfErr result (λ e. e ≡ NoMemory) }
     {
-        let mut record = Record::new(alloc, kept)?;
+        let Slot { id, mut record, .. } = self;
         let leave = Some(record.body()?);
         record.set_in_indexer(true);
         Ok(Slot { id, record, leave })
     }
 
-    /// A record that is to be held and not to come in, with no handle. Only memory can be missing.
-    pub fn outside(alloc: Global, kept: Data<K, V, P>, id: u64) -> Result<Self>
-        ensures made { IfOk result (λ s. s ≡ record { id = id; kept = kept; handles = 0; resident = false; place = None }) }
+    /// One more share of what the record keeps. Only memory can be missing.
+    pub fn share(&self) -> Result<Share<K, V, P>>
+        ensures share { IfOk result (λ share. share ≡ self.now.kept) }
         ensures refused { IfErr result (λ e. e ≡ NoMemory) }
     {
-        let record = Record::new(alloc, kept)?;
-        Ok(Slot {
-            id,
-            record,
-            leave: None,
-        })
+        self.record.share()
     }
 
     /// What a leave of the record shows, in the core of this number. Only memory can be missing.

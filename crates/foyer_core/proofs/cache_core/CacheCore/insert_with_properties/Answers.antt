@@ -7,7 +7,7 @@ use Rattle.foyer_core.specs.Cores.{core_of}
 use Rattle.foyer_core.specs.Core.{InsertsWeighed}
 use Rattle.foyer_core.specs.State.{is_phantom_record, coming_in}
 use Rattle.foyer_core.specs.Shards.{meaning_of, state_of}
-use Rattle.foyer_core.specs.Steps.{Inserts, RefusesInsert}
+use Rattle.foyer_core.specs.Steps.{Inserts, RefusesInsert, newcomer}
 use Rattle.foyer_core.proofs.CoreLaws.{Came, stays_at, finds_at, bounded_at}
 use Rattle.foyer_core.proofs.CoreLemmas.{at_over, core_over}
 use Rattle.foyer_core.proofs.Staying.{RecordsStay, nothing}
@@ -32,7 +32,7 @@ returns-in_err-entry-clause-inserted g c =
     record {
       weight = c.weigh-weight.result;
       weighed = c.weigh-weight.ensures;
-      inserts = over (λ a b. RefusesInsert (meaning_of x) a d c.in_err-entry.field-0.0.error c.in_err-entry.field-0.0.leaves.items b) y did;
+      inserts = over (λ a b. RefusesInsert (meaning_of x) a (newcomer a d) c.in_err-entry.field-0.0.error c.in_err-entry.field-0.0.leaves.items b) y did;
     }
 
 pub returns-in_err-entry-clause-stay : goal.returns-in_err-entry-clause-stay
@@ -45,7 +45,7 @@ returns-in_err-entry-clause-stay g c =
     let over = at_over state_of s.capacity s.hash_builder s.weighter s.shards.items hash (vec_len s.shards) c.place-place.result x
     s.shards.ok.0 c.place-place.ensures.within (c.place-place.ensures.place ∙ ap (λ (n : ℕ). n % vec_len s.shards) c.hash-hash.ensures.hash) c.index_mut.ensures.value in
     let did = rw (c.hash-hash.ensures.hash, c.marked-properties.ensures) at c.in_err-entry.ensures.inserted in
-    stays_at (core_of s) _ hash (over (RecordsStay nothing) y (refused_stay (meaning_of x) (is_phantom_record (meaning_of x) d) (state_of x) d _ _ (state_of y) did))
+    stays_at (core_of s) _ hash (over (RecordsStay nothing) y (refused_stay (meaning_of x) (is_phantom_record (meaning_of x) d) (state_of x) (newcomer (state_of x) d) _ _ (state_of y) did))
 
 pub returns-clause-inserted : goal.returns-clause-inserted
 returns-clause-inserted g c =
@@ -60,7 +60,7 @@ returns-clause-inserted g c =
     record {
       weight = c.weigh-weight.result;
       weighed = c.weigh-weight.ensures;
-      inserts = over (λ a b. Inserts (meaning_of x) Outer a d c.in_ok-entry.leaves.items c.in_ok-entry.entry b) y did;
+      inserts = over (λ a b. Inserts (meaning_of x) Outer a (newcomer a d) c.in_ok-entry.leaves.items c.in_ok-entry.entry b) y did;
     }
 
 pub returns-clause-found : goal.returns-clause-found
@@ -73,8 +73,8 @@ returns-clause-found g c plain =
     let over = at_over state_of s.capacity s.hash_builder s.weighter s.shards.items hash (vec_len s.shards) c.place-place.result x
     s.shards.ok.0 c.place-place.ensures.within (c.place-place.ensures.place ∙ ap (λ (n : ℕ). n % vec_len s.shards) c.hash-hash.ensures.hash) c.index_mut.ensures.value in
     let did = rw (c.hash-hash.ensures.hash, c.marked-properties.ensures) at c.in_ok-entry.ensures.inserted in
-    let at = over (Came (meaning_of x) g.met.K.Eq.laws g.met.E.Eviction.lawful Outer d c.in_ok-entry.leaves.items c.in_ok-entry.entry) y (x.kept, came_plain (meaning_of x) g.P.Properties.location_of g.P.Properties.with_phantom_of c.args.properties plain Outer (state_of x) (state_of y) d _ _ refl did) in
-    finds_at (meaning_of x) g.met.K.Eq.laws g.met.E.Eviction.lawful (core_of s) _ Outer d _ _ at
+    let at = over (Came (meaning_of x) g.met.K.Eq.laws g.met.E.Eviction.lawful Outer d c.in_ok-entry.leaves.items c.in_ok-entry.entry) y record { kept = x.kept; inc = newcomer (state_of x) d; inserts = came_plain (meaning_of x) g.P.Properties.location_of g.P.Properties.with_phantom_of c.args.properties plain Outer (state_of x) (state_of y) (newcomer (state_of x) d) _ _ refl did; data_are = refl } in
+    finds_at (meaning_of x) g.met.K.Eq.laws g.met.E.Eviction.lawful (core_of s) _ Outer d _ _ hash refl at
     (λ k. g.S.HashBuilder.hash_of s.hash_builder (g.K.Hash.hash_input k)) (rw c.hash-hash.ensures.hash at c.hash-hash.ensures.equal_keys)
 
 pub returns-clause-bounded : goal.returns-clause-bounded
@@ -87,8 +87,8 @@ returns-clause-bounded g c plain =
     let over = at_over state_of s.capacity s.hash_builder s.weighter s.shards.items hash (vec_len s.shards) c.place-place.result x
     s.shards.ok.0 c.place-place.ensures.within (c.place-place.ensures.place ∙ ap (λ (n : ℕ). n % vec_len s.shards) c.hash-hash.ensures.hash) c.index_mut.ensures.value in
     let did = rw (c.hash-hash.ensures.hash, c.marked-properties.ensures) at c.in_ok-entry.ensures.inserted in
-    let at = over (Came (meaning_of x) g.met.K.Eq.laws g.met.E.Eviction.lawful Outer d c.in_ok-entry.leaves.items c.in_ok-entry.entry) y (x.kept, came_plain (meaning_of x) g.P.Properties.location_of g.P.Properties.with_phantom_of c.args.properties plain Outer (state_of x) (state_of y) d _ _ refl did) in
-    bounded_at (meaning_of x) g.met.K.Eq.laws g.met.E.Eviction.lawful (core_of s) _ Outer d _ _ at _ (ap (λ (e : Held g.row.K.Denot g.row.V.Denot g.row.P.Denot). e.kept.weight) at.stepped.1.entry_is)
+    let at = over (Came (meaning_of x) g.met.K.Eq.laws g.met.E.Eviction.lawful Outer d c.in_ok-entry.leaves.items c.in_ok-entry.entry) y record { kept = x.kept; inc = newcomer (state_of x) d; inserts = came_plain (meaning_of x) g.P.Properties.location_of g.P.Properties.with_phantom_of c.args.properties plain Outer (state_of x) (state_of y) (newcomer (state_of x) d) _ _ refl did; data_are = refl } in
+    bounded_at (meaning_of x) g.met.K.Eq.laws g.met.E.Eviction.lawful (core_of s) _ Outer d _ _ hash refl at _ (ap (λ (e : Held g.row.K.Denot g.row.V.Denot g.row.P.Denot). e.kept.weight) at.stepped.inserts.entry_is ∙ ap (λ (x : Data g.row.K.Denot g.row.V.Denot g.row.P.Denot). x.weight) at.stepped.data_are)
 
 pub returns-clause-stay : goal.returns-clause-stay
 returns-clause-stay g c =
