@@ -6,6 +6,7 @@ use Rattle.std.specs.Cmp.{IsEquivalence}
 use Rattle.foyer_policy.specs.Policy.{IsPolicy}
 use Rattle.foyer_policy.specs.declared.error.Reason.{Reason}
 use Rattle.foyer_policy.specs.declared.types.Event.{Event}
+use Rattle.foyer_policy.specs.declared.types.Source.{Source}
 use Rattle.foyer_policy.specs.declared.types.Event.TheVariants.{Remove}
 use Rattle.foyer_core.specs.declared.record.Data.{Data}
 use Rattle.foyer_core.specs.Bulk.{Clears, EvictsIf, EvictsUnpinned, EvictingUnpinned}
@@ -13,7 +14,7 @@ use Rattle.foyer_core.specs.Core.{Core, AtShard, shard_of}
 use Rattle.foyer_core.specs.CoreBulk.{InTurn, InTurnUntil, EvictsToCapacity, EvictingToCapacity, Resizes}
 use Rattle.foyer_core.specs.Observed.{IsTold, IsToldWith, after_entry, after_leaves, known}
 use Rattle.foyer_core.specs.State.{Meaning, State}
-use Rattle.foyer_core.specs.Steps.{ClonesHandle, Gets, GivesBack, Inserts, RefusesInsert, Removes, Touches}
+use Rattle.foyer_core.specs.Steps.{ClonesHandle, Gets, GivesBack, Inserts, RefusesInsert, Removes, Touches, newcomer}
 use Rattle.foyer_core.specs.Values.{Gone, Held}
 use Rattle.foyer_core.proofs.CoreTold.{AreSound, all_told, at_told, resized_told, until_told}
 use Rattle.foyer_core.proofs.InsertTold.{inserts_told, refuses_told}
@@ -60,16 +61,16 @@ module _ {K V P View C S W A : Type 0} (m : Meaning K P View C) (laws : IsEquiva
 
   -- an insert of a record with the hash of its key
   module _ (d : Data K V P) (hashed : d.hash ≡ hash d.key) (ls : List (Event × Gone K V P)) where
-    pub insert_told : (entry : Held K V P) → AtShard (λ s t. Inserts m s d ls entry t) d.hash old new → IsToldWith m.same hash m.phantom old ls entry.id entry.kept new
-    insert_told entry at =
+    pub insert_told : (source : Source) (entry : Held K V P) → AtShard (λ s t. Inserts m source s (newcomer s d) ls entry t) d.hash old new → IsToldWith m.same hash m.phantom old ls entry.id entry.kept new
+    insert_told source entry at =
         let s = sound (shard_of old d.hash) at.before at.there in
-        at_told m laws good hash equal old new (λ s t. Inserts m s d ls entry t) d.hash at (after_entry m.same m.phantom (after_leaves m.same (known hash old) ls) entry.id entry.kept)
-        (inserts_told m laws good hash equal (length old.shards) (shard_of old d.hash) at.before d ls entry at.after s.kept s.at (refl, hashed) at.stepped (known hash old))
+        at_told m laws good hash equal old new (λ s t. Inserts m source s (newcomer s d) ls entry t) d.hash at (after_entry m.same m.phantom (after_leaves m.same (known hash old) ls) entry.id entry.kept)
+        (inserts_told m laws good hash equal (length old.shards) (shard_of old d.hash) source at.before d ls entry at.after s.kept s.at (refl, hashed) at.stepped (known hash old))
 
-    pub refused_told : (reason : Reason) → AtShard (λ s t. RefusesInsert m s d reason ls t) d.hash old new → IsTold m.same hash old ls new
+    pub refused_told : (reason : Reason) → AtShard (λ s t. RefusesInsert m s (newcomer s d) reason ls t) d.hash old new → IsTold m.same hash old ls new
     refused_told reason at =
         let s = sound (shard_of old d.hash) at.before at.there in
-        step_told (λ s t. RefusesInsert m s d reason ls t) d.hash at ls
+        step_told (λ s t. RefusesInsert m s (newcomer s d) reason ls t) d.hash at ls
         (refuses_told m laws good hash equal (length old.shards) (shard_of old d.hash) at.before d ls at.after s.kept s.at reason at.stepped)
 
   -- the calls on all shards

@@ -41,12 +41,12 @@ module _ {K V P View C : Type 0} (m : Meaning K P View C) where
   leave_other e (i ∷ ids) old (l ∷ ls) v w new h = (h.0, h.1, h.2, leave_other e ids (after_out m old i h.0) ls v w new h.3)
 
   -- a lined state as one that a shard holds
-  abbrev pub lined_holding : {keys : ℕ × K → Option ℕ} {records : Records K V P} {items : List Item} → Lined m keys records items → Holding V m
-  lined_holding {keys = keys} {records = records} o = record {
+  abbrev pub lined_holding : {number : ℕ} {keys : ℕ × K → Option ℕ} {records : Records K V P} {items : List Item} → Lined m number keys records items → Holding V m
+  lined_holding {number = number} {keys = keys} {records = records} o = record {
     at = o.at;
     keys = keys;
     t = records;
-    number = o.number;
+    number = number;
     capacity = o.capacity;
     limits = o.limits;
     view = o.view;
@@ -56,14 +56,14 @@ module _ {K V P View C : Type 0} (m : Meaning K P View C) where
   }
 
   -- the first of the items is in
-  pub first_in : {keys : ℕ × K → Option ℕ} {records : Records K V P} (i : Item) (still : List Item) (o : Lined m keys records (i ∷ still)) → 0 < count_of i.id (m.policy.order o.view)
+  pub first_in : {number : ℕ} {keys : ℕ × K → Option ℕ} {records : Records K V P} (i : Item) (still : List Item) (o : Lined m number keys records (i ∷ still)) → 0 < count_of i.id (m.policy.order o.view)
   first_in i still o = subst (λ (l : List Item). 0 < count_of i.id l) (sym o.lined) (counted_first i still)
 
-  pub passes-start : {keys : ℕ × K → Option ℕ} {records : Records K V P} {items : List Item} (o : Lined m keys records items) → Passes m o [] items [] keys records
+  pub passes-start : {number : ℕ} {keys : ℕ × K → Option ℕ} {records : Records K V P} {items : List Item} (o : Lined m number keys records items) → Passes m o [] items [] keys records
   passes-start o = record { after = o; leave = refl }
 
   module _ (laws : IsEquivalence m.same) (good : IsPolicy m.policy) where
-    module _ {keys0 : ℕ × K → Option ℕ} {records0 : Records K V P} {items : List Item} (o : Lined m keys0 records0 items)
+    module _ {number : ℕ} {keys0 : ℕ × K → Option ℕ} {records0 : Records K V P} {items : List Item} (o : Lined m number keys0 records0 items)
         (left : List Item) (i : Item) (still : List Item) (ls : List (Event × Gone K V P)) (keys : ℕ × K → Option ℕ) (t : Records K V P) (p : Passes m o left (i ∷ still) ls keys t)
         (n : ℕ) (known : number_of t i.id ≡ Some n) (x : Kept K V P) (there : slot_in t n ≡ Some x)
         (t' : Records K V P) (write : (q : ℕ) → slot_in t' q ≡ update nat_eq (slot_in t) n (slot_outside x) q) (recs : (j : ℕ) → record_in t' j ≡ update nat_eq (record_in t) x.id (outside (rec_of x)) j)
@@ -84,9 +84,8 @@ module _ {K V P View C : Type 0} (m : Meaning K P View C) where
           let rest : remove_id i.id (i ∷ still) ≡ still = rw e refl in
           good.remove_order p.after.view i.id ∙ ap (remove_id i.id) p.after.lined ∙ rest
 
-      abbrev after' : Lined m keys' t' still
+      abbrev after' : Lined m number keys' t' still
       after' = record {
-        number = p.after.number;
         capacity = p.after.capacity;
         limits = p.after.limits;
         view = view';
@@ -101,7 +100,7 @@ module _ {K V P View C : Type 0} (m : Meaning K P View C) where
       after_is = out_after m laws good h i.id inside n known x there t' write recs (λ q. without x.id (p.after.at q)) (λ q. refl) keys' gone view' refl
 
       abbrev leaving : ℕ → Gone K V P
-      leaving id = record { id = id; kept = x.kept }
+      leaving id = record { number = number; id = id; kept = x.kept }
 
       pub passes-more : Passes m o (left ++ i ∷ []) still (ls ++ (Clear, leaving x.id) ∷ []) keys' t'
       passes-more = record {
@@ -115,9 +114,8 @@ module _ {K V P View C : Type 0} (m : Meaning K P View C) where
     -- all of them left
     module _ (o : Holding V m) (items : List Item) (all : m.policy.order o.view ≡ items) (keys' : ℕ × K → Option ℕ) (t' : Records K V P)
         (view' : View) (viewed : view' ≡ m.policy.clear o.view) where
-      abbrev pub line : Lined m o.keys o.t items
+      abbrev pub line : Lined m o.number o.keys o.t items
       line = record {
-        number = o.number;
         capacity = o.capacity;
         limits = o.limits;
         view = o.view;

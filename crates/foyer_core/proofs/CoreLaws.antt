@@ -9,11 +9,12 @@ use Rattle.std.proofs.lemmas.Bool.Decides.{eqb_tells, nat_tests}
 use Rattle.std.proofs.lemmas.Map.{update_here}
 use Rattle.foyer_policy.specs.Policy.{IsPolicy}
 use Rattle.foyer_policy.specs.declared.types.Event.{Event}
+use Rattle.foyer_policy.specs.declared.types.Source.{Source}
 use Rattle.foyer_policy.specs.declared.error.Reason.{Reason}
 use Rattle.foyer_core.specs.declared.record.Data.{Data}
 use Rattle.foyer_core.specs.Indexer.{same_key}
 use Rattle.foyer_core.specs.Laws.{Finds, HandlesStay, IsBounded, IsBoundedAt, one_of}
-use Rattle.foyer_core.specs.Values.{Rec, Gone, Held}
+use Rattle.foyer_core.specs.Values.{Rec, Gone, Held, Incoming}
 use Rattle.foyer_core.specs.State.{Meaning, State, IsKept, key_of}
 use Rattle.foyer_core.specs.Steps.{Gets, InsertsPlain}
 use Rattle.foyer_core.specs.Core.{Core, AtShard, shard_at, shard_of}
@@ -64,51 +65,56 @@ module _ {K V P View S W A : Type 0} (old new : Core K V P View S W A) where
       rw same (ap (λ (x : Bool). if x then 1 else 0) (and_true (e.id == entry.id))))) at.stepped
 
 module _ {K V P View C : Type 0} (m : Meaning K P View C) (laws : IsEquivalence m.same) (good : IsPolicy m.policy) where
-  module _ (old : State K V P View) (d : Data K V P) (ls : List (Event × Gone K V P)) (entry : Held K V P) (new : State K V P View) (h : InsertsPlain m old d ls entry new) where
+  module _ (source : Source) (old : State K V P View) (inc : Incoming K V P) (ls : List (Event × Gone K V P)) (entry : Held K V P) (new : State K V P View) (h : InsertsPlain m source old inc ls entry new) where
     abbrev came : Rec K V P
-    came = record { kept = d; handles = 1; resident = true }
+    came = record { kept = inc.kept; handles = inc.handles; resident = true }
 
     -- equal keys hit what came in
-    came_under : (k : ℕ × K) → same_key m.same (key_of d) k ≡ true → new.index k ≡ Some h.last.next
-    came_under k same = ap (λ (s : State K V P View). s.index k) h.after ∙ ap (λ (x : Bool). cond x (Some h.last.next) (h.last.index k)) same
+    came_under : (k : ℕ × K) → same_key m.same (key_of inc.kept) k ≡ true → new.index k ≡ Some inc.id
+    came_under k same = ap (λ (s : State K V P View). s.index k) h.after ∙ ap (λ (x : Bool). cond x (Some inc.id) (h.last.index k)) same
 
-    came_there : new.records h.last.next ≡ Some came
-    came_there = ap (λ (s : State K V P View). s.records h.last.next) h.after ∙ update_here h.last.records h.last.next (Some came)
+    came_there : new.records inc.id ≡ Some came
+    came_there = ap (λ (s : State K V P View). s.records inc.id) h.after ∙ update_here h.last.records inc.id (Some came)
 
     -- a get of an equal key finds it
-    finds_came : (k : ℕ × K) → same_key m.same (key_of d) k ≡ true → (answer : Result (Option (Held K V P)) Reason) (after : State K V P View) → Gets m new k answer after
+    finds_came : (d : Data K V P) → inc.kept ≡ d → (k : ℕ × K) → same_key m.same (key_of d) k ≡ true → (answer : Result (Option (Held K V P)) Reason) (after : State K V P View) → Gets m new k answer after
         → IfOk answer (λ found. IsSomeAnd found (λ e. e.kept.value ≡ d.value))
-    finds_came k same (Ok None) after g = absurd (let e : ◌≡◌ {A = Option ℕ} None (Some h.last.next) = sym g.0 ∙ came_under k same in cc)
-    finds_came k same (Ok (Some e)) after g =
-        let id : e.id ≡ h.last.next = some_nat (sym g.1 ∙ came_under k same) in
-        let is : g.0 ≡ came = some_rec (sym g.2 ∙ ap new.records id ∙ came_there) in
-        ap (λ (x : Held K V P). x.kept.value) g.4 ∙ ap (λ (x : Rec K V P). x.kept.value) is
+    finds_came d is k same (Ok None) after g = absurd (let e : ◌≡◌ {A = Option ℕ} None (Some inc.id) = sym g.0 ∙ came_under k (subst (λ (x : Data K V P). same_key m.same (key_of x) k ≡ true) (sym is) same) in cc)
+    finds_came d is k same (Ok (Some e)) after g =
+        let id : e.id ≡ inc.id = some_nat (sym g.1 ∙ came_under k (subst (λ (x : Data K V P). same_key m.same (key_of x) k ≡ true) (sym is) same)) in
+        let r : g.0 ≡ came = some_rec (sym g.2 ∙ ap new.records id ∙ came_there) in
+        ap (λ (x : Held K V P). x.kept.value) g.4 ∙ ap (λ (x : Rec K V P). x.kept.value) r ∙ ap (λ (x : Data K V P). x.value) is
       where
         some_nat : {x y : ℕ} → Some x ≡ Some y → x ≡ y
         some_nat h = cc
 
         some_rec : {x y : Rec K V P} → Some x ≡ Some y → x ≡ y
         some_rec h = cc
-    finds_came k same (Err reason) after g = tt
+    finds_came d is k same (Err reason) after g = tt
 
-  -- a shard that keeps what it must takes a plain record in
-  abbrev pub Came : Data K V P → List (Event × Gone K V P) → Held K V P → State K V P View → State K V P View → Type 0
-  Came d ls entry old new = ∥ IsKept m old ∥₁ × InsertsPlain m old d ls entry new
+  -- a shard that keeps what it must takes a plain record of these data in
+  pub record Came (source : Source) (d : Data K V P) (ls : List (Event × Gone K V P)) (entry : Held K V P) (old new : State K V P View) : Type 0 where
+    pub kept : ∥ IsKept m old ∥₁
+    pub inc : Incoming K V P
+    pub inserts : InsertsPlain m source old inc ls entry new
+    pub data_are : inc.kept ≡ d
 
-  module _ {S W A : Type 0} (old new : Core K V P View S W A) (d : Data K V P) (ls : List (Event × Gone K V P)) (entry : Held K V P) (at : AtShard (Came d ls entry) d.hash old new) where
+  module _ {S W A : Type 0} (old new : Core K V P View S W A) (source : Source) (d : Data K V P) (ls : List (Event × Gone K V P)) (entry : Held K V P)
+      (hash : ℕ) (belongs : shard_of old d.hash ≡ shard_of old hash) (at : AtShard (Came source d ls entry) hash old new) where
     same_state_of : (x y : State K V P View) → Some x ≡ Some y → x ≡ y
     same_state_of x y h = cc
 
     pub finds_at : (hashes : K → ℕ) → ((k : K) → m.same d.key k ≡ true → hashes k ≡ d.hash) → Finds m hashes new d.key d.value
     finds_at hashes equal k same answer after next =
-        let place : shard_of old (hashes k) ≡ shard_of old d.hash = ap (shard_of old) (equal k same) in
-        let here : next.before ≡ at.after = same_state_of next.before at.after (sym next.there ∙ now_here old new (Came d ls entry) d.hash at (hashes k) place) in
-        finds_came at.before d ls entry at.after at.stepped.1 (d.hash, k) (alike_key m.same d.hash d.key k same) answer next.after
+        let place : shard_of old (hashes k) ≡ shard_of old hash = ap (shard_of old) (equal k same) ∙ belongs in
+        let here : next.before ≡ at.after = same_state_of next.before at.after (sym next.there ∙ now_here old new (Came source d ls entry) hash at (hashes k) place) in
+        finds_came source at.before at.stepped.inc ls entry at.after at.stepped.inserts d at.stepped.data_are (d.hash, k) (alike_key m.same d.hash d.key k same) answer next.after
         (subst (λ (n : ℕ). Gets m at.after (n, k) answer next.after) (equal k same) (subst (λ (x : State K V P View). Gets m x (hashes k, k) answer next.after) here next.stepped))
 
-    pub bounded_at : (weight : ℕ) → weight ≡ d.weight → IsBoundedAt m d.hash weight old new
+    pub bounded_at : (weight : ℕ) → weight ≡ d.weight → IsBoundedAt m hash weight old new
     bounded_at weight weighs x y there gone =
         let was : at.before ≡ x = same_state_of at.before x (sym at.there ∙ there) in
-        let now : at.after ≡ y = same_state_of at.after y (sym (now_here old new (Came d ls entry) d.hash at d.hash refl) ∙ gone) in
-        subst (λ (n : ℕ). IsBounded m n x y) (sym weighs) (subst (λ (z : State K V P View). IsBounded m d.weight z y) was (subst (λ (z : State K V P View). IsBounded m d.weight at.before z) now
-        (∥∥₁_elim at.stepped.0 (hlevel props) (λ k. usage_after m laws good at.before k d ls entry at.after at.stepped.1))))
+        let now : at.after ≡ y = same_state_of at.after y (sym (now_here old new (Came source d ls entry) hash at hash refl) ∙ gone) in
+        let same : at.stepped.inc.kept.weight ≡ weight = ap (λ (x : Data K V P). x.weight) at.stepped.data_are ∙ sym weighs in
+        subst (λ (n : ℕ). IsBounded m n x y) same (subst (λ (z : State K V P View). IsBounded m at.stepped.inc.kept.weight z y) was (subst (λ (z : State K V P View). IsBounded m at.stepped.inc.kept.weight at.before z) now
+        (∥∥₁_elim at.stepped.kept (hlevel props) (λ k. usage_after m laws good source at.before k at.stepped.inc ls entry at.after at.stepped.inserts))))

@@ -14,9 +14,9 @@ module _ {K V P View C : Type 0} (m : Meaning K P View C) where
   -- one leave more
   pub Leave-snoc : (e : Event) (ids : List ℕ) (old : State K V P View) (ls : List (Event × Gone K V P)) (v : View) (mid : State K V P View) (id : ℕ) (r : Rec K V P) (w : View)
       → Leave m e ids old ls v mid → mid.records id ≡ Some r
-      → Leave m e (ids ++ id ∷ []) old (ls ++ (e, gone_of id r) ∷ []) w (record (after_out m mid id r) { view = w })
+      → Leave m e (ids ++ id ∷ []) old (ls ++ (e, gone_of mid.number id r) ∷ []) w (record (after_out m mid id r) { view = w })
   Leave-snoc e [] old [] v mid id r w h there =
-      (r, sym (ap (λ (s : State K V P View). s.records id) h) ∙ there, refl, ap (λ (s : State K V P View). record (after_out m s id r) { view = w }) h)
+      (r, sym (ap (λ (s : State K V P View). s.records id) h) ∙ there, ap (λ (s : State K V P View). let l : Event × Gone K V P = (e, gone_of s.number id r) in l) h, ap (λ (s : State K V P View). record (after_out m s id r) { view = w }) h)
   Leave-snoc e [] old (l ∷ ls) v mid id r w h there = absurd h
   Leave-snoc e (i ∷ ids) old [] v mid id r w h there = absurd h
   Leave-snoc e (i ∷ ids) old (l ∷ ls) v mid id r w h there = (h.0, h.1, h.2, Leave-snoc e ids (after_out m old i h.0) ls v mid id r w h.3 there)
@@ -76,11 +76,11 @@ module _ {K V P View C : Type 0} (m : Meaning K P View C) where
         ids_append (x ∷ xs) = ap (λ (l : List ℕ). x.id ∷ l) (ids_append xs)
 
       pub begun-more : (r : Rec K V P) → now.records i.id ≡ Some r
-          → Begun target old (ls ++ (Evict, gone_of i.id r) ∷ []) (record (after_out m now i.id r) { view = v })
+          → Begun target old (ls ++ (Evict, gone_of now.number i.id r) ∷ []) (record (after_out m now i.id r) { view = v })
       begun-more r there = record {
         left = h.left ++ i ∷ [];
         told = more_told;
-        leave = subst₂ (λ (ids : List ℕ) (w : View). Leave m Evict ids old (ls ++ (Evict, gone_of i.id r) ∷ []) w (record (after_out m now i.id r) { view = v })) more_ids more_view
+        leave = subst₂ (λ (ids : List ℕ) (w : View). Leave m Evict ids old (ls ++ (Evict, gone_of now.number i.id r) ∷ []) w (record (after_out m now i.id r) { view = v })) more_ids more_view
             (Leave-snoc Evict (ids_of h.left) old ls (after_pops m.policy (length h.left) old.view) now i.id r v h.leave there);
         view = more_view;
       }
@@ -90,5 +90,5 @@ pub begun-evicts : {K V P View C : Type 0} (m : Meaning K P View C) (good : IsPo
     → Begun m target old ls now → target < usage_of m now → (gone : Gone K V P) (new : State K V P View) → EvictsOne m now gone new → Begun m target old (ls ++ (Evict, gone) ∷ []) new
 begun-evicts {K} {V} {P} {View} m good target old ls now begun above gone new e =
     subst (λ (g : Gone K V P). Begun m target old (ls ++ (Evict, g) ∷ []) new) (sym e.gone_is)
-    (subst (λ (s : State K V P View). Begun m target old (ls ++ (Evict, gone_of e.item.id e.rec) ∷ []) s) (sym e.after)
+    (subst (λ (s : State K V P View). Begun m target old (ls ++ (Evict, gone_of now.number e.item.id e.rec) ∷ []) s) (sym e.after)
     (begun-more m good target old ls now begun above e.item e.view e.popped e.rec e.there))

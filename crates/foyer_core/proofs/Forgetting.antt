@@ -72,9 +72,9 @@ module _ {K V P View C : Type 0} (m : Meaning K P View C) (laws : IsEquivalence 
 
       -- what leaves where it is phantom
       abbrev pub phantom_leave : Event × Gone K V P
-      phantom_leave = (Evict, record { id = x.id; kept = x.kept })
+      phantom_leave = (Evict, record { number = number; id = x.id; kept = x.kept })
 
-      leaves_is : (b : Bool) → is_phantom_record m x.kept ≡ b → cond b (Some phantom_leave) None ≡ last_leave m x.id (rec_of x)
+      leaves_is : (b : Bool) → is_phantom_record m x.kept ≡ b → cond b (Some phantom_leave) None ≡ last_leave m number x.id (rec_of x)
       leaves_is b phantom = ap (λ (w : Bool). cond w (Some phantom_leave) None) (sym (ap₂ (λ (a c : Bool). a && (not c && is_phantom_record m x.kept)) is_one out ∙ phantom))
 
       pub forgot_gives : (b : Bool) → is_phantom_record m x.kept ≡ b → (s : Kept K V P) → slot_in t n ≡ Some s

@@ -1,5 +1,5 @@
--- What a key's record, where it had one, leaves behind as it gives way to a new one.
-use Rattle.std.proofs.Common.{◌≡◌, ◌≢◌, ℕ, ◌+◌, ◌-◌, ◌<◌, ◌≤◌, ◌^◌, [], Option, Some, None, Bool, true, false, cond, length, nat_eq, refl, sym, ◌∙◌, ap, subst, inl, inr, arith, rules}
+-- What a key's record, where it had one, leaves behind as it gives way to one that comes in.
+use Rattle.std.proofs.Common.{◌≡◌, ◌≢◌, ℕ, ◌+◌, ◌-◌, ◌<◌, ◌≤◌, ◌^◌, [], Option, Some, None, Bool, true, false, cond, max, length, nat_eq, refl, sym, ◌∙◌, ap, subst, inl, inr, arith, rules}
 use Rattle.std.specs.Prelude.{option_and_then, is_some, ◌⊎◌, IsSome, IsSomeAnd, ◌==◌}
 use Rattle.std.proofs.lemmas.Bool.Decides.{nat_tests}
 use Rattle.std.proofs.Math.Logic.{∥∥₁_elim}
@@ -13,7 +13,7 @@ use Rattle.foyer_policy.specs.Policy.{IsPolicy, without}
 use Rattle.foyer_policy.specs.declared.types.Item.{Item}
 use Rattle.foyer_core.specs.declared.record.Data.{Data}
 use Rattle.foyer_core.specs.declared.records.Records.{Records}
-use Rattle.foyer_core.specs.Values.{Kept, Gone}
+use Rattle.foyer_core.specs.Values.{Kept, Gone, Rec, Incoming}
 use Rattle.foyer_core.specs.Indexer.{same_key}
 use Rattle.foyer_core.specs.Table.{rec_of, slot_outside}
 use Rattle.foyer_core.specs.Records.{slot_in, record_in, id_in}
@@ -22,7 +22,7 @@ use Rattle.foyer_core.specs.Steps.{GivesWay, outside}
 use Rattle.foyer_core.proofs.Keeps.{push_new}
 use Rattle.foyer_core.proofs.ShardLemmas.{Holding, now_of, resident}
 use Rattle.foyer_core.proofs.StoredLemmas.{some_of}
-use Rattle.foyer_core.proofs.AdmitLemmas.{Admitted, MayPush, placed_at, base_some, last_of, gives_way_some, old_weight, old_entries, admitted_none, admitted_some}
+use Rattle.foyer_core.proofs.AdmitLemmas.{Admitted, MayPush, coming_slot, coming_rec, base_some, last_of, gives_way_some, old_weight, old_entries, admitted_none, admitted_some}
 
 -- a test, cast to a number
 pub byte_is : (b : Bool) → bool_byte b ≡ cond b 1 0
@@ -39,37 +39,36 @@ module _ {K V P View C : Type 0} (m : Meaning K P View C) (laws : IsEquivalence 
   abbrev now : State K V P View
   now = now_of o
 
-  module _ (d : Data K V P) (n : ℕ) (free : slot_in t n ≡ None) (t1 : Records K V P) (x0 : Kept K V P)
+  module _ (inc : Incoming K V P) (n : ℕ) (unled : (q : ℕ × K) (j : ℕ) → keys q ≡ Some j → j ≢ n) (out : (r : Rec K V P) → record_in t inc.id ≡ Some r → r.resident ≡ false)
+      (t1 : Records K V P) (x0 : Kept K V P)
       (slots1 : (q : ℕ) → slot_in t1 q ≡ update nat_eq (slot_in t) n (Some x0) q) where
     -- a record that the key leads to stands where it stood
-    pub old_there : (old : ℕ) (y : Kept K V P) → slot_in t old ≡ Some y → slot_in t1 old ≡ Some y
-    old_there old y there =
-        let apart : old ≢ n = (λ e. let x : None ≡ Some y = sym free ∙ ap (slot_in t) (sym e) ∙ there in absurd cc) in
-        slots1 old ∙ update_apart (slot_in t) n (Some x0) old apart ∙ there
+    pub old_there : (old : ℕ) (y : Kept K V P) → keys (key_of inc.kept) ≡ Some old → slot_in t old ≡ Some y → slot_in t1 old ≡ Some y
+    old_there old y led there = slots1 old ∙ update_apart (slot_in t) n (Some x0) old (unled (key_of inc.kept) old led) ∙ there
 
-    pub may_give_way : (was : Option ℕ) → was ≡ keys (key_of d) → (old : ℕ) → was ≡ Some old
+    pub may_give_way : (was : Option ℕ) → was ≡ keys (key_of inc.kept) → (old : ℕ) → was ≡ Some old
         → IsSomeAnd (slot_in t1 old) (λ s. (s.resident ≡ true) × IsSome (option_and_then at s.place))
     may_give_way was is old h =
         let led = sym is ∙ h in
-        let y = some_of (slot_in t old) (stored.led (key_of d) old led) in
-        let res = resident m laws good o (key_of d) old led y.0 y.1 in
-        rw (old_there old y.0 y.1) (res, rw (stored.placed old y.0 y.1 res) (search rules))
+        let y = some_of (slot_in t old) (stored.led (key_of inc.kept) old led) in
+        let res = resident m laws good o (key_of inc.kept) old led y.0 y.1 in
+        rw (old_there old y.0 led y.1) (res, rw (stored.placed old y.0 y.1 res) (search rules))
 
     -- what gave way
     pub record GaveOld (gone : ℕ) (replaced : Option (Gone K V P)) (t2 : Records K V P) (at2 : ℕ → Option Item) (view2 : View) : Type 0 where
       pub old : ℕ
       pub y : Kept K V P
-      pub led : keys (key_of d) ≡ Some old
+      pub led : keys (key_of inc.kept) ≡ Some old
       pub there : slot_in t old ≡ Some y
       pub gone_is : gone ≡ y.kept.weight
-      pub replaced_is : replaced ≡ Some record { id = y.id; kept = y.kept }
+      pub replaced_is : replaced ≡ Some record { number = number; id = y.id; kept = y.kept }
       pub viewed : view2 ≡ m.policy.remove view y.id
       pub slots : (q : ℕ) → slot_in t2 q ≡ update nat_eq (slot_in t1) old (slot_outside y) q
       pub recs : (id : ℕ) → record_in t2 id ≡ update nat_eq (record_in t1) y.id (outside (rec_of y)) id
       pub places : (q : ℕ) → at2 q ≡ without y.id (at q)
 
     pub record GaveNone (gone : ℕ) (replaced : Option (Gone K V P)) (t2 : Records K V P) (at2 : ℕ → Option Item) (view2 : View) : Type 0 where
-      pub led : keys (key_of d) ≡ None
+      pub led : keys (key_of inc.kept) ≡ None
       pub gone_is : gone ≡ 0
       pub replaced_is : replaced ≡ None
       pub viewed : view2 ≡ view
@@ -80,11 +79,11 @@ module _ {K V P View C : Type 0} (m : Meaning K P View C) (laws : IsEquivalence 
     abbrev pub Gave : ℕ → Option (Gone K V P) → Records K V P → (ℕ → Option Item) → View → Type 0
     Gave gone replaced t2 at2 view2 = GaveNone gone replaced t2 at2 view2 ⊎ GaveOld gone replaced t2 at2 view2
 
-    module _ (was : Option ℕ) (is : was ≡ keys (key_of d)) (result : ℕ × Option (Gone K V P)) (t2 : Records K V P) (at2 : ℕ → Option Item) (view2 : View)
+    module _ (was : Option ℕ) (is : was ≡ keys (key_of inc.kept)) (result : ℕ × Option (Gone K V P)) (t2 : Records K V P) (at2 : ℕ → Option Item) (view2 : View)
         (none : was ≡ None → (result ≡ (0, None)) × (view2 ≡ view)) (none_slots : was ≡ None → (q : ℕ) → slot_in t2 q ≡ slot_in t1 q)
         (none_records : was ≡ None → (id : ℕ) → record_in t2 id ≡ record_in t1 id) (none_places : was ≡ None → (p : ℕ) → at2 p ≡ at p)
         (some : (k : ℕ) (s : Kept K V P) (i : Item) → was ≡ Some k → slot_in t1 k ≡ Some s → option_and_then at s.place ≡ Some i
-        → (result ≡ (i.weight, Some record { id = s.id; kept = s.kept })) × (view2 ≡ m.policy.remove view i.id))
+        → (result ≡ (i.weight, Some record { number = number; id = s.id; kept = s.kept })) × (view2 ≡ m.policy.remove view i.id))
         (some_slots : (k : ℕ) (s : Kept K V P) → was ≡ Some k → slot_in t1 k ≡ Some s → (q : ℕ) → slot_in t2 q ≡ update nat_eq (slot_in t1) k (slot_outside s) q)
         (some_records : (k : ℕ) (s : Kept K V P) → was ≡ Some k → slot_in t1 k ≡ Some s → (id : ℕ) → record_in t2 id ≡ update nat_eq (record_in t1) s.id (outside (rec_of s)) id)
         (some_places : (k : ℕ) (s : Kept K V P) (i : Item) → was ≡ Some k → slot_in t1 k ≡ Some s → option_and_then at s.place ≡ Some i → (p : ℕ) → at2 p ≡ without i.id (at p)) where
@@ -102,9 +101,9 @@ module _ {K V P View C : Type 0} (m : Meaning K P View C) (laws : IsEquivalence 
         }
         go (Some old) h =
             let led = sym is ∙ h in
-            let y = some_of (slot_in t old) (stored.led (key_of d) old led) in
-            let res = resident m laws good o (key_of d) old led y.0 y.1 in
-            let there1 = old_there old y.0 y.1 in
+            let y = some_of (slot_in t old) (stored.led (key_of inc.kept) old led) in
+            let res = resident m laws good o (key_of inc.kept) old led y.0 y.1 in
+            let there1 = old_there old y.0 led y.1 in
             let placed = stored.placed old y.0 y.1 res in
             let r = some old y.0 (item_of m y.0.id y.0.kept) h there1 placed in
             inr record {
@@ -130,28 +129,28 @@ module _ {K V P View C : Type 0} (m : Meaning K P View C) (laws : IsEquivalence 
         go : Gave gone replaced t2 at2 view2 → slot_in t2 n ≡ Some x0
         go (inl g) = g.slots n ∙ first
         go (inr g) =
-            let apart : n ≢ g.old = (λ e. let x : None ≡ Some g.y = sym free ∙ ap (slot_in t) e ∙ g.there in absurd cc) in
+            let apart : n ≢ g.old = (λ e. unled (key_of inc.kept) g.old g.led (sym e)) in
             g.slots n ∙ update_apart (slot_in t1) g.old (slot_outside g.y) n apart ∙ first
 
-      none_way : GaveNone gone replaced t2 at2 view2 → GivesWay m (now.index (key_of d)) now [] now
+      none_way : GaveNone gone replaced t2 at2 view2 → GivesWay m (now.index (key_of inc.kept)) now [] now
       none_way g = subst (λ (w : Option ℕ). GivesWay m w now [] now) (sym (ap (option_and_then (id_in t)) g.led)) (refl, refl)
 
       -- the push may be made
-      pub gave_push : ((ls : _) (last : State K V P View) → GivesWay m (now.index (key_of d)) now ls last → usage_of m last + d.weight < 2 ^ 64) → MayPush m laws good o d n free view2
+      pub gave_push : ((ls : _) (last : State K V P View) → GivesWay m (now.index (key_of inc.kept)) now ls last → usage_of m last + inc.kept.weight < 2 ^ 64) → MayPush m laws good o inc n unled out view2
       gave_push fits = go gave where
-        new_in : (s : State K V P View) → s.next ≡ next → IsKept m s → IsNewIn next (m.policy.order s.view)
-        new_in s e k' = subst (λ (i : ℕ). IsNewIn i (m.policy.order s.view)) e (push_new m laws good s k')
+        new_in : (s : State K V P View) → ((r : Rec K V P) → s.records inc.id ≡ Some r → r.resident ≡ false) → IsKept m s → IsNewIn inc.id (m.policy.order s.view)
+        new_in s out' k' = push_new m laws good s k' inc out'
 
-        go : Gave gone replaced t2 at2 view2 → MayPush m laws good o d n free view2
+        go : Gave gone replaced t2 at2 view2 → MayPush m laws good o inc n unled out view2
         go (inl g) = record {
-          new = rw g.viewed (∥∥₁_elim kept (hlevel props) (new_in now refl));
+          new = rw g.viewed (∥∥₁_elim kept (hlevel props) (new_in now out));
           fits = rw g.viewed (let f = fits [] now (none_way g) in omega arith);
         }
         go (inr g) =
-            let last : State K V P View = last_of m laws good o d n free g.old g.led g.y g.there at2 g.places in
+            let last : State K V P View = last_of m laws good o inc n unled out g.old g.led g.y g.there at2 g.places in
             record {
-              new = rw g.viewed (∥∥₁_elim (base_some m laws good o d n free g.old g.led g.y g.there at2 g.places).kept' (hlevel props) (new_in last refl));
-              fits = rw g.viewed (let f = fits _ last (gives_way_some m laws good o d n free g.old g.led g.y g.there at2 g.places) in omega arith);
+              new = rw g.viewed (let base = base_some m laws good o inc n unled out g.old g.led g.y g.there at2 g.places in ∥∥₁_elim base.kept' (hlevel props) (new_in last base.out'));
+              fits = rw g.viewed (let f = fits _ last (gives_way_some m laws good o inc n unled out g.old g.led g.y g.there at2 g.places) in omega arith);
             }
 
       -- what is taken off is there
@@ -160,40 +159,40 @@ module _ {K V P View C : Type 0} (m : Meaning K P View C) (laws : IsEquivalence 
         go : Gave gone replaced t2 at2 view2 → (gone ≤ usage) × (cond (is_some replaced) 1 0 ≤ entries)
         go (inl g) = (omega (arith, g.gone_is), rw g.replaced_is (omega arith))
         go (inr g) = (
-          (let u = old_weight m laws good o d n free g.old g.led g.y g.there at2 g.places usage hu in omega (arith, u.0, g.gone_is)),
-          rw g.replaced_is (old_entries m laws good o d n free g.old g.led g.y g.there at2 g.places entries he).0,
+          (let u = old_weight m laws good o inc n unled out g.old g.led g.y g.there at2 g.places usage hu in omega (arith, u.0, g.gone_is)),
+          rw g.replaced_is (old_entries m laws good o inc n unled out g.old g.led g.y g.there at2 g.places entries he).0,
         )
 
       -- the new usage fits
-      pub gave_fits : (usage : ℕ) → usage ≡ weight_of (m.policy.order view) → ((ls : _) (last : State K V P View) → GivesWay m (now.index (key_of d)) now ls last → usage_of m last + d.weight < 2 ^ 64) → usage - gone + d.weight < 2 ^ 64
+      pub gave_fits : (usage : ℕ) → usage ≡ weight_of (m.policy.order view) → ((ls : _) (last : State K V P View) → GivesWay m (now.index (key_of inc.kept)) now ls last → usage_of m last + inc.kept.weight < 2 ^ 64) → usage - gone + inc.kept.weight < 2 ^ 64
       gave_fits usage hu fits = go gave where
-        go : Gave gone replaced t2 at2 view2 → usage - gone + d.weight < 2 ^ 64
+        go : Gave gone replaced t2 at2 view2 → usage - gone + inc.kept.weight < 2 ^ 64
         go (inl g) = (let f = fits [] now (none_way g) in omega (arith, g.gone_is))
         go (inr g) =
-            let u = old_weight m laws good o d n free g.old g.led g.y g.there at2 g.places usage hu in
-            let last : State K V P View = last_of m laws good o d n free g.old g.led g.y g.there at2 g.places in
-            let f = fits _ last (gives_way_some m laws good o d n free g.old g.led g.y g.there at2 g.places) in
+            let u = old_weight m laws good o inc n unled out g.old g.led g.y g.there at2 g.places usage hu in
+            let last : State K V P View = last_of m laws good o inc n unled out g.old g.led g.y g.there at2 g.places in
+            let f = fits _ last (gives_way_some m laws good o inc n unled out g.old g.led g.y g.there at2 g.places) in
             omega (arith, u.0, u.1, g.gone_is)
 
-      module _ (x0_is : x0 ≡ record { id = next; kept = d; handles = 1; resident = true; place = None }) (t3 : Records K V P) (p : ℕ) (keys1 : ℕ × K → Option ℕ) (at3 : ℕ → Option Item) (view3 : View)
-          (recs1 : (id : ℕ) → record_in t1 id ≡ update nat_eq (record_in t) next (Some record { kept = d; handles = 1; resident = true }) id)
-          (led1 : (q : ℕ × K) → keys1 q ≡ update (same_key m.same) keys (key_of d) (Some n) q)
-          (slots3 : (q : ℕ) → slot_in t3 q ≡ update nat_eq (slot_in t2) n (Some (placed_at next d p)) q)
+      module _ (x0_is : x0 ≡ coming_slot inc None) (t3 : Records K V P) (p : ℕ) (keys1 : ℕ × K → Option ℕ) (at3 : ℕ → Option Item) (view3 : View) (next3 : ℕ)
+          (recs1 : (id : ℕ) → record_in t1 id ≡ update nat_eq (record_in t) inc.id (Some (coming_rec inc)) id)
+          (led1 : (q : ℕ × K) → keys1 q ≡ update (same_key m.same) keys (key_of inc.kept) (Some n) q)
+          (slots3 : (q : ℕ) → slot_in t3 q ≡ update nat_eq (slot_in t2) n (Some (coming_slot inc (Some p))) q)
           (recs3 : (id : ℕ) → record_in t3 id ≡ record_in t2 id)
-          (here3 : at3 p ≡ Some (item_of m next d)) (free3 : at2 p ≡ None) (others3 : (q : ℕ) → q ≢ p → at3 q ≡ at2 q)
-          (viewed3 : view3 ≡ m.policy.push view2 (item_of m next d))
-          (plain : is_phantom_record m d ≡ false) (handle : 1 ≤ limits.handles)
-          (fits : (ls : _) (last : State K V P View) → GivesWay m (now.index (key_of d)) now ls last → usage_of m last + d.weight < 2 ^ 64) where
+          (here3 : at3 p ≡ Some (item_of m inc.id inc.kept)) (free3 : at2 p ≡ None) (others3 : (q : ℕ) → q ≢ p → at3 q ≡ at2 q)
+          (viewed3 : view3 ≡ m.policy.push view2 (item_of m inc.id inc.kept))
+          (nexts3 : next3 ≡ max next (inc.id + 1)) (plain : is_phantom_record m inc.kept ≡ false) (held : 0 < inc.handles) (handle : inc.handles ≤ limits.handles)
+          (fits : (ls : _) (last : State K V P View) → GivesWay m (now.index (key_of inc.kept)) now ls last → usage_of m last + inc.kept.weight < 2 ^ 64) where
         pub gave_admitted : (usage entries : ℕ) → usage ≡ weight_of (m.policy.order view) → entries ≡ length (m.policy.order view)
-            → Admitted m laws good o d n free replaced (usage - gone) (entries - cond (is_some replaced) 1 0) view3 keys1 t3 at3
+            → Admitted m laws good o inc n unled out replaced (usage - gone) (entries - cond (is_some replaced) 1 0) view3 keys1 t3 at3 next3
         gave_admitted usage entries hu he = go gave where
-          go : Gave gone replaced t2 at2 view2 → Admitted m laws good o d n free replaced (usage - gone) (entries - cond (is_some replaced) 1 0) view3 keys1 t3 at3
-          go (inl g) = rw (g.replaced_is, g.gone_is) (admitted_none m laws good o d n free t1 t2 t3 x0 x0_is p keys1 at2 at3 view2 view3 slots1 recs1 led1 slots3 recs3 here3 free3 others3 viewed3 plain handle fits
+          go : Gave gone replaced t2 at2 view2 → Admitted m laws good o inc n unled out replaced (usage - gone) (entries - cond (is_some replaced) 1 0) view3 keys1 t3 at3 next3
+          go (inl g) = rw (g.replaced_is, g.gone_is) (admitted_none m laws good o inc n unled out t1 t2 t3 x0 x0_is p keys1 at2 at3 view2 view3 next3 slots1 recs1 led1 slots3 recs3 here3 free3 others3 viewed3 nexts3 plain held handle fits
               g.led g.viewed g.slots g.recs g.places (usage - 0) (entries - 0) (hu' g.led) (he' g.led)) where
-                hu' : keys (key_of d) ≡ None → usage - 0 ≡ weight_of (m.policy.order view)
+                hu' : keys (key_of inc.kept) ≡ None → usage - 0 ≡ weight_of (m.policy.order view)
                 hu' e = omega arith
 
-                he' : keys (key_of d) ≡ None → entries - 0 ≡ length (m.policy.order view)
+                he' : keys (key_of inc.kept) ≡ None → entries - 0 ≡ length (m.policy.order view)
                 he' e = omega arith
-          go (inr g) = rw (g.replaced_is, g.gone_is) (admitted_some m laws good o d n free t1 t2 t3 x0 x0_is p keys1 at2 at3 view2 view3 slots1 recs1 led1 slots3 recs3 here3 free3 others3 viewed3 plain handle fits
+          go (inr g) = rw (g.replaced_is, g.gone_is) (admitted_some m laws good o inc n unled out t1 t2 t3 x0 x0_is p keys1 at2 at3 view2 view3 next3 slots1 recs1 led1 slots3 recs3 here3 free3 others3 viewed3 nexts3 plain held handle fits
               g.old g.led g.y g.there g.places g.viewed g.slots g.recs usage entries hu he)

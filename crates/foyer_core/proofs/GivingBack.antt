@@ -56,7 +56,7 @@ module _ {K V P View C : Type 0} (m : Meaning K P View C) (laws : IsEquivalence 
       stays_kept : ∥ IsKept m (state number capacity limits view' keys t' next) ∥₁
       stays_kept = ∥∥₁_map kept (λ k. subst (IsKept m) (sym after) (give_back_keeps m laws good (now_of o) k x.id (rec_of x) (slot_record m at keys t n x there) held))
 
-      stays_gives : None ≡ last_leave m x.id (rec_of x) → (id : ℕ) → number_of t id ≡ Some n → GivesBack m (now_of o) id None (state number capacity limits view' keys t' next)
+      stays_gives : None ≡ last_leave m number x.id (rec_of x) → (id : ℕ) → number_of t id ≡ Some n → GivesBack m (now_of o) id None (state number capacity limits view' keys t' next)
       stays_gives leaves id named = subst (λ (a : ℕ). GivesBack m (now_of o) a None (state number capacity limits view' keys t' next)) (named_id t id n named x there) record {
         rec = rec_of x;
         there = slot_record m at keys t n x there;
@@ -77,7 +77,7 @@ module _ {K V P View C : Type 0} (m : Meaning K P View C) (laws : IsEquivalence 
       took_kept = stays_kept view (omega arith) took_after
 
       pub took_gives : (id : ℕ) → number_of t id ≡ Some n → GivesBack m (now_of o) id None (state number capacity limits view keys t' next)
-      took_gives = stays_gives view (omega arith) took_after (let gone : Event × Gone K V P = (Evict, record { id = x.id; kept = x.kept }) in
+      took_gives = stays_gives view (omega arith) took_after (let gone : Event × Gone K V P = (Evict, record { number = number; id = x.id; kept = x.kept }) in
           sym (ap (λ (b : Bool). cond (b && (not x.resident && is_phantom_record m x.kept)) (Some gone) None) not_one))
 
     -- it was the last one, of a record in the index
@@ -97,7 +97,7 @@ module _ {K V P View C : Type 0} (m : Meaning K P View C) (laws : IsEquivalence 
       released_kept = stays_kept view' (omega (arith, one)) released_after
 
       pub released_gives : (id : ℕ) → number_of t id ≡ Some n → GivesBack m (now_of o) id None (state number capacity limits view' keys t' next)
-      released_gives = stays_gives view' (omega (arith, one)) released_after (let gone : Event × Gone K V P = (Evict, record { id = x.id; kept = x.kept }) in
+      released_gives = stays_gives view' (omega (arith, one)) released_after (let gone : Event × Gone K V P = (Evict, record { number = number; id = x.id; kept = x.kept }) in
           sym (ap₂ (λ (a b : Bool). cond (a && (not b && is_phantom_record m x.kept)) (Some gone) None) is_one res))
 
       weight_same : IsKept m (now_of o) → weight_of (m.policy.order view') ≡ weight_of (m.policy.order view)

@@ -1,5 +1,5 @@
 -- A new record that is held and does not come into the index: what the fields stand for then.
-use Rattle.std.proofs.Common.{◌≡◌, ◌≢◌, ℕ, ◌+◌, ◌<◌, ◌≤◌, ◌⊎◌, inl, inr, Option, Some, None, Bool, true, false, true≢false, nat_eq, refl, sym, ◌∙◌, ap, subst, arith}
+use Rattle.std.proofs.Common.{◌≡◌, ◌≢◌, ℕ, ◌+◌, ◌<◌, ◌≤◌, ◌⊎◌, max, inl, inr, Option, Some, None, Bool, true, false, true≢false, nat_eq, refl, sym, ◌∙◌, ap, subst, arith}
 use Rattle.std.proofs.Math.Logic.{∥∥₁_map}
 use Rattle.std.specs.Prelude.{option_map, option_and_then, is_some}
 use Rattle.std.specs.Cmp.{IsEquivalence}
@@ -8,51 +8,50 @@ use Rattle.std.proofs.lemmas.Map.{update_here, update_apart}
 use Rattle.std.proofs.lemmas.Bool.Decides.{eqb_tells}
 use Rattle.foyer_policy.specs.Items.{count_of}
 use Rattle.foyer_policy.specs.Policy.{IsPolicy}
-use Rattle.foyer_core.specs.declared.record.Data.{Data}
 use Rattle.foyer_core.specs.declared.records.Records.{Records}
-use Rattle.foyer_core.specs.Values.{Kept, Rec}
+use Rattle.foyer_core.specs.Values.{Kept, Rec, Incoming}
 use Rattle.foyer_core.specs.Table.{rec_of}
 use Rattle.foyer_core.specs.Records.{slot_in, record_in, id_in}
 use Rattle.foyer_core.specs.State.{Meaning, State, IsKept}
 use Rattle.foyer_core.specs.Stored.{IsStored, state}
 use Rattle.foyer_core.specs.Steps.{after_hold}
-use Rattle.foyer_core.proofs.Pushing.{next_new}
+use Rattle.foyer_core.proofs.Pushing.{out_new}
 use Rattle.foyer_core.proofs.ShardLemmas.{Holding, now_of}
 use Rattle.foyer_core.proofs.States.{same_state}
 
 -- it keeps what a shard keeps
-module _ {K V P View C : Type 0} (m : Meaning K P View C) (s : State K V P View) (kept : IsKept m s) (d : Data K V P) where
+module _ {K V P View C : Type 0} (m : Meaning K P View C) (s : State K V P View) (kept : IsKept m s) (i : Incoming K V P) (out_of : (r : Rec K V P) → s.records i.id ≡ Some r → r.resident ≡ false) where
   abbrev held_record : Rec K V P
-  held_record = record { kept = d; handles = 1; resident = false }
+  held_record = record { kept = i.kept; handles = i.handles; resident = false }
 
-  record_was : (id : ℕ) (q : Rec K V P) → (after_hold m s d).records id ≡ Some q → ((id ≡ s.next) × (q ≡ held_record)) ⊎ ((id ≢ s.next) × (s.records id ≡ Some q))
-  record_was id q h = elim (eqb_tells id s.next) [
+  record_was : (id : ℕ) (q : Rec K V P) → (after_hold m s i).records id ≡ Some q → ((id ≡ i.id) × (q ≡ held_record)) ⊎ ((id ≢ i.id) × (s.records id ≡ Some q))
+  record_was id q h = elim (eqb_tells id i.id) [
     | inl e ↦ (let now : ◌≡◌ {A = Option (Rec K V P)} (Some held_record) (Some q) =
-        sym (update_here s.records s.next (Some held_record)) ∙ subst (λ (a : ℕ). (after_hold m s d).records a ≡ Some q) (e.1) h in inl (e.1, cc (now)))
-    | inr e ↦ inr (e.1, sym (update_apart s.records s.next (Some held_record) id e.1) ∙ h)
+        sym (update_here s.records i.id (Some held_record)) ∙ subst (λ (a : ℕ). (after_hold m s i).records a ≡ Some q) (e.1) h in inl (e.1, cc (now)))
+    | inr e ↦ inr (e.1, sym (update_apart s.records i.id (Some held_record) id e.1) ∙ h)
   ]
 
   out_is : (q : Rec K V P) → q ≡ held_record → q.resident ≡ true → ⊥
   out_is q is res = true≢false (sym res ∙ ap (λ (x : Rec K V P). x.resident) is)
 
-  pub hold_keeps : 1 ≤ s.limits.handles → IsKept m (after_hold m s d)
-  hold_keeps handles = record {
+  pub hold_keeps : 0 < i.handles → i.handles ≤ s.limits.handles → IsKept m (after_hold m s i)
+  hold_keeps held handles = record {
     once = kept.once;
-    placed = λ i h. (let old = kept.placed i h in
-        let apart : i.id ≢ s.next = (λ e. absurd (let f = kept.fresh i.id old.0 old.1 in omega arith)) in
-        (old.0, update_apart s.records s.next (Some held_record) i.id apart ∙ old.1, old.2, old.3, old.4));
+    placed = λ j h. (let old = kept.placed j h in
+        let apart : j.id ≢ i.id = (λ e. absurd (true≢false (sym old.2 ∙ out_of old.0 (ap s.records (sym e) ∙ old.1)))) in
+        (old.0, update_apart s.records i.id (Some held_record) j.id apart ∙ old.1, old.2, old.3, old.4));
     indexed = λ k id h. (let old = kept.indexed k id h in (
       old.0,
       λ q there. elim (record_was id q there) [
-        | inl f ↦ absurd (let none : count_of id (m.policy.order s.view) ≡ 0 = subst (λ (a : ℕ). count_of a (m.policy.order s.view) ≡ 0) (sym f.0) (next_new m s kept) in let pos = old.0 in omega arith)
+        | inl f ↦ absurd (let none : count_of id (m.policy.order s.view) ≡ 0 = subst (λ (a : ℕ). count_of a (m.policy.order s.view) ≡ 0) (sym f.0) (out_new m s kept i.id out_of) in let pos = old.0 in omega arith)
         | inr f ↦ old.1 q f.1
       ],
     ));
     resident = λ id q h res. elim (record_was id q h) [ inl f ↦ absurd (out_is q f.1 res) | inr f ↦ kept.resident id q f.1 res ];
     respects = kept.respects;
-    needed = λ id q h. elim (record_was id q h) [ inl f ↦ inr (rw (f.1) (omega arith)) | inr f ↦ kept.needed id q f.1 ];
+    needed = λ id q h. elim (record_was id q h) [ inl f ↦ inr (rw (f.1) held) | inr f ↦ kept.needed id q f.1 ];
     limited = λ id q h. elim (record_was id q h) [ inl f ↦ rw (f.1) handles | inr f ↦ kept.limited id q f.1 ];
-    pinned = λ id q h pos. elim (record_was id q h) [ inl f ↦ rw (f.1) (omega arith) | inr f ↦ kept.pinned id q f.1 pos ];
+    pinned = λ id q h pos. elim (record_was id q h) [ inl f ↦ rw (f.1) held | inr f ↦ kept.pinned id q f.1 pos ];
     plain = λ id q h res. elim (record_was id q h) [ inl f ↦ absurd (out_is q f.1 res) | inr f ↦ kept.plain id q f.1 res ];
     fresh = λ id q h. elim (record_was id q h) [ inl f ↦ omega (arith, f.0) | inr f ↦ omega (arith, kept.fresh id q f.1) ];
     fits = kept.fits;
@@ -61,7 +60,8 @@ module _ {K V P View C : Type 0} (m : Meaning K P View C) (s : State K V P View)
 module _ {K V P View C : Type 0} (m : Meaning K P View C) (o : Holding V m) where
   open o use {at, keys, t, number, capacity, limits, view, next, kept, stored}
 
-  module _ (d : Data K V P) (n : ℕ) (free : slot_in t n ≡ None) (x : Kept K V P) (x_is : x ≡ record { id = next; kept = d; handles = 1; resident = false; place = None })
+  module _ (i : Incoming K V P) (n : ℕ) (unled : (q : ℕ × K) (k : ℕ) → keys q ≡ Some k → k ≢ n)
+      (x : Kept K V P) (x_is : x ≡ record { id = i.id; kept = i.kept; handles = i.handles; resident = false; place = None })
       (t' : Records K V P) (slots : (q : ℕ) → slot_in t' q ≡ update nat_eq (slot_in t) n (Some x) q)
       (records : (id : ℕ) → record_in t' id ≡ update nat_eq (record_in t) x.id (Some (rec_of x)) id) where
     here : slot_in t' n ≡ Some x
@@ -70,16 +70,12 @@ module _ {K V P View C : Type 0} (m : Meaning K P View C) (o : Holding V m) wher
     other : (k : ℕ) → k ≢ n → slot_in t' k ≡ slot_in t k
     other k apart = slots k ∙ update_apart (slot_in t) n (Some x) k apart
 
-    -- no key leads to it
-    led_apart : (q : ℕ × K) (k : ℕ) → keys q ≡ Some k → k ≢ n
-    led_apart q k h e = (let l = stored.led q k h in let f : is_some (slot_in t k) ≡ false = ap is_some (ap (slot_in t) e ∙ free) in absurd cc)
-
     same_kept : (a b : Kept K V P) → Some a ≡ Some b → a ≡ b
     same_kept a b h = cc
 
     pub held_stored : IsStored m at keys t'
     held_stored = record {
-      led = λ q k h. ap is_some (other k (led_apart q k h)) ∙ stored.led q k h;
+      led = λ q k h. ap is_some (other k (unled q k h)) ∙ stored.led q k h;
       placed = λ k y h res. elim (eqb_tells k n) [
         | inl e ↦ (let is : x ≡ y = same_kept x y (sym here ∙ ap (slot_in t') (sym e.1) ∙ h) in
             absurd (true≢false (sym res ∙ ap (λ (z : Kept K V P). z.resident) (sym is ∙ x_is))))
@@ -91,11 +87,12 @@ module _ {K V P View C : Type 0} (m : Meaning K P View C) (o : Holding V m) wher
     held_hit q = go (keys q) refl where
       go : (w : Option ℕ) → keys q ≡ w → option_and_then (id_in t') w ≡ option_and_then (id_in t) w
       go None led = refl
-      go (Some k) led = ap (option_map (λ (s : Kept K V P). s.id)) (other k (led_apart q k led))
+      go (Some k) led = ap (option_map (λ (s : Kept K V P). s.id)) (other k (unled q k led))
 
-    pub held_after : state number capacity limits view keys t' (next + 1) ≡ after_hold m (now_of o) d
-    held_after = same_state (state number capacity limits view keys t' (next + 1)) (after_hold m (now_of o) d) refl refl refl refl held_hit
-        (λ id. records id ∙ ap (λ (y : Kept K V P). update nat_eq (record_in t) y.id (Some (rec_of y)) id) x_is) refl
+    module _ (next' : ℕ) (nexts : next' ≡ max next (i.id + 1)) where
+      pub held_after : state number capacity limits view keys t' next' ≡ after_hold m (now_of o) i
+      held_after = same_state (state number capacity limits view keys t' next') (after_hold m (now_of o) i) refl refl refl refl held_hit
+          (λ id. records id ∙ ap (λ (y : Kept K V P). update nat_eq (record_in t) y.id (Some (rec_of y)) id) x_is) nexts
 
-    pub held_kept : 1 ≤ limits.handles → ∥ IsKept m (state number capacity limits view keys t' (next + 1)) ∥₁
-    held_kept handles = ∥∥₁_map kept (λ k. subst (IsKept m) (sym held_after) (hold_keeps m (now_of o) k d handles))
+      pub held_kept : ((r : Rec K V P) → record_in t i.id ≡ Some r → r.resident ≡ false) → 0 < i.handles → i.handles ≤ limits.handles → ∥ IsKept m (state number capacity limits view keys t' next') ∥₁
+      held_kept out held handles = ∥∥₁_map kept (λ k. subst (IsKept m) (sym held_after) (hold_keeps m (now_of o) k i out held handles))

@@ -6,11 +6,12 @@ use Rattle.foyer_policy.specs.Items.{weight_of, count_of, IsNewIn, IsWithin, rem
 use Rattle.foyer_policy.specs.Policy.{IsPolicy, after_pops, evicted}
 use Rattle.foyer_policy.specs.declared.types.Item.{Item}
 use Rattle.foyer_policy.specs.declared.types.Event.{Event}
+use Rattle.foyer_policy.specs.declared.types.Source.{Source}
 use Rattle.foyer_policy.specs.declared.types.Event.TheVariants.{Evict, Replace}
 use Rattle.foyer_policy.proofs.ItemLemmas.{one_if}
 use Rattle.foyer_core.specs.declared.record.Data.{Data}
 use Rattle.foyer_core.specs.Indexer.{same_key}
-use Rattle.foyer_core.specs.Values.{Rec, Gone, Held}
+use Rattle.foyer_core.specs.Values.{Rec, Gone, Held, Incoming}
 use Rattle.foyer_core.specs.State.{Meaning, State, key_of, hit, without_own, is_phantom_record, usage_of, pinned_beside, IsKept}
 use Rattle.foyer_core.specs.Steps.{after_out, after_push, ids_of, Evicts, GivesWay, InsertsPlain}
 use Rattle.foyer_core.proofs.Found.{sum-removed}
@@ -111,40 +112,16 @@ module _ {K V P View C : Type 0} (m : Meaning K P View C) (laws : IsEquivalence 
     | inr low ↦ omega arith
   ]
 
-  module _ (old : State K V P View) (kept : IsKept m old) (d : Data K V P) (ls : List (Event × Gone K V P)) (entry : Held K V P) (new : State K V P View) (inserts : InsertsPlain m old d ls entry new) where
-    before_push : Rests m old inserts.last
-    before_push =
-        let one = rests (old.capacity - d.weight) old kept inserts.evictions inserts.mid inserts.evicts in
-        let two = gives_way_rests (inserts.mid.index (key_of d)) inserts.mid inserts.replaced inserts.last inserts.gives_way in
-        rests-rests m old inserts.mid inserts.last one two
-
+  module _ (source : Source) (old : State K V P View) (kept : IsKept m old) (inc : Incoming K V P) (ls : List (Event × Gone K V P)) (entry : Held K V P) (new : State K V P View) (inserts : InsertsPlain m source old inc ls entry new) where
     -- the usage is within the capacity, or is that of the record and of what was pinned
-    pub usage_after : usage_of m new ≤ max old.capacity (d.weight + weight_of (m.policy.pinned old.view))
+    pub usage_after : usage_of m new ≤ max old.capacity (inc.kept.weight + weight_of (m.policy.pinned old.view))
     usage_after =
-        let same : usage_of m new ≡ d.weight + usage_of m inserts.last = ap (usage_of m) inserts.after ∙ push_weight m laws good inserts.last d in
-        elim (left_over (old.capacity - d.weight) old kept inserts.evictions inserts.mid inserts.evicts (key_of d) inserts.replaced inserts.last inserts.gives_way) [
+        let same : usage_of m new ≡ inc.kept.weight + usage_of m inserts.last = ap (usage_of m) inserts.after ∙ push_weight m laws good inserts.last inc in
+        elim (left_over (old.capacity - inc.kept.weight) old kept inserts.evictions inserts.mid inserts.evicts (key_of inc.kept) inserts.replaced inserts.last inserts.gives_way) [
           | inl low ↦ omega arith
-          | inr low ↦ omega (arith, beside (old.index (key_of d)))
+          | inr low ↦ omega (arith, beside (old.index (key_of inc.kept)))
         ]
       where
         beside : (o : Option ℕ) → weight_of (without_own o (m.policy.pinned old.view)) ≤ weight_of (m.policy.pinned old.view)
         beside None = omega arith
         beside (Some id) = sum-removed (λ (i : Item). i.weight) id (m.policy.pinned old.view)
-
-    -- the key hits the new record
-    pub found_after : (hit new (key_of d) ≡ Some old.next) × (new.records old.next ≡ Some record { kept = d; handles = 1; resident = true })
-    found_after =
-        let n : inserts.last.next ≡ old.next = before_push.next in
-        let one : Rec K V P = record { kept = d; handles = 1; resident = true } in
-        subst (λ (s : State K V P View). (hit s (key_of d) ≡ Some old.next) × (s.records old.next ≡ Some one)) (sym inserts.after)
-        (subst (λ (a : ℕ). (hit (after_push m inserts.last d) (key_of d) ≡ Some a) × ((after_push m inserts.last d).records a ≡ Some one)) n
-        (rw ((same_key_laws m.same laws).refl (key_of d)), update_here inserts.last.records inserts.last.next (Some one)))
-
-    -- and what a shard keeps is kept
-    pub inserts_keeps : is_phantom_record m d ≡ false → d.weight + pinned_beside m old (key_of d) < 2 ^ 64 → old.capacity < 2 ^ 64 → d.weight < 2 ^ 64 → 1 ≤ old.limits.handles → IsKept m new
-    inserts_keeps plain room capacity weight handles =
-        let mid_is = mid_kept (old.capacity - d.weight) old kept inserts.evictions inserts.mid inserts.evicts in
-        let last_is = gives_way_keeps inserts.mid mid_is (key_of d) inserts.replaced inserts.last inserts.gives_way in
-        let fits = fits_after old kept d inserts.evictions inserts.mid inserts.evicts inserts.replaced inserts.last inserts.gives_way room capacity weight in
-        let limit : 1 ≤ inserts.last.limits.handles = rw before_push.limits handles in
-        subst (IsKept m) (sym inserts.after) (push_keeps m laws good inserts.last last_is.0 d last_is.1 plain fits limit)

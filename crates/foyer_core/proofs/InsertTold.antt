@@ -8,17 +8,18 @@ use Rattle.foyer_policy.specs.declared.error.Reason.{Reason}
 use Rattle.foyer_policy.specs.declared.error.Reason.TheVariants.{Ids, Handles, Weight, NoMemory}
 use Rattle.foyer_policy.specs.declared.types.Event.{Event}
 use Rattle.foyer_policy.specs.declared.types.Event.TheVariants.{Remove}
+use Rattle.foyer_policy.specs.declared.types.Source.{Source}
 use Rattle.foyer_core.specs.declared.record.Data.{Data}
 use Rattle.foyer_core.specs.Indexer.{same_key}
 use Rattle.foyer_core.specs.Observed.{after_leave, after_leaves, after_entry}
 use Rattle.foyer_core.specs.State.{Meaning, State, IsKept, AllData, key_of, is_phantom_record}
-use Rattle.foyer_core.specs.Steps.{Inserts, InsertsBy, InsertsPhantom, InsertsPlain, RefusesBy, RefusesInsert}
+use Rattle.foyer_core.specs.Steps.{Inserts, InsertsBy, InsertsPhantom, InsertsPlain, RefusesBy, RefusesInsert, newcomer}
 use Rattle.foyer_core.specs.Values.{Gone, Held}
 use Rattle.foyer_core.proofs.Emplaced.{evicts_rests}
-use Rattle.foyer_core.proofs.LeaveLemmas.{Rests, rests-rests, evicts_keeps}
+use Rattle.foyer_core.proofs.InsertLemmas.{gives_way_rests}
+use Rattle.foyer_core.proofs.LeaveLemmas.{Rests, evicts_keeps}
 use Rattle.foyer_core.proofs.Observing.{BelongsAt, Knows, Tells, known_key, leave_unknown, leaves_append, stays_told, tells_same, tells_then, write_apart, write_knows}
 use Rattle.foyer_core.proofs.ShardTold.{ToldBy, evicting_told, evicts_told, same_index, same_told, stands, way_told}
-use Rattle.foyer_core.proofs.Staying.{way_rests}
 
 module _ {K V P View C : Type 0} (m : Meaning K P View C) (laws : IsEquivalence m.same) (good : IsPolicy m.policy)
     (hash : K → ℕ) (equal : (a b : K) → m.same a b ≡ true → hash a ≡ hash b) (many place : ℕ) where
@@ -40,13 +41,10 @@ module _ {K V P View C : Type 0} (m : Meaning K P View C) (laws : IsEquivalence 
       tells_same m laws hash equal many place u f (after_leaves m.same (after_leaves m.same f ls) more) (after_leaves m.same f (ls ++ more)) (leaves_append m.same f ls more)
       (tells_then m laws hash equal many place t u f (after_leaves m.same f ls) (after_leaves m.same (after_leaves m.same f ls) more) one two)
 
-  module _ (s : State K V P View) (d : Data K V P) (ls : List (Event × Gone K V P)) (entry : Held K V P) (t : State K V P View) (kept : ∥ IsKept m s ∥₁) (at : AllData At s) (comes : At d) where
-    module _ (h : InsertsPlain m s d ls entry t) where
+  module _ (source : Source) (s : State K V P View) (d : Data K V P) (ls : List (Event × Gone K V P)) (entry : Held K V P) (t : State K V P View) (kept : ∥ IsKept m s ∥₁) (at : AllData At s) (comes : At d) where
+    module _ (h : InsertsPlain m source s (newcomer s d) ls entry t) where
       rests_mid : Rests m s h.mid
-      rests_mid = evicts_rests m s d (s.capacity - d.weight) h.evictions h.mid h.evicts
-
-      rests_last : Rests m s h.last
-      rests_last = rests-rests m s h.mid h.last rests_mid (way_rests m (h.mid.index (key_of d)) h.mid h.replaced h.last h.gives_way)
+      rests_mid = evicts_rests m s (newcomer s d) (s.capacity - d.weight) h.evictions h.mid h.evicts
 
       before_entry : ToldBy m laws good hash equal many place s ls h.last
       before_entry =
@@ -61,7 +59,7 @@ module _ {K V P View C : Type 0} (m : Meaning K P View C) (laws : IsEquivalence 
           let told = before_entry f knows in
           let g = after_leaves m.same f ls in
           let write : (q : ℕ × K) → t.index q ≡ update (same_key m.same) h.last.index (key_of d) (Some s.next) q =
-          (λ q. ap (λ (x : State K V P View). x.index q) h.after ∙ ap (λ (n : ℕ). update (same_key m.same) h.last.index (key_of d) (Some n) q) rests_last.next) in
+          λ q. ap (λ (x : State K V P View). x.index q) h.after in
           subst (λ (e : Held K V P). Tells m laws hash equal many place t f (after_entry m.same m.phantom g e.id e.kept)) (sym h.entry_is)
           (tells_same m laws hash equal many place t f (update m.same g d.key (Some s.next)) (after_entry m.same m.phantom g s.next d) (λ k. rw plain refl)
           (tells_then m laws hash equal many place h.last t f g (update m.same g d.key (Some s.next)) told record {
@@ -69,17 +67,17 @@ module _ {K V P View C : Type 0} (m : Meaning K P View C) (laws : IsEquivalence 
             apart = write_apart m laws hash equal many place h.last g told.knows d comes (Some s.next);
           }))
 
-    module _ (h : InsertsPhantom m s d ls entry t) where
+    module _ (h : InsertsPhantom m source s (newcomer s d) ls entry t) where
       rests_way : Rests m s h.last
-      rests_way = way_rests m (s.index (key_of d)) s h.replaced h.last h.gives_way
+      rests_way = gives_way_rests m laws good (s.index (key_of d)) s h.replaced h.last h.gives_way
 
       -- a phantom one is told as a leave, of an id that nobody knows
       phantom_leaves : ToldBy m laws good hash equal many place s ls t
       phantom_leaves =
           let first = way_told m laws good hash equal many place s h.replaced h.last kept at (key_of d) (s.index (key_of d)) refl h.gives_way in
           subst (λ (l : List (Event × Gone K V P)). ToldBy m laws good hash equal many place s l t) (sym h.leaves)
-          (told_then s h.last t h.replaced ((Remove, record { id = s.next; kept = d }) ∷ []) first (λ g knows.
-          tells_same m laws hash equal many place t g g (after_leave m.same g (record { id = s.next; kept = d })) (leave_unknown m.same g (record { id = s.next; kept = d }) (new_id g knows))
+          (told_then s h.last t h.replaced ((Remove, record { number = s.number; id = s.next; kept = d }) ∷ []) first (λ g knows.
+          tells_same m laws hash equal many place t g g (after_leave m.same g (record { number = s.number; id = s.next; kept = d })) (leave_unknown m.same g (record { number = s.number; id = s.next; kept = d }) (new_id g knows))
           (stays_told m laws hash equal many place h.last t g (λ q. ap (λ (x : State K V P View). x.index q) h.after) knows)))
         where
           new_id : (g : K → Option ℕ) → Knows m laws hash equal many place h.last g → g d.key ≢ Some s.next
@@ -94,19 +92,19 @@ module _ {K V P View C : Type 0} (m : Meaning K P View C) (laws : IsEquivalence 
           subst (λ (e : Held K V P). Tells m laws hash equal many place t f (after_entry m.same m.phantom g e.id e.kept)) (sym h.entry_is)
           (tells_same m laws hash equal many place t f g (after_entry m.same m.phantom g s.next d) (λ k. rw phantom refl) (phantom_leaves f knows))
 
-    pub inserts_told : Inserts m s d ls entry t → ToldWith s ls entry.id entry.kept t
+    pub inserts_told : Inserts m source s (newcomer s d) ls entry t → ToldWith s ls entry.id entry.kept t
     inserts_told h = go (is_phantom_record m d) refl h where
-      go : (b : Bool) → is_phantom_record m d ≡ b → InsertsBy m b s d ls entry t → ToldWith s ls entry.id entry.kept t
+      go : (b : Bool) → is_phantom_record m d ≡ b → InsertsBy m b source s (newcomer s d) ls entry t → ToldWith s ls entry.id entry.kept t
       go true is h = phantom_told h is
       go false is h = plain_told h is
 
   module _ (s : State K V P View) (d : Data K V P) (ls : List (Event × Gone K V P)) (t : State K V P View) (kept : ∥ IsKept m s ∥₁) (at : AllData At s) where
-    refuses_by : (b : Bool) (reason : Reason) → RefusesBy m b s d reason ls t → ToldBy m laws good hash equal many place s ls t
+    refuses_by : (b : Bool) (reason : Reason) → RefusesBy m b s (newcomer s d) reason ls t → ToldBy m laws good hash equal many place s ls t
     refuses_by b reason h = go b reason h where
       nothing : ls ≡ [] → t ≡ s → ToldBy m laws good hash equal many place s ls t
       nothing none same = subst (λ (l : List (Event × Gone K V P)). ToldBy m laws good hash equal many place s l t) (sym none) (same_told m laws good hash equal many place s t (same_index s t same))
 
-      go : (b : Bool) (reason : Reason) → RefusesBy m b s d reason ls t → ToldBy m laws good hash equal many place s ls t
+      go : (b : Bool) (reason : Reason) → RefusesBy m b s (newcomer s d) reason ls t → ToldBy m laws good hash equal many place s ls t
       go true Ids h = nothing h.1 h.2
       go true Handles h = nothing h.2 h.3
       go true NoMemory h = nothing h.1 h.2
@@ -117,5 +115,5 @@ module _ {K V P View C : Type 0} (m : Meaning K P View C) (laws : IsEquivalence 
       go false NoMemory h = evicting_told m laws good hash equal many place s ls t kept at (s.capacity - d.weight) h.1
       go false _ h = absurd h
 
-    pub refuses_told : (reason : Reason) → RefusesInsert m s d reason ls t → ToldBy m laws good hash equal many place s ls t
+    pub refuses_told : (reason : Reason) → RefusesInsert m s (newcomer s d) reason ls t → ToldBy m laws good hash equal many place s ls t
     refuses_told reason h = refuses_by (is_phantom_record m d) reason h

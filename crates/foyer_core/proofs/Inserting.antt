@@ -9,12 +9,12 @@ use Rattle.foyer_policy.specs.declared.types.Event.{Event}
 use Rattle.foyer_policy.specs.declared.types.Location.{Location}
 use Rattle.foyer_policy.specs.declared.error.Reason.{Reason}
 use Rattle.foyer_policy.specs.declared.error.Reason.TheVariants.{Ids, Handles, NoMemory}
-use Rattle.foyer_policy.specs.declared.types.Source.TheVariants.{Outer}
+use Rattle.foyer_policy.specs.declared.types.Source.{Source}
 use Rattle.foyer_core.specs.declared.record.Data.{Data}
-use Rattle.foyer_core.specs.Values.{Rec, Gone, Held}
+use Rattle.foyer_core.specs.Values.{Gone, Held, Incoming}
 use Rattle.foyer_core.specs.State.{Meaning, State, IsKept, key_of, is_on_disk, coming_in, MakesPlain, is_phantom_record}
-use Rattle.foyer_core.specs.Steps.{after_hold, entry_of, Inserts, InsertsBy, InsertsPlain, RefusesBy}
-use Rattle.foyer_core.proofs.Staying.{RecordsStay, nothing, stay_same, stay_then, way_stays, way_rests, inserts_stay, refused_insert_stays}
+use Rattle.foyer_core.specs.Steps.{newcomer, Inserts, InsertsBy, InsertsPlain, RefusesBy}
+use Rattle.foyer_core.proofs.Staying.{RecordsStay, GoesOnAs, nothing, stay_same, new_goes_on, holds_stay, inserts_stay, refused_insert_stays}
 
 -- properties that make a plain record come in as they are
 pub comes_same : {P : Type 0} (phantom : P → Option Bool) (location : P → Option Location) (with_phantom : P → Bool → P) (p : P)
@@ -22,36 +22,28 @@ pub comes_same : {P : Type 0} (phantom : P → Option Bool) (location : P → Op
 comes_same {P} phantom location with_phantom p h = ap (λ (b : Bool). if b then with_phantom p true else p) h.1
 
 module _ {K V P View C : Type 0} (m : Meaning K P View C) where
-  hold_stays : (old : State K V P View) (d : Data K V P) → ((id : ℕ) (r : Rec K V P) → old.records id ≡ Some r → id < old.next) → RecordsStay nothing old (after_hold m old d)
-  hold_stays old d below id r there less =
-      let apart : id ≢ old.next = (λ e. absurd (let b = below id r there in omega arith)) in
-      (r, update_apart old.records old.next (Some (record { kept = d; handles = 1; resident = false })) id apart ∙ there, refl, omega arith)
+  pub inserted_stays : (b : Bool) (source : Source) (old : State K V P View) (inc : Incoming K V P) (ls : List (Event × Gone K V P)) (entry : Held K V P) (new : State K V P View) → InsertsBy m b source old inc ls entry new
+      → GoesOnAs old inc → RecordsStay nothing old new
+  inserted_stays true source old inc ls entry new h same = holds_stay m old inc new h.replaced h.last h.gives_way h.after same
+  inserted_stays false source old inc ls entry new h same = inserts_stay m source old inc ls entry new h same
 
-  pub inserted_stays : (b : Bool) (old : State K V P View) (d : Data K V P) (ls : List (Event × Gone K V P)) (entry : Held K V P) (new : State K V P View) → InsertsBy m b old d ls entry new
-      → ((id : ℕ) (r : Rec K V P) → old.records id ≡ Some r → id < old.next) → RecordsStay nothing old new
-  inserted_stays true old d ls entry new h below =
-      let rests = way_rests m (old.index (key_of d)) old h.replaced h.last h.gives_way in
-      subst (RecordsStay nothing old) (sym h.after)
-      (stay_then nothing old h.last (after_hold m h.last d) (way_stays m (old.index (key_of d)) old h.replaced h.last h.gives_way)
-      (hold_stays h.last d (λ id r there. let o = rests.records id r there in rw rests.next (below id o.0 o.1))))
-  inserted_stays false old d ls entry new h below = inserts_stay m old d ls entry new h below
-
-  pub refused_stay : (b : Bool) (old : State K V P View) (d : Data K V P) (reason : Reason) (ls : List (Event × Gone K V P)) (new : State K V P View) → RefusesBy m b old d reason ls new
+  pub refused_stay : (b : Bool) (old : State K V P View) (inc : Incoming K V P) (reason : Reason) (ls : List (Event × Gone K V P)) (new : State K V P View) → RefusesBy m b old inc reason ls new
       → RecordsStay nothing old new
-  refused_stay true old d Ids ls new h = stay_same old new h.2
-  refused_stay true old d Handles ls new h = stay_same old new h.3
-  refused_stay true old d NoMemory ls new h = stay_same old new h.2
-  refused_stay true old d _ ls new h = absurd h
-  refused_stay false old d reason ls new h = refused_insert_stays m old d reason ls new h
+  refused_stay true old inc Ids ls new h = stay_same old new h.2
+  refused_stay true old inc Handles ls new h = stay_same old new h.3
+  refused_stay true old inc NoMemory ls new h = stay_same old new h.2
+  refused_stay true old inc _ ls new h = absurd h
+  refused_stay false old inc reason ls new h = refused_insert_stays m old inc reason ls new h
 
-  -- the records of a shard stay where one comes in
-  pub came_stays : (old new : State K V P View) (d : Data K V P) (ls : List (Event × Gone K V P)) (entry : Held K V P) → ∥ IsKept m old ∥₁ → Inserts m old d ls entry new → RecordsStay nothing old new
-  came_stays old new d ls entry kept h = inserted_stays (is_phantom_record m d) old d ls entry new h (λ id r there. ∥∥₁_elim kept (hlevel props) (λ k. k.fresh id r there))
+  -- the records of a shard stay where a new one comes in
+  pub came_stays : (source : Source) (old new : State K V P View) (d : Data K V P) (ls : List (Event × Gone K V P)) (entry : Held K V P) → ∥ IsKept m old ∥₁ → Inserts m source old (newcomer old d) ls entry new → RecordsStay nothing old new
+  came_stays source old new d ls entry kept h =
+      inserted_stays (is_phantom_record m d) source old (newcomer old d) ls entry new h (new_goes_on old d (λ id r there. ∥∥₁_elim kept (hlevel props) (λ k. k.fresh id r there)))
 
   -- a plain record comes in as one
   pub came_plain : (location : P → Option Location) (with_phantom : P → Bool → P) (admitted : Bool) (p : P) → MakesPlain m.phantom location p → admitted ≡ true
-      → (old new : State K V P View) (d : Data K V P) (ls : List (Event × Gone K V P)) (entry : Held K V P) → d.properties ≡ coming_in location with_phantom admitted p → Inserts m old d ls entry new
-      → InsertsPlain m old d ls entry new
-  came_plain location with_phantom admitted p plain sure old new d ls entry is h =
-      let same : is_phantom_record m d ≡ false = ap (λ (q : P). is_phantom (m.phantom q)) (is ∙ ap (λ (b : Bool). coming_in location with_phantom b p) sure ∙ comes_same m.phantom location with_phantom p plain) ∙ plain.0 in
-      subst (λ (b : Bool). InsertsBy m b old d ls entry new) same h
+      → (source : Source) (old new : State K V P View) (inc : Incoming K V P) (ls : List (Event × Gone K V P)) (entry : Held K V P) → inc.kept.properties ≡ coming_in location with_phantom admitted p → Inserts m source old inc ls entry new
+      → InsertsPlain m source old inc ls entry new
+  came_plain location with_phantom admitted p plain sure source old new inc ls entry is h =
+      let same : is_phantom_record m inc.kept ≡ false = ap (λ (q : P). is_phantom (m.phantom q)) (is ∙ ap (λ (b : Bool). coming_in location with_phantom b p) sure ∙ comes_same m.phantom location with_phantom p plain) ∙ plain.0 in
+      subst (λ (b : Bool). InsertsBy m b source old inc ls entry new) same h

@@ -11,7 +11,7 @@ use Rattle.foyer_policy.specs.declared.types.Item.{Item}
 use Rattle.foyer_policy.proofs.ItemLemmas.{one_if, found-id, found-where, sum-remove_id}
 use Rattle.foyer_core.specs.declared.record.Data.{Data}
 use Rattle.foyer_core.specs.Indexer.{same_key}
-use Rattle.foyer_core.specs.Values.{Rec}
+use Rattle.foyer_core.specs.Values.{Rec, Incoming}
 use Rattle.foyer_core.specs.State.{Meaning, State, key_of, item_of, is_phantom_record, usage_of, hit, IsKept}
 use Rattle.foyer_core.specs.Steps.{after_out, after_push, after_get, after_give_back}
 use Rattle.foyer_core.proofs.Found.{sum-removed}
@@ -86,15 +86,15 @@ module _ {K V P View C : Type 0} (m : Meaning K P View C) (laws : IsEquivalence 
           let e : count_of j (m.policy.pinned (m.policy.remove s.view id)) ≡ count_of j (remove_id id (m.policy.pinned s.view)) = ap (count_of j) (good.remove_pinned s.view id kept.once) in
           omega (arith, sum-removed (one_if j) id (m.policy.pinned s.view))) k under
 
-  pub push_new : (s : State K V P View) → IsKept m s → IsNewIn s.next (m.policy.order s.view)
-  push_new s kept = pushing.next_new m s kept
+  pub push_new : (s : State K V P View) → IsKept m s → (i : Incoming K V P) → ((r : Rec K V P) → s.records i.id ≡ Some r → r.resident ≡ false) → IsNewIn i.id (m.policy.order s.view)
+  push_new s kept i out = pushing.out_new m s kept i.id out
 
-  pub push_keeps : (s : State K V P View) → IsKept m s → (d : Data K V P) → s.index (key_of d) ≡ None → is_phantom_record m d ≡ false
-      → usage_of m s + d.weight < 2 ^ 64 → 1 ≤ s.limits.handles → IsKept m (after_push m s d)
-  push_keeps s kept d absent plain room handles = pushing.push_keeps m laws good s kept d absent plain room handles
+  pub push_keeps : (s : State K V P View) → IsKept m s → (i : Incoming K V P) → ((r : Rec K V P) → s.records i.id ≡ Some r → r.resident ≡ false) → s.index (key_of i.kept) ≡ None
+      → is_phantom_record m i.kept ≡ false → usage_of m s + i.kept.weight < 2 ^ 64 → 0 < i.handles → i.handles ≤ s.limits.handles → IsKept m (after_push m s i)
+  push_keeps s kept i out absent plain room held handles = pushing.push_keeps m laws good s kept i out absent plain room held handles
 
-  pub push_weight : (s : State K V P View) (d : Data K V P) → usage_of m (after_push m s d) ≡ d.weight + usage_of m s
-  push_weight s d = sum_by_pushed (λ (j : Item). j.weight) (item_of m s.next d) (m.policy.order s.view) (m.policy.order (m.policy.push s.view (item_of m s.next d))) (good.push_order s.view (item_of m s.next d))
+  pub push_weight : (s : State K V P View) (i : Incoming K V P) → usage_of m (after_push m s i) ≡ i.kept.weight + usage_of m s
+  push_weight s i = sum_by_pushed (λ (j : Item). j.weight) (item_of m i.id i.kept) (m.policy.order s.view) (m.policy.order (m.policy.push s.view (item_of m i.id i.kept))) (good.push_order s.view (item_of m i.id i.kept))
 
   -- acquire pins no other record
   acquired_pins : (s : State K V P View) → IsKept m s → (id j : ℕ) → j ≢ id → 0 < count_of j (m.policy.pinned (m.policy.acquire s.view id)) → 0 < count_of j (m.policy.pinned s.view)

@@ -8,17 +8,17 @@ use Rattle.foyer_policy.specs.Items.{weight_of}
 use Rattle.foyer_policy.specs.Policy.{IsPolicy, pops, after_pops, evicted}
 use Rattle.foyer_policy.specs.declared.types.Item.{Item}
 use Rattle.foyer_policy.specs.declared.types.Event.{Event}
-use Rattle.foyer_policy.specs.declared.types.Event.TheVariants.{Evict}
+use Rattle.foyer_policy.specs.declared.types.Event.TheVariants.{Evict, Replace}
 use Rattle.foyer_core.specs.Indexer.{same_key}
 use Rattle.foyer_core.specs.Values.{Rec, Gone}
 use Rattle.foyer_core.specs.State.{Meaning, State, key_of, IsKept}
-use Rattle.foyer_core.specs.Steps.{outside, after_out, ids_of, Leave, Evicting, Evicts}
+use Rattle.foyer_core.specs.Steps.{outside, after_out, ids_of, Leave, GivesWay, Evicting, Evicts}
 use Rattle.foyer_core.proofs.Keeps.{popped_keeps}
 use Rattle.foyer_core.proofs.Leaving.{outside_is}
 use Rattle.foyer_core.proofs.Popped.{pops_first, until_begins}
 
 -- what a leave leaves in the index was there
-taken_from : {A : Type 0} (eq : A → A → Bool) (f : A → Option ℕ) (k q : A) (b : ℕ) → update eq f k None q ≡ Some b → f q ≡ Some b
+pub taken_from : {A : Type 0} (eq : A → A → Bool) (f : A → Option ℕ) (k q : A) (b : ℕ) → update eq f k None q ≡ Some b → f q ≡ Some b
 taken_from eq f k q b h = go (eq k q) refl where
   go : (t : Bool) → eq k q ≡ t → f q ≡ Some b
   go true is = let e : ◌≡◌ {A = Option ℕ} None (Some b) = rw is at h in absurd cc
@@ -71,6 +71,26 @@ module _ {K V P View C : Type 0} (m : Meaning K P View C) where
   leave-rests e [] old (l ∷ ls) v new h = absurd h
   leave-rests e (i ∷ ids) old [] v new h = absurd h
   leave-rests e (i ∷ ids) old (l ∷ ls) v new h = rests-rests old (after_out m old i h.0) new (out_rests old i h.0 h.1) (leave-rests e ids (after_out m old i h.0) ls v new h.3)
+
+  -- what is not in the index does not come into it
+  out_out : (s : State K V P View) (i : ℕ) (r : Rec K V P) (id : ℕ) → ((q : Rec K V P) → s.records id ≡ Some q → q.resident ≡ false) → (q : Rec K V P) → (after_out m s i r).records id ≡ Some q → q.resident ≡ false
+  out_out s i r id out q h = elim (eqb_tells id i) [
+    | inl e ↦ (let now : outside r ≡ Some q = sym (update_here s.records i (outside r)) ∙ subst (λ (a : ℕ). (after_out m s i r).records a ≡ Some q) (e.1) h in
+        ap (λ (x : Rec K V P). x.resident) (outside_is r q now).1)
+    | inr e ↦ out q (sym (update_apart s.records i (outside r) id e.1) ∙ h)
+  ]
+
+  pub leave-out : (e : Event) (ids : List ℕ) (old : State K V P View) (ls : List (Event × Gone K V P)) (v : View) (new : State K V P View) → Leave m e ids old ls v new
+      → (id : ℕ) → ((r : Rec K V P) → old.records id ≡ Some r → r.resident ≡ false) → (r : Rec K V P) → new.records id ≡ Some r → r.resident ≡ false
+  leave-out e [] old [] v new h id out r there = out r (sym (ap (λ (s : State K V P View). s.records id) h) ∙ there)
+  leave-out e [] old (l ∷ ls) v new h id out r there = absurd h
+  leave-out e (i ∷ ids) old [] v new h id out r there = absurd h
+  leave-out e (i ∷ ids) old (l ∷ ls) v new h id out r there = leave-out e ids (after_out m old i h.0) ls v new h.3 id (out_out old i h.0 id out) r there
+
+  pub way-out : (o : Option ℕ) (old : State K V P View) (ls : List (Event × Gone K V P)) (new : State K V P View) → GivesWay m o old ls new
+      → (id : ℕ) → ((r : Rec K V P) → old.records id ≡ Some r → r.resident ≡ false) → (r : Rec K V P) → new.records id ≡ Some r → r.resident ≡ false
+  way-out None old ls new h id out r there = out r (sym (ap (λ (s : State K V P View). s.records id) h.1) ∙ there)
+  way-out (Some i) old ls new h id out r there = leave-out Replace (i ∷ []) old ls (m.policy.remove old.view i) new h id out r there
 
   pub leave-view : (e : Event) (ids : List ℕ) (old : State K V P View) (ls : List (Event × Gone K V P)) (v : View) (new : State K V P View) → Leave m e ids old ls v new → new.view ≡ v
   leave-view e [] old [] v new h = ap (λ (s : State K V P View). s.view) h

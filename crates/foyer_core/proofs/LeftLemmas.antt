@@ -123,7 +123,7 @@ module _ {K V P View C : Type 0} (m : Meaning K P View C) (laws : IsEquivalence 
 
     module _ (n : ℕ) (x : Kept K V P) (found : number_of t i.id ≡ Some n) (there : slot_in t n ≡ Some x) where
       abbrev pub record_gone : ℕ → Gone K V P
-      record_gone id = record { id = id; kept = x.kept }
+      record_gone id = record { number = number; id = id; kept = x.kept }
 
       pub victim_id : x.id ≡ i.id
       victim_id = some_one x.id i.id (sym (id_by-some (slot_in t) n x there) ∙ t.agree.named i.id n found)

@@ -5,6 +5,7 @@ pub mod Cloned
 pub mod CoreLaws
 pub mod CoreLemmas
 pub mod CoreTold
+pub mod Counting
 pub mod DrainLemmas
 pub mod Emplaced
 pub mod Evictions

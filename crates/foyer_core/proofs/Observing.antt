@@ -125,10 +125,10 @@ module _ {K V P View C : Type 0} (m : Meaning K P View C) (laws : IsEquivalence 
 
   -- a record that leaves, which was in the index under its key
   pub out_told : (place : ℕ) (s : State K V P View) (f : K → Option ℕ) → Knows place s f → (id : ℕ) (r : Rec K V P) → s.index (key_of r.kept) ≡ Some id → BelongsAt place r.kept
-      → Tells place (after_out m s id r) f (after_leave m.same f (gone_of id r))
+      → Tells place (after_out m s id r) f (after_leave m.same f (gone_of s.number id r))
   out_told place s f knows id r under at =
-      tells_same place (after_out m s id r) f (update m.same f r.kept.key None) (after_leave m.same f (gone_of id r))
-      (leave_known m.same f (gone_of id r) (known_key place s f knows r.kept at ∙ under))
+      tells_same place (after_out m s id r) f (update m.same f r.kept.key None) (after_leave m.same f (gone_of s.number id r))
+      (leave_known m.same f (gone_of s.number id r) (known_key place s f knows r.kept at ∙ under))
       record { knows = write_knows place s f knows r.kept at None (after_out m s id r) (λ q. refl); apart = write_apart place s f knows r.kept at None }
 
   -- of these items each stands in the index under its record's key

@@ -12,6 +12,7 @@ use Rattle.std.proofs.lemmas.Slice.Zip.{AllZip-long}
 use Rattle.foyer_policy.specs.Policy.{after_pops, after_all_pops, pops, evicted, removed}
 use Rattle.foyer_policy.specs.declared.types.Event.{Event}
 use Rattle.foyer_policy.specs.declared.types.Event.TheVariants.{Evict, Replace, Remove, Clear}
+use Rattle.foyer_policy.specs.declared.types.Source.{Source}
 use Rattle.foyer_policy.specs.declared.error.Reason.{Reason}
 use Rattle.foyer_policy.specs.declared.error.Reason.TheVariants.{Ids, Handles, Weight, NoMemory}
 use Rattle.foyer_core.specs.declared.config.RawCacheConfig.{RawCacheConfig}
@@ -20,8 +21,8 @@ use Rattle.foyer_core.specs.Bulk.{GoesOn, EvictsUnpinned, EvictingUnpinned, Clea
 use Rattle.foyer_core.specs.Core.{AreNewShards, Belong, share_of}
 use Rattle.foyer_core.specs.CoreBulk.{InTurn, InTurnUntil, SharesOut, EvictsToCapacity, EvictingToCapacity}
 use Rattle.foyer_core.specs.State.{Meaning, State, key_of, is_phantom_record}
-use Rattle.foyer_core.specs.Steps.{after_push, after_hold, after_get, after_handle, after_give_back, ids_of, Leave, GivesWay, Inserts, InsertsBy, RefusesBy, RefusesPlain, RefusesInsert, Gets, GivesBack, Touches, Removes, ClonesHandle, RefusesHandle}
-use Rattle.foyer_core.specs.Values.{Rec, Gone, Held}
+use Rattle.foyer_core.specs.Steps.{after_push, after_hold, after_get, after_handle, after_give_back, ids_of, Leave, GivesWay, Inserts, InsertsBy, RefusesBy, RefusesPlain, RefusesInsert, Gets, GivesBack, Touches, Removes, ClonesHandle, RefusesHandle, newcomer}
+use Rattle.foyer_core.specs.Values.{Rec, Gone, Held, Incoming}
 use Rattle.foyer_core.proofs.CoreLemmas.{set_here, set_apart}
 use Rattle.foyer_core.proofs.LeaveLemmas.{leave-rests}
 use Rattle.foyer_core.proofs.TurnLaws.{turn-keeps, until-keeps, shares-keep}
@@ -137,41 +138,41 @@ module _ {K V P View : Type 0} (New : Data K V P → Type 0) where
     way_from None old ls new h = from_same old new h.1
     way_from (Some id) old ls new h = leave_from Replace (id ∷ []) old ls (m.policy.remove old.view id) new h
 
-    inserted_from : (b : Bool) (old : State K V P View) (d : Data K V P) (ls : List (Event × Gone K V P)) (entry : Held K V P) (new : State K V P View) → InsertsBy m b old d ls entry new → New d
+    inserted_from : (b : Bool) (source : Source) (old : State K V P View) (inc : Incoming K V P) (ls : List (Event × Gone K V P)) (entry : Held K V P) (new : State K V P View) → InsertsBy m b source old inc ls entry new → New inc.kept
         → RecordsFrom old new
-    inserted_from true old d ls entry new h so =
-        from_then old h.last new (way_from (old.index (key_of d)) old h.replaced h.last h.gives_way)
-        (subst (RecordsFrom h.last) (sym h.after) (from_new h.last (after_hold m h.last d) h.last.next (record { kept = d; handles = 1; resident = false }) (λ j. refl) so))
-    inserted_from false old d ls entry new h so =
+    inserted_from true source old inc ls entry new h so =
+        from_then old h.last new (way_from (old.index (key_of inc.kept)) old h.replaced h.last h.gives_way)
+        (subst (RecordsFrom h.last) (sym h.after) (from_new h.last (after_hold m h.last inc) inc.id (record { kept = inc.kept; handles = inc.handles; resident = false }) (λ j. refl) so))
+    inserted_from false source old inc ls entry new h so =
         from_then old h.mid new (leave_from Evict _ old h.evictions _ h.mid h.evicts)
-        (from_then h.mid h.last new (way_from (h.mid.index (key_of d)) h.mid h.replaced h.last h.gives_way)
-        (subst (RecordsFrom h.last) (sym h.after) (from_new h.last (after_push m h.last d) h.last.next (record { kept = d; handles = 1; resident = true }) (λ j. refl) so)))
+        (from_then h.mid h.last new (way_from (h.mid.index (key_of inc.kept)) h.mid h.replaced h.last h.gives_way)
+        (subst (RecordsFrom h.last) (sym h.after) (from_new h.last (after_push m h.last inc) inc.id (record { kept = inc.kept; handles = inc.handles; resident = true }) (λ j. refl) so)))
 
-    refused_plain_from : (old : State K V P View) (d : Data K V P) (reason : Reason) (ls : List (Event × Gone K V P)) (new : State K V P View) → RefusesPlain m old d reason ls new → RecordsFrom old new
-    refused_plain_from old d Ids ls new h = from_same old new h.2
-    refused_plain_from old d Handles ls new h = from_same old new h.3
-    refused_plain_from old d Weight ls new h = from_same old new h.4
-    refused_plain_from old d NoMemory ls new h = leave_from Evict (ids_of h.1.left) old ls (after_pops m.policy (length h.1.left) old.view) new h.1.leave
-    refused_plain_from old d _ ls new h = absurd h
+    refused_plain_from : (old : State K V P View) (inc : Incoming K V P) (reason : Reason) (ls : List (Event × Gone K V P)) (new : State K V P View) → RefusesPlain m old inc reason ls new → RecordsFrom old new
+    refused_plain_from old inc Ids ls new h = from_same old new h.2
+    refused_plain_from old inc Handles ls new h = from_same old new h.3
+    refused_plain_from old inc Weight ls new h = from_same old new h.4
+    refused_plain_from old inc NoMemory ls new h = leave_from Evict (ids_of h.1.left) old ls (after_pops m.policy (length h.1.left) old.view) new h.1.leave
+    refused_plain_from old inc _ ls new h = absurd h
 
-    refused_insert_from : (b : Bool) (old : State K V P View) (d : Data K V P) (reason : Reason) (ls : List (Event × Gone K V P)) (new : State K V P View) → RefusesBy m b old d reason ls new → RecordsFrom old new
-    refused_insert_from true old d Ids ls new h = from_same old new h.2
-    refused_insert_from true old d Handles ls new h = from_same old new h.3
-    refused_insert_from true old d NoMemory ls new h = from_same old new h.2
-    refused_insert_from true old d _ ls new h = absurd h
-    refused_insert_from false old d reason ls new h = refused_plain_from old d reason ls new h
+    refused_insert_from : (b : Bool) (old : State K V P View) (inc : Incoming K V P) (reason : Reason) (ls : List (Event × Gone K V P)) (new : State K V P View) → RefusesBy m b old inc reason ls new → RecordsFrom old new
+    refused_insert_from true old inc Ids ls new h = from_same old new h.2
+    refused_insert_from true old inc Handles ls new h = from_same old new h.3
+    refused_insert_from true old inc NoMemory ls new h = from_same old new h.2
+    refused_insert_from true old inc _ ls new h = absurd h
+    refused_insert_from false old inc reason ls new h = refused_plain_from old inc reason ls new h
 
-    inserts_from : (old : State K V P View) (d : Data K V P) (ls : List (Event × Gone K V P)) (entry : Held K V P) (new : State K V P View) → Inserts m old d ls entry new → New d → RecordsFrom old new
-    inserts_from old d ls entry new h so = inserted_from (is_phantom_record m d) old d ls entry new h so
+    inserts_from : (source : Source) (old : State K V P View) (inc : Incoming K V P) (ls : List (Event × Gone K V P)) (entry : Held K V P) (new : State K V P View) → Inserts m source old inc ls entry new → New inc.kept → RecordsFrom old new
+    inserts_from source old inc ls entry new h so = inserted_from (is_phantom_record m inc.kept) source old inc ls entry new h so
 
-    refuses_from : (old : State K V P View) (d : Data K V P) (reason : Reason) (ls : List (Event × Gone K V P)) (new : State K V P View) → RefusesInsert m old d reason ls new → RecordsFrom old new
-    refuses_from old d reason ls new h = refused_insert_from (is_phantom_record m d) old d reason ls new h
+    refuses_from : (old : State K V P View) (inc : Incoming K V P) (reason : Reason) (ls : List (Event × Gone K V P)) (new : State K V P View) → RefusesInsert m old inc reason ls new → RecordsFrom old new
+    refuses_from old inc reason ls new h = refused_insert_from (is_phantom_record m inc.kept) old inc reason ls new h
 
     pub emplaced_from : {A B : Type 0} (r : Result A B) (made : A → List (Event × Gone K V P)) (entry : A → Held K V P) (reason : B → Reason) (left : B → List (Event × Gone K V P))
-        (old : State K V P View) (d : Data K V P) (new : State K V P View)
-        → MatchResult r (λ a. Inserts m old d (made a) (entry a) new) (λ b. RefusesInsert m old d (reason b) (left b) new) → New d → RecordsFrom old new
-    emplaced_from (Ok a) made entry reason left old d new h so = inserts_from old d (made a) (entry a) new h so
-    emplaced_from (Err b) made entry reason left old d new h so = refuses_from old d (reason b) (left b) new h
+        (source : Source) (old : State K V P View) (d : Data K V P) (new : State K V P View)
+        → MatchResult r (λ a. Inserts m source old (newcomer old d) (made a) (entry a) new) (λ b. RefusesInsert m old (newcomer old d) (reason b) (left b) new) → New d → RecordsFrom old new
+    emplaced_from (Ok a) made entry reason left source old d new h so = inserts_from source old (newcomer old d) (made a) (entry a) new h so
+    emplaced_from (Err b) made entry reason left source old d new h so = refuses_from old (newcomer old d) (reason b) (left b) new h
 
 -- nothing comes in
 abbrev pub nothing_new : {K V P : Type 0} → Data K V P → Type 0

@@ -51,12 +51,12 @@ module _ {K V P View C : Type 0} (m : Meaning K P View C) where
         omega (arith, h.within id, count-cons id i still, sum-remove_id (one_if id) i.id found.0 (m.policy.order now.view) found.1)
 
     by_record : (r : Rec K V P) → now.records i.id ≡ Some r
-        → OutSoFar event old (left ++ i ∷ []) still (ls ++ (event, gone_of i.id r) ∷ []) (record (after_out m now i.id r) { view = m.policy.remove now.view i.id })
+        → OutSoFar event old (left ++ i ∷ []) still (ls ++ (event, gone_of now.number i.id r) ∷ []) (record (after_out m now i.id r) { view = m.policy.remove now.view i.id })
     by_record r there = record {
       leave =
           let view : m.policy.remove now.view i.id ≡ removed m.policy (left ++ i ∷ []) old.view =
           ap (λ (v : View). m.policy.remove v i.id) (leave-view m event (ids_of left) old ls (removed m.policy left old.view) now h.leave) ∙ sym (removed-more m.policy left i old.view) in
-          subst₂ (λ (ids : List ℕ) (w : View). Leave m event ids old (ls ++ (event, gone_of i.id r) ∷ []) w (record (after_out m now i.id r) { view = m.policy.remove now.view i.id })) (ids-more left i) view
+          subst₂ (λ (ids : List ℕ) (w : View). Leave m event ids old (ls ++ (event, gone_of now.number i.id r) ∷ []) w (record (after_out m now i.id r) { view = m.policy.remove now.view i.id })) (ids-more left i) view
           (Leave-snoc m event (ids_of left) old ls (removed m.policy left old.view) now i.id r (m.policy.remove now.view i.id) h.leave there);
       within = still_within;
     }
@@ -65,4 +65,4 @@ module _ {K V P View C : Type 0} (m : Meaning K P View C) where
     pub outs-more : (gone : Gone K V P) (new : State K V P View) → TakesRecordOut m now i.id gone new → OutSoFar event old (left ++ i ∷ []) still (ls ++ (event, gone) ∷ []) new
     outs-more gone new t =
         subst (λ (g : Gone K V P). OutSoFar event old (left ++ i ∷ []) still (ls ++ (event, g) ∷ []) new) (sym t.gone_is)
-        (subst (λ (s : State K V P View). OutSoFar event old (left ++ i ∷ []) still (ls ++ (event, gone_of i.id t.rec) ∷ []) s) (sym t.after) (by_record t.rec t.there))
+        (subst (λ (s : State K V P View). OutSoFar event old (left ++ i ∷ []) still (ls ++ (event, gone_of now.number i.id t.rec) ∷ []) s) (sym t.after) (by_record t.rec t.there))

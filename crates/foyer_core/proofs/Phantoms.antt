@@ -1,28 +1,27 @@
 -- What an insert of a phantom record has done, from the steps that it took.
-use Rattle.std.proofs.Common.{◌≡◌, ◌<◌, ◌≤◌, ◌⊎◌, ◌↔◌, ◌∙◌, inl, inr, ℕ, List, [], ◌∷◌, ◌++◌, Option, Some, None, refl, sym, ap, subst, arith}
+use Rattle.std.proofs.Common.{◌≡◌, ◌<◌, ◌≤◌, ◌↔◌, max, ℕ, List, [], ◌∷◌, ◌++◌, Option, Some, None, refl, sym, ap, subst, arith}
 use Rattle.std.specs.Cmp.{IsEquivalence}
 use Rattle.foyer_policy.specs.Policy.{IsPolicy}
 use Rattle.foyer_policy.specs.declared.types.Event.{Event}
 use Rattle.foyer_policy.specs.declared.types.Event.TheVariants.{Replace, Remove}
-use Rattle.foyer_policy.specs.declared.types.Source.TheVariants.{Outer}
+use Rattle.foyer_policy.specs.declared.types.Source.{Source}
 use Rattle.foyer_policy.specs.declared.error.Reason.{Reason}
 use Rattle.foyer_policy.specs.declared.error.Reason.TheVariants.{Ids, Handles}
-use Rattle.foyer_core.specs.declared.record.Data.{Data}
-use Rattle.foyer_core.specs.Values.{Gone}
+use Rattle.foyer_core.specs.Values.{Gone, Incoming}
 use Rattle.foyer_core.specs.State.{Meaning, State, key_of}
-use Rattle.foyer_core.specs.Steps.{entry_of, replaced_leaves, GivesWay, MayHold, InsertsPhantom, after_hold}
+use Rattle.foyer_core.specs.Steps.{HasId, LacksId, entry_of, replaced_leaves, GivesWay, MayHold, InsertsPhantom, after_hold}
 use Rattle.foyer_core.specs.Bulk.{TakesRecordOut}
 use Rattle.foyer_core.proofs.LeaveLemmas.{Rests}
 use Rattle.foyer_core.proofs.InsertLemmas.{gives_way_rests}
 
-module _ {K V P View : Type 0} (s : State K V P View) (r : Option Reason)
-    (ids : r ≡ Some Ids ↔ (s.limits.ids ≤ s.next)) (handles : r ≡ Some Handles ↔ ((s.next < s.limits.ids) × (s.limits.handles < 1))) where
-  -- where nothing is refused, there is an id, and a handle may be
-  pub may_hold : r ≡ None → (s.next < s.limits.ids) × (1 ≤ s.limits.handles)
+module _ {K V P View : Type 0} (s : State K V P View) (inc : Incoming K V P) (r : Option Reason)
+    (ids : r ≡ Some Ids ↔ LacksId s inc.id) (handles : r ≡ Some Handles ↔ (HasId s inc.id × (s.limits.handles < inc.handles))) where
+  -- where nothing is refused, there is an id, and its handles may be
+  pub may_hold : r ≡ None → HasId s inc.id × (inc.handles ≤ s.limits.handles)
   may_hold none =
-      let not_ids : ¬ (s.limits.ids ≤ s.next) = λ h. (let e = ids.1 h in absurd cc) in
-      let number : s.next < s.limits.ids = omega arith in
-      let not_handles : ¬ (s.limits.handles < 1) = λ h. (let e = handles.1 (number, h) in absurd cc) in
+      let not_ids : ¬ LacksId s inc.id = λ h. (let e = ids.1 h in absurd cc) in
+      let number : HasId s inc.id = omega arith in
+      let not_handles : ¬ (s.limits.handles < inc.handles) = λ h. (let e = handles.1 (number, h) in absurd cc) in
       (number, omega arith)
 
 module _ {K V P View C : Type 0} (m : Meaning K P View C) where
@@ -32,14 +31,14 @@ module _ {K V P View C : Type 0} (m : Meaning K P View C) where
   taken_gives_way old o id is gone new h = subst (λ (w : Option ℕ). GivesWay m w old ((Replace, gone) ∷ []) new) (sym is)
       (h.rec, h.there, ap (λ (g : Gone K V P). let l : Event × Gone K V P = (Replace, g) in l) h.gone_is, h.after)
 
-  module _ (old : State K V P View) (d : Data K V P) (replaced : Option (Gone K V P)) (last : State K V P View)
-      (way : GivesWay m (old.index (key_of d)) old (replaced_leaves replaced) last) where
+  module _ (old : State K V P View) (inc : Incoming K V P) (replaced : Option (Gone K V P)) (last : State K V P View)
+      (way : GivesWay m (old.index (key_of inc.kept)) old (replaced_leaves replaced) last) where
     pub way_rests : (laws : IsEquivalence m.same) → IsPolicy m.policy → Rests m old last
-    way_rests laws good = gives_way_rests m laws good (old.index (key_of d)) old (replaced_leaves replaced) last way
+    way_rests laws good = gives_way_rests m laws good (old.index (key_of inc.kept)) old (replaced_leaves replaced) last way
 
-    pub phantom_came : MayHold m old → (ls : List (Event × Gone K V P)) → ls ≡ replaced_leaves replaced ++ (Remove, record { id = old.next; kept = d }) ∷ []
-        → InsertsPhantom m old d ls (entry_of old old.next d Outer) (after_hold m last d)
-    phantom_came may ls is = record {
+    pub phantom_came : (source : Source) → MayHold m old inc → (ls : List (Event × Gone K V P)) → ls ≡ replaced_leaves replaced ++ (Remove, record { number = old.number; id = inc.id; kept = inc.kept }) ∷ []
+        → InsertsPhantom m source old inc ls (entry_of old inc.id inc.kept source) (after_hold m last inc)
+    phantom_came source may ls is = record {
       may = may;
       replaced = replaced_leaves replaced;
       last = last;

@@ -110,7 +110,7 @@ module _ {K V P View C : Type 0} (m : Meaning K P View C) (laws : IsEquivalence 
       removed_stored = (let l = left_stored m laws good mid n more there1 (slot_in t2) write2 at' places keys' gone in record { led = l.led; placed = l.placed })
 
       abbrev pub gone_out : Held K V P × Gone K V P
-      gone_out = (entry_of (now_of o) x.id x.kept Memory, record { id = x.id; kept = x.kept })
+      gone_out = (entry_of (now_of o) x.id x.kept Memory, record { number = number; id = x.id; kept = x.kept })
 
       leaves : Leave m Remove (x.id ∷ []) (after_handle (now_of o) x.id (rec_of x)) ((Remove, gone_out.1) ∷ []) (m.policy.remove view x.id) (state number capacity limits view' keys' t2 next)
       leaves = subst (λ (s : State K V P View). Leave m Remove (x.id ∷ []) s ((Remove, gone_out.1) ∷ []) (m.policy.remove view x.id) (state number capacity limits view' keys' t2 next))

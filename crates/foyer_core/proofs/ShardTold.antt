@@ -180,11 +180,11 @@ module _ {K V P View C : Type 0} (m : Meaning K P View C) where
         pub gives_back_told : (id : ℕ) (leave : Option (Event × Gone K V P)) → ls ≡ option_to_list leave → GivesBack m s id leave t → ToldBy s ls t
         gives_back_told id leave ls_are h f knows = subst (λ (l : List (Event × Gone K V P)). Tells m laws hash equal many place t f (after_leaves m.same f l)) (sym ls_are) (go leave h) where
           -- a phantom is not in the index
-          out : (g : Event × Gone K V P) → Some g ≡ last_leave m id h.rec → f g.1.kept.key ≢ Some g.1.id
+          out : (g : Event × Gone K V P) → Some g ≡ last_leave m s.number id h.rec → f g.1.kept.key ≢ Some g.1.id
           out g is = last (h.rec.handles == 1) h.rec.resident (is_phantom_record m h.rec.kept) refl is where
-            last : (a b c : Bool) → h.rec.resident ≡ b → Some g ≡ cond (a && (not b && c)) (Some (Evict, gone_of id h.rec)) None → f g.1.kept.key ≢ Some g.1.id
+            last : (a b c : Bool) → h.rec.resident ≡ b → Some g ≡ cond (a && (not b && c)) (Some (Evict, gone_of s.number id h.rec)) None → f g.1.kept.key ≢ Some g.1.id
             last true false true res e = λ known.
-                let same : g ≡ (Evict, gone_of id h.rec) = cc in
+                let same : g ≡ (Evict, gone_of s.number id h.rec) = cc in
                 let here : f h.rec.kept.key ≡ Some id = subst (λ (x : Event × Gone K V P). f x.1.kept.key ≡ Some x.1.id) same known in
                 let st = stands s kept in
                 let index : s.index (key_of h.rec.kept) ≡ Some id = sym (known_key m laws hash equal many place s f knows h.rec.kept (at id h.rec h.there)) ∙ here in

@@ -6,15 +6,14 @@ use Rattle.std.proofs.lemmas.Bool.Decides.{eqb_tells, nat_tests}
 use Rattle.std.proofs.lemmas.Map.{update_here, update_apart}
 use Rattle.foyer_policy.specs.Policy.{after_pops, evicted}
 use Rattle.foyer_policy.specs.declared.types.Event.{Event}
+use Rattle.foyer_policy.specs.declared.types.Source.{Source}
 use Rattle.foyer_policy.specs.declared.types.Event.TheVariants.{Evict, Replace, Remove}
 use Rattle.foyer_policy.specs.declared.error.Reason.{Reason}
 use Rattle.foyer_policy.specs.declared.error.Reason.TheVariants.{Ids, Handles, Weight, NoMemory}
 use Rattle.foyer_core.specs.declared.record.Data.{Data}
-use Rattle.foyer_core.specs.Values.{Rec, Gone, Held}
+use Rattle.foyer_core.specs.Values.{Rec, Gone, Held, Incoming}
 use Rattle.foyer_core.specs.State.{Meaning, State, key_of}
-use Rattle.foyer_core.specs.Steps.{outside, after_out, after_push, after_get, after_handle, after_give_back, ids_of, Leave, GivesWay, InsertsPlain, RefusesPlain, Gets, GivesBack, Touches, Removes, ClonesHandle, RefusesHandle}
-use Rattle.foyer_core.proofs.Emplaced.{evicts_rests}
-use Rattle.foyer_core.proofs.LeaveLemmas.{Rests, rests-rests, leave-rests}
+use Rattle.foyer_core.specs.Steps.{outside, newcomer, after_out, after_hold, after_get, after_handle, after_give_back, ids_of, Leave, GivesWay, InsertsPlain, RefusesPlain, Gets, GivesBack, Touches, Removes, ClonesHandle, RefusesHandle}
 
 -- no handle is given back
 abbrev pub nothing : ℕ → ℕ
@@ -66,6 +65,26 @@ module _ {K V P View : Type 0} where
   pub clones_stay : (old : State K V P View) (entry : Held K V P) (answer : Result (Held K V P) Reason) (new : State K V P View) → ClonesHandle old entry answer new → RecordsStay nothing old new
   clones_stay old entry (Ok clone) new h = subst (RecordsStay nothing old) (sym h.4) (handle_stays old entry.id h.0 h.1)
   clones_stay old entry (Err reason) new h = refused_stays old entry.id reason new h
+
+  -- what comes in has the data of the record that has its id, and as many handles
+  abbrev pub GoesOnAs : State K V P View → Incoming K V P → Type 0
+  GoesOnAs s inc = (r : Rec K V P) → s.records inc.id ≡ Some r → (inc.kept ≡ r.kept) × (r.handles ≤ inc.handles)
+
+  -- so it is where the id is new
+  pub new_goes_on : (s : State K V P View) (d : Data K V P) → ((id : ℕ) (r : Rec K V P) → s.records id ≡ Some r → id < s.next) → GoesOnAs s (newcomer s d)
+  new_goes_on s d below r there = absurd (let b = below s.next r there in omega arith)
+
+  -- the others stay, and so does it
+  pub write_stays : (old last new : State K V P View) (inc : Incoming K V P) (resident : Bool) → RecordsStay nothing old last → GoesOnAs old inc
+      → ((id : ℕ) → new.records id ≡ update nat_eq last.records inc.id (Some record { kept = inc.kept; handles = inc.handles; resident = resident }) id) → RecordsStay nothing old new
+  write_stays old last new inc resident stay same write id r there less = elim (eqb_tells id inc.id) [
+    | inl e ↦ (let was = same r (ap old.records (sym e.1) ∙ there) in
+        let now : Rec K V P = record { kept = inc.kept; handles = inc.handles; resident = resident } in
+        (now, subst (λ (a : ℕ). new.records a ≡ Some now) (sym e.1) (write inc.id ∙ update_here last.records inc.id (Some now)), was.0, omega (arith, was.1)))
+    | inr e ↦ (let q = stay id r there less in
+        let now : Rec K V P = record { kept = inc.kept; handles = inc.handles; resident = resident } in
+        (q.0, write id ∙ update_apart last.records inc.id (Some now) id e.1 ∙ q.1, q.2, q.3))
+  ]
 
 module _ {K V P View C : Type 0} (m : Meaning K P View C) where
   out_stays : (old : State K V P View) (id : ℕ) (r : Rec K V P) → old.records id ≡ Some r → RecordsStay nothing old (after_out m old id r)
@@ -174,31 +193,22 @@ module _ {K V P View C : Type 0} (m : Meaning K P View C) where
   way_stays None old ls new h = stay_same old new h.1
   way_stays (Some id) old ls new h = leave_stays Replace (id ∷ []) old ls (m.policy.remove old.view id) new h
 
-  pub way_rests : (o : Option ℕ) (old : State K V P View) (ls : List (Event × Gone K V P)) (new : State K V P View) → GivesWay m o old ls new → Rests m old new
-  way_rests None old ls new h = leave-rests m Evict [] old [] old.view new h.1
-  way_rests (Some id) old ls new h = leave-rests m Replace (id ∷ []) old ls (m.policy.remove old.view id) new h
+  pub refused_insert_stays : (old : State K V P View) (inc : Incoming K V P) (reason : Reason) (ls : List (Event × Gone K V P)) (new : State K V P View) → RefusesPlain m old inc reason ls new → RecordsStay nothing old new
+  refused_insert_stays old inc Ids ls new h = stay_same old new h.2
+  refused_insert_stays old inc Handles ls new h = stay_same old new h.3
+  refused_insert_stays old inc Weight ls new h = stay_same old new h.4
+  refused_insert_stays old inc NoMemory ls new h = leave_stays Evict (ids_of h.1.left) old ls (after_pops m.policy (length h.1.left) old.view) new h.1.leave
+  refused_insert_stays old inc _ ls new h = absurd h
 
-  push_stays : (old : State K V P View) (d : Data K V P) → ((id : ℕ) (r : Rec K V P) → old.records id ≡ Some r → id < old.next) → RecordsStay nothing old (after_push m old d)
-  push_stays old d below id r there less =
-      let apart : id ≢ old.next = (λ e. absurd (let b = below id r there in omega arith)) in
-      (r, update_apart old.records old.next (Some (record { kept = d; handles = 1; resident = true })) id apart ∙ there, refl, omega arith)
+  pub holds_stay : (old : State K V P View) (inc : Incoming K V P) (new : State K V P View) (replaced : List (Event × Gone K V P)) (last : State K V P View) → GivesWay m (old.index (key_of inc.kept)) old replaced last
+      → new ≡ after_hold m last inc → GoesOnAs old inc → RecordsStay nothing old new
+  holds_stay old inc new replaced last way after same =
+      write_stays old last new inc false (way_stays (old.index (key_of inc.kept)) old replaced last way) same (λ id. ap (λ (s : State K V P View). s.records id) after)
 
-  pub refused_insert_stays : (old : State K V P View) (d : Data K V P) (reason : Reason) (ls : List (Event × Gone K V P)) (new : State K V P View) → RefusesPlain m old d reason ls new → RecordsStay nothing old new
-  refused_insert_stays old d Ids ls new h = stay_same old new h.2
-  refused_insert_stays old d Handles ls new h = stay_same old new h.3
-  refused_insert_stays old d Weight ls new h = stay_same old new h.4
-  refused_insert_stays old d NoMemory ls new h = leave_stays Evict (ids_of h.1.left) old ls (after_pops m.policy (length h.1.left) old.view) new h.1.leave
-  refused_insert_stays old d _ ls new h = absurd h
-
-  module _ (old : State K V P View) (d : Data K V P) (ls : List (Event × Gone K V P)) (entry : Held K V P) (new : State K V P View) (h : InsertsPlain m old d ls entry new) where
-    pub rests_before : Rests m old h.last
-    rests_before = rests-rests m old h.mid h.last (evicts_rests m old d (old.capacity - d.weight) h.evictions h.mid h.evicts)
-        (way_rests (h.mid.index (key_of d)) h.mid h.replaced h.last h.gives_way)
-
-    pub inserts_stay : ((id : ℕ) (r : Rec K V P) → old.records id ≡ Some r → id < old.next) → RecordsStay nothing old new
-    inserts_stay below =
-        let first = leave_stays Evict (ids_of (evicted m.policy (old.capacity - d.weight) old.view)) old h.evictions (after_pops m.policy (length (evicted m.policy (old.capacity - d.weight) old.view)) old.view) h.mid h.evicts in
-        let second = way_stays (h.mid.index (key_of d)) h.mid h.replaced h.last h.gives_way in
-        let third = push_stays h.last d (λ id r there. let o = rests_before.records id r there in rw rests_before.next (below id o.0 o.1)) in
-        subst (RecordsStay nothing old) (sym h.after)
-        (stay_then nothing old h.last (after_push m h.last d) (stay_then nothing old h.mid h.last first second) third)
+  module _ (source : Source) (old : State K V P View) (inc : Incoming K V P) (ls : List (Event × Gone K V P)) (entry : Held K V P) (new : State K V P View) (h : InsertsPlain m source old inc ls entry new) where
+    pub inserts_stay : GoesOnAs old inc → RecordsStay nothing old new
+    inserts_stay same =
+        let target : ℕ = old.capacity - inc.kept.weight in
+        let first = leave_stays Evict (ids_of (evicted m.policy target old.view)) old h.evictions (after_pops m.policy (length (evicted m.policy target old.view)) old.view) h.mid h.evicts in
+        let second = way_stays (h.mid.index (key_of inc.kept)) h.mid h.replaced h.last h.gives_way in
+        write_stays old h.last new inc true (stay_then nothing old h.mid h.last first second) same (λ id. ap (λ (s : State K V P View). s.records id) h.after)

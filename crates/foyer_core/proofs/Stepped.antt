@@ -1,16 +1,14 @@
 -- The steps that a shard answers keep what it keeps.
-use Rattle.std.proofs.Common.{ℕ, ◌-◌, List, Option, Result, Some, None, Ok, Err, sym, subst}
+use Rattle.std.proofs.Common.{ℕ, Option, Result, Some, None, Ok, Err, sym, subst}
 use Rattle.std.specs.Cmp.{IsEquivalence}
 use Rattle.foyer_policy.specs.Policy.{IsPolicy}
 use Rattle.foyer_policy.specs.declared.types.Event.{Event}
 use Rattle.foyer_policy.specs.declared.error.Reason.{Reason}
-use Rattle.foyer_policy.specs.declared.error.Reason.TheVariants.{Ids, Handles, Weight, NoMemory}
-use Rattle.foyer_core.specs.declared.record.Data.{Data}
+use Rattle.foyer_policy.specs.declared.error.Reason.TheVariants.{Handles, NoMemory}
 use Rattle.foyer_core.specs.Values.{Gone, Held}
 use Rattle.foyer_core.specs.State.{Meaning, State, IsKept}
-use Rattle.foyer_core.specs.Steps.{Gets, GivesBack, RefusesPlain}
+use Rattle.foyer_core.specs.Steps.{Gets, GivesBack}
 use Rattle.foyer_core.proofs.Keeps.{get_keeps, give_back_keeps}
-use Rattle.foyer_core.proofs.LeaveLemmas.{evicting_keeps}
 
 module _ {K V P View C : Type 0} (m : Meaning K P View C) (laws : IsEquivalence m.same) (good : IsPolicy m.policy) where
   pub gets_keeps : (old : State K V P View) → IsKept m old → (k : ℕ × K) (answer : Result (Option (Held K V P)) Reason) (new : State K V P View) → Gets m old k answer new → IsKept m new
@@ -22,10 +20,3 @@ module _ {K V P View C : Type 0} (m : Meaning K P View C) (laws : IsEquivalence 
 
   pub gives_back_keeps : (old : State K V P View) → IsKept m old → (id : ℕ) (leave : Option (Event × Gone K V P)) (new : State K V P View) → GivesBack m old id leave new → IsKept m new
   gives_back_keeps old kept id leave new h = subst (IsKept m) (sym h.after) (give_back_keeps m laws good old kept id h.rec h.there h.held)
-
-  pub refused_insert_keeps : (old : State K V P View) → IsKept m old → (d : Data K V P) (reason : Reason) (ls : List (Event × Gone K V P)) (new : State K V P View) → RefusesPlain m old d reason ls new → IsKept m new
-  refused_insert_keeps old kept d Ids ls new h = subst (IsKept m) (sym h.2) kept
-  refused_insert_keeps old kept d Handles ls new h = subst (IsKept m) (sym h.3) kept
-  refused_insert_keeps old kept d Weight ls new h = subst (IsKept m) (sym h.4) kept
-  refused_insert_keeps old kept d NoMemory ls new h = evicting_keeps m laws good (old.capacity - d.weight) old ls new kept h.1
-  refused_insert_keeps old kept d _ ls new h = absurd h

@@ -1,6 +1,6 @@
 -- How a shard's fields go on standing for its state.
 use Rattle.std.proofs.Common.{◌≡◌, ℕ, Option, Some, None, true, nat_eq, refl, sym, ◌∙◌, ap, subst, inl, inr}
-use Rattle.std.specs.Prelude.{option_and_then, is_some, Result, Ok, Err, IsErrAnd}
+use Rattle.std.specs.Prelude.{option_and_then, is_some, IsSome, Result, Ok, Err, IsErrAnd}
 use Rattle.std.specs.Map.{update}
 use Rattle.std.proofs.lemmas.Map.{update_here, update_apart}
 use Rattle.std.proofs.lemmas.Bool.Decides.{eqb_tells}
@@ -16,6 +16,10 @@ use Rattle.foyer_core.proofs.TableLemmas.{id_by-some, record_there, write_ids, w
 pub some_of : {A : Type 0} (o : Option A) → is_some o ≡ true → (a : A) × (o ≡ Some a)
 some_of None h = absurd cc
 some_of (Some a) h = (a, refl)
+
+pub some_in : {A : Type 0} (o : Option A) → IsSome o → (a : A) × (o ≡ Some a)
+some_in None h = absurd cc
+some_in (Some a) h = (a, refl)
 
 -- a result that is this error
 pub err_is : {A E : Type 0} (r : Result A E) (x : E) (Goal : Result A E → Type 0) → IsErrAnd r (λ e. e ≡ x) → Goal (Err x) → Goal r

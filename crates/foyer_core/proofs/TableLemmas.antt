@@ -1,6 +1,6 @@
 -- Records by slot and by id: what a change of one slot makes of them.
 use Rattle.std.proofs.Common.{◌≡◌, ◌≢◌, ℕ, Option, Some, None, true, false, nat_eq, refl, sym, ◌∙◌, ap, subst, inl, inr}
-use Rattle.std.specs.Prelude.{option_map, option_and_then, ◌==◌, is_some}
+use Rattle.std.specs.Prelude.{option_map, option_and_then, ◌==◌, is_some, IsSomeAnd}
 use Rattle.std.specs.Map.{update}
 use Rattle.std.proofs.lemmas.Map.{update_here, update_apart}
 use Rattle.std.proofs.lemmas.Bool.Decides.{eqb_tells}
@@ -137,6 +137,11 @@ module _ {K V P : Type 0} where
   -- the record of a slot is found by its id
   pub record_there : (f : ℕ → Option (Kept K V P)) (ids : ℕ → Option ℕ) (n : ℕ) → IsTable f ids → (s : Kept K V P) → f n ≡ Some s → record_by f ids s.id ≡ Some (rec_of s)
   record_there f ids n table s there = ap (λ (o : Option ℕ). option_map rec_of (option_and_then f o)) (table.known n s.id (id_by-some f n s there)) ∙ ap (option_map rec_of) there
+
+-- the record of a slot that has an id
+pub named_there : {K V P : Type 0} (o : Option (Kept K V P)) (id : ℕ) → option_map (λ s. s.id) o ≡ Some id → IsSomeAnd o (λ s. s.id ≡ id)
+named_there None id h = absurd cc
+named_there (Some s) id h = cc
 
 -- to write what is there changes nothing
 pub update_same : {A : Type 0} (f : ℕ → Option A) (k : ℕ) (x : A) → f k ≡ Some x → (q : ℕ) → update nat_eq f k (Some x) q ≡ f q

@@ -64,9 +64,9 @@ module _ {K V P View C : Type 0} (m : Meaning K P View C) (laws : IsEquivalence 
     res : x.resident ≡ true
     res = resident m laws good o k n led x there
 
-    no_leave : None ≡ last_leave m x.id more
+    no_leave : None ≡ last_leave m number x.id more
     no_leave = go (x.handles + 1 == 1) x.resident res where
-      go : (b c : Bool) → c ≡ true → ◌≡◌ {A = Option (Event × Gone K V P)} None (cond (b && (not c && is_phantom_record m x.kept)) (Some (Evict, record { id = x.id; kept = x.kept })) None)
+      go : (b c : Bool) → c ≡ true → ◌≡◌ {A = Option (Event × Gone K V P)} None (cond (b && (not c && is_phantom_record m x.kept)) (Some (Evict, record { number = number; id = x.id; kept = x.kept })) None)
       go true true e = refl
       go false true e = refl
       go b false e = absurd cc

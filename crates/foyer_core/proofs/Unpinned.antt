@@ -52,11 +52,11 @@ module _ {K V P View C : Type 0} (m : Meaning K P View C) where
         let count : length (h.left ++ i ∷ []) ≡ suc (length h.left) = omega (arith, length-append h.left (i ∷ [])) in
         rw count (after_pops_more m.policy (length h.left) old.view now.view v i h.view popped)
 
-    all-more : (r : Rec K V P) → now.records i.id ≡ Some r → BegunAll old (ls ++ (Evict, gone_of i.id r) ∷ []) (record (after_out m now i.id r) { view = v })
+    all-more : (r : Rec K V P) → now.records i.id ≡ Some r → BegunAll old (ls ++ (Evict, gone_of now.number i.id r) ∷ []) (record (after_out m now i.id r) { view = v })
     all-more r there = record {
       left = h.left ++ i ∷ [];
       told = append_assoc h.left (i ∷ []) (pops m.policy v) ∙ ap (λ (l : List Item). h.left ++ l) (sym (pops_some m.policy good now.view v i popped)) ∙ h.told;
-      leave = subst₂ (λ (ids : List ℕ) (w : View). Leave m Evict ids old (ls ++ (Evict, gone_of i.id r) ∷ []) w (record (after_out m now i.id r) { view = v })) (ids_more h.left i) next_view
+      leave = subst₂ (λ (ids : List ℕ) (w : View). Leave m Evict ids old (ls ++ (Evict, gone_of now.number i.id r) ∷ []) w (record (after_out m now i.id r) { view = v })) (ids_more h.left i) next_view
           (Leave-snoc m Evict (ids_of h.left) old ls (after_pops m.policy (length h.left) old.view) now i.id r v h.leave there);
       view = next_view;
     }
@@ -66,5 +66,5 @@ pub all-evicts : {K V P View C : Type 0} (m : Meaning K P View C) (good : IsPoli
     → BegunAll m old ls now → (gone : Gone K V P) (new : State K V P View) → EvictsOne m now gone new → BegunAll m old (ls ++ (Evict, gone) ∷ []) new
 all-evicts {K} {V} {P} {View} m good old ls now begun gone new e =
     subst (λ (g : Gone K V P). BegunAll m old (ls ++ (Evict, g) ∷ []) new) (sym e.gone_is)
-    (subst (λ (s : State K V P View). BegunAll m old (ls ++ (Evict, gone_of e.item.id e.rec) ∷ []) s) (sym e.after)
+    (subst (λ (s : State K V P View). BegunAll m old (ls ++ (Evict, gone_of now.number e.item.id e.rec) ∷ []) s) (sym e.after)
     (all-more m good old ls now begun e.item e.view e.popped e.rec e.there))

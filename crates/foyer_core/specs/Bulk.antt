@@ -53,7 +53,7 @@ module _ {K V P View C : Type 0} (m : Meaning K P View C) where
   pub record TakesRecordOut (old : State K V P View) (id : ℕ) (gone : Gone K V P) (new : State K V P View) : Type 0 where
     pub rec : Rec K V P
     pub there : old.records id ≡ Some rec
-    pub gone_is : gone ≡ gone_of id rec
+    pub gone_is : gone ≡ gone_of old.number id rec
     pub after : new ≡ record (after_out m old id rec) { view = m.policy.remove old.view id }
 
   -- the records of these items leave for this reason, one after the other, and the policy is told of each
@@ -76,9 +76,8 @@ module _ {K V P View C : Type 0} (m : Meaning K P View C) where
     pub picks : Picks says old picked
     pub leave : TakesOut Evict picked old ls new
 
--- the policy of a shard with these keys and records holds these items, in this order, whatever it is
-pub record Lined {K V P View C : Type 0} (m : Meaning K P View C) (keys : ℕ × K → Option ℕ) (records : Records K V P) (items : List Item) : Type 0 where
-  pub number : ℕ
+-- the policy of a shard of this number with these keys and records holds these items, in this order, whatever it is
+pub record Lined {K V P View C : Type 0} (m : Meaning K P View C) (number : ℕ) (keys : ℕ × K → Option ℕ) (records : Records K V P) (items : List Item) : Type 0 where
   pub capacity : ℕ
   pub limits : Limits
   pub view : View
@@ -88,11 +87,11 @@ pub record Lined {K V P View C : Type 0} (m : Meaning K P View C) (keys : ℕ ×
   pub stored : IsStored m at keys records
   pub lined : m.policy.order view ≡ items
 
-abbrev pub lined_state : {K V P View C : Type 0} {m : Meaning K P View C} {keys : ℕ × K → Option ℕ} {records : Records K V P} {items : List Item} → Lined m keys records items → State K V P View
-lined_state {keys = keys} {records = records} o = state o.number o.capacity o.limits o.view keys records o.next
+abbrev pub lined_state : {K V P View C : Type 0} {m : Meaning K P View C} {number : ℕ} {keys : ℕ × K → Option ℕ} {records : Records K V P} {items : List Item} → Lined m number keys records items → State K V P View
+lined_state {number = number} {keys = keys} {records = records} o = state number o.capacity o.limits o.view keys records o.next
 
 -- some of the items left, and these are still in
-pub record Passes {K V P View C : Type 0} (m : Meaning K P View C) {keys : ℕ × K → Option ℕ} {records : Records K V P} {items : List Item} (o : Lined m keys records items)
+pub record Passes {K V P View C : Type 0} (m : Meaning K P View C) {number : ℕ} {keys : ℕ × K → Option ℕ} {records : Records K V P} {items : List Item} (o : Lined m number keys records items)
     (left still : List Item) (ls : List (Event × Gone K V P)) (keys' : ℕ × K → Option ℕ) (records' : Records K V P) : Type 0 where
-  pub after : Lined m keys' records' still
+  pub after : Lined m number keys' records' still
   pub leave : Leave m Clear (ids_of left) (lined_state o) ls after.view (lined_state after)

@@ -3,6 +3,7 @@ use Rattle.std.specs.Prelude.{◌≡◌, ℕ, Bool, ◌+◌, ◌/◌, ◌%◌, �
 use Rattle.foyer_policy.specs.Policy.{Policy}
 use Rattle.foyer_policy.specs.declared.error.Reason.{Reason}
 use Rattle.foyer_policy.specs.declared.error.Reason.TheVariants.{NoShards}
+use Rattle.foyer_policy.specs.declared.types.Source.{Source}
 use Rattle.foyer_core.specs.declared.config.RawCacheConfig.{RawCacheConfig}
 use Rattle.foyer_core.specs.declared.outcome.Answers.{Answers}
 use Rattle.foyer_core.specs.declared.outcome.Inserted.{Inserted}
@@ -12,8 +13,8 @@ use Rattle.foyer_core.specs.declared.outcome.Refused.{Refused}
 use Rattle.foyer_core.specs.declared.record.Data.{Data}
 use Rattle.foyer_core.specs.declared.record.Limits.{Limits}
 use Rattle.foyer_core.specs.State.{Meaning, State, AllData, hit, handles_of, handles_in, usage_of}
-use Rattle.foyer_core.specs.Steps.{Inserts, RefusesInsert, IsOutdated}
-use Rattle.foyer_core.specs.Values.{Held, Rec}
+use Rattle.foyer_core.specs.Steps.{Inserts, RefusesInsert, IsOutdated, newcomer}
+use Rattle.foyer_core.specs.Values.{Held, Incoming, Rec}
 
 -- a core: its capacity, what gives its keys their hashes and its records their weights, what admits them, and its
 -- shards
@@ -118,18 +119,18 @@ module _ {K V P View C : Type 0} (m : Meaning K P View C) where
     pub shards_are : AreNewShards config config.shards core.shards
 
   -- what an insert makes of its shard, and answers
-  abbrev pub InsertsAnswering : {N : Type 0} → State K V P View → Data K V P → Result (Inserted K V P N) (Refused K V P) → State K V P View → Type 0
-  InsertsAnswering old d (Ok made) new = Inserts m old d made.leaves.items made.entry new
-  InsertsAnswering old d (Err refused) new = RefusesInsert m old d refused.error refused.leaves.items new
+  abbrev pub InsertsAnswering : {N : Type 0} → Source → State K V P View → Incoming K V P → Result (Inserted K V P N) (Refused K V P) → State K V P View → Type 0
+  InsertsAnswering source old i (Ok made) new = Inserts m source old i made.leaves.items made.entry new
+  InsertsAnswering source old i (Err refused) new = RefusesInsert m old i refused.error refused.leaves.items new
 
   -- An insert of a record in the shard of its hash, with a weight that the weighter may give it, and an answer that
-  -- the filter may give: `properties` says what its properties are with that answer.
-  pub record InsertsWeighed {S W A N : Type 0} (weighs : ℕ → Type 0) (admits : Bool → Type 0) (hash : ℕ) (key : K) (value : V) (properties : Bool → P)
+  -- the filter may give: `properties` says what its properties are with that answer. Its entry has this source.
+  pub record InsertsWeighed {S W A N : Type 0} (source : Source) (weighs : ℕ → Type 0) (admits : Bool → Type 0) (hash : ℕ) (key : K) (value : V) (properties : Bool → P)
       (result : Result (Inserted K V P N) (Refused K V P)) (old new : Core K V P View S W A) : Type 0 where
     pub weight : ℕ
     pub weighed : weighs weight
     pub admitted : Bool
     pub answered : admits admitted
     pub inserts : AtShard
-        (λ s t. InsertsAnswering s (record { key = key; value = value; properties = properties admitted; hash = hash; weight = weight }) result t)
+        (λ s t. InsertsAnswering source s (newcomer s record { key = key; value = value; properties = properties admitted; hash = hash; weight = weight }) result t)
         hash old new

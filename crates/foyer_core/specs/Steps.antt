@@ -1,26 +1,26 @@
 -- The steps of a shard.
-use Rattle.std.specs.Prelude.{◌≡◌, ◌≢◌, ℕ, Bool, ◌+◌, ◌-◌, ◌<◌, ◌≤◌, ◌^◌, ◌==◌, ◌&&◌, not, List, [], ◌∷◌, ◌++◌, Option, Some, None, Result, Ok, Err, true, false, nat_eq, if◌then◌else◌, map, length}
+use Rattle.std.specs.Prelude.{◌≡◌, ◌≢◌, ℕ, Bool, ◌+◌, ◌-◌, ◌<◌, ◌≤◌, ◌^◌, ◌==◌, ◌&&◌, not, max, List, [], ◌∷◌, ◌++◌, Option, Some, None, Result, Ok, Err, true, false, nat_eq, if◌then◌else◌, map, length}
 use Rattle.std.specs.Map.{update}
 use Rattle.foyer_policy.specs.Policy.{victim, evicted, after_pops}
 use Rattle.foyer_policy.specs.declared.types.Item.{Item}
 use Rattle.foyer_policy.specs.declared.types.Event.{Event}
 use Rattle.foyer_policy.specs.declared.types.Event.TheVariants.{Evict, Replace, Remove}
 use Rattle.foyer_policy.specs.declared.types.Source.{Source}
-use Rattle.foyer_policy.specs.declared.types.Source.TheVariants.{Outer, Memory}
+use Rattle.foyer_policy.specs.declared.types.Source.TheVariants.{Memory}
 use Rattle.foyer_policy.specs.declared.error.Reason.{Reason}
 use Rattle.foyer_policy.specs.declared.error.Reason.TheVariants.{Ids, Handles, Weight, NoMemory}
 use Rattle.foyer_core.specs.declared.record.Data.{Data}
 use Rattle.foyer_core.specs.Indexer.{same_key}
-use Rattle.foyer_core.specs.Values.{Rec, Gone, Held}
+use Rattle.foyer_core.specs.Values.{Rec, Gone, Held, Incoming}
 use Rattle.foyer_core.specs.State.{Meaning, State, key_of, hit, item_of, is_phantom_record, pinned_beside}
 
 -- a record that is not in the index stays only while it has a handle
 abbrev pub outside : {K V P : Type 0} → Rec K V P → Option (Rec K V P)
 outside r = if r.handles == 0 then None else Some (record r { resident = false })
 
--- what a leave tells of a record
-abbrev pub gone_of : {K V P : Type 0} → ℕ → Rec K V P → Gone K V P
-gone_of id r = record { id = id; kept = r.kept }
+-- what a leave tells of a record of the core of this number
+abbrev pub gone_of : {K V P : Type 0} → ℕ → ℕ → Rec K V P → Gone K V P
+gone_of number id r = record { number = number; id = id; kept = r.kept }
 
 -- an entry of a record
 abbrev pub entry_of : {K V P View : Type 0} → State K V P View → ℕ → Data K V P → Source → Held K V P
@@ -34,6 +34,18 @@ replaced_leaves (Some g) = (Replace, g) ∷ []
 -- the ids of items
 abbrev pub ids_of : List Item → List ℕ
 ids_of items = map (λ i. i.id) items
+
+-- a record of new data: it gets the next id, and one handle
+abbrev pub newcomer : {K V P View : Type 0} → State K V P View → Data K V P → Incoming K V P
+newcomer s d = record { id = s.next; kept = d; handles = 1 }
+
+-- an id that was given, or that may be
+abbrev pub HasId : {K V P View : Type 0} → State K V P View → ℕ → Type 0
+HasId s id = id < max s.next s.limits.ids
+
+-- or neither
+abbrev pub LacksId : {K V P View : Type 0} → State K V P View → ℕ → Type 0
+LacksId s id = max s.next s.limits.ids ≤ id
 
 -- one more handle of a record
 abbrev pub after_handle : {K V P View : Type 0} → State K V P View → ℕ → Rec K V P → State K V P View
@@ -66,7 +78,7 @@ module _ {K V P View C : Type 0} (m : Meaning K P View C) where
   abbrev pub Leave : Event → List ℕ → State K V P View → List (Event × Gone K V P) → View → State K V P View → Type 0
   Leave event [] old [] v new = new ≡ record old { view = v }
   Leave event (id ∷ ids) old (l ∷ ls) v new =
-      (r : Rec K V P) × (old.records id ≡ Some r) × (l ≡ (event, gone_of id r)) × Leave event ids (after_out old id r) ls v new
+      (r : Rec K V P) × (old.records id ≡ Some r) × (l ≡ (event, gone_of old.number id r)) × Leave event ids (after_out old id r) ls v new
   Leave event [] old (l ∷ ls) v new = ⊥
   Leave event (id ∷ ids) old [] v new = ⊥
 
@@ -89,7 +101,7 @@ module _ {K V P View C : Type 0} (m : Meaning K P View C) where
     pub rec : Rec K V P
     pub popped : victim m.policy old.view ≡ Some (item, view)
     pub there : old.records item.id ≡ Some rec
-    pub gone_is : gone ≡ gone_of item.id rec
+    pub gone_is : gone ≡ gone_of old.number item.id rec
     pub after : new ≡ record (after_out old item.id rec) { view = view }
 
   -- the record of this id, where there is one, gives way to a newer one
@@ -97,94 +109,94 @@ module _ {K V P View C : Type 0} (m : Meaning K P View C) where
   GivesWay None old ls new = (ls ≡ []) × (new ≡ old)
   GivesWay (Some id) old ls new = Leave Replace (id ∷ []) old ls (m.policy.remove old.view id) new
 
-  -- a new record comes in, with one handle
-  abbrev pub after_push : State K V P View → Data K V P → State K V P View
-  after_push s d = record s {
-    view = m.policy.push s.view (item_of m s.next d);
-    index = update (same_key m.same) s.index (key_of d) (Some s.next);
-    records = update nat_eq s.records s.next (Some record { kept = d; handles = 1; resident = true });
-    next = s.next + 1;
+  -- a record comes into the index and the policy, and the next id is above its own
+  abbrev pub after_push : State K V P View → Incoming K V P → State K V P View
+  after_push s i = record s {
+    view = m.policy.push s.view (item_of m i.id i.kept);
+    index = update (same_key m.same) s.index (key_of i.kept) (Some i.id);
+    records = update nat_eq s.records i.id (Some record { kept = i.kept; handles = i.handles; resident = true });
+    next = max s.next (i.id + 1);
   }
 
-  -- a new record comes in, and its key's record gives way
-  pub record Admits (old : State K V P View) (d : Data K V P) (replaced : Option (Gone K V P)) (new : State K V P View) : Type 0 where
+  -- a record comes in, and its key's record gives way
+  pub record Admits (old : State K V P View) (i : Incoming K V P) (replaced : Option (Gone K V P)) (new : State K V P View) : Type 0 where
     pub last : State K V P View
-    pub gives_way : GivesWay (old.index (key_of d)) old (replaced_leaves replaced) last
-    pub after : new ≡ after_push last d
+    pub gives_way : GivesWay (old.index (key_of i.kept)) old (replaced_leaves replaced) last
+    pub after : new ≡ after_push last i
 
-  -- there is a number for the record, a handle may be, and its weight fits beside what is pinned
-  abbrev pub MayInsert : State K V P View → Data K V P → Type 0
-  MayInsert old d = (old.next < old.limits.ids) × (1 ≤ old.limits.handles) × (d.weight + pinned_beside m old (key_of d) < 2 ^ 64)
+  -- there is an id for the record, its handles may be, and its weight fits beside what is pinned
+  abbrev pub MayInsert : State K V P View → Incoming K V P → Type 0
+  MayInsert old i = HasId old i.id × (i.handles ≤ old.limits.handles) × (i.kept.weight + pinned_beside m old (key_of i.kept) < 2 ^ 64)
 
-  -- a new record is held with one handle, and does not come into the index
-  abbrev pub after_hold : State K V P View → Data K V P → State K V P View
-  after_hold s d = record s {
-    records = update nat_eq s.records s.next (Some record { kept = d; handles = 1; resident = false });
-    next = s.next + 1;
+  -- a record is held and does not come into the index, and the next id is above its own
+  abbrev pub after_hold : State K V P View → Incoming K V P → State K V P View
+  after_hold s i = record s {
+    records = update nat_eq s.records i.id (Some record { kept = i.kept; handles = i.handles; resident = false });
+    next = max s.next (i.id + 1);
   }
 
   -- An insert of a plain record that is not refused: the evictions to the capacity less its weight, then
-  -- its key's record, where it is still there, gives way, then the record comes in.
-  pub record InsertsPlain (old : State K V P View) (d : Data K V P) (ls : List (Event × Gone K V P)) (entry : Held K V P) (new : State K V P View) : Type 0 where
-    pub may : MayInsert old d
+  -- its key's record, where it is still there, gives way, then the record comes in. The entry has this source.
+  pub record InsertsPlain (source : Source) (old : State K V P View) (i : Incoming K V P) (ls : List (Event × Gone K V P)) (entry : Held K V P) (new : State K V P View) : Type 0 where
+    pub may : MayInsert old i
     pub evictions : List (Event × Gone K V P)
     pub replaced : List (Event × Gone K V P)
     pub mid : State K V P View
     pub last : State K V P View
     pub leaves : ls ≡ evictions ++ replaced
-    pub evicts : Evicts (old.capacity - d.weight) old evictions mid
-    pub gives_way : GivesWay (mid.index (key_of d)) mid replaced last
-    pub entry_is : entry ≡ entry_of old old.next d Outer
-    pub after : new ≡ after_push last d
+    pub evicts : Evicts (old.capacity - i.kept.weight) old evictions mid
+    pub gives_way : GivesWay (mid.index (key_of i.kept)) mid replaced last
+    pub entry_is : entry ≡ entry_of old i.id i.kept source
+    pub after : new ≡ after_push last i
 
-  -- An insert of a plain record that is refused: for a number, a handle or the weight before anything,
-  -- or for want of memory after some beginning of the evictions.
-  abbrev pub RefusesPlain : State K V P View → Data K V P → Reason → List (Event × Gone K V P) → State K V P View → Type 0
-  RefusesPlain old d Ids ls new = (old.limits.ids ≤ old.next) × (ls ≡ []) × (new ≡ old)
-  RefusesPlain old d Handles ls new = (old.next < old.limits.ids) × (old.limits.handles < 1) × (ls ≡ []) × (new ≡ old)
-  RefusesPlain old d Weight ls new =
-      (old.next < old.limits.ids) × (1 ≤ old.limits.handles) × (2 ^ 64 ≤ d.weight + pinned_beside m old (key_of d)) × (ls ≡ []) × (new ≡ old)
-  RefusesPlain old d NoMemory ls new = MayInsert old d × Evicting (old.capacity - d.weight) old ls new
-  RefusesPlain old d _ ls new = ⊥
+  -- An insert of a plain record that is refused: for an id, a handle or the weight before anything, or for want
+  -- of memory after some beginning of the evictions.
+  abbrev pub RefusesPlain : State K V P View → Incoming K V P → Reason → List (Event × Gone K V P) → State K V P View → Type 0
+  RefusesPlain old i Ids ls new = LacksId old i.id × (ls ≡ []) × (new ≡ old)
+  RefusesPlain old i Handles ls new = HasId old i.id × (old.limits.handles < i.handles) × (ls ≡ []) × (new ≡ old)
+  RefusesPlain old i Weight ls new =
+      HasId old i.id × (i.handles ≤ old.limits.handles) × (2 ^ 64 ≤ i.kept.weight + pinned_beside m old (key_of i.kept)) × (ls ≡ []) × (new ≡ old)
+  RefusesPlain old i NoMemory ls new = MayInsert old i × Evicting (old.capacity - i.kept.weight) old ls new
+  RefusesPlain old i _ ls new = ⊥
 
-  -- there is a number for a record, and a handle may be
-  abbrev pub MayHold : State K V P View → Type 0
-  MayHold old = (old.next < old.limits.ids) × (1 ≤ old.limits.handles)
+  -- there is an id for a record, and its handles may be
+  abbrev pub MayHold : State K V P View → Incoming K V P → Type 0
+  MayHold old i = HasId old i.id × (i.handles ≤ old.limits.handles)
 
   -- An insert of a phantom record that is not refused: its key's record gives way, then it is told as
-  -- `Remove`. Nothing is evicted, and it is in the index at no time.
-  pub record InsertsPhantom (old : State K V P View) (d : Data K V P) (ls : List (Event × Gone K V P)) (entry : Held K V P) (new : State K V P View) : Type 0 where
-    pub may : MayHold old
+  -- `Remove`. Nothing is evicted, and it is in the index at no time. The entry has this source.
+  pub record InsertsPhantom (source : Source) (old : State K V P View) (i : Incoming K V P) (ls : List (Event × Gone K V P)) (entry : Held K V P) (new : State K V P View) : Type 0 where
+    pub may : MayHold old i
     pub replaced : List (Event × Gone K V P)
     pub last : State K V P View
-    pub leaves : ls ≡ replaced ++ (Remove, record { id = old.next; kept = d }) ∷ []
-    pub gives_way : GivesWay (old.index (key_of d)) old replaced last
-    pub entry_is : entry ≡ entry_of old old.next d Outer
-    pub after : new ≡ after_hold last d
+    pub leaves : ls ≡ replaced ++ (Remove, record { number = old.number; id = i.id; kept = i.kept }) ∷ []
+    pub gives_way : GivesWay (old.index (key_of i.kept)) old replaced last
+    pub entry_is : entry ≡ entry_of old i.id i.kept source
+    pub after : new ≡ after_hold last i
 
-  -- An insert of a phantom record that is refused: for a number, a handle or for want of memory. Nothing has
+  -- An insert of a phantom record that is refused: for an id, a handle or for want of memory. Nothing has
   -- changed.
-  abbrev pub RefusesPhantom : State K V P View → Data K V P → Reason → List (Event × Gone K V P) → State K V P View → Type 0
-  RefusesPhantom old d Ids ls new = (old.limits.ids ≤ old.next) × (ls ≡ []) × (new ≡ old)
-  RefusesPhantom old d Handles ls new = (old.next < old.limits.ids) × (old.limits.handles < 1) × (ls ≡ []) × (new ≡ old)
-  RefusesPhantom old d NoMemory ls new = MayHold old × (ls ≡ []) × (new ≡ old)
-  RefusesPhantom old d _ ls new = ⊥
+  abbrev pub RefusesPhantom : State K V P View → Incoming K V P → Reason → List (Event × Gone K V P) → State K V P View → Type 0
+  RefusesPhantom old i Ids ls new = LacksId old i.id × (ls ≡ []) × (new ≡ old)
+  RefusesPhantom old i Handles ls new = HasId old i.id × (old.limits.handles < i.handles) × (ls ≡ []) × (new ≡ old)
+  RefusesPhantom old i NoMemory ls new = MayHold old i × (ls ≡ []) × (new ≡ old)
+  RefusesPhantom old i _ ls new = ⊥
 
   -- an insert of a record that is phantom, or is not
-  abbrev pub InsertsBy : Bool → State K V P View → Data K V P → List (Event × Gone K V P) → Held K V P → State K V P View → Type 0
-  InsertsBy true old d ls entry new = InsertsPhantom old d ls entry new
-  InsertsBy false old d ls entry new = InsertsPlain old d ls entry new
+  abbrev pub InsertsBy : Bool → Source → State K V P View → Incoming K V P → List (Event × Gone K V P) → Held K V P → State K V P View → Type 0
+  InsertsBy true source old i ls entry new = InsertsPhantom source old i ls entry new
+  InsertsBy false source old i ls entry new = InsertsPlain source old i ls entry new
 
-  abbrev pub RefusesBy : Bool → State K V P View → Data K V P → Reason → List (Event × Gone K V P) → State K V P View → Type 0
-  RefusesBy true old d reason ls new = RefusesPhantom old d reason ls new
-  RefusesBy false old d reason ls new = RefusesPlain old d reason ls new
+  abbrev pub RefusesBy : Bool → State K V P View → Incoming K V P → Reason → List (Event × Gone K V P) → State K V P View → Type 0
+  RefusesBy true old i reason ls new = RefusesPhantom old i reason ls new
+  RefusesBy false old i reason ls new = RefusesPlain old i reason ls new
 
   -- an insert that is not refused, and one that is
-  abbrev pub Inserts : State K V P View → Data K V P → List (Event × Gone K V P) → Held K V P → State K V P View → Type 0
-  Inserts old d ls entry new = InsertsBy (is_phantom_record m d) old d ls entry new
+  abbrev pub Inserts : Source → State K V P View → Incoming K V P → List (Event × Gone K V P) → Held K V P → State K V P View → Type 0
+  Inserts source old i ls entry new = InsertsBy (is_phantom_record m i.kept) source old i ls entry new
 
-  abbrev pub RefusesInsert : State K V P View → Data K V P → Reason → List (Event × Gone K V P) → State K V P View → Type 0
-  RefusesInsert old d reason ls new = RefusesBy (is_phantom_record m d) old d reason ls new
+  abbrev pub RefusesInsert : State K V P View → Incoming K V P → Reason → List (Event × Gone K V P) → State K V P View → Type 0
+  RefusesInsert old i reason ls new = RefusesBy (is_phantom_record m i.kept) old i reason ls new
 
   -- one more handle of a record of the index, which the policy is told of
   abbrev pub after_get : State K V P View → ℕ → Rec K V P → State K V P View
@@ -213,15 +225,15 @@ module _ {K V P View C : Type 0} (m : Meaning K P View C) where
   after_give_back s id r = if r.handles == 1 then after_last s id r else record s { records = update nat_eq s.records id (Some (record r { handles = r.handles - 1 })) }
 
   -- a phantom record leaves with its last handle
-  abbrev pub last_leave : ℕ → Rec K V P → Option (Event × Gone K V P)
-  last_leave id r = if (r.handles == 1) && (not r.resident && is_phantom_record m r.kept) then Some (Evict, gone_of id r) else None
+  abbrev pub last_leave : ℕ → ℕ → Rec K V P → Option (Event × Gone K V P)
+  last_leave number id r = if (r.handles == 1) && (not r.resident && is_phantom_record m r.kept) then Some (Evict, gone_of number id r) else None
 
   -- a handle is taken back
   pub record GivesBack (old : State K V P View) (id : ℕ) (leave : Option (Event × Gone K V P)) (new : State K V P View) : Type 0 where
     pub rec : Rec K V P
     pub there : old.records id ≡ Some rec
     pub held : 0 < rec.handles
-    pub leaves : leave ≡ last_leave id rec
+    pub leaves : leave ≡ last_leave old.number id rec
     pub after : new ≡ after_give_back old id rec
 
   -- What a touch answers: a get, whose entry is given back at once. It is refused at the limit of handles

@@ -4,6 +4,15 @@ use Rattle.foyer_policy.specs.declared.types.Hint.{Hint}
 use Rattle.foyer_policy.specs.declared.types.Source.{Source}
 use Rattle.foyer_core.specs.declared.record.Data.{Data}
 use Rattle.foyer_core.specs.declared.record.Flags.{Flags}
+use Rattle.foyer_core.specs.declared.share.Body.{Body}
+
+-- what all shares of a record have in common
+abbrev pub body_of : {K V P : Type 0} → Data K V P → Body K V P
+body_of d = record { key = d.key; value = d.value; properties = d.properties }
+
+-- the data of a body with this hash and weight
+abbrev pub kept_of : {K V P : Type 0} → Body K V P → ℕ → ℕ → Data K V P
+kept_of body hash weight = record { key = body.key; value = body.value; properties = body.properties; hash = hash; weight = weight }
 
 -- a record: its data, its place in the policy, its handle count and its flags
 pub record Stored (K V P : Type 0) : Type 0 where
@@ -29,8 +38,19 @@ pub record Held (K V P : Type 0) : Type 0 where
   pub source : Source
   pub left : Bool
 
--- what left
+-- a record that comes in: its id, what it keeps, and how many handles it then has
+pub record Incoming (K V P : Type 0) : Type 0 where
+  pub id : ℕ
+  pub kept : Data K V P
+  pub handles : ℕ
+
+-- what comes in with a slot
+abbrev pub incoming_of : {K V P : Type 0} → Kept K V P → Incoming K V P
+incoming_of s = record { id = s.id; kept = s.kept; handles = s.handles }
+
+-- what left: the record of this id of the core of this number
 pub record Gone (K V P : Type 0) : Type 0 where
+  pub number : ℕ
   pub id : ℕ
   pub kept : Data K V P
 

@@ -3,6 +3,7 @@
 ghost use Rattle.std.specs.Prelude.{◌≡◌, ◌↔◌, ℕ, ◌<◌, true, false, [], Some, None, Ok, Err, IfOk, IfErr, IfSome, OnOk, OnErr, IsOk, IsTrue, MatchResult, is_some, length, map, vec_len};
 ghost use Rattle.std.specs.Option.{option_to_list};
 ghost use Rattle.foyer_policy.specs.declared.error.Reason.TheVariants.{NoMemory};
+ghost use Rattle.foyer_policy.specs.declared.types.Source.TheVariants.{Outer};
 ghost use Rattle.foyer_core.specs.Core.{AreHashed, Belong};
 ghost use Rattle.foyer_core.specs.Shards.{state_of};
 ghost use Rattle.foyer_core.specs.State.{IsAdmitted, MakesPlain, coming_in};
@@ -16,7 +17,7 @@ use crate::record::Data;
 use crate::shard::Shard;
 use crate::weighter::Weighter;
 use foyer_policy::{
-    Error, Event, Eviction, HashBuilder, Key, Location, Properties, Reason, Result, Value,
+    Error, Event, Eviction, HashBuilder, Key, Location, Properties, Reason, Result, Source, Value,
 };
 use std::alloc::Global;
 use std::marker::PhantomData;
@@ -196,7 +197,7 @@ impl<
         requires clones { (k c : K) → K.is_clone k c → K.eq c k ≡ true }
         ensures inserted { let hash = S.hash_of (core_of self.old).hash_builder (K.hash_input key) in
             (p : P) × P.is_default p
-            × InsertsWeighed (meaning_of_core self.old) (W.weighs (core_of self.old).weighter key value) (A.admits (core_of self.old).filter key value)
+            × InsertsWeighed (meaning_of_core self.old) Outer (W.weighs (core_of self.old).weighter key value) (A.admits (core_of self.old).filter key value)
             hash key value (λ admitted. coming_in P.location_of P.with_phantom_of admitted p) result (core_of self.old) (core_of self.new) }
         ensures answers { IfOk result (λ made. AnswersNobody made.answers) }
         ensures found { ((p : P) → P.is_default p → MakesPlain P.phantom_of P.location_of p) → IsAdmitted (A.admits (core_of self.old).filter key value)
@@ -234,7 +235,7 @@ impl<
     ) -> std::result::Result<Inserted<K, V, P, N>, Refused<K, V, P>>
         requires clones { (k c : K) → K.is_clone k c → K.eq c k ≡ true }
         ensures inserted { let hash = S.hash_of (core_of self.old).hash_builder (K.hash_input key) in
-            InsertsWeighed (meaning_of_core self.old) (W.weighs (core_of self.old).weighter key value) (A.admits (core_of self.old).filter key value)
+            InsertsWeighed (meaning_of_core self.old) Outer (W.weighs (core_of self.old).weighter key value) (A.admits (core_of self.old).filter key value)
             hash key value (λ admitted. coming_in P.location_of P.with_phantom_of admitted properties) result (core_of self.old) (core_of self.new) }
         ensures answers { IfOk result (λ made. AnswersNobody made.answers) }
         ensures found { MakesPlain P.phantom_of P.location_of properties → IsAdmitted (A.admits (core_of self.old).filter key value)
@@ -260,7 +261,7 @@ impl<
             weight,
         };
         let place = self.place(hash);
-        let (entry, leaves) = self.shards[place].emplace(self.alloc, kept)?;
+        let (entry, leaves) = self.shards[place].emplace(self.alloc, kept, Source::Outer)?;
         Ok(Inserted {
             entry,
             answers: Answers {

@@ -3,10 +3,11 @@
 ghost use Rattle.std.specs.Prelude.{◌≡◌, IsNone, None, Some, false, true, MatchOption, IfSome, IfOk, IfErr};
 ghost use Rattle.foyer_policy.specs.declared.error.Reason.TheVariants.{NoMemory};
 ghost use Rattle.std.specs.Arc.{arc_value};
+ghost use Rattle.foyer_core.specs.Values.{body_of};
 
 use crate::piece::Piece;
-use crate::record::Data;
-use foyer_policy::{Error, Reason, Result, Source};
+use crate::share::{Body, Share};
+use foyer_policy::{Result, Source};
 use std::alloc::Global;
 use std::marker::Model;
 use std::sync::Arc;
@@ -14,24 +15,24 @@ use std::sync::Arc;
 /// A record that left. It stays readable.
 #[derive(Drop)]
 pub struct Left<K, V, P> {
+    number: u64,
     id: u64,
-    kept: Arc<Data<K, V, P>, Global>,
+    kept: Share<K, V, P>,
 }
 
 impl<K, V, P> Model for Left<K, V, P> {
-    ghost use Rattle.std.specs.Arc.{arc_value};
     ghost use Rattle.foyer_core.specs.Values.{Gone};
 
     ghost Value = { Gone K V P };
 
-    ghost view = { λ l. record { id = l.id; kept = arc_value l.kept } };
+    ghost view = { λ l. record { number = l.number; id = l.id; kept = l.kept } };
 }
 
 impl<K, V, P> Left<K, V, P> {
-    pub(crate) fn new(id: u64, share: Arc<Data<K, V, P>, Global>) -> Self
-        ensures { result ≡ record { id = id; kept = arc_value share } }
+    pub(crate) fn new(number: u64, id: u64, kept: Share<K, V, P>) -> Self
+        ensures { result ≡ record { number = number; id = id; kept = kept } }
     {
-        Left { id, kept: share }
+        Left { number, id, kept }
     }
 
     /// The record's number, which its shard gave once.
@@ -45,35 +46,43 @@ impl<K, V, P> Left<K, V, P> {
     pub fn key(&self) -> &K
         ensures { result.now ≡ self.now.kept.key }
     {
-        &self.kept.key
+        self.kept.key()
     }
 
     /// The value.
     pub fn value(&self) -> &V
         ensures { result.now ≡ self.now.kept.value }
     {
-        &self.kept.value
+        self.kept.value()
     }
 
     /// What came with them.
     pub fn properties(&self) -> &P
         ensures { result.now ≡ self.now.kept.properties }
     {
-        &self.kept.properties
+        self.kept.properties()
     }
 
     /// The key's hash.
     pub fn hash(&self) -> u64
         ensures { result ≡ self.now.kept.hash }
     {
-        self.kept.hash
+        self.kept.hash()
     }
 
     /// What the record counted against the capacity.
     pub fn weight(&self) -> usize
         ensures { result ≡ self.now.kept.weight }
     {
-        self.kept.weight
+        self.kept.weight()
+    }
+
+    /// A piece of the record. It takes no memory.
+    pub fn piece(self) -> Piece<K, V, P>
+        ensures { result ≡ record { number = self.number; id = self.id; kept = self.kept } }
+    {
+        let Left { number, id, kept } = self;
+        Piece::of_share(number, id, 0, kept)
     }
 }
 
@@ -84,8 +93,9 @@ pub struct CoreEntry<K, V, P> {
     id: u64,
     // Where the record was when the entry was made. It is a hint alone.
     slot: usize,
-    kept: Arc<Data<K, V, P>, Global>,
-    left: Option<Arc<Data<K, V, P>, Global>>,
+    kept: Share<K, V, P>,
+    // What is left for a leave.
+    left: Option<Arc<Body<K, V, P>, Global>>,
     source: Source,
 }
 
@@ -93,13 +103,13 @@ impl<K, V, P> Model for CoreEntry<K, V, P> {
     ghost use Rattle.std.specs.Prelude.{◌≡◌, is_some};
     ghost use Rattle.std.specs.Option.{ForSome};
     ghost use Rattle.std.specs.Arc.{arc_value};
-    ghost use Rattle.foyer_core.specs.Values.{Held};
+    ghost use Rattle.foyer_core.specs.Values.{Held, body_of};
 
     ghost Value = { Held K V P };
 
-    ghost view = { λ e. record { number = e.number; id = e.id; kept = arc_value e.kept; source = e.source; left = is_some e.left } };
+    ghost view = { λ e. record { number = e.number; id = e.id; kept = e.kept; source = e.source; left = is_some e.left } };
 
-    ghost invariant = { λ e. ForSome e.left (λ share. arc_value share ≡ arc_value e.kept) };
+    ghost invariant = { λ e. ForSome e.left (λ body. arc_value body ≡ body_of e.kept) };
 }
 
 impl<K: Drop, V: Drop, P: Drop> CoreEntry<K, V, P> {
@@ -107,18 +117,18 @@ impl<K: Drop, V: Drop, P: Drop> CoreEntry<K, V, P> {
         number: u64,
         id: u64,
         slot: usize,
-        share: Arc<Data<K, V, P>, Global>,
-        left: Arc<Data<K, V, P>, Global>,
+        kept: Share<K, V, P>,
+        left: Arc<Body<K, V, P>, Global>,
         source: Source,
     ) -> Self
-        requires { arc_value left ≡ arc_value share }
-        ensures { result ≡ record { number = number; id = id; kept = arc_value share; source = source; left = true } }
+        requires { arc_value left ≡ body_of kept }
+        ensures { result ≡ record { number = number; id = id; kept = kept; source = source; left = true } }
     {
         CoreEntry {
             number,
             id,
             slot,
-            kept: share,
+            kept,
             left: Some(left),
             source,
         }
@@ -154,35 +164,35 @@ impl<K: Drop, V: Drop, P: Drop> CoreEntry<K, V, P> {
     pub fn hash(&self) -> u64
         ensures { result ≡ self.now.kept.hash }
     {
-        self.kept.hash
+        self.kept.hash()
     }
 
     /// The key.
     pub fn key(&self) -> &K
         ensures { result.now ≡ self.now.kept.key }
     {
-        &self.kept.key
+        self.kept.key()
     }
 
     /// The value.
     pub fn value(&self) -> &V
         ensures { result.now ≡ self.now.kept.value }
     {
-        &self.kept.value
+        self.kept.value()
     }
 
     /// What came with them.
     pub fn properties(&self) -> &P
         ensures { result.now ≡ self.now.kept.properties }
     {
-        &self.kept.properties
+        self.kept.properties()
     }
 
     /// What the record counts against the capacity.
     pub fn weight(&self) -> usize
         ensures { result ≡ self.now.kept.weight }
     {
-        self.kept.weight
+        self.kept.weight()
     }
 
     /// Where the entry came from.
@@ -194,15 +204,16 @@ impl<K: Drop, V: Drop, P: Drop> CoreEntry<K, V, P> {
 
     /// What a leave of the record would show, from a share of its own. It is given once.
     pub fn left(&mut self) -> Option<Left<K, V, P>>
-        ensures given { IfSome result (λ l. (self.old.left ≡ true) × (l ≡ record { id = self.old.id; kept = self.old.kept })) }
+        ensures given { IfSome result (λ l. (self.old.left ≡ true) × (l ≡ record { number = self.old.number; id = self.old.id; kept = self.old.kept })) }
         ensures once { IsNone result → self.old.left ≡ false }
         ensures taken { self.new ≡ record self.old { left = false } }
     {
         match self.left.take() {
-            Some(share) => Some(Left {
-                id: self.id,
-                kept: share,
-            }),
+            Some(body) => Some(Left::new(
+                self.number,
+                self.id,
+                Share::of_body(body, self.kept.hash(), self.kept.weight()),
+            )),
             None => None,
         }
     }
@@ -212,9 +223,7 @@ impl<K: Drop, V: Drop, P: Drop> CoreEntry<K, V, P> {
         ensures made { IfOk result (λ p. p ≡ record { number = self.now.number; id = self.now.id; kept = self.now.kept }) }
         ensures refused { IfErr result (λ e. e ≡ NoMemory) }
     {
-        let Ok(share) = Arc::try_clone(&self.kept) else {
-            return Err(Error::new(Reason::NoMemory));
-        };
+        let share = self.kept.try_clone()?;
         Ok(Piece::of_share(self.number, self.id, self.slot, share))
     }
 
@@ -224,12 +233,8 @@ impl<K: Drop, V: Drop, P: Drop> CoreEntry<K, V, P> {
         ensures entry { IfOk result (λ e. e ≡ record self.now { left = true }) }
         ensures refused { IfErr result (λ e. e ≡ NoMemory) }
     {
-        let Ok(kept) = Arc::try_clone(&self.kept) else {
-            return Err(Error::new(Reason::NoMemory));
-        };
-        let Ok(left) = Arc::try_clone(&self.kept) else {
-            return Err(Error::new(Reason::NoMemory));
-        };
+        let kept = self.kept.try_clone()?;
+        let left = self.kept.body()?;
         Ok(CoreEntry::new(self.number, self.id, slot, kept, left, self.source))
     }
 

@@ -12,6 +12,7 @@ pub mod properties;
 pub mod record;
 mod records;
 pub mod shard;
+mod share;
 mod slot;
 pub mod weighter;
 

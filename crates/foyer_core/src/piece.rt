@@ -1,15 +1,14 @@
 //! Pieces: what is kept of records outside of their core.
 
 ghost use Rattle.std.specs.Prelude.{◌≡◌, IfOk, IfErr};
-ghost use Rattle.std.specs.Arc.{arc_value};
 ghost use Rattle.foyer_policy.specs.declared.error.Reason.TheVariants.{NoMemory};
 
-use crate::record::{Data, Record};
+use crate::record::Record;
+use crate::share::Share;
 use foyer_policy::Result;
-use std::alloc::{AllocError, Global};
+use std::alloc::AllocError;
 use std::fmt::{self, Debug};
 use std::marker::Model;
-use std::sync::Arc;
 
 /// What is kept of a record outside of its core: a share of its data, with the core's number and the record's
 /// id. It is no handle: the record may leave.
@@ -19,16 +18,29 @@ pub struct Piece<K, V, P> {
     id: u64,
     // Where the record was when the piece was made. It is a hint alone.
     slot: usize,
-    kept: Arc<Data<K, V, P>, Global>,
+    kept: Share<K, V, P>,
 }
 
 impl<K, V, P> Model for Piece<K, V, P> {
-    ghost use Rattle.std.specs.Arc.{arc_value};
     ghost use Rattle.foyer_core.specs.Values.{Carried};
 
     ghost Value = { Carried K V P };
 
-    ghost view = { λ p. record { number = p.number; id = p.id; kept = arc_value p.kept } };
+    ghost view = { λ p. record { number = p.number; id = p.id; kept = p.kept } };
+}
+
+impl<K, V, P> Piece<K, V, P> {
+    // A piece with this share of a record's data. The record may stand in this slot.
+    pub(crate) fn of_share(number: u64, id: u64, slot: usize, kept: Share<K, V, P>) -> Self
+        ensures { result ≡ record { number = number; id = id; kept = kept } }
+    {
+        Piece {
+            number,
+            id,
+            slot,
+            kept,
+        }
+    }
 }
 
 impl<K: Drop, V: Drop, P: Drop> Piece<K, V, P> {
@@ -41,49 +53,32 @@ impl<K: Drop, V: Drop, P: Drop> Piece<K, V, P> {
         Ok(Piece::of_share(number, id, 0, share))
     }
 
-    // A piece with this share of a record's data. The record may stand in this slot.
-    pub(crate) fn of_share(
-        number: u64,
-        id: u64,
-        slot: usize,
-        share: Arc<Data<K, V, P>, Global>,
-    ) -> Self
-        ensures { result ≡ record { number = number; id = id; kept = arc_value share } }
-    {
-        Piece {
-            number,
-            id,
-            slot,
-            kept: share,
-        }
-    }
-
     /// The key.
     pub fn key(&self) -> &K
         ensures { result.now ≡ self.now.kept.key }
     {
-        &self.kept.key
+        self.kept.key()
     }
 
     /// The value.
     pub fn value(&self) -> &V
         ensures { result.now ≡ self.now.kept.value }
     {
-        &self.kept.value
+        self.kept.value()
     }
 
     /// What came with them.
     pub fn properties(&self) -> &P
         ensures { result.now ≡ self.now.kept.properties }
     {
-        &self.kept.properties
+        self.kept.properties()
     }
 
     /// The key's hash.
     pub fn hash(&self) -> u64
         ensures { result ≡ self.now.kept.hash }
     {
-        self.kept.hash
+        self.kept.hash()
     }
 }
 
@@ -94,7 +89,10 @@ impl<K: Drop, V: Drop, P: Drop> Clone for Piece<K, V, P> {
 
     /// The same piece, with a share of its own, which is refused where the count of shares is full.
     fn clone(&self) -> std::result::Result<Self, AllocError> {
-        Ok(Piece::of_share(self.number, self.id, self.slot, Arc::try_clone(&self.kept)?))
+        let Ok(kept) = self.kept.try_clone() else {
+            return Err(AllocError);
+        };
+        Ok(Piece::of_share(self.number, self.id, self.slot, kept))
     }
 }
 
@@ -102,7 +100,7 @@ impl<K, V, P> Debug for Piece<K, V, P> {
     fn fmt<W: fmt::Write>(&self, f: &mut fmt::Formatter<W>) -> fmt::Result {
         f.debug_struct("Piece")
             .field("record", &self.id)
-            .field("hash", &self.kept.hash)
+            .field("hash", &self.kept.hash())
             .finish()
     }
 }

@@ -4,7 +4,9 @@ ghost use Rattle.std.specs.Prelude.{◌≡◌, ◌+◌, ◌-◌, ◌<◌, ◌≤
 ghost use Rattle.std.specs.Arc.{arc_value};
 ghost use Rattle.foyer_policy.specs.declared.error.Reason.TheVariants.{Handles, NoMemory};
 ghost use Rattle.foyer_core.specs.Flags.{bits_of, union_of, Includes, with_flags};
+ghost use Rattle.foyer_core.specs.Values.{body_of};
 
+use crate::share::{Body, Share};
 use foyer_policy::{Error, Place, Reason, Result};
 use std::alloc::Global;
 use std::marker::Model;
@@ -68,19 +70,18 @@ impl Flags {
 /// A record. Its data are shared with its entries and pieces.
 #[derive(Drop)]
 pub struct Record<K, V, P> {
-    kept: Arc<Data<K, V, P>, Global>,
+    kept: Share<K, V, P>,
     state: Option<Place>,
     refs: usize,
     flags: Flags,
 }
 
 impl<K, V, P> Model for Record<K, V, P> {
-    ghost use Rattle.std.specs.Arc.{arc_value};
     ghost use Rattle.foyer_core.specs.Values.{Stored};
 
     ghost Value = { Stored K V P };
 
-    ghost view = { λ r. record { kept = arc_value r.kept; place = r.state; handles = r.refs; flags = r.flags } };
+    ghost view = { λ r. record { kept = r.kept; place = r.state; handles = r.refs; flags = r.flags } };
 }
 
 impl<K: Drop, V: Drop, P: Drop> Record<K, V, P> {
@@ -89,53 +90,57 @@ impl<K: Drop, V: Drop, P: Drop> Record<K, V, P> {
         ensures made { IfOk result (λ r. (r.kept ≡ kept) × (r.place ≡ None) × (r.handles ≡ 0) × (bits_of r.flags ≡ 0)) }
         ensures refused { IfErr result (λ e. e ≡ NoMemory) }
     {
-        let Ok(kept) = Arc::new(alloc, kept) else {
-            return Err(Error::new(Reason::NoMemory));
-        };
-        Ok(Record {
+        Ok(Record::of_share(Share::new(alloc, kept)?, 0))
+    }
+
+    // A record with this share of its data and so many handles, which is in nothing.
+    pub(crate) fn of_share(kept: Share<K, V, P>, refs: usize) -> Self
+        ensures { (result.kept ≡ kept) × (result.place ≡ None) × (result.handles ≡ refs) × (bits_of result.flags ≡ 0) }
+    {
+        Record {
             kept,
             state: None,
-            refs: 0,
+            refs,
             flags: Flags {
                 in_eviction: false,
                 in_indexer: false,
             },
-        })
+        }
     }
 
     /// The key.
     pub fn key(&self) -> &K
         ensures { result.now ≡ self.now.kept.key }
     {
-        &self.kept.key
+        self.kept.key()
     }
 
     /// The value.
     pub fn value(&self) -> &V
         ensures { result.now ≡ self.now.kept.value }
     {
-        &self.kept.value
+        self.kept.value()
     }
 
     /// What came with them.
     pub fn properties(&self) -> &P
         ensures { result.now ≡ self.now.kept.properties }
     {
-        &self.kept.properties
+        self.kept.properties()
     }
 
     /// The key's hash.
     pub fn hash(&self) -> u64
         ensures { result ≡ self.now.kept.hash }
     {
-        self.kept.hash
+        self.kept.hash()
     }
 
     /// What the record counts against the capacity.
     pub fn weight(&self) -> usize
         ensures { result ≡ self.now.kept.weight }
     {
-        self.kept.weight
+        self.kept.weight()
     }
 
     /// The record's place in the policy, while it is in.
@@ -230,27 +235,25 @@ impl<K: Drop, V: Drop, P: Drop> Record<K, V, P> {
         self.state = state;
     }
 
-    // What the record keeps.
-    pub(crate) fn data(&self) -> &Data<K, V, P>
-        ensures { result.now ≡ self.now.kept }
-    {
-        &self.kept
-    }
-
     // One more share of the data. Only memory can be missing.
-    pub(crate) fn share(&self) -> Result<Arc<Data<K, V, P>, Global>>
-        ensures kept { IfOk result (λ share. arc_value share ≡ self.now.kept) }
+    pub(crate) fn share(&self) -> Result<Share<K, V, P>>
+        ensures kept { IfOk result (λ share. share ≡ self.now.kept) }
         ensures refused { IfErr result (λ e. e ≡ NoMemory) }
     {
-        match Arc::try_clone(&self.kept) {
-            Ok(share) => Ok(share),
-            Err(_) => Err(Error::new(Reason::NoMemory)),
-        }
+        self.kept.try_clone()
+    }
+
+    // One more share of the data but for the hash and the weight. Only memory can be missing.
+    pub(crate) fn body(&self) -> Result<Arc<Body<K, V, P>, Global>>
+        ensures body { IfOk result (λ body. arc_value body ≡ body_of self.now.kept) }
+        ensures refused { IfErr result (λ e. e ≡ NoMemory) }
+    {
+        self.kept.body()
     }
 
     // The data of a record that is let go.
-    pub(crate) fn into_data(self) -> Arc<Data<K, V, P>, Global>
-        ensures { arc_value result ≡ self.kept }
+    pub(crate) fn into_share(self) -> Share<K, V, P>
+        ensures { result ≡ self.kept }
     {
         let Record { kept, .. } = self;
         kept

@@ -1,6 +1,6 @@
 //! The records of a shard: a slab of slots, and where each id stands.
 
-ghost use Rattle.std.specs.Prelude.{◌≡◌, ℕ, ◌+◌, ◌-◌, ◌<◌, ◌^◌, Option, Some, None, IfErr, IfOk, OnOk, OnErr, IsSomeAnd, IsSome, IsTrue, nat_eq, option_copied, true};
+ghost use Rattle.std.specs.Prelude.{◌≡◌, ℕ, ◌+◌, ◌-◌, ◌<◌, ◌^◌, Option, Some, None, IfErr, IfOk, OnOk, OnErr, IsSomeAnd, IsSome, IsTrue, nat_eq, option_copied, option_map, true};
 ghost use Rattle.std.specs.HashMap.{get as get_key, spare};
 ghost use Rattle.std.specs.Map.{update};
 ghost use Rattle.slab.specs.Slab.{get};
@@ -15,6 +15,7 @@ use foyer_policy::{Error, Place, Reason, Result};
 use slab::Slab;
 use std::alloc::Global;
 use std::collections::HashMap;
+use std::mem;
 
 /// A shard's records. A record is reached by its slot; where each id stands is asked only where a slot
 /// isn't known.
@@ -75,19 +76,72 @@ impl<K: Drop, V: Drop, P: Drop> Records<K, V, P> {
         self.ids.get(&id).copied()
     }
 
-    /// Puts a record with a new id in, and answers its slot. It asks for room.
-    pub fn put(&mut self, slot: Slot<K, V, P>) -> usize
+    /// Puts a record in where its id stands, or in a new slot where it does not, and answers the slot and what
+    /// stood there. It asks for room.
+    pub fn put(
+        &mut self,
+        slot: Slot<K, V, P>,
+        stands: Option<usize>,
+    ) -> (usize, Option<Slot<K, V, P>>)
+        requires room { HasRoom self.old }
+        requires stands { stands ≡ number_of self.old slot.id }
+        ensures stood { slot_in self.old result.0 ≡ result.1 }
+        ensures was { record_in self.old slot.id ≡ option_map rec_of result.1 }
+        ensures alike { (x : Kept K V P) → result.1 ≡ Some x → x.id ≡ slot.id }
+        ensures slots { (n : ℕ) → slot_in self.new n ≡ update nat_eq (slot_in self.old) result.0 (Some slot) n }
+        ensures records { (id : ℕ) → record_in self.new id ≡ update nat_eq (record_in self.old) slot.id (Some (rec_of slot)) id }
+    {
+        match stands {
+            Some(place) => {
+                let stood = self.replace(place, slot);
+                (place, Some(stood))
+            }
+            None => (self.put_new(slot), None),
+        }
+    }
+
+    // Puts a record with a new id in, and answers its slot.
+    fn put_new(&mut self, slot: Slot<K, V, P>) -> usize
         requires room { HasRoom self.old }
         requires new { number_of self.old slot.id ≡ None }
         ensures free { slot_in self.old result ≡ None }
         ensures slots { (n : ℕ) → slot_in self.new n ≡ update nat_eq (slot_in self.old) result (Some slot) n }
-        ensures ids { (id : ℕ) → number_of self.new id ≡ update nat_eq (number_of self.old) slot.id (Some result) id }
         ensures records { (id : ℕ) → record_in self.new id ≡ update nat_eq (record_in self.old) slot.id (Some (rec_of slot)) id }
     {
         let id = slot.id();
         let place = self.slots.insert_reserved(slot);
         name(&mut self.ids, id, place);
         place
+    }
+
+    // Puts a record in a slot of its id, and answers what stood there.
+    fn replace(&mut self, place: usize, slot: Slot<K, V, P>) -> Slot<K, V, P>
+        requires { IsSomeAnd (slot_in self.old place) (λ s. s.id ≡ slot.id) }
+        ensures stood { slot_in self.old place ≡ Some result }
+        ensures slots { (n : ℕ) → slot_in self.new n ≡ update nat_eq (slot_in self.old) place (Some slot) n }
+        ensures records { (id : ℕ) → record_in self.new id ≡ update nat_eq (record_in self.old) slot.id (Some (rec_of slot)) id }
+    {
+        let Some(found) = self.slots.get_mut(place) else {
+            unreachable!();
+        };
+        mem::replace(found, slot)
+    }
+
+    /// Takes what was put in a slot out again, and puts back what stood there.
+    pub fn put_back(&mut self, place: usize, stood: Option<Slot<K, V, P>>)
+        requires there { IsSome (slot_in self.old place) }
+        requires alike { (x y : Kept K V P) → slot_in self.old place ≡ Some x → stood ≡ Some y → x.id ≡ y.id }
+        ensures slots { (n : ℕ) → slot_in self.new n ≡ update nat_eq (slot_in self.old) place stood n }
+        ensures records { (x : Kept K V P) → slot_in self.old place ≡ Some x → (id : ℕ) → record_in self.new id ≡ update nat_eq (record_in self.old) x.id (option_map rec_of stood) id }
+    {
+        match stood {
+            Some(slot) => {
+                let _ = self.replace(place, slot);
+            }
+            None => {
+                let _ = self.forget(place);
+            }
+        }
     }
 
     /// Counts one handle more.
@@ -144,11 +198,11 @@ impl<K: Drop, V: Drop, P: Drop> Records<K, V, P> {
         found
     }
 
-    /// A slot's record is out of the index and the policy: what leaves with it. It stays only while it has
-    /// a handle.
-    pub fn leave(&mut self, slot: usize) -> Left<K, V, P>
+    /// A slot's record is out of the index and the policy: what leaves with it, in the core of this number. It
+    /// stays only while it has a handle.
+    pub fn leave(&mut self, slot: usize, number: u64) -> Left<K, V, P>
         requires { IsSomeAnd (slot_in self.old slot) (λ s. s.resident ≡ true) }
-        ensures left { (s : Kept K V P) → slot_in self.old slot ≡ Some s → result ≡ record { id = s.id; kept = s.kept } }
+        ensures left { (s : Kept K V P) → slot_in self.old slot ≡ Some s → result ≡ record { number = number; id = s.id; kept = s.kept } }
         ensures slots { (s : Kept K V P) → slot_in self.old slot ≡ Some s → (n : ℕ) → slot_in self.new n ≡ update nat_eq (slot_in self.old) slot (slot_outside s) n }
         ensures records { (s : Kept K V P) → slot_in self.old slot ≡ Some s → (id : ℕ) → record_in self.new id ≡ update nat_eq (record_in self.old) s.id (outside (rec_of s)) id }
         ensures room { HasRoom self.old → HasRoom self.new }
@@ -156,7 +210,7 @@ impl<K: Drop, V: Drop, P: Drop> Records<K, V, P> {
         let Some(found) = self.slots.get_mut(slot) else {
             unreachable!();
         };
-        let left = found.leave();
+        let left = found.leave(number);
         if found.handles() == 0 {
             let _ = self.forget(slot);
         }

@@ -1,71 +1,76 @@
 //! Slots: where a shard keeps its records.
 
 ghost use Rattle.std.specs.Prelude.{◌≡◌, ◌+◌, ◌-◌, ◌<◌, ◌^◌, IfOk, IfErr, OnErr, true, false, IsTrue, Some, None};
-ghost use Rattle.std.specs.Arc.{arc_value};
 ghost use Rattle.foyer_policy.specs.declared.error.Reason.TheVariants.{NoMemory};
-ghost use Rattle.foyer_core.specs.Values.{Kept};
 
 use crate::entry::{CoreEntry, Left};
-use crate::record::{Data, Record};
+use crate::record::Record;
+use crate::share::{Body, Share};
 use foyer_policy::{Place, Result, Source};
 use std::alloc::Global;
 use std::marker::Model;
 use std::sync::Arc;
 
 /// A record with its id. While the record is in the index and the policy, it has one more share of its
-/// data, with which it leaves.
+/// body, with which it leaves.
 #[derive(Drop)]
 pub struct Slot<K, V, P> {
     id: u64,
     record: Record<K, V, P>,
-    leave: Option<Arc<Data<K, V, P>, Global>>,
+    leave: Option<Arc<Body<K, V, P>, Global>>,
 }
 
 impl<K, V, P> Model for Slot<K, V, P> {
     ghost use Rattle.std.specs.Prelude.{◌≡◌, is_some};
     ghost use Rattle.std.specs.Option.{ForSome};
     ghost use Rattle.std.specs.Arc.{arc_value};
-    ghost use Rattle.foyer_core.specs.Values.{Kept};
+    ghost use Rattle.foyer_core.specs.Values.{Kept, body_of};
 
     ghost Value = { Kept K V P };
 
     ghost view = { λ s. record { id = s.id; kept = s.record.kept; handles = s.record.handles; resident = s.record.flags.in_indexer; place = s.record.place } };
 
-    ghost invariant = { λ s. (s.record.flags.in_indexer ≡ is_some s.leave) × ForSome s.leave (λ share. arc_value share ≡ s.record.kept) };
+    ghost invariant = { λ s. (s.record.flags.in_indexer ≡ is_some s.leave) × ForSome s.leave (λ body. arc_value body ≡ body_of s.record.kept) };
 }
 
 impl<K: Drop, V: Drop, P: Drop> Slot<K, V, P> {
-    /// A record that is to come in, with no handle. Only memory can be missing.
-    pub fn new(alloc: Global, kept: Data<K, V, P>, id: u64) -> Result<Self>
-        ensures made { IfOk result (λ s. s ≡ record { id = id; kept = kept; handles = 0; resident = true; place = None }) }
+    /// A record with this share of its data and so many handles, which is in nothing.
+    pub fn outside(kept: Share<K, V, P>, id: u64, handles: usize) -> Self
+        ensures { result ≡ record { id = id; kept = kept; handles = handles; resident = false; place = None } }
+    {
+        Slot {
+            id,
+            record: Record::of_share(kept, handles),
+            leave: None,
+        }
+    }
+
+    /// The record is to come in: it gets the share with which it leaves. Only memory can be missing.
+    pub fn come_in(self) -> Result<Self>
+        ensures came { IfOk result (λ s. s ≡ record self { resident = true }) }
         ensures refused { IfErr result (λ e. e ≡ NoMemory) }
     {
-        let mut record = Record::new(alloc, kept)?;
-        let leave = Some(record.share()?);
+        let Slot { id, mut record, .. } = self;
+        let leave = Some(record.body()?);
         record.set_in_indexer(true);
         Ok(Slot { id, record, leave })
     }
 
-    /// A record that is to be held and not to come in, with no handle. Only memory can be missing.
-    pub fn outside(alloc: Global, kept: Data<K, V, P>, id: u64) -> Result<Self>
-        ensures made { IfOk result (λ s. s ≡ record { id = id; kept = kept; handles = 0; resident = false; place = None }) }
+    /// One more share of what the record keeps. Only memory can be missing.
+    pub fn share(&self) -> Result<Share<K, V, P>>
+        ensures share { IfOk result (λ share. share ≡ self.now.kept) }
         ensures refused { IfErr result (λ e. e ≡ NoMemory) }
     {
-        let record = Record::new(alloc, kept)?;
-        Ok(Slot {
-            id,
-            record,
-            leave: None,
-        })
+        self.record.share()
     }
 
-    /// What a leave of the record shows. Only memory can be missing.
-    pub fn left(&self) -> Result<Left<K, V, P>>
-        ensures left { IfOk result (λ l. l ≡ record { id = self.now.id; kept = self.now.kept }) }
+    /// What a leave of the record shows, in the core of this number. Only memory can be missing.
+    pub fn left(&self, number: u64) -> Result<Left<K, V, P>>
+        ensures left { IfOk result (λ l. l ≡ record { number = number; id = self.now.id; kept = self.now.kept }) }
         ensures refused { IfErr result (λ e. e ≡ NoMemory) }
     {
         let share = self.record.share()?;
-        Ok(Left::new(self.id, share))
+        Ok(Left::new(number, self.id, share))
     }
 
     pub fn id(&self) -> u64
@@ -74,10 +79,34 @@ impl<K: Drop, V: Drop, P: Drop> Slot<K, V, P> {
         self.id
     }
 
-    pub fn data(&self) -> &Data<K, V, P>
-        ensures { result.now ≡ self.now.kept }
+    pub fn hash(&self) -> u64
+        ensures { result ≡ self.now.kept.hash }
     {
-        self.record.data()
+        self.record.hash()
+    }
+
+    pub fn key(&self) -> &K
+        ensures { result.now ≡ self.now.kept.key }
+    {
+        self.record.key()
+    }
+
+    pub fn value(&self) -> &V
+        ensures { result.now ≡ self.now.kept.value }
+    {
+        self.record.value()
+    }
+
+    pub fn properties(&self) -> &P
+        ensures { result.now ≡ self.now.kept.properties }
+    {
+        self.record.properties()
+    }
+
+    pub fn weight(&self) -> usize
+        ensures { result ≡ self.now.kept.weight }
+    {
+        self.record.weight()
     }
 
     pub fn handles(&self) -> usize
@@ -112,7 +141,7 @@ impl<K: Drop, V: Drop, P: Drop> Slot<K, V, P> {
         ensures refused { IfErr result (λ e. e ≡ NoMemory) }
     {
         let share = self.record.share()?;
-        let left = self.record.share()?;
+        let left = self.record.body()?;
         Ok(CoreEntry::new(number, self.id, slot, share, left, source))
     }
 
@@ -134,30 +163,34 @@ impl<K: Drop, V: Drop, P: Drop> Slot<K, V, P> {
         self.record.dec_refs(1)
     }
 
-    /// The record is out of the index and the policy: what leaves with it.
-    pub fn leave(&mut self) -> Left<K, V, P>
+    /// The record is out of the index and the policy: what leaves with it, in the core of this number.
+    pub fn leave(&mut self, number: u64) -> Left<K, V, P>
         requires { IsTrue self.old.resident }
-        ensures left { result ≡ record { id = self.old.id; kept = self.old.kept } }
+        ensures left { result ≡ record { number = number; id = self.old.id; kept = self.old.kept } }
         ensures out { self.new ≡ record self.old { resident = false; place = None } }
     {
         self.record.set_in_indexer(false);
         self.record.set_in_eviction(false);
         self.record.set_state(None);
         match self.leave.take() {
-            Some(share) => Left::new(self.id, share),
+            Some(body) => Left::new(
+                number,
+                self.id,
+                Share::of_body(body, self.record.hash(), self.record.weight()),
+            ),
             None => unreachable!(),
         }
     }
 
-    /// What a record that is let go shows.
-    pub fn into_left(self) -> Left<K, V, P>
-        ensures { result ≡ record { id = self.id; kept = self.kept } }
+    /// What a record that is let go shows, in the core of this number.
+    pub fn into_left(self, number: u64) -> Left<K, V, P>
+        ensures { result ≡ record { number = number; id = self.id; kept = self.kept } }
     {
         let Slot {
             id,
             record,
             leave: _,
         } = self;
-        Left::new(id, record.into_data())
+        Left::new(number, id, record.into_share())
     }
 }

@@ -6,7 +6,8 @@ use Rattle.foyer_core.specs.Indexer.{same_key}
 use Rattle.foyer_core.specs.Values.{Rec, Gone, Held}
 use Rattle.foyer_core.specs.State.{Meaning, State, IsKept, key_of, handles_of, handles_in, is_phantom_record}
 use Rattle.foyer_policy.specs.declared.types.Event.{Event}
-use Rattle.foyer_core.specs.Steps.{Gets, Inserts, Removes}
+use Rattle.foyer_policy.specs.declared.types.Source.TheVariants.{Outer}
+use Rattle.foyer_core.specs.Steps.{Gets, Inserts, Removes, newcomer}
 use Rattle.foyer_session.proofs.CountLemmas.{inserts_entry}
 
 first_holds : (a b : Bool) → (a && b) ≡ true → a ≡ true
@@ -39,5 +40,5 @@ module _ {K V P View C : Type 0} (m : Meaning K P View C) (s : State K V P View)
 
 module _ {K V P View C : Type 0} (m : Meaning K P View C) (s : State K V P View) (kept : IsKept m s) where
   -- nor of the id of a record that came in
-  pub new_unused : (d : Data K V P) (leaves : List (Event × Gone K V P)) (entry : Held K V P) (t : State K V P View) → Inserts m s d leaves entry t → handles_in s entry.id ≡ 0
+  pub new_unused : (d : Data K V P) (leaves : List (Event × Gone K V P)) (entry : Held K V P) (t : State K V P View) → Inserts m Outer s (newcomer s d) leaves entry t → handles_in s entry.id ≡ 0
   new_unused d leaves entry t h = ap (λ (x : Held K V P). handles_in s x.id) (inserts_entry m (is_phantom_record m d) s d leaves entry t h) ∙ next_unused m s kept

@@ -3,12 +3,13 @@ use Rattle.std.proofs.Common.{◌≡◌, ℕ, List, [], ◌∷◌, ◌++◌, Opt
 use Rattle.std.specs.Prelude.{slice_set, IsOk, IfOk, option_and_then}
 use Rattle.std.proofs.lemmas.Bool.{false≢true}
 use Rattle.foyer_policy.specs.declared.types.Event.{Event}
+use Rattle.foyer_policy.specs.declared.types.Source.TheVariants.{Outer}
 use Rattle.foyer_policy.specs.declared.error.Reason.{Reason}
 use Rattle.foyer_policy.specs.declared.error.Reason.TheVariants.{Handles, NoMemory}
 use Rattle.foyer_core.specs.declared.record.Data.{Data}
 use Rattle.foyer_core.specs.Values.{Gone, Held}
 use Rattle.foyer_core.specs.State.{Meaning, State, hit, handles_in, is_phantom_record}
-use Rattle.foyer_core.specs.Steps.{Inserts, RefusesInsert, Gets, GivesBack, Touches, Removes, RefusesHandle, ClonesHandle}
+use Rattle.foyer_core.specs.Steps.{Inserts, RefusesInsert, Gets, GivesBack, Touches, Removes, RefusesHandle, ClonesHandle, newcomer}
 use Rattle.foyer_core.specs.Core.{Core, AtShard, Owns, hit_in, shard_at}
 use Rattle.foyer_session.specs.Step.{SessionState, held_at}
 use Rattle.foyer_session.specs.Owns.{OwnsHandles}
@@ -21,17 +22,17 @@ some_same h = cc
 
 module _ {K V P View C S W A : Type 0} (m : Meaning K P View C) (core new : Core K V P View S W A) (handles : List (Option (Held K V P))) (owns : OwnsHandles core handles) where
   -- a record came in, under an id of which there was no handle
-  pub inserted_owns : (d : Data K V P) (leaves : List (Event × Gone K V P)) (entry : Held K V P) (at : AtShard (λ s t. Inserts m s d leaves entry t) d.hash core new)
+  pub inserted_owns : (d : Data K V P) (leaves : List (Event × Gone K V P)) (entry : Held K V P) (at : AtShard (λ s t. Inserts m Outer s (newcomer s d) leaves entry t) d.hash core new)
       → handles_in at.before entry.id ≡ 0 → OwnsHandles new (handles ++ Some (record entry { left = false }) ∷ [])
   inserted_owns d leaves entry at none =
-      owns_more core new (λ s t. Inserts m s d leaves entry t) d.hash at (inserts_number m (is_phantom_record m d) at.before d leaves entry at.after at.stepped) handles (record entry { left = false })
+      owns_more core new (λ s t. Inserts m Outer s (newcomer s d) leaves entry t) d.hash at (inserts_number m (is_phantom_record m d) at.before d leaves entry at.after at.stepped) handles (record entry { left = false })
       (ap (λ (x : Held K V P). x.kept.hash) (inserts_entry m (is_phantom_record m d) at.before d leaves entry at.after at.stepped))
       (ap (λ (x : Held K V P). x.number) (inserts_entry m (is_phantom_record m d) at.before d leaves entry at.after at.stepped))
       (inserts_counts m (is_phantom_record m d) at.before d leaves entry at.after at.stepped none) owns
 
-  pub refused_owns : (d : Data K V P) (reason : Reason) (leaves : List (Event × Gone K V P)) (at : AtShard (λ s t. RefusesInsert m s d reason leaves t) d.hash core new) → OwnsHandles new handles
+  pub refused_owns : (d : Data K V P) (reason : Reason) (leaves : List (Event × Gone K V P)) (at : AtShard (λ s t. RefusesInsert m s (newcomer s d) reason leaves t) d.hash core new) → OwnsHandles new handles
   refused_owns d reason leaves at =
-      owns_same core new (λ s t. RefusesInsert m s d reason leaves t) d.hash at (refuses_number m (is_phantom_record m d) at.before d reason leaves at.after at.stepped) handles
+      owns_same core new (λ s t. RefusesInsert m s (newcomer s d) reason leaves t) d.hash at (refuses_number m (is_phantom_record m d) at.before d reason leaves at.after at.stepped) handles
       (refuses_counts m (is_phantom_record m d) at.before d reason leaves at.after at.stepped) owns
 
   -- an entry of the key's record was made, which has the key's hash

@@ -3,12 +3,13 @@ use Rattle.std.specs.Prelude.{◌≡◌, ℕ, List, [], ◌∷◌, ◌++◌, Opt
 use Rattle.std.specs.Option.{option_flatten}
 use Rattle.foyer_policy.specs.declared.types.Event.{Event}
 use Rattle.foyer_policy.specs.declared.types.Event.TheVariants.{Remove as RemoveEvent}
+use Rattle.foyer_policy.specs.declared.types.Source.TheVariants.{Outer}
 use Rattle.foyer_policy.specs.declared.error.Reason.TheVariants.{NoMemory}
 use Rattle.foyer_core.specs.declared.record.Data.{Data}
 use Rattle.foyer_core.specs.Values.{Gone, Held, Carried}
 use Rattle.foyer_core.specs.Bulk.{Clears, EvictsIf, EvictsUnpinned, EvictingUnpinned}
 use Rattle.foyer_core.specs.CoreBulk.{InTurn, InTurnUntil, OfShards, EvictsToCapacity, EvictingToCapacity, Resizes}
-use Rattle.foyer_core.specs.Steps.{Inserts, RefusesInsert, Gets, GivesBack, Touches, Removes, ClonesHandle}
+use Rattle.foyer_core.specs.Steps.{Inserts, RefusesInsert, Gets, GivesBack, Touches, Removes, ClonesHandle, newcomer}
 use Rattle.foyer_core.specs.Core.{Core, AtShard, IsOutdatedIn, hit_in, refs_in, usage_of_core, entries_of_core}
 use Rattle.foyer_session.specs.declared.command.Answer.{Answer}
 use Rattle.foyer_session.specs.declared.command.Answer.TheVariants.{Entry, Found, Missing, Yes, No, Done, Number, PieceNo, NotHeld, Refused}
@@ -28,7 +29,7 @@ held_at handles n = option_flatten (slice_get handles n)
 
 -- what an answer tells of the record of a handle
 abbrev pub record_of : {K V P : Type 0} → Held K V P → Gone K V P
-record_of entry = record { id = entry.id; kept = entry.kept }
+record_of entry = record { number = entry.number; id = entry.id; kept = entry.kept }
 
 -- what a piece keeps of the record of a handle
 abbrev pub piece_of : {K V P : Type 0} → Held K V P → Carried K V P
@@ -68,11 +69,11 @@ module _ {K V P View C S W A : Type 0} (t : Terms K V P View C S W A) where
   abbrev pub InsertStep : SessionState K V P View S W A → K → V → P → Answer K V P → List (Event × Gone K V P) → SessionState K V P View S W A → Type 0
   InsertStep old k v p (Entry number told answers) leaves new =
       (weight : ℕ) × (admitted : Bool) × (entry : Held K V P) × t.weighs old.core.weighter k v weight × t.admits old.core.filter k v admitted
-      × AtShard (λ s u. Inserts t.meaning s (data_of old k v p weight admitted) leaves entry u) (hash_in old k) old.core new.core
+      × AtShard (λ s u. Inserts t.meaning Outer s (newcomer s (data_of old k v p weight admitted)) leaves entry u) (hash_in old k) old.core new.core
       × HandsOut old number told entry new × (answers ≡ [])
   InsertStep old k v p (Refused reason) leaves new =
       (weight : ℕ) × (admitted : Bool) × t.weighs old.core.weighter k v weight × t.admits old.core.filter k v admitted
-      × AtShard (λ s u. RefusesInsert t.meaning s (data_of old k v p weight admitted) reason leaves u) (hash_in old k) old.core new.core
+      × AtShard (λ s u. RefusesInsert t.meaning s (newcomer s (data_of old k v p weight admitted)) reason leaves u) (hash_in old k) old.core new.core
       × KeepsTables old new
   InsertStep old k v p _ leaves new = ⊥
 

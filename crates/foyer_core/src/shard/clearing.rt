@@ -43,22 +43,29 @@ impl<E: Eviction, K: Key, V: Value, P: Properties, I: Indexer<K>> Shard<E, K, V,
         ensures len { vec_len leaves.new ≡ vec_len leaves.old + length items.now }
         ensures capacity { vec_capacity leaves.new ≡ vec_capacity leaves.old }
     {
-        Self::leave_all(&mut self.index, &mut self.records, items, leaves);
+        Self::leave_all(
+            &mut self.index,
+            &mut self.records,
+            self.number,
+            items,
+            leaves,
+        );
         self.eviction.clear();
         self.usage = 0;
         self.entries = 0;
     }
 
-    // The records of these items leave the index and their slots.
+    // The records of these items leave the index and their slots, in the core of this number.
     fn leave_all(
         index: &mut I,
         records: &mut Records<K, V, P>,
+        number: u64,
         items: &[Item],
         leaves: &mut Vec<(Event, Left<K, V, P>)>,
     )
-        requires lined { Lined (meaning K.eq E.model P.hint_of P.phantom_of) (I.view index.old) records.old items.now }
+        requires lined { Lined (meaning K.eq E.model P.hint_of P.phantom_of) number (I.view index.old) records.old items.now }
         requires room { vec_len leaves.old + length items.now ≤ vec_capacity leaves.old }
-        ensures told { (o : Lined (meaning K.eq E.model P.hint_of P.phantom_of) (I.view index.old) records.old items.now) → GoesOn leaves.old.items leaves.new.items (λ ls. Passes (meaning K.eq E.model P.hint_of P.phantom_of) o items.now [] ls (I.view index.new) records.new) }
+        ensures told { (o : Lined (meaning K.eq E.model P.hint_of P.phantom_of) number (I.view index.old) records.old items.now) → GoesOn leaves.old.items leaves.new.items (λ ls. Passes (meaning K.eq E.model P.hint_of P.phantom_of) o items.now [] ls (I.view index.new) records.new) }
         ensures len { vec_len leaves.new ≡ vec_len leaves.old + length items.now }
         ensures capacity { vec_capacity leaves.new ≡ vec_capacity leaves.old }
     {
@@ -66,20 +73,21 @@ impl<E: Eviction, K: Key, V: Value, P: Properties, I: Indexer<K>> Shard<E, K, V,
             let Some(slot) = records.find(item.id, 0) else {
                 unreachable!();
             };
-            let left = leave_slot(index, records, slot);
+            let left = leave_slot(index, records, slot, number);
             leaves.push_reserved((Event::Clear, left));
         }
     }
 }
 
-// The record in a slot leaves the index and its slot.
+// The record in a slot leaves the index and its slot, in the core of this number.
 pub(super) fn leave_slot<K: Key, V: Drop, P: Drop, I: Indexer<K>>(
     index: &mut I,
     records: &mut Records<K, V, P>,
     slot: usize,
+    number: u64,
 ) -> Left<K, V, P>
     requires { IsSomeAnd (slot_in records.old slot) (λ s. s.resident ≡ true) }
-    ensures left { (s : Kept K V P) → slot_in records.old slot ≡ Some s → result ≡ record { id = s.id; kept = s.kept } }
+    ensures left { (s : Kept K V P) → slot_in records.old slot ≡ Some s → result ≡ record { number = number; id = s.id; kept = s.kept } }
     ensures index { (s : Kept K V P) → slot_in records.old slot ≡ Some s → (q : ℕ × K) → I.view index.new q ≡ update (same_key K.eq) (I.view index.old) (key_of s.kept) None q }
     ensures slots { (s : Kept K V P) → slot_in records.old slot ≡ Some s → (q : ℕ) → slot_in records.new q ≡ update nat_eq (slot_in records.old) slot (slot_outside s) q }
     ensures records { (s : Kept K V P) → slot_in records.old slot ≡ Some s → (id : ℕ) → record_in records.new id ≡ update nat_eq (record_in records.old) s.id (outside (rec_of s)) id }
@@ -88,7 +96,6 @@ pub(super) fn leave_slot<K: Key, V: Drop, P: Drop, I: Indexer<K>>(
     let Some(found) = records.get(slot) else {
         unreachable!();
     };
-    let data = found.data();
-    let _ = index.remove(data.hash, &data.key);
-    records.leave(slot)
+    let _ = index.remove(found.hash(), found.key());
+    records.leave(slot, number)
 }

@@ -32,11 +32,10 @@ impl<E: Eviction, K: Key, V: Value, P: Properties, I: Indexer<K>> Shard<E, K, V,
         let Some(found) = self.records.get(slot) else {
             unreachable!();
         };
-        let data = found.data();
-        let _ = self.index.remove(data.hash, &data.key);
+        let _ = self.index.remove(found.hash(), found.key());
         self.usage -= item.weight;
         self.entries -= 1;
-        Ok(Some(self.records.leave(slot)))
+        Ok(Some(self.records.leave(slot, self.number)))
     }
 
     /// Evicts until the usage is at most the target, or nothing more leaves, and answers what left. Refused for

@@ -86,8 +86,8 @@ impl<E: Eviction, K: Key, V: Value, P: Properties, I: Indexer<K>> Shard<E, K, V,
         ensures { (s : Kept K V P) → slot_in self.old.records slot ≡ Some s → GivesBack (meaning_of self.old) (state_of self.old) s.id result (state_of self.new) }
     {
         let gone = self.records.forget(slot);
-        if gone.data().properties.phantom().unwrap_or(false) {
-            return Some((Event::Evict, gone.into_left()));
+        if gone.properties().phantom().unwrap_or(false) {
+            return Some((Event::Evict, gone.into_left(self.number)));
         }
         None
     }

@@ -67,6 +67,6 @@ impl<E: Eviction, K: Key, V: Value, P: Properties, I: Indexer<K>> Shard<E, K, V,
         self.usage -= item.weight;
         self.entries -= 1;
         self.records.add_handle(slot);
-        Ok(Some((entry, self.records.leave(slot))))
+        Ok(Some((entry, self.records.leave(slot, self.number))))
     }
 }

@@ -71,8 +71,7 @@ impl<E: Eviction, K: Key, V: Value, P: Properties, I: Indexer<K>> Shard<E, K, V,
         let Some(found) = self.records.get(slot) else {
             unreachable!();
         };
-        let data = found.data();
-        predicate(&data.key, &data.value)
+        predicate(found.key(), found.value())
     }
 
     /// Takes the records of these items out, as `Evict`, in this order, and appends what leaves. It asks for
@@ -108,6 +107,6 @@ impl<E: Eviction, K: Key, V: Value, P: Properties, I: Indexer<K>> Shard<E, K, V,
         let item = self.eviction.remove(place);
         self.usage -= item.weight;
         self.entries -= 1;
-        leave_slot(&mut self.index, &mut self.records, slot)
+        leave_slot(&mut self.index, &mut self.records, slot, self.number)
     }
 }

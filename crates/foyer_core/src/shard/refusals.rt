@@ -1,6 +1,6 @@
 //! Why a shard takes a record not in.
 
-ghost use Rattle.std.specs.Prelude.{◌≡◌, ◌⊎◌, ◌↔◌, ◌+◌, ◌<◌, ◌≤◌, ◌^◌, Some, IfSome, IsTrue};
+ghost use Rattle.std.specs.Prelude.{◌≡◌, ◌⊎◌, ◌↔◌, ◌+◌, ◌<◌, ◌≤◌, ◌^◌, Some, IfSome, IfNone, IsTrue};
 ghost use Rattle.foyer_policy.specs.declared.error.Reason.TheVariants.{Ids, Handles, Weight};
 ghost use Rattle.foyer_policy.specs.Items.{weight_of};
 
@@ -11,22 +11,43 @@ use foyer_policy::{Eviction, Key, Properties, Reason, Value};
 impl<E: Eviction, K: Key, V: Value, P: Properties, I: Indexer<K>> Shard<E, K, V, P, I> {
     ghost use Rattle.foyer_core.specs.Shards.{state_of, meaning_of};
     ghost use Rattle.foyer_core.specs.State.{pinned_beside};
+    ghost use Rattle.foyer_core.specs.Steps.{HasId, LacksId};
 
     // Why a record cannot come in whatever memory there is.
-    pub(super) fn refusal(&self, hash: u64, key: &K, weight: usize) -> Option<Reason>
-        ensures ids { result ≡ Some Ids ↔ (self.now.limits.ids ≤ self.now.next) }
-        ensures handles { result ≡ Some Handles ↔ ((self.now.next < self.now.limits.ids) × (self.now.limits.handles < 1)) }
-        ensures weight { result ≡ Some Weight ↔ ((self.now.next < self.now.limits.ids) × (1 ≤ self.now.limits.handles) × (2 ^ 64 ≤ weight + pinned_beside (meaning_of self.now) (state_of self.now) (hash, key.now))) }
+    pub(super) fn refusal(
+        &self,
+        id: u64,
+        handles: usize,
+        hash: u64,
+        key: &K,
+        weight: usize,
+    ) -> Option<Reason>
+        ensures ids { result ≡ Some Ids ↔ LacksId (state_of self.now) id }
+        ensures handles { result ≡ Some Handles ↔ (HasId (state_of self.now) id × (self.now.limits.handles < handles)) }
+        ensures weight { result ≡ Some Weight ↔ (HasId (state_of self.now) id × (handles ≤ self.now.limits.handles) × (2 ^ 64 ≤ weight + pinned_beside (meaning_of self.now) (state_of self.now) (hash, key.now))) }
         ensures only { IfSome result (λ reason. (reason ≡ Ids) ⊎ ((reason ≡ Handles) ⊎ (reason ≡ Weight))) }
     {
-        if self.next >= self.limits.ids {
-            return Some(Reason::Ids);
-        }
-        if self.limits.handles < 1 {
-            return Some(Reason::Handles);
+        if let Some(reason) = self.hold_refusal(id, handles) {
+            return Some(reason);
         }
         if !self.fits_beside_pinned(hash, key, weight) {
             return Some(Reason::Weight);
+        }
+        None
+    }
+
+    // Why a record cannot be held whatever memory there is.
+    pub(super) fn hold_refusal(&self, id: u64, handles: usize) -> Option<Reason>
+        ensures ids { result ≡ Some Ids ↔ LacksId (state_of self.now) id }
+        ensures handles { result ≡ Some Handles ↔ (HasId (state_of self.now) id × (self.now.limits.handles < handles)) }
+        ensures only { IfSome result (λ reason. (reason ≡ Ids) ⊎ (reason ≡ Handles)) }
+        ensures number { IfNone result (id + 1 < 2 ^ 64) }
+    {
+        if id >= self.next && id >= self.limits.ids {
+            return Some(Reason::Ids);
+        }
+        if self.limits.handles < handles {
+            return Some(Reason::Handles);
         }
         None
     }
@@ -54,6 +75,6 @@ impl<E: Eviction, K: Key, V: Value, P: Properties, I: Indexer<K>> Shard<E, K, V,
             unreachable!();
         };
         let pinned = self.eviction.is_pinned(place);
-        if pinned { found.data().weight } else { 0 }
+        if pinned { found.weight() } else { 0 }
     }
 }

@@ -3,7 +3,7 @@ use crate::entry::{CoreEntry, Left};
 use crate::indexer::HashTableIndexer;
 use crate::properties::CacheProperties;
 use crate::record::Data;
-use foyer_policy::{Event, Lru, LruConfig};
+use foyer_policy::{Event, Lru, LruConfig, Source};
 use std::process::Abort;
 use std::test::Fail;
 
@@ -39,6 +39,7 @@ fn put(rt: &impl Abort, alloc: Global, shard: &mut Plain, key: u64, weight: usiz
             hash: key,
             weight,
         },
+        Source::Outer,
     );
     match made {
         Ok((entry, leaves)) => {

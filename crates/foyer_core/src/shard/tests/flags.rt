@@ -22,6 +22,7 @@ fn enter(rt: &impl Abort, alloc: Global, shard: &mut Guarded, key: u64, is_phant
             hash: key,
             weight: 1,
         },
+        Source::Outer,
     );
     match made {
         Ok((entry, _)) => entry,

@@ -1,20 +1,19 @@
-use Rattle.std.proofs.Common.{◌≡◌, ℕ, Some, subst, nat_eq}
-use Rattle.std.specs.Map.{update}
+use Rattle.std.proofs.Common.{◌≡◌, ℕ, Some, sym, ◌∙◌, ap}
+use Rattle.foyer_core.specs.Values.{Kept}
 use Rattle.foyer_core.specs.Records.{slot_in, number_of}
-use Rattle.slab.specs.Slab.{get}
-use Rattle.std.specs.HashMap.{get as get_key}
-use Rattle.foyer_core.proofs.SlotLemmas.{updates_at}
-use Rattle.foyer_core.proofs.TableLemmas.{put_table, put_records}
+use Rattle.foyer_core.proofs.TableLemmas.{named_there}
 use Rattle.foyer_core.proofs.records.Records.put.Goals as goal
 
-pub invariant_of-self : goal.invariant_of-self
-invariant_of-self g c = record {
-  agree = put_table (slot_in c.args.self.now) (get c.insert_reserved-place.new.self) (number_of c.args.self.now) (get_key nat_eq c.name.new.ids) c.insert_reserved-place.result c.args.self.now.agree c.args.slot c.insert_reserved-place.ensures.was_vacant c.requires.new
-      (updates_at c.args.self.now.slots c.insert_reserved-place.new.self c.insert_reserved-place.result (Some c.args.slot) c.insert_reserved-place.ensures.updates)
-      (subst (λ (n : ℕ). (q : ℕ) → get_key nat_eq c.name.new.ids q ≡ update nat_eq (number_of c.args.self.now) n (Some c.insert_reserved-place.result) q) c.id-id.ensures c.name.ensures);
-}
+pub replace-stood-requires : goal.replace-stood-requires
+replace-stood-requires g c =
+    let s = c.args.self.now in
+    let known : number_of s c.args.slot.id ≡ Some c.in-Some.place = sym c.requires.stands ∙ c.in-Some.is in
+    named_there (slot_in s c.in-Some.place) c.args.slot.id (s.agree.named c.args.slot.id c.in-Some.place known)
 
-pub returns-clause-records : goal.returns-clause-records
-returns-clause-records g c = put_records (slot_in c.args.self.now) (get c.insert_reserved-place.new.self) (number_of c.args.self.now) (get_key nat_eq c.name.new.ids) c.insert_reserved-place.result c.args.self.now.agree c.args.slot c.insert_reserved-place.ensures.was_vacant c.requires.new
-    (updates_at c.args.self.now.slots c.insert_reserved-place.new.self c.insert_reserved-place.result (Some c.args.slot) c.insert_reserved-place.ensures.updates)
-    (subst (λ (n : ℕ). (q : ℕ) → get_key nat_eq c.name.new.ids q ≡ update nat_eq (number_of c.args.self.now) n (Some c.insert_reserved-place.result) q) c.id-id.ensures c.name.ensures)
+pub returns-in-Some-clause-alike : goal.returns-in-Some-clause-alike
+returns-in-Some-clause-alike g c x is =
+    let s = c.args.self.now in
+    let known : number_of s c.args.slot.id ≡ Some c.in-Some.place = sym c.requires.stands ∙ c.in-Some.is in
+    let named : c.replace-stood.result.id ≡ c.args.slot.id = rw c.replace-stood.ensures.stood at (named_there (slot_in s c.in-Some.place) c.args.slot.id (s.agree.named c.args.slot.id c.in-Some.place known)) in
+    let same : c.replace-stood.result ≡ x = cc (is) in
+    ap (λ (y : Kept g.row.K.Denot g.row.V.Denot g.row.P.Denot). y.id) (sym same) ∙ named

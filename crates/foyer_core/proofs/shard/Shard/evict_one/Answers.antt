@@ -76,7 +76,7 @@ invariant_of-self-2 g c =
     let there : slot_in s.records c.in-Some-find.slot ≡ Some x = sym (rw c.in-Some-get.is at c.get.ensures) in
     let known : number_of s.records c.in-Some.item.id ≡ Some c.in-Some-find.slot = sym c.find.ensures ∙ c.in-Some-find.is in
     let places : (q : ℕ) → g.E.Eviction.at c.pop.new.self q ≡ without c.in-Some.item.id (g.E.Eviction.at s.eviction q) = rw c.in-Some.is at c.in_ok-item.ensures.places in
-    let gone = rw c.data-data.ensures at c.remove.ensures.view in
+    let gone = rw (c.hash.ensures, c.key.ensures) at c.remove.ensures.view in
     let lighter = victim_lighter (meaning_of s) g.met.K.Eq.laws g.met.E.Eviction.lawful (holding s) c.in-Some.item v p s.usage s.weighed in
     let fewer = victim_entries (meaning_of s) g.met.K.Eq.laws g.met.E.Eviction.lawful (holding s) c.in-Some.item v p s.entries s.counted in
     record {
@@ -96,7 +96,7 @@ returns-clause-some g c =
     let there : slot_in s.records c.in-Some-find.slot ≡ Some x = sym (rw c.in-Some-get.is at c.get.ensures) in
     let known : number_of s.records c.in-Some.item.id ≡ Some c.in-Some-find.slot = sym c.find.ensures ∙ c.in-Some-find.is in
     let places : (q : ℕ) → g.E.Eviction.at c.pop.new.self q ≡ without c.in-Some.item.id (g.E.Eviction.at s.eviction q) = rw c.in-Some.is at c.in_ok-item.ensures.places in
-    let gone = rw c.data-data.ensures at c.remove.ensures.view in
+    let gone = rw (c.hash.ensures, c.key.ensures) at c.remove.ensures.view in
     record {
       item = c.in-Some.item;
       view = v;

@@ -2,7 +2,6 @@ use Rattle.std.proofs.Common.{◌≡◌, true, false, sym, ◌∙◌, ap}
 use Rattle.foyer_policy.specs.Properties.{is_phantom}
 use Rattle.foyer_core.specs.Shards.{meaning_of}
 use Rattle.foyer_core.proofs.Holdings.{holding}
-use Rattle.foyer_core.specs.declared.record.Data.{Data}
 use Rattle.foyer_core.proofs.Forgetting.{forgot_stored, forgot_kept, forgot_gives}
 use Rattle.foyer_core.proofs.shard.Shard.forget.Goals as goal
 
@@ -29,7 +28,7 @@ returns-then-unwrap_or g c s is =
     let x = c.forget-gone.result in
     let there = c.forget-gone.ensures.slot in
     let needs : (x.handles ≡ 1) × (x.resident ≡ false) = rw there at c.requires in
-    let phantom : is_phantom (m.phantom x.kept.properties) ≡ true = sym (c.unwrap_or.ensures ∙ ap is_phantom (c.phantom.ensures ∙ ap (λ (d : Data g.row.K.Denot g.row.V.Denot g.row.P.Denot). m.phantom d.properties) c.data.ensures)) ∙ c.if-unwrap_or.true in
+    let phantom : is_phantom (m.phantom x.kept.properties) ≡ true = sym (c.unwrap_or.ensures ∙ ap is_phantom (c.phantom.ensures ∙ ap m.phantom c.properties.ensures)) ∙ c.if-unwrap_or.true in
     rw c.into_left.ensures (forgot_gives m g.met.K.Eq.laws g.met.E.Eviction.lawful (holding o) c.args.slot x there needs.1 c.forget-gone.new.self c.forget-gone.ensures.slots c.forget-gone.ensures.records needs.0 true phantom s is)
 
 pub returns : goal.returns
@@ -39,5 +38,5 @@ returns g c s is =
     let x = c.forget-gone.result in
     let there = c.forget-gone.ensures.slot in
     let needs : (x.handles ≡ 1) × (x.resident ≡ false) = rw there at c.requires in
-    let phantom : is_phantom (m.phantom x.kept.properties) ≡ false = sym (c.unwrap_or.ensures ∙ ap is_phantom (c.phantom.ensures ∙ ap (λ (d : Data g.row.K.Denot g.row.V.Denot g.row.P.Denot). m.phantom d.properties) c.data.ensures)) ∙ c.if-unwrap_or.false in
+    let phantom : is_phantom (m.phantom x.kept.properties) ≡ false = sym (c.unwrap_or.ensures ∙ ap is_phantom (c.phantom.ensures ∙ ap m.phantom c.properties.ensures)) ∙ c.if-unwrap_or.false in
     forgot_gives m g.met.K.Eq.laws g.met.E.Eviction.lawful (holding o) c.args.slot x there needs.1 c.forget-gone.new.self c.forget-gone.ensures.slots c.forget-gone.ensures.records needs.0 false phantom s is

@@ -87,7 +87,7 @@ loop-item-preserved g c =
     record {
       begun = λ o. rw (c.push_reserved.ensures.items, further, left)
           (goes_more c.args.leaves.now.items c.loop-item.leaves.items (λ ls. Passes m o (take k is) (drop k is) ls keys t)
-          (λ ls. Passes m o (take k is ++ i ∷ []) (drop (k + 1) is) ls keys' t') (Clear, record { id = x.0.id; kept = x.0.kept })
+          (λ ls. Passes m o (take k is ++ i ∷ []) (drop (k + 1) is) ls keys' t') (Clear, record { number = c.args.number; id = x.0.id; kept = x.0.kept })
           (λ ls q. passes-more m g.met.K.Eq.laws g.met.E.Eviction.lawful o (take k is) i (drop (k + 1) is) ls keys t (subst (λ (l : List Item). Passes m o (take k is) l ls keys t) more q)
           c.in-Some.slot known x.0 x.1 t' (c.leave_slot-left.ensures.slots x.0 x.1) (c.leave_slot-left.ensures.records x.0 x.1) keys' (c.leave_slot-left.ensures.index x.0 x.1))
           (c.loop-item.invariant.begun o));

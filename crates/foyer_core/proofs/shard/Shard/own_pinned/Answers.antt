@@ -37,7 +37,7 @@ returns-then-pinned g c =
     let led = sym c.get.ensures ∙ c.in-Some.is in
     let at = placed (meaning_of s) g.met.K.Eq.laws g.met.E.Eviction.lawful (holding s) (c.args.hash, c.args.key.now) c.in-Some.number led x there c.in-Some-place.place (sym c.place.ensures ∙ c.in-Some-place.is) in
     let tells = rw at at c.is_pinned-pinned.ensures in
-    rw c.data.ensures (own_pinned_weight (meaning_of s) g.met.K.Eq.laws g.met.E.Eviction.lawful (holding s) (c.args.hash, c.args.key.now) c.in-Some.number led x there (tells.0 c.if-pinned.true))
+    rw c.weight.ensures (own_pinned_weight (meaning_of s) g.met.K.Eq.laws g.met.E.Eviction.lawful (holding s) (c.args.hash, c.args.key.now) c.in-Some.number led x there (tells.0 c.if-pinned.true))
 
 pub returns-else-pinned : goal.returns-else-pinned
 returns-else-pinned g c =

@@ -1,5 +1,4 @@
-use Rattle.std.proofs.Common.{◌≡◌, Some, None, sym, ◌∙◌, ap}
-use Rattle.foyer_core.specs.declared.record.Data.{Data}
+use Rattle.std.proofs.Common.{◌≡◌, Some, None, sym, ◌∙◌}
 use Rattle.foyer_core.specs.Shards.{meaning_of}
 use Rattle.foyer_core.specs.Table.{rec_of}
 use Rattle.foyer_core.specs.Records.{slot_in, number_of}
@@ -32,7 +31,7 @@ returns g c =
       said = record {
         shown_key = _;
         shown_value = _;
-        shows = (ap (λ (d : Data g.row.K.Denot g.row.V.Denot g.row.P.Denot). d.key) c.data-data.ensures, ap (λ (d : Data g.row.K.Denot g.row.V.Denot g.row.P.Denot). d.value) c.data-data.ensures);
+        shows = (c.key.ensures, c.value.ensures);
         says = record { met = c.predicate.ensures };
       };
     }

@@ -113,7 +113,7 @@ returns-clause-taken g c =
     let viewed_id : view ≡ m.policy.remove (g.E.Eviction.view s.eviction) c.args.id = viewed ∙ ap (m.policy.remove (g.E.Eviction.view s.eviction)) id in
     let places : (p : ℕ) → g.E.Eviction.at c.remove-item.new.self p ≡ without x.id (g.E.Eviction.at s.eviction p) =
     λ p. c.remove-item.ensures.places p ∙ ap (λ (i : Item). without i.id (g.E.Eviction.at s.eviction p)) item in
-    let gone = λ (id : ℕ). (let y : Gone g.row.K.Denot g.row.V.Denot g.row.P.Denot = record { id = id; kept = x.kept } in y) in
+    let gone = λ (id : ℕ). (let y : Gone g.row.K.Denot g.row.V.Denot g.row.P.Denot = record { number = s.number; id = id; kept = x.kept } in y) in
     record {
       rec = rec_of x;
       there = out_record m g.met.K.Eq.laws g.met.E.Eviction.lawful (holding s) c.args.id c.requires c.in-Some.slot known x there;

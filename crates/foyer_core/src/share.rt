@@ -1,0 +1,138 @@
+//! Shares of what records keep.
+
+ghost use Rattle.std.specs.Prelude.{◌≡◌, IfOk, IfErr};
+ghost use Rattle.std.specs.Arc.{arc_value};
+ghost use Rattle.foyer_policy.specs.declared.error.Reason.TheVariants.{NoMemory};
+ghost use Rattle.foyer_core.specs.Values.{body_of, kept_of};
+
+use crate::record::Data;
+use foyer_policy::{Error, Reason, Result};
+use std::alloc::Global;
+use std::marker::Model;
+use std::sync::Arc;
+
+/// What all shares of a record have in common.
+#[derive(Drop)]
+pub struct Body<K, V, P> {
+    key: K,
+    value: V,
+    properties: P,
+}
+
+/// A share of a record's data. The hash and the weight stand beside the body, since a record of another core
+/// may have the same body with others.
+#[derive(Drop)]
+pub struct Share<K, V, P> {
+    body: Arc<Body<K, V, P>, Global>,
+    hash: u64,
+    weight: usize,
+}
+
+impl<K, V, P> Model for Share<K, V, P> {
+    ghost use Rattle.std.specs.Arc.{arc_value};
+    ghost use Rattle.foyer_core.specs.declared.record.Data.{Data};
+    ghost use Rattle.foyer_core.specs.Values.{kept_of};
+
+    ghost Value = { Data K V P };
+
+    ghost view = { λ s. kept_of (arc_value s.body) s.hash s.weight };
+}
+
+impl<K, V, P> Share<K, V, P> {
+    /// The first share of these data. Only memory can be missing.
+    pub fn new(alloc: Global, kept: Data<K, V, P>) -> Result<Self>
+    where
+        K: Drop,
+        V: Drop,
+        P: Drop,
+        ensures made { IfOk result (λ s. s ≡ kept) }
+        ensures refused { IfErr result (λ e. e ≡ NoMemory) }
+    {
+        let Data {
+            key,
+            value,
+            properties,
+            hash,
+            weight,
+        } = kept;
+        match Arc::new(
+            alloc,
+            Body {
+                key,
+                value,
+                properties,
+            },
+        ) {
+            Ok(body) => Ok(Share { body, hash, weight }),
+            Err(_) => Err(Error::new(Reason::NoMemory)),
+        }
+    }
+
+    /// A share of this body, with this hash and weight.
+    pub fn of_body(body: Arc<Body<K, V, P>, Global>, hash: u64, weight: usize) -> Self
+        ensures { result ≡ kept_of (arc_value body) hash weight }
+    {
+        Share { body, hash, weight }
+    }
+
+    /// The same body with another hash and weight.
+    pub fn with(self, hash: u64, weight: usize) -> Self
+        ensures { result ≡ record self { hash = hash; weight = weight } }
+    {
+        let Share { body, .. } = self;
+        Share { body, hash, weight }
+    }
+
+    /// One more share of the body alone. Only memory can be missing.
+    pub fn body(&self) -> Result<Arc<Body<K, V, P>, Global>>
+        ensures body { IfOk result (λ body. arc_value body ≡ body_of self.now) }
+        ensures refused { IfErr result (λ e. e ≡ NoMemory) }
+    {
+        match Arc::try_clone(&self.body) {
+            Ok(body) => Ok(body),
+            Err(_) => Err(Error::new(Reason::NoMemory)),
+        }
+    }
+
+    /// One more share. Only memory can be missing.
+    pub fn try_clone(&self) -> Result<Self>
+        ensures share { IfOk result (λ s. s ≡ self.now) }
+        ensures refused { IfErr result (λ e. e ≡ NoMemory) }
+    {
+        Ok(Share {
+            body: self.body()?,
+            hash: self.hash,
+            weight: self.weight,
+        })
+    }
+
+    pub fn key(&self) -> &K
+        ensures { result.now ≡ self.now.key }
+    {
+        &self.body.key
+    }
+
+    pub fn value(&self) -> &V
+        ensures { result.now ≡ self.now.value }
+    {
+        &self.body.value
+    }
+
+    pub fn properties(&self) -> &P
+        ensures { result.now ≡ self.now.properties }
+    {
+        &self.body.properties
+    }
+
+    pub fn hash(&self) -> u64
+        ensures { result ≡ self.now.hash }
+    {
+        self.hash
+    }
+
+    pub fn weight(&self) -> usize
+        ensures { result ≡ self.now.weight }
+    {
+        self.weight
+    }
+}
