@@ -36,6 +36,7 @@ pub mod Pushing
 pub mod RefusalLemmas
 pub mod Removed
 pub mod Reserving
+pub mod Returning
 pub mod ShardLemmas
 pub mod Sharing
 pub mod SharingOut

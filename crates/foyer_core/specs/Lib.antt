@@ -14,3 +14,4 @@ pub mod Steps
 pub mod Laws
 pub mod Bulk
 pub mod CoreBulk
+pub mod Pieces
