@@ -42,6 +42,7 @@ pub mod Pushing
 pub mod RefusalLemmas
 pub mod Removed
 pub mod Reserving
+pub mod Returning
 pub mod ShardLemmas
 pub mod ShardTold
 pub mod Sharing

@@ -143,6 +143,11 @@ pub named_there : {K V P : Type 0} (o : Option (Kept K V P)) (id : ℕ) → opti
 named_there None id h = absurd cc
 named_there (Some s) id h = cc
 
+-- and that record itself
+pub named_is : {K V P : Type 0} (o : Option (Kept K V P)) (id : ℕ) → option_map (λ s. s.id) o ≡ Some id → (s : Kept K V P) × (o ≡ Some s) × (s.id ≡ id)
+named_is None id h = absurd cc
+named_is (Some s) id h = (s, refl, cc)
+
 -- to write what is there changes nothing
 pub update_same : {A : Type 0} (f : ℕ → Option A) (k : ℕ) (x : A) → f k ≡ Some x → (q : ℕ) → update nat_eq f k (Some x) q ≡ f q
 update_same f k x h q = elim (eqb_tells q k) [

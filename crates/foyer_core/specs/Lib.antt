@@ -15,3 +15,4 @@ pub mod Laws
 pub mod Observed
 pub mod Bulk
 pub mod CoreBulk
+pub mod Pieces

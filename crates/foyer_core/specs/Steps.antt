@@ -163,6 +163,11 @@ module _ {K V P View C : Type 0} (m : Meaning K P View C) where
   abbrev pub MayHold : State K V P View → Incoming K V P → Type 0
   MayHold old i = HasId old i.id × (i.handles ≤ old.limits.handles)
 
+  -- one of both, for a record that is phantom, or is not
+  abbrev pub MayBy : Bool → State K V P View → Incoming K V P → Type 0
+  MayBy true old i = MayHold old i
+  MayBy false old i = MayInsert old i
+
   -- An insert of a phantom record that is not refused: its key's record gives way, then it is told as
   -- `Remove`. Nothing is evicted, and it is in the index at no time. The entry has this source.
   pub record InsertsPhantom (source : Source) (old : State K V P View) (i : Incoming K V P) (ls : List (Event × Gone K V P)) (entry : Held K V P) (new : State K V P View) : Type 0 where

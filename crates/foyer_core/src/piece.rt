@@ -30,6 +30,33 @@ impl<K, V, P> Model for Piece<K, V, P> {
 }
 
 impl<K, V, P> Piece<K, V, P> {
+    // The number of the core that made the piece.
+    pub(crate) fn number(&self) -> u64
+        ensures { result ≡ self.now.number }
+    {
+        self.number
+    }
+
+    // The record's id.
+    pub(crate) fn id(&self) -> u64
+        ensures { result ≡ self.now.id }
+    {
+        self.id
+    }
+
+    // Where the record may stand.
+    pub(crate) fn slot(&self) -> usize {
+        self.slot
+    }
+
+    // The share of the record's data.
+    pub(crate) fn into_share(self) -> Share<K, V, P>
+        ensures { result ≡ self.kept }
+    {
+        let Piece { kept, .. } = self;
+        kept
+    }
+
     // A piece with this share of a record's data. The record may stand in this slot.
     pub(crate) fn of_share(number: u64, id: u64, slot: usize, kept: Share<K, V, P>) -> Self
         ensures { result ≡ record { number = number; id = id; kept = kept } }

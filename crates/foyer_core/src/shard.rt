@@ -21,6 +21,7 @@ mod insertion;
 mod keys;
 mod phantoms;
 mod picking;
+mod pieces;
 mod refusals;
 
 /// One shard of a cache. Contracts see its `State`: maps from hashed keys to ids and from ids to records.

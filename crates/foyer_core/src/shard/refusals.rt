@@ -1,17 +1,32 @@
 //! Why a shard takes a record not in.
 
-ghost use Rattle.std.specs.Prelude.{◌≡◌, ◌⊎◌, ◌↔◌, ◌+◌, ◌<◌, ◌≤◌, ◌^◌, Some, IfSome, IfNone, IsTrue};
+ghost use Rattle.std.specs.Prelude.{◌≡◌, [], ◌⊎◌, ◌↔◌, ◌+◌, ◌<◌, ◌≤◌, ◌^◌, Some, IfSome, IfNone, IsTrue};
 ghost use Rattle.foyer_policy.specs.declared.error.Reason.TheVariants.{Ids, Handles, Weight};
 ghost use Rattle.foyer_policy.specs.Items.{weight_of};
+ghost use Rattle.foyer_core.specs.Values.{incoming_of};
 
 use super::Shard;
 use crate::indexer::Indexer;
+use crate::slot::Slot;
 use foyer_policy::{Eviction, Key, Properties, Reason, Value};
 
 impl<E: Eviction, K: Key, V: Value, P: Properties, I: Indexer<K>> Shard<E, K, V, P, I> {
     ghost use Rattle.foyer_core.specs.Shards.{state_of, meaning_of};
-    ghost use Rattle.foyer_core.specs.State.{pinned_beside};
-    ghost use Rattle.foyer_core.specs.Steps.{HasId, LacksId};
+    ghost use Rattle.foyer_core.specs.State.{is_phantom_record, pinned_beside};
+    ghost use Rattle.foyer_core.specs.Steps.{HasId, LacksId, MayBy, RefusesInsert};
+
+    // Why what a slot keeps cannot come in, with so many handles, whatever memory there is.
+    pub(super) fn slot_refusal(&self, slot: &Slot<K, V, P>, handles: usize) -> Option<Reason>
+        ensures some { IfSome result (λ reason. RefusesInsert (meaning_of self.now) (state_of self.now) (record (incoming_of slot.now) { handles = handles }) reason [] (state_of self.now)) }
+        ensures none { IfNone result (MayBy (meaning_of self.now) (is_phantom_record (meaning_of self.now) slot.now.kept) (state_of self.now) (record (incoming_of slot.now) { handles = handles })) }
+        ensures number { IfNone result (slot.now.id + 1 < 2 ^ 64) }
+    {
+        if slot.properties().phantom().unwrap_or(false) {
+            self.hold_refusal(slot.id(), handles)
+        } else {
+            self.refusal(slot.id(), handles, slot.hash(), slot.key(), slot.weight())
+        }
+    }
 
     // Why a record cannot come in whatever memory there is.
     pub(super) fn refusal(
@@ -24,6 +39,7 @@ impl<E: Eviction, K: Key, V: Value, P: Properties, I: Indexer<K>> Shard<E, K, V,
     ) -> Option<Reason>
         ensures ids { result ≡ Some Ids ↔ LacksId (state_of self.now) id }
         ensures handles { result ≡ Some Handles ↔ (HasId (state_of self.now) id × (self.now.limits.handles < handles)) }
+        ensures number { IfNone result (id + 1 < 2 ^ 64) }
         ensures weight { result ≡ Some Weight ↔ (HasId (state_of self.now) id × (handles ≤ self.now.limits.handles) × (2 ^ 64 ≤ weight + pinned_beside (meaning_of self.now) (state_of self.now) (hash, key.now))) }
         ensures only { IfSome result (λ reason. (reason ≡ Ids) ⊎ ((reason ≡ Handles) ⊎ (reason ≡ Weight))) }
     {
