@@ -1,3 +1,4 @@
 pub mod Random
 pub mod Zipf
 pub mod Trace
+pub mod Drive
