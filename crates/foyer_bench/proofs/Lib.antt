@@ -1,5 +1,6 @@
 pub mod DriveLemmas
 pub mod HandleLemmas
+pub mod RunLemmas
 pub mod ShardLemmas
 pub mod TraceLemmas
 pub mod ZipfLemmas

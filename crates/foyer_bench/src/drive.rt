@@ -25,10 +25,12 @@ pub fn drive<E: Eviction, S: HashBuilder>(core: &mut Core<E, S>, keys: &[u64]) -
 {
     let mut hits = 0;
     for key in keys {
-        match look_up(core, *key) {
-            Ok(true) => hits += 1,
-            Ok(false) => {}
+        let found = match look_up(core, *key) {
+            Ok(found) => found,
             Err(error) => return Err(error),
+        };
+        if found {
+            hits += 1;
         }
     }
     Ok(hits)
