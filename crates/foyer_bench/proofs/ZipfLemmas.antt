@@ -153,5 +153,6 @@ rank_is sums part i within point = position_or_len_is (λ sum. nat_lt part sum) 
   where
     above_not : (s : ℕ) → nat_le s part ≡ true → nat_lt part s ≡ false
     above_not s h = grind (arith, nat_tests)
+
     above : (s : ℕ) → nat_le s part ≡ false → nat_lt part s ≡ true
     above s h = grind (arith, nat_tests)

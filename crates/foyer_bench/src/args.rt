@@ -1,5 +1,8 @@
 //! The arguments of the program.
 
+ghost use Rattle.std.specs.Prelude.{◌≡◌, ◌<◌, IfSome, map, string_bytes};
+ghost use Rattle.foyer_bench.specs.Args.{args_of, hasher_of, options_of, policy_of, some_of, with_option};
+
 use crate::skew::{Skew, skew_of};
 use crate::words::{is_word, number_of};
 
@@ -69,8 +72,21 @@ const PLAIN: Options = Options {
 /// What the words of a program ask for: the name of a policy, a capacity, how many shards, operations and
 /// keys, none of which is 0, an exponent, a seed, and any options. Of an option that stands there twice the
 /// last one counts.
-pub fn bench_args(words: &[String]) -> Option<BenchArgs> {
-    let [policy, capacity, shards, ops, keyspace, skew, seed, options @ ..] = words else {
+pub fn bench_args(words: &[String]) -> Option<BenchArgs>
+    ensures value { result ≡ args_of (map string_bytes words.now) }
+    ensures den { IfSome result (λ args. 0 < args.skew.den) }
+{
+    let [
+        policy,
+        capacity,
+        shards,
+        ops,
+        keyspace,
+        skew,
+        seed,
+        options @ ..,
+    ] = words
+    else {
         return None;
     };
     Some(BenchArgs {
@@ -86,7 +102,9 @@ pub fn bench_args(words: &[String]) -> Option<BenchArgs> {
 }
 
 // The number that a word is, where it is not 0.
-fn some_of(word: &str) -> Option<u64> {
+fn some_of(word: &str) -> Option<u64>
+    ensures { result ≡ some_of word.now }
+{
     match number_of(word)? {
         0 => None,
         number => Some(number),
@@ -94,7 +112,9 @@ fn some_of(word: &str) -> Option<u64> {
 }
 
 // The policy of this name.
-fn policy_of(name: &[u8]) -> Option<Policy> {
+fn policy_of(name: &[u8]) -> Option<Policy>
+    ensures { result ≡ policy_of name.now }
+{
     if is_word(name, b"fifo") {
         Some(Policy::Fifo)
     } else if is_word(name, b"lru") {
@@ -111,7 +131,9 @@ fn policy_of(name: &[u8]) -> Option<Policy> {
 }
 
 // The hasher of this name.
-fn hasher_of(name: &[u8]) -> Option<Hasher> {
+fn hasher_of(name: &[u8]) -> Option<Hasher>
+    ensures { result ≡ hasher_of name.now }
+{
     if is_word(name, b"mod") {
         Some(Hasher::Mod)
     } else if is_word(name, b"default") {
@@ -122,7 +144,9 @@ fn hasher_of(name: &[u8]) -> Option<Hasher> {
 }
 
 // The options with what these words change.
-fn options_of(options: Options, words: &[String]) -> Option<Options> {
+fn options_of(options: Options, words: &[String]) -> Option<Options>
+    ensures { result ≡ options_of options (map string_bytes words.now) }
+{
     match words {
         [] => Some(options),
         [word, more @ ..] if is_word(word.as_bytes(), b"--hits") => {
@@ -136,7 +160,9 @@ fn options_of(options: Options, words: &[String]) -> Option<Options> {
 }
 
 // The options with this one changed.
-fn with_option(options: Options, name: &String, value: &String) -> Option<Options> {
+fn with_option(options: Options, name: &String, value: &String) -> Option<Options>
+    ensures { result ≡ with_option options (string_bytes name.now) (string_bytes value.now) }
+{
     let mut options = options;
     if is_word(name.as_bytes(), b"--reps") {
         options.reps = some_of(value.as_str())?;

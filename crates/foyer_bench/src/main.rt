@@ -3,15 +3,20 @@
 //! many were found and how long it took.
 #![tactic(auto)]
 
-use foyer_core::{CacheCore, Limits, RawCacheConfig, UnitWeighter};
-use foyer_policy::{DefaultHasher, Eviction, Fifo, HashBuilder, Lfu, Lru, ModHasher, S3Fifo, Sieve};
+ghost use Rattle.std.specs.Prelude.{◌<◌, IfOk};
+
+use foyer_core::{Limits, RawCacheConfig, UnitWeighter};
+use foyer_policy::{
+    DefaultHasher, Eviction, Fifo, HashBuilder, Lfu, Lru, ModHasher, S3Fifo, Sieve,
+};
 use std::env;
-use std::io::ErrorKind;
+use std::io::{ErrorKind, IsTerminal};
 use std::process::ExitCode;
-use std::time::{Duration, Instant};
 
 mod args;
+mod clocked;
 mod drive;
+mod failure;
 mod progress;
 mod random;
 mod report;
@@ -21,22 +26,13 @@ mod words;
 mod zipf;
 
 use args::{BenchArgs, Hasher, Policy, bench_args};
-use drive::{Core, drive};
+use clocked::run_clocked;
+use drive::Core;
+use failure::Failure;
 use progress::Progress;
 use report::Report;
 use trace::{Ranks, keys_of};
 use zipf::Refusal;
-
-// How many keys are looked up between two looks at the clock.
-const PART: usize = 1 << 18;
-
-// Why the program ends before it is done.
-#[derive(Drop)]
-enum Failure {
-    Arguments,
-    Memory,
-    InputOrOutput,
-}
 
 fn main(rt: HostRuntime) -> ExitCode {
     let Err(failure) = run(&rt) else {
@@ -69,7 +65,9 @@ fn run(rt: &HostRuntime) -> Result<(), Failure> {
 }
 
 // What the program is asked for.
-fn arguments(rt: &HostRuntime) -> Result<BenchArgs, Failure> {
+fn arguments(rt: &HostRuntime) -> Result<BenchArgs, Failure>
+    ensures { IfOk result (λ args. 0 < args.skew.den) }
+{
     let args = match env::args(rt) {
         Ok(args) => args,
         Err(error) if error.kind() == ErrorKind::OutOfMemory => return Err(Failure::Memory),
@@ -85,7 +83,9 @@ fn arguments(rt: &HostRuntime) -> Result<BenchArgs, Failure> {
 }
 
 // The keys that are looked up.
-fn trace_of(rt: &HostRuntime, args: &BenchArgs) -> Result<Vec<u64>, Failure> {
+fn trace_of(rt: &HostRuntime, args: &BenchArgs) -> Result<Vec<u64>, Failure>
+    requires { 0 < args.now.skew.den }
+{
     let ranks = match Ranks::new(rt.alloc(), args.keyspace, args.skew) {
         Ok(ranks) => ranks,
         Err(Refusal::Memory) => return Err(Failure::Memory),
@@ -112,7 +112,7 @@ fn run_reps<E: Eviction, S: HashBuilder + Default>(
     args: &BenchArgs,
     keys: &[u64],
 ) -> Result<(), Failure> {
-    let mut progress = Progress::new(rt);
+    let mut progress = Progress::new(rt, rt.stderr().is_terminal());
     for rep in 0..args.options.reps {
         let report = run_once::<E, S>(rt, args, keys, &mut progress)?;
         progress.end(rt);
@@ -148,29 +148,11 @@ fn run_once<E: Eviction, S: HashBuilder + Default>(
     let Ok(mut core) = Core::<E, S>::new(rt.alloc(), config) else {
         return Err(Failure::Memory);
     };
-    let mut hits = 0;
-    let mut time = Duration::ZERO;
-    let mut rest = keys;
-    while !rest.is_empty() {
-        let (part, more) = rest.split_at(rest.len().min(PART));
-        let Ok(start) = Instant::now(rt) else {
-            return Err(Failure::InputOrOutput);
-        };
-        let Ok(found) = drive(&mut core, part) else {
-            return Err(Failure::Memory);
-        };
-        let Ok(taken) = start.elapsed(rt) else {
-            return Err(Failure::InputOrOutput);
-        };
-        hits += found;
-        time = time.saturating_add(taken);
-        rest = more;
-        progress.say(rt, keys.len() - rest.len(), keys.len());
-    }
+    let run = run_clocked(rt, &mut core, keys, progress)?;
     Ok(Report {
         usage: core.usage(),
         ops: keys.len(),
-        hits,
-        time,
+        hits: run.hits,
+        nanos: run.nanos,
     })
 }

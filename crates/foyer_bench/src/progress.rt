@@ -1,6 +1,6 @@
 //! How far a run is, on a terminal.
 
-use std::io::IsTerminal;
+use std::rt::Clock;
 use std::time::{Duration, Instant};
 
 /// Says on standard error how far a run is, where that is a terminal and the run takes more than a second.
@@ -13,8 +13,8 @@ pub struct Progress {
 
 impl Progress {
     /// Of a run that begins now.
-    pub fn new(rt: &HostRuntime) -> Self {
-        let start = if rt.stderr().is_terminal() {
+    pub fn new(rt: &impl Clock, is_terminal: bool) -> Self {
+        let start = if is_terminal {
             Instant::now(rt).ok()
         } else {
             None
@@ -26,7 +26,7 @@ impl Progress {
     }
 
     /// So many keys of all were looked up.
-    pub fn say(&mut self, rt: &HostRuntime, done: usize, all: usize) {
+    pub fn say<R: Clock + Eprint>(&mut self, rt: &R, done: usize, all: usize) {
         let Some(start) = self.start else {
             return;
         };
@@ -41,7 +41,7 @@ impl Progress {
     }
 
     /// Takes away what it said.
-    pub fn end(&mut self, rt: &HostRuntime) {
+    pub fn end(&mut self, rt: &impl Eprint) {
         if self.is_shown {
             self.is_shown = eprint!(rt; "\r     \r").is_err();
         }

@@ -56,4 +56,3 @@ impl Random {
         self.state.wrapping_mul(0x2545F4914F6CDD1D)
     }
 }
-

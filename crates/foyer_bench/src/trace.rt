@@ -1,6 +1,6 @@
 //! Traces: the keys that a run looks up, one after another.
 
-ghost use Rattle.std.specs.Prelude.{◌≡◌, IfOk, IfErr};
+ghost use Rattle.std.specs.Prelude.{◌≡◌, ◌<◌, IfOk, IfErr};
 ghost use Rattle.foyer_bench.specs.declared.zipf.Refusal.TheVariants.{Keyspace};
 ghost use Rattle.foyer_bench.specs.Trace.{AreRanks, keys_of, rank_of};
 ghost use Rattle.foyer_bench.specs.Zipf.{AreTooHeavy};
@@ -23,6 +23,7 @@ impl Ranks {
     /// The ranks of a keyspace: by Zipf's law, or all alike where the exponent is 0. Refused where the sum of
     /// all weights passes 64 bits, and else only for want of memory.
     pub fn new(alloc: Global, keyspace: u64, skew: Skew) -> Result<Self, Refusal>
+        requires { 0 < skew.den }
         ensures made { IfOk result (AreRanks keyspace skew) }
         ensures refused { IfErr result (λ e. e ≡ Keyspace → AreTooHeavy keyspace skew) }
     {
@@ -55,4 +56,3 @@ pub fn keys_of(alloc: Global, ranks: &Ranks, seed: u64, ops: usize) -> Result<Ve
     }
     Ok(keys)
 }
-

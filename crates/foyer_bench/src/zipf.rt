@@ -41,6 +41,7 @@ impl Sums {
     /// The sums of the weights of so many ranks. Refused where the sum of all passes 64 bits, and else only
     /// for want of memory.
     pub fn new(alloc: Global, keyspace: u64, skew: Skew) -> Result<Self, Refusal>
+        requires { 0 < skew.den }
         ensures made { IfOk result (λ sums. AreSums keyspace skew sums) }
         ensures refused { IfErr result (λ e. e ≡ Keyspace → AreTooHeavy keyspace skew) }
     {
@@ -143,6 +144,7 @@ fn power(factors: &[u64], exponent: u64) -> u64
 fn weight(factors: &[u64], skew: Skew, number: u64) -> u64
     requires factors { AreFactors factors.now }
     requires number { 0 < number }
+    requires den { 0 < skew.den }
     ensures { result ≡ weight factors.now skew number }
 {
     let exponent = log2(number) as u128 * skew.num as u128 / skew.den as u128;
@@ -153,4 +155,3 @@ fn weight(factors: &[u64], skew: Skew, number: u64) -> u64
     let part = (exponent % (1 << PLACES)) as u64;
     (power(factors, part) >> 23 >> whole).max(1)
 }
-

@@ -11,9 +11,10 @@ pub loop-place-preserved : goal.loop-place-preserved
 loop-place-preserved c =
     let n = c.loop-place._place in
     let was = c.loop-place.invariant in
-    let step = c.next_place-place.ensures in
-    (step.rest ∙ ap after_place was.0 ∙ sym (after_places-more _ n),
-     ap₂ (λ (a b : ℕ). a * 2 + b) was.1 (step.place ∙ ap next_place was.0) ∙ sym (places-more _ n))
+    let step = c.next_place-place.ensures in (
+      step.rest ∙ ap after_place was.0 ∙ sym (after_places-more _ n),
+      ap₂ (λ (a b : ℕ). a * 2 + b) was.1 (step.place ∙ ap next_place was.0) ∙ sym (places-more _ n),
+    )
 
 pub overflow_mul-places : goal.overflow_mul-places
 overflow_mul-places c =
