@@ -174,3 +174,6 @@ fn with_option(options: Options, name: &String, value: &String) -> Option<Option
         None
     }
 }
+
+#[cfg(test)]
+mod tests;

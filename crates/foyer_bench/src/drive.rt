@@ -116,3 +116,6 @@ fn spend_nobody(answers: Answers<u64, u64, CacheProperties, ()>)
         Outcome::Fault(_) => {}
     }
 }
+
+#[cfg(test)]
+mod tests;

@@ -56,3 +56,6 @@ impl Random {
         self.state.wrapping_mul(0x2545F4914F6CDD1D)
     }
 }
+
+#[cfg(test)]
+mod tests;

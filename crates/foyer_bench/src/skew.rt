@@ -52,3 +52,6 @@ fn part_of(places: &str) -> Option<u64>
     }
     number_of(places)
 }
+
+#[cfg(test)]
+mod tests;

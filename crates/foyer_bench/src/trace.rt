@@ -56,3 +56,6 @@ pub fn keys_of(alloc: Global, ranks: &Ranks, seed: u64, ops: usize) -> Result<Ve
     }
     Ok(keys)
 }
+
+#[cfg(test)]
+mod tests;

@@ -155,3 +155,6 @@ fn weight(factors: &[u64], skew: Skew, number: u64) -> u64
     let part = (exponent % (1 << PLACES)) as u64;
     (power(factors, part) >> 23 >> whole).max(1)
 }
+
+#[cfg(test)]
+mod tests;
