@@ -30,7 +30,7 @@ impl<K, V, P> Model for Slot<K, V, P> {
 
     ghost view = { λ s. record { id = s.id; kept = s.record.kept; handles = s.record.handles; resident = s.record.flags.in_indexer; place = s.record.place } };
 
-    ghost invariant = { λ s. (s.record.flags.in_indexer ≡ is_some s.leave) × ForSome s.leave (λ body. arc_value body ≡ body_of s.record.kept) };
+    ghost invariant = { λ s. (s.record.flags.in_indexer ≡ is_some s.leave) × (s.record.flags.in_eviction ≡ is_some s.record.place) × ForSome s.leave (λ body. arc_value body ≡ body_of s.record.kept) };
 }
 
 impl<K: Drop, V: Drop, P: Drop> Slot<K, V, P> {

@@ -1,0 +1,70 @@
+use super::*;
+use std::test::Fail;
+
+// FNV-1a of 64 bits, one number on.
+fn with_number(sum: u64, number: u64) -> u64 {
+    let mut sum = sum;
+    for byte in number.to_le_bytes() {
+        sum = (sum ^ byte as u64).wrapping_mul(0x100000001b3);
+    }
+    sum
+}
+
+const START: u64 = 0xcbf29ce484222325;
+
+// The checksum of ten thousand ranks.
+fn checksum(ranks: &Ranks, seed: u64) -> u64 {
+    let mut random = Random::new(seed);
+    let mut sum = START;
+    for _ in 0..10_000 {
+        sum = with_number(sum, ranks.rank(random.next_number()));
+    }
+    sum
+}
+
+// Ranks, as another program finds them.
+#[test]
+fn ranks(rt: HostRuntime) -> Result<(), Fail> {
+    for (keyspace, num, den, seed, sum) in [
+        (1_000, 9, 10, 1, 0xd7fabf8ff6d32cbe),
+        (1_000_000, 9, 10, 1, 0xf94e529cbfefac64),
+        (1_000, 125, 100, 7, 0xd3284b4e8b0baa84),
+        (1_000, 0, 1, 42, 0xca342ea53ac5e914),
+    ] {
+        let ranks = Ranks::new(rt.alloc(), keyspace, Skew { num, den })?;
+        assert_eq!(rt; checksum(&ranks, seed), sum, "of {keyspace}");
+    }
+    Ok(())
+}
+
+#[test]
+fn first_ranks(rt: HostRuntime) -> Result<(), Fail> {
+    let ranks = Ranks::new(rt.alloc(), 1_000, Skew { num: 9, den: 10 })?;
+    let mut random = Random::new(1);
+    for want in [8, 421, 17, 5, 461, 0, 1, 85, 577, 0, 2, 0, 209, 43, 41, 0] {
+        assert_eq!(rt; ranks.rank(random.next_number()), want);
+    }
+    Ok(())
+}
+
+// Keys, as another program finds them.
+#[test]
+fn keys(rt: HostRuntime) -> Result<(), Fail> {
+    let ranks = Ranks::new(rt.alloc(), 100_000, Skew { num: 9, den: 10 })?;
+    let keys = keys_of(rt.alloc(), &ranks, 1, 10_000)?;
+    assert_eq!(rt; keys.len(), 10_000);
+    let mut sum = START;
+    for key in &keys {
+        sum = with_number(sum, *key);
+    }
+    assert_eq!(rt; sum, 0x604349fd88706f55);
+    for (key, want) in keys.iter().zip([
+        3207101912732842601,
+        13131055470365606062,
+        189816162443339841,
+        12058926934050108962,
+    ]) {
+        assert_eq!(rt; *key, want);
+    }
+    Ok(())
+}
