@@ -8,6 +8,7 @@ use std::process::Abort;
 use std::test::Fail;
 
 mod bulk;
+mod filter;
 
 type FifoSession = Session<Fifo, u64, u64, CacheProperties, ModHasher, UnitWeighter, AdmitAll>;
 
