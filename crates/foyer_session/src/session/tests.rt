@@ -9,6 +9,7 @@ use std::test::Fail;
 
 mod bulk;
 mod pieces;
+mod filter;
 
 type FifoSession = Session<Fifo, u64, u64, CacheProperties, ModHasher, UnitWeighter, AdmitAll>;
 
