@@ -6,8 +6,8 @@ use foyer_core::Left;
 use foyer_policy::{Error, Event};
 use std::marker::Model;
 
-/// What a session is asked. It names a handle or a piece by its number: handles are numbered from 0 in the
-/// order in which they were handed out, and so are pieces. `Q` is the predicate of a `FlushIf`.
+/// What a session is asked. It names a handle by its number: handles are numbered from 0 in the order in
+/// which they were handed out, and so are pieces. `Q` is the predicate of a `FlushIf`.
 #[derive(Debug, Drop)]
 pub enum Command<K, V, P, Q> {
     /// Takes a record of this key, value and properties in.

@@ -22,8 +22,8 @@ use handle::Handle;
 use ready::Ready;
 
 /// A core with the handles that it handed out, each held or gone, and the pieces, which stay held. It carries
-/// out commands, which name a handle or a piece by its number. `I` is the index of each shard. Contracts see
-/// a `SessionState`.
+/// out commands, which name a handle by its number. `I` is the index of each shard. Contracts see a
+/// `SessionState`.
 ///
 /// A session that ends drops its held handles with its core, and tells nothing.
 #[derive(Drop)]
