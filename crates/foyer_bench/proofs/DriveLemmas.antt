@@ -16,17 +16,20 @@ use Rattle.foyer_policy.specs.declared.hash.HashBuilder.{Ghosts as HashBuilderGh
 use Rattle.foyer_policy.specs.declared.properties.Properties.{Ghosts as PropertiesGhosts}
 use Rattle.foyer_policy.specs.declared.types.Event.{Event}
 use Rattle.foyer_policy.specs.declared.types.Hint.TheVariants.{Normal}
+use Rattle.foyer_policy.specs.declared.types.Source.TheVariants.{Outer}
 use Rattle.foyer_core.specs.declared.cache_core.CacheCore.{CacheCore}
+use Rattle.foyer_core.specs.declared.filter.Filter.{Ghosts as FilterGhosts}
 use Rattle.foyer_core.specs.declared.indexer.Indexer.{Ghosts as IndexerGhosts}
 use Rattle.foyer_core.specs.declared.outcome.Inserted.{Inserted}
+use Rattle.foyer_core.specs.declared.outcome.Refused.{Refused}
 use Rattle.foyer_core.specs.declared.shard.Shard.{Shard}
 use Rattle.foyer_core.specs.declared.weighter.Weighter.{Ghosts as WeighterGhosts}
-use Rattle.foyer_core.specs.Core.{Core, AtShard, InsertsWeighed, Owns, shard_at, shard_of}
+use Rattle.foyer_core.specs.Core.{Core, AtShard, InsertsAnswering, InsertsWeighed, Owns, shard_at, shard_of}
 use Rattle.foyer_core.specs.Cores.{core_of, meaning_of_core}
 use Rattle.foyer_core.specs.Indexer.{same_key}
 use Rattle.foyer_core.specs.Shards.{state_of}
 use Rattle.foyer_core.specs.State.{IsKept, Meaning, State, handles_in, hit, is_phantom_record, key_of}
-use Rattle.foyer_core.specs.Steps.{Gets, GivesBack, Inserts, RefusesInsert}
+use Rattle.foyer_core.specs.Steps.{Gets, GivesBack, Inserts, RefusesInsert, newcomer}
 use Rattle.foyer_core.specs.Values.{Answered, Gone, Held}
 use Rattle.foyer_bench.specs.Drive.{data_of, NoMoreHandles, Finds, PutsIn, LookUp, RefusesLookUp, LooksUp, Drives, Runs, Stops}
 use Rattle.foyer_bench.proofs.HandleLemmas.{inserts_make, gets_differ, found_less, made_less}
@@ -34,9 +37,9 @@ use Rattle.foyer_bench.proofs.ShardLemmas.{at_then, at_map, owns_at, at_less}
 
 -- ---- what a shard keeps
 
-module _ {E K V P S W N I C X : Type 0} {e : EvictionGhosts E C X} {e1 : CloneGhosts C} {e2 : DefaultGhosts C} {e3 : _} {e4 : DefaultGhosts X}
-    {q : EqGhosts K} {h : HashGhosts K} {c : CloneGhosts K} {p : PropertiesGhosts P} {d : DefaultGhosts P} {b : HashBuilderGhosts S} {w : WeighterGhosts W K V} {i : IndexerGhosts I K} where
-  pub kept_at : (core : CacheCore E K V P S W N I C X e e1 e2 e3 e4 q h c p d b w i) (hash : ℕ) (s : State K V P e.View) → shard_at (core_of core) hash ≡ Some s → ∥ IsKept (meaning_of_core core) s ∥₁
+module _ {E K V P S W A N I C X : Type 0} {e : EvictionGhosts E C X} {e1 : CloneGhosts C} {e2 : DefaultGhosts C} {e3 : _} {e4 : DefaultGhosts X}
+    {q : EqGhosts K} {h : HashGhosts K} {c : CloneGhosts K} {p : PropertiesGhosts P} {d : DefaultGhosts P} {b : HashBuilderGhosts S} {w : WeighterGhosts W K V} {f : FilterGhosts A K V} {i : IndexerGhosts I K} where
+  pub kept_at : (core : CacheCore E K V P S W A N I C X e e1 e2 e3 e4 q h c p d b w f i) (hash : ℕ) (s : State K V P e.View) → shard_at (core_of core) hash ≡ Some s → ∥ IsKept (meaning_of_core core) s ∥₁
   kept_at core hash s there = kept_in (slice_get core.shards.items (shard_of (core_of core) hash)) (sym (slice_get-map state_of core.shards.items (shard_of (core_of core) hash)) ∙ there)
     where
       kept_in : (found : Option (Shard E K V P I C X e e1 e2 e3 e4 q h c p d i)) → option_map state_of found ≡ Some s → ∥ IsKept (meaning_of_core core) s ∥₁
@@ -56,32 +59,22 @@ found_hash {K} {V} {P} m s kept k entry t h =
     let alike : entry.kept.hash ≡ h.0.kept.hash = ap (λ (x : Held K V P). x.kept.hash) h.4 in
     grind (arith, nat_tests)
 
-module _ {View C S W : Type 0} (m : Meaning ℕ Answered View C) (old mid new : Core ℕ ℕ Answered View S W) where
+module _ {View C S W A : Type 0} (m : Meaning ℕ Answered View C) (old mid new : Core ℕ ℕ Answered View S W A) where
   -- ---- an insert
 
-  -- an insert of default properties, with a weight of 1
-  pub inserted_plain : {N : Type 0} (weighs : ℕ → Type 0) (hash key : ℕ) (p : Answered) (made : Inserted ℕ ℕ Answered N)
-      → p ≡ record { phantom = None; hint = Normal } → ((n : ℕ) → weighs n → n ≡ 1) → InsertsWeighed m weighs hash key key p (Ok made) old mid
-      → AtShard (λ s t. Inserts m s (data_of (hash, key)) made.leaves.items made.entry t) hash old mid
-  inserted_plain weighs hash key p made plain one did =
-      let is : record { key = key; value = key; properties = p; hash = hash; weight = did.weight } ≡ data_of (hash, key) =
-      ap₂ (λ (x : Answered) (n : ℕ). record { key = key; value = key; properties = x; hash = hash; weight = n }) plain (one did.weight did.weighed) in
-      at_map (λ s t. Inserts m s (record { key = key; value = key; properties = p; hash = hash; weight = did.weight }) made.leaves.items made.entry t)
-      (λ s t. Inserts m s (data_of (hash, key)) made.leaves.items made.entry t) hash old mid
-      (λ s t h. subst (λ x. Inserts m s x made.leaves.items made.entry t) is h) did.inserts
+  -- an insert of default properties, with a weight of 1, which the filter admits
+  module _ {N : Type 0} (weighs : ℕ → Type 0) (admits : Bool → Type 0) (hash key : ℕ) (properties : Bool → Answered) (result : Result (Inserted ℕ ℕ Answered N) (Refused ℕ ℕ Answered))
+      (plain : properties true ≡ record { phantom = None; hint = Normal }) (one : (n : ℕ) → weighs n → n ≡ 1) (yes : (b : Bool) → admits b → b ≡ true)
+      (did : InsertsWeighed m Outer weighs admits hash key key properties result old mid) where
+    pub weighed_plain : AtShard (λ s t. InsertsAnswering m Outer s (newcomer s (data_of (hash, key))) result t) hash old mid
+    weighed_plain =
+        let is : record { key = key; value = key; properties = properties did.admitted; hash = hash; weight = did.weight } ≡ data_of (hash, key) =
+        ap₂ (λ (x : Answered) (n : ℕ). record { key = key; value = key; properties = x; hash = hash; weight = n }) (ap properties (yes did.admitted did.answered) ∙ plain) (one did.weight did.weighed) in
+        at_map (λ s t. InsertsAnswering m Outer s (newcomer s record { key = key; value = key; properties = properties did.admitted; hash = hash; weight = did.weight }) result t)
+        (λ s t. InsertsAnswering m Outer s (newcomer s (data_of (hash, key))) result t) hash old mid
+        (λ s t h. subst (λ x. InsertsAnswering m Outer s (newcomer s x) result t) is h) did.inserts
 
-  -- a refused one
-  pub refused_plain : {N : Type 0} (weighs : ℕ → Type 0) (hash key : ℕ) (p : Answered) (refused : _)
-      → p ≡ record { phantom = None; hint = Normal } → ((n : ℕ) → weighs n → n ≡ 1) → InsertsWeighed m {N = N} weighs hash key key p (Err refused) old mid
-      → AtShard (λ s t. (leaves : _) × RefusesInsert m s (data_of (hash, key)) refused.error leaves t) hash old mid
-  refused_plain weighs hash key p refused plain one did =
-      let is : record { key = key; value = key; properties = p; hash = hash; weight = did.weight } ≡ data_of (hash, key) =
-      ap₂ (λ (x : Answered) (n : ℕ). record { key = key; value = key; properties = x; hash = hash; weight = n }) plain (one did.weight did.weighed) in
-      at_map (λ s t. RefusesInsert m s (record { key = key; value = key; properties = p; hash = hash; weight = did.weight }) refused.error refused.leaves.items t)
-      (λ s t. (leaves : _) × RefusesInsert m s (data_of (hash, key)) refused.error leaves t) hash old mid
-      (λ s t h. (refused.leaves.items, subst (λ x. RefusesInsert m s x refused.error refused.leaves.items t) is h)) did.inserts
-
-  module _ (hash key : ℕ) (leaves : List (Event × Gone ℕ ℕ Answered)) (entry : Held ℕ ℕ Answered) (at : AtShard (λ s t. Inserts m s (data_of (hash, key)) leaves entry t) hash old mid) where
+  module _ (hash key : ℕ) (leaves : List (Event × Gone ℕ ℕ Answered)) (entry : Held ℕ ℕ Answered) (at : AtShard (λ s t. Inserts m Outer s (newcomer s (data_of (hash, key))) leaves entry t) hash old mid) where
     put_hash : entry.kept.hash ≡ hash
     put_hash =
         let made = inserts_make m (is_phantom_record m (data_of (hash, key))) at.before (data_of (hash, key)) leaves entry at.after at.stepped in
@@ -92,16 +85,16 @@ module _ {View C S W : Type 0} (m : Meaning ℕ Answered View C) (old mid new : 
     put_owned =
         let made = inserts_make m (is_phantom_record m (data_of (hash, key))) at.before (data_of (hash, key)) leaves entry at.after at.stepped in
         let held : 0 < handles_in at.after entry.id = elim (made.handles entry.id) [ inl e ↦ omega (arith, e.1) | inr e ↦ absurd (e.0 refl) ] in
-        owns_at (λ s t. Inserts m s (data_of (hash, key)) leaves entry t) hash old mid at entry put_hash made.number held
+        owns_at (λ s t. Inserts m Outer s (newcomer s (data_of (hash, key))) leaves entry t) hash old mid at entry put_hash made.number held
 
     -- and once the entry is given back, the key was put in
     pub put_done : (leave : Option (Event × Gone ℕ ℕ Answered)) → AtShard (λ s t. GivesBack m s entry.id leave t) entry.kept.hash mid new
         → AtShard (λ s t. PutsIn m s (hash, key) t) hash old new
     put_done leave gave =
         let here = subst (λ (x : ℕ). AtShard (λ s t. GivesBack m s entry.id leave t) x mid new) put_hash gave in
-        at_map (λ s t. (u : State ℕ ℕ Answered View) × Inserts m s (data_of (hash, key)) leaves entry u × GivesBack m u entry.id leave t)
+        at_map (λ s t. (u : State ℕ ℕ Answered View) × Inserts m Outer s (newcomer s (data_of (hash, key))) leaves entry u × GivesBack m u entry.id leave t)
         (λ s t. PutsIn m s (hash, key) t) hash old new (λ s t x. (entry, x.0, leaves, leave, x.1, x.2))
-        (at_then (λ s t. Inserts m s (data_of (hash, key)) leaves entry t) (λ s t. GivesBack m s entry.id leave t) hash old mid new at here)
+        (at_then (λ s t. Inserts m Outer s (newcomer s (data_of (hash, key))) leaves entry t) (λ s t. GivesBack m s entry.id leave t) hash old mid new at here)
 
   -- ---- a get
 
@@ -131,10 +124,10 @@ module _ {View C S W : Type 0} (m : Meaning ℕ Answered View C) (old mid new : 
       (at_then (λ s t. Gets m s k (Ok None) t) (λ s t. PutsIn m s k t) k.0 old mid new missed put)
 
   pub missed_refused : (k : ℕ × ℕ) (reason : Reason) → AtShard (λ s t. Gets m s k (Ok None) t) k.0 old mid
-      → AtShard (λ s t. (leaves : List (Event × Gone ℕ ℕ Answered)) × RefusesInsert m s (data_of k) reason leaves t) k.0 mid new
+      → AtShard (λ s t. (leaves : List (Event × Gone ℕ ℕ Answered)) × RefusesInsert m s (newcomer s (data_of k)) reason leaves t) k.0 mid new
       → AtShard (λ s t. RefusesLookUp m s k reason t) k.0 old new
   missed_refused k reason missed refused =
-      at_map (λ s t. (u : State ℕ ℕ Answered View) × Gets m s k (Ok None) u × ((leaves : List (Event × Gone ℕ ℕ Answered)) × RefusesInsert m u (data_of k) reason leaves t))
+      at_map (λ s t. (u : State ℕ ℕ Answered View) × Gets m s k (Ok None) u × ((leaves : List (Event × Gone ℕ ℕ Answered)) × RefusesInsert m u (newcomer u (data_of k)) reason leaves t))
       (λ s t. RefusesLookUp m s k reason t) k.0 old new
-      (λ s t x. inr (x.2.0, x.1.0, subst (λ u. RefusesInsert m u (data_of k) reason x.2.0 t) x.1.1 x.2.1))
-      (at_then (λ s t. Gets m s k (Ok None) t) (λ s t. (leaves : List (Event × Gone ℕ ℕ Answered)) × RefusesInsert m s (data_of k) reason leaves t) k.0 old mid new missed refused)
+      (λ s t x. inr (x.2.0, x.1.0, subst (λ u. RefusesInsert m u (newcomer u (data_of k)) reason x.2.0 t) x.1.1 x.2.1))
+      (at_then (λ s t. Gets m s k (Ok None) t) (λ s t. (leaves : List (Event × Gone ℕ ℕ Answered)) × RefusesInsert m s (newcomer s (data_of k)) reason leaves t) k.0 old mid new missed refused)

@@ -9,7 +9,7 @@ use Rattle.foyer_policy.specs.declared.types.Source.TheVariants.{Outer}
 use Rattle.foyer_core.specs.declared.record.Data.{Data}
 use Rattle.foyer_core.specs.Values.{Rec, Gone, Held}
 use Rattle.foyer_core.specs.State.{Meaning, State, key_of, handles_of, handles_in}
-use Rattle.foyer_core.specs.Steps.{outside, after_out, after_push, after_last, after_give_back, after_hold, entry_of, Leave, GivesWay, InsertsBy, InsertsPlain, Gets, GivesBack}
+use Rattle.foyer_core.specs.Steps.{outside, after_out, after_push, after_last, after_give_back, after_hold, entry_of, newcomer, Leave, GivesWay, InsertsBy, InsertsPlain, Gets, GivesBack}
 
 -- each record has the handles that it had, and the numbers stay
 record Alike {K V P View : Type 0} (old new : State K V P View) : Type 0 where
@@ -79,7 +79,8 @@ module _ {K V P View C : Type 0} (m : Meaning K P View C) where
   gives_way_alike None old ls new h = alike_same old new h.1
   gives_way_alike (Some id) old ls new h = leave_alike Replace (id ∷ []) old ls (m.policy.remove old.view id) new h
 
-  inserted_alike : (old : State K V P View) (d : Data K V P) (ls : List (Event × Gone K V P)) (entry : Held K V P) (new : State K V P View) (h : InsertsPlain m old d ls entry new) → Alike old h.last
+  inserted_alike : (old : State K V P View) (d : Data K V P) (ls : List (Event × Gone K V P)) (entry : Held K V P) (new : State K V P View)
+      (h : InsertsPlain m Outer old (newcomer old d) ls entry new) → Alike old h.last
   inserted_alike old d ls entry new h =
       alike_then old h.mid h.last (leave_alike Evict _ old h.evictions _ h.mid h.evicts) (gives_way_alike (h.mid.index (key_of d)) h.mid h.replaced h.last h.gives_way)
 
@@ -91,22 +92,22 @@ module _ {K V P View C : Type 0} (m : Meaning K P View C) where
     pub handles : (j : ℕ) → ((j ≡ entry.id) × (handles_in new j ≡ 1)) ⊎ ((j ≢ entry.id) × (handles_in new j ≡ handles_in old j))
 
   makes : (old last : State K V P View) (d : Data K V P) (entry : Held K V P) (new : State K V P View) (r : Rec K V P) → Alike old last → entry ≡ entry_of old old.next d Outer
-      → new.records ≡ update nat_eq last.records last.next (Some r) → r.handles ≡ 1 → new.number ≡ last.number → Makes old d entry new
+      → new.records ≡ update nat_eq last.records old.next (Some r) → r.handles ≡ 1 → new.number ≡ last.number → Makes old d entry new
   makes old last d entry new r a is put one number =
-      let id : entry.id ≡ last.next = ap (λ (x : Held K V P). x.id) is ∙ sym a.next in
+      let id : entry.id ≡ old.next = ap (λ (x : Held K V P). x.id) is in
       record {
         kept = ap (λ (x : Held K V P). x.kept) is;
         number = ap (λ (x : Held K V P). x.number) is ∙ sym (number ∙ a.number);
         handles = λ j.
-            let now : handles_in new j ≡ handles_of (update nat_eq last.records last.next (Some r) j) = ap (λ (f : ℕ → Option (Rec K V P)). handles_of (f j)) put in
-            elim (put_handles last.records last.next (Some r) j) [
+            let now : handles_in new j ≡ handles_of (update nat_eq last.records old.next (Some r) j) = ap (λ (f : ℕ → Option (Rec K V P)). handles_of (f j)) put in
+            elim (put_handles last.records old.next (Some r) j) [
               | inl h ↦ inl (h.0 ∙ sym id, now ∙ h.1 ∙ one)
               | inr h ↦ inr (λ e. h.0 (e ∙ id), now ∙ h.1 ∙ a.handles j)
             ];
       }
 
   pub inserts_make : (b : Bool) (old : State K V P View) (d : Data K V P) (ls : List (Event × Gone K V P)) (entry : Held K V P) (new : State K V P View)
-      → InsertsBy m b old d ls entry new → Makes old d entry new
+      → InsertsBy m b Outer old (newcomer old d) ls entry new → Makes old d entry new
   inserts_make false old d ls entry new h =
       makes old h.last d entry new (record { kept = d; handles = 1; resident = true }) (inserted_alike old d ls entry new h) h.entry_is
       (ap (λ (x : State K V P View). x.records) h.after) refl (ap (λ (x : State K V P View). x.number) h.after)

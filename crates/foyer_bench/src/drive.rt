@@ -4,7 +4,7 @@ ghost use Rattle.std.specs.Prelude.{◌≡◌, ◌≤◌, None, IfOk, IfErr, len
 ghost use Rattle.std.specs.Hash.{u64 as u64_input};
 ghost use Rattle.foyer_core.specs.Core.{AnswersNobody, AtShard, Owns};
 ghost use Rattle.foyer_core.specs.Cores.{core_of, meaning_of_core};
-ghost use Rattle.foyer_core.specs.Steps.{GivesBack, RefusesInsert};
+ghost use Rattle.foyer_core.specs.Steps.{GivesBack, RefusesInsert, newcomer};
 ghost use Rattle.foyer_bench.specs.Drive.{LooksUp, NoMoreHandles, PutsIn, RefusesLookUp, Runs, Stops, data_of};
 
 use foyer_core::{
@@ -66,7 +66,7 @@ fn put_in<E: Eviction, S: HashBuilder>(core: &mut Core<E, S>, key: u64) -> Resul
     ensures put { let hash = S.hash_of (core_of core.old).hash_builder (u64_input key) in
         IfOk result (λ _. AtShard (λ s t. PutsIn (meaning_of_core core.old) s (hash, key) t) hash (core_of core.old) (core_of core.new)) }
     ensures refused { let hash = S.hash_of (core_of core.old).hash_builder (u64_input key) in
-        IfErr result (λ reason. AtShard (λ s t. (leaves : _) × RefusesInsert (meaning_of_core core.old) s (data_of (hash, key)) reason leaves t)
+        IfErr result (λ reason. AtShard (λ s t. (leaves : _) × RefusesInsert (meaning_of_core core.old) s (newcomer s (data_of (hash, key))) reason leaves t)
         hash (core_of core.old) (core_of core.new)) }
 {
     match core.insert(key, key) {
