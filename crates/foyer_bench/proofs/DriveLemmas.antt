@@ -1,10 +1,8 @@
 -- What a look-up and a run come to.
-use Rattle.std.proofs.Common.{◌≡◌, ℕ, zero, suc, ◌+◌, ◌<◌, ◌≤◌, ◌⊎◌, ◌==◌, ◌&&◌, Bool, true, false, List, [], ◌∷◌, ◌++◌, length, take, drop, get_or, Option, Some, None, Result, Ok, Err, arith, refl, sym, ap, ap₂, ◌∙◌, subst, inl, inr, cond}
-use Rattle.std.specs.Prelude.{slice_get, option_map, count_by}
+use Rattle.std.proofs.Common.{◌≡◌, ℕ, ◌<◌, ◌==◌, ◌&&◌, Bool, true, false, List, Option, Some, None, Result, Ok, arith, refl, sym, ap, ap₂, ◌∙◌, subst, inl, inr}
+use Rattle.std.specs.Prelude.{slice_get, option_map}
 use Rattle.std.proofs.Math.Logic.{∥∥₁_map}
 use Rattle.std.proofs.lemmas.Bool.Decides.{nat_tests}
-use Rattle.std.proofs.lemmas.List.{take_more, take-append-drop, length-append}
-use Rattle.std.proofs.lemmas.List.Sums.{sum_by_push, count_by-le-length}
 use Rattle.std.proofs.lemmas.Option.{slice_get-map}
 use Rattle.std.specs.declared.cmp.PartialEq.{Ghosts as EqGhosts}
 use Rattle.std.specs.declared.hash.Hash.{Ghosts as HashGhosts}
@@ -28,12 +26,12 @@ use Rattle.foyer_core.specs.Core.{Core, AtShard, InsertsAnswering, InsertsWeighe
 use Rattle.foyer_core.specs.Cores.{core_of, meaning_of_core}
 use Rattle.foyer_core.specs.Indexer.{same_key}
 use Rattle.foyer_core.specs.Shards.{state_of}
-use Rattle.foyer_core.specs.State.{IsKept, Meaning, State, handles_in, hit, is_phantom_record, key_of}
+use Rattle.foyer_core.specs.State.{IsKept, Meaning, State, handles_in, is_phantom_record, key_of}
 use Rattle.foyer_core.specs.Steps.{Gets, GivesBack, Inserts, RefusesInsert, newcomer}
 use Rattle.foyer_core.specs.Values.{Answered, Gone, Held}
-use Rattle.foyer_bench.specs.Drive.{data_of, NoMoreHandles, Finds, PutsIn, LookUp, RefusesLookUp, LooksUp, Drives, Runs, Stops}
-use Rattle.foyer_bench.proofs.HandleLemmas.{inserts_make, gets_differ, found_less, made_less}
-use Rattle.foyer_bench.proofs.ShardLemmas.{at_then, at_map, owns_at, at_less}
+use Rattle.foyer_bench.specs.Drive.{data_of, PutsIn, LookUp, RefusesLookUp}
+use Rattle.foyer_bench.proofs.HandleLemmas.{inserts_make, gets_differ}
+use Rattle.foyer_bench.proofs.ShardLemmas.{at_then, at_map, owns_at}
 
 -- ---- what a shard keeps
 

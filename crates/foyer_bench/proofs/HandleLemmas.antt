@@ -1,5 +1,5 @@
 -- What the steps of a look-up do to the handles of a shard's records.
-use Rattle.std.proofs.Common.{◌≡◌, ◌≢◌, ℕ, ◌+◌, ◌-◌, ◌<◌, ◌≤◌, ◌⊎◌, List, [], ◌∷◌, Option, Some, None, Ok, arith, refl, sym, ap, ◌∙◌, subst, ◌==◌, Bool, true, false, nat_eq, cond, inl, inr}
+use Rattle.std.proofs.Common.{◌≡◌, ◌≢◌, ℕ, ◌+◌, ◌-◌, ◌≤◌, ◌⊎◌, List, [], ◌∷◌, Option, Some, None, Ok, arith, refl, sym, ap, ◌∙◌, subst, ◌==◌, Bool, true, false, nat_eq, cond, inl, inr}
 use Rattle.std.specs.Map.{update}
 use Rattle.std.proofs.lemmas.Map.{update_here, update_apart}
 use Rattle.std.proofs.lemmas.Bool.Decides.{eqb_tells, nat_tests}
@@ -9,7 +9,7 @@ use Rattle.foyer_policy.specs.declared.types.Source.TheVariants.{Outer}
 use Rattle.foyer_core.specs.declared.record.Data.{Data}
 use Rattle.foyer_core.specs.Values.{Rec, Gone, Held}
 use Rattle.foyer_core.specs.State.{Meaning, State, key_of, handles_of, handles_in}
-use Rattle.foyer_core.specs.Steps.{outside, after_out, after_push, after_last, after_give_back, after_hold, entry_of, newcomer, Leave, GivesWay, InsertsBy, InsertsPlain, Gets, GivesBack}
+use Rattle.foyer_core.specs.Steps.{outside, after_out, after_last, after_give_back, entry_of, newcomer, Leave, GivesWay, InsertsBy, InsertsPlain, Gets, GivesBack}
 
 -- each record has the handles that it had, and the numbers stay
 record Alike {K V P View : Type 0} (old new : State K V P View) : Type 0 where

@@ -1,13 +1,12 @@
 -- Runs over keys, one after another.
-use Rattle.std.proofs.Common.{◌≡◌, ℕ, ◌+◌, ◌<◌, ◌≤◌, Bool, true, false, List, [], ◌∷◌, ◌++◌, length, take, drop, get_or, arith, refl, sym, ap, ap₂, ◌∙◌, subst, cond, append_assoc}
-use Rattle.std.specs.Prelude.{count_by}
+use Rattle.std.proofs.Common.{ℕ, ◌+◌, ◌<◌, Bool, true, false, List, [], ◌∷◌, ◌++◌, length, take, drop, get_or, arith, refl, sym, ap, ap₂, ◌∙◌, subst, cond, append_assoc}
 use Rattle.std.proofs.lemmas.List.{take_more, take-append-drop}
 use Rattle.std.proofs.lemmas.List.Sums.{sum_by_push, sum_by-append}
 use Rattle.std.proofs.Common.{length-append}
 use Rattle.foyer_policy.specs.declared.error.Reason.{Reason}
 use Rattle.foyer_core.specs.Core.{Core, AtShard}
 use Rattle.foyer_core.specs.State.{Meaning, is_phantom_record}
-use Rattle.foyer_core.specs.Values.{Answered, Held}
+use Rattle.foyer_core.specs.Values.{Answered}
 use Rattle.foyer_bench.specs.Drive.{data_of, NoMoreHandles, LookUp, RefusesLookUp, LooksUp, Drives, Runs, Stops}
 use Rattle.foyer_bench.proofs.HandleLemmas.{inserts_make, found_less, made_less}
 use Rattle.foyer_bench.proofs.ShardLemmas.{at_less}

@@ -1,11 +1,11 @@
 -- Steps of one shard of a core, one after another.
-use Rattle.std.proofs.Common.{◌≡◌, ◌≢◌, ℕ, zero, suc, ◌+◌, ◌<◌, ◌≤◌, ◌⊎◌, ◌%◌, List, [], ◌∷◌, length, Option, Some, None, arith, refl, sym, ap, ◌∙◌, subst, inl, inr}
+use Rattle.std.proofs.Common.{◌≡◌, ◌≢◌, ℕ, zero, suc, ◌<◌, ◌≤◌, ◌⊎◌, ◌%◌, List, [], ◌∷◌, length, Option, Some, arith, refl, sym, ap, ◌∙◌, subst, inl, inr}
 use Rattle.std.specs.Prelude.{slice_get, slice_set, option_and_then}
 use Rattle.std.proofs.Math.ListN.{length-set}
 use Rattle.std.proofs.lemmas.Bool.{cases_eq}
-use Rattle.foyer_core.specs.Core.{Core, AtShard, Owns, record_of, refs_in, shard_at, shard_of}
+use Rattle.foyer_core.specs.Core.{Core, AtShard, Owns, refs_in, shard_at, shard_of}
 use Rattle.foyer_core.specs.State.{State, handles_in, handles_of}
-use Rattle.foyer_core.specs.Values.{Held, Rec}
+use Rattle.foyer_core.specs.Values.{Held}
 use Rattle.foyer_bench.specs.Drive.{NoMoreHandles}
 
 -- what a list has where it was written, and elsewhere

@@ -1,6 +1,6 @@
 -- Lemmas on random numbers and traces.
-use Rattle.std.proofs.Common.{◌≡◌, ℕ, ◌+◌, List, [], ◌∷◌, ◌++◌, refl, add-one}
-use Rattle.foyer_bench.specs.Random.{first_state, mixed, next_state, number_at, random, state_after}
+use Rattle.std.proofs.Common.{◌≡◌, ℕ, ◌+◌, [], ◌∷◌, ◌++◌, refl, add-one}
+use Rattle.foyer_bench.specs.Random.{first_state, mixed, next_state, number_at, state_after}
 use Rattle.foyer_bench.specs.Trace.{keys_of}
 
 pub state_after-none : (seed : ℕ) → state_after seed 0 ≡ first_state seed

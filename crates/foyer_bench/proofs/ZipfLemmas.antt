@@ -1,17 +1,17 @@
 -- Lemmas on logarithms, powers and sums of weights.
-use Rattle.std.proofs.Common.{◌≡◌, ℕ, zero, suc, ◌+◌, ◌-◌, ◌*◌, ◌/◌, ◌%◌, ◌^◌, ◌<◌, ◌≤◌, ◌==◌, Bool, true, false, List, [], ◌∷◌, ◌++◌, length, inl, inr, get_or, refl, sym, ap, ◌∙◌, subst, arith, cond, add-one, zero-add, length-append, lit<, lit≤}
-use Rattle.std.specs.Prelude.{nat_le, nat_lt, slice_index, if◌then◌else◌, bit_and}
+use Rattle.std.proofs.Common.{◌≡◌, ℕ, zero, suc, ◌+◌, ◌-◌, ◌*◌, ◌/◌, ◌%◌, ◌^◌, ◌<◌, ◌≤◌, ◌==◌, true, false, List, [], ◌∷◌, ◌++◌, length, inl, inr, get_or, refl, sym, ap, ◌∙◌, arith, add-one, zero-add, length-append, lit<, lit≤}
+use Rattle.std.specs.Prelude.{nat_le, nat_lt, slice_index, bit_and}
 use Rattle.std.specs.Int.{w64, leading_zeros, bit_at}
 use Rattle.std.specs.List.{position_or_len}
 use Rattle.std.specs.List.Sorted.{IsNonDecreasing, IsPartitionPoint}
 use Rattle.std.proofs.lemmas.Bool.{cases_lt}
 use Rattle.std.proofs.lemmas.List.{get_or_append_left, get_or_push, get_or_default}
 use Rattle.std.proofs.lemmas.List.Sums.{position_or_len_is}
-use Rattle.std.proofs.lemmas.Nat.{leading_top, shl_whole, shl_below, pow_pos, mul-le, mul-lt}
+use Rattle.std.proofs.lemmas.Nat.{leading_top, shl_whole, mul-le, mul-lt}
 use Rattle.std.proofs.lemmas.Nat.Bits.{shr_and_one}
 use Rattle.std.proofs.lemmas.Bool.Decides.{nat_tests}
 use Rattle.std.proofs.Math.Nat.{pow-le-pow_right, pow-suc}
-use Rattle.foyer_bench.specs.Zipf.{square, next_place, after_place, after_places, places, log2, IsRoot, AreFactors, power_by, power, sum_of}
+use Rattle.foyer_bench.specs.Zipf.{next_place, after_place, after_places, places, IsRoot, AreFactors, power_by, power, sum_of}
 
 -- ---- logarithms
 

@@ -1,15 +1,11 @@
 -- The arguments of the program.
-use Rattle.std.specs.Prelude.{ℕ, ◌==◌, ◌+◌, ◌*◌, ◌^◌, ◌&&◌, true, false, List, [], ◌∷◌, length, Option, Some, None, option_and_then, nat_lt, if◌then◌else◌, bytes_eq, codes}
-use Rattle.std.specs.List.{before_first, after_first}
-use Rattle.std.specs.Str.{all_ascii_digits}
-use Rattle.std.specs.Str.Parse.{digits_value}
+use Rattle.std.specs.Prelude.{ℕ, ◌==◌, true, false, List, [], ◌∷◌, Option, Some, None, option_and_then, if◌then◌else◌, bytes_eq, codes}
 use Rattle.foyer_bench.specs.declared.args.BenchArgs.{BenchArgs}
 use Rattle.foyer_bench.specs.declared.args.Hasher.{Hasher}
 use Rattle.foyer_bench.specs.declared.args.Hasher.TheVariants.{Mod, Default}
 use Rattle.foyer_bench.specs.declared.args.Options.{Options}
 use Rattle.foyer_bench.specs.declared.args.Policy.{Policy}
 use Rattle.foyer_bench.specs.declared.args.Policy.TheVariants.{Fifo, Lru, Lfu, S3Fifo, Sieve}
-use Rattle.foyer_bench.specs.declared.skew.Skew.{Skew}
 use Rattle.foyer_bench.specs.Words.{number_of}
 use Rattle.foyer_bench.specs.Skew.{skew_of}
 

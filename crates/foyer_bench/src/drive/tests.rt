@@ -18,6 +18,7 @@ fn core<E: Eviction, S: HashBuilder + Default>(
         eviction_config: E::Config::default(),
         hash_builder: S::default(),
         weighter: UnitWeighter,
+        filter: AdmitAll,
         number: 0,
         limits: Limits::default(),
     };

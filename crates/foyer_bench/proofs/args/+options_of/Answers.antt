@@ -1,4 +1,4 @@
-use Rattle.std.proofs.Common.{◌≡◌, ◌∙◌, List, Option, Some, None, ℕ, map, string_bytes, Global, sym, ap, drop, true}
+use Rattle.std.proofs.Common.{◌∙◌, List, ℕ, map, string_bytes, Global, sym, ap, drop, true}
 use Rattle.std.specs.Prelude.{bytes_eq, codes, option_and_then}
 use Rattle.std.proofs.lemmas.List.{take_rest}
 use Rattle.foyer_bench.specs.Args.{options_of}

@@ -1,5 +1,5 @@
 -- the keys so far were run over, and no record has more handles
-use Rattle.std.proofs.Common.{◌≡◌, ◌-◌, ◌≤◌, length, take}
+use Rattle.std.proofs.Common.{◌-◌, ◌≤◌, length, take}
 use Rattle.std.specs.Hash.{u64 as u64_input}
 use Rattle.foyer_core.specs.Cores.{core_of, meaning_of_core}
 use Rattle.foyer_bench.specs.Drive.{NoMoreHandles, Runs}

@@ -1,4 +1,4 @@
-use Rattle.std.proofs.Common.{ℕ, ◌≡◌, Err, ap, inl, subst}
+use Rattle.std.proofs.Common.{◌≡◌, Err, ap, inl, subst}
 use Rattle.std.proofs.Math.Logic.{∥∥₁_elim}
 use Rattle.std.proofs.Props.{props}
 use Rattle.std.specs.Hash.{u64 as u64_input}

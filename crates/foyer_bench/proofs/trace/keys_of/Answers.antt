@@ -1,6 +1,6 @@
 use Rattle.std.proofs.Common.{ℕ, ◌≡◌, ◌∙◌, ◌+◌, List, [], ◌∷◌, ◌++◌, sym, ap, ap₂, length}
 use Rattle.foyer_bench.specs.Random.{mixed, next_state, number_at, state_after}
-use Rattle.foyer_bench.specs.Trace.{keys_of, rank_of}
+use Rattle.foyer_bench.specs.Trace.{rank_of}
 use Rattle.foyer_bench.proofs.TraceLemmas.{state_after-none, state_after-more, keys_of-none, keys_of-more}
 use Rattle.foyer_bench.proofs.ZipfLemmas.{length_push}
 use Rattle.foyer_bench.proofs.trace.keys_of.Goals as goal

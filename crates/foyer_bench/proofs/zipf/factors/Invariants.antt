@@ -1,5 +1,5 @@
 -- the factors so far, and the last of them
-use Rattle.std.proofs.Common.{ℕ, ◌≡◌, ◌*◌, ◌^◌, ◌<◌, ◌≤◌, length}
+use Rattle.std.proofs.Common.{ℕ, ◌≡◌, ◌*◌, ◌^◌, ◌<◌, length}
 use Rattle.std.specs.Prelude.{slice_index}
 use Rattle.foyer_bench.specs.Zipf.{IsRoot, factor_before}
 use Rattle.foyer_bench.proofs.zipf.factors.Given as goal

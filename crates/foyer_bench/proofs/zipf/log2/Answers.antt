@@ -1,4 +1,4 @@
-use Rattle.std.proofs.Common.{ℕ, ◌≡◌, ◌∙◌, ◌+◌, ◌*◌, ◌-◌, ◌%◌, ◌^◌, ◌<◌, ◌≤◌, sym, arith, ap, ap₂}
+use Rattle.std.proofs.Common.{ℕ, ◌≡◌, ◌∙◌, ◌+◌, ◌*◌, ◌-◌, ◌%◌, ◌^◌, sym, arith, ap, ap₂}
 use Rattle.std.specs.Int.{w64, leading_zeros}
 use Rattle.foyer_bench.specs.Zipf.{after_place, next_place, places}
 use Rattle.foyer_bench.proofs.ZipfLemmas.{after_places-none, after_places-more, places-none, places-more, places_fit, moved, next_place_le}

@@ -1,4 +1,4 @@
-use Rattle.std.proofs.Common.{ℕ, ◌≡◌, ◌*◌, ◌/◌, ◌^◌, ◌≤◌, ◌∙◌, refl, sym, arith, ap, lit≤}
+use Rattle.std.proofs.Common.{ℕ, ◌*◌, ◌/◌, ◌^◌, ◌∙◌, sym, ap, lit≤}
 use Rattle.std.specs.Prelude.{slice_index}
 use Rattle.foyer_bench.proofs.ZipfLemmas.{factor_le, lowered_le, power_by-none, power_by-yes, power_by-no}
 use Rattle.foyer_bench.proofs.zipf.power.Goals as goal

@@ -1,5 +1,5 @@
 -- the sums so far, and the last of them
-use Rattle.std.proofs.Common.{ℕ, ◌≡◌, ◌+◌, ◌<◌, ◌≤◌, length, vec_len, vec_capacity}
+use Rattle.std.proofs.Common.{ℕ, ◌≡◌, ◌+◌, ◌<◌, ◌≤◌, length, vec_capacity}
 use Rattle.std.specs.Prelude.{slice_index}
 use Rattle.foyer_bench.specs.Zipf.{weight, sum_of}
 use Rattle.foyer_bench.proofs.zipf.Sums.new.Given as goal

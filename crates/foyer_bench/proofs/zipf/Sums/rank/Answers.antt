@@ -1,9 +1,8 @@
-use Rattle.std.proofs.Common.{ℕ, ◌≡◌, ◌∙◌, ◌*◌, ◌/◌, ◌^◌, ◌<◌, ◌≤◌, length, rules, of_calls, sym, ap, arith, subst}
+use Rattle.std.proofs.Common.{ℕ, ◌≡◌, ◌∙◌, ◌*◌, ◌/◌, ◌^◌, rules, of_calls, sym}
 use Rattle.std.specs.Prelude.{nat_le}
 use Rattle.std.proofs.lemmas.Fn.{always_returns_same}
 use Rattle.std.proofs.lemmas.List.Sorted.{IsPartitionedBy-leb}
 use Rattle.std.specs.List.Sorted.{IsNonDecreasing}
-use Rattle.foyer_bench.specs.Zipf.{whole, weighed_rank}
 use Rattle.foyer_bench.proofs.ZipfLemmas.{rank_is}
 use Rattle.foyer_bench.proofs.zipf.Sums.rank.Goals as goal
 
