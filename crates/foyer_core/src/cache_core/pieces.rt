@@ -1,6 +1,7 @@
 //! Records that come into a core by a piece.
 
-ghost use Rattle.std.specs.Prelude.{◌≡◌, ℕ, IfOk, IsSomeAnd, true};
+ghost use Rattle.std.specs.Prelude.{◌≡◌, ℕ, IfOk, IsSomeAnd, false, true};
+ghost use Rattle.foyer_policy.specs.Properties.{is_phantom};
 ghost use Rattle.foyer_policy.specs.declared.types.Source.TheVariants.{Memory};
 
 use super::CacheCore;
@@ -21,9 +22,9 @@ impl<
     N: Drop,
     I: Indexer<K>,
 > CacheCore<E, K, V, P, S, W, N, I> {
-    ghost use Rattle.foyer_core.specs.Core.{AnswersNobody, AtShard, InsertsAnswering, shard_at};
+    ghost use Rattle.foyer_core.specs.Core.{AnswersNobody, AtShard, InsertsAnswering, shard_at, shard_of};
     ghost use Rattle.foyer_core.specs.Cores.{core_of, meaning_of_core};
-    ghost use Rattle.foyer_core.specs.Laws.{HandlesStay};
+    ghost use Rattle.foyer_core.specs.Laws.{Finds, HandlesStay};
     ghost use Rattle.foyer_core.specs.Pieces.{InsertsPiece, ReturnsAnswering, is_known};
     ghost use Rattle.foyer_core.specs.Steps.{newcomer};
 
@@ -46,6 +47,11 @@ impl<
             AtShard (λ s t. InsertsPiece (meaning_of_core self.old) (W.weighs (core_of self.old).weighter piece.kept.key piece.kept.value) hash piece result s t)
             hash (core_of self.old) (core_of self.new) }
         ensures answers { IfOk result (λ made. AnswersNobody made.answers) }
+        ensures found { let hashes = λ k. S.hash_of (core_of self.old).hash_builder (K.hash_input k) in
+            IfOk result (λ made. is_phantom (P.phantom_of made.entry.kept.properties) ≡ false
+            → made.entry.kept.hash ≡ hashes made.entry.kept.key
+            → shard_of (core_of self.old) made.entry.kept.hash ≡ shard_of (core_of self.old) (hashes piece.kept.key)
+            → Finds (meaning_of_core self.new) hashes (core_of self.new) made.entry.kept.key made.entry.kept.value) }
         ensures stay { HandlesStay (λ _. 0) (core_of self.old) (core_of self.new) }
     {
         let hash = self.hash(piece.key());
