@@ -65,32 +65,41 @@ module _ {K V P View S W A : Type 0} (old new : Core K V P View S W A) where
       rw same (ap (λ (x : Bool). if x then 1 else 0) (and_true (e.id == entry.id))))) at.stepped
 
 module _ {K V P View C : Type 0} (m : Meaning K P View C) (laws : IsEquivalence m.same) (good : IsPolicy m.policy) where
-  module _ (source : Source) (old : State K V P View) (inc : Incoming K V P) (ls : List (Event × Gone K V P)) (entry : Held K V P) (new : State K V P View) (h : InsertsPlain m source old inc ls entry new) where
-    abbrev came : Rec K V P
-    came = record { kept = inc.kept; handles = inc.handles; resident = true }
+  -- equal keys hit a record of these data
+  pub record Stands (d : Data K V P) (t : State K V P View) : Type 0 where
+    pub id : ℕ
+    pub rec : Rec K V P
+    pub under : (k : ℕ × K) → same_key m.same (key_of d) k ≡ true → t.index k ≡ Some id
+    pub there : t.records id ≡ Some rec
+    pub data_are : rec.kept ≡ d
 
-    -- equal keys hit what came in
-    came_under : (k : ℕ × K) → same_key m.same (key_of inc.kept) k ≡ true → new.index k ≡ Some inc.id
-    came_under k same = ap (λ (s : State K V P View). s.index k) h.after ∙ ap (λ (x : Bool). cond x (Some inc.id) (h.last.index k)) same
+  -- a get of an equal key finds it
+  finds_stood : (d : Data K V P) (t : State K V P View) → Stands d t → (k : ℕ × K) → same_key m.same (key_of d) k ≡ true → (answer : Result (Option (Held K V P)) Reason) (after : State K V P View) → Gets m t k answer after
+      → IfOk answer (λ found. IsSomeAnd found (λ e. e.kept.value ≡ d.value))
+  finds_stood d t h k same (Ok None) after g = absurd (let e : ◌≡◌ {A = Option ℕ} None (Some h.id) = sym g.0 ∙ h.under k same in cc)
+  finds_stood d t h k same (Ok (Some e)) after g =
+      let id : e.id ≡ h.id = some_nat (sym g.1 ∙ h.under k same) in
+      let r : g.0 ≡ h.rec = some_rec (sym g.2 ∙ ap t.records id ∙ h.there) in
+      ap (λ (x : Held K V P). x.kept.value) g.4 ∙ ap (λ (x : Rec K V P). x.kept.value) r ∙ ap (λ (x : Data K V P). x.value) h.data_are
+    where
+      some_nat : {x y : ℕ} → Some x ≡ Some y → x ≡ y
+      some_nat h = cc
 
-    came_there : new.records inc.id ≡ Some came
-    came_there = ap (λ (s : State K V P View). s.records inc.id) h.after ∙ update_here h.last.records inc.id (Some came)
+      some_rec : {x y : Rec K V P} → Some x ≡ Some y → x ≡ y
+      some_rec h = cc
+  finds_stood d t h k same (Err reason) after g = tt
 
-    -- a get of an equal key finds it
-    finds_came : (d : Data K V P) → inc.kept ≡ d → (k : ℕ × K) → same_key m.same (key_of d) k ≡ true → (answer : Result (Option (Held K V P)) Reason) (after : State K V P View) → Gets m new k answer after
-        → IfOk answer (λ found. IsSomeAnd found (λ e. e.kept.value ≡ d.value))
-    finds_came d is k same (Ok None) after g = absurd (let e : ◌≡◌ {A = Option ℕ} None (Some inc.id) = sym g.0 ∙ came_under k (subst (λ (x : Data K V P). same_key m.same (key_of x) k ≡ true) (sym is) same) in cc)
-    finds_came d is k same (Ok (Some e)) after g =
-        let id : e.id ≡ inc.id = some_nat (sym g.1 ∙ came_under k (subst (λ (x : Data K V P). same_key m.same (key_of x) k ≡ true) (sym is) same)) in
-        let r : g.0 ≡ came = some_rec (sym g.2 ∙ ap new.records id ∙ came_there) in
-        ap (λ (x : Held K V P). x.kept.value) g.4 ∙ ap (λ (x : Rec K V P). x.kept.value) r ∙ ap (λ (x : Data K V P). x.value) is
-      where
-        some_nat : {x y : ℕ} → Some x ≡ Some y → x ≡ y
-        some_nat h = cc
-
-        some_rec : {x y : Rec K V P} → Some x ≡ Some y → x ≡ y
-        some_rec h = cc
-    finds_came d is k same (Err reason) after g = tt
+  -- so it is of a plain record that came in
+  pub came_stands : (source : Source) (old : State K V P View) (inc : Incoming K V P) (ls : List (Event × Gone K V P)) (entry : Held K V P) (new : State K V P View) → InsertsPlain m source old inc ls entry new → Stands inc.kept new
+  came_stands source old inc ls entry new h =
+      let came : Rec K V P = record { kept = inc.kept; handles = inc.handles; resident = true } in
+      record {
+        id = inc.id;
+        rec = came;
+        under = λ k same. ap (λ (s : State K V P View). s.index k) h.after ∙ ap (λ (x : Bool). cond x (Some inc.id) (h.last.index k)) same;
+        there = ap (λ (s : State K V P View). s.records inc.id) h.after ∙ update_here h.last.records inc.id (Some came);
+        data_are = refl;
+      }
 
   -- a shard that keeps what it must takes a plain record of these data in
   pub record Came (source : Source) (d : Data K V P) (ls : List (Event × Gone K V P)) (entry : Held K V P) (old new : State K V P View) : Type 0 where
@@ -99,22 +108,23 @@ module _ {K V P View C : Type 0} (m : Meaning K P View C) (laws : IsEquivalence 
     pub inserts : InsertsPlain m source old inc ls entry new
     pub data_are : inc.kept ≡ d
 
-  module _ {S W A : Type 0} (old new : Core K V P View S W A) (source : Source) (d : Data K V P) (ls : List (Event × Gone K V P)) (entry : Held K V P)
-      (hash : ℕ) (belongs : shard_of old d.hash ≡ shard_of old hash) (at : AtShard (Came source d ls entry) hash old new) where
+  module _ {S W A : Type 0} (old new : Core K V P View S W A) where
     same_state_of : (x y : State K V P View) → Some x ≡ Some y → x ≡ y
     same_state_of x y h = cc
 
-    pub finds_at : (hashes : K → ℕ) → ((k : K) → m.same d.key k ≡ true → hashes k ≡ d.hash) → Finds m hashes new d.key d.value
-    finds_at hashes equal k same answer after next =
+    pub finds_at : (d : Data K V P) (hash : ℕ) → shard_of old d.hash ≡ shard_of old hash → AtShard (λ s t. Stands d t) hash old new
+        → (hashes : K → ℕ) → ((k : K) → m.same d.key k ≡ true → hashes k ≡ d.hash) → Finds m hashes new d.key d.value
+    finds_at d hash belongs at hashes equal k same answer after next =
         let place : shard_of old (hashes k) ≡ shard_of old hash = ap (shard_of old) (equal k same) ∙ belongs in
-        let here : next.before ≡ at.after = same_state_of next.before at.after (sym next.there ∙ now_here old new (Came source d ls entry) hash at (hashes k) place) in
-        finds_came source at.before at.stepped.inc ls entry at.after at.stepped.inserts d at.stepped.data_are (d.hash, k) (alike_key m.same d.hash d.key k same) answer next.after
+        let here : next.before ≡ at.after = same_state_of next.before at.after (sym next.there ∙ now_here old new (λ s t. Stands d t) hash at (hashes k) place) in
+        finds_stood d at.after at.stepped (d.hash, k) (alike_key m.same d.hash d.key k same) answer next.after
         (subst (λ (n : ℕ). Gets m at.after (n, k) answer next.after) (equal k same) (subst (λ (x : State K V P View). Gets m x (hashes k, k) answer next.after) here next.stepped))
 
-    pub bounded_at : (weight : ℕ) → weight ≡ d.weight → IsBoundedAt m hash weight old new
-    bounded_at weight weighs x y there gone =
-        let was : at.before ≡ x = same_state_of at.before x (sym at.there ∙ there) in
-        let now : at.after ≡ y = same_state_of at.after y (sym (now_here old new (Came source d ls entry) hash at hash refl) ∙ gone) in
-        let same : at.stepped.inc.kept.weight ≡ weight = ap (λ (x : Data K V P). x.weight) at.stepped.data_are ∙ sym weighs in
-        subst (λ (n : ℕ). IsBounded m n x y) same (subst (λ (z : State K V P View). IsBounded m at.stepped.inc.kept.weight z y) was (subst (λ (z : State K V P View). IsBounded m at.stepped.inc.kept.weight at.before z) now
-        (∥∥₁_elim at.stepped.kept (hlevel props) (λ k. usage_after m laws good source at.before k at.stepped.inc ls entry at.after at.stepped.inserts))))
+    module _ (source : Source) (d : Data K V P) (ls : List (Event × Gone K V P)) (entry : Held K V P) (hash : ℕ) (at : AtShard (Came source d ls entry) hash old new) where
+      pub bounded_at : (weight : ℕ) → weight ≡ d.weight → IsBoundedAt m hash weight old new
+      bounded_at weight weighs x y there gone =
+          let was : at.before ≡ x = same_state_of at.before x (sym at.there ∙ there) in
+          let now : at.after ≡ y = same_state_of at.after y (sym (now_here old new (Came source d ls entry) hash at hash refl) ∙ gone) in
+          let same : at.stepped.inc.kept.weight ≡ weight = ap (λ (x : Data K V P). x.weight) at.stepped.data_are ∙ sym weighs in
+          subst (λ (n : ℕ). IsBounded m n x y) same (subst (λ (z : State K V P View). IsBounded m at.stepped.inc.kept.weight z y) was (subst (λ (z : State K V P View). IsBounded m at.stepped.inc.kept.weight at.before z) now
+          (∥∥₁_elim at.stepped.kept (hlevel props) (λ k. usage_after m laws good source at.before k at.stepped.inc ls entry at.after at.stepped.inserts))))

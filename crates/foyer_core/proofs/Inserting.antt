@@ -11,10 +11,12 @@ use Rattle.foyer_policy.specs.declared.error.Reason.{Reason}
 use Rattle.foyer_policy.specs.declared.error.Reason.TheVariants.{Ids, Handles, NoMemory}
 use Rattle.foyer_policy.specs.declared.types.Source.{Source}
 use Rattle.foyer_core.specs.declared.record.Data.{Data}
-use Rattle.foyer_core.specs.Values.{Gone, Held, Incoming}
-use Rattle.foyer_core.specs.State.{Meaning, State, IsKept, key_of, is_on_disk, coming_in, MakesPlain, is_phantom_record}
+use Rattle.foyer_policy.specs.declared.types.Source.TheVariants.{Memory}
+use Rattle.foyer_core.specs.Pieces.{is_in, held_or, returning, Returns, ReturnsBy, RefusesReturn, RefusesReturnBy}
+use Rattle.foyer_core.specs.Values.{Carried, Gone, Held, Incoming}
+use Rattle.foyer_core.specs.State.{Meaning, State, IsKept, handles_in, handles_of, key_of, is_on_disk, coming_in, MakesPlain, is_phantom_record}
 use Rattle.foyer_core.specs.Steps.{newcomer, Inserts, InsertsBy, InsertsPlain, RefusesBy}
-use Rattle.foyer_core.proofs.Staying.{RecordsStay, GoesOnAs, nothing, stay_same, new_goes_on, holds_stay, inserts_stay, refused_insert_stays}
+use Rattle.foyer_core.proofs.Staying.{RecordsStay, GoesOnAs, nothing, stay_same, new_goes_on, handle_stays, refused_stays, holds_stay, inserts_stay, refused_insert_stays}
 
 -- properties that make a plain record come in as they are
 pub comes_same : {P : Type 0} (phantom : P → Option Bool) (location : P → Option Location) (with_phantom : P → Bool → P) (p : P)
@@ -47,3 +49,19 @@ module _ {K V P View C : Type 0} (m : Meaning K P View C) where
   came_plain location with_phantom admitted p plain sure source old new inc ls entry is h =
       let same : is_phantom_record m inc.kept ≡ false = ap (λ (q : P). is_phantom (m.phantom q)) (is ∙ ap (λ (b : Bool). coming_in location with_phantom b p) sure ∙ comes_same m.phantom location with_phantom p plain) ∙ plain.0 in
       subst (λ (b : Bool). InsertsBy m b source old inc ls entry new) same h
+
+  -- and where a piece's record comes in
+  pub returns_stay : (old new : State K V P View) (piece : Carried K V P) (ls : List (Event × Gone K V P)) (entry : Held K V P) → Returns m old piece ls entry new → RecordsStay nothing old new
+  returns_stay old new piece ls entry h = go (is_in (old.records piece.id)) h where
+    same : GoesOnAs old (returning old piece)
+    same r there = (ap (held_or piece.kept) there, (let n : handles_in old piece.id ≡ r.handles = ap handles_of there in omega arith))
+
+    go : (b : Bool) → ReturnsBy m b old piece ls entry new → RecordsStay nothing old new
+    go true h = subst (RecordsStay nothing old) (sym h.after) (handle_stays old piece.id h.rec h.there)
+    go false h = inserted_stays (is_phantom_record m (returning old piece).kept) Memory old (returning old piece) ls entry new h same
+
+  pub refused_return_stays : (old new : State K V P View) (piece : Carried K V P) (reason : Reason) (ls : List (Event × Gone K V P)) → RefusesReturn m old piece reason ls new → RecordsStay nothing old new
+  refused_return_stays old new piece reason ls h = go (is_in (old.records piece.id)) h where
+    go : (b : Bool) → RefusesReturnBy m b old piece reason ls new → RecordsStay nothing old new
+    go true h = refused_stays old piece.id reason new h.1
+    go false h = refused_stay (is_phantom_record m (returning old piece).kept) old (returning old piece) reason ls new h

@@ -36,6 +36,7 @@ pub mod Outgoing
 pub mod Outs
 pub mod Phantoms
 pub mod Picking
+pub mod PieceLaws
 pub mod PinLemmas
 pub mod Popped
 pub mod Pushing

@@ -25,6 +25,7 @@ use std::marker::PhantomData;
 mod bulk;
 mod entries;
 mod in_turn;
+mod pieces;
 mod shards;
 
 /// The records of a cache, found by their keys, in one thread's hands. `N` is what waits for an answer, and

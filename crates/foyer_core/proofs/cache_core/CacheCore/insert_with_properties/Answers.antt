@@ -10,7 +10,7 @@ use Rattle.foyer_core.specs.State.{is_phantom_record, coming_in}
 use Rattle.foyer_core.specs.Shards.{meaning_of, state_of}
 use Rattle.foyer_core.specs.Steps.{Inserts, RefusesInsert, newcomer}
 use Rattle.foyer_core.proofs.CallsTold.{insert_told, refused_told}
-use Rattle.foyer_core.proofs.CoreLaws.{Came, stays_at, finds_at, bounded_at}
+use Rattle.foyer_core.proofs.CoreLaws.{Came, Stands, came_stands, stays_at, finds_at, bounded_at}
 use Rattle.foyer_core.proofs.CoreLemmas.{at_over, core_over}
 use Rattle.foyer_core.proofs.Staying.{RecordsStay, nothing}
 use Rattle.foyer_core.proofs.Inserting.{came_stays, came_plain, refused_stay}
@@ -102,8 +102,9 @@ returns-clause-found g c plain sure =
     let over = at_over state_of s.capacity s.hash_builder s.weighter s.filter s.shards.items hash (vec_len s.shards) c.place-place.result x
     s.shards.ok.0 c.place-place.ensures.within (c.place-place.ensures.place ∙ ap (λ (n : ℕ). n % vec_len s.shards) c.hash-hash.ensures.hash) c.index_mut.ensures.value in
     let did = rw (c.hash-hash.ensures.hash, c.marked-properties.ensures) at c.in_ok-entry.ensures.inserted in
-    let at = over (Came (meaning_of x) g.met.K.Eq.laws g.met.E.Eviction.lawful Outer d c.in_ok-entry.leaves.items c.in_ok-entry.entry) y record { kept = x.kept; inc = newcomer (state_of x) d; inserts = came_plain (meaning_of x) g.P.Properties.location_of g.P.Properties.with_phantom_of c.admit-admitted.result c.args.properties plain (sure c.admit-admitted.result c.admit-admitted.ensures) Outer (state_of x) (state_of y) (newcomer (state_of x) d) _ _ refl did; data_are = refl } in
-    finds_at (meaning_of x) g.met.K.Eq.laws g.met.E.Eviction.lawful (core_of s) _ Outer d _ _ hash refl at
+    let plainly = came_plain (meaning_of x) g.P.Properties.location_of g.P.Properties.with_phantom_of c.admit-admitted.result c.args.properties plain (sure c.admit-admitted.result c.admit-admitted.ensures) Outer (state_of x) (state_of y) (newcomer (state_of x) d) _ _ refl did in
+    let at = over (λ a b. Stands (meaning_of x) g.met.K.Eq.laws g.met.E.Eviction.lawful d b) y (came_stands (meaning_of x) g.met.K.Eq.laws g.met.E.Eviction.lawful Outer (state_of x) (newcomer (state_of x) d) _ _ (state_of y) plainly) in
+    finds_at (meaning_of x) g.met.K.Eq.laws g.met.E.Eviction.lawful (core_of s) _ d hash refl at
     (λ k. g.S.HashBuilder.hash_of s.hash_builder (g.K.Hash.hash_input k)) (rw c.hash-hash.ensures.hash at c.hash-hash.ensures.equal_keys)
 
 pub returns-clause-bounded : goal.returns-clause-bounded
@@ -117,7 +118,7 @@ returns-clause-bounded g c plain sure =
     s.shards.ok.0 c.place-place.ensures.within (c.place-place.ensures.place ∙ ap (λ (n : ℕ). n % vec_len s.shards) c.hash-hash.ensures.hash) c.index_mut.ensures.value in
     let did = rw (c.hash-hash.ensures.hash, c.marked-properties.ensures) at c.in_ok-entry.ensures.inserted in
     let at = over (Came (meaning_of x) g.met.K.Eq.laws g.met.E.Eviction.lawful Outer d c.in_ok-entry.leaves.items c.in_ok-entry.entry) y record { kept = x.kept; inc = newcomer (state_of x) d; inserts = came_plain (meaning_of x) g.P.Properties.location_of g.P.Properties.with_phantom_of c.admit-admitted.result c.args.properties plain (sure c.admit-admitted.result c.admit-admitted.ensures) Outer (state_of x) (state_of y) (newcomer (state_of x) d) _ _ refl did; data_are = refl } in
-    bounded_at (meaning_of x) g.met.K.Eq.laws g.met.E.Eviction.lawful (core_of s) _ Outer d _ _ hash refl at _ (ap (λ (e : Held g.row.K.Denot g.row.V.Denot g.row.P.Denot). e.kept.weight) at.stepped.inserts.entry_is ∙ ap (λ (x : Data g.row.K.Denot g.row.V.Denot g.row.P.Denot). x.weight) at.stepped.data_are)
+    bounded_at (meaning_of x) g.met.K.Eq.laws g.met.E.Eviction.lawful (core_of s) _ Outer d _ _ hash at _ (ap (λ (e : Held g.row.K.Denot g.row.V.Denot g.row.P.Denot). e.kept.weight) at.stepped.inserts.entry_is ∙ ap (λ (x : Data g.row.K.Denot g.row.V.Denot g.row.P.Denot). x.weight) at.stepped.data_are)
 
 pub returns-clause-stay : goal.returns-clause-stay
 returns-clause-stay g c =

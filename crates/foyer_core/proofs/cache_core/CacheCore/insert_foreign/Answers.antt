@@ -1,0 +1,69 @@
+use Rattle.std.proofs.Common.{◌≡◌, ◌<◌, ℕ, Ok, Err, refl, sym, ◌∙◌, ap, subst, vec_len}
+use Rattle.std.specs.Prelude.{slice_set, IsSomeAnd, true}
+use Rattle.foyer_core.specs.Cores.{core_of}
+use Rattle.foyer_core.specs.Core.{AtShard, InsertsAnswering, shard_at}
+use Rattle.foyer_core.specs.Shards.{meaning_of, state_of}
+use Rattle.foyer_core.proofs.CoreLaws.{stays_at}
+use Rattle.foyer_core.proofs.CoreLemmas.{at_over, core_over, shard_over}
+use Rattle.foyer_core.proofs.Staying.{RecordsStay, nothing}
+use Rattle.foyer_core.proofs.StoredLemmas.{err_is}
+use Rattle.foyer_policy.specs.declared.types.Source.TheVariants.{Memory}
+use Rattle.foyer_core.specs.declared.record.Data.{Data}
+use Rattle.foyer_core.specs.State.{is_phantom_record}
+use Rattle.foyer_core.specs.Steps.{Inserts, RefusesInsert, newcomer}
+use Rattle.foyer_core.proofs.Inserting.{came_stays, refused_stay}
+use Rattle.foyer_core.proofs.cache_core.CacheCore.insert_foreign.Goals as goal
+
+pub returns-in_err-entry-clause-inserted : goal.returns-in_err-entry-clause-inserted
+returns-in_err-entry-clause-inserted g c =
+    let s = c.args.self.now in
+    let x = c.index_mut.result.now in
+    let y = c.take_new.new.self in
+    let m = meaning_of x in
+    let over = at_over state_of s.capacity s.hash_builder s.weighter s.filter s.shards.items c.args.hash (vec_len s.shards) c.place-place.result x
+    s.shards.ok.0 c.place-place.ensures.within c.place-place.ensures.place c.index_mut.ensures.value in
+    let d : Data g.row.K.Denot g.row.V.Denot g.row.P.Denot = record c.args.piece.kept { hash = c.args.hash; weight = c.weigh-weight.result } in
+    let kept : c.with-kept.result ≡ d = c.with-kept.ensures ∙ ap (λ (z : Data g.row.K.Denot g.row.V.Denot g.row.P.Denot). let e : Data g.row.K.Denot g.row.V.Denot g.row.P.Denot = record z { hash = c.args.hash; weight = c.weigh-weight.result } in e) c.into_share.ensures in
+    let weighs = g.W.Weighter.weighs s.weighter c.args.piece.kept.key c.args.piece.kept.value in
+    let weighed : weighs c.weigh-weight.result = rw (c.key.ensures, c.value.ensures) at c.weigh-weight.ensures in
+    err_is c.from_residual.result c.in_err-entry.field-0.0
+    (λ r. AtShard (λ a b. (weight : ℕ) × weighs weight × InsertsAnswering m Memory a (newcomer a (record c.args.piece.kept { hash = c.args.hash; weight = weight })) r b) c.args.hash (core_of s) (core_over state_of s.capacity s.hash_builder s.weighter s.filter (slice_set s.shards.items c.place-place.result y)))
+    c.from_residual.ensures.1
+    (over (λ a b. (weight : ℕ) × weighs weight × RefusesInsert m a (newcomer a (record c.args.piece.kept { hash = c.args.hash; weight = weight })) c.in_err-entry.field-0.0.error c.in_err-entry.field-0.0.leaves.items b) y (c.weigh-weight.result, weighed, rw kept at c.in_err-entry.ensures.inserted))
+
+pub returns-in_err-entry-clause-stay : goal.returns-in_err-entry-clause-stay
+returns-in_err-entry-clause-stay g c =
+    let s = c.args.self.now in
+    let x = c.index_mut.result.now in
+    let y = c.take_new.new.self in
+    let m = meaning_of x in
+    let over = at_over state_of s.capacity s.hash_builder s.weighter s.filter s.shards.items c.args.hash (vec_len s.shards) c.place-place.result x
+    s.shards.ok.0 c.place-place.ensures.within c.place-place.ensures.place c.index_mut.ensures.value in
+    let d = c.with-kept.result in
+    stays_at (core_of s) _ c.args.hash (over (RecordsStay nothing) y (refused_stay m (is_phantom_record m d) (state_of x) (newcomer (state_of x) d) _ _ (state_of y) c.in_err-entry.ensures.inserted))
+
+pub returns-clause-inserted : goal.returns-clause-inserted
+returns-clause-inserted g c =
+    let s = c.args.self.now in
+    let x = c.index_mut.result.now in
+    let y = c.take_new.new.self in
+    let m = meaning_of x in
+    let over = at_over state_of s.capacity s.hash_builder s.weighter s.filter s.shards.items c.args.hash (vec_len s.shards) c.place-place.result x
+    s.shards.ok.0 c.place-place.ensures.within c.place-place.ensures.place c.index_mut.ensures.value in
+    let d : Data g.row.K.Denot g.row.V.Denot g.row.P.Denot = record c.args.piece.kept { hash = c.args.hash; weight = c.weigh-weight.result } in
+    let kept : c.with-kept.result ≡ d = c.with-kept.ensures ∙ ap (λ (z : Data g.row.K.Denot g.row.V.Denot g.row.P.Denot). let e : Data g.row.K.Denot g.row.V.Denot g.row.P.Denot = record z { hash = c.args.hash; weight = c.weigh-weight.result } in e) c.into_share.ensures in
+    let weighs = g.W.Weighter.weighs s.weighter c.args.piece.kept.key c.args.piece.kept.value in
+    let weighed : weighs c.weigh-weight.result = rw (c.key.ensures, c.value.ensures) at c.weigh-weight.ensures in
+    rw (c.told_to_nobody.ensures.entry, c.told_to_nobody.ensures.leaves)
+    (over (λ a b. (weight : ℕ) × weighs weight × Inserts m Memory a (newcomer a (record c.args.piece.kept { hash = c.args.hash; weight = weight })) c.in_ok-entry.leaves.items c.in_ok-entry.entry b) y (c.weigh-weight.result, weighed, rw kept at c.in_ok-entry.ensures.inserted))
+
+pub returns-clause-stay : goal.returns-clause-stay
+returns-clause-stay g c =
+    let s = c.args.self.now in
+    let x = c.index_mut.result.now in
+    let y = c.take_new.new.self in
+    let m = meaning_of x in
+    let over = at_over state_of s.capacity s.hash_builder s.weighter s.filter s.shards.items c.args.hash (vec_len s.shards) c.place-place.result x
+    s.shards.ok.0 c.place-place.ensures.within c.place-place.ensures.place c.index_mut.ensures.value in
+    let d = c.with-kept.result in
+    stays_at (core_of s) _ c.args.hash (over (RecordsStay nothing) y (came_stays m Memory (state_of x) (state_of y) d _ _ x.kept c.in_ok-entry.ensures.inserted))

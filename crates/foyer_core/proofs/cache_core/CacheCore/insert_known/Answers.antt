@@ -1,0 +1,64 @@
+use Rattle.std.proofs.Common.{◌≡◌, ◌<◌, ℕ, Ok, Err, refl, sym, ◌∙◌, ap, subst, vec_len}
+use Rattle.std.specs.Prelude.{slice_set, IsSomeAnd, true}
+use Rattle.foyer_core.specs.Cores.{core_of}
+use Rattle.foyer_core.specs.Core.{AtShard, InsertsAnswering, shard_at}
+use Rattle.foyer_core.specs.Shards.{meaning_of, state_of}
+use Rattle.foyer_core.proofs.CoreLaws.{stays_at}
+use Rattle.foyer_core.proofs.CoreLemmas.{at_over, core_over, shard_over}
+use Rattle.foyer_core.proofs.Staying.{RecordsStay, nothing}
+use Rattle.foyer_core.proofs.StoredLemmas.{err_is}
+use Rattle.foyer_core.specs.Pieces.{Returns, RefusesReturn, ReturnsAnswering, is_known}
+use Rattle.foyer_core.proofs.Inserting.{returns_stay, refused_return_stays}
+use Rattle.foyer_core.proofs.Returning.{known_given}
+use Rattle.foyer_core.proofs.cache_core.CacheCore.insert_known.Goals as goal
+
+pub take_back-requires-clause-given : goal.take_back-requires-clause-given
+take_back-requires-clause-given g c κs within =
+    let s = c.args.self.now in
+    let x = c.index_mut.result.now in
+    let there = shard_over state_of s.capacity s.hash_builder s.weighter s.filter s.shards.items c.args.hash (vec_len s.shards) c.place-place.result x
+    s.shards.ok.0 c.place-place.ensures.within c.place-place.ensures.place c.index_mut.ensures.value in
+    known_given (state_of x) c.args.hash c.args.piece (rw there at c.requires.known)
+
+pub returns-in_err-entry-clause-returned : goal.returns-in_err-entry-clause-returned
+returns-in_err-entry-clause-returned g c =
+    let s = c.args.self.now in
+    let x = c.index_mut.result.now in
+    let y = c.take_back.new.self in
+    let m = meaning_of x in
+    let over = at_over state_of s.capacity s.hash_builder s.weighter s.filter s.shards.items c.args.hash (vec_len s.shards) c.place-place.result x
+    s.shards.ok.0 c.place-place.ensures.within c.place-place.ensures.place c.index_mut.ensures.value in
+    err_is c.from_residual.result c.in_err-entry.field-0.0
+    (λ r. AtShard (λ a b. ReturnsAnswering m a c.args.piece r b) c.args.hash (core_of s) (core_over state_of s.capacity s.hash_builder s.weighter s.filter (slice_set s.shards.items c.place-place.result y)))
+    c.from_residual.ensures.1
+    (over (λ a b. RefusesReturn m a c.args.piece c.in_err-entry.field-0.0.error c.in_err-entry.field-0.0.leaves.items b) y c.in_err-entry.ensures.returned)
+
+pub returns-in_err-entry-clause-stay : goal.returns-in_err-entry-clause-stay
+returns-in_err-entry-clause-stay g c =
+    let s = c.args.self.now in
+    let x = c.index_mut.result.now in
+    let y = c.take_back.new.self in
+    let m = meaning_of x in
+    let over = at_over state_of s.capacity s.hash_builder s.weighter s.filter s.shards.items c.args.hash (vec_len s.shards) c.place-place.result x
+    s.shards.ok.0 c.place-place.ensures.within c.place-place.ensures.place c.index_mut.ensures.value in
+    stays_at (core_of s) _ c.args.hash (over (RecordsStay nothing) y (refused_return_stays m (state_of x) (state_of y) c.args.piece _ _ c.in_err-entry.ensures.returned))
+
+pub returns-clause-returned : goal.returns-clause-returned
+returns-clause-returned g c =
+    let s = c.args.self.now in
+    let x = c.index_mut.result.now in
+    let y = c.take_back.new.self in
+    let m = meaning_of x in
+    let over = at_over state_of s.capacity s.hash_builder s.weighter s.filter s.shards.items c.args.hash (vec_len s.shards) c.place-place.result x
+    s.shards.ok.0 c.place-place.ensures.within c.place-place.ensures.place c.index_mut.ensures.value in
+    rw (c.told_to_nobody.ensures.entry, c.told_to_nobody.ensures.leaves) (over (λ a b. Returns m a c.args.piece c.in_ok-entry.leaves.items c.in_ok-entry.entry b) y c.in_ok-entry.ensures.returned)
+
+pub returns-clause-stay : goal.returns-clause-stay
+returns-clause-stay g c =
+    let s = c.args.self.now in
+    let x = c.index_mut.result.now in
+    let y = c.take_back.new.self in
+    let m = meaning_of x in
+    let over = at_over state_of s.capacity s.hash_builder s.weighter s.filter s.shards.items c.args.hash (vec_len s.shards) c.place-place.result x
+    s.shards.ok.0 c.place-place.ensures.within c.place-place.ensures.place c.index_mut.ensures.value in
+    stays_at (core_of s) _ c.args.hash (over (RecordsStay nothing) y (returns_stay m (state_of x) (state_of y) c.args.piece _ _ c.in_ok-entry.ensures.returned))
