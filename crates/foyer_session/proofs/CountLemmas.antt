@@ -10,7 +10,7 @@ use Rattle.foyer_policy.specs.declared.error.Reason.TheVariants.{Ids, Handles, W
 use Rattle.foyer_policy.specs.declared.types.Source.{Source}
 use Rattle.foyer_core.specs.Values.{Rec, Gone, Held, Incoming}
 use Rattle.foyer_core.specs.State.{Meaning, State, key_of, handles_of, handles_in}
-use Rattle.foyer_core.specs.Steps.{outside, after_out, after_push, after_last, after_give_back, Leave, Evicting, Evicts, GivesWay, InsertsBy, InsertsPlain, RefusesBy, RefusesPlain, after_hold, entry_of, Gets, GivesBack}
+use Rattle.foyer_core.specs.Steps.{outside, after_out, after_push, after_last, after_give_back, Leave, Evicting, Evicts, GivesWay, InsertsBy, InsertsPhantom, InsertsPlain, RefusesBy, RefusesPlain, after_hold, entry_of, Gets, GivesBack}
 use Rattle.foyer_session.specs.Owns.{Counts}
 
 -- one more handle of this id

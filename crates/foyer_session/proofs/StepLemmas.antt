@@ -50,9 +50,9 @@ module _ {K V P View C S W A : Type 0} (m : Meaning K P View C) (core new : Core
     piece_owns made at gives =
         owns_more core new (λ s t. InsertsPiece m weighs hash piece (Ok made) s t) hash at gives.number handles (record made.entry { left = false }) gives.placed gives.numbered gives.counts owns
 
-    pub piece_refused_owns : (refused : Refused K V P) (at : AtShard (λ s t. InsertsPiece {N = N} m weighs hash piece (Err refused) s t) hash core new) → OwnsHandles new handles
+    pub piece_refused_owns : (refused : Refused K V P) (at : AtShard (λ s t. InsertsPiece m {N = N} weighs hash piece (Err refused) s t) hash core new) → OwnsHandles new handles
     piece_refused_owns refused at =
-        stayed_owns (λ s t. InsertsPiece {N = N} m weighs hash piece (Err refused) s t) hash at (piece_alike {N = N} m at.before at.after weighs hash piece refused at.stepped)
+        stayed_owns (λ s t. InsertsPiece m {N = N} weighs hash piece (Err refused) s t) hash at (piece_alike m at.before at.after weighs hash piece refused at.stepped)
 
   -- an entry of the key's record was made, which has the key's hash
   pub got_owns : (k : ℕ × K) (entry : Held K V P) (at : AtShard (λ s t. Gets m s k (Ok (Some entry)) t) k.0 core new) → entry.kept.hash ≡ k.0
