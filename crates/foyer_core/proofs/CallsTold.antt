@@ -65,13 +65,13 @@ module _ {K V P View C S W A : Type 0} (m : Meaning K P View C) (laws : IsEquiva
     insert_told source entry at =
         let s = sound (shard_of old d.hash) at.before at.there in
         at_told m laws good hash equal old new (λ s t. Inserts m source s (newcomer s d) ls entry t) d.hash at (after_entry m.same m.phantom (after_leaves m.same (known hash old) ls) entry.id entry.kept)
-        (inserts_told m laws good hash equal (length old.shards) (shard_of old d.hash) source at.before d ls entry at.after s.kept s.at (refl, hashed) at.stepped (known hash old))
+        (inserts_told m laws good hash equal (length old.shards) (shard_of old d.hash) source at.before (newcomer at.before d) ls entry at.after s.kept s.at (refl, hashed) at.stepped (known hash old))
 
     pub refused_told : (reason : Reason) → AtShard (λ s t. RefusesInsert m s (newcomer s d) reason ls t) d.hash old new → IsTold m.same hash old ls new
     refused_told reason at =
         let s = sound (shard_of old d.hash) at.before at.there in
         step_told (λ s t. RefusesInsert m s (newcomer s d) reason ls t) d.hash at ls
-        (refuses_told m laws good hash equal (length old.shards) (shard_of old d.hash) at.before d ls at.after s.kept s.at reason at.stepped)
+        (refuses_told m laws good hash equal (length old.shards) (shard_of old d.hash) at.before (newcomer at.before d) ls at.after s.kept s.at reason at.stepped)
 
   -- the calls on all shards
   module _ (ls : List (Event × Gone K V P)) where

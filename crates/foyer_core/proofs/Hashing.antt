@@ -1,17 +1,17 @@
 -- Each record has the hash of its key: what each step keeps of that.
-use Rattle.std.proofs.Common.{◌≡◌, ℕ, ◌<◌, ◌⊎◌, inl, inr, length, List, map, Some, None, Ok, Err, Bool, sym, ◌∙◌, ap, subst}
+use Rattle.std.proofs.Common.{◌≡◌, ℕ, ◌<◌, ◌%◌, ◌⊎◌, inl, inr, length, List, map, Some, None, Ok, Err, Bool, sym, ◌∙◌, ap, subst}
 use Rattle.std.specs.Prelude.{Result, IfOk, OnOk, OnErr, slice_get, slice_set, slice_index_or, option_map}
 use Rattle.std.specs.List.{AllZip}
 use Rattle.std.proofs.lemmas.Bool.Decides.{eqb_tells}
-use Rattle.std.proofs.lemmas.List.{map-set}
+use Rattle.std.proofs.lemmas.List.{length-map, map-set}
 use Rattle.std.proofs.lemmas.Option.{slice_get-map, slice_get_read}
 use Rattle.foyer_policy.specs.declared.types.Event.{Event}
 use Rattle.foyer_core.specs.declared.config.RawCacheConfig.{RawCacheConfig}
 use Rattle.foyer_core.specs.declared.record.Data.{Data}
 use Rattle.foyer_core.specs.Bulk.{GoesOn, Clears, EvictsIf, EvictsUnpinned, EvictingUnpinned}
-use Rattle.foyer_core.specs.Core.{AreHashed, AreNewShards, share_of}
+use Rattle.foyer_core.specs.Core.{AreHashed, AreNewShards, Belong, share_of}
 use Rattle.foyer_core.specs.CoreBulk.{InTurn, InTurnUntil, SharesOut, EvictsToCapacity, EvictingToCapacity}
-use Rattle.foyer_core.specs.State.{Meaning, State}
+use Rattle.foyer_core.specs.State.{Meaning, State, AllData}
 use Rattle.foyer_core.specs.Values.{Gone, Rec}
 use Rattle.foyer_core.proofs.CoreLemmas.{set_here, set_apart}
 use Rattle.foyer_core.proofs.Origins.{RecordsFrom, cleared_from, evicted_from, nothing_new, picked_from, same_from, some_evicted_from, some_unpinned_from, unpinned_from, zip-back}
@@ -42,6 +42,14 @@ module _ {K V P View : Type 0} (hash : K → ℕ) where
   hashed_over f xs n i x many within read y from hashed =
       let shows : slice_get (map f xs) i ≡ Some (f x) = slice_get-map f xs i ∙ ap (option_map f) (slice_get_read xs n i x many within read) in
       subst (AreHashed hash) (sym (map-set f xs i y)) (set_hashed (map f xs) i (f x) (f y) shows from hashed)
+
+  -- there each record belongs, and has the hash of its key
+  pub records_over : {A : Type 0} (f : A → State K V P View) (xs : List A) (n i : ℕ) (x : A) → n ≡ length xs → i < n → x ≡ slice_index_or xs i x
+      → Belong (map f xs) → AreHashed hash (map f xs) → AllData (λ d. (d.hash % n ≡ i) × (d.hash ≡ hash d.key)) (f x)
+  records_over f xs n i x many within read belong hashed id r is =
+      let many' : n ≡ length (map f xs) = many ∙ sym (length-map xs f) in
+      let shows : slice_get (map f xs) i ≡ Some (f x) = slice_get-map f xs i ∙ ap (option_map f) (slice_get_read xs n i x many within read) in
+      (ap (λ (k : ℕ). r.kept.hash % k) many' ∙ belong i (f x) shows id r is, hashed i (f x) shows id r is)
 
   -- where each shard makes a step by which nothing comes in
   zip_hashed : (ss ts : List (State K V P View)) → AllZip (RecordsFrom nothing_new) ss ts → AreHashed hash ss → AreHashed hash ts

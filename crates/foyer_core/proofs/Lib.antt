@@ -36,7 +36,9 @@ pub mod Outgoing
 pub mod Outs
 pub mod Phantoms
 pub mod Picking
+pub mod PieceCalls
 pub mod PieceLaws
+pub mod PieceTold
 pub mod PinLemmas
 pub mod Popped
 pub mod Pushing

@@ -13,6 +13,7 @@ use Rattle.foyer_policy.specs.Policy.{after_pops, after_all_pops, pops, evicted,
 use Rattle.foyer_policy.specs.declared.types.Event.{Event}
 use Rattle.foyer_policy.specs.declared.types.Event.TheVariants.{Evict, Replace, Remove, Clear}
 use Rattle.foyer_policy.specs.declared.types.Source.{Source}
+use Rattle.foyer_policy.specs.declared.types.Source.TheVariants.{Memory}
 use Rattle.foyer_policy.specs.declared.error.Reason.{Reason}
 use Rattle.foyer_policy.specs.declared.error.Reason.TheVariants.{Ids, Handles, Weight, NoMemory}
 use Rattle.foyer_core.specs.declared.config.RawCacheConfig.{RawCacheConfig}
@@ -20,9 +21,10 @@ use Rattle.foyer_core.specs.declared.record.Data.{Data}
 use Rattle.foyer_core.specs.Bulk.{GoesOn, EvictsUnpinned, EvictingUnpinned, Clears, EvictsIf}
 use Rattle.foyer_core.specs.Core.{AreNewShards, Belong, share_of}
 use Rattle.foyer_core.specs.CoreBulk.{InTurn, InTurnUntil, SharesOut, EvictsToCapacity, EvictingToCapacity}
+use Rattle.foyer_core.specs.Pieces.{RefusesReturn, RefusesReturnBy, Returns, ReturnsBy, is_in, returning}
 use Rattle.foyer_core.specs.State.{Meaning, State, key_of, is_phantom_record}
 use Rattle.foyer_core.specs.Steps.{after_push, after_hold, after_get, after_handle, after_give_back, ids_of, Leave, GivesWay, Inserts, InsertsBy, RefusesBy, RefusesPlain, RefusesInsert, Gets, GivesBack, Touches, Removes, ClonesHandle, RefusesHandle, newcomer}
-use Rattle.foyer_core.specs.Values.{Rec, Gone, Held, Incoming}
+use Rattle.foyer_core.specs.Values.{Carried, Rec, Gone, Held, Incoming}
 use Rattle.foyer_core.proofs.CoreLemmas.{set_here, set_apart}
 use Rattle.foyer_core.proofs.LeaveLemmas.{leave-rests}
 use Rattle.foyer_core.proofs.TurnLaws.{turn-keeps, until-keeps, shares-keep}
@@ -174,6 +176,23 @@ module _ {K V P View : Type 0} (New : Data K V P → Type 0) where
     emplaced_from (Ok a) made entry reason left source old d new h so = inserts_from source old (newcomer old d) (made a) (entry a) new h so
     emplaced_from (Err b) made entry reason left source old d new h so = refuses_from old (newcomer old d) (reason b) (left b) new h
 
+    -- and one of a piece that stands for a record
+    returned_by : (b : Bool) (old : State K V P View) (piece : Carried K V P) (ls : List (Event × Gone K V P)) (entry : Held K V P) (new : State K V P View) → ReturnsBy m b old piece ls entry new
+        → New (returning old piece).kept → RecordsFrom old new
+    returned_by true old piece ls entry new h so = subst (RecordsFrom old) (sym h.after) (handle_from old piece.id h.rec h.there)
+    returned_by false old piece ls entry new h so = inserts_from Memory old (returning old piece) ls entry new h so
+
+    refused_return_by : (b : Bool) (old : State K V P View) (piece : Carried K V P) (reason : Reason) (ls : List (Event × Gone K V P)) (new : State K V P View) → RefusesReturnBy m b old piece reason ls new
+        → RecordsFrom old new
+    refused_return_by true old piece reason ls new h = refused_from old piece.id reason new h.1
+    refused_return_by false old piece reason ls new h = refuses_from old (returning old piece) reason ls new h
+
+    pub taken_back_from : {A B : Type 0} (r : Result A B) (made : A → List (Event × Gone K V P)) (entry : A → Held K V P) (reason : B → Reason) (left : B → List (Event × Gone K V P))
+        (old : State K V P View) (piece : Carried K V P) (new : State K V P View)
+        → MatchResult r (λ a. Returns m old piece (made a) (entry a) new) (λ b. RefusesReturn m old piece (reason b) (left b) new) → New (returning old piece).kept → RecordsFrom old new
+    taken_back_from (Ok a) made entry reason left old piece new h so = returned_by (is_in (old.records piece.id)) old piece (made a) (entry a) new h so
+    taken_back_from (Err b) made entry reason left old piece new h so = refused_return_by (is_in (old.records piece.id)) old piece (reason b) (left b) new h
+
 -- nothing comes in
 abbrev pub nothing_new : {K V P : Type 0} → Data K V P → Type 0
 nothing_new d = ⊥
@@ -200,15 +219,21 @@ module _ {K V P View : Type 0} where
     here (inl q) = ap (λ (d : Data K V P). d.hash % length shards) q.2 ∙ belong i before at id q.0 q.1
     here (inr n) = n
 
-  -- so it is for what each of a list shows, where what comes in has the hash of the place
-  pub belongs_over : {A : Type 0} (f : A → State K V P View) (xs : List A) (hash n i : ℕ) (x : A) → n ≡ length xs → i < n → i ≡ hash % n → x ≡ slice_index_or xs i x
-      → (y : A) → RecordsFrom (λ d. d.hash ≡ hash) (f x) (f y) → Belong (map f xs) → Belong (map f (slice_set xs i y))
-  belongs_over f xs hash n i x many within place read y from belong =
+  -- so it is for what each of a list shows
+  pub placed_over : {A : Type 0} (f : A → State K V P View) (xs : List A) (n i : ℕ) (x : A) → n ≡ length xs → i < n → x ≡ slice_index_or xs i x
+      → (y : A) → RecordsFrom (λ d. d.hash % n ≡ i) (f x) (f y) → Belong (map f xs) → Belong (map f (slice_set xs i y))
+  placed_over f xs n i x many within read y from belong =
       let many' : length (map f xs) ≡ n = length-map xs f ∙ sym many in
       let shows : slice_get (map f xs) i ≡ Some (f x) = slice_get-map f xs i ∙ ap (option_map f) (slice_get_read xs n i x many within read) in
       subst Belong (sym (map-set f xs i y))
       (set_belongs (map f xs) i (f x) (f y) shows
-      (from_more (λ d. d.hash ≡ hash) (λ d. d.hash % length (map f xs) ≡ i) (λ d is. ap (λ (h : ℕ). h % length (map f xs)) is ∙ ap (λ (k : ℕ). hash % k) many' ∙ sym place) (f x) (f y) from) belong)
+      (from_more (λ d. d.hash % n ≡ i) (λ d. d.hash % length (map f xs) ≡ i) (λ d is. ap (λ (k : ℕ). d.hash % k) many' ∙ is) (f x) (f y) from) belong)
+
+  -- where what comes in has the hash of the place
+  pub belongs_over : {A : Type 0} (f : A → State K V P View) (xs : List A) (hash n i : ℕ) (x : A) → n ≡ length xs → i < n → i ≡ hash % n → x ≡ slice_index_or xs i x
+      → (y : A) → RecordsFrom (λ d. d.hash ≡ hash) (f x) (f y) → Belong (map f xs) → Belong (map f (slice_set xs i y))
+  belongs_over f xs hash n i x many within place read y from belong =
+      placed_over f xs n i x many within read y (from_more (λ d. d.hash ≡ hash) (λ d. d.hash % n ≡ i) (λ d is. ap (λ (h : ℕ). h % n) is ∙ sym place) (f x) (f y) from) belong
 
   pub zip-back : (R : State K V P View → State K V P View → Type 0) (ss ts : List (State K V P View)) → AllZip R ss ts → (i : ℕ) (t : State K V P View) → slice_get ts i ≡ Some t
       → (s : State K V P View) × (slice_get ss i ≡ Some s) × R s t

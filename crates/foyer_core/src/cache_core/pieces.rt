@@ -78,9 +78,6 @@ impl<
         ensures returned { AtShard (λ s t. ReturnsAnswering (meaning_of_core self.old) s piece result t) hash (core_of self.old) (core_of self.new) }
         ensures answers { IfOk result (λ made. AnswersNobody made.answers) }
         ensures stay { HandlesStay (λ _. 0) (core_of self.old) (core_of self.new) }
-        ensures told { MatchResult result
-            (λ made. IsToldWith K.eq (hashes_of self.old) P.phantom_of (core_of self.old) made.leaves.items made.entry.id made.entry.kept (core_of self.new))
-            (λ refused. IsTold K.eq (hashes_of self.old) (core_of self.old) refused.leaves.items (core_of self.new)) }
     {
         let place = self.place(hash);
         let (entry, leaves) = self.shards[place].take_back(self.alloc, piece)?;
@@ -100,9 +97,6 @@ impl<
             hash (core_of self.old) (core_of self.new) }
         ensures answers { IfOk result (λ made. AnswersNobody made.answers) }
         ensures stay { HandlesStay (λ _. 0) (core_of self.old) (core_of self.new) }
-        ensures told { MatchResult result
-            (λ made. IsToldWith K.eq (hashes_of self.old) P.phantom_of (core_of self.old) made.leaves.items made.entry.id made.entry.kept (core_of self.new))
-            (λ refused. IsTold K.eq (hashes_of self.old) (core_of self.old) refused.leaves.items (core_of self.new)) }
     {
         let place = self.place(hash);
         let weight = self.weighter.weigh(piece.key(), piece.value());

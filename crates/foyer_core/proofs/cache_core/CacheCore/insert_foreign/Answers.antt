@@ -1,6 +1,6 @@
 use Rattle.std.proofs.Common.{◌≡◌, ◌<◌, ℕ, Ok, Err, refl, sym, ◌∙◌, ap, subst, vec_len}
 use Rattle.std.specs.Prelude.{slice_set, IsSomeAnd, true}
-use Rattle.foyer_core.specs.Cores.{core_of}
+use Rattle.foyer_core.specs.Cores.{core_of, hashes_of}
 use Rattle.foyer_core.specs.Core.{AtShard, InsertsAnswering, shard_at}
 use Rattle.foyer_core.specs.Shards.{meaning_of, state_of}
 use Rattle.foyer_core.proofs.CoreLaws.{stays_at}
@@ -12,7 +12,30 @@ use Rattle.foyer_core.specs.declared.record.Data.{Data}
 use Rattle.foyer_core.specs.State.{is_phantom_record}
 use Rattle.foyer_core.specs.Steps.{Inserts, RefusesInsert, newcomer}
 use Rattle.foyer_core.proofs.Inserting.{came_stays, refused_stay}
+use Rattle.foyer_core.proofs.Hashing.{IsHashed, hashed_over}
+use Rattle.foyer_core.proofs.Origins.{belongs_over, emplaced_from}
 use Rattle.foyer_core.proofs.cache_core.CacheCore.insert_foreign.Goals as goal
+
+pub invariant_of-self-clause-belong : goal.invariant_of-self-clause-belong
+invariant_of-self-clause-belong g c =
+    let s = c.args.self.now in
+    let x = c.index_mut.result.now in
+    let y = c.take_new.new.self in
+    let hashed : c.with-kept.result.hash ≡ c.args.hash = ap (λ (d : Data g.row.K.Denot g.row.V.Denot g.row.P.Denot). d.hash) c.with-kept.ensures in
+    belongs_over state_of s.shards.items c.args.hash (vec_len s.shards) c.place-place.result x s.shards.ok.0 c.place-place.ensures.within c.place-place.ensures.place c.index_mut.ensures.value
+    y (emplaced_from (λ e. e.hash ≡ c.args.hash) (meaning_of x) c.take_new.result (λ made. made.1.items) (λ made. made.0) (λ refused. refused.error) (λ refused. refused.leaves.items)
+    Memory (state_of x) c.with-kept.result (state_of y) c.take_new.ensures.inserted hashed) s.belong
+
+pub invariant_of-self-clause-hashed : goal.invariant_of-self-clause-hashed
+invariant_of-self-clause-hashed g c =
+    let s = c.args.self.now in
+    let x = c.index_mut.result.now in
+    let y = c.take_new.new.self in
+    let kept = c.with-kept.ensures ∙ ap (λ (z : Data g.row.K.Denot g.row.V.Denot g.row.P.Denot). let e : Data g.row.K.Denot g.row.V.Denot g.row.P.Denot = record z { hash = c.args.hash; weight = c.weigh-weight.result } in e) c.into_share.ensures in
+    let hashed : IsHashed (hashes_of s) c.with-kept.result = subst (IsHashed (hashes_of s)) (sym kept) c.requires.hashed in
+    hashed_over (hashes_of s) state_of s.shards.items (vec_len s.shards) c.place-place.result x s.shards.ok.0 c.place-place.ensures.within c.index_mut.ensures.value
+    y (emplaced_from (IsHashed (hashes_of s)) (meaning_of x) c.take_new.result (λ made. made.1.items) (λ made. made.0) (λ refused. refused.error) (λ refused. refused.leaves.items)
+    Memory (state_of x) c.with-kept.result (state_of y) c.take_new.ensures.inserted hashed) s.hashed
 
 pub returns-in_err-entry-clause-inserted : goal.returns-in_err-entry-clause-inserted
 returns-in_err-entry-clause-inserted g c =

@@ -1,6 +1,6 @@
-use Rattle.std.proofs.Common.{◌≡◌, ◌<◌, ℕ, Ok, Err, refl, sym, ◌∙◌, ap, subst, vec_len}
+use Rattle.std.proofs.Common.{◌≡◌, ◌<◌, ℕ, ◌%◌, Ok, Err, refl, sym, ◌∙◌, ap, subst, vec_len}
 use Rattle.std.specs.Prelude.{slice_set, IsSomeAnd, true}
-use Rattle.foyer_core.specs.Cores.{core_of}
+use Rattle.foyer_core.specs.Cores.{core_of, hashes_of}
 use Rattle.foyer_core.specs.Core.{AtShard, InsertsAnswering, shard_at}
 use Rattle.foyer_core.specs.Shards.{meaning_of, state_of}
 use Rattle.foyer_core.proofs.CoreLaws.{stays_at}
@@ -10,7 +10,50 @@ use Rattle.foyer_core.proofs.StoredLemmas.{err_is}
 use Rattle.foyer_core.specs.Pieces.{Returns, RefusesReturn, ReturnsAnswering, is_known}
 use Rattle.foyer_core.proofs.Inserting.{returns_stay, refused_return_stays}
 use Rattle.foyer_core.proofs.Returning.{known_given}
+use Rattle.foyer_core.proofs.Hashing.{IsHashed, hashed_over, records_over}
+use Rattle.foyer_core.proofs.Origins.{placed_over, taken_back_from}
+use Rattle.foyer_core.proofs.PieceTold.{returning_at}
 use Rattle.foyer_core.proofs.cache_core.CacheCore.insert_known.Goals as goal
+
+pub invariant_of-self-clause-belong : goal.invariant_of-self-clause-belong
+invariant_of-self-clause-belong g c =
+    let s = c.args.self.now in
+    let x = c.index_mut.result.now in
+    let y = c.take_back.new.self in
+    let m = meaning_of x in
+    let n = vec_len s.shards in
+    let place = c.place-place.result in
+    let piece = c.args.piece in
+    let hash = hashes_of s in
+    let equal : (a b : g.row.K.Denot) → g.K.PartialEq.eq a b ≡ true → hash a ≡ hash b = λ a b same. ap (g.S.HashBuilder.hash_of s.hash_builder) (g.met.K.Hash.respects_eq a b same) in
+    let at = records_over hash state_of s.shards.items n place x s.shards.ok.0 c.place-place.ensures.within c.index_mut.ensures.value s.belong s.hashed in
+    let here : hash piece.kept.key % n ≡ place = ap (λ (h : ℕ). h % n) (sym c.requires.hashed) ∙ sym c.place-place.ensures.place in
+    let there = shard_over state_of s.capacity s.hash_builder s.weighter s.filter s.shards.items c.args.hash n place x s.shards.ok.0 c.place-place.ensures.within c.place-place.ensures.place c.index_mut.ensures.value in
+    let known : is_known (state_of x) c.args.hash piece ≡ true = rw there at c.requires.known in
+    let own = returning_at m g.met.K.Eq.laws g.met.E.Eviction.lawful hash equal n place (state_of x) at piece here (subst (λ (h : ℕ). is_known (state_of x) h piece ≡ true) c.requires.hashed known) in
+    placed_over state_of s.shards.items n place x s.shards.ok.0 c.place-place.ensures.within c.index_mut.ensures.value
+    y (taken_back_from (λ d. d.hash % n ≡ place) m c.take_back.result (λ made. made.1.items) (λ made. made.0) (λ refused. refused.error) (λ refused. refused.leaves.items)
+    (state_of x) piece (state_of y) c.take_back.ensures.returned own.0) s.belong
+
+pub invariant_of-self-clause-hashed : goal.invariant_of-self-clause-hashed
+invariant_of-self-clause-hashed g c =
+    let s = c.args.self.now in
+    let x = c.index_mut.result.now in
+    let y = c.take_back.new.self in
+    let m = meaning_of x in
+    let n = vec_len s.shards in
+    let place = c.place-place.result in
+    let piece = c.args.piece in
+    let hash = hashes_of s in
+    let equal : (a b : g.row.K.Denot) → g.K.PartialEq.eq a b ≡ true → hash a ≡ hash b = λ a b same. ap (g.S.HashBuilder.hash_of s.hash_builder) (g.met.K.Hash.respects_eq a b same) in
+    let at = records_over hash state_of s.shards.items n place x s.shards.ok.0 c.place-place.ensures.within c.index_mut.ensures.value s.belong s.hashed in
+    let here : hash piece.kept.key % n ≡ place = ap (λ (h : ℕ). h % n) (sym c.requires.hashed) ∙ sym c.place-place.ensures.place in
+    let there = shard_over state_of s.capacity s.hash_builder s.weighter s.filter s.shards.items c.args.hash n place x s.shards.ok.0 c.place-place.ensures.within c.place-place.ensures.place c.index_mut.ensures.value in
+    let known : is_known (state_of x) c.args.hash piece ≡ true = rw there at c.requires.known in
+    let own = returning_at m g.met.K.Eq.laws g.met.E.Eviction.lawful hash equal n place (state_of x) at piece here (subst (λ (h : ℕ). is_known (state_of x) h piece ≡ true) c.requires.hashed known) in
+    hashed_over hash state_of s.shards.items n place x s.shards.ok.0 c.place-place.ensures.within c.index_mut.ensures.value
+    y (taken_back_from (IsHashed hash) m c.take_back.result (λ made. made.1.items) (λ made. made.0) (λ refused. refused.error) (λ refused. refused.leaves.items)
+    (state_of x) piece (state_of y) c.take_back.ensures.returned own.1) s.hashed
 
 pub take_back-requires-clause-given : goal.take_back-requires-clause-given
 take_back-requires-clause-given g c κs within =
