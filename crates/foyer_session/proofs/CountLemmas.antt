@@ -7,11 +7,10 @@ use Rattle.foyer_policy.specs.declared.types.Event.{Event}
 use Rattle.foyer_policy.specs.declared.types.Event.TheVariants.{Evict, Replace}
 use Rattle.foyer_policy.specs.declared.error.Reason.{Reason}
 use Rattle.foyer_policy.specs.declared.error.Reason.TheVariants.{Ids, Handles, Weight, NoMemory}
-use Rattle.foyer_policy.specs.declared.types.Source.TheVariants.{Outer}
-use Rattle.foyer_core.specs.declared.record.Data.{Data}
-use Rattle.foyer_core.specs.Values.{Rec, Gone, Held}
+use Rattle.foyer_policy.specs.declared.types.Source.{Source}
+use Rattle.foyer_core.specs.Values.{Rec, Gone, Held, Incoming}
 use Rattle.foyer_core.specs.State.{Meaning, State, key_of, handles_of, handles_in}
-use Rattle.foyer_core.specs.Steps.{outside, after_out, after_push, after_last, after_give_back, Leave, Evicting, Evicts, GivesWay, InsertsBy, InsertsPlain, RefusesBy, RefusesPlain, after_hold, entry_of, newcomer, Gets, GivesBack}
+use Rattle.foyer_core.specs.Steps.{outside, after_out, after_push, after_last, after_give_back, Leave, Evicting, Evicts, GivesWay, InsertsBy, InsertsPhantom, InsertsPlain, RefusesBy, RefusesPlain, after_hold, entry_of, Gets, GivesBack}
 use Rattle.foyer_session.specs.Owns.{Counts}
 
 -- one more handle of this id
@@ -24,7 +23,7 @@ pub record Alike {K V P View : Type 0} (old new : State K V P View) : Type 0 whe
   pub next : new.next ≡ old.next
   pub number : new.number ≡ old.number
 
-alike_refl : {K V P View : Type 0} (s t : State K V P View) → t ≡ s → Alike s t
+pub alike_refl : {K V P View : Type 0} (s t : State K V P View) → t ≡ s → Alike s t
 alike_refl {K} {V} {P} {View} s t e = record { handles = λ id. ap (λ (x : State K V P View). handles_in x id) e; next = ap (λ (x : State K V P View). x.next) e; number = ap (λ (x : State K V P View). x.number) e }
 
 pub alike_then : {K V P View : Type 0} (a b c : State K V P View) → Alike a b → Alike b c → Alike a c
@@ -75,74 +74,66 @@ module _ {K V P View C : Type 0} (m : Meaning K P View C) where
   gives_way_alike None old ls new h = alike_refl old new h.1
   gives_way_alike (Some id) old ls new h = leave_alike Replace (id ∷ []) old ls (m.policy.remove old.view id) new h
 
-  refused_alike : (old : State K V P View) (d : Data K V P) (reason : Reason) (ls : List (Event × Gone K V P)) (new : State K V P View) → RefusesPlain m old (newcomer old d) reason ls new → Alike old new
-  refused_alike old d Ids ls new h = alike_refl old new h.2
-  refused_alike old d Handles ls new h = alike_refl old new h.3
-  refused_alike old d Weight ls new h = alike_refl old new h.4
-  refused_alike old d NoMemory ls new h = evicting_alike (old.capacity - d.weight) old ls new h.1
-  refused_alike old d _ ls new h = absurd h
+  refused_alike : (old : State K V P View) (i : Incoming K V P) (reason : Reason) (ls : List (Event × Gone K V P)) (new : State K V P View) → RefusesPlain m old i reason ls new → Alike old new
+  refused_alike old i Ids ls new h = alike_refl old new h.2
+  refused_alike old i Handles ls new h = alike_refl old new h.3
+  refused_alike old i Weight ls new h = alike_refl old new h.4
+  refused_alike old i NoMemory ls new h = evicting_alike (old.capacity - i.kept.weight) old ls new h.1
+  refused_alike old i _ ls new h = absurd h
 
-  refused_by_alike : (b : Bool) (old : State K V P View) (d : Data K V P) (reason : Reason) (ls : List (Event × Gone K V P)) (new : State K V P View) → RefusesBy m b old (newcomer old d) reason ls new → Alike old new
-  refused_by_alike true old d Ids ls new h = alike_refl old new h.2
-  refused_by_alike true old d Handles ls new h = alike_refl old new h.3
-  refused_by_alike true old d NoMemory ls new h = alike_refl old new h.2
-  refused_by_alike true old d _ ls new h = absurd h
-  refused_by_alike false old d reason ls new h = refused_alike old d reason ls new h
+  pub refused_by_alike : (b : Bool) (old : State K V P View) (i : Incoming K V P) (reason : Reason) (ls : List (Event × Gone K V P)) (new : State K V P View) → RefusesBy m b old i reason ls new → Alike old new
+  refused_by_alike true old i Ids ls new h = alike_refl old new h.2
+  refused_by_alike true old i Handles ls new h = alike_refl old new h.3
+  refused_by_alike true old i NoMemory ls new h = alike_refl old new h.2
+  refused_by_alike true old i _ ls new h = absurd h
+  refused_by_alike false old i reason ls new h = refused_alike old i reason ls new h
 
-  inserted_alike : (old : State K V P View) (d : Data K V P) (ls : List (Event × Gone K V P)) (entry : Held K V P) (new : State K V P View) (h : InsertsPlain m Outer old (newcomer old d) ls entry new) → Alike old h.last
-  inserted_alike old d ls entry new h =
-      alike_then old h.mid h.last (evicts_alike (old.capacity - d.weight) old h.evictions h.mid h.evicts) (gives_way_alike (h.mid.index (key_of d)) h.mid h.replaced h.last h.gives_way)
+  module _ (source : Source) (old : State K V P View) (i : Incoming K V P) (ls : List (Event × Gone K V P)) (entry : Held K V P) (new : State K V P View) where
+    plain_alike : (h : InsertsPlain m source old i ls entry new) → Alike old h.last
+    plain_alike h =
+        alike_then old h.mid h.last (evicts_alike (old.capacity - i.kept.weight) old h.evictions h.mid h.evicts) (gives_way_alike (h.mid.index (key_of i.kept)) h.mid h.replaced h.last h.gives_way)
 
-  -- the count of a record that comes in, under an id of which there is no handle
-  push_counts : (s : State K V P View) (id : ℕ) (d : Data K V P) (held : ℕ → ℕ) → handles_in s id ≡ 0 → Counts s held → Counts (after_push m s (record { id = id; kept = d; handles = 1 })) (one_more held id)
-  push_counts s id d held none h j = elim (put_handles s.records id (Some record { kept = d; handles = 1; resident = true }) j) [
-    | inl e ↦ (let c = h j in let was : handles_in s j ≡ 0 = subst (λ (x : ℕ). handles_in s x ≡ 0) (sym e.0) none in let one : handles_in (after_push m s (record { id = id; kept = d; handles = 1 })) j ≡ 1 = e.1 in grind (arith, nat_tests))
-    | inr e ↦ (let same : handles_in (after_push m s (record { id = id; kept = d; handles = 1 })) j ≡ handles_in s j = e.1 in let c = h j in let ne = e.0 in grind (arith, nat_tests))
+    phantom_alike : (h : InsertsPhantom m source old i ls entry new) → Alike old h.last
+    phantom_alike h = gives_way_alike (old.index (key_of i.kept)) old h.replaced h.last h.gives_way
+
+  -- the count of a record that comes in with one handle more than there was of its id
+  push_counts : (s : State K V P View) (i : Incoming K V P) (held : ℕ → ℕ) → i.handles ≡ handles_in s i.id + 1 → Counts s held → Counts (after_push m s i) (one_more held i.id)
+  push_counts s i held more h j = elim (put_handles s.records i.id (Some record { kept = i.kept; handles = i.handles; resident = true }) j) [
+    | inl e ↦ (let c = h j in let was : handles_in s j ≡ handles_in s i.id = ap (handles_in s) e.0 in let now : handles_in (after_push m s i) j ≡ i.handles = e.1 in grind (arith, nat_tests))
+    | inr e ↦ (let same : handles_in (after_push m s i) j ≡ handles_in s j = e.1 in let c = h j in let ne = e.0 in grind (arith, nat_tests))
   ]
 
   -- and of one that is held alone
-  hold_counts : (s : State K V P View) (id : ℕ) (d : Data K V P) (held : ℕ → ℕ) → handles_in s id ≡ 0 → Counts s held → Counts (after_hold m s (record { id = id; kept = d; handles = 1 })) (one_more held id)
-  hold_counts s id d held none h j = elim (put_handles s.records id (Some record { kept = d; handles = 1; resident = false }) j) [
-    | inl e ↦ (let c = h j in let was : handles_in s j ≡ 0 = subst (λ (x : ℕ). handles_in s x ≡ 0) (sym e.0) none in let one : handles_in (after_hold m s (record { id = id; kept = d; handles = 1 })) j ≡ 1 = e.1 in grind (arith, nat_tests))
-    | inr e ↦ (let same : handles_in (after_hold m s (record { id = id; kept = d; handles = 1 })) j ≡ handles_in s j = e.1 in let c = h j in let ne = e.0 in grind (arith, nat_tests))
+  hold_counts : (s : State K V P View) (i : Incoming K V P) (held : ℕ → ℕ) → i.handles ≡ handles_in s i.id + 1 → Counts s held → Counts (after_hold m s i) (one_more held i.id)
+  hold_counts s i held more h j = elim (put_handles s.records i.id (Some record { kept = i.kept; handles = i.handles; resident = false }) j) [
+    | inl e ↦ (let c = h j in let was : handles_in s j ≡ handles_in s i.id = ap (handles_in s) e.0 in let now : handles_in (after_hold m s i) j ≡ i.handles = e.1 in grind (arith, nat_tests))
+    | inr e ↦ (let same : handles_in (after_hold m s i) j ≡ handles_in s j = e.1 in let c = h j in let ne = e.0 in grind (arith, nat_tests))
   ]
 
   pub alike_counts : (old new : State K V P View) (held : ℕ → ℕ) → Alike old new → Counts old held → Counts new held
   alike_counts old new held a h j = omega (arith, h j, a.handles j)
 
-  pub inserts_counts : (b : Bool) (old : State K V P View) (d : Data K V P) (ls : List (Event × Gone K V P)) (entry : Held K V P) (new : State K V P View)
-      → InsertsBy m b Outer old (newcomer old d) ls entry new → handles_in old entry.id ≡ 0 → (held : ℕ → ℕ) → Counts old held → Counts new (one_more held entry.id)
-  inserts_counts false old d ls entry new h none held counts =
-      let a = inserted_alike old d ls entry new h in
-      let id : entry.id ≡ old.next = ap (λ (x : Held K V P). x.id) h.entry_is in
-      let was : handles_in h.last old.next ≡ 0 = a.handles old.next ∙ subst (λ (x : ℕ). handles_in old x ≡ 0) id none in
-      subst (λ (x : State K V P View). Counts x (one_more held entry.id)) (sym h.after)
-      (subst (λ (x : ℕ). Counts (after_push m h.last (newcomer old d)) (one_more held x)) (sym id) (push_counts h.last old.next d held was (alike_counts old h.last held a counts)))
-  inserts_counts true old d ls entry new h none held counts =
-      let a = gives_way_alike (old.index (key_of d)) old h.replaced h.last h.gives_way in
-      let id : entry.id ≡ old.next = ap (λ (x : Held K V P). x.id) h.entry_is in
-      let was : handles_in h.last old.next ≡ 0 = a.handles old.next ∙ subst (λ (x : ℕ). handles_in old x ≡ 0) id none in
-      subst (λ (x : State K V P View). Counts x (one_more held entry.id)) (sym h.after)
-      (subst (λ (x : ℕ). Counts (after_hold m h.last (newcomer old d)) (one_more held x)) (sym id) (hold_counts h.last old.next d held was (alike_counts old h.last held a counts)))
+  module _ (source : Source) (old : State K V P View) (i : Incoming K V P) (ls : List (Event × Gone K V P)) (entry : Held K V P) (new : State K V P View) where
+    -- the entry is of what came in
+    pub inserts_entry : (b : Bool) → InsertsBy m b source old i ls entry new → entry ≡ entry_of old i.id i.kept source
+    inserts_entry false h = h.entry_is
+    inserts_entry true h = h.entry_is
 
-  pub inserts_number : (b : Bool) (old : State K V P View) (d : Data K V P) (ls : List (Event × Gone K V P)) (entry : Held K V P) (new : State K V P View)
-      → InsertsBy m b Outer old (newcomer old d) ls entry new → new.number ≡ old.number
-  inserts_number false old d ls entry new h = ap (λ (x : State K V P View). x.number) h.after ∙ (inserted_alike old d ls entry new h).number
-  inserts_number true old d ls entry new h = ap (λ (x : State K V P View). x.number) h.after ∙ (gives_way_alike (old.index (key_of d)) old h.replaced h.last h.gives_way).number
+    pub inserts_counts : (b : Bool) → InsertsBy m b source old i ls entry new → i.handles ≡ handles_in old i.id + 1 → (held : ℕ → ℕ) → Counts old held → Counts new (one_more held entry.id)
+    inserts_counts false h more held counts =
+        let a = plain_alike source old i ls entry new h in
+        let id : entry.id ≡ i.id = ap (λ (x : Held K V P). x.id) h.entry_is in
+        let last : i.handles ≡ handles_in h.last i.id + 1 = more ∙ ap (λ (n : ℕ). n + 1) (sym (a.handles i.id)) in
+        rw (h.after, id) (push_counts h.last i held last (alike_counts old h.last held a counts))
+    inserts_counts true h more held counts =
+        let a = phantom_alike source old i ls entry new h in
+        let id : entry.id ≡ i.id = ap (λ (x : Held K V P). x.id) h.entry_is in
+        let last : i.handles ≡ handles_in h.last i.id + 1 = more ∙ ap (λ (n : ℕ). n + 1) (sym (a.handles i.id)) in
+        rw (h.after, id) (hold_counts h.last i held last (alike_counts old h.last held a counts))
 
-  -- the entry is of the data that came in, under the next id
-  pub inserts_entry : (b : Bool) (old : State K V P View) (d : Data K V P) (ls : List (Event × Gone K V P)) (entry : Held K V P) (new : State K V P View)
-      → InsertsBy m b Outer old (newcomer old d) ls entry new → entry ≡ entry_of old old.next d Outer
-  inserts_entry false old d ls entry new h = h.entry_is
-  inserts_entry true old d ls entry new h = h.entry_is
-
-  pub refuses_counts : (b : Bool) (old : State K V P View) (d : Data K V P) (reason : Reason) (ls : List (Event × Gone K V P)) (new : State K V P View)
-      → RefusesBy m b old (newcomer old d) reason ls new → (held : ℕ → ℕ) → Counts old held → Counts new held
-  refuses_counts b old d reason ls new h held counts = alike_counts old new held (refused_by_alike b old d reason ls new h) counts
-
-  pub refuses_number : (b : Bool) (old : State K V P View) (d : Data K V P) (reason : Reason) (ls : List (Event × Gone K V P)) (new : State K V P View)
-      → RefusesBy m b old (newcomer old d) reason ls new → new.number ≡ old.number
-  refuses_number b old d reason ls new h = (refused_by_alike b old d reason ls new h).number
+    pub inserts_number : (b : Bool) → InsertsBy m b source old i ls entry new → new.number ≡ old.number
+    inserts_number false h = ap (λ (x : State K V P View). x.number) h.after ∙ (plain_alike source old i ls entry new h).number
+    inserts_number true h = ap (λ (x : State K V P View). x.number) h.after ∙ (phantom_alike source old i ls entry new h).number
 
   -- other handles of a record
   count_handles : (s t : State K V P View) (id : ℕ) (r : Rec K V P) (w : Option (Rec K V P)) → s.records id ≡ Some r → t.records ≡ update nat_eq s.records id w

@@ -2,12 +2,18 @@
 use Rattle.std.proofs.Common.{◌≡◌, ℕ, ◌+◌, [], ◌∷◌, Some, None, Result, Ok, Err, refl, ap, ◌∙◌, Bool, true, false}
 use Rattle.foyer_policy.specs.declared.types.Event.TheVariants.{Remove}
 use Rattle.foyer_policy.specs.declared.error.Reason.{Reason}
-use Rattle.foyer_policy.specs.declared.error.Reason.TheVariants.{Handles}
+use Rattle.foyer_policy.specs.declared.error.Reason.TheVariants.{Handles, NoMemory}
 use Rattle.foyer_core.specs.Values.{Rec, Gone, Held}
 use Rattle.foyer_core.specs.State.{Meaning, State}
-use Rattle.foyer_core.specs.Steps.{after_handle, Touches, Removes, ClonesHandle}
+use Rattle.foyer_core.specs.Steps.{after_handle, Touches, Removes, RefusesHandle, ClonesHandle}
 use Rattle.foyer_session.specs.Owns.{Counts}
 use Rattle.foyer_session.proofs.CountLemmas.{one_more, leave_alike, alike_counts, more_counts, gets_counts, gives_back_counts, gives_back_number}
+
+-- a refused handle changes no shard
+pub refusal_same : {K V P View : Type 0} (old new : State K V P View) (id : ℕ) (reason : Reason) → RefusesHandle old id reason new → new ≡ old
+refusal_same old new id Handles h = h.3
+refusal_same old new id NoMemory h = h.3
+refusal_same old new id _ h = absurd h
 
 module _ {K V P View C : Type 0} (m : Meaning K P View C) where
   -- a touch, whatever it answers
@@ -24,7 +30,7 @@ module _ {K V P View C : Type 0} (m : Meaning K P View C) where
   touches_number old k (Err Handles) new h = ap (λ (x : State K V P View). x.number) h.5
   touches_number old k (Err _) new h = absurd h
 
-  handle_counts : (old : State K V P View) (id : ℕ) (r : Rec K V P) → old.records id ≡ Some r → (held : ℕ → ℕ) → Counts old held → Counts (after_handle old id r) (one_more held id)
+  pub handle_counts : (old : State K V P View) (id : ℕ) (r : Rec K V P) → old.records id ≡ Some r → (held : ℕ → ℕ) → Counts old held → Counts (after_handle old id r) (one_more held id)
   handle_counts old id r there held counts =
       more_counts m old (after_handle old id r) id r (Some (record r { handles = r.handles + 1 })) held there refl refl counts
 

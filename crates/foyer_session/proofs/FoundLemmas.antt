@@ -1,16 +1,12 @@
 -- What a shard keeps, as a session uses it.
-use Rattle.std.proofs.Common.{◌≡◌, ℕ, List, Option, Some, None, Ok, true, false, Bool, refl, ap, ◌∙◌, arith, ◌==◌, ◌&&◌}
+use Rattle.std.proofs.Common.{◌≡◌, ℕ, Option, Some, None, Ok, true, false, Bool, refl, ap, ◌∙◌, arith, ◌==◌, ◌&&◌}
 use Rattle.std.proofs.lemmas.Bool.Decides.{nat_tests}
-use Rattle.foyer_core.specs.declared.record.Data.{Data}
 use Rattle.foyer_core.specs.Indexer.{same_key}
 use Rattle.foyer_core.specs.Values.{Rec, Gone, Held}
-use Rattle.foyer_core.specs.State.{Meaning, State, IsKept, key_of, handles_of, handles_in, is_phantom_record}
-use Rattle.foyer_policy.specs.declared.types.Event.{Event}
-use Rattle.foyer_policy.specs.declared.types.Source.TheVariants.{Outer}
-use Rattle.foyer_core.specs.Steps.{Gets, Inserts, Removes, newcomer}
-use Rattle.foyer_session.proofs.CountLemmas.{inserts_entry}
+use Rattle.foyer_core.specs.State.{Meaning, State, IsKept, key_of, handles_of, handles_in}
+use Rattle.foyer_core.specs.Steps.{Gets, Removes}
 
-first_holds : (a b : Bool) → (a && b) ≡ true → a ≡ true
+pub first_holds : (a b : Bool) → (a && b) ≡ true → a ≡ true
 first_holds true b h = refl
 first_holds false b h = absurd cc
 
@@ -37,8 +33,3 @@ module _ {K V P View C : Type 0} (m : Meaning K P View C) (s : State K V P View)
       let e : (k.0 == h.0.kept.hash) ≡ true = first_holds (k.0 == h.0.kept.hash) (m.same k.1 h.0.kept.key) same in
       let alike : entry.kept.hash ≡ h.0.kept.hash = ap (λ (x : Held K V P). x.kept.hash) h.4 in
       grind (arith, nat_tests)
-
-module _ {K V P View C : Type 0} (m : Meaning K P View C) (s : State K V P View) (kept : IsKept m s) where
-  -- nor of the id of a record that came in
-  pub new_unused : (d : Data K V P) (leaves : List (Event × Gone K V P)) (entry : Held K V P) (t : State K V P View) → Inserts m Outer s (newcomer s d) leaves entry t → handles_in s entry.id ≡ 0
-  new_unused d leaves entry t h = ap (λ (x : Held K V P). handles_in s x.id) (inserts_entry m (is_phantom_record m d) s d leaves entry t h) ∙ next_unused m s kept

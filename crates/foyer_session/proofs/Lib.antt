@@ -8,6 +8,7 @@ pub mod KeptLemmas
 pub mod LineLemmas
 pub mod NumberLemmas
 pub mod OwnLemmas
+pub mod PieceLemmas
 pub mod PrintLemmas
 pub mod PrintedLemmas
 pub mod ReadLemmas

@@ -149,17 +149,17 @@ module _ {K V P View S W A : Type 0} (core new : Core K V P View S W A) (step : 
   }
 
   -- a step that hands one out
-  pub owns_more : (handles : List (Option (Held K V P))) (entry : Held K V P) → entry.kept.hash ≡ hash → entry.number ≡ at.before.number
+  pub owns_more : (handles : List (Option (Held K V P))) (entry : Held K V P) → shard_of core entry.kept.hash ≡ shard_of core hash → entry.number ≡ at.before.number
       → ((held : ℕ → ℕ) → Counts at.before held → Counts at.after (one_more held entry.id)) → OwnsHandles core handles → OwnsHandles new (handles ++ Some entry ∷ [])
   owns_more handles entry is numbered gives owns = record {
     numbered = numbered_step handles (handles ++ Some entry ∷ []) (λ n e h. elim (held_pushed handles entry n e h) [
-      | inl same ↦ (at.before, ap (λ (x : Held K V P). shard_at core x.kept.hash) same ∙ ap (λ (x : ℕ). shard_at core x) is ∙ at.there, ap (λ (x : Held K V P). x.number) same ∙ numbered)
+      | inl same ↦ (at.before, ap (λ (x : Held K V P). shard_at core x.kept.hash) same ∙ ap (slice_get core.shards) is ∙ at.there, ap (λ (x : Held K V P). x.number) same ∙ numbered)
       | inr old ↦ owns.numbered n e old
     ]);
     counts = rw shards_same (counts_step (held_count (length core.shards) handles) (held_count (length core.shards) (handles ++ Some entry ∷ []))
         (λ c. counts_same at.after (one_more (held_count (length core.shards) handles (shard_of core hash)) entry.id) (held_count (length core.shards) (handles ++ Some entry ∷ []) (shard_of core hash))
-        (push_here (length core.shards) (shard_of core hash) handles entry (ap (λ (x : ℕ). x % length core.shards) is)) (gives (held_count (length core.shards) handles (shard_of core hash)) c))
-        (λ i ne id. push_apart (length core.shards) i handles entry (λ e. ne (sym e ∙ ap (λ (x : ℕ). x % length core.shards) is)) id)
+        (push_here (length core.shards) (shard_of core hash) handles entry is) (gives (held_count (length core.shards) handles (shard_of core hash)) c))
+        (λ i ne id. push_apart (length core.shards) i handles entry (λ e. ne (sym e ∙ is)) id)
         owns.counts);
   }
 

@@ -1,46 +1,65 @@
 -- The steps of a session keep what it owns.
-use Rattle.std.proofs.Common.{◌≡◌, ℕ, List, [], ◌∷◌, ◌++◌, Option, Some, None, Result, Ok, Err, Bool, false, length, refl, sym, ap, ◌∙◌, subst, arith}
+use Rattle.std.proofs.Common.{◌≡◌, ℕ, ◌+◌, ◌%◌, List, [], ◌∷◌, ◌++◌, Option, Some, None, Result, Ok, Err, Bool, false, length, refl, sym, ap, ◌∙◌, subst, arith}
 use Rattle.std.specs.Prelude.{slice_set, IsOk, IfOk, option_and_then}
 use Rattle.std.proofs.lemmas.Bool.{false≢true}
 use Rattle.foyer_policy.specs.declared.types.Event.{Event}
 use Rattle.foyer_policy.specs.declared.types.Source.TheVariants.{Outer}
 use Rattle.foyer_policy.specs.declared.error.Reason.{Reason}
 use Rattle.foyer_policy.specs.declared.error.Reason.TheVariants.{Handles, NoMemory}
+use Rattle.foyer_core.specs.declared.outcome.Inserted.{Inserted}
+use Rattle.foyer_core.specs.declared.outcome.Refused.{Refused}
 use Rattle.foyer_core.specs.declared.record.Data.{Data}
-use Rattle.foyer_core.specs.Values.{Gone, Held}
+use Rattle.foyer_core.specs.Pieces.{InsertsPiece}
+use Rattle.foyer_core.specs.Values.{Carried, Gone, Held}
 use Rattle.foyer_core.specs.State.{Meaning, State, hit, handles_in, is_phantom_record}
-use Rattle.foyer_core.specs.Steps.{Inserts, RefusesInsert, Gets, GivesBack, Touches, Removes, RefusesHandle, ClonesHandle, newcomer}
-use Rattle.foyer_core.specs.Core.{Core, AtShard, Owns, hit_in, shard_at}
+use Rattle.foyer_core.specs.Steps.{Inserts, RefusesInsert, Gets, GivesBack, Touches, Removes, ClonesHandle, newcomer}
+use Rattle.foyer_core.specs.Core.{Core, AtShard, Owns, hit_in, shard_at, shard_of}
 use Rattle.foyer_session.specs.Step.{SessionState, held_at}
 use Rattle.foyer_session.specs.Owns.{OwnsHandles}
-use Rattle.foyer_session.proofs.CountLemmas.{inserts_counts, inserts_number, inserts_entry, refuses_counts, refuses_number, gets_counts, gives_back_counts, gives_back_number}
-use Rattle.foyer_session.proofs.EntryCounts.{touches_counts, touches_number, removes_counts, removes_number, clones_counts}
+use Rattle.foyer_session.proofs.CountLemmas.{Alike, alike_counts, inserts_counts, inserts_number, inserts_entry, refused_by_alike, gets_counts, gives_back_counts, gives_back_number}
+use Rattle.foyer_session.proofs.EntryCounts.{touches_counts, touches_number, refusal_same, removes_counts, removes_number, clones_counts}
+use Rattle.foyer_session.proofs.PieceLemmas.{Gives, piece_alike}
 use Rattle.foyer_session.proofs.OwnLemmas.{owns_same, owns_more, owns_less, owned_entry, shard_same}
 
 some_same : {A : Type 0} {a b : A} → ◌≡◌ {A = Option A} (Some a) (Some b) → a ≡ b
 some_same h = cc
 
 module _ {K V P View C S W A : Type 0} (m : Meaning K P View C) (core new : Core K V P View S W A) (handles : List (Option (Held K V P))) (owns : OwnsHandles core handles) where
+  -- a step in which each record of its shard keeps its handles
+  stayed_owns : (step : State K V P View → State K V P View → Type 0) (hash : ℕ) (at : AtShard step hash core new) → Alike at.before at.after → OwnsHandles new handles
+  stayed_owns step hash at alike = owns_same core new step hash at alike.number handles (λ held. alike_counts m at.before at.after held alike) owns
+
   -- a record came in, under an id of which there was no handle
   pub inserted_owns : (d : Data K V P) (leaves : List (Event × Gone K V P)) (entry : Held K V P) (at : AtShard (λ s t. Inserts m Outer s (newcomer s d) leaves entry t) d.hash core new)
-      → handles_in at.before entry.id ≡ 0 → OwnsHandles new (handles ++ Some (record entry { left = false }) ∷ [])
+      → handles_in at.before at.before.next ≡ 0 → OwnsHandles new (handles ++ Some (record entry { left = false }) ∷ [])
   inserted_owns d leaves entry at none =
-      owns_more core new (λ s t. Inserts m Outer s (newcomer s d) leaves entry t) d.hash at (inserts_number m (is_phantom_record m d) at.before d leaves entry at.after at.stepped) handles (record entry { left = false })
-      (ap (λ (x : Held K V P). x.kept.hash) (inserts_entry m (is_phantom_record m d) at.before d leaves entry at.after at.stepped))
-      (ap (λ (x : Held K V P). x.number) (inserts_entry m (is_phantom_record m d) at.before d leaves entry at.after at.stepped))
-      (inserts_counts m (is_phantom_record m d) at.before d leaves entry at.after at.stepped none) owns
+      let i = newcomer at.before d in
+      let is = inserts_entry m Outer at.before i leaves entry at.after (is_phantom_record m d) at.stepped in
+      owns_more core new (λ s t. Inserts m Outer s (newcomer s d) leaves entry t) d.hash at (inserts_number m Outer at.before i leaves entry at.after (is_phantom_record m d) at.stepped) handles
+      (record entry { left = false }) (ap (λ (x : Held K V P). shard_of core x.kept.hash) is) (ap (λ (x : Held K V P). x.number) is)
+      (inserts_counts m Outer at.before i leaves entry at.after (is_phantom_record m d) at.stepped (ap (λ (n : ℕ). n + 1) (sym none))) owns
 
   pub refused_owns : (d : Data K V P) (reason : Reason) (leaves : List (Event × Gone K V P)) (at : AtShard (λ s t. RefusesInsert m s (newcomer s d) reason leaves t) d.hash core new) → OwnsHandles new handles
   refused_owns d reason leaves at =
-      owns_same core new (λ s t. RefusesInsert m s (newcomer s d) reason leaves t) d.hash at (refuses_number m (is_phantom_record m d) at.before d reason leaves at.after at.stepped) handles
-      (refuses_counts m (is_phantom_record m d) at.before d reason leaves at.after at.stepped) owns
+      stayed_owns (λ s t. RefusesInsert m s (newcomer s d) reason leaves t) d.hash at (refused_by_alike m (is_phantom_record m d) at.before (newcomer at.before d) reason leaves at.after at.stepped)
+
+  module _ {N : Type 0} (weighs : ℕ → Type 0) (hash : ℕ) (piece : Carried K V P) where
+    -- a piece came in
+    pub piece_owns : (made : Inserted K V P N) (at : AtShard (λ s t. InsertsPiece m weighs hash piece (Ok made) s t) hash core new) → Gives (length core.shards) (shard_of core hash) at.before made.entry at.after
+        → OwnsHandles new (handles ++ Some (record made.entry { left = false }) ∷ [])
+    piece_owns made at gives =
+        owns_more core new (λ s t. InsertsPiece m weighs hash piece (Ok made) s t) hash at gives.number handles (record made.entry { left = false }) gives.placed gives.numbered gives.counts owns
+
+    pub piece_refused_owns : (refused : Refused K V P) (at : AtShard (λ s t. InsertsPiece m {N = N} weighs hash piece (Err refused) s t) hash core new) → OwnsHandles new handles
+    piece_refused_owns refused at =
+        stayed_owns (λ s t. InsertsPiece m {N = N} weighs hash piece (Err refused) s t) hash at (piece_alike m at.before at.after weighs hash piece refused at.stepped)
 
   -- an entry of the key's record was made, which has the key's hash
   pub got_owns : (k : ℕ × K) (entry : Held K V P) (at : AtShard (λ s t. Gets m s k (Ok (Some entry)) t) k.0 core new) → entry.kept.hash ≡ k.0
       → OwnsHandles new (handles ++ Some (record entry { left = false }) ∷ [])
   got_owns k entry at is =
       owns_more core new (λ s t. Gets m s k (Ok (Some entry)) t) k.0 at (ap (λ (x : State K V P View). x.number) at.stepped.5) handles (record entry { left = false })
-      is (ap (λ (x : Held K V P). x.number) at.stepped.4) (gets_counts m at.before k entry at.after at.stepped) owns
+      (ap (λ (x : ℕ). x % length core.shards) is) (ap (λ (x : Held K V P). x.number) at.stepped.4) (gets_counts m at.before k entry at.after at.stepped) owns
 
   -- a held handle was given back
   pub gave_back_owns : (n : ℕ) (entry : Held K V P) (result : Result (Option (Event × Gone K V P)) (Held K V P)) → held_at handles n ≡ Some entry
@@ -62,7 +81,7 @@ module _ {K V P View C S W A : Type 0} (m : Meaning K P View C) (core new : Core
       → entry.kept.hash ≡ k.0 → OwnsHandles new (handles ++ Some (record entry { left = false }) ∷ [])
   removed_owns k entry gone at is =
       owns_more core new (λ s t. Removes m s k (Ok (Some (entry, gone))) t) k.0 at (removes_number m at.before k entry gone at.after at.stepped) handles (record entry { left = false })
-      is (ap (λ (x : Held K V P). x.number) at.stepped.4) (removes_counts m at.before k entry gone at.after at.stepped) owns
+      (ap (λ (x : ℕ). x % length core.shards) is) (ap (λ (x : Held K V P). x.number) at.stepped.4) (removes_counts m at.before k entry gone at.after at.stepped) owns
 
   -- one more entry was made of the record of a held handle
   pub cloned_owns : (n : ℕ) (entry clone : Held K V P) → held_at handles n ≡ Some entry
@@ -71,14 +90,8 @@ module _ {K V P View C S W A : Type 0} (m : Meaning K P View C) (core new : Core
       let s = owns.numbered n entry there in
       let same : s.0 ≡ at.before = some_same (sym s.1 ∙ at.there) in
       owns_more core new (λ s t. ClonesHandle s entry (Ok clone) t) entry.kept.hash at (ap (λ (x : State K V P View). x.number) at.stepped.4) handles (record clone { left = false })
-      (ap (λ (x : Held K V P). x.kept.hash) at.stepped.3) (ap (λ (x : Held K V P). x.number) at.stepped.3 ∙ s.2 ∙ ap (λ (x : State K V P View). x.number) same)
+      (ap (λ (x : Held K V P). shard_of core x.kept.hash) at.stepped.3) (ap (λ (x : Held K V P). x.number) at.stepped.3 ∙ s.2 ∙ ap (λ (x : State K V P View). x.number) same)
       (clones_counts m at.before entry clone at.after at.stepped) owns
-
--- a refused handle changes no shard
-refusal_same : {K V P View : Type 0} (old new : State K V P View) (id : ℕ) (reason : Reason) → RefusesHandle old id reason new → new ≡ old
-refusal_same old new id Handles h = h.3
-refusal_same old new id NoMemory h = h.3
-refusal_same old new id _ h = absurd h
 
 -- a refused clone changes no core
 pub clone_refused : {K V P View S W A : Type 0} (core new : Core K V P View S W A) (entry : Held K V P) (reason : Reason)

@@ -1,20 +1,23 @@
 -- What a session may do.
-use Rattle.std.specs.Prelude.{◌≡◌, ℕ, List, [], ◌∷◌, ◌++◌, Option, Some, None, Bool, true, false, Ok, Err, is_some, length, slice_get, slice_set}
+use Rattle.std.specs.Prelude.{◌≡◌, ℕ, List, [], ◌∷◌, ◌++◌, ◌⊎◌, Option, Some, None, Bool, true, false, Result, Ok, Err, is_some, length, slice_get, slice_set}
 use Rattle.std.specs.Option.{option_flatten}
 use Rattle.foyer_policy.specs.declared.types.Event.{Event}
 use Rattle.foyer_policy.specs.declared.types.Event.TheVariants.{Remove as RemoveEvent}
 use Rattle.foyer_policy.specs.declared.types.Source.TheVariants.{Outer}
 use Rattle.foyer_policy.specs.declared.error.Reason.TheVariants.{NoMemory}
+use Rattle.foyer_core.specs.declared.outcome.Inserted.{Inserted}
+use Rattle.foyer_core.specs.declared.outcome.Refused.{Refused as RefusedInsert}
 use Rattle.foyer_core.specs.declared.record.Data.{Data}
 use Rattle.foyer_core.specs.Values.{Gone, Held, Carried}
 use Rattle.foyer_core.specs.Bulk.{Clears, EvictsIf, EvictsUnpinned, EvictingUnpinned}
 use Rattle.foyer_core.specs.CoreBulk.{InTurn, InTurnUntil, OfShards, EvictsToCapacity, EvictingToCapacity, Resizes}
+use Rattle.foyer_core.specs.Pieces.{InsertsPiece}
 use Rattle.foyer_core.specs.Steps.{Inserts, RefusesInsert, Gets, GivesBack, Touches, Removes, ClonesHandle, newcomer}
 use Rattle.foyer_core.specs.Core.{Core, AtShard, IsOutdatedIn, hit_in, refs_in, usage_of_core, entries_of_core}
 use Rattle.foyer_session.specs.declared.command.Answer.{Answer}
 use Rattle.foyer_session.specs.declared.command.Answer.TheVariants.{Entry, Found, Missing, Yes, No, Done, Number, PieceNo, NotHeld, Refused}
 use Rattle.foyer_session.specs.declared.command.Command.{Command}
-use Rattle.foyer_session.specs.declared.command.Command.TheVariants.{Insert, Get, Contains, Touch, Remove, Clone, Drop, TakePiece, Refs, Outdated, Clear, EvictAll, FlushIf, Resize, Capacity, Usage, Entries}
+use Rattle.foyer_session.specs.declared.command.Command.TheVariants.{Insert, Get, Contains, Touch, Remove, Clone, Drop, TakePiece, InsertPiece, Refs, Outdated, Clear, EvictAll, FlushIf, Resize, Capacity, Usage, Entries}
 use Rattle.foyer_session.specs.Terms.{Terms}
 
 -- a core with what was handed out, in order: the handles, each held or gone, and the pieces, which stay held
@@ -138,6 +141,25 @@ module _ {K V P View C S W A : Type 0} (t : Terms K V P View C S W A) where
   TakePieceStep old n NotHeld leaves new = (held_at old.handles n ≡ None) × (leaves ≡ []) × (new ≡ old)
   TakePieceStep old n _ leaves new = ⊥
 
+  -- what an insert of a piece makes of the core
+  abbrev pub InsertsPieceIn : SessionState K V P View S W A → Carried K V P → Result (Inserted K V P (Unit {0})) (RefusedInsert K V P) → SessionState K V P View S W A → Type 0
+  InsertsPieceIn old piece result new =
+      AtShard (λ s u. InsertsPiece t.meaning (t.weighs old.core.weighter piece.kept.key piece.kept.value) (hash_in old piece.kept.key) piece result s u)
+      (hash_in old piece.kept.key) old.core new.core
+
+  -- An insert of a clone of a held piece, which stays held. Where the piece could not be cloned for want of memory,
+  -- nothing changes.
+  abbrev pub InsertPieceStep : SessionState K V P View S W A → ℕ → Answer K V P → List (Event × Gone K V P) → SessionState K V P View S W A → Type 0
+  InsertPieceStep old n (Entry number told answers) leaves new =
+      (piece : Carried K V P) × (made : Inserted K V P (Unit {0})) × (slice_get old.pieces n ≡ Some piece) × InsertsPieceIn old piece (Ok made) new
+      × HandsOut old number told made.entry new × (answers ≡ []) × (leaves ≡ made.leaves.items)
+  InsertPieceStep old n (Refused reason) leaves new =
+      (piece : Carried K V P) × (slice_get old.pieces n ≡ Some piece)
+      × (((reason ≡ NoMemory) × (leaves ≡ []) × (new ≡ old))
+      ⊎ ((refused : RefusedInsert K V P) × InsertsPieceIn old piece (Err refused) new × KeepsTables old new × (reason ≡ refused.error) × (leaves ≡ refused.leaves.items)))
+  InsertPieceStep old n NotHeld leaves new = (slice_get old.pieces n ≡ None) × (leaves ≡ []) × (new ≡ old)
+  InsertPieceStep old n _ leaves new = ⊥
+
   abbrev pub RefsStep : SessionState K V P View S W A → ℕ → Answer K V P → List (Event × Gone K V P) → SessionState K V P View S W A → Type 0
   RefsStep old n (Number count) leaves new =
       (entry : Held K V P) × (held_at old.handles n ≡ Some entry) × (count ≡ refs_in old.core entry) × (leaves ≡ []) × (new ≡ old)
@@ -191,6 +213,7 @@ module _ {K V P View C S W A Q : Type 0} (t : Terms K V P View C S W A) (picks :
   Step old (Clone n) answer leaves new = CloneStep t old n answer leaves new
   Step old (Drop n) answer leaves new = DropStep t old n answer leaves new
   Step old (TakePiece n) answer leaves new = TakePieceStep t old n answer leaves new
+  Step old (InsertPiece n) answer leaves new = InsertPieceStep t old n answer leaves new
   Step old (Refs n) answer leaves new = RefsStep t old n answer leaves new
   Step old (Outdated n) answer leaves new = OutdatedStep t old n answer leaves new
   Step old Clear answer leaves new = ClearStep t old answer leaves new

@@ -26,6 +26,8 @@ pub enum Command<K, V, P, Q> {
     Drop(u64),
     /// Asks for a piece of the record of the handle of this number. The piece stays held.
     TakePiece(u64),
+    /// Takes the record of the piece of this number in. The piece stays held.
+    InsertPiece(u64),
     /// Asks how many handles the record of the handle of this number has.
     Refs(u64),
     /// Asks whether the record of the handle of this number left.
@@ -109,7 +111,7 @@ impl<K, V, P> Leaves<K, V, P> {
 /// What a session answers to a command, beside what left.
 #[derive(Drop)]
 pub enum Answer<K, V, P> {
-    /// To `Insert`: the record came in.
+    /// To `Insert` or `InsertPiece`: the record came in.
     Entry {
         /// The number of its handle.
         handle: u64,
@@ -138,10 +140,10 @@ pub enum Answer<K, V, P> {
     Number(u128),
     /// To `TakePiece`: the number of the new piece.
     PieceNo(u64),
-    /// To what names a handle: no held handle has this number. Nothing has changed.
+    /// To what names a handle or a piece: none that is held has this number. Nothing has changed.
     NotHeld,
-    /// To `Insert`, `Get`, `Touch`, `Remove`, `Clone` or `TakePiece`, and to `Clear`, `EvictAll`, `FlushIf` or
-    /// `Resize`: why it was refused.
+    /// To `Insert`, `InsertPiece`, `Get`, `Touch`, `Remove`, `Clone` or `TakePiece`, and to `Clear`, `EvictAll`,
+    /// `FlushIf` or `Resize`: why it was refused.
     Refused(Error),
 }
 

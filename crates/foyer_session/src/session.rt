@@ -14,6 +14,7 @@ use std::alloc::Global;
 mod bulk;
 mod handle;
 mod held;
+mod insertion;
 mod keys;
 mod piece;
 mod ready;
@@ -178,6 +179,7 @@ impl<
             Command::Clone(number) => self.clone_handle(number),
             Command::Drop(number) => self.give_back(number, leaves),
             Command::TakePiece(number) => self.take_piece(number),
+            Command::InsertPiece(number) => self.insert_piece(number),
             Command::Refs(number) => self.refs(number),
             Command::Outdated(number) => self.is_outdated(number),
             Command::Clear => self.clear(),

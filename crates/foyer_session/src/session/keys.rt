@@ -1,12 +1,11 @@
 //! What a session does with a key.
 
 ghost use Rattle.std.specs.Prelude.{◌≡◌, ◌+◌, ◌<◌, ◌≤◌, true, vec_len, vec_capacity};
-ghost use Rattle.foyer_core.specs.Core.{AnswersNobody};
 
 use super::ready::with_leave;
 use super::{Session, handle};
-use crate::command::{Answer, Answers, Reply};
-use foyer_core::{Filter, Indexer, Inserted, Left, Outcome, Refused, Weighter};
+use crate::command::{Answer, Reply};
+use foyer_core::{Filter, Indexer, Left, Weighter};
 use foyer_policy::{Event, Eviction, HashBuilder, Key, Properties, Value};
 
 impl<
@@ -20,39 +19,7 @@ impl<
     I: Indexer<K>,
 > Session<E, K, V, P, S, W, A, I> {
     ghost use Rattle.foyer_session.specs.Sessions.{session_of, terms_of};
-    ghost use Rattle.foyer_session.specs.Step.{InsertStep, GetStep, ContainsStep, TouchStep, RemoveStep};
-
-    pub(super) fn insert(&mut self, key: K, value: V, properties: P) -> Reply<K, V, P>
-        requires clones { (k c : K) → K.is_clone k c → K.eq c k ≡ true }
-        requires room { vec_len self.old.handles < vec_capacity self.old.handles }
-        ensures step { InsertStep (terms_of self.old) (session_of self.old) key value properties result.answer result.leaves (session_of self.new) }
-        ensures len { vec_len self.new.handles ≤ vec_len self.old.handles + 1 }
-        ensures capacity { vec_capacity self.new.handles ≡ vec_capacity self.old.handles }
-        ensures pieces { self.new.pieces ≡ self.old.pieces }
-    {
-        match self.core.insert_with_properties(key, value, properties) {
-            Ok(inserted) => {
-                let Inserted {
-                    entry,
-                    answers,
-                    leaves,
-                } = inserted;
-                spend_nobody(answers);
-                let (handle, record) = handle::hand_out(&mut self.handles, entry);
-                let answers = Answers::new(Vec::new(self.alloc));
-                let answer = Answer::Entry {
-                    handle,
-                    record,
-                    answers,
-                };
-                Reply::new(answer, leaves)
-            }
-            Err(refused) => {
-                let Refused { error, leaves } = refused;
-                Reply::new(Answer::Refused(error), leaves)
-            }
-        }
-    }
+    ghost use Rattle.foyer_session.specs.Step.{GetStep, ContainsStep, TouchStep, RemoveStep};
 
     pub(super) fn get(&mut self, key: &K) -> Reply<K, V, P>
         requires room { vec_len self.old.handles < vec_capacity self.old.handles }
@@ -114,20 +81,5 @@ impl<
             Ok(None) => Reply::new(Answer::Missing, leaves),
             Err(error) => Reply::new(Answer::Refused(error), leaves),
         }
-    }
-}
-
-// Nobody waited.
-fn spend_nobody<K: Drop, V: Drop, P: Drop>(answers: foyer_core::Answers<K, V, P, ()>)
-    requires { AnswersNobody answers }
-{
-    let foyer_core::Answers {
-        waiters: _,
-        outcome,
-    } = answers;
-    match outcome {
-        Outcome::Entries(entries) => entries.destroy_empty(),
-        Outcome::None => {}
-        Outcome::Fault(_) => {}
     }
 }

@@ -1,6 +1,6 @@
 //! The pieces that a session handed out.
 
-ghost use Rattle.std.specs.Prelude.{◌≡◌, ◌<◌, ◌++◌, ◌∷◌, [], length, vec_len, vec_capacity};
+ghost use Rattle.std.specs.Prelude.{◌≡◌, ◌<◌, ◌++◌, ◌∷◌, [], Some, None, IfNone, IfSome, length, slice_get, vec_len, vec_capacity};
 
 use foyer_core::Piece;
 
@@ -17,4 +17,15 @@ pub fn hand_out<K: Drop, V: Drop, P: Drop>(
     let number = pieces.len() as u64;
     pieces.push_reserved(piece);
     number
+}
+
+/// The piece of a number, where it is held.
+pub fn held<K: Drop, V: Drop, P: Drop>(
+    pieces: &[Piece<K, V, P>],
+    number: u64,
+) -> Option<&Piece<K, V, P>>
+    ensures some { IfSome result (λ piece. slice_get pieces.now number ≡ Some piece.now) }
+    ensures none { IfNone result (slice_get pieces.now number ≡ None) }
+{
+    pieces.get(number as usize)
 }

@@ -53,6 +53,7 @@ fn room_for<K: Drop, V: Drop, P: Drop, Q: Drop>(
         | Command::Touch(_)
         | Command::Clone(_)
         | Command::TakePiece(_)
+        | Command::InsertPiece(_)
         | Command::Refs(_)
         | Command::Outdated(_)
         | Command::Clear

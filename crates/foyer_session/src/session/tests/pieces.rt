@@ -98,3 +98,77 @@ fn each_command_has_room_for_a_piece(rt: HostRuntime) -> std::result::Result<(),
     assert!(rt; matches!(replies[3].answer, Answer::NotHeld));
     Ok(())
 }
+
+// What a session answers where the piece of a number is to come in: the number of the handle, and the id and the
+// value of the record.
+fn put_piece(session: &mut FifoSession, piece: u64) -> Result<Option<(u64, u64, u64)>> {
+    let reply = session.step(Plain::InsertPiece(piece))?;
+    Ok(match &reply.answer {
+        Answer::Entry { handle, record, .. } => Some((*handle, record.id(), *record.value())),
+        _ => None,
+    })
+}
+
+#[test]
+fn a_record_that_left_comes_in_with_its_id(rt: HostRuntime) -> std::result::Result<(), Fail> {
+    let mut session = session(rt.alloc(), 2, Limits::default())?;
+    session.step(insert(1, 10))?;
+    answer_to_take(&mut session, 0)?;
+    session.step(Plain::Remove(1))?;
+    session.step(Plain::Drop(0))?;
+    session.step(Plain::Drop(1))?;
+    session.step(insert(2, 20))?;
+    assert_eq!(rt; put_piece(&mut session, 0)?, Some((3, 0, 10)));
+    assert_eq!(rt; session.entries(), 2);
+    Ok(())
+}
+
+#[test]
+fn a_held_record_gains_a_handle(rt: HostRuntime) -> std::result::Result<(), Fail> {
+    let mut session = session(rt.alloc(), 2, Limits::default())?;
+    session.step(insert(1, 10))?;
+    answer_to_take(&mut session, 0)?;
+    assert_eq!(rt; put_piece(&mut session, 0)?, Some((1, 0, 10)));
+    let refs = session.step(Plain::Refs(0))?;
+    assert_eq!(rt; number(&refs.answer), Some(2));
+    assert_eq!(rt; session.entries(), 1);
+    Ok(())
+}
+
+#[test]
+fn a_piece_stays_held_after_it_came_in(rt: HostRuntime) -> std::result::Result<(), Fail> {
+    let alloc = rt.alloc();
+    let mut session = session(alloc, 2, Limits::default())?;
+    session.step(insert(1, 10))?;
+    answer_to_take(&mut session, 0)?;
+    assert_eq!(rt; put_piece(&mut session, 0)?, Some((1, 0, 10)));
+    assert_eq!(rt; put_piece(&mut session, 0)?, Some((2, 0, 10)));
+    let held = held_pieces(alloc, &session)?;
+    assert_eq!(rt; held.as_slice(), [(1, 10)].as_slice());
+    Ok(())
+}
+
+#[test]
+fn a_number_without_a_piece_is_not_held(rt: HostRuntime) -> std::result::Result<(), Fail> {
+    let mut session = session(rt.alloc(), 2, Limits::default())?;
+    session.step(insert(1, 10))?;
+    answer_to_take(&mut session, 0)?;
+    let reply = session.step(Plain::InsertPiece(1))?;
+    assert!(rt; matches!(reply.answer, Answer::NotHeld));
+    assert!(rt; reply.leaves.as_slice().is_empty());
+    Ok(())
+}
+
+#[test]
+fn a_piece_is_refused_at_the_limit(rt: HostRuntime) -> std::result::Result<(), Fail> {
+    let limits = Limits {
+        handles: 1,
+        ..Limits::default()
+    };
+    let mut session = session(rt.alloc(), 2, limits)?;
+    session.step(insert(1, 10))?;
+    answer_to_take(&mut session, 0)?;
+    let reply = session.step(Plain::InsertPiece(0))?;
+    assert_eq!(rt; refused(&reply.answer), Some(9));
+    Ok(())
+}
