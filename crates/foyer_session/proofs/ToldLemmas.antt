@@ -1,0 +1,199 @@
+-- What a step's reply tells of the index.
+use Rattle.std.proofs.Common.{◌≡◌, ℕ, ◌%◌, length, List, [], ◌∷◌, ◌++◌, Option, Some, None, Ok, Err, true, false, refl, sym, ◌∙◌, ap, subst, subst₂}
+use Rattle.std.specs.Prelude.{Bool, if◌then◌else◌}
+use Rattle.std.specs.Option.{option_to_list}
+use Rattle.std.specs.Cmp.{IsEquivalence}
+use Rattle.std.specs.Map.{update}
+use Rattle.foyer_policy.specs.Policy.{IsPolicy}
+use Rattle.foyer_policy.specs.Properties.{is_phantom}
+use Rattle.foyer_policy.specs.declared.error.Reason.TheVariants.{NoMemory}
+use Rattle.foyer_policy.specs.declared.types.Event.{Event}
+use Rattle.foyer_core.specs.Core.{Core, AtShard}
+use Rattle.foyer_core.specs.CoreBulk.{OfShards, Resizes}
+use Rattle.foyer_core.specs.Observed.{IsTold as CoreTold, after_entry, after_leave, after_leaves, known}
+use Rattle.foyer_core.specs.State.{State}
+use Rattle.foyer_core.specs.Values.{Gone, Held}
+use Rattle.foyer_core.proofs.CallsTold.{cleared_core, clone_told, get_told, give_back_told, insert_told, nothing_told, picked_core, refused_told, remove_told, resized_core, resized_until_core, touch_told, unpinned_core, unpinned_until_core}
+use Rattle.foyer_core.proofs.CoreTold.{AreSound}
+use Rattle.foyer_core.proofs.Observing.{leaves_congr}
+use Rattle.foyer_session.specs.declared.command.Answer.{Answer}
+use Rattle.foyer_session.specs.declared.command.Answer.TheVariants.{Entry, Found, Missing, Yes, No, Done, Number, NotHeld, Refused}
+use Rattle.foyer_session.specs.declared.command.Command.{Command}
+use Rattle.foyer_session.specs.declared.command.Command.TheVariants.{Insert, Get, Contains, Touch, Remove, Clone, Drop, Refs, Outdated, Clear, EvictAll, FlushIf, Resize, Capacity, Usage, Entries}
+use Rattle.foyer_session.specs.declared.command.Reply.{Reply}
+use Rattle.foyer_session.specs.Observed.{IsTold, after_answer, index_of, told}
+use Rattle.foyer_session.specs.Step.{SessionState, Step, InsertStep, GetStep, ContainsStep, TouchStep, RemoveStep, CloneStep, DropStep, RefsStep, OutdatedStep, ClearStep, EvictAllStep, FlushIfStep, ResizeStep, NumberStep, data_of, hash_in, leaves_of}
+use Rattle.foyer_session.specs.Terms.{Terms}
+
+-- maps that agree do so after replies
+module _ {K V P : Type 0} (same : K → K → Bool) (phantom : P → Option Bool) where
+  entry_congr : (f g : K → Option ℕ) → ((k : K) → f k ≡ g k) → (gone : Gone K V P) (k : K) → after_entry same phantom f gone.id gone.kept k ≡ after_entry same phantom g gone.id gone.kept k
+  entry_congr f g h gone k = go (is_phantom (phantom gone.kept.properties)) refl where
+    go : (b : Bool) → is_phantom (phantom gone.kept.properties) ≡ b → after_entry same phantom f gone.id gone.kept k ≡ after_entry same phantom g gone.id gone.kept k
+    go true is = rw is (h k)
+    go false is = rw is (ap (λ (o : Option ℕ). if same gone.kept.key k then Some gone.id else o) (h k))
+
+  answer_congr : (f g : K → Option ℕ) → ((k : K) → f k ≡ g k) → (answer : Answer K V P) (leaves : List (Event × Gone K V P)) (k : K) → after_answer same phantom f answer leaves k ≡ after_answer same phantom g answer leaves k
+  answer_congr f g h (Entry number came answers) leaves k = entry_congr (after_leaves same f leaves) (after_leaves same g leaves) (leaves_congr same f g h leaves) came k
+  answer_congr f g h _ leaves k = leaves_congr same f g h leaves k
+
+  told_congr : (f g : K → Option ℕ) → ((k : K) → f k ≡ g k) → (replies : List (Reply K V P)) (k : K) → told same phantom f replies k ≡ told same phantom g replies k
+  told_congr f g h [] k = h k
+  told_congr f g h (r ∷ rs) k = told_congr (after_answer same phantom f r.answer r.leaves) (after_answer same phantom g r.answer r.leaves) (answer_congr f g h r.answer r.leaves) rs k
+
+  told_append : (f : K → Option ℕ) (rs more : List (Reply K V P)) (k : K) → told same phantom f (rs ++ more) k ≡ told same phantom (told same phantom f rs) more k
+  told_append f [] more k = refl
+  told_append f (r ∷ rs) more k = told_append (after_answer same phantom f r.answer r.leaves) rs more k
+
+module _ {K V P View C S W Q : Type 0} (t : Terms K V P View C S W) (picks : Q → K → V → Bool → Type 0) where
+  -- replies that were told go on by one
+  pub told_more : (old mid new : SessionState K V P View S W) (rs : List (Reply K V P)) (r : Reply K V P) → IsTold t old rs mid → IsTold t mid (r ∷ []) new → IsTold t old (rs ++ r ∷ []) new
+  told_more old mid new rs r first second k =
+      second k
+      ∙ told_congr t.meaning.same t.meaning.phantom (index_of t mid) (told t.meaning.same t.meaning.phantom (index_of t old) rs) first (r ∷ []) k
+      ∙ sym (told_append t.meaning.same t.meaning.phantom (index_of t old) rs (r ∷ []) k)
+
+  module _ (laws : IsEquivalence t.meaning.same) (good : IsPolicy t.meaning.policy) (old new : SessionState K V P View S W)
+      (equal : (a b : K) → t.meaning.same a b ≡ true → hash_in t old a ≡ hash_in t old b) (sound : AreSound t.meaning laws good (hash_in t old) equal (length old.core.shards) old.core.shards) where
+    abbrev same : K → K → Bool
+    same = t.meaning.same
+
+    abbrev hash : K → ℕ
+    hash = hash_in t old
+
+    -- the hash builder stays, and the index is told
+    abbrev pub StepTold : Answer K V P → List (Event × Gone K V P) → Type 0
+    StepTold answer leaves = (new.core.hash_builder ≡ old.core.hash_builder) × ((k : K) → known hash new.core k ≡ after_answer same t.meaning.phantom (known hash old.core) answer leaves k)
+
+    -- what only leaves
+    abbrev Leaves : List (Event × Gone K V P) → Type 0
+    Leaves leaves = (new.core.hash_builder ≡ old.core.hash_builder) × CoreTold same hash old.core leaves new.core
+
+    at_builder : (step : State K V P View → State K V P View → Type 0) (h : ℕ) → AtShard step h old.core new.core → new.core.hash_builder ≡ old.core.hash_builder
+    at_builder step h at = ap (λ (c : Core K V P View S W). c.hash_builder) at.rest
+
+    all_builder : (steps : List (State K V P View) → List (Event × Gone K V P) → List (State K V P View) → Type 0) (leaves : List (Event × Gone K V P)) → OfShards steps old.core leaves new.core
+        → new.core.hash_builder ≡ old.core.hash_builder
+    all_builder steps leaves h = ap (λ (c : Core K V P View S W). c.hash_builder) h.rest
+
+    unchanged : (leaves : List (Event × Gone K V P)) → leaves ≡ [] → new ≡ old → Leaves leaves
+    unchanged leaves none is =
+        subst Leaves (sym none) (ap (λ (s : SessionState K V P View S W). s.core.hash_builder) is, nothing_told t.meaning laws good hash equal old.core new.core sound (ap (λ (s : SessionState K V P View S W). s.core) is))
+
+    -- one shard, and nothing leaves
+    silent : (leaves : List (Event × Gone K V P)) → leaves ≡ [] → new.core.hash_builder ≡ old.core.hash_builder → CoreTold same hash old.core [] new.core → Leaves leaves
+    silent leaves none builder h = subst Leaves (sym none) (builder, h)
+
+    insert_step : (k : K) (v : V) (p : P) (answer : Answer K V P) (leaves : List (Event × Gone K V P)) → InsertStep t old k v p answer leaves new → StepTold answer leaves
+    insert_step k v p (Entry number told answers) leaves h =
+        let d = data_of t old k v p h.0 in
+        let entry = h.1 in (
+          at_builder _ (hash k) h.3,
+          λ q. insert_told t.meaning laws good hash equal old.core new.core sound d refl leaves entry h.3 q
+              ∙ ap (λ (g : Gone K V P). after_entry same t.meaning.phantom (after_leaves same (known hash old.core) leaves) g.id g.kept q) (sym h.4.tells),
+        )
+    insert_step k v p (Refused reason) leaves h =
+        (at_builder _ (hash k) h.2, refused_told t.meaning laws good hash equal old.core new.core sound (data_of t old k v p h.0) refl leaves reason h.2)
+    insert_step k v p _ leaves h = absurd h
+
+    get_step : (k : K) (answer : Answer K V P) (leaves : List (Event × Gone K V P)) → GetStep t old k answer leaves new → StepTold answer leaves
+    get_step k (Found number told) leaves h = silent leaves h.3 (at_builder _ (hash k) h.1) (get_told t.meaning laws good hash equal old.core new.core sound (hash k, k) (hash k) (Ok (Some h.0)) h.1)
+    get_step k Missing leaves h = unchanged leaves h.1 h.2
+    get_step k (Refused reason) leaves h = unchanged leaves h.1 h.2
+    get_step k _ leaves h = absurd h
+
+    contains_step : (k : K) (answer : Answer K V P) (leaves : List (Event × Gone K V P)) → ContainsStep t old k answer leaves new → StepTold answer leaves
+    contains_step k Yes leaves h = unchanged leaves h.1 h.2
+    contains_step k No leaves h = unchanged leaves h.1 h.2
+    contains_step k _ leaves h = absurd h
+
+    touch_step : (k : K) (answer : Answer K V P) (leaves : List (Event × Gone K V P)) → TouchStep t old k answer leaves new → StepTold answer leaves
+    touch_step k Yes leaves h = silent leaves h.1 (at_builder _ (hash k) h.0) (touch_told t.meaning laws good hash equal old.core new.core sound (hash k, k) (hash k) (Ok true) h.0)
+    touch_step k No leaves h = unchanged leaves h.1 h.2
+    touch_step k (Refused reason) leaves h = unchanged leaves h.1 h.2
+    touch_step k _ leaves h = absurd h
+
+    remove_step : (k : K) (answer : Answer K V P) (leaves : List (Event × Gone K V P)) → RemoveStep t old k answer leaves new → StepTold answer leaves
+    remove_step k (Found number told) leaves h =
+        subst Leaves (sym h.4) (at_builder _ (hash k) h.2, remove_told t.meaning laws good hash equal old.core new.core sound (hash k, k) (hash k) (Ok (Some (h.0, h.1))) h.2)
+    remove_step k Missing leaves h = unchanged leaves h.1 h.2
+    remove_step k (Refused reason) leaves h = unchanged leaves h.1 h.2
+    remove_step k _ leaves h = absurd h
+
+    clone_step : (n : ℕ) (answer : Answer K V P) (leaves : List (Event × Gone K V P)) → CloneStep t old n answer leaves new → StepTold answer leaves
+    clone_step n (Found number told) leaves h =
+        silent leaves h.5 (at_builder _ h.0.kept.hash h.3) (clone_told t.meaning laws good hash equal old.core new.core sound h.0 h.0.kept.hash (Ok h.1) h.3)
+    clone_step n (Refused reason) leaves h = unchanged leaves h.3 h.4
+    clone_step n NotHeld leaves h = unchanged leaves h.1 h.2
+    clone_step n _ leaves h = absurd h
+
+    leaves_listed : (leave : Option (Event × Gone K V P)) → leaves_of leave ≡ option_to_list leave
+    leaves_listed None = refl
+    leaves_listed (Some l) = refl
+
+    drop_step : (n : ℕ) (answer : Answer K V P) (leaves : List (Event × Gone K V P)) → DropStep t old n answer leaves new → StepTold answer leaves
+    drop_step n Done leaves h =
+        subst Leaves (sym (h.5 ∙ leaves_listed h.1)) (at_builder _ h.0.kept.hash h.3, give_back_told t.meaning laws good hash equal old.core new.core sound h.0.id h.0.kept.hash h.1 h.3)
+    drop_step n NotHeld leaves h = unchanged leaves h.1 h.2
+    drop_step n _ leaves h = absurd h
+
+    refs_step : (n : ℕ) (answer : Answer K V P) (leaves : List (Event × Gone K V P)) → RefsStep t old n answer leaves new → StepTold answer leaves
+    refs_step n (Number count) leaves h = unchanged leaves h.3 h.4
+    refs_step n NotHeld leaves h = unchanged leaves h.1 h.2
+    refs_step n _ leaves h = absurd h
+
+    outdated_step : (n : ℕ) (answer : Answer K V P) (leaves : List (Event × Gone K V P)) → OutdatedStep t old n answer leaves new → StepTold answer leaves
+    outdated_step n Yes leaves h = unchanged leaves h.3 h.4
+    outdated_step n No leaves h = unchanged leaves h.3 h.4
+    outdated_step n NotHeld leaves h = unchanged leaves h.1 h.2
+    outdated_step n _ leaves h = absurd h
+
+    clear_step : (answer : Answer K V P) (leaves : List (Event × Gone K V P)) → ClearStep t old answer leaves new → StepTold answer leaves
+    clear_step Done leaves h = (all_builder _ leaves h.0, cleared_core t.meaning laws good hash equal old.core new.core sound leaves h.0.stepped)
+    clear_step (Refused NoMemory) leaves h = unchanged leaves h.0 h.1
+    clear_step _ leaves h = absurd h
+
+    evict_all_step : (answer : Answer K V P) (leaves : List (Event × Gone K V P)) → EvictAllStep t old answer leaves new → StepTold answer leaves
+    evict_all_step Done leaves h = (all_builder _ leaves h.0, unpinned_core t.meaning laws good hash equal old.core new.core sound leaves h.0.stepped)
+    evict_all_step (Refused NoMemory) leaves h = (all_builder _ leaves h.0, unpinned_until_core t.meaning laws good hash equal old.core new.core sound leaves h.0.stepped)
+    evict_all_step _ leaves h = absurd h
+
+    flush_if_step : (says : K → V → Bool → Type 0) (answer : Answer K V P) (leaves : List (Event × Gone K V P)) → FlushIfStep t old says answer leaves new → StepTold answer leaves
+    flush_if_step says Done leaves h = (all_builder _ leaves h.0, picked_core t.meaning laws good hash equal old.core new.core sound leaves says h.0.stepped)
+    flush_if_step says (Refused NoMemory) leaves h = unchanged leaves h.0 h.1
+    flush_if_step says _ leaves h = absurd h
+
+    resize_step : (capacity : ℕ) (answer : Answer K V P) (leaves : List (Event × Gone K V P)) → ResizeStep t old capacity answer leaves new → StepTold answer leaves
+    resize_step capacity Done leaves h =
+        (ap (λ (c : Core K V P View S W). c.hash_builder) h.0.evicted.rest, resized_core t.meaning laws good hash equal old.core new.core sound capacity leaves h.0)
+    resize_step capacity (Refused NoMemory) leaves h =
+        (ap (λ (c : Core K V P View S W). c.hash_builder) h.0.evicted.rest, resized_until_core t.meaning laws good hash equal old.core new.core sound capacity leaves h.0)
+    resize_step capacity _ leaves h = absurd h
+
+    number_step : (count : ℕ) (answer : Answer K V P) (leaves : List (Event × Gone K V P)) → NumberStep count old answer leaves new → StepTold answer leaves
+    number_step count (Number n) leaves h = unchanged leaves h.1 h.2
+    number_step count _ leaves h = absurd h
+
+    any_step : (command : Command K V P Q) (answer : Answer K V P) (leaves : List (Event × Gone K V P)) → Step t picks old command answer leaves new → StepTold answer leaves
+    any_step (Insert k v p) answer leaves h = insert_step k v p answer leaves h
+    any_step (Get k) answer leaves h = get_step k answer leaves h
+    any_step (Contains k) answer leaves h = contains_step k answer leaves h
+    any_step (Touch k) answer leaves h = touch_step k answer leaves h
+    any_step (Remove k) answer leaves h = remove_step k answer leaves h
+    any_step (Clone n) answer leaves h = clone_step n answer leaves h
+    any_step (Drop n) answer leaves h = drop_step n answer leaves h
+    any_step (Refs n) answer leaves h = refs_step n answer leaves h
+    any_step (Outdated n) answer leaves h = outdated_step n answer leaves h
+    any_step Clear answer leaves h = clear_step answer leaves h
+    any_step EvictAll answer leaves h = evict_all_step answer leaves h
+    any_step (FlushIf q) answer leaves h = flush_if_step (picks q) answer leaves h
+    any_step (Resize capacity) answer leaves h = resize_step capacity answer leaves h
+    any_step Capacity answer leaves h = number_step _ answer leaves h
+    any_step Usage answer leaves h = number_step _ answer leaves h
+    any_step Entries answer leaves h = number_step _ answer leaves h
+
+    -- a step's reply tells the index
+    pub step_told : (command : Command K V P Q) (reply : Reply K V P) → Step t picks old command reply.answer reply.leaves new → IsTold t old (reply ∷ []) new
+    step_told command reply h k =
+        let s = any_step command reply.answer reply.leaves h in
+        ap (λ (b : S). known (t.hash b) new.core k) s.0 ∙ s.1 k
