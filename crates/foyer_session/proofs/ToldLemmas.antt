@@ -138,7 +138,7 @@ module _ {K V P View C S W A : Type 0} (t : Terms K V P View C S W A) where
 
     drop_step : (n : ℕ) (answer : Answer K V P) (leaves : List (Event × Gone K V P)) → DropStep t old n answer leaves new → StepTold answer leaves
     drop_step n Done leaves h =
-        subst Leaves (sym (h.5 ∙ leaves_listed h.1)) (at_builder _ h.0.kept.hash h.3, give_back_told t.meaning laws good hash equal old.core new.core sound h.0.id h.0.kept.hash h.1 h.3)
+        subst Leaves (sym (h.6 ∙ leaves_listed h.1)) (at_builder _ h.0.kept.hash h.3, give_back_told t.meaning laws good hash equal old.core new.core sound h.0.id h.0.kept.hash h.1 h.3)
     drop_step n NotHeld leaves h = unchanged leaves h.1 h.2
     drop_step n _ leaves h = absurd h
 

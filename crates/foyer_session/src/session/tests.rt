@@ -8,8 +8,9 @@ use std::process::Abort;
 use std::test::Fail;
 
 mod bulk;
-mod pieces;
 mod filter;
+mod index;
+mod pieces;
 
 type FifoSession = Session<Fifo, u64, u64, CacheProperties, ModHasher, UnitWeighter, AdmitAll>;
 

@@ -13,4 +13,4 @@ returns-clause-told g c =
     let s = c.args.self.now in
     let equal : (a b : g.row.K.Denot) → g.K.PartialEq.eq a b ≡ true → hashes_of s.core a ≡ hashes_of s.core b = λ a b same. ap (g.S.HashBuilder.hash_of s.core.hash_builder) (g.met.K.Hash.respects_eq a b same) in
     step_told (terms_of s) g.met.K.Eq.laws g.met.E.Eviction.lawful (session_of s) (session_of c.carry_out.new.self) equal (core_sound s.core g.met.K.Eq.laws g.met.E.Eviction.lawful equal)
-    g.Q.Predicate.picks c.in_ok-ready.ready.command c.carry_out.result (rw (c.in_ok-ready.ensures.command, c.make_room.ensures.session) at c.carry_out.ensures.step)
+    g.Q.Predicate.picks c.in_ok-ready.ready.command c.carry_out.result (rw c.make_room.ensures.session at c.carry_out.ensures.step)
