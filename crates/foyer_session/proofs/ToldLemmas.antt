@@ -47,6 +47,10 @@ module _ {K V P : Type 0} (same : K → K → Bool) (phantom : P → Option Bool
   told_append f (r ∷ rs) more k = told_append (after_answer same phantom f r.answer r.leaves) rs more k
 
 module _ {K V P View C S W A : Type 0} (t : Terms K V P View C S W A) where
+  -- no reply tells nothing
+  pub told_none : (old new : SessionState K V P View S W A) → new ≡ old → IsTold t old [] new
+  told_none old new same k = ap (λ (s : SessionState K V P View S W A). index_of t s k) same
+
   -- replies that were told go on by one
   pub told_more : (old mid new : SessionState K V P View S W A) (rs : List (Reply K V P)) (r : Reply K V P) → IsTold t old rs mid → IsTold t mid (r ∷ []) new → IsTold t old (rs ++ r ∷ []) new
   told_more old mid new rs r first second k =

@@ -1,10 +1,10 @@
-use Rattle.std.proofs.Common.{◌≡◌, length, map, true, refl, sym, ap, ◌∙◌, arith, append_assoc}
+use Rattle.std.proofs.Common.{◌≡◌, length, map, true, sym, ap, ◌∙◌, arith, append_assoc}
 use Rattle.std.proofs.lemmas.List.{length-map}
 use Rattle.foyer_core.specs.Cores.{hashes_of}
 use Rattle.foyer_core.proofs.Sound.{core_sound}
 use Rattle.foyer_session.specs.Sessions.{session_of, terms_of}
 use Rattle.foyer_session.proofs.RunLemmas.{Run-more, all_yielded}
-use Rattle.foyer_session.proofs.ToldLemmas.{step_told, told_more}
+use Rattle.foyer_session.proofs.ToldLemmas.{step_told, told_more, told_none}
 use Rattle.foyer_session.proofs.session.Session.run.Goals as goal
 
 pub loop-ready-init : goal.loop-ready-init
@@ -15,7 +15,7 @@ loop-ready-init g c =
     sym (length-map c.into_iter-ready-iterator.result.rest.items (λ ready. ready.command)) ∙ ap length commands in
     record {
       run = rw c.in-Ok.ensures.items c.make_room.ensures.session;
-      told = rw (c.in-Ok.ensures.items, c.make_room.ensures.session) (λ k. refl);
+      told = rw c.in-Ok.ensures.items (told_none (terms_of c.args.self.now) (session_of c.args.self.now) (session_of c.make_room.new.self) c.make_room.ensures.session);
       commands = commands;
       handles = omega (arith, count, c.in_ok-make_room.ensures.handles, c.len-count.ensures, c.args.commands.ok.0);
       pieces = omega (arith, count, c.in_ok-make_room.ensures.pieces, c.len-count.ensures, c.args.commands.ok.0);
