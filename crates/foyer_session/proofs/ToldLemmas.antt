@@ -1,19 +1,18 @@
 -- What a step's reply tells of the index.
-use Rattle.std.proofs.Common.{◌≡◌, ℕ, ◌%◌, length, List, [], ◌∷◌, ◌++◌, Option, Some, None, Ok, Err, true, false, refl, sym, ◌∙◌, ap, subst, subst₂}
+use Rattle.std.proofs.Common.{◌≡◌, ℕ, length, List, [], ◌∷◌, ◌++◌, Option, Some, None, Ok, true, false, refl, sym, ◌∙◌, ap, subst}
 use Rattle.std.specs.Prelude.{Bool, if◌then◌else◌}
 use Rattle.std.specs.Option.{option_to_list}
 use Rattle.std.specs.Cmp.{IsEquivalence}
-use Rattle.std.specs.Map.{update}
 use Rattle.foyer_policy.specs.Policy.{IsPolicy}
 use Rattle.foyer_policy.specs.Properties.{is_phantom}
 use Rattle.foyer_policy.specs.declared.error.Reason.TheVariants.{NoMemory}
 use Rattle.foyer_policy.specs.declared.types.Event.{Event}
 use Rattle.foyer_policy.specs.declared.types.Source.TheVariants.{Outer}
 use Rattle.foyer_core.specs.Core.{Core, AtShard}
-use Rattle.foyer_core.specs.CoreBulk.{OfShards, Resizes}
-use Rattle.foyer_core.specs.Observed.{IsTold as CoreTold, after_entry, after_leave, after_leaves, known}
+use Rattle.foyer_core.specs.CoreBulk.{OfShards}
+use Rattle.foyer_core.specs.Observed.{IsTold as CoreTold, after_entry, after_leaves, known}
 use Rattle.foyer_core.specs.State.{State}
-use Rattle.foyer_core.specs.Values.{Gone, Held}
+use Rattle.foyer_core.specs.Values.{Gone}
 use Rattle.foyer_core.proofs.CallsTold.{cleared_core, clone_told, get_told, give_back_told, insert_told, nothing_told, picked_core, refused_told, remove_told, resized_core, resized_until_core, touch_told, unpinned_core, unpinned_until_core}
 use Rattle.foyer_core.proofs.CoreTold.{AreSound}
 use Rattle.foyer_core.proofs.Observing.{leaves_congr}
