@@ -14,4 +14,5 @@ pub mod PrintedLemmas
 pub mod ReadLemmas
 pub mod RunLemmas
 pub mod StepLemmas
+pub mod ToldLemmas
 pub mod WordLemmas

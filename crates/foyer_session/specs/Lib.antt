@@ -6,6 +6,7 @@ pub mod Told
 pub mod Terms
 pub mod Step
 pub mod Run
+pub mod Observed
 pub mod Owns
 pub mod Sessions
 pub mod Printed

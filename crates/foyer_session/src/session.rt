@@ -1,6 +1,6 @@
 //! A cache in one thread's hands, and the handles and the pieces that it handed out.
 
-ghost use Rattle.std.specs.Prelude.{◌≡◌, ◌+◌, ◌*◌, ◌<◌, ◌≤◌, [], true, IfOk, IfErr, OnOk, OnErr, vec_len, vec_capacity};
+ghost use Rattle.std.specs.Prelude.{◌≡◌, ◌+◌, ◌*◌, ◌<◌, ◌≤◌, [], ◌∷◌, true, IfOk, IfErr, OnOk, OnErr, vec_len, vec_capacity};
 ghost use Rattle.foyer_policy.specs.declared.error.Reason.TheVariants.{NoMemory};
 ghost use Rattle.foyer_core.specs.Cores.{core_of};
 ghost use Rattle.foyer_session.specs.Owns.{OwnsHandles};
@@ -56,6 +56,7 @@ impl<
     I: Indexer<K>,
 > Session<E, K, V, P, S, W, A, I> {
     ghost use Rattle.foyer_core.specs.Core.{usage_of_core, entries_of_core};
+    ghost use Rattle.foyer_session.specs.Observed.{IsTold};
     ghost use Rattle.foyer_session.specs.Run.{Run};
     ghost use Rattle.foyer_session.specs.Sessions.{session_of, meaning_of_session, terms_of};
     ghost use Rattle.foyer_session.specs.Step.{NumberStep, Step};
@@ -74,8 +75,10 @@ impl<
         }
     }
 
-    /// Carries out commands, each as `step` does, and answers their replies in order. A clone of a key must
-    /// equal it. Refused only for want of memory (F7), before any command, and then nothing has changed.
+    /// Carries out commands, each as `step` does, and answers their replies in order. Whoever knew the id that
+    /// each key finds knows it afterwards from the replies: from what left, and from the records of entries.
+    /// A clone of a key must equal it. Refused only for want of memory (F7), before any command, and then
+    /// nothing has changed.
     pub fn run<Q: Predicate<K, V>>(
         &mut self,
         commands: Vec<Command<K, V, P, Q>>,
@@ -83,6 +86,7 @@ impl<
         requires clones { (k c : K) → K.is_clone k c → K.eq c k ≡ true }
         ensures run { IfOk result (λ replies.
             Run (terms_of self.old) Q.picks (session_of self.old) commands.items replies.items (session_of self.new)) }
+        ensures told { IfOk result (λ replies. IsTold (terms_of self.old) (session_of self.old) replies.items (session_of self.new)) }
         ensures refused { IfErr result (λ e. e ≡ NoMemory) }
         ensures err { OnErr result (session_of self.new ≡ session_of self.old) }
     {
@@ -108,6 +112,7 @@ impl<
         requires clones { (k c : K) → K.is_clone k c → K.eq c k ≡ true }
         ensures step { IfOk result (λ reply.
             Step (terms_of self.old) Q.picks (session_of self.old) command reply.answer reply.leaves (session_of self.new)) }
+        ensures told { IfOk result (λ reply. IsTold (terms_of self.old) (session_of self.old) (reply ∷ []) (session_of self.new)) }
         ensures refused { IfErr result (λ e. e ≡ NoMemory) }
         ensures err { OnErr result (session_of self.new ≡ session_of self.old) }
     {

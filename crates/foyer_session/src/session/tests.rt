@@ -9,6 +9,7 @@ use std::test::Fail;
 
 mod bulk;
 mod filter;
+mod index;
 mod pieces;
 
 type FifoSession = Session<Fifo, u64, u64, CacheProperties, ModHasher, UnitWeighter, AdmitAll>;

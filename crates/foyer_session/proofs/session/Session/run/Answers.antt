@@ -1,7 +1,10 @@
-use Rattle.std.proofs.Common.{◌≡◌, length, map, sym, ap, ◌∙◌, arith, append_assoc}
+use Rattle.std.proofs.Common.{◌≡◌, length, map, true, sym, ap, ◌∙◌, arith, append_assoc}
 use Rattle.std.proofs.lemmas.List.{length-map}
+use Rattle.foyer_core.specs.Cores.{hashes_of}
+use Rattle.foyer_core.proofs.Sound.{core_sound}
 use Rattle.foyer_session.specs.Sessions.{session_of, terms_of}
 use Rattle.foyer_session.proofs.RunLemmas.{Run-more, all_yielded}
+use Rattle.foyer_session.proofs.ToldLemmas.{step_told, told_more, told_none}
 use Rattle.foyer_session.proofs.session.Session.run.Goals as goal
 
 pub loop-ready-init : goal.loop-ready-init
@@ -12,6 +15,7 @@ loop-ready-init g c =
     sym (length-map c.into_iter-ready-iterator.result.rest.items (λ ready. ready.command)) ∙ ap length commands in
     record {
       run = rw c.in-Ok.ensures.items c.make_room.ensures.session;
+      told = rw c.in-Ok.ensures.items (told_none (terms_of c.args.self.now) (session_of c.args.self.now) (session_of c.make_room.new.self) c.make_room.ensures.session);
       commands = commands;
       handles = omega (arith, count, c.in_ok-make_room.ensures.handles, c.len-count.ensures, c.args.commands.ok.0);
       pieces = omega (arith, count, c.in_ok-make_room.ensures.pieces, c.len-count.ensures, c.args.commands.ok.0);
@@ -23,10 +27,16 @@ loop-ready-preserved g c =
     let inv = c.loop-ready.invariant in
     let rest = c.in-Some.ensures.steps.0 in
     let one = ap length rest in
+    let now = c.loop-ready.self in
+    let equal : (a b : g.row.K.Denot) → g.K.PartialEq.eq a b ≡ true → hashes_of now.core a ≡ hashes_of now.core b = λ a b same. ap (g.S.HashBuilder.hash_of now.core.hash_builder) (g.met.K.Hash.respects_eq a b same) in
     record {
       run = rw c.push_reserved.ensures.items (Run-more (terms_of c.args.self.now) g.Q.Predicate.picks
           (λ ready. ready.command) (session_of c.args.self.now) c.loop-ready.yielded c.loop-ready.replies.items (session_of c.loop-ready.self) c.in-Some.ready c.carry_out-reply.result
           (session_of c.carry_out-reply.new.self) inv.run c.carry_out-reply.ensures.step);
+      told = rw c.push_reserved.ensures.items (told_more (terms_of c.args.self.now) (session_of c.args.self.now) (session_of now) (session_of c.carry_out-reply.new.self) c.loop-ready.replies.items
+          c.carry_out-reply.result inv.told
+          (step_told (terms_of now) g.met.K.Eq.laws g.met.E.Eviction.lawful (session_of now) (session_of c.carry_out-reply.new.self) equal (core_sound now.core g.met.K.Eq.laws g.met.E.Eviction.lawful equal)
+          g.Q.Predicate.picks c.in-Some.ready.command c.carry_out-reply.result c.carry_out-reply.ensures.step));
       commands = rw append_assoc (rw rest at inv.commands);
       handles = omega (arith, inv.handles, one, c.carry_out-reply.ensures.len, c.carry_out-reply.ensures.capacity);
       pieces = omega (arith, inv.pieces, one, c.carry_out-reply.ensures.pieces_len, c.carry_out-reply.ensures.pieces_capacity);

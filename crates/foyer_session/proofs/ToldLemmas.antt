@@ -1,0 +1,214 @@
+-- What a step's reply tells of the index.
+use Rattle.std.proofs.Common.{◌≡◌, ℕ, length, List, [], ◌∷◌, ◌++◌, Option, Some, None, Ok, true, false, refl, sym, ◌∙◌, ap, subst}
+use Rattle.std.specs.Prelude.{Bool, if◌then◌else◌}
+use Rattle.std.specs.Option.{option_to_list}
+use Rattle.std.specs.Cmp.{IsEquivalence}
+use Rattle.foyer_policy.specs.Policy.{IsPolicy}
+use Rattle.foyer_policy.specs.Properties.{is_phantom}
+use Rattle.foyer_policy.specs.declared.error.Reason.TheVariants.{NoMemory}
+use Rattle.foyer_policy.specs.declared.types.Event.{Event}
+use Rattle.foyer_policy.specs.declared.types.Source.TheVariants.{Outer}
+use Rattle.foyer_core.specs.Core.{Core, AtShard}
+use Rattle.foyer_core.specs.CoreBulk.{OfShards}
+use Rattle.foyer_core.specs.Observed.{IsTold as CoreTold, after_entry, after_leaves, known}
+use Rattle.foyer_core.specs.State.{State}
+use Rattle.foyer_core.specs.Values.{Gone}
+use Rattle.foyer_core.proofs.CallsTold.{cleared_core, clone_told, get_told, give_back_told, insert_told, nothing_told, picked_core, refused_told, remove_told, resized_core, resized_until_core, touch_told, unpinned_core, unpinned_until_core}
+use Rattle.foyer_core.proofs.CoreTold.{AreSound}
+use Rattle.foyer_core.proofs.Observing.{leaves_congr}
+use Rattle.foyer_session.specs.declared.command.Answer.{Answer}
+use Rattle.foyer_session.specs.declared.command.Answer.TheVariants.{Entry, Found, Missing, Yes, No, Done, Number, PieceNo, NotHeld, Refused}
+use Rattle.foyer_session.specs.declared.command.Command.{Command}
+use Rattle.foyer_session.specs.declared.command.Command.TheVariants.{Insert, Get, Contains, Touch, Remove, Clone, Drop, TakePiece, Refs, Outdated, Clear, EvictAll, FlushIf, Resize, Capacity, Usage, Entries}
+use Rattle.foyer_session.specs.declared.command.Reply.{Reply}
+use Rattle.foyer_session.specs.Observed.{IsTold, after_answer, index_of, told}
+use Rattle.foyer_session.specs.Step.{SessionState, Step, InsertStep, GetStep, ContainsStep, TouchStep, RemoveStep, CloneStep, DropStep, TakePieceStep, RefsStep, OutdatedStep, ClearStep, EvictAllStep, FlushIfStep, ResizeStep, NumberStep, data_of, hash_in, leaves_of}
+use Rattle.foyer_session.specs.Terms.{Terms}
+
+-- maps that agree do so after replies
+module _ {K V P : Type 0} (same : K → K → Bool) (phantom : P → Option Bool) where
+  entry_congr : (f g : K → Option ℕ) → ((k : K) → f k ≡ g k) → (gone : Gone K V P) (k : K) → after_entry same phantom f gone.id gone.kept k ≡ after_entry same phantom g gone.id gone.kept k
+  entry_congr f g h gone k = go (is_phantom (phantom gone.kept.properties)) refl where
+    go : (b : Bool) → is_phantom (phantom gone.kept.properties) ≡ b → after_entry same phantom f gone.id gone.kept k ≡ after_entry same phantom g gone.id gone.kept k
+    go true is = rw is (h k)
+    go false is = rw is (ap (λ (o : Option ℕ). if same gone.kept.key k then Some gone.id else o) (h k))
+
+  answer_congr : (f g : K → Option ℕ) → ((k : K) → f k ≡ g k) → (answer : Answer K V P) (leaves : List (Event × Gone K V P)) (k : K) → after_answer same phantom f answer leaves k ≡ after_answer same phantom g answer leaves k
+  answer_congr f g h (Entry number came answers) leaves k = entry_congr (after_leaves same f leaves) (after_leaves same g leaves) (leaves_congr same f g h leaves) came k
+  answer_congr f g h _ leaves k = leaves_congr same f g h leaves k
+
+  told_congr : (f g : K → Option ℕ) → ((k : K) → f k ≡ g k) → (replies : List (Reply K V P)) (k : K) → told same phantom f replies k ≡ told same phantom g replies k
+  told_congr f g h [] k = h k
+  told_congr f g h (r ∷ rs) k = told_congr (after_answer same phantom f r.answer r.leaves) (after_answer same phantom g r.answer r.leaves) (answer_congr f g h r.answer r.leaves) rs k
+
+  told_append : (f : K → Option ℕ) (rs more : List (Reply K V P)) (k : K) → told same phantom f (rs ++ more) k ≡ told same phantom (told same phantom f rs) more k
+  told_append f [] more k = refl
+  told_append f (r ∷ rs) more k = told_append (after_answer same phantom f r.answer r.leaves) rs more k
+
+module _ {K V P View C S W A : Type 0} (t : Terms K V P View C S W A) where
+  -- no reply tells nothing
+  pub told_none : (old new : SessionState K V P View S W A) → new ≡ old → IsTold t old [] new
+  told_none old new same k = ap (λ (s : SessionState K V P View S W A). index_of t s k) same
+
+  -- replies that were told go on by one
+  pub told_more : (old mid new : SessionState K V P View S W A) (rs : List (Reply K V P)) (r : Reply K V P) → IsTold t old rs mid → IsTold t mid (r ∷ []) new → IsTold t old (rs ++ r ∷ []) new
+  told_more old mid new rs r first second k =
+      second k
+      ∙ told_congr t.meaning.same t.meaning.phantom (index_of t mid) (told t.meaning.same t.meaning.phantom (index_of t old) rs) first (r ∷ []) k
+      ∙ sym (told_append t.meaning.same t.meaning.phantom (index_of t old) rs (r ∷ []) k)
+
+  module _ (laws : IsEquivalence t.meaning.same) (good : IsPolicy t.meaning.policy) (old new : SessionState K V P View S W A)
+      (equal : (a b : K) → t.meaning.same a b ≡ true → hash_in t old a ≡ hash_in t old b) (sound : AreSound t.meaning laws good (hash_in t old) equal (length old.core.shards) old.core.shards) where
+    abbrev same : K → K → Bool
+    same = t.meaning.same
+
+    abbrev hash : K → ℕ
+    hash = hash_in t old
+
+    -- the hash builder stays, and the index is told
+    abbrev pub StepTold : Answer K V P → List (Event × Gone K V P) → Type 0
+    StepTold answer leaves = (new.core.hash_builder ≡ old.core.hash_builder) × ((k : K) → known hash new.core k ≡ after_answer same t.meaning.phantom (known hash old.core) answer leaves k)
+
+    -- what only leaves
+    abbrev Leaves : List (Event × Gone K V P) → Type 0
+    Leaves leaves = (new.core.hash_builder ≡ old.core.hash_builder) × CoreTold same hash old.core leaves new.core
+
+    at_builder : (step : State K V P View → State K V P View → Type 0) (h : ℕ) → AtShard step h old.core new.core → new.core.hash_builder ≡ old.core.hash_builder
+    at_builder step h at = ap (λ (c : Core K V P View S W A). c.hash_builder) at.rest
+
+    all_builder : (steps : List (State K V P View) → List (Event × Gone K V P) → List (State K V P View) → Type 0) (leaves : List (Event × Gone K V P)) → OfShards steps old.core leaves new.core
+        → new.core.hash_builder ≡ old.core.hash_builder
+    all_builder steps leaves h = ap (λ (c : Core K V P View S W A). c.hash_builder) h.rest
+
+    -- nothing leaves, and the core stays
+    same_core : (leaves : List (Event × Gone K V P)) → leaves ≡ [] → new.core ≡ old.core → Leaves leaves
+    same_core leaves none is =
+        subst Leaves (sym none) (ap (λ (c : Core K V P View S W A). c.hash_builder) is, nothing_told t.meaning laws good hash equal old.core new.core sound is)
+
+    unchanged : (leaves : List (Event × Gone K V P)) → leaves ≡ [] → new ≡ old → Leaves leaves
+    unchanged leaves none is = same_core leaves none (ap (λ (s : SessionState K V P View S W A). s.core) is)
+
+    -- one shard, and nothing leaves
+    silent : (leaves : List (Event × Gone K V P)) → leaves ≡ [] → new.core.hash_builder ≡ old.core.hash_builder → CoreTold same hash old.core [] new.core → Leaves leaves
+    silent leaves none builder h = subst Leaves (sym none) (builder, h)
+
+    insert_step : (k : K) (v : V) (p : P) (answer : Answer K V P) (leaves : List (Event × Gone K V P)) → InsertStep t old k v p answer leaves new → StepTold answer leaves
+    insert_step k v p (Entry number told answers) leaves h =
+        let d = data_of t old k v p h.0 h.1 in
+        let entry = h.2 in (
+          at_builder _ (hash k) h.5,
+          λ q. insert_told t.meaning laws good hash equal old.core new.core sound d refl leaves Outer entry h.5 q
+              ∙ ap (λ (g : Gone K V P). after_entry same t.meaning.phantom (after_leaves same (known hash old.core) leaves) g.id g.kept q) (sym h.6.tells),
+        )
+    insert_step k v p (Refused reason) leaves h =
+        (at_builder _ (hash k) h.4, refused_told t.meaning laws good hash equal old.core new.core sound (data_of t old k v p h.0 h.1) refl leaves reason h.4)
+    insert_step k v p _ leaves h = absurd h
+
+    get_step : (k : K) (answer : Answer K V P) (leaves : List (Event × Gone K V P)) → GetStep t old k answer leaves new → StepTold answer leaves
+    get_step k (Found number told) leaves h = silent leaves h.3 (at_builder _ (hash k) h.1) (get_told t.meaning laws good hash equal old.core new.core sound (hash k, k) (hash k) (Ok (Some h.0)) h.1)
+    get_step k Missing leaves h = unchanged leaves h.1 h.2
+    get_step k (Refused reason) leaves h = unchanged leaves h.1 h.2
+    get_step k _ leaves h = absurd h
+
+    contains_step : (k : K) (answer : Answer K V P) (leaves : List (Event × Gone K V P)) → ContainsStep t old k answer leaves new → StepTold answer leaves
+    contains_step k Yes leaves h = unchanged leaves h.1 h.2
+    contains_step k No leaves h = unchanged leaves h.1 h.2
+    contains_step k _ leaves h = absurd h
+
+    touch_step : (k : K) (answer : Answer K V P) (leaves : List (Event × Gone K V P)) → TouchStep t old k answer leaves new → StepTold answer leaves
+    touch_step k Yes leaves h = silent leaves h.1 (at_builder _ (hash k) h.0) (touch_told t.meaning laws good hash equal old.core new.core sound (hash k, k) (hash k) (Ok true) h.0)
+    touch_step k No leaves h = unchanged leaves h.1 h.2
+    touch_step k (Refused reason) leaves h = unchanged leaves h.1 h.2
+    touch_step k _ leaves h = absurd h
+
+    remove_step : (k : K) (answer : Answer K V P) (leaves : List (Event × Gone K V P)) → RemoveStep t old k answer leaves new → StepTold answer leaves
+    remove_step k (Found number told) leaves h =
+        subst Leaves (sym h.4) (at_builder _ (hash k) h.2, remove_told t.meaning laws good hash equal old.core new.core sound (hash k, k) (hash k) (Ok (Some (h.0, h.1))) h.2)
+    remove_step k Missing leaves h = unchanged leaves h.1 h.2
+    remove_step k (Refused reason) leaves h = unchanged leaves h.1 h.2
+    remove_step k _ leaves h = absurd h
+
+    clone_step : (n : ℕ) (answer : Answer K V P) (leaves : List (Event × Gone K V P)) → CloneStep t old n answer leaves new → StepTold answer leaves
+    clone_step n (Found number told) leaves h =
+        silent leaves h.5 (at_builder _ h.0.kept.hash h.3) (clone_told t.meaning laws good hash equal old.core new.core sound h.0 h.0.kept.hash (Ok h.1) h.3)
+    clone_step n (Refused reason) leaves h = unchanged leaves h.3 h.4
+    clone_step n NotHeld leaves h = unchanged leaves h.1 h.2
+    clone_step n _ leaves h = absurd h
+
+    leaves_listed : (leave : Option (Event × Gone K V P)) → leaves_of leave ≡ option_to_list leave
+    leaves_listed None = refl
+    leaves_listed (Some l) = refl
+
+    drop_step : (n : ℕ) (answer : Answer K V P) (leaves : List (Event × Gone K V P)) → DropStep t old n answer leaves new → StepTold answer leaves
+    drop_step n Done leaves h =
+        subst Leaves (sym (h.6 ∙ leaves_listed h.1)) (at_builder _ h.0.kept.hash h.3, give_back_told t.meaning laws good hash equal old.core new.core sound h.0.id h.0.kept.hash h.1 h.3)
+    drop_step n NotHeld leaves h = unchanged leaves h.1 h.2
+    drop_step n _ leaves h = absurd h
+
+    take_piece_step : (n : ℕ) (answer : Answer K V P) (leaves : List (Event × Gone K V P)) → TakePieceStep t old n answer leaves new → StepTold answer leaves
+    take_piece_step n (PieceNo number) leaves h = same_core leaves h.3 (ap (λ (s : SessionState K V P View S W A). s.core) h.4)
+    take_piece_step n (Refused NoMemory) leaves h = unchanged leaves h.2 h.3
+    take_piece_step n NotHeld leaves h = unchanged leaves h.1 h.2
+    take_piece_step n _ leaves h = absurd h
+
+    refs_step : (n : ℕ) (answer : Answer K V P) (leaves : List (Event × Gone K V P)) → RefsStep t old n answer leaves new → StepTold answer leaves
+    refs_step n (Number count) leaves h = unchanged leaves h.3 h.4
+    refs_step n NotHeld leaves h = unchanged leaves h.1 h.2
+    refs_step n _ leaves h = absurd h
+
+    outdated_step : (n : ℕ) (answer : Answer K V P) (leaves : List (Event × Gone K V P)) → OutdatedStep t old n answer leaves new → StepTold answer leaves
+    outdated_step n Yes leaves h = unchanged leaves h.3 h.4
+    outdated_step n No leaves h = unchanged leaves h.3 h.4
+    outdated_step n NotHeld leaves h = unchanged leaves h.1 h.2
+    outdated_step n _ leaves h = absurd h
+
+    clear_step : (answer : Answer K V P) (leaves : List (Event × Gone K V P)) → ClearStep t old answer leaves new → StepTold answer leaves
+    clear_step Done leaves h = (all_builder _ leaves h.0, cleared_core t.meaning laws good hash equal old.core new.core sound leaves h.0.stepped)
+    clear_step (Refused NoMemory) leaves h = unchanged leaves h.0 h.1
+    clear_step _ leaves h = absurd h
+
+    evict_all_step : (answer : Answer K V P) (leaves : List (Event × Gone K V P)) → EvictAllStep t old answer leaves new → StepTold answer leaves
+    evict_all_step Done leaves h = (all_builder _ leaves h.0, unpinned_core t.meaning laws good hash equal old.core new.core sound leaves h.0.stepped)
+    evict_all_step (Refused NoMemory) leaves h = (all_builder _ leaves h.0, unpinned_until_core t.meaning laws good hash equal old.core new.core sound leaves h.0.stepped)
+    evict_all_step _ leaves h = absurd h
+
+    flush_if_step : (says : K → V → Bool → Type 0) (answer : Answer K V P) (leaves : List (Event × Gone K V P)) → FlushIfStep t old says answer leaves new → StepTold answer leaves
+    flush_if_step says Done leaves h = (all_builder _ leaves h.0, picked_core t.meaning laws good hash equal old.core new.core sound leaves says h.0.stepped)
+    flush_if_step says (Refused NoMemory) leaves h = unchanged leaves h.0 h.1
+    flush_if_step says _ leaves h = absurd h
+
+    resize_step : (capacity : ℕ) (answer : Answer K V P) (leaves : List (Event × Gone K V P)) → ResizeStep t old capacity answer leaves new → StepTold answer leaves
+    resize_step capacity Done leaves h =
+        (ap (λ (c : Core K V P View S W A). c.hash_builder) h.0.evicted.rest, resized_core t.meaning laws good hash equal old.core new.core sound capacity leaves h.0)
+    resize_step capacity (Refused NoMemory) leaves h =
+        (ap (λ (c : Core K V P View S W A). c.hash_builder) h.0.evicted.rest, resized_until_core t.meaning laws good hash equal old.core new.core sound capacity leaves h.0)
+    resize_step capacity _ leaves h = absurd h
+
+    number_step : (count : ℕ) (answer : Answer K V P) (leaves : List (Event × Gone K V P)) → NumberStep count old answer leaves new → StepTold answer leaves
+    number_step count (Number n) leaves h = unchanged leaves h.1 h.2
+    number_step count _ leaves h = absurd h
+
+    any_step : {Q : Type 0} (picks : Q → K → V → Bool → Type 0) (command : Command K V P Q) (answer : Answer K V P) (leaves : List (Event × Gone K V P)) → Step t picks old command answer leaves new → StepTold answer leaves
+    any_step picks (Insert k v p) answer leaves h = insert_step k v p answer leaves h
+    any_step picks (Get k) answer leaves h = get_step k answer leaves h
+    any_step picks (Contains k) answer leaves h = contains_step k answer leaves h
+    any_step picks (Touch k) answer leaves h = touch_step k answer leaves h
+    any_step picks (Remove k) answer leaves h = remove_step k answer leaves h
+    any_step picks (Clone n) answer leaves h = clone_step n answer leaves h
+    any_step picks (Drop n) answer leaves h = drop_step n answer leaves h
+    any_step picks (TakePiece n) answer leaves h = take_piece_step n answer leaves h
+    any_step picks (Refs n) answer leaves h = refs_step n answer leaves h
+    any_step picks (Outdated n) answer leaves h = outdated_step n answer leaves h
+    any_step picks Clear answer leaves h = clear_step answer leaves h
+    any_step picks EvictAll answer leaves h = evict_all_step answer leaves h
+    any_step picks (FlushIf q) answer leaves h = flush_if_step (picks q) answer leaves h
+    any_step picks (Resize capacity) answer leaves h = resize_step capacity answer leaves h
+    any_step picks Capacity answer leaves h = number_step _ answer leaves h
+    any_step picks Usage answer leaves h = number_step _ answer leaves h
+    any_step picks Entries answer leaves h = number_step _ answer leaves h
+
+    -- a step's reply tells the index
+    pub step_told : {Q : Type 0} (picks : Q → K → V → Bool → Type 0) (command : Command K V P Q) (reply : Reply K V P) → Step t picks old command reply.answer reply.leaves new → IsTold t old (reply ∷ []) new
+    step_told picks command reply h k =
+        let s = any_step picks command reply.answer reply.leaves h in
+        ap (λ (b : S). known (t.hash b) new.core k) s.0 ∙ s.1 k

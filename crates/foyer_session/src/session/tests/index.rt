@@ -1,0 +1,79 @@
+// What replies tell of the index.
+
+use super::*;
+
+type Plainly = Reply<u64, u64, CacheProperties>;
+
+// The id under which a get finds this key after a reply, where it was this one before.
+fn after(id: Option<u64>, key: u64, reply: &Plainly) -> Option<u64> {
+    let mut id = id;
+    for (_, left) in reply.leaves.as_slice() {
+        if *left.key() == key && id == Some(left.id()) {
+            id = None;
+        }
+    }
+    match came_in(&reply.answer) {
+        Some((other, new)) if other == key => Some(new),
+        _ => id,
+    }
+}
+
+// The key and the id of the record that an insert let in, unless it is phantom.
+fn came_in(answer: &Answer<u64, u64, CacheProperties>) -> Option<(u64, u64)> {
+    match answer {
+        Answer::Entry {
+            handle: _,
+            record,
+            answers: _,
+        } => {
+            if record.properties().phantom() == Some(true) {
+                return None;
+            }
+            Some((*record.key(), record.id()))
+        }
+        _ => None,
+    }
+}
+
+// The ids of a key after each of the replies, where it had none before.
+fn ids_after(
+    alloc: Global,
+    key: u64,
+    replies: &[Plainly],
+) -> std::result::Result<Vec<Option<u64>>, AllocError> {
+    let mut ids = Vec::new(alloc);
+    let mut id = None;
+    for reply in replies {
+        id = after(id, key, reply);
+        ids.push(id)?;
+    }
+    Ok(ids)
+}
+
+#[test]
+fn replies_tell_the_index(rt: HostRuntime) -> std::result::Result<(), Fail> {
+    let alloc = rt.alloc();
+    let mut session = session(alloc, 2, Limits::default())?;
+    let phantom = CacheProperties::default().with_phantom(true);
+    let commands = vec![in alloc;
+        insert(1, 10),
+        insert(2, 20),
+        insert(2, 21),
+        Command::Insert(2, 22, phantom),
+        insert(1, 11),
+        Command::Remove(1),
+    ]?;
+    let replies = run_fifo(&mut session, commands)?;
+    let first = ids_after(alloc, 1, replies.as_slice())?;
+    assert_eq!(rt;
+        first.as_slice(),
+        [Some(0), Some(0), None, None, Some(4), None].as_slice()
+    );
+    let second = ids_after(alloc, 2, replies.as_slice())?;
+    assert_eq!(rt;
+        second.as_slice(),
+        [None, Some(1), Some(2), None, None, None].as_slice()
+    );
+    assert_eq!(rt; session.entries(), 0);
+    Ok(())
+}
