@@ -1,5 +1,5 @@
 -- What a step's reply tells of the index.
-use Rattle.std.proofs.Common.{◌≡◌, ℕ, length, List, [], ◌∷◌, ◌++◌, Option, Some, None, Ok, true, false, refl, sym, ◌∙◌, ap, subst}
+use Rattle.std.proofs.Common.{◌≡◌, ℕ, length, List, [], ◌∷◌, ◌++◌, Option, Some, None, Ok, Err, inl, inr, true, false, refl, sym, ◌∙◌, ap, subst}
 use Rattle.std.specs.Prelude.{Bool, if◌then◌else◌}
 use Rattle.std.specs.Option.{option_to_list}
 use Rattle.std.specs.Cmp.{IsEquivalence}
@@ -16,13 +16,14 @@ use Rattle.foyer_core.specs.Values.{Gone}
 use Rattle.foyer_core.proofs.CallsTold.{cleared_core, clone_told, get_told, give_back_told, insert_told, nothing_told, picked_core, refused_told, remove_told, resized_core, resized_until_core, touch_told, unpinned_core, unpinned_until_core}
 use Rattle.foyer_core.proofs.CoreTold.{AreSound}
 use Rattle.foyer_core.proofs.Observing.{leaves_congr}
+use Rattle.foyer_core.proofs.PieceCalls.{piece_told}
 use Rattle.foyer_session.specs.declared.command.Answer.{Answer}
 use Rattle.foyer_session.specs.declared.command.Answer.TheVariants.{Entry, Found, Missing, Yes, No, Done, Number, PieceNo, NotHeld, Refused}
 use Rattle.foyer_session.specs.declared.command.Command.{Command}
-use Rattle.foyer_session.specs.declared.command.Command.TheVariants.{Insert, Get, Contains, Touch, Remove, Clone, Drop, TakePiece, Refs, Outdated, Clear, EvictAll, FlushIf, Resize, Capacity, Usage, Entries}
+use Rattle.foyer_session.specs.declared.command.Command.TheVariants.{Insert, Get, Contains, Touch, Remove, Clone, Drop, TakePiece, InsertPiece, Refs, Outdated, Clear, EvictAll, FlushIf, Resize, Capacity, Usage, Entries}
 use Rattle.foyer_session.specs.declared.command.Reply.{Reply}
 use Rattle.foyer_session.specs.Observed.{IsTold, after_answer, index_of, told}
-use Rattle.foyer_session.specs.Step.{SessionState, Step, InsertStep, GetStep, ContainsStep, TouchStep, RemoveStep, CloneStep, DropStep, TakePieceStep, RefsStep, OutdatedStep, ClearStep, EvictAllStep, FlushIfStep, ResizeStep, NumberStep, data_of, hash_in, leaves_of}
+use Rattle.foyer_session.specs.Step.{SessionState, Step, InsertStep, GetStep, ContainsStep, TouchStep, RemoveStep, CloneStep, DropStep, TakePieceStep, InsertPieceStep, RefsStep, OutdatedStep, ClearStep, EvictAllStep, FlushIfStep, ResizeStep, NumberStep, data_of, hash_in, leaves_of}
 use Rattle.foyer_session.specs.Terms.{Terms}
 
 -- maps that agree do so after replies
@@ -151,6 +152,25 @@ module _ {K V P View C S W A : Type 0} (t : Terms K V P View C S W A) where
     take_piece_step n NotHeld leaves h = unchanged leaves h.1 h.2
     take_piece_step n _ leaves h = absurd h
 
+    -- a piece's record comes in, or is refused
+    insert_piece_step : (n : ℕ) (answer : Answer K V P) (leaves : List (Event × Gone K V P)) → InsertPieceStep t old n answer leaves new → StepTold answer leaves
+    insert_piece_step n (Entry number told answers) leaves h =
+        let piece = h.0 in
+        let made = h.1 in
+        let weighs = t.weighs old.core.weighter piece.kept.key piece.kept.value in (
+          at_builder _ (hash piece.kept.key) h.3,
+          λ q. piece_told t.meaning laws good t.hash old.core new.core equal sound weighs piece (Ok made) h.3 q
+              ∙ ap (λ (g : Gone K V P). after_entry same t.meaning.phantom (after_leaves same (known hash old.core) made.leaves.items) g.id g.kept q) (sym h.4.tells)
+              ∙ ap (λ (ls : List (Event × Gone K V P)). after_entry same t.meaning.phantom (after_leaves same (known hash old.core) ls) told.id told.kept q) (sym h.6),
+        )
+    insert_piece_step n (Refused reason) leaves h = elim h.2 [
+      | inl same ↦ unchanged leaves same.1 same.2
+      | inr y ↦ (let weighs = t.weighs old.core.weighter h.0.kept.key h.0.kept.value in
+        subst Leaves (sym y.4) (at_builder _ (hash h.0.kept.key) y.1, piece_told t.meaning laws good t.hash old.core new.core equal sound weighs h.0 (Err y.0) y.1))
+    ]
+    insert_piece_step n NotHeld leaves h = unchanged leaves h.1 h.2
+    insert_piece_step n _ leaves h = absurd h
+
     refs_step : (n : ℕ) (answer : Answer K V P) (leaves : List (Event × Gone K V P)) → RefsStep t old n answer leaves new → StepTold answer leaves
     refs_step n (Number count) leaves h = unchanged leaves h.3 h.4
     refs_step n NotHeld leaves h = unchanged leaves h.1 h.2
@@ -197,6 +217,7 @@ module _ {K V P View C S W A : Type 0} (t : Terms K V P View C S W A) where
     any_step picks (Clone n) answer leaves h = clone_step n answer leaves h
     any_step picks (Drop n) answer leaves h = drop_step n answer leaves h
     any_step picks (TakePiece n) answer leaves h = take_piece_step n answer leaves h
+    any_step picks (InsertPiece n) answer leaves h = insert_piece_step n answer leaves h
     any_step picks (Refs n) answer leaves h = refs_step n answer leaves h
     any_step picks (Outdated n) answer leaves h = outdated_step n answer leaves h
     any_step picks Clear answer leaves h = clear_step answer leaves h
