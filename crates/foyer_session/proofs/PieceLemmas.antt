@@ -82,8 +82,8 @@ module _ {K V P View C : Type 0} (m : Meaning K P View C) (old new : State K V P
   refused_alike true piece reason ls h = alike_refl old new (refusal_same old new piece.id reason h.1)
   refused_alike false piece reason ls h = refused_by_alike m (is_phantom_record m (returning old piece).kept) old (returning old piece) reason ls new h
 
-  pub piece_alike : {N : Type 0} (weighs : ℕ → Type 0) (hash : ℕ) (piece : Carried K V P) (refused : Refused K V P) → InsertsPiece m {N = N} weighs hash piece (Err refused) old new → Alike old new
-  piece_alike {N} weighs hash piece refused h = go (is_known old hash piece) h
+  pub piece_alike : (N : Type 0) (weighs : ℕ → Type 0) (hash : ℕ) (piece : Carried K V P) (refused : Refused K V P) → InsertsPiece m {N = N} weighs hash piece (Err refused) old new → Alike old new
+  piece_alike N weighs hash piece refused h = go (is_known old hash piece) h
     where
       go : (b : Bool) → PieceBy m {N = N} b weighs hash piece (Err refused) old new → Alike old new
       go true h = refused_alike (is_in (old.records piece.id)) piece refused.error refused.leaves.items h

@@ -43,16 +43,16 @@ module _ {K V P View C S W A : Type 0} (m : Meaning K P View C) (core new : Core
   refused_owns d reason leaves at =
       stayed_owns (λ s t. RefusesInsert m s (newcomer s d) reason leaves t) d.hash at (refused_by_alike m (is_phantom_record m d) at.before (newcomer at.before d) reason leaves at.after at.stepped)
 
-  module _ {N : Type 0} (weighs : ℕ → Type 0) (hash : ℕ) (piece : Carried K V P) where
+  module _ (weighs : ℕ → Type 0) (hash : ℕ) (piece : Carried K V P) where
     -- a piece came in
-    pub piece_owns : (made : Inserted K V P N) (at : AtShard (λ s t. InsertsPiece m weighs hash piece (Ok made) s t) hash core new) → Gives (length core.shards) (shard_of core hash) at.before made.entry at.after
-        → OwnsHandles new (handles ++ Some (record made.entry { left = false }) ∷ [])
+    pub piece_owns : {N : Type 0} (made : Inserted K V P N) (at : AtShard (λ s t. InsertsPiece m weighs hash piece (Ok made) s t) hash core new)
+        → Gives (length core.shards) (shard_of core hash) at.before made.entry at.after → OwnsHandles new (handles ++ Some (record made.entry { left = false }) ∷ [])
     piece_owns made at gives =
         owns_more core new (λ s t. InsertsPiece m weighs hash piece (Ok made) s t) hash at gives.number handles (record made.entry { left = false }) gives.placed gives.numbered gives.counts owns
 
-    pub piece_refused_owns : (refused : Refused K V P) (at : AtShard (λ s t. InsertsPiece m {N = N} weighs hash piece (Err refused) s t) hash core new) → OwnsHandles new handles
-    piece_refused_owns refused at =
-        stayed_owns (λ s t. InsertsPiece m {N = N} weighs hash piece (Err refused) s t) hash at (piece_alike m at.before at.after weighs hash piece refused at.stepped)
+    pub piece_refused_owns : (N : Type 0) (refused : Refused K V P) (at : AtShard (λ s t. InsertsPiece m {N = N} weighs hash piece (Err refused) s t) hash core new) → OwnsHandles new handles
+    piece_refused_owns N refused at =
+        stayed_owns (λ s t. InsertsPiece m {N = N} weighs hash piece (Err refused) s t) hash at (piece_alike m at.before at.after N weighs hash piece refused at.stepped)
 
   -- an entry of the key's record was made, which has the key's hash
   pub got_owns : (k : ℕ × K) (entry : Held K V P) (at : AtShard (λ s t. Gets m s k (Ok (Some entry)) t) k.0 core new) → entry.kept.hash ≡ k.0

@@ -34,7 +34,7 @@ invariant_of-self-in-Err-insert_piece g c =
     let weighs = g.W.Weighter.weighs s.core.weighter piece.kept.key piece.kept.value in
     record {
       owns = ∥∥₁_map s.owns (λ o.
-          piece_refused_owns (meaning_of_session s) (core_of s.core) (core_of c.insert_piece.new.self) s.handles.items o weighs (hashes_of s.core piece.kept.key) piece c.in-Err.refused c.in-Err.ensures.inserted);
+          piece_refused_owns (meaning_of_session s) (core_of s.core) (core_of c.insert_piece.new.self) s.handles.items o weighs (hashes_of s.core piece.kept.key) piece (Unit {0}) c.in-Err.refused c.in-Err.ensures.inserted);
     }
 
 pub returns-in_default-clone-clause-step : goal.returns-in_default-clone-clause-step
