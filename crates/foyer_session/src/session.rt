@@ -75,9 +75,9 @@ impl<
         }
     }
 
-    /// Carries out commands, each as `step` does, and answers their replies in order. Whoever knew the id that
-    /// each key finds knows it afterwards from the replies: from what left, and from the records of entries.
-    /// A clone of a key must equal it. Refused only for want of memory (F7), before any command, and then
+    /// Carries out commands, each as `step` does, and answers their replies in order. So these tell what each
+    /// key finds: a record that is not phantom is found from the reply that brought it in until its leave is
+    /// told. A clone of a key must equal it. Refused only for want of memory (F7), before any command, and then
     /// nothing has changed.
     pub fn run<Q: Predicate<K, V>>(
         &mut self,
@@ -103,8 +103,10 @@ impl<
         Ok(replies)
     }
 
-    /// Carries out one command. A clone of a key must equal it. Refused only for want of memory (F7), before
-    /// the command, and then nothing has changed.
+    /// Carries out one command. The reply tells what each key finds then: a leave takes its key out where the
+    /// key found that record, and then the record that an insert let in goes in under its key, unless it is
+    /// phantom. A clone of a key must equal it. Refused only for want of memory (F7), before the command, and
+    /// then nothing has changed.
     pub fn step<Q: Predicate<K, V>>(
         &mut self,
         command: Command<K, V, P, Q>,
