@@ -1,5 +1,5 @@
 -- What a shard keeps, as a session uses it.
-use Rattle.std.proofs.Common.{◌≡◌, ℕ, Option, Some, None, Ok, true, false, Bool, refl, ap, ◌∙◌, arith, ◌==◌, ◌&&◌}
+use Rattle.std.proofs.Common.{◌≡◌, ℕ, Option, Some, None, Ok, true, false, Bool, refl, ap, arith, ◌==◌, ◌&&◌}
 use Rattle.std.proofs.lemmas.Bool.Decides.{nat_tests}
 use Rattle.foyer_core.specs.Indexer.{same_key}
 use Rattle.foyer_core.specs.Values.{Rec, Gone, Held}

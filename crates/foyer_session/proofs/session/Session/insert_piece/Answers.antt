@@ -1,6 +1,6 @@
 use Rattle.std.proofs.Math.Logic.{∥∥₁_elim, ∥∥₁_map}
 use Rattle.std.proofs.Props.{props}
-use Rattle.std.proofs.Common.{◌≡◌, ◌∙◌, Some, ap, inl, inr, length, refl, sym}
+use Rattle.std.proofs.Common.{◌≡◌, Some, inl, inr, length, refl, sym}
 use Rattle.std.specs.Prelude.{slice_get}
 use Rattle.foyer_core.specs.Core.{shard_of}
 use Rattle.foyer_core.specs.Cores.{core_of, hashes_of}
