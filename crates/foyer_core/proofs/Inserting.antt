@@ -1,9 +1,8 @@
 -- An insert of any record: what stays, and what it comes in as.
-use Rattle.std.proofs.Common.{◌≡◌, ◌≢◌, ℕ, ◌<◌, List, Option, Some, Bool, true, false, refl, sym, ◌∙◌, ap, subst, arith}
+use Rattle.std.proofs.Common.{◌≡◌, List, Option, Bool, true, false, sym, ◌∙◌, ap, subst, arith}
 use Rattle.std.specs.Prelude.{if◌then◌else◌}
 use Rattle.std.proofs.Math.Logic.{∥∥₁_elim}
 use Rattle.std.proofs.Props.{props}
-use Rattle.std.proofs.lemmas.Map.{update_apart}
 use Rattle.foyer_policy.specs.Properties.{is_phantom}
 use Rattle.foyer_policy.specs.declared.types.Event.{Event}
 use Rattle.foyer_policy.specs.declared.types.Location.{Location}
@@ -14,7 +13,7 @@ use Rattle.foyer_core.specs.declared.record.Data.{Data}
 use Rattle.foyer_policy.specs.declared.types.Source.TheVariants.{Memory}
 use Rattle.foyer_core.specs.Pieces.{is_in, held_or, returning, Returns, ReturnsBy, RefusesReturn, RefusesReturnBy}
 use Rattle.foyer_core.specs.Values.{Carried, Gone, Held, Incoming}
-use Rattle.foyer_core.specs.State.{Meaning, State, IsKept, handles_in, handles_of, key_of, is_on_disk, coming_in, MakesPlain, is_phantom_record}
+use Rattle.foyer_core.specs.State.{Meaning, State, IsKept, handles_in, handles_of, coming_in, MakesPlain, is_phantom_record}
 use Rattle.foyer_core.specs.Steps.{newcomer, Inserts, InsertsBy, InsertsPlain, RefusesBy}
 use Rattle.foyer_core.proofs.Staying.{RecordsStay, GoesOnAs, nothing, stay_same, new_goes_on, handle_stays, refused_stays, holds_stay, inserts_stay, refused_insert_stays}
 

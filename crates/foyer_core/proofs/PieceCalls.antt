@@ -1,16 +1,15 @@
 -- What a core's insert of a piece tells, and what a get finds after it.
-use Rattle.std.proofs.Common.{◌≡◌, ℕ, length, Ok, Err, Bool, true, false, refl, sym, ◌∙◌, ap, subst}
+use Rattle.std.proofs.Common.{◌≡◌, ℕ, length, Ok, Err, true, false, refl, sym, ◌∙◌, ap, subst}
 use Rattle.std.specs.Prelude.{IfOk, MatchResult, Result}
 use Rattle.std.specs.Cmp.{IsEquivalence}
 use Rattle.foyer_policy.specs.Policy.{IsPolicy}
 use Rattle.foyer_core.specs.declared.outcome.Inserted.{Inserted}
 use Rattle.foyer_core.specs.declared.outcome.Refused.{Refused}
-use Rattle.foyer_core.specs.declared.record.Data.{Data}
 use Rattle.foyer_core.specs.Core.{Core, AtShard, shard_of}
 use Rattle.foyer_core.specs.Laws.{Finds}
 use Rattle.foyer_core.specs.Observed.{IsTold, IsToldWith, after_entry, after_leaves, known}
 use Rattle.foyer_core.specs.Pieces.{InsertsPiece}
-use Rattle.foyer_core.specs.State.{Meaning, State, is_phantom_record}
+use Rattle.foyer_core.specs.State.{Meaning, is_phantom_record}
 use Rattle.foyer_core.specs.Values.{Carried}
 use Rattle.foyer_core.proofs.CoreLaws.{Stands, finds_at}
 use Rattle.foyer_core.proofs.CoreTold.{AreSound, at_told}

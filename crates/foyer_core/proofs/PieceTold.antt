@@ -1,5 +1,5 @@
 -- What an insert of a piece tells of its shard's index, and where its record belongs.
-use Rattle.std.proofs.Common.{◌≡◌, ℕ, ◌%◌, List, [], Option, Some, None, Ok, Err, Bool, true, false, cond, refl, sym, ◌∙◌, ap, subst, arith}
+use Rattle.std.proofs.Common.{◌≡◌, ℕ, ◌%◌, List, Option, Some, None, Ok, Err, Bool, true, false, cond, refl, sym, ◌∙◌, ap, subst, arith}
 use Rattle.std.proofs.Math.Logic.{∥∥₁_elim}
 use Rattle.std.proofs.Props.{props}
 use Rattle.std.specs.Cmp.{IsEquivalence}

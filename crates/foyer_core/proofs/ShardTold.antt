@@ -94,7 +94,6 @@ module _ {K V P View C : Type 0} (m : Meaning K P View C) where
     pub inside : (k : ℕ × K) (id : ℕ) → s.index k ≡ Some id → 0 < count_of id (m.policy.order s.view)
     pub under : (id : ℕ) → 0 < count_of id (m.policy.order s.view) → (r : Rec K V P) → s.records id ≡ Some r → s.index (key_of r.kept) ≡ Some id
     pub resident : (id : ℕ) → 0 < count_of id (m.policy.order s.view) → (r : Rec K V P) → s.records id ≡ Some r → r.resident ≡ true
-    pub below : (k : ℕ × K) (id : ℕ) → s.index k ≡ Some id → id < s.next
 
   module _ (laws : IsEquivalence m.same) (good : IsPolicy m.policy) where
     there_is : (s : State K V P View) → IsKept m s → (id : ℕ) → 0 < count_of id (m.policy.order s.view) → (r : Rec K V P) → s.records id ≡ Some r → (s.index (key_of r.kept) ≡ Some id) × (r.resident ≡ true)
@@ -103,9 +102,6 @@ module _ {K V P View C : Type 0} (m : Meaning K P View C) where
         let same : t.0 ≡ r = same_rec t.0 r (sym t.1 ∙ there) in
         (ap (λ (x : Rec K V P). s.index (key_of x.kept)) (sym same) ∙ t.3, ap (λ (x : Rec K V P). x.resident) (sym same) ∙ t.2)
 
-    is_below : (s : State K V P View) → IsKept m s → (k : ℕ × K) (id : ℕ) → s.index k ≡ Some id → id < s.next
-    is_below s kept k id h = (let t = counted_there m laws good s kept id (kept.indexed k id h).0 in kept.fresh id t.0 t.1)
-
     pub stands : (s : State K V P View) → ∥ IsKept m s ∥₁ → Stands s
     stands s kept = record {
       once = λ id. ∥∥₁_elim kept (hlevel props) (λ k. k.once id);
@@ -113,7 +109,6 @@ module _ {K V P View C : Type 0} (m : Meaning K P View C) where
       inside = λ a id h. ∥∥₁_elim kept (hlevel props) (λ k. (k.indexed a id h).0);
       under = λ id pos r there. ∥∥₁_elim kept (hlevel props) (λ k. (there_is s k id pos r there).0);
       resident = λ id pos r there. ∥∥₁_elim kept (hlevel props) (λ k. (there_is s k id pos r there).1);
-      below = λ a id h. ∥∥₁_elim kept (hlevel props) (λ k. is_below s k a id h);
     }
 
     module _ (hash : K → ℕ) (equal : (a b : K) → m.same a b ≡ true → hash a ≡ hash b) (many place : ℕ) where

@@ -263,14 +263,27 @@ impl<
         };
         let place = self.place(hash);
         let (entry, leaves) = self.shards[place].emplace(self.alloc, kept, Source::Outer)?;
-        Ok(Inserted {
+        Ok(self.told_to_nobody(entry, leaves))
+    }
+
+    // What an insert answers for whose key nobody waited.
+    fn told_to_nobody(
+        &self,
+        entry: CoreEntry<K, V, P>,
+        leaves: Vec<(Event, Left<K, V, P>)>,
+    ) -> Inserted<K, V, P, N>
+        ensures entry { result.entry ≡ entry }
+        ensures leaves { result.leaves ≡ leaves }
+        ensures answers { AnswersNobody result.answers }
+    {
+        Inserted {
             entry,
             answers: Answers {
                 waiters: Vec::new(self.alloc),
                 outcome: Outcome::Entries(Vec::new(self.alloc)),
             },
             leaves,
-        })
+        }
     }
 
     /// Whether the entry has the core's number and its record has a handle, as each entry has that the core

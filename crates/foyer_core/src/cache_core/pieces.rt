@@ -5,13 +5,12 @@ ghost use Rattle.foyer_policy.specs.Properties.{is_phantom};
 ghost use Rattle.foyer_policy.specs.declared.types.Source.TheVariants.{Memory};
 
 use super::CacheCore;
-use crate::entry::{CoreEntry, Left};
 use crate::filter::Filter;
 use crate::indexer::Indexer;
-use crate::outcome::{Answers, Inserted, Outcome, Refused};
+use crate::outcome::{Inserted, Refused};
 use crate::piece::Piece;
 use crate::weighter::Weighter;
-use foyer_policy::{Event, Eviction, HashBuilder, Key, Properties, Value};
+use foyer_policy::{Eviction, HashBuilder, Key, Properties, Value};
 
 impl<
     E: Eviction,
@@ -103,25 +102,5 @@ impl<
         let kept = piece.into_share().with(hash, weight);
         let (entry, leaves) = self.shards[place].take_new(self.alloc, kept)?;
         Ok(self.told_to_nobody(entry, leaves))
-    }
-
-    // What an insert answers for whose key nobody waited.
-    pub(super) fn told_to_nobody(
-        &self,
-        entry: CoreEntry<K, V, P>,
-        leaves: Vec<(Event, Left<K, V, P>)>,
-    ) -> Inserted<K, V, P, N>
-        ensures entry { result.entry ≡ entry }
-        ensures leaves { result.leaves ≡ leaves }
-        ensures answers { AnswersNobody result.answers }
-    {
-        Inserted {
-            entry,
-            answers: Answers {
-                waiters: Vec::new(self.alloc),
-                outcome: Outcome::Entries(Vec::new(self.alloc)),
-            },
-            leaves,
-        }
     }
 }

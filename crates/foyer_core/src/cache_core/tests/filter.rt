@@ -8,7 +8,7 @@ use crate::filter::Filter;
 
 // Admits even keys alone.
 #[derive(Clone, Copy)]
-struct EvenKeys;
+pub(super) struct EvenKeys;
 
 impl Filter<u64, u64> for EvenKeys {
     ghost use Rattle.std.specs.Prelude.{◌≡◌, ◌%◌, ◌==◌};

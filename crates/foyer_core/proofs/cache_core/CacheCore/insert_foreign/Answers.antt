@@ -1,10 +1,10 @@
-use Rattle.std.proofs.Common.{◌≡◌, ◌<◌, ℕ, Ok, Err, refl, sym, ◌∙◌, ap, subst, vec_len}
-use Rattle.std.specs.Prelude.{slice_set, IsSomeAnd, true}
+use Rattle.std.proofs.Common.{◌≡◌, ℕ, sym, ◌∙◌, ap, subst, vec_len}
+use Rattle.std.specs.Prelude.{slice_set}
 use Rattle.foyer_core.specs.Cores.{core_of, hashes_of}
-use Rattle.foyer_core.specs.Core.{AtShard, InsertsAnswering, shard_at}
+use Rattle.foyer_core.specs.Core.{AtShard, InsertsAnswering}
 use Rattle.foyer_core.specs.Shards.{meaning_of, state_of}
 use Rattle.foyer_core.proofs.CoreLaws.{stays_at}
-use Rattle.foyer_core.proofs.CoreLemmas.{at_over, core_over, shard_over}
+use Rattle.foyer_core.proofs.CoreLemmas.{at_over, core_over}
 use Rattle.foyer_core.proofs.Staying.{RecordsStay, nothing}
 use Rattle.foyer_core.proofs.StoredLemmas.{err_is}
 use Rattle.foyer_policy.specs.declared.types.Source.TheVariants.{Memory}

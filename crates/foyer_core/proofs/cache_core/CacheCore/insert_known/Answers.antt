@@ -1,7 +1,7 @@
-use Rattle.std.proofs.Common.{◌≡◌, ◌<◌, ℕ, ◌%◌, Ok, Err, refl, sym, ◌∙◌, ap, subst, vec_len}
-use Rattle.std.specs.Prelude.{slice_set, IsSomeAnd, true}
+use Rattle.std.proofs.Common.{◌≡◌, ℕ, ◌%◌, sym, ◌∙◌, ap, subst, vec_len}
+use Rattle.std.specs.Prelude.{slice_set, true}
 use Rattle.foyer_core.specs.Cores.{core_of, hashes_of}
-use Rattle.foyer_core.specs.Core.{AtShard, InsertsAnswering, shard_at}
+use Rattle.foyer_core.specs.Core.{AtShard}
 use Rattle.foyer_core.specs.Shards.{meaning_of, state_of}
 use Rattle.foyer_core.proofs.CoreLaws.{stays_at}
 use Rattle.foyer_core.proofs.CoreLemmas.{at_over, core_over, shard_over}

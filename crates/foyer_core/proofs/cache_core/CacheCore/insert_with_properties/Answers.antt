@@ -89,7 +89,7 @@ returns-clause-inserted g c =
       weighed = c.weigh-weight.ensures;
       admitted = c.admit-admitted.result;
       answered = c.admit-admitted.ensures;
-      inserts = over (λ a b. Inserts (meaning_of x) Outer a (newcomer a d) c.in_ok-entry.leaves.items c.in_ok-entry.entry b) y did;
+      inserts = rw (c.told_to_nobody.ensures.entry, c.told_to_nobody.ensures.leaves) (over (λ a b. Inserts (meaning_of x) Outer a (newcomer a d) c.in_ok-entry.leaves.items c.in_ok-entry.entry b) y did);
     }
 
 pub returns-clause-found : goal.returns-clause-found
@@ -118,7 +118,7 @@ returns-clause-bounded g c plain sure =
     s.shards.ok.0 c.place-place.ensures.within (c.place-place.ensures.place ∙ ap (λ (n : ℕ). n % vec_len s.shards) c.hash-hash.ensures.hash) c.index_mut.ensures.value in
     let did = rw (c.hash-hash.ensures.hash, c.marked-properties.ensures) at c.in_ok-entry.ensures.inserted in
     let at = over (Came (meaning_of x) g.met.K.Eq.laws g.met.E.Eviction.lawful Outer d c.in_ok-entry.leaves.items c.in_ok-entry.entry) y record { kept = x.kept; inc = newcomer (state_of x) d; inserts = came_plain (meaning_of x) g.P.Properties.location_of g.P.Properties.with_phantom_of c.admit-admitted.result c.args.properties plain (sure c.admit-admitted.result c.admit-admitted.ensures) Outer (state_of x) (state_of y) (newcomer (state_of x) d) _ _ refl did; data_are = refl } in
-    bounded_at (meaning_of x) g.met.K.Eq.laws g.met.E.Eviction.lawful (core_of s) _ Outer d _ _ hash at _ (ap (λ (e : Held g.row.K.Denot g.row.V.Denot g.row.P.Denot). e.kept.weight) at.stepped.inserts.entry_is ∙ ap (λ (x : Data g.row.K.Denot g.row.V.Denot g.row.P.Denot). x.weight) at.stepped.data_are)
+    rw c.told_to_nobody.ensures.entry (bounded_at (meaning_of x) g.met.K.Eq.laws g.met.E.Eviction.lawful (core_of s) _ Outer d _ _ hash at _ (ap (λ (e : Held g.row.K.Denot g.row.V.Denot g.row.P.Denot). e.kept.weight) at.stepped.inserts.entry_is ∙ ap (λ (x : Data g.row.K.Denot g.row.V.Denot g.row.P.Denot). x.weight) at.stepped.data_are))
 
 pub returns-clause-stay : goal.returns-clause-stay
 returns-clause-stay g c =
@@ -167,5 +167,6 @@ returns-clause-told g c =
     let equal : (a b : g.row.K.Denot) → g.K.PartialEq.eq a b ≡ true → hashes_of s a ≡ hashes_of s b = λ a b same. ap (g.S.HashBuilder.hash_of s.hash_builder) (g.met.K.Hash.respects_eq a b same) in
     let sound = core_sound s g.met.K.Eq.laws g.met.E.Eviction.lawful equal in
     let did = rw (c.hash-hash.ensures.hash, c.marked-properties.ensures) at c.in_ok-entry.ensures.inserted in
-    insert_told m g.met.K.Eq.laws g.met.E.Eviction.lawful (hashes_of s) equal (core_of s) new sound d refl c.in_ok-entry.leaves.items Outer c.in_ok-entry.entry
-    (over (λ a b. Inserts (meaning_of x) Outer a (newcomer a d) c.in_ok-entry.leaves.items c.in_ok-entry.entry b) y did)
+    rw (c.told_to_nobody.ensures.entry, c.told_to_nobody.ensures.leaves)
+    (insert_told m g.met.K.Eq.laws g.met.E.Eviction.lawful (hashes_of s) equal (core_of s) new sound d refl c.in_ok-entry.leaves.items Outer c.in_ok-entry.entry
+    (over (λ a b. Inserts (meaning_of x) Outer a (newcomer a d) c.in_ok-entry.leaves.items c.in_ok-entry.entry b) y did))
