@@ -31,8 +31,8 @@ invariant_of-self-clause-hashed g c =
     let s = c.args.self.now in
     let x = c.index_mut.result.now in
     let y = c.take_new.new.self in
-    let kept = c.with-kept.ensures ∙ ap (λ (z : Data g.row.K.Denot g.row.V.Denot g.row.P.Denot). let e : Data g.row.K.Denot g.row.V.Denot g.row.P.Denot = record z { hash = c.args.hash; weight = c.weigh-weight.result } in e) c.into_share.ensures in
-    let hashed : IsHashed (hashes_of s) c.with-kept.result = subst (IsHashed (hashes_of s)) (sym kept) c.requires.hashed in
+    let key : c.with-kept.result.key ≡ c.args.piece.kept.key = ap (λ (d : Data g.row.K.Denot g.row.V.Denot g.row.P.Denot). d.key) c.with-kept.ensures ∙ ap (λ (d : Data g.row.K.Denot g.row.V.Denot g.row.P.Denot). d.key) c.into_share.ensures in
+    let hashed : IsHashed (hashes_of s) c.with-kept.result = ap (λ (d : Data g.row.K.Denot g.row.V.Denot g.row.P.Denot). d.hash) c.with-kept.ensures ∙ c.requires.hashed ∙ ap (hashes_of s) (sym key) in
     hashed_over (hashes_of s) state_of s.shards.items (vec_len s.shards) c.place-place.result x s.shards.ok.0 c.place-place.ensures.within c.index_mut.ensures.value
     y (emplaced_from (IsHashed (hashes_of s)) (meaning_of x) c.take_new.result (λ made. made.1.items) (λ made. made.0) (λ refused. refused.error) (λ refused. refused.leaves.items)
     Memory (state_of x) c.with-kept.result (state_of y) c.take_new.ensures.inserted hashed) s.hashed
