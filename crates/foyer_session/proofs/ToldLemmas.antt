@@ -166,7 +166,7 @@ module _ {K V P View C S W A : Type 0} (t : Terms K V P View C S W A) where
     insert_piece_step n (Refused reason) leaves h = elim h.2 [
       | inl same ↦ unchanged leaves same.1 same.2
       | inr y ↦ (let weighs = t.weighs old.core.weighter h.0.kept.key h.0.kept.value in
-        subst Leaves (sym y.4) (at_builder _ (hash h.0.kept.key) y.1, piece_told t.meaning laws good t.hash old.core new.core equal sound weighs h.0 (Err y.0) y.1))
+          subst Leaves (sym y.4) (at_builder _ (hash h.0.kept.key) y.1, piece_told t.meaning laws good t.hash old.core new.core equal sound weighs h.0 (Err y.0) y.1))
     ]
     insert_piece_step n NotHeld leaves h = unchanged leaves h.1 h.2
     insert_piece_step n _ leaves h = absurd h
