@@ -1,9 +1,9 @@
 pub mod Core
 pub mod Cores
 pub mod Flags
-pub mod Group
+pub mod Chains
+pub mod Entries
 pub mod Indexer
-pub mod Numbers
 pub mod Values
 pub mod Table
 pub mod Records

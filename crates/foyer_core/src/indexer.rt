@@ -6,7 +6,7 @@ ghost use Rattle.foyer_policy.specs.declared.error.Reason.TheVariants.{NoMemory}
 
 use foyer_policy::{Key, Result};
 
-mod group;
+mod chain;
 mod hash_table;
 mod sentry;
 

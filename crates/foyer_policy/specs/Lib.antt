@@ -14,6 +14,7 @@ pub mod Lfu
 pub mod LfuLaws
 pub mod LfuLists
 pub mod Limit
+pub mod Links
 pub mod Lists
 pub mod Looks
 pub mod Lru

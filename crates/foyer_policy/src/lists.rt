@@ -7,6 +7,7 @@ ghost use Rattle.foyer_policy.specs.Lists.{list_at, first_or, find, find_in, fir
 ghost use Rattle.foyer_policy.specs.Chain.{is_at, after_set, before_set, end_set, lists_of, IsSound};
 
 use crate::error::{Error, Reason, Result};
+use crate::link::Link;
 use slab::Slab;
 use std::alloc::Global;
 use std::marker::Model;
@@ -34,8 +35,8 @@ impl Model for Place {
 struct Node<T> {
     value: T,
     list: usize,
-    before: Option<usize>,
-    after: Option<usize>,
+    before: Link,
+    after: Link,
 }
 
 /// `N` lists of values, numbered from 0.
@@ -47,8 +48,8 @@ struct Node<T> {
 #[derive(Drop)]
 pub struct Lists<T, const N: usize> {
     nodes: Slab<Node<T>>,
-    heads: [Option<usize>; N],
-    tails: [Option<usize>; N],
+    heads: [Link; N],
+    tails: [Link; N],
 }
 
 impl<T, const N: usize> Model for Lists<T, N> {
@@ -69,13 +70,7 @@ impl<T, const N: usize> Model for Lists<T, N> {
 }
 
 // Sets what comes after the node `at`, or the list's head where there is no such node.
-fn set_after<T>(
-    nodes: &mut Slab<Node<T>>,
-    heads: &mut [Option<usize>],
-    list: usize,
-    at: Option<usize>,
-    to: Option<usize>,
-)
+fn set_after<T>(nodes: &mut Slab<Node<T>>, heads: &mut [Link], list: usize, at: Link, to: Link)
     requires there { ForSome at (ContainsKey nodes.old) }
     requires list { list < length heads.old }
     ensures links { (q : ℕ) → get nodes.new q
@@ -85,20 +80,14 @@ fn set_after<T>(
     ensures capacity { nodes.new.capacity ≡ nodes.old.capacity }
     ensures heads { heads.new ≡ end_set at list to heads.old }
 {
-    match at {
+    match at.place() {
         Some(at) => nodes[at].after = to,
         None => heads[list] = to,
     }
 }
 
 // Sets what comes before the node `at`, or the list's tail where there is no such node.
-fn set_before<T>(
-    nodes: &mut Slab<Node<T>>,
-    tails: &mut [Option<usize>],
-    list: usize,
-    at: Option<usize>,
-    to: Option<usize>,
-)
+fn set_before<T>(nodes: &mut Slab<Node<T>>, tails: &mut [Link], list: usize, at: Link, to: Link)
     requires there { ForSome at (ContainsKey nodes.old) }
     requires list { list < length tails.old }
     ensures links { (q : ℕ) → get nodes.new q
@@ -108,7 +97,7 @@ fn set_before<T>(
     ensures capacity { nodes.new.capacity ≡ nodes.old.capacity }
     ensures tails { tails.new ≡ end_set at list to tails.old }
 {
-    match at {
+    match at.place() {
         Some(at) => nodes[at].before = to,
         None => tails[list] = to,
     }
@@ -117,8 +106,8 @@ fn set_before<T>(
 // Puts a value at the end of a list, and answers its node.
 fn link_back<T>(
     nodes: &mut Slab<Node<T>>,
-    heads: &mut [Option<usize>],
-    tails: &mut [Option<usize>],
+    heads: &mut [Link],
+    tails: &mut [Link],
     list: usize,
     value: T,
 ) -> usize
@@ -139,20 +128,15 @@ fn link_back<T>(
         value,
         list,
         before,
-        after: None,
+        after: Link::end(),
     });
-    set_after(nodes, heads, list, before, Some(node));
-    tails[list] = Some(node);
+    set_after(nodes, heads, list, before, Link::to(node));
+    tails[list] = Link::to(node);
     node
 }
 
 // Takes the value of a node out of its list.
-fn take_out<T>(
-    nodes: &mut Slab<Node<T>>,
-    heads: &mut [Option<usize>],
-    tails: &mut [Option<usize>],
-    place: usize,
-) -> T
+fn take_out<T>(nodes: &mut Slab<Node<T>>, heads: &mut [Link], tails: &mut [Link], place: usize) -> T
     requires sound { IsSound nodes.old heads.old tails.old }
     requires there { IsSome (find place (lists_of nodes.old heads.old)) }
     ensures sound { IsSound nodes.new heads.new tails.new }
@@ -187,8 +171,8 @@ impl<T, const N: usize> Lists<T, N> {
     {
         Lists {
             nodes: Slab::new(alloc),
-            heads: [None; N],
-            tails: [None; N],
+            heads: [Link::end(); N],
+            tails: [Link::end(); N],
         }
     }
 
@@ -256,7 +240,7 @@ impl<T, const N: usize> Lists<T, N> {
         ensures small { sum_by length self.old.lists < 2 ^ 64 }
         ensures apart { AreLists N self.old.lists }
     {
-        match self.heads[list] {
+        match self.heads[list].place() {
             Some(node) => Some(take_out(&mut self.nodes, &mut self.heads, &mut self.tails, node)),
             None => None,
         }
@@ -316,7 +300,7 @@ impl<T, const N: usize> Lists<T, N> {
         ensures small { sum_by length self.now.lists < 2 ^ 64 }
         ensures apart { AreLists N self.now.lists }
     {
-        let node = self.heads[list]?;
+        let node = self.heads[list].place()?;
         Some(Place { node })
     }
 
@@ -330,7 +314,7 @@ impl<T, const N: usize> Lists<T, N> {
         ensures small { sum_by length self.now.lists < 2 ^ 64 }
         ensures apart { AreLists N self.now.lists }
     {
-        let node = self.nodes[place.node].after?;
+        let node = self.nodes[place.node].after.place()?;
         Some(Place { node })
     }
 

@@ -1,5 +1,6 @@
 use Rattle.foyer_policy.specs.Chain.{lists_of}
-use Rattle.std.proofs.Common.{◌∙◌}
+use Rattle.std.proofs.Common.{◌∙◌, ◌<◌, None, length, refl, arith}
+use Rattle.std.proofs.lemmas.List.{get_or_read_under}
 use Rattle.slab.specs.Slab.{get}
 use Rattle.foyer_policy.proofs.LinkedLemmas.{find-vacant}
 use Rattle.foyer_policy.proofs.HoldsLemmas.{tail_there, Holds-link, lists_of-Holds, Holds-again}
@@ -7,22 +8,31 @@ use Rattle.foyer_policy.proofs.lists.link_back.Goals as goal
 
 pub set_after-requires-clause-there : goal.set_after-requires-clause-there
 set_after-requires-clause-there g c =
-    tail_there c.args.nodes.now c.insert_reserved-node.new.self c.insert_reserved-node.new.self c.args.heads.now c.args.heads.now c.args.tails.now c.args.list c.insert_reserved-node.result c.args.value
-    c.requires.sound c.requires.list c.insert_reserved-node.ensures.was_vacant c.insert_reserved-node.ensures.updates
+    let lt : c.args.list < length c.args.tails.now = omega (arith, c.requires.sound.linked.heads_len, c.requires.sound.linked.tails_len, c.requires.list) in
+    let b = get_or_read_under c.args.tails.now c.args.list (length c.args.tails.now) c.index-tails-list.result None c.index-tails-list.is lt refl in
+    let u = rw (b, c.end.ensures) at c.insert_reserved-node.ensures.updates in
+    rw b (tail_there c.args.nodes.now c.insert_reserved-node.new.self c.insert_reserved-node.new.self c.args.heads.now c.args.heads.now c.args.tails.now c.args.list c.insert_reserved-node.result c.args.value
+    c.requires.sound c.requires.list c.insert_reserved-node.ensures.was_vacant u)
 
 pub returns-clause-sound : goal.returns-clause-sound
 returns-clause-sound g c =
-    Holds-again _ _ _ _
+    let lt : c.args.list < length c.args.tails.now = omega (arith, c.requires.sound.linked.heads_len, c.requires.sound.linked.tails_len, c.requires.list) in
+    let b = get_or_read_under c.args.tails.now c.args.list (length c.args.tails.now) c.index-tails-list.result None c.index-tails-list.is lt refl in
+    let u = rw (b, c.end.ensures) at c.insert_reserved-node.ensures.updates in
+    rw c.to-2.ensures (Holds-again _ _ _ _
     (Holds-link c.args.nodes.now c.insert_reserved-node.new.self c.set_after.new.nodes c.args.heads.now c.set_after.new.heads c.args.tails.now c.args.list c.insert_reserved-node.result c.args.value
-    c.requires.sound c.requires.list c.insert_reserved-node.ensures.was_vacant c.insert_reserved-node.ensures.updates
-    c.set_after.ensures.links (c.set_after.ensures.len ∙ c.insert_reserved-node.ensures.len) c.requires.room (c.set_after.ensures.capacity ∙ c.insert_reserved-node.ensures.capacity) c.set_after.ensures.heads)
+    c.requires.sound c.requires.list c.insert_reserved-node.ensures.was_vacant u
+    (rw (b, c.to.ensures) at c.set_after.ensures.links) (c.set_after.ensures.len ∙ c.insert_reserved-node.ensures.len) c.requires.room (c.set_after.ensures.capacity ∙ c.insert_reserved-node.ensures.capacity) (rw (b, c.to.ensures) at c.set_after.ensures.heads)))
 
 pub returns-clause-lists : goal.returns-clause-lists
 returns-clause-lists g c =
+    let lt : c.args.list < length c.args.tails.now = omega (arith, c.requires.sound.linked.heads_len, c.requires.sound.linked.tails_len, c.requires.list) in
+    let b = get_or_read_under c.args.tails.now c.args.list (length c.args.tails.now) c.index-tails-list.result None c.index-tails-list.is lt refl in
+    let u = rw (b, c.end.ensures) at c.insert_reserved-node.ensures.updates in
     lists_of-Holds _ _ _ _
     (Holds-link c.args.nodes.now c.insert_reserved-node.new.self c.set_after.new.nodes c.args.heads.now c.set_after.new.heads c.args.tails.now c.args.list c.insert_reserved-node.result c.args.value
-    c.requires.sound c.requires.list c.insert_reserved-node.ensures.was_vacant c.insert_reserved-node.ensures.updates
-    c.set_after.ensures.links (c.set_after.ensures.len ∙ c.insert_reserved-node.ensures.len) c.requires.room (c.set_after.ensures.capacity ∙ c.insert_reserved-node.ensures.capacity) c.set_after.ensures.heads)
+    c.requires.sound c.requires.list c.insert_reserved-node.ensures.was_vacant u
+    (rw (b, c.to.ensures) at c.set_after.ensures.links) (c.set_after.ensures.len ∙ c.insert_reserved-node.ensures.len) c.requires.room (c.set_after.ensures.capacity ∙ c.insert_reserved-node.ensures.capacity) (rw (b, c.to.ensures) at c.set_after.ensures.heads))
 
 pub returns-clause-free : goal.returns-clause-free
 returns-clause-free g c = find-vacant (get c.args.nodes.now) c.args.heads.now c.args.tails.now (lists_of c.args.nodes.now c.args.heads.now) c.insert_reserved-node.result c.requires.sound.linked c.insert_reserved-node.ensures.was_vacant

@@ -6,13 +6,13 @@ use Rattle.std.proofs.lemmas.List.{length-replicate}
 use Rattle.foyer_policy.proofs.lists.Lists.new.Goals as goal
 
 pub invariant_of-result : goal.invariant_of-result
-invariant_of-result g c =
-    Holds-again c.new.result (replicate g.row.N None) (replicate g.row.N None) (replicate g.row.N []) (Holds-new c.new.result g.row.N c.new.ensures.empty c.new.ensures.capacity)
+invariant_of-result g c = rw (c.end.ensures, c.end-2.ensures) (
+    Holds-again c.new.result (replicate g.row.N None) (replicate g.row.N None) (replicate g.row.N []) (Holds-new c.new.result g.row.N c.new.ensures.empty c.new.ensures.capacity))
 
 pub returns-clause-lists : goal.returns-clause-lists
-returns-clause-lists g c = lists_of-Holds c.new.result (replicate g.row.N None) (replicate g.row.N None) (replicate g.row.N []) (Holds-new c.new.result g.row.N c.new.ensures.empty c.new.ensures.capacity)
+returns-clause-lists g c = rw c.end.ensures (lists_of-Holds c.new.result (replicate g.row.N None) (replicate g.row.N None) (replicate g.row.N []) (Holds-new c.new.result g.row.N c.new.ensures.empty c.new.ensures.capacity))
 
 pub returns-clause-apart : goal.returns-clause-apart
 returns-clause-apart g c =
-    rw (lists_of-Holds c.new.result (replicate g.row.N None) (replicate g.row.N None) (replicate g.row.N []) (Holds-new c.new.result g.row.N c.new.ensures.empty c.new.ensures.capacity))
+    rw (c.end.ensures, lists_of-Holds c.new.result (replicate g.row.N None) (replicate g.row.N None) (replicate g.row.N []) (Holds-new c.new.result g.row.N c.new.ensures.empty c.new.ensures.capacity))
     (AreLists-Linked _ _ _ _ g.row.N (Holds-new c.new.result g.row.N c.new.ensures.empty c.new.ensures.capacity).linked (simp length-replicate))

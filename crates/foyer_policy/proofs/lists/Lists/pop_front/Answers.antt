@@ -1,5 +1,6 @@
 use Rattle.foyer_policy.proofs.HoldsLemmas.{AreLists-told}
 use Rattle.std.proofs.Common.{◌≡◌, ◌≢◌, Some, None, rules, arith, length, sym, ap, ◌∙◌, ◌<◌}
+use Rattle.std.proofs.lemmas.List.{get_or_default}
 use Rattle.slab.specs.Slab.{get}
 use Rattle.foyer_policy.specs.Chain.{lists_of}
 use Rattle.foyer_policy.specs.Lists.{list_at, first_or}
@@ -11,21 +12,27 @@ pub take_out-requires-clause-there : goal.take_out-requires-clause-there
 take_out-requires-clause-there g c =
     let i = c.self.inside in
     let lt : c.args.list < length (lists_of i.nodes i.heads) = omega (arith, c.self.invariant.linked.heads_len) in
-    let f = front_found (get i.nodes) i.heads i.tails (lists_of i.nodes i.heads) c.args.list c.in-Some.node c.self.invariant.linked lt c.in-Some.is in
+    let lh : c.args.list < length i.heads = omega (arith, c.self.invariant.linked.heads_len) in
+    let at_head = get_or_default i.heads c.args.list None c.index-self-list.result lh ∙ sym c.place.ensures in
+    let f = front_found (get i.nodes) i.heads i.tails (lists_of i.nodes i.heads) c.args.list c.in-Some.node c.self.invariant.linked lt (at_head ∙ c.in-Some.is) in
     rw f.there (search rules)
 
 pub returns-in-Some-clause-value : goal.returns-in-Some-clause-value
 returns-in-Some-clause-value g c =
     let i = c.self.inside in
     let lt : c.args.list < length (lists_of i.nodes i.heads) = omega (arith, c.self.invariant.linked.heads_len) in
-    let f = front_found (get i.nodes) i.heads i.tails (lists_of i.nodes i.heads) c.args.list c.in-Some.node c.self.invariant.linked lt c.in-Some.is in
+    let lh : c.args.list < length i.heads = omega (arith, c.self.invariant.linked.heads_len) in
+    let at_head = get_or_default i.heads c.args.list None c.index-self-list.result lh ∙ sym c.place.ensures in
+    let f = front_found (get i.nodes) i.heads i.tails (lists_of i.nodes i.heads) c.args.list c.in-Some.node c.self.invariant.linked lt (at_head ∙ c.in-Some.is) in
     rw (← c.self.view_is) (sym c.take_out.ensures.value ∙ f.there ∙ sym f.first)
 
 pub returns-in-Some-clause-lists : goal.returns-in-Some-clause-lists
 returns-in-Some-clause-lists g c =
     let i = c.self.inside in
     let lt : c.args.list < length (lists_of i.nodes i.heads) = omega (arith, c.self.invariant.linked.heads_len) in
-    let f = front_found (get i.nodes) i.heads i.tails (lists_of i.nodes i.heads) c.args.list c.in-Some.node c.self.invariant.linked lt c.in-Some.is in
+    let lh : c.args.list < length i.heads = omega (arith, c.self.invariant.linked.heads_len) in
+    let at_head = get_or_default i.heads c.args.list None c.index-self-list.result lh ∙ sym c.place.ensures in
+    let f = front_found (get i.nodes) i.heads i.tails (lists_of i.nodes i.heads) c.args.list c.in-Some.node c.self.invariant.linked lt (at_head ∙ c.in-Some.is) in
     rw (← c.self.view_is) (c.take_out.ensures.lists ∙ f.gone)
 
 pub returns-in-Some-clause-others : goal.returns-in-Some-clause-others
@@ -33,8 +40,10 @@ returns-in-Some-clause-others g c = λ q ne.
     let i = c.self.inside in
     let ls = lists_of i.nodes i.heads in
     let lt : c.args.list < length ls = omega (arith, c.self.invariant.linked.heads_len) in
+    let lh : c.args.list < length i.heads = omega (arith, c.self.invariant.linked.heads_len) in
+    let at_head = get_or_default i.heads c.args.list None c.index-self-list.result lh ∙ sym c.place.ensures in
     let head = (c.self.invariant.linked.each c.args.list lt).head in
-    let first : first_or (list_at ls c.args.list) None ≡ Some c.in-Some.node = sym head ∙ c.in-Some.is in
+    let first : first_or (list_at ls c.args.list) None ≡ Some c.in-Some.node = sym head ∙ at_head ∙ c.in-Some.is in
     let ne' : first_or (list_at ls c.args.list) None ≢ Some q = rw (← c.self.view_is) at ne in
     rw (← c.self.view_is, c.take_out.ensures.lists) (find-drop_other c.in-Some.node q ls (λ e. ne' (first ∙ ap Some e)))
 

@@ -1,0 +1,58 @@
+//! Links of chains and lists, in the room of one number.
+
+ghost use Rattle.std.specs.Prelude.{◌≡◌, ◌-◌, ◌^◌, ◌<◌, Some, None};
+
+use std::marker::Model;
+
+/// Where a chain goes on: at a place, or nowhere. It takes as much room as a number, where an
+/// `Option<usize>` takes twice as much.
+#[derive(Clone, Copy)]
+pub struct Link {
+    // the greatest number for nowhere
+    place: usize,
+}
+
+impl Model for Link {
+    ghost use Rattle.std.specs.Prelude.{ℕ, Option};
+
+    ghost Value = { Option ℕ };
+
+    ghost use Rattle.foyer_policy.specs.Links.{place_of, with_place, with_place-place_of};
+
+    ghost view = { place_of };
+
+    ghost inverse = { with_place };
+
+    ghost inverse_ok = { λ a h. with_place-place_of a };
+}
+
+impl Link {
+    /// The end of a chain.
+    #[inline]
+    pub fn end() -> Self
+        ensures { result ≡ None }
+    {
+        Link { place: usize::MAX }
+    }
+
+    /// The link to a place, which is below the greatest number.
+    #[inline]
+    pub fn to(place: usize) -> Self
+        requires { place < 2 ^ 64 - 1 }
+        ensures { result ≡ Some place }
+    {
+        Link { place }
+    }
+
+    /// The place that it leads to, or `None` at the end.
+    #[inline]
+    pub fn place(self) -> Option<usize>
+        ensures { result ≡ self }
+    {
+        if self.place == usize::MAX {
+            None
+        } else {
+            Some(self.place)
+        }
+    }
+}
