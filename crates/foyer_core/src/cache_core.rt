@@ -330,6 +330,3 @@ fn marked<P: Properties>(properties: P, admitted: bool) -> P
         properties
     }
 }
-
-#[cfg(test)]
-mod tests;

@@ -141,8 +141,8 @@ impl<K: Drop, V: Drop, P: Drop> CoreEntry<K, V, P> {
         self.number
     }
 
-    // The record's id.
-    pub(crate) fn id(&self) -> u64
+    /// The record's number, which its shard gave once.
+    pub fn id(&self) -> u64
         ensures { result ≡ self.now.id }
     {
         self.id

@@ -54,6 +54,3 @@ pub trait Indexer<K: Key>: Drop {
     ghost respects: { (s : Self) (p q : ℕ × K) →
         same_key K.eq p q ≡ true → view s p ≡ view s q };
 }
-
-#[cfg(test)]
-mod tests;

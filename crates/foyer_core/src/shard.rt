@@ -104,6 +104,3 @@ impl<E: Eviction, K: Key, V: Value, P: Properties, I: Indexer<K>> Shard<E, K, V,
         self.index.get(hash, key).is_some()
     }
 }
-
-#[cfg(test)]
-mod tests;

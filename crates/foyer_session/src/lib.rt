@@ -10,8 +10,6 @@ pub mod s3fifo_session;
 pub mod session;
 pub mod sieve_session;
 pub mod sim;
-#[cfg(test)]
-mod streams;
 pub mod text;
 
 pub use command::{Answer, Answers, Command, Leaves, Reply};

@@ -199,6 +199,3 @@ impl<
         }
     }
 }
-
-#[cfg(test)]
-mod tests;

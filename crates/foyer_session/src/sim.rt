@@ -46,6 +46,3 @@ pub fn simulate<R: BufRead, W: Write, E: Eviction, S: HashBuilder, I: Indexer<u6
     }
     Err(io::Error::from(ErrorKind::Other))
 }
-
-#[cfg(test)]
-mod tests;

@@ -39,6 +39,3 @@ pub enum Line {
     /// Any other line.
     Bad,
 }
-
-#[cfg(test)]
-mod tests;

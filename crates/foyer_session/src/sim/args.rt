@@ -70,6 +70,3 @@ fn policy_of(name: &[u8]) -> Option<SimPolicy>
         None
     }
 }
-
-#[cfg(test)]
-mod tests;

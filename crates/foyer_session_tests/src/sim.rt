@@ -1,9 +1,8 @@
-use super::{SimValue, SimWeighter, simulate, write_answer};
-use crate::command::Answer;
-use crate::session::Session;
 use crate::streams::{Parts, Slow};
 use foyer_core::{AdmitAll, CacheCore, CacheProperties, Limits, RawCacheConfig};
 use foyer_policy::{Eviction, Fifo, Lfu, Lru, ModHasher, S3Fifo, Sieve};
+use foyer_session::sim::write_answer;
+use foyer_session::{Answer, Session, SimValue, SimWeighter, simulate};
 use std::alloc::Global;
 use std::io::{BufRead, ErrorKind};
 use std::test::Fail;

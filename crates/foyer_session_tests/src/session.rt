@@ -1,9 +1,13 @@
-use super::*;
-use crate::fifo_session::run_fifo;
-use crate::predicate::NoPredicate;
-use foyer_core::{AdmitAll, CacheProperties, Limits, RawCacheConfig, UnitWeighter};
-use foyer_policy::{Event, Fifo, FifoConfig, ModHasher};
-use std::alloc::AllocError;
+use foyer_core::{
+    AdmitAll, CacheCore, CacheProperties, HashTableIndexer, Indexer, Limits, Piece, RawCacheConfig,
+    UnitWeighter,
+};
+use foyer_policy::{
+    Error, Event, Eviction, Fifo, FifoConfig, HashBuilder, Key, ModHasher, Properties, Reason,
+    Result, Value,
+};
+use foyer_session::{Answer, Command, NoPredicate, Predicate, Reply, Session, run_fifo};
+use std::alloc::{AllocError, Global};
 use std::process::Abort;
 use std::test::Fail;
 

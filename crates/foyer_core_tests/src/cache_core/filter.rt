@@ -4,7 +4,7 @@ ghost use Rattle.std.specs.Prelude.{◌≡◌, ◌%◌, ◌==◌};
 ghost use Rattle.foyer_core.specs.Core.{AnswersNobody};
 
 use super::*;
-use crate::filter::Filter;
+use foyer_core::Filter;
 
 // Admits even keys alone.
 #[derive(Clone, Copy)]

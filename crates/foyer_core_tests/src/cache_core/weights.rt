@@ -3,7 +3,7 @@
 ghost use Rattle.std.specs.Prelude.{◌≡◌};
 
 use super::*;
-use crate::weighter::Weighter;
+use foyer_core::Weighter;
 use foyer_policy::{Lru, LruConfig, Ratio};
 
 // A record weighs what its value says.

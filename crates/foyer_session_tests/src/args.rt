@@ -1,4 +1,4 @@
-use super::{SimArgs, SimPolicy, sim_args};
+use foyer_session::{SimArgs, SimPolicy, sim_args};
 use std::alloc::Global;
 use std::test::Fail;
 

@@ -18,44 +18,40 @@ fn piece_number(answer: &Answer<u64, u64, CacheProperties>) -> Option<u64> {
     }
 }
 
-// Each held piece: its key and its value.
-fn held_pieces(
-    alloc: Global,
-    session: &FifoSession,
-) -> std::result::Result<Vec<(u64, u64)>, AllocError> {
-    let mut held = Vec::new(alloc);
-    for piece in &session.pieces {
-        held.push((*piece.key(), *piece.value()))?;
-    }
-    Ok(held)
+// What a session answers where the piece of a number is to come in: the number of the handle, and the id and the
+// value of the record.
+fn put_piece(session: &mut FifoSession, piece: u64) -> Result<Option<(u64, u64, u64)>> {
+    let reply = session.step(Plain::InsertPiece(piece))?;
+    Ok(match &reply.answer {
+        Answer::Entry { handle, record, .. } => Some((*handle, record.id(), *record.value())),
+        _ => None,
+    })
 }
 
 #[test]
 fn pieces_have_numbers_of_their_own(rt: HostRuntime) -> std::result::Result<(), Fail> {
-    let alloc = rt.alloc();
-    let mut session = session(alloc, 2, Limits::default())?;
+    let mut session = session(rt.alloc(), 2, Limits::default())?;
     session.step(insert(1, 10))?;
     session.step(insert(2, 20))?;
     assert_eq!(rt; piece_number(&answer_to_take(&mut session, 1)?), Some(0));
     assert_eq!(rt; piece_number(&answer_to_take(&mut session, 0)?), Some(1));
     assert_eq!(rt; piece_number(&answer_to_take(&mut session, 1)?), Some(2));
-    let held = held_pieces(alloc, &session)?;
-    assert_eq!(rt; held.as_slice(), [(2, 20), (1, 10), (2, 20)].as_slice());
+    assert_eq!(rt; put_piece(&mut session, 0)?, Some((2, 1, 20)));
+    assert_eq!(rt; put_piece(&mut session, 1)?, Some((3, 0, 10)));
+    assert_eq!(rt; put_piece(&mut session, 2)?, Some((4, 1, 20)));
     Ok(())
 }
 
 #[test]
 fn a_piece_stays_when_its_record_is_gone(rt: HostRuntime) -> std::result::Result<(), Fail> {
-    let alloc = rt.alloc();
-    let mut session = session(alloc, 2, Limits::default())?;
+    let mut session = session(rt.alloc(), 2, Limits::default())?;
     session.step(insert(1, 10))?;
     assert_eq!(rt; piece_number(&answer_to_take(&mut session, 0)?), Some(0));
     session.step(Plain::Drop(0))?;
     session.step(Plain::Remove(1))?;
     session.step(Plain::Drop(1))?;
-    let held = held_pieces(alloc, &session)?;
-    assert_eq!(rt; held.as_slice(), [(1, 10)].as_slice());
     assert_eq!(rt; session.entries(), 0);
+    assert_eq!(rt; put_piece(&mut session, 0)?, Some((2, 0, 10)));
     Ok(())
 }
 
@@ -78,7 +74,7 @@ fn a_handle_that_is_gone_gives_no_piece(rt: HostRuntime) -> std::result::Result<
     session.step(insert(1, 10))?;
     session.step(Plain::Drop(0))?;
     assert!(rt; matches!(answer_to_take(&mut session, 0)?, Answer::NotHeld));
-    assert!(rt; session.pieces.is_empty());
+    assert_eq!(rt; put_piece(&mut session, 0)?, None);
     Ok(())
 }
 
@@ -97,16 +93,6 @@ fn each_command_has_room_for_a_piece(rt: HostRuntime) -> std::result::Result<(),
     assert_eq!(rt; piece_number(&replies[2].answer), Some(1));
     assert!(rt; matches!(replies[3].answer, Answer::NotHeld));
     Ok(())
-}
-
-// What a session answers where the piece of a number is to come in: the number of the handle, and the id and the
-// value of the record.
-fn put_piece(session: &mut FifoSession, piece: u64) -> Result<Option<(u64, u64, u64)>> {
-    let reply = session.step(Plain::InsertPiece(piece))?;
-    Ok(match &reply.answer {
-        Answer::Entry { handle, record, .. } => Some((*handle, record.id(), *record.value())),
-        _ => None,
-    })
 }
 
 #[test]
@@ -137,14 +123,11 @@ fn a_held_record_gains_a_handle(rt: HostRuntime) -> std::result::Result<(), Fail
 
 #[test]
 fn a_piece_stays_held_after_it_came_in(rt: HostRuntime) -> std::result::Result<(), Fail> {
-    let alloc = rt.alloc();
-    let mut session = session(alloc, 2, Limits::default())?;
+    let mut session = session(rt.alloc(), 2, Limits::default())?;
     session.step(insert(1, 10))?;
     answer_to_take(&mut session, 0)?;
     assert_eq!(rt; put_piece(&mut session, 0)?, Some((1, 0, 10)));
     assert_eq!(rt; put_piece(&mut session, 0)?, Some((2, 0, 10)));
-    let held = held_pieces(alloc, &session)?;
-    assert_eq!(rt; held.as_slice(), [(1, 10)].as_slice());
     Ok(())
 }
 

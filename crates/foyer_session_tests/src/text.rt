@@ -1,5 +1,7 @@
-use super::{Line, line_of, number_of, read_line, write_number, write_out, write_wide_number};
 use crate::streams::{Parts, Slow};
+use foyer_session::text::{
+    Line, line_of, number_of, read_line, write_number, write_out, write_wide_number,
+};
 use std::alloc::Global;
 use std::io;
 use std::io::{BufRead, BufReader, ErrorKind};

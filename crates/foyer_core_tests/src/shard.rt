@@ -1,13 +1,9 @@
-use super::*;
-use crate::entry::{CoreEntry, Left};
-use crate::indexer::HashTableIndexer;
-use crate::properties::CacheProperties;
-use crate::record::Data;
-use foyer_policy::{Event, Lru, LruConfig, Source};
+use foyer_core::shard::Shard;
+use foyer_core::{CacheProperties, CoreEntry, Data, HashTableIndexer, Left, Limits};
+use foyer_policy::{Event, Lru, LruConfig, Result, Source};
+use std::alloc::Global;
 use std::process::Abort;
 use std::test::Fail;
-
-mod flags;
 
 type Plain = Shard<Lru, u64, u64, CacheProperties, HashTableIndexer<u64>>;
 

@@ -1,12 +1,15 @@
 ghost use Rattle.std.specs.Prelude.{◌≡◌};
 ghost use Rattle.foyer_core.specs.Core.{AnswersNobody};
 
-use super::*;
-use crate::filter::AdmitAll;
-use crate::properties::CacheProperties;
-use crate::record::Limits;
-use crate::weighter::UnitWeighter;
-use foyer_policy::{Fifo, FifoConfig, Hint, ModHasher, Source};
+use foyer_core::{
+    AdmitAll, Answers, CacheCore, CacheProperties, CoreEntry, Inserted, Left, Limits, Outcome,
+    RawCacheConfig, UnitWeighter,
+};
+use foyer_policy::{
+    Event, Eviction, Fifo, FifoConfig, HashBuilder, Hint, Location, ModHasher, Properties, Result,
+    Source, Value,
+};
+use std::alloc::Global;
 use std::process::Abort;
 use std::test::Fail;
 

@@ -16,6 +16,7 @@ fn phantom(rt: &impl Abort, core: &mut Core, key: u64, value: u64) -> Told {
     match core.insert_with_properties(key, value, CacheProperties::default().with_phantom(true)) {
         Ok(made) => {
             let (entry, leaves) = came_in(made);
+            assert!(rt; core.owns(&entry) && core.is_outdated(&entry));
             let usage = core.usage();
             Told {
                 leaves,

@@ -2,7 +2,7 @@ ghost use Rattle.std.specs.Prelude.{◌≡◌, ℕ, true, false, Some, None, IfO
 ghost use Rattle.std.specs.List.{IsDistinct};
 ghost use Rattle.foyer_core.specs.Indexer.{same_key};
 
-use super::{HashTableIndexer, Indexer, Sentry};
+use foyer_core::{HashTableIndexer, Indexer, Sentry};
 use foyer_policy::{Key, Result};
 use std::test::Fail;
 
