@@ -33,6 +33,7 @@ pub mod Keys
 pub mod LeaveLemmas
 pub mod Leaving
 pub mod LeftLemmas
+pub mod NearLemmas
 pub mod Observing
 pub mod Opening
 pub mod Origins

@@ -6,6 +6,8 @@ pub mod Entries
 pub mod Indexer
 pub mod Values
 pub mod Table
+pub mod Near
+pub mod Ids
 pub mod Records
 pub mod State
 pub mod Stored

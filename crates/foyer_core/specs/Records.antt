@@ -1,9 +1,9 @@
 -- What contracts see of a shard's records.
-use Rattle.std.specs.Prelude.{ℕ, ◌<◌, Option, nat_eq}
-use Rattle.std.specs.HashMap.{get as get_key, spare}
+use Rattle.std.specs.Prelude.{ℕ, Option}
 use Rattle.slab.specs.Slab.{get, HasRoomFor}
 use Rattle.foyer_core.specs.declared.records.Records.{Records}
 use Rattle.foyer_core.specs.Values.{Kept, Rec}
+use Rattle.foyer_core.specs.Ids.{slot_of, HasRoomForId}
 use Rattle.foyer_core.specs.Table.{record_by, id_by}
 
 module _ {K V P : Type 0} where
@@ -13,7 +13,7 @@ module _ {K V P : Type 0} where
 
   -- the slot of an id
   abbrev pub number_of : Records K V P → ℕ → Option ℕ
-  number_of t = get_key nat_eq t.ids
+  number_of t = slot_of t.ids
 
   -- the record of an id
   abbrev pub record_in : Records K V P → ℕ → Option (Rec K V P)
@@ -25,4 +25,4 @@ module _ {K V P : Type 0} where
 
   -- one more record fits with no allocation
   abbrev pub HasRoom : Records K V P → Type 0
-  HasRoom t = HasRoomFor t.slots 1 × (0 < spare t.ids)
+  HasRoom t = HasRoomFor t.slots 1 × HasRoomForId t.ids

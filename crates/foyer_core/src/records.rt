@@ -1,20 +1,22 @@
 //! The records of a shard: a slab of slots, and where each id stands.
 
 ghost use Rattle.std.specs.Prelude.{◌≡◌, ℕ, ◌+◌, ◌-◌, ◌<◌, ◌^◌, Option, Some, None, IfErr, IfOk, OnOk, OnErr, IsSomeAnd, IsSome, IsTrue, nat_eq, option_copied, option_map, true};
-ghost use Rattle.std.specs.HashMap.{get as get_key, spare};
 ghost use Rattle.std.specs.Map.{update};
 ghost use Rattle.slab.specs.Slab.{get};
 ghost use Rattle.foyer_policy.specs.declared.error.Reason.TheVariants.{NoMemory};
 ghost use Rattle.foyer_core.specs.Values.{Kept};
+ghost use Rattle.foyer_core.specs.Ids.{slot_of};
 ghost use Rattle.foyer_core.specs.Steps.{outside};
 ghost use Rattle.foyer_core.specs.Table.{IsTable, rec_of, slot_outside};
+
+mod ids;
 
 use crate::entry::Left;
 use crate::slot::Slot;
 use foyer_policy::{Error, Place, Reason, Result};
+use ids::Ids;
 use slab::Slab;
 use std::alloc::Global;
-use std::collections::HashMap;
 use std::mem;
 
 /// A shard's records. A record is reached by its slot; where each id stands is asked only where a slot
@@ -22,8 +24,8 @@ use std::mem;
 #[derive(Drop)]
 pub struct Records<K: Drop, V: Drop, P: Drop> {
     slots: Slab<Slot<K, V, P>>,
-    ids: HashMap<u64, usize>,
-    ghost agree: { IsTable (get slots) (get_key nat_eq ids) },
+    ids: Ids,
+    ghost agree: { IsTable (get slots) (slot_of ids) },
 }
 
 impl<K: Drop, V: Drop, P: Drop> Records<K, V, P> {
@@ -35,7 +37,7 @@ impl<K: Drop, V: Drop, P: Drop> Records<K, V, P> {
     {
         Records {
             slots: Slab::new(alloc),
-            ids: HashMap::new(alloc),
+            ids: Ids::new(alloc),
         }
     }
 
@@ -49,7 +51,7 @@ impl<K: Drop, V: Drop, P: Drop> Records<K, V, P> {
         let Ok(()) = self.slots.reserve(1) else {
             return Err(Error::new(Reason::NoMemory));
         };
-        let Ok(()) = self.ids.reserve(1) else {
+        let Ok(()) = self.ids.reserve(self.slots.len()) else {
             return Err(Error::new(Reason::NoMemory));
         };
         Ok(())
@@ -73,7 +75,7 @@ impl<K: Drop, V: Drop, P: Drop> Records<K, V, P> {
                 return Some(hint);
             }
         }
-        self.ids.get(&id).copied()
+        self.ids.get(id)
     }
 
     /// Puts a record in where its id stands, or in a new slot where it does not, and answers the slot and what
@@ -110,7 +112,7 @@ impl<K: Drop, V: Drop, P: Drop> Records<K, V, P> {
     {
         let id = slot.id();
         let place = self.slots.insert_reserved(slot);
-        name(&mut self.ids, id, place);
+        self.ids.name(id, place);
         place
     }
 
@@ -194,7 +196,7 @@ impl<K: Drop, V: Drop, P: Drop> Records<K, V, P> {
         ensures room { HasRoom self.old → HasRoom self.new }
     {
         let found = self.slots.remove(slot);
-        let _ = self.ids.remove(&found.id());
+        self.ids.remove(found.id());
         found
     }
 
@@ -216,12 +218,4 @@ impl<K: Drop, V: Drop, P: Drop> Records<K, V, P> {
         }
         left
     }
-}
-
-// An id names a slot. There is room for it.
-fn name(ids: &mut HashMap<u64, usize>, id: u64, slot: usize)
-    requires { 0 < spare ids.old }
-    ensures { (q : ℕ) → get_key nat_eq ids.new q ≡ update nat_eq (get_key nat_eq ids.old) id (Some slot) q }
-{
-    let _ = ids.insert(id, slot);
 }
