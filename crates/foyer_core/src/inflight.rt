@@ -1,0 +1,313 @@
+//! The open fetches of a shard: who leads the fetch of a key, and who waits for it.
+
+ghost use Rattle.std.specs.Prelude.{◌≡◌, ◌↔◌, ℕ, ◌+◌, [], ◌∷◌, Some, None, IsSomeAnd, IfSome, IfNone, OnSome, IfOk, IfErr, OnOk, OnErr, IsTrue, length, true, false, is_some, option_copied};
+ghost use Rattle.slab.specs.Slab.{get};
+ghost use Rattle.foyer_policy.specs.declared.error.Reason.TheVariants.{NoMemory};
+ghost use Rattle.foyer_core.specs.Indexer.{same_key};
+ghost use Rattle.foyer_core.specs.Inflight.{AreLinked, AreOpen, AreOpen-prop, HasNumbers, IsFetchOrTake, IsOpen, LacksNumber, Place, RefusesEnqueue, after_enqueue, after_nothing, asked, closed, enqueued, joined, no_opens, numbers_in, opens_by, waiters_of, with_place};
+
+use crate::indexer::{HashTableIndexer, Indexer};
+use crate::outcome::Waiting;
+use foyer_policy::{Error, Key, Reason, Result};
+use slab::Slab;
+use std::alloc::Global;
+use std::marker::Model;
+
+/// The place of a fetch that is open.
+#[derive(Drop)]
+struct Inflight<N, R> {
+    id: u64,
+    waiters: Vec<Waiting<N>>,
+    // the first builder that one who waits brought
+    later: Option<R>,
+}
+
+impl<N, R> Model for Inflight<N, R> {
+    ghost use Rattle.foyer_core.specs.Inflight.{Place};
+
+    ghost Value = { Place N R };
+
+    ghost view = { λ p. record { fetch = p.id; tokens = p.waiters.items; later = p.later } };
+}
+
+impl<N: Drop, R: Drop> Inflight<N, R> {
+    // A new fetch, for which this one waits. Only memory can be missing.
+    fn new(alloc: Global, id: u64, waiting: Waiting<N>) -> Result<Self>
+        ensures made { IfOk result (λ o. o ≡ record { fetch = id; tokens = waiting ∷ []; later = None }) }
+        ensures refused { IfErr result (λ e. e ≡ NoMemory) }
+    {
+        let Ok(mut waiters) = Vec::with_capacity(alloc, 1) else {
+            return Err(Error::new(Reason::NoMemory));
+        };
+        waiters.push_reserved(waiting);
+        Ok(Inflight {
+            id,
+            waiters,
+            later: None,
+        })
+    }
+
+    // One more waits. Its builder is kept where none is. Only memory can be missing, and nothing changes then.
+    fn join(&mut self, waiting: Waiting<N>, later: Option<R>) -> Result<()>
+        ensures joined { OnOk result (self.new ≡ joined (Some self.old) self.old.fetch waiting later) }
+        ensures refused { IfErr result (λ e. e ≡ NoMemory) }
+        ensures err { OnErr result (self.new ≡ self.old) }
+    {
+        let Ok(()) = self.waiters.reserve(1) else {
+            return Err(Error::new(Reason::NoMemory));
+        };
+        self.waiters.push_reserved(waiting);
+        if self.later.is_none() {
+            self.later = later;
+        }
+        Ok(())
+    }
+
+    // The builder that is kept, which is kept no longer.
+    fn take_later(&mut self) -> Option<R>
+        ensures later { result ≡ self.old.later }
+        ensures taken { self.new ≡ record { fetch = self.old.fetch; tokens = self.old.tokens; later = None } }
+    {
+        self.later.take()
+    }
+
+    // Whether this is the fetch that was asked for, if one was.
+    fn is_asked(&self, id: Option<u64>) -> bool
+        ensures { result ≡ is_some (asked id (Some self.now)) }
+    {
+        match id {
+            Some(id) => self.id == id,
+            None => true,
+        }
+    }
+}
+
+/// What one gets who asks for a key that is missing.
+#[derive(Drop)]
+pub enum Enqueue<R> {
+    /// Nobody fetches the key: who asks is to do it.
+    Lead {
+        /// The fetch.
+        id: u64,
+        /// With what the one who leads waits.
+        token: u64,
+        /// The builder that was brought.
+        required_fetch_builder: Option<R>,
+    },
+    /// The key is fetched already.
+    Wait {
+        /// With what to wait.
+        token: u64,
+    },
+}
+
+/// What a fetch gets that found nothing.
+#[derive(Drop)]
+pub enum FetchOrTake<R, N> {
+    /// A builder that one who waits brought: it is to be fetched with.
+    Fetch(R),
+    /// Who waits. The fetch is not open any more.
+    Notifiers(Vec<Waiting<N>>),
+}
+
+/// The open fetches of a shard, at most one for each key. A key always comes with its hash: the pair of both is
+/// looked up, keys being compared by `==`. `N` is what waits for an answer, `R` what builds a fetch.
+#[derive(Drop)]
+pub struct InflightManager<K: Key, N: Drop, R: Drop> {
+    index: HashTableIndexer<K>,
+    inflights: Slab<Inflight<N, R>>,
+    next_fetch: u64,
+    next_token: u64,
+    alloc: Global,
+    ghost linked: { AreLinked K.eq (numbers_in index) (get inflights) },
+    ghost sound: { AreOpen K.eq (opens_by (numbers_in index) (get inflights) next_fetch next_token) } by { AreOpen-prop K.eq (opens_by (numbers_in index) (get inflights) next_fetch next_token) },
+}
+
+impl<K: Key, N: Drop, R: Drop> InflightManager<K, N, R> {
+    ghost use Rattle.foyer_core.specs.Inflights.{opens_of};
+
+    /// No fetch is open, and the next fetch and the next token have the number 0.
+    pub fn new(alloc: Global) -> Self
+        ensures { opens_of result ≡ no_opens }
+    {
+        InflightManager {
+            index: HashTableIndexer::new(alloc),
+            inflights: Slab::new(alloc),
+            next_fetch: 0,
+            next_token: 0,
+            alloc,
+        }
+    }
+
+    /// One more asks for a key that is missing. It leads a new fetch where none is open, and else waits. Its
+    /// builder is kept where it waits and no builder is kept. Refused where a number is not below `ids` (F10), and
+    /// then only for want of memory (F7); nothing changes.
+    pub fn enqueue(
+        &mut self,
+        hash: u64,
+        key: K,
+        required_fetch_builder: Option<R>,
+        waiter: N,
+        ids: u64,
+    ) -> Result<Enqueue<R>>
+        ensures answer { IfOk result (λ answer. answer ≡ enqueued ((opens_of self.old).places (hash, key))
+            (opens_of self.old).next_fetch (opens_of self.old).next_token required_fetch_builder) }
+        ensures opens { OnOk result (opens_of self.new ≡ after_enqueue K.eq (opens_of self.old) (hash, key) waiter required_fetch_builder) }
+        ensures numbers { OnOk result (HasNumbers ids (opens_of self.old) (hash, key)) }
+        ensures refused { IfErr result (λ e. RefusesEnqueue ids (opens_of self.old) (hash, key) e) }
+        ensures err { OnErr result (opens_of self.new ≡ opens_of self.old) }
+    {
+        let Some(number) = self.index.get(hash, &key) else {
+            return self.lead(hash, key, required_fetch_builder, waiter, ids);
+        };
+        let token = self.next_token;
+        if token >= ids {
+            return Err(Error::new(Reason::Ids));
+        }
+        let Some(inflight) = self.inflights.get_mut(number as usize) else {
+            unreachable!();
+        };
+        inflight.join(Waiting { token, waiter }, required_fetch_builder)?;
+        self.next_token += 1;
+        Ok(Enqueue::Wait { token })
+    }
+
+    // The first one asks for a key.
+    fn lead(
+        &mut self,
+        hash: u64,
+        key: K,
+        required_fetch_builder: Option<R>,
+        waiter: N,
+        ids: u64,
+    ) -> Result<Enqueue<R>>
+        requires { numbers_in self.old.index (hash, key) ≡ None }
+        ensures answer { IfOk result (λ answer. answer ≡ enqueued {N = N} None self.old.next_fetch self.old.next_token required_fetch_builder) }
+        ensures opens { OnOk result (opens_of self.new ≡ after_enqueue K.eq (opens_of self.old) (hash, key) waiter required_fetch_builder) }
+        ensures numbers { OnOk result (HasNumbers ids (opens_of self.old) (hash, key)) }
+        ensures refused { IfErr result (λ e. RefusesEnqueue ids (opens_of self.old) (hash, key) e) }
+        ensures err { OnErr result (opens_of self.new ≡ opens_of self.old) }
+    {
+        let id = self.next_fetch;
+        let token = self.next_token;
+        if id >= ids || token >= ids {
+            return Err(Error::new(Reason::Ids));
+        }
+        let inflight = Inflight::new(self.alloc, id, Waiting { token, waiter })?;
+        let Ok(()) = self.inflights.reserve(1) else {
+            return Err(Error::new(Reason::NoMemory));
+        };
+        let number = self.inflights.vacant_key();
+        if let Err(error) = self.index.insert(hash, key, number as u64) {
+            return Err(error);
+        }
+        let _ = self.inflights.insert_reserved(inflight);
+        self.next_fetch += 1;
+        self.next_token += 1;
+        Ok(Enqueue::Lead {
+            id,
+            token,
+            required_fetch_builder,
+        })
+    }
+
+    /// Who waits for a key's fetch, which is not open any more. None where no fetch of the key is open, or another
+    /// one than was asked for. It takes no memory.
+    pub fn take(&mut self, hash: u64, key: &K, id: Option<u64>) -> Option<Vec<Waiting<N>>>
+        ensures taken { IfSome result (λ waiters. IsSomeAnd (asked id ((opens_of self.old).places (hash, key.now))) (λ o. waiters.items ≡ o.tokens)) }
+        ensures none { IfNone result (asked id ((opens_of self.old).places (hash, key.now)) ≡ None) }
+        ensures opens { OnSome result (opens_of self.new ≡ closed K.eq (opens_of self.old) (hash, key.now)) }
+        ensures same { IfNone result (opens_of self.new ≡ opens_of self.old) }
+    {
+        let number = self.index.get(hash, key)? as usize;
+        let Some(inflight) = self.inflights.get(number) else {
+            unreachable!();
+        };
+        if !inflight.is_asked(id) {
+            return None;
+        }
+        let _ = self.index.remove(hash, key);
+        let Inflight { waiters, .. } = self.inflights.remove(number);
+        Some(waiters)
+    }
+
+    /// A fetch of a key found nothing: the builder that is kept, to fetch with. Without one it is not open any more,
+    /// and who waits is answered. None where that fetch is not open. It takes no memory.
+    pub fn fetch_or_take(&mut self, hash: u64, key: &K, id: u64) -> Option<FetchOrTake<R, N>>
+        ensures answer { IfSome result (λ answer. IsSomeAnd (asked (Some id) ((opens_of self.old).places (hash, key.now))) (λ o. IsFetchOrTake o answer)) }
+        ensures none { IfNone result (asked (Some id) ((opens_of self.old).places (hash, key.now)) ≡ None) }
+        ensures opens { OnSome result (opens_of self.new ≡ after_nothing K.eq (opens_of self.old) (hash, key.now)) }
+        ensures same { IfNone result (opens_of self.new ≡ opens_of self.old) }
+    {
+        if !self.is_open(hash, key, id) {
+            return None;
+        }
+        if let Some(builder) = self.take_later(hash, key) {
+            return Some(FetchOrTake::Fetch(builder));
+        }
+        let Some(waiters) = self.take(hash, key, None) else {
+            unreachable!();
+        };
+        Some(FetchOrTake::Notifiers(waiters))
+    }
+
+    // The builder that a key's open fetch keeps, which it keeps no longer.
+    fn take_later(&mut self, hash: u64, key: &K) -> Option<R>
+        requires { is_some ((opens_of self.old).places (hash, key.now)) ≡ true }
+        ensures later { (o : Place N R) → (opens_of self.old).places (hash, key.now) ≡ Some o → result ≡ o.later }
+        ensures opens { (o : Place N R) → (opens_of self.old).places (hash, key.now) ≡ Some o
+            → opens_of self.new ≡ with_place K.eq (opens_of self.old) (hash, key.now) (Some (record { fetch = o.fetch; tokens = o.tokens; later = None })) }
+    {
+        let number = self.index.get(hash, key)?;
+        let Some(inflight) = self.inflights.get_mut(number as usize) else {
+            unreachable!();
+        };
+        inflight.take_later()
+    }
+
+    /// Whether this fetch of a key is open. It takes no memory.
+    pub fn is_open(&self, hash: u64, key: &K, id: u64) -> bool
+        ensures is_open { IsTrue result ↔ IsOpen (opens_of self.now) (hash, key.now) id }
+        ensures equal_keys { (other : K) → IsTrue (K.eq key.now other)
+            → (opens_of self.now).places (hash, other) ≡ (opens_of self.now).places (hash, key.now) }
+    {
+        match self.find(hash, key) {
+            Some(inflight) => inflight.id == id,
+            None => false,
+        }
+    }
+
+    /// Whether there is no token for one more who asks for a key, or no number for its fetch: `enqueue` would be
+    /// refused (F10). It takes no memory.
+    pub fn lacks(&self, hash: u64, key: &K, ids: u64) -> bool
+        ensures yes { result ≡ true → LacksNumber ids (opens_of self.now) (hash, key.now) }
+        ensures no { result ≡ false → HasNumbers ids (opens_of self.now) (hash, key.now) }
+    {
+        self.next_token >= ids || (self.next_fetch >= ids && self.find(hash, key).is_none())
+    }
+
+    /// How many wait for a key's fetch: 0 where none is open. It takes no memory.
+    pub fn waiters(&self, hash: u64, key: &K) -> usize
+        ensures { result ≡ length (waiters_of ((opens_of self.now).places (hash, key.now))) }
+    {
+        match self.find(hash, key) {
+            Some(inflight) => inflight.waiters.len(),
+            None => 0,
+        }
+    }
+
+    /// Whether no fetch is open. It takes no memory.
+    pub fn is_empty(&self) -> bool
+        ensures { IsTrue result ↔ ((q : ℕ × K) → (opens_of self.now).places q ≡ None) }
+    {
+        self.index.is_empty()
+    }
+
+    // The place of a key.
+    fn find(&self, hash: u64, key: &K) -> Option<&Inflight<N, R>>
+        ensures { option_copied result ≡ (opens_of self.now).places (hash, key.now) }
+    {
+        let number = self.index.get(hash, key)? as usize;
+        self.inflights.get(number)
+    }
+}
