@@ -16,6 +16,7 @@ pub mod Handles
 pub mod Hashing
 pub mod HoldLemmas
 pub mod Holdings
+pub mod Loads
 pub mod PathLemmas
 pub mod ChainLemmas
 pub mod PairLemmas
@@ -25,6 +26,7 @@ pub mod EntryLemmas
 pub mod IndexLemmas
 pub mod IndexerLemmas
 pub mod InTurn
+pub mod InflightLemmas
 pub mod InsertLemmas
 pub mod InsertTold
 pub mod Inserting

@@ -1,5 +1,5 @@
 -- A core as a list of shards.
-use Rattle.std.specs.Prelude.{◌≡◌, ℕ, Bool, ◌+◌, ◌/◌, ◌%◌, ◌==◌, ◌<◌, List, [], Option, Some, None, option_and_then, Result, Ok, Err, IsSomeAnd, if◌then◌else◌, nat_lt, length, slice_get, slice_set, sum_by}
+use Rattle.std.specs.Prelude.{◌≡◌, ℕ, Bool, ◌+◌, ◌/◌, ◌%◌, ◌==◌, ◌<◌, ◌^◌, All, List, [], Option, Some, None, option_and_then, Result, Ok, Err, IsSomeAnd, if◌then◌else◌, nat_lt, length, slice_get, slice_set, sum_by}
 use Rattle.foyer_policy.specs.Policy.{Policy}
 use Rattle.foyer_policy.specs.declared.error.Reason.{Reason}
 use Rattle.foyer_policy.specs.declared.error.Reason.TheVariants.{NoShards}
@@ -93,6 +93,12 @@ module _ {K V P View C : Type 0} (m : Meaning K P View C) where
   -- how many records are in the index, over all shards
   abbrev pub entries_of_core : {S W A : Type 0} → Core K V P View S W A → ℕ
   entries_of_core core = sum_by (λ s. length (m.policy.order s.view)) core.shards
+
+  -- these are the sums over some shards: of the weights of what is in the index, and of how many records are in it;
+  -- none of these passes a word
+  abbrev pub AreSums : ℕ → ℕ → List (State K V P View) → Type 0
+  AreSums usage entries shards = (usage ≡ sum_by (usage_of m) shards) × (entries ≡ sum_by (λ s. length (m.policy.order s.view)) shards)
+      × All (λ s. (usage_of m s < 2 ^ 64) × (length (m.policy.order s.view) < 2 ^ 64)) shards
 
   -- a new shard holds nothing
   pub record IsNewShard (config : C) (number capacity : ℕ) (limits : Limits) (s : State K V P View) : Type 0 where

@@ -4,6 +4,8 @@ pub mod Flags
 pub mod Chains
 pub mod Entries
 pub mod Indexer
+pub mod Inflight
+pub mod Inflights
 pub mod Values
 pub mod Table
 pub mod Near

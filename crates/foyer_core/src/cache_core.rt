@@ -4,27 +4,32 @@ ghost use Rattle.std.specs.Prelude.{◌≡◌, ◌↔◌, ℕ, ◌<◌, true, fa
 ghost use Rattle.std.specs.Option.{option_to_list};
 ghost use Rattle.foyer_policy.specs.declared.error.Reason.TheVariants.{NoMemory};
 ghost use Rattle.foyer_policy.specs.declared.types.Source.TheVariants.{Outer};
-ghost use Rattle.foyer_core.specs.Core.{AreHashed, Belong};
+ghost use Rattle.foyer_core.specs.Core.{AreHashed, AreSums, Belong};
 ghost use Rattle.foyer_core.specs.Shards.{state_of};
 ghost use Rattle.foyer_core.specs.State.{IsAdmitted, MakesPlain, coming_in};
+ghost use Rattle.foyer_core.specs.Stored.{meaning};
 
 use crate::config::RawCacheConfig;
-use crate::entry::{CoreEntry, Left};
-use crate::filter::Filter;
+use crate::entry::{CoreEntry, Leave};
+use crate::filter::{AdmitAll, Filter};
 use crate::indexer::{HashTableIndexer, Indexer};
 use crate::outcome::{Answers, Inserted, Outcome, Refused};
+use crate::properties::CacheProperties;
 use crate::record::Data;
 use crate::shard::Shard;
-use crate::weighter::Weighter;
+use crate::weighter::{UnitWeighter, Weighter};
 use foyer_policy::{
-    Error, Event, Eviction, HashBuilder, Key, Location, Properties, Reason, Result, Source, Value,
+    DefaultHasher, Error, Eviction, HashBuilder, Key, Location, Properties, Reason, Result, Source,
+    Value,
 };
+use load::Load;
 use std::alloc::Global;
 use std::marker::PhantomData;
 
 mod bulk;
 mod entries;
 mod in_turn;
+mod load;
 mod pieces;
 mod shards;
 
@@ -36,14 +41,16 @@ pub struct CacheCore<
     E: Eviction,
     K: Key,
     V: Value,
-    P: Properties,
-    S: HashBuilder,
-    W: Weighter<K, V>,
-    A: Filter<K, V>,
-    N: Drop,
+    P: Properties = CacheProperties,
+    S: HashBuilder = DefaultHasher,
+    W: Weighter<K, V> = UnitWeighter,
+    A: Filter<K, V> = AdmitAll,
+    N: Drop = (),
     I: Indexer<K> = HashTableIndexer<K>,
 > {
     shards: Vec<Shard<E, K, V, P, I>>,
+    // The sums over the shards, kept as these change.
+    load: Load,
     capacity: usize,
     hash_builder: S,
     weighter: W,
@@ -54,6 +61,7 @@ pub struct CacheCore<
     ghost sharded: { 0 < vec_len shards },
     ghost belong: { Belong (map state_of shards.items) },
     ghost hashed: { AreHashed (λ k. S.hash_of hash_builder (K.hash_input k)) (map state_of shards.items) },
+    ghost summed: { AreSums (meaning K.eq E.model P.hint_of P.phantom_of) load.usage load.entries (map state_of shards.items) },
 }
 
 impl<
@@ -82,8 +90,10 @@ impl<
             return Err(Error::new(Reason::NoShards));
         }
         let shards = Self::new_shards(alloc, &config)?;
+        let load = Load::of_all(&shards);
         Ok(CacheCore {
             shards,
+            load,
             capacity: config.capacity,
             hash_builder: config.hash_builder,
             weighter: config.weighter,
@@ -130,22 +140,14 @@ impl<
     pub fn usage(&self) -> u128
         ensures { result ≡ usage_of_core (meaning_of_core self.now) (core_of self.now) }
     {
-        let mut sum = 0;
-        for shard in &self.shards {
-            sum += shard.usage() as u128;
-        }
-        sum
+        self.load.usage
     }
 
     /// How many records a get finds.
     pub fn entries(&self) -> u128
         ensures { result ≡ entries_of_core (meaning_of_core self.now) (core_of self.now) }
     {
-        let mut sum = 0;
-        for shard in &self.shards {
-            sum += shard.entries() as u128;
-        }
-        sum
+        self.load.entries
     }
 
     /// The hash of a key. Equal keys have equal ones.
@@ -262,7 +264,11 @@ impl<
             weight,
         };
         let place = self.place(hash);
-        let (entry, leaves) = self.shards[place].emplace(self.alloc, kept, Source::Outer)?;
+        let before = Load::of(&self.shards[place]);
+        let emplaced = self.shards[place].emplace(self.alloc, kept, Source::Outer);
+        let after = Load::of(&self.shards[place]);
+        self.load.replace(before, after);
+        let (entry, leaves) = emplaced?;
         Ok(self.told_to_nobody(entry, leaves))
     }
 
@@ -270,7 +276,7 @@ impl<
     fn told_to_nobody(
         &self,
         entry: CoreEntry<K, V, P>,
-        leaves: Vec<(Event, Left<K, V, P>)>,
+        leaves: Vec<Leave<K, V, P>>,
     ) -> Inserted<K, V, P, N>
         ensures entry { result.entry ≡ entry }
         ensures leaves { result.leaves ≡ leaves }
@@ -302,7 +308,7 @@ impl<
     pub fn give_back(
         &mut self,
         entry: CoreEntry<K, V, P>,
-    ) -> std::result::Result<Option<(Event, Left<K, V, P>)>, CoreEntry<K, V, P>>
+    ) -> std::result::Result<Option<Leave<K, V, P>>, CoreEntry<K, V, P>>
         ensures owned { IsOk result ↔ Owns (core_of self.old) entry }
         ensures taken { IfOk result (λ leave.
             AtShard (λ s t. GivesBack (meaning_of_core self.old) s entry.id leave t)

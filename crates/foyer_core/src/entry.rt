@@ -7,7 +7,7 @@ ghost use Rattle.foyer_core.specs.Values.{body_of};
 
 use crate::piece::Piece;
 use crate::share::{Body, Share};
-use foyer_policy::{Result, Source};
+use foyer_policy::{Event, Result, Source};
 use std::alloc::Global;
 use std::marker::Model;
 use std::sync::Arc;
@@ -86,8 +86,11 @@ impl<K, V, P> Left<K, V, P> {
     }
 }
 
-/// A handle of a record of a core. It must be spent: by `give_back` of that core, or by `discard` where the
-/// core is gone.
+/// A leave: why a record left, and the record.
+pub type Leave<K, V, P> = (Event, Left<K, V, P>);
+
+/// A handle of a record of a core. It must be spent: by `give_back` or `drop_entry` of that core, or by
+/// `discard` where the core is gone.
 pub struct CoreEntry<K, V, P> {
     number: u64,
     id: u64,

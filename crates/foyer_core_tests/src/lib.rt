@@ -7,4 +7,6 @@ mod cache_core;
 #[cfg(test)]
 mod indexer;
 #[cfg(test)]
+mod inflight;
+#[cfg(test)]
 mod shard;

@@ -5,12 +5,13 @@ ghost use Rattle.foyer_policy.specs.declared.error.Reason.TheVariants.{NoMemory}
 
 use super::CacheCore;
 use super::in_turn::{clear_each, evict_each, evict_each_if, evict_each_to_capacity, share_out};
-use crate::entry::Left;
+use super::load::Load;
+use crate::entry::Leave;
 use crate::filter::Filter;
 use crate::indexer::Indexer;
 use crate::outcome::Refused;
 use crate::weighter::Weighter;
-use foyer_policy::{Event, Eviction, HashBuilder, Key, Properties, Result, Value};
+use foyer_policy::{Eviction, HashBuilder, Key, Properties, Result, Value};
 
 impl<
     E: Eviction,
@@ -33,9 +34,7 @@ impl<
     /// what left. Refused for want of memory alone (F7); then the first shards are done, and some beginning of
     /// the next one's evictions has left, which the refusal hands out. Where nothing is pinned and it is not
     /// refused, nothing is in afterwards.
-    pub fn evict_all(
-        &mut self,
-    ) -> std::result::Result<Vec<(Event, Left<K, V, P>)>, Refused<K, V, P>>
+    pub fn evict_all(&mut self) -> std::result::Result<Vec<Leave<K, V, P>>, Refused<K, V, P>>
         ensures done { IfOk result (λ leaves. OfShards (InTurn (EvictsUnpinned (meaning_of_core self.old)))
             (core_of self.old) leaves.items (core_of self.new)) }
         ensures refused { IfErr result (λ refused. OfShards (InTurnUntil (EvictsUnpinned (meaning_of_core self.old)) (EvictingUnpinned (meaning_of_core self.old)))
@@ -48,7 +47,9 @@ impl<
             (λ refused. IsTold K.eq (hashes_of self.old) (core_of self.old) refused.leaves.items (core_of self.new)) }
     {
         let mut leaves = Vec::new(self.alloc);
-        match evict_each(&mut self.shards, &mut leaves) {
+        let done = evict_each(&mut self.shards, &mut leaves);
+        self.load = Load::of_all(&self.shards);
+        match done {
             Ok(()) => Ok(leaves),
             Err(error) => Err(Refused { error, leaves }),
         }
@@ -62,7 +63,7 @@ impl<
     pub fn resize(
         &mut self,
         capacity: usize,
-    ) -> std::result::Result<Vec<(Event, Left<K, V, P>)>, Refused<K, V, P>>
+    ) -> std::result::Result<Vec<Leave<K, V, P>>, Refused<K, V, P>>
         ensures done { IfOk result (λ leaves. Resizes (meaning_of_core self.old) (InTurn (EvictsToCapacity (meaning_of_core self.old)))
             capacity (core_of self.old) leaves.items (core_of self.new)) }
         ensures refused { IfErr result (λ refused. Resizes (meaning_of_core self.old) (InTurnUntil (EvictsToCapacity (meaning_of_core self.old)) (EvictingToCapacity (meaning_of_core self.old)))
@@ -78,6 +79,7 @@ impl<
         share_out(&mut self.shards, capacity);
         let mut evicted = Vec::new(self.alloc);
         let done = evict_each_to_capacity(&mut self.shards, &mut evicted);
+        self.load = Load::of_all(&self.shards);
         match done {
             Ok(()) => Ok(evicted),
             Err(error) => Err(Refused {
@@ -90,7 +92,7 @@ impl<
     /// Takes everything out, as `Clear`, shard by shard, in each policy's order, and answers what left. Room is
     /// made for all shards first: refused for want of memory alone (F7), and then nothing has changed. Else
     /// nothing is in afterwards.
-    pub fn clear(&mut self) -> Result<Vec<(Event, Left<K, V, P>)>>
+    pub fn clear(&mut self) -> Result<Vec<Leave<K, V, P>>>
         ensures done { IfOk result (λ leaves. OfShards (InTurn (Clears (meaning_of_core self.old)))
             (core_of self.old) leaves.items (core_of self.new)) }
         ensures err { OnErr result (core_of self.new ≡ core_of self.old) }
@@ -101,16 +103,15 @@ impl<
             (λ leaves. IsTold K.eq (hashes_of self.old) (core_of self.old) leaves.items (core_of self.new))
             (λ _. IsTold K.eq (hashes_of self.old) (core_of self.old) [] (core_of self.new)) }
     {
-        clear_each(&mut self.shards, self.alloc)
+        let cleared = clear_each(&mut self.shards, self.alloc);
+        self.load = Load::of_all(&self.shards);
+        cleared
     }
 
     /// Takes the records of which the predicate says yes out, pinned or not, as `Evict`, shard by shard, in each
     /// policy's order, and answers what left. The predicate is asked once of each record, and room is made for
     /// all shards first: refused for want of memory alone (F7), and then nothing has changed.
-    pub fn flush_if<F: Fn(&K, &V) -> bool>(
-        &mut self,
-        predicate: &F,
-    ) -> Result<Vec<(Event, Left<K, V, P>)>>
+    pub fn flush_if<F: Fn(&K, &V) -> bool>(&mut self, predicate: &F) -> Result<Vec<Leave<K, V, P>>>
         requires { F.IsAlwaysCallable predicate.now }
         ensures done { IfOk result (λ leaves. OfShards (InTurn (EvictsIf (meaning_of_core self.old) (Says F.Fn predicate.now)))
             (core_of self.old) leaves.items (core_of self.new)) }
@@ -121,6 +122,8 @@ impl<
             (λ leaves. IsTold K.eq (hashes_of self.old) (core_of self.old) leaves.items (core_of self.new))
             (λ _. IsTold K.eq (hashes_of self.old) (core_of self.old) [] (core_of self.new)) }
     {
-        evict_each_if(&mut self.shards, self.alloc, predicate)
+        let flushed = evict_each_if(&mut self.shards, self.alloc, predicate);
+        self.load = Load::of_all(&self.shards);
+        flushed
     }
 }

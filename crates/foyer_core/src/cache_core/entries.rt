@@ -1,11 +1,12 @@
 //! What a core does with a key, beside a `get`, and with an entry that it owns.
 
-ghost use Rattle.std.specs.Prelude.{◌≡◌, ◌↔◌, [], IsTrue, MatchResult, option_map};
+ghost use Rattle.std.specs.Prelude.{◌≡◌, ◌↔◌, [], None, IsTrue, MatchResult, option_map};
 ghost use Rattle.std.specs.Option.{option_to_list};
 ghost use Rattle.foyer_policy.specs.declared.types.Event.TheVariants.{Remove};
 
 use super::CacheCore;
-use crate::entry::{CoreEntry, Left};
+use super::load::Load;
+use crate::entry::{CoreEntry, Leave, Left};
 use crate::filter::Filter;
 use crate::indexer::Indexer;
 use crate::weighter::Weighter;
@@ -24,9 +25,9 @@ impl<
 > CacheCore<E, K, V, P, S, W, A, N, I> {
     ghost use Rattle.foyer_core.specs.Core.{AtShard, IsOutdatedIn, Owns, refs_in};
     ghost use Rattle.foyer_core.specs.Cores.{core_of, hashes_of, meaning_of_core};
-    ghost use Rattle.foyer_core.specs.Laws.{HandlesStay};
+    ghost use Rattle.foyer_core.specs.Laws.{HandlesStay, one_of};
     ghost use Rattle.foyer_core.specs.Observed.{IsTold};
-    ghost use Rattle.foyer_core.specs.Steps.{ClonesHandle, Removes, Touches};
+    ghost use Rattle.foyer_core.specs.Steps.{ClonesHandle, GivesBack, Removes, Touches};
 
     /// Whether a get finds a record under the key; if it does, that counts as a use, as a `get` does whose
     /// entry is given back at once. Refused at the limit of handles alone (F9); then nothing has changed. It
@@ -57,7 +58,11 @@ impl<
     {
         let hash = self.hash(key);
         let place = self.place(hash);
-        self.shards[place].remove(hash, key)
+        let before = Load::of(&self.shards[place]);
+        let removed = self.shards[place].remove(hash, key);
+        let after = Load::of(&self.shards[place]);
+        self.load.replace(before, after);
+        removed
     }
 
     /// One more entry of the same record, with the same source, which counts as a handle and not as a use. It
@@ -89,5 +94,23 @@ impl<
         ensures { IsTrue result ↔ IsOutdatedIn (core_of self.now) entry.now }
     {
         self.shards[self.place(entry.hash())].is_outdated(entry)
+    }
+
+    /// Ends an entry, as `give_back` does, and answers what left with it. One that the core does not own is
+    /// discarded, and nothing changes. It takes no memory.
+    pub fn drop_entry(&mut self, entry: CoreEntry<K, V, P>) -> Option<Leave<K, V, P>>
+        ensures owned { Owns (core_of self.old) entry → AtShard (λ s t. GivesBack (meaning_of_core self.old) s entry.id result t)
+            entry.kept.hash (core_of self.old) (core_of self.new) }
+        ensures foreign { (Owns (core_of self.old) entry → ⊥) → (result ≡ None) × (core_of self.new ≡ core_of self.old) }
+        ensures stay { HandlesStay (one_of (core_of self.old) entry) (core_of self.old) (core_of self.new) }
+        ensures told { IsTold K.eq (hashes_of self.old) (core_of self.old) (option_to_list result) (core_of self.new) }
+    {
+        match self.give_back(entry) {
+            Ok(leave) => leave,
+            Err(foreign) => {
+                foreign.discard();
+                None
+            }
+        }
     }
 }

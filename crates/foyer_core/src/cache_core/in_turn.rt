@@ -10,17 +10,17 @@ ghost use Rattle.foyer_core.specs.Shards.{state_of};
 ghost use Rattle.foyer_core.specs.Stored.{meaning};
 
 use super::shards::share;
-use crate::entry::Left;
+use crate::entry::Leave;
 use crate::indexer::Indexer;
 use crate::shard::Shard;
-use foyer_policy::{Error, Event, Eviction, Item, Key, Properties, Reason, Result, Value};
+use foyer_policy::{Error, Eviction, Item, Key, Properties, Reason, Result, Value};
 use std::alloc::Global;
 
 // Evicts all that is not pinned. Refused for want of memory alone; then the first shards are done, and some
 // beginning of the next one's evictions has left.
 pub(super) fn evict_each<E: Eviction, K: Key, V: Value, P: Properties, I: Indexer<K>>(
     shards: &mut Vec<Shard<E, K, V, P, I>>,
-    leaves: &mut Vec<(Event, Left<K, V, P>)>,
+    leaves: &mut Vec<Leave<K, V, P>>,
 ) -> Result<()>
     ensures done { OnOk result (GoesOn leaves.old.items leaves.new.items (λ ls. InTurn (EvictsUnpinned (meaning K.eq E.model P.hint_of P.phantom_of))
         (map state_of shards.old.items) ls (map state_of shards.new.items))) }
@@ -39,7 +39,7 @@ pub(super) fn evict_each<E: Eviction, K: Key, V: Value, P: Properties, I: Indexe
 // some beginning of the next one's evictions has left.
 pub(super) fn evict_each_to_capacity<E: Eviction, K: Key, V: Value, P: Properties, I: Indexer<K>>(
     shards: &mut Vec<Shard<E, K, V, P, I>>,
-    leaves: &mut Vec<(Event, Left<K, V, P>)>,
+    leaves: &mut Vec<Leave<K, V, P>>,
 ) -> Result<()>
     ensures done { OnOk result (GoesOn leaves.old.items leaves.new.items (λ ls. InTurn (EvictsToCapacity (meaning K.eq E.model P.hint_of P.phantom_of))
         (map state_of shards.old.items) ls (map state_of shards.new.items))) }
@@ -73,7 +73,7 @@ pub(super) fn share_out<E: Eviction, K: Key, V: Value, P: Properties, I: Indexer
 pub(super) fn clear_each<E: Eviction, K: Key, V: Value, P: Properties, I: Indexer<K>>(
     shards: &mut Vec<Shard<E, K, V, P, I>>,
     alloc: Global,
-) -> Result<Vec<(Event, Left<K, V, P>)>>
+) -> Result<Vec<Leave<K, V, P>>>
     ensures done { IfOk result (λ leaves. InTurn (Clears (meaning K.eq E.model P.hint_of P.phantom_of)) (map state_of shards.old.items) leaves.items (map state_of shards.new.items)) }
     ensures err { OnErr result (map state_of shards.new.items ≡ map state_of shards.old.items) }
     ensures refused { IfErr result (λ e. e ≡ NoMemory) }
@@ -118,7 +118,7 @@ pub(super) fn evict_each_if<
     shards: &mut Vec<Shard<E, K, V, P, I>>,
     alloc: Global,
     predicate: &F,
-) -> Result<Vec<(Event, Left<K, V, P>)>>
+) -> Result<Vec<Leave<K, V, P>>>
     requires { F.IsAlwaysCallable predicate.now }
     ensures done { IfOk result (λ leaves. InTurn (EvictsIf (meaning K.eq E.model P.hint_of P.phantom_of) (Says F.Fn predicate.now)) (map state_of shards.old.items) leaves.items (map state_of shards.new.items)) }
     ensures err { OnErr result (map state_of shards.new.items ≡ map state_of shards.old.items) }

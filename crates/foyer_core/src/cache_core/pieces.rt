@@ -5,6 +5,7 @@ ghost use Rattle.foyer_policy.specs.Properties.{is_phantom};
 ghost use Rattle.foyer_policy.specs.declared.types.Source.TheVariants.{Memory};
 
 use super::CacheCore;
+use super::load::Load;
 use crate::filter::Filter;
 use crate::indexer::Indexer;
 use crate::outcome::{Inserted, Refused};
@@ -79,7 +80,11 @@ impl<
         ensures stay { HandlesStay (λ _. 0) (core_of self.old) (core_of self.new) }
     {
         let place = self.place(hash);
-        let (entry, leaves) = self.shards[place].take_back(self.alloc, piece)?;
+        let before = Load::of(&self.shards[place]);
+        let taken = self.shards[place].take_back(self.alloc, piece);
+        let after = Load::of(&self.shards[place]);
+        self.load.replace(before, after);
+        let (entry, leaves) = taken?;
         Ok(self.told_to_nobody(entry, leaves))
     }
 
@@ -100,7 +105,11 @@ impl<
         let place = self.place(hash);
         let weight = self.weighter.weigh(piece.key(), piece.value());
         let kept = piece.into_share().with(hash, weight);
-        let (entry, leaves) = self.shards[place].take_new(self.alloc, kept)?;
+        let before = Load::of(&self.shards[place]);
+        let taken = self.shards[place].take_new(self.alloc, kept);
+        let after = Load::of(&self.shards[place]);
+        self.load.replace(before, after);
+        let (entry, leaves) = taken?;
         Ok(self.told_to_nobody(entry, leaves))
     }
 }

@@ -1,6 +1,6 @@
 //! An index that reads one head of a chain and, for most keys, one pair.
 
-ghost use Rattle.std.specs.Prelude.{◌≡◌, ℕ, ◌-◌, ◌^◌, ◌<◌, Some, None, IfOk, IfErr, OnOk, OnErr, length, vec_len, vec_capacity};
+ghost use Rattle.std.specs.Prelude.{◌≡◌, ◌↔◌, ℕ, ◌-◌, ◌^◌, ◌<◌, Some, None, IfOk, IfErr, OnOk, OnErr, IsTrue, length, vec_len, vec_capacity};
 ghost use Rattle.std.specs.List.{IsDistinct};
 ghost use Rattle.std.specs.Map.{keys_of, lookup, update};
 ghost use Rattle.std.proofs.lemmas.Map.Keys.{IsDistinct-prop};
@@ -44,6 +44,13 @@ impl<K: Key> HashTableIndexer<K> {
             shift: FIRST_SHIFT,
             alloc,
         }
+    }
+
+    /// Whether there is no key. It takes no memory.
+    pub fn is_empty(&self) -> bool
+        ensures { IsTrue result ↔ ((q : ℕ × K) → ⟦<HashTableIndexer<K> as Indexer<K>>⟧.view self.now q ≡ None) }
+    {
+        self.pairs.as_slice().is_empty()
     }
 
     // Makes room for one more pair, and for its chain.

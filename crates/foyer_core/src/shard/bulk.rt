@@ -4,7 +4,7 @@ ghost use Rattle.std.specs.Prelude.{◌≡◌, ℕ, None, OnOk, OnErr, IfErr};
 ghost use Rattle.foyer_policy.specs.declared.error.Reason.TheVariants.{NoMemory};
 
 use super::Shard;
-use crate::entry::Left;
+use crate::entry::Leave;
 use crate::indexer::Indexer;
 use foyer_policy::{Error, Event, Eviction, Key, Properties, Reason, Result, Value};
 
@@ -24,7 +24,7 @@ impl<E: Eviction, K: Key, V: Value, P: Properties, I: Indexer<K>> Shard<E, K, V,
 
     /// Evicts until the usage is at most the capacity, or nothing more leaves, and appends what leaves. Refused
     /// for want of memory alone (F7); then some beginning of the evictions has left, and stands in the list.
-    pub fn evict_to_capacity(&mut self, leaves: &mut Vec<(Event, Left<K, V, P>)>) -> Result<()>
+    pub fn evict_to_capacity(&mut self, leaves: &mut Vec<Leave<K, V, P>>) -> Result<()>
         ensures done { OnOk result (GoesOn leaves.old.items leaves.new.items (λ ls. EvictsToCapacity (meaning_of self.old) (state_of self.old) ls (state_of self.new))) }
         ensures refused { OnErr result (GoesOn leaves.old.items leaves.new.items (λ ls. EvictingToCapacity (meaning_of self.old) (state_of self.old) ls (state_of self.new))) }
         ensures reason { IfErr result (λ e. e ≡ NoMemory) }
@@ -34,7 +34,7 @@ impl<E: Eviction, K: Key, V: Value, P: Properties, I: Indexer<K>> Shard<E, K, V,
 
     /// Evicts all that is not pinned, in the order in which the policy gives it, and appends what leaves.
     /// Refused for want of memory alone (F7); then some beginning of it has left, and stands in the list.
-    pub fn evict_unpinned(&mut self, leaves: &mut Vec<(Event, Left<K, V, P>)>) -> Result<()>
+    pub fn evict_unpinned(&mut self, leaves: &mut Vec<Leave<K, V, P>>) -> Result<()>
         ensures done { OnOk result (GoesOn leaves.old.items leaves.new.items (λ ls. EvictsUnpinned (meaning_of self.old) (state_of self.old) ls (state_of self.new))) }
         ensures refused { OnErr result (GoesOn leaves.old.items leaves.new.items (λ ls. EvictingUnpinned (meaning_of self.old) (state_of self.old) ls (state_of self.new))) }
         ensures reason { IfErr result (λ e. e ≡ NoMemory) }

@@ -12,7 +12,7 @@ ghost use Rattle.foyer_core.specs.Table.{rec_of, slot_outside};
 ghost use Rattle.foyer_core.specs.Records.{slot_in, record_in, HasRoom};
 
 use super::Shard;
-use crate::entry::Left;
+use crate::entry::{Leave, Left};
 use crate::indexer::Indexer;
 use crate::records::Records;
 use foyer_policy::{Event, Eviction, Item, Key, Properties, Result, Value};
@@ -35,7 +35,7 @@ impl<E: Eviction, K: Key, V: Value, P: Properties, I: Indexer<K>> Shard<E, K, V,
 
     /// Takes everything out, as `Clear`, in the policy's order, and appends what leaves. It asks for the room
     /// and the items of `reserve_clear`, and for room in the list; it takes no memory.
-    pub fn clear(&mut self, items: &[Item], leaves: &mut Vec<(Event, Left<K, V, P>)>)
+    pub fn clear(&mut self, items: &[Item], leaves: &mut Vec<Leave<K, V, P>>)
         requires can_clear { E.can_clear self.old.eviction }
         requires items { items.now ≡ E.model.order (state_of self.old).view }
         requires room { vec_len leaves.old + length items.now ≤ vec_capacity leaves.old }
@@ -61,7 +61,7 @@ impl<E: Eviction, K: Key, V: Value, P: Properties, I: Indexer<K>> Shard<E, K, V,
         records: &mut Records<K, V, P>,
         number: u64,
         items: &[Item],
-        leaves: &mut Vec<(Event, Left<K, V, P>)>,
+        leaves: &mut Vec<Leave<K, V, P>>,
     )
         requires lined { Lined (meaning K.eq E.model P.hint_of P.phantom_of) number (I.view index.old) records.old items.now }
         requires room { vec_len leaves.old + length items.now ≤ vec_capacity leaves.old }

@@ -5,7 +5,7 @@ ghost use Rattle.foyer_policy.specs.declared.error.Reason.TheVariants.{NoMemory}
 ghost use Rattle.foyer_core.specs.Records.{HasRoom};
 
 use super::Shard;
-use crate::entry::Left;
+use crate::entry::{Leave, Left};
 use crate::indexer::Indexer;
 use foyer_policy::{Error, Event, Eviction, Key, Properties, Reason, Result, Value};
 use std::alloc::Global;
@@ -45,7 +45,7 @@ impl<E: Eviction, K: Key, V: Value, P: Properties, I: Indexer<K>> Shard<E, K, V,
         &mut self,
         alloc: Global,
         target: usize,
-    ) -> std::result::Result<Vec<(Event, Left<K, V, P>)>, Vec<(Event, Left<K, V, P>)>>
+    ) -> std::result::Result<Vec<Leave<K, V, P>>, Vec<Leave<K, V, P>>>
         ensures done { IfOk result (λ leaves. Evicts (meaning_of self.old) target (state_of self.old) leaves.items (state_of self.new)) }
         ensures refused { IfErr result (λ leaves. Evicting (meaning_of self.old) target (state_of self.old) leaves.items (state_of self.new)) }
         ensures one_more { IfOk result (λ leaves. vec_len leaves < vec_capacity leaves) }
@@ -64,11 +64,7 @@ impl<E: Eviction, K: Key, V: Value, P: Properties, I: Indexer<K>> Shard<E, K, V,
 
     /// Evicts until the usage is at most the target, or nothing more leaves, and appends what leaves. Refused
     /// for want of memory alone (F7); then some beginning of the evictions has left, and stands in the list.
-    pub fn evict_onto(
-        &mut self,
-        leaves: &mut Vec<(Event, Left<K, V, P>)>,
-        target: usize,
-    ) -> Result<()>
+    pub fn evict_onto(&mut self, leaves: &mut Vec<Leave<K, V, P>>, target: usize) -> Result<()>
         ensures done { OnOk result (GoesOn leaves.old.items leaves.new.items (λ ls. Evicts (meaning_of self.old) target (state_of self.old) ls (state_of self.new))) }
         ensures refused { OnErr result (GoesOn leaves.old.items leaves.new.items (λ ls. Evicting (meaning_of self.old) target (state_of self.old) ls (state_of self.new))) }
         ensures reason { IfErr result (λ e. e ≡ NoMemory) }

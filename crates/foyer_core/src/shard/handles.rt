@@ -5,7 +5,7 @@ ghost use Rattle.foyer_core.specs.Values.{Kept};
 ghost use Rattle.foyer_core.specs.Records.{slot_in};
 
 use super::Shard;
-use crate::entry::{CoreEntry, Left};
+use crate::entry::{CoreEntry, Leave};
 use crate::indexer::Indexer;
 use foyer_policy::{Error, Event, Eviction, Key, Properties, Reason, Result, Source, Value};
 
@@ -45,7 +45,7 @@ impl<E: Eviction, K: Key, V: Value, P: Properties, I: Indexer<K>> Shard<E, K, V,
     pub fn give_back(
         &mut self,
         entry: CoreEntry<K, V, P>,
-    ) -> std::result::Result<Option<(Event, Left<K, V, P>)>, CoreEntry<K, V, P>>
+    ) -> std::result::Result<Option<Leave<K, V, P>>, CoreEntry<K, V, P>>
         ensures taken { IfOk result (λ leave. (entry.number ≡ (state_of self.old).number) × GivesBack (meaning_of self.old) (state_of self.old) entry.id leave (state_of self.new)) }
         ensures returned { IfErr result (λ e. e ≡ entry) }
         ensures foreign { OnErr result ((entry.number ≢ (state_of self.old).number) ⊎ (handles_in (state_of self.old) entry.id ≡ 0)) }
@@ -81,7 +81,7 @@ impl<E: Eviction, K: Key, V: Value, P: Properties, I: Indexer<K>> Shard<E, K, V,
     }
 
     // The last handle of a record that is not in the index is gone.
-    fn forget(&mut self, slot: usize) -> Option<(Event, Left<K, V, P>)>
+    fn forget(&mut self, slot: usize) -> Option<Leave<K, V, P>>
         requires { IsSomeAnd (slot_in self.old.records slot) (λ s. (s.handles ≡ 1) × (s.resident ≡ false)) }
         ensures { (s : Kept K V P) → slot_in self.old.records slot ≡ Some s → GivesBack (meaning_of self.old) (state_of self.old) s.id result (state_of self.new) }
     {

@@ -12,7 +12,7 @@ ghost use Rattle.foyer_core.specs.Table.{rec_of, slot_outside};
 ghost use Rattle.foyer_core.specs.Records.{slot_in, record_in, number_of, HasRoom};
 
 use super::Shard;
-use crate::entry::{CoreEntry, Left};
+use crate::entry::{CoreEntry, Leave, Left};
 use crate::indexer::Indexer;
 use crate::outcome::Refused;
 use crate::record::Data;
@@ -43,7 +43,7 @@ impl<E: Eviction, K: Key, V: Value, P: Properties, I: Indexer<K>> Shard<E, K, V,
         alloc: Global,
         kept: Data<K, V, P>,
         source: Source,
-    ) -> std::result::Result<(CoreEntry<K, V, P>, Vec<(Event, Left<K, V, P>)>), Refused<K, V, P>>
+    ) -> std::result::Result<(CoreEntry<K, V, P>, Vec<Leave<K, V, P>>), Refused<K, V, P>>
         requires clones { (k c : K) → K.is_clone k c → K.eq c k ≡ true }
         ensures inserted { MatchResult result
             (λ made. Inserts (meaning_of self.old) source (state_of self.old) (newcomer (state_of self.old) kept) made.1.items made.0 (state_of self.new))
@@ -61,7 +61,7 @@ impl<E: Eviction, K: Key, V: Value, P: Properties, I: Indexer<K>> Shard<E, K, V,
         alloc: Global,
         kept: Data<K, V, P>,
         source: Source,
-    ) -> std::result::Result<(CoreEntry<K, V, P>, Vec<(Event, Left<K, V, P>)>), Refused<K, V, P>>
+    ) -> std::result::Result<(CoreEntry<K, V, P>, Vec<Leave<K, V, P>>), Refused<K, V, P>>
         requires clones { (k c : K) → K.is_clone k c → K.eq c k ≡ true }
         requires plain { is_phantom (P.phantom_of kept.properties) ≡ false }
         ensures inserted { MatchResult result
@@ -85,7 +85,7 @@ impl<E: Eviction, K: Key, V: Value, P: Properties, I: Indexer<K>> Shard<E, K, V,
         alloc: Global,
         slot: Slot<K, V, P>,
         source: Source,
-    ) -> std::result::Result<(CoreEntry<K, V, P>, Vec<(Event, Left<K, V, P>)>), Refused<K, V, P>>
+    ) -> std::result::Result<(CoreEntry<K, V, P>, Vec<Leave<K, V, P>>), Refused<K, V, P>>
         requires clones { (k c : K) → K.is_clone k c → K.eq c k ≡ true }
         requires plain { is_phantom (P.phantom_of slot.kept.properties) ≡ false }
         requires apart { slot ≡ record slot { resident = false; place = None } }

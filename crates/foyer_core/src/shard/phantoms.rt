@@ -6,7 +6,7 @@ ghost use Rattle.foyer_core.specs.Values.{Rec, incoming_of};
 
 use super::Shard;
 use super::insertion::above;
-use crate::entry::{CoreEntry, Left};
+use crate::entry::{CoreEntry, Leave, Left};
 use crate::indexer::Indexer;
 use crate::outcome::Refused;
 use crate::record::Data;
@@ -25,7 +25,7 @@ impl<E: Eviction, K: Key, V: Value, P: Properties, I: Indexer<K>> Shard<E, K, V,
         alloc: Global,
         kept: Data<K, V, P>,
         source: Source,
-    ) -> std::result::Result<(CoreEntry<K, V, P>, Vec<(Event, Left<K, V, P>)>), Refused<K, V, P>>
+    ) -> std::result::Result<(CoreEntry<K, V, P>, Vec<Leave<K, V, P>>), Refused<K, V, P>>
         ensures inserted { MatchResult result
             (λ made. InsertsPhantom (meaning_of self.old) source (state_of self.old) (newcomer (state_of self.old) kept) made.1.items made.0 (state_of self.new))
             (λ refused. RefusesPhantom (meaning_of self.old) (state_of self.old) (newcomer (state_of self.old) kept) refused.error refused.leaves.items (state_of self.new)) }
@@ -47,7 +47,7 @@ impl<E: Eviction, K: Key, V: Value, P: Properties, I: Indexer<K>> Shard<E, K, V,
         alloc: Global,
         slot: Slot<K, V, P>,
         source: Source,
-    ) -> std::result::Result<(CoreEntry<K, V, P>, Vec<(Event, Left<K, V, P>)>), Refused<K, V, P>>
+    ) -> std::result::Result<(CoreEntry<K, V, P>, Vec<Leave<K, V, P>>), Refused<K, V, P>>
         requires apart { slot ≡ record slot { resident = false; place = None } }
         requires out { (r : Rec K V P) → (state_of self.old).records slot.id ≡ Some r → r.resident ≡ false }
         requires number { slot.id + 1 < 2 ^ 64 }
@@ -75,13 +75,7 @@ impl<E: Eviction, K: Key, V: Value, P: Properties, I: Indexer<K>> Shard<E, K, V,
         alloc: Global,
         slot: &Slot<K, V, P>,
         source: Source,
-    ) -> Result<
-        (
-            CoreEntry<K, V, P>,
-            Left<K, V, P>,
-            Vec<(Event, Left<K, V, P>)>,
-        ),
-    >
+    ) -> Result<(CoreEntry<K, V, P>, Left<K, V, P>, Vec<Leave<K, V, P>>)>
         ensures same { state_of self.new ≡ state_of self.old }
         ensures entry { IfOk result (λ made. made.0 ≡ entry_of (state_of self.old) slot.now.id slot.now.kept source) }
         ensures gone { IfOk result (λ made. made.1 ≡ record { number = self.old.number; id = slot.now.id; kept = slot.now.kept }) }

@@ -8,7 +8,7 @@ ghost use Rattle.foyer_core.specs.Records.{HasRoom};
 
 use super::Shard;
 use super::clearing::leave_slot;
-use crate::entry::Left;
+use crate::entry::{Leave, Left};
 use crate::indexer::Indexer;
 use foyer_policy::{Error, Event, Eviction, Item, Key, Properties, Reason, Result, Value};
 use std::alloc::Global;
@@ -23,7 +23,7 @@ impl<E: Eviction, K: Key, V: Value, P: Properties, I: Indexer<K>> Shard<E, K, V,
         &mut self,
         alloc: Global,
         predicate: &F,
-    ) -> Result<Vec<(Event, Left<K, V, P>)>>
+    ) -> Result<Vec<Leave<K, V, P>>>
         requires { F.IsAlwaysCallable predicate.now }
         ensures done { IfOk result (λ leaves. EvictsIf (meaning_of self.old) (Says F.Fn predicate.now) (state_of self.old) leaves.items (state_of self.new)) }
         ensures err { OnErr result (state_of self.new ≡ state_of self.old) }
@@ -76,7 +76,7 @@ impl<E: Eviction, K: Key, V: Value, P: Properties, I: Indexer<K>> Shard<E, K, V,
 
     /// Takes the records of these items out, as `Evict`, in this order, and appends what leaves. It asks for
     /// items that are in, each once, as `pick` gives them, and for room in the list; it takes no memory.
-    pub fn evict_picked(&mut self, picked: &[Item], leaves: &mut Vec<(Event, Left<K, V, P>)>)
+    pub fn evict_picked(&mut self, picked: &[Item], leaves: &mut Vec<Leave<K, V, P>>)
         requires within { IsWithin picked.now (E.model.order (state_of self.old).view) }
         requires room { vec_len leaves.old + length picked.now ≤ vec_capacity leaves.old }
         ensures told { GoesOn leaves.old.items leaves.new.items (λ ls. TakesOut (meaning_of self.old) Evict picked.now (state_of self.old) ls (state_of self.new)) }

@@ -6,13 +6,13 @@ ghost use Rattle.foyer_core.specs.Records.{slot_in};
 ghost use Rattle.foyer_core.specs.Values.{Carried, Kept, Rec, incoming_of};
 
 use super::Shard;
-use crate::entry::{CoreEntry, Left};
+use crate::entry::{CoreEntry, Leave};
 use crate::indexer::Indexer;
 use crate::outcome::Refused;
 use crate::piece::Piece;
 use crate::share::Share;
 use crate::slot::Slot;
-use foyer_policy::{Event, Eviction, Key, Properties, Reason, Source, Value};
+use foyer_policy::{Eviction, Key, Properties, Reason, Source, Value};
 use std::alloc::Global;
 
 impl<E: Eviction, K: Key, V: Value, P: Properties, I: Indexer<K>> Shard<E, K, V, P, I> {
@@ -38,7 +38,7 @@ impl<E: Eviction, K: Key, V: Value, P: Properties, I: Indexer<K>> Shard<E, K, V,
         &mut self,
         alloc: Global,
         piece: Piece<K, V, P>,
-    ) -> std::result::Result<(CoreEntry<K, V, P>, Vec<(Event, Left<K, V, P>)>), Refused<K, V, P>>
+    ) -> std::result::Result<(CoreEntry<K, V, P>, Vec<Leave<K, V, P>>), Refused<K, V, P>>
         requires clones { (k c : K) → K.is_clone k c → K.eq c k ≡ true }
         requires given { piece.id < (state_of self.old).next }
         ensures returned { MatchResult result
@@ -57,7 +57,7 @@ impl<E: Eviction, K: Key, V: Value, P: Properties, I: Indexer<K>> Shard<E, K, V,
         &mut self,
         alloc: Global,
         kept: Share<K, V, P>,
-    ) -> std::result::Result<(CoreEntry<K, V, P>, Vec<(Event, Left<K, V, P>)>), Refused<K, V, P>>
+    ) -> std::result::Result<(CoreEntry<K, V, P>, Vec<Leave<K, V, P>>), Refused<K, V, P>>
         requires clones { (k c : K) → K.is_clone k c → K.eq c k ≡ true }
         ensures inserted { MatchResult result
             (λ made. Inserts (meaning_of self.old) Memory (state_of self.old) (newcomer (state_of self.old) kept) made.1.items made.0 (state_of self.new))
@@ -72,7 +72,7 @@ impl<E: Eviction, K: Key, V: Value, P: Properties, I: Indexer<K>> Shard<E, K, V,
         &mut self,
         alloc: Global,
         slot: usize,
-    ) -> std::result::Result<(CoreEntry<K, V, P>, Vec<(Event, Left<K, V, P>)>), Refused<K, V, P>>
+    ) -> std::result::Result<(CoreEntry<K, V, P>, Vec<Leave<K, V, P>>), Refused<K, V, P>>
         requires clones { (k c : K) → K.is_clone k c → K.eq c k ≡ true }
         requires there { IsSomeAnd (slot_in self.old.records slot) (λ s. s.id < (state_of self.old).next) }
         ensures returned { (s : Kept K V P) → slot_in self.old.records slot ≡ Some s → (piece : Carried K V P) → piece.id ≡ s.id → MatchResult result
@@ -108,7 +108,7 @@ impl<E: Eviction, K: Key, V: Value, P: Properties, I: Indexer<K>> Shard<E, K, V,
         &mut self,
         alloc: Global,
         slot: Slot<K, V, P>,
-    ) -> std::result::Result<(CoreEntry<K, V, P>, Vec<(Event, Left<K, V, P>)>), Refused<K, V, P>>
+    ) -> std::result::Result<(CoreEntry<K, V, P>, Vec<Leave<K, V, P>>), Refused<K, V, P>>
         requires clones { (k c : K) → K.is_clone k c → K.eq c k ≡ true }
         requires apart { slot ≡ record slot { resident = false; place = None } }
         requires out { (r : Rec K V P) → (state_of self.old).records slot.id ≡ Some r → r.resident ≡ false }
@@ -128,7 +128,7 @@ impl<E: Eviction, K: Key, V: Value, P: Properties, I: Indexer<K>> Shard<E, K, V,
         &mut self,
         alloc: Global,
         slot: Slot<K, V, P>,
-    ) -> std::result::Result<(CoreEntry<K, V, P>, Vec<(Event, Left<K, V, P>)>), Refused<K, V, P>>
+    ) -> std::result::Result<(CoreEntry<K, V, P>, Vec<Leave<K, V, P>>), Refused<K, V, P>>
         requires clones { (k c : K) → K.is_clone k c → K.eq c k ≡ true }
         requires apart { slot ≡ record slot { resident = false; place = None } }
         requires out { (r : Rec K V P) → (state_of self.old).records slot.id ≡ Some r → r.resident ≡ false }

@@ -8,6 +8,7 @@ use Rattle.foyer_core.proofs.CoreLaws.{stays_at}
 use Rattle.foyer_core.proofs.CoreLemmas.{at_over, core_over}
 use Rattle.foyer_core.proofs.Staying.{RecordsStay, nothing, clones_stay}
 use Rattle.foyer_core.proofs.Hashing.{IsHashed, hashed_over}
+use Rattle.foyer_core.proofs.Loads.{sums_same, clones_load}
 use Rattle.foyer_core.proofs.Origins.{belongs_over, clones_from}
 use Rattle.foyer_core.proofs.Sound.{core_sound}
 use Rattle.foyer_core.proofs.cache_core.CacheCore.clone_handle.Goals as goal
@@ -27,6 +28,14 @@ invariant_of-self-clause-hashed g c =
     let y = c.clone_handle.new.self in
     hashed_over (λ k. g.S.HashBuilder.hash_of s.hash_builder (g.K.Hash.hash_input k)) state_of s.shards.items (vec_len s.shards) c.place-place.result x s.shards.ok.0 c.place-place.ensures.within c.index_mut.ensures.value
     y (clones_from (IsHashed (λ k. g.S.HashBuilder.hash_of s.hash_builder (g.K.Hash.hash_input k))) (state_of x) c.args.entry.now c.clone_handle.result (state_of y) c.clone_handle.ensures.clones) s.hashed
+
+pub invariant_of-self-clause-summed : goal.invariant_of-self-clause-summed
+invariant_of-self-clause-summed g c =
+    let s = c.args.self.now in
+    let x = c.index_mut.result.now in
+    let y = c.clone_handle.new.self in
+    sums_same (meaning_of_core s) state_of s.shards.items (vec_len s.shards) c.place-place.result x s.load.usage s.load.entries s.shards.ok.0 c.place-place.ensures.within c.index_mut.ensures.value s.summed
+    y (clones_load (meaning_of_core s) g.met.E.Eviction.lawful (state_of x) (state_of y) c.args.entry.now c.clone_handle.result c.clone_handle.ensures.clones)
 
 pub returns : goal.returns
 returns g c =

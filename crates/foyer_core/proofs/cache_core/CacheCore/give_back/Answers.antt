@@ -11,6 +11,7 @@ use Rattle.foyer_core.proofs.CoreLaws.{gives_at}
 use Rattle.foyer_core.proofs.CoreLemmas.{at_over, core_over, same_over}
 use Rattle.foyer_core.proofs.Staying.{RecordsStay, one, given_back_stays}
 use Rattle.foyer_core.proofs.Hashing.{IsHashed, hashed_over}
+use Rattle.foyer_core.proofs.Loads.{sums_same, given_back_load}
 use Rattle.foyer_core.proofs.Origins.{belongs_over, given_back_from}
 use Rattle.foyer_core.proofs.Sound.{core_sound}
 use Rattle.foyer_core.proofs.cache_core.CacheCore.give_back.Goals as goal
@@ -32,6 +33,15 @@ invariant_of-self-clause-hashed g c =
     let y = c.give_back.new.self in
     hashed_over (λ k. g.S.HashBuilder.hash_of s.hash_builder (g.K.Hash.hash_input k)) state_of s.shards.items (vec_len s.shards) c.place-place.result x s.shards.ok.0 c.place-place.ensures.within c.index_mut.ensures.value
     y (given_back_from (IsHashed (λ k. g.S.HashBuilder.hash_of s.hash_builder (g.K.Hash.hash_input k))) (meaning_of x) (state_of x) e.id (λ leave. e.number ≡ (state_of x).number) c.give_back.result (state_of y) c.give_back.ensures.taken c.give_back.ensures.err) s.hashed
+
+pub invariant_of-self-clause-summed : goal.invariant_of-self-clause-summed
+invariant_of-self-clause-summed g c =
+    let s = c.args.self.now in
+    let e = c.args.entry in
+    let x = c.index_mut.result.now in
+    let y = c.give_back.new.self in
+    sums_same (meaning_of_core s) state_of s.shards.items (vec_len s.shards) c.place-place.result x s.load.usage s.load.entries s.shards.ok.0 c.place-place.ensures.within c.index_mut.ensures.value s.summed
+    y (given_back_load (meaning_of x) g.met.E.Eviction.lawful (state_of x) (state_of y) e.id (λ leave. e.number ≡ (state_of x).number) c.give_back.result x.kept c.give_back.ensures.taken c.give_back.ensures.err)
 
 pub returns-clause-taken : goal.returns-clause-taken
 returns-clause-taken g c =

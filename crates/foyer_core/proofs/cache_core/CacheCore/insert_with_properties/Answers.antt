@@ -1,4 +1,4 @@
-use Rattle.std.proofs.Common.{refl, ap, ◌∙◌, ℕ, ◌%◌, vec_len, ◌≡◌, true}
+use Rattle.std.proofs.Common.{refl, ap, ◌∙◌, ℕ, ◌%◌, vec_len, ◌≡◌, true, arith}
 use Rattle.std.specs.Prelude.{MatchResult, slice_set}
 use Rattle.foyer_core.specs.Observed.{IsTold, IsToldWith}
 use Rattle.foyer_policy.specs.declared.types.Source.TheVariants.{Outer}
@@ -16,6 +16,7 @@ use Rattle.foyer_core.proofs.Staying.{RecordsStay, nothing}
 use Rattle.foyer_core.proofs.Inserting.{came_stays, came_plain, refused_stay}
 use Rattle.foyer_core.proofs.StoredLemmas.{err_is}
 use Rattle.foyer_core.proofs.Hashing.{IsHashed, hashed_over}
+use Rattle.foyer_core.proofs.Loads.{sums_set, usage_fits, entries_fit}
 use Rattle.foyer_core.proofs.Origins.{belongs_over, emplaced_from}
 use Rattle.foyer_core.proofs.Sound.{core_sound}
 use Rattle.foyer_core.proofs.cache_core.CacheCore.insert_with_properties.Goals as goal
@@ -24,27 +25,58 @@ pub invariant_of-self-clause-belong : goal.invariant_of-self-clause-belong
 invariant_of-self-clause-belong g c =
     let s = c.args.self.now in
     let x = c.index_mut.result.now in
-    let y = c.emplace.new.self in
+    let y = c.emplace-emplaced.new.self in
     let d : Data g.row.K.Denot g.row.V.Denot g.row.P.Denot = record { key = c.args.key; value = c.args.value; properties = c.marked-properties.result; hash = c.hash-hash.result; weight = c.weigh-weight.result } in
     belongs_over state_of s.shards.items c.hash-hash.result (vec_len s.shards) c.place-place.result x s.shards.ok.0 c.place-place.ensures.within c.place-place.ensures.place c.index_mut.ensures.value
-    y (emplaced_from (λ e. e.hash ≡ c.hash-hash.result) (meaning_of x) c.emplace.result (λ made. made.1.items) (λ made. made.0) (λ refused. refused.error) (λ refused. refused.leaves.items)
-    Outer (state_of x) d (state_of y) c.emplace.ensures.inserted refl) s.belong
+    y (emplaced_from (λ e. e.hash ≡ c.hash-hash.result) (meaning_of x) c.emplace-emplaced.result (λ made. made.1.items) (λ made. made.0) (λ refused. refused.error) (λ refused. refused.leaves.items)
+    Outer (state_of x) d (state_of y) c.emplace-emplaced.ensures.inserted refl) s.belong
 
 pub invariant_of-self-clause-hashed : goal.invariant_of-self-clause-hashed
 invariant_of-self-clause-hashed g c =
     let s = c.args.self.now in
     let x = c.index_mut.result.now in
-    let y = c.emplace.new.self in
+    let y = c.emplace-emplaced.new.self in
     let d : Data g.row.K.Denot g.row.V.Denot g.row.P.Denot = record { key = c.args.key; value = c.args.value; properties = c.marked-properties.result; hash = c.hash-hash.result; weight = c.weigh-weight.result } in
     hashed_over (λ k. g.S.HashBuilder.hash_of s.hash_builder (g.K.Hash.hash_input k)) state_of s.shards.items (vec_len s.shards) c.place-place.result x s.shards.ok.0 c.place-place.ensures.within c.index_mut.ensures.value
-    y (emplaced_from (IsHashed (λ k. g.S.HashBuilder.hash_of s.hash_builder (g.K.Hash.hash_input k))) (meaning_of x) c.emplace.result (λ made. made.1.items) (λ made. made.0) (λ refused. refused.error) (λ refused. refused.leaves.items)
-    Outer (state_of x) d (state_of y) c.emplace.ensures.inserted c.hash-hash.ensures.hash) s.hashed
+    y (emplaced_from (IsHashed (λ k. g.S.HashBuilder.hash_of s.hash_builder (g.K.Hash.hash_input k))) (meaning_of x) c.emplace-emplaced.result (λ made. made.1.items) (λ made. made.0) (λ refused. refused.error) (λ refused. refused.leaves.items)
+    Outer (state_of x) d (state_of y) c.emplace-emplaced.ensures.inserted c.hash-hash.ensures.hash) s.hashed
+
+pub invariant_of-self-clause-summed : goal.invariant_of-self-clause-summed
+invariant_of-self-clause-summed g c =
+    let s = c.args.self.now in
+    let before = c.of-before in
+    let after = c.of-after in
+    sums_set (meaning_of_core s) state_of s.shards.items (vec_len s.shards) c.place-place.result c.index.result.now s.load.usage s.load.entries
+    s.shards.ok.0 (omega (arith, s.shards.ok.1, s.shards.small)) c.place-place.ensures.within c.index.ensures s.summed
+    before.result.usage before.result.entries before.ensures.usage before.ensures.entries
+    c.emplace-emplaced.new.self c.index-2.result.now c.index-2.ensures after.result.usage after.result.entries after.ensures.usage after.ensures.entries after.ensures.small
+    c.replace.new.self.usage c.replace.new.self.entries c.replace.ensures.usage c.replace.ensures.entries
+
+pub replace-requires-clause-usage : goal.replace-requires-clause-usage
+replace-requires-clause-usage g c =
+    let s = c.args.self.now in
+    let before = c.of-before in
+    let after = c.of-after in
+    usage_fits (meaning_of_core s) state_of s.shards.items (vec_len s.shards) c.place-place.result c.index.result.now s.load.usage s.load.entries
+    s.shards.ok.0 (omega (arith, s.shards.ok.1, s.shards.small)) c.place-place.ensures.within c.index.ensures s.summed
+    before.result.usage before.result.entries before.ensures.usage before.ensures.entries
+    c.emplace-emplaced.new.self c.index-2.result.now c.index-2.ensures after.result.usage after.result.entries after.ensures.usage after.ensures.entries after.ensures.small
+
+pub replace-requires-clause-entries : goal.replace-requires-clause-entries
+replace-requires-clause-entries g c =
+    let s = c.args.self.now in
+    let before = c.of-before in
+    let after = c.of-after in
+    entries_fit (meaning_of_core s) state_of s.shards.items (vec_len s.shards) c.place-place.result c.index.result.now s.load.usage s.load.entries
+    s.shards.ok.0 (omega (arith, s.shards.ok.1, s.shards.small)) c.place-place.ensures.within c.index.ensures s.summed
+    before.result.usage before.result.entries before.ensures.usage before.ensures.entries
+    c.emplace-emplaced.new.self c.index-2.result.now c.index-2.ensures after.result.usage after.result.entries after.ensures.usage after.ensures.entries after.ensures.small
 
 pub returns-in_err-entry-clause-inserted : goal.returns-in_err-entry-clause-inserted
 returns-in_err-entry-clause-inserted g c =
     let s = c.args.self.now in
     let x = c.index_mut.result.now in
-    let y = c.emplace.new.self in
+    let y = c.emplace-emplaced.new.self in
     let hash = g.S.HashBuilder.hash_of s.hash_builder (g.K.Hash.hash_input c.args.key) in
     let d : Data g.row.K.Denot g.row.V.Denot g.row.P.Denot = record { key = c.args.key; value = c.args.value; properties = coming_in g.P.Properties.location_of g.P.Properties.with_phantom_of c.admit-admitted.result c.args.properties; hash = hash; weight = c.weigh-weight.result } in
     let over = at_over state_of s.capacity s.hash_builder s.weighter s.filter s.shards.items hash (vec_len s.shards) c.place-place.result x
@@ -66,7 +98,7 @@ pub returns-in_err-entry-clause-stay : goal.returns-in_err-entry-clause-stay
 returns-in_err-entry-clause-stay g c =
     let s = c.args.self.now in
     let x = c.index_mut.result.now in
-    let y = c.emplace.new.self in
+    let y = c.emplace-emplaced.new.self in
     let hash = g.S.HashBuilder.hash_of s.hash_builder (g.K.Hash.hash_input c.args.key) in
     let d : Data g.row.K.Denot g.row.V.Denot g.row.P.Denot = record { key = c.args.key; value = c.args.value; properties = coming_in g.P.Properties.location_of g.P.Properties.with_phantom_of c.admit-admitted.result c.args.properties; hash = hash; weight = c.weigh-weight.result } in
     let over = at_over state_of s.capacity s.hash_builder s.weighter s.filter s.shards.items hash (vec_len s.shards) c.place-place.result x
@@ -78,7 +110,7 @@ pub returns-clause-inserted : goal.returns-clause-inserted
 returns-clause-inserted g c =
     let s = c.args.self.now in
     let x = c.index_mut.result.now in
-    let y = c.emplace.new.self in
+    let y = c.emplace-emplaced.new.self in
     let hash = g.S.HashBuilder.hash_of s.hash_builder (g.K.Hash.hash_input c.args.key) in
     let d : Data g.row.K.Denot g.row.V.Denot g.row.P.Denot = record { key = c.args.key; value = c.args.value; properties = coming_in g.P.Properties.location_of g.P.Properties.with_phantom_of c.admit-admitted.result c.args.properties; hash = hash; weight = c.weigh-weight.result } in
     let over = at_over state_of s.capacity s.hash_builder s.weighter s.filter s.shards.items hash (vec_len s.shards) c.place-place.result x
@@ -96,7 +128,7 @@ pub returns-clause-found : goal.returns-clause-found
 returns-clause-found g c plain sure =
     let s = c.args.self.now in
     let x = c.index_mut.result.now in
-    let y = c.emplace.new.self in
+    let y = c.emplace-emplaced.new.self in
     let hash = g.S.HashBuilder.hash_of s.hash_builder (g.K.Hash.hash_input c.args.key) in
     let d : Data g.row.K.Denot g.row.V.Denot g.row.P.Denot = record { key = c.args.key; value = c.args.value; properties = coming_in g.P.Properties.location_of g.P.Properties.with_phantom_of c.admit-admitted.result c.args.properties; hash = hash; weight = c.weigh-weight.result } in
     let over = at_over state_of s.capacity s.hash_builder s.weighter s.filter s.shards.items hash (vec_len s.shards) c.place-place.result x
@@ -111,7 +143,7 @@ pub returns-clause-bounded : goal.returns-clause-bounded
 returns-clause-bounded g c plain sure =
     let s = c.args.self.now in
     let x = c.index_mut.result.now in
-    let y = c.emplace.new.self in
+    let y = c.emplace-emplaced.new.self in
     let hash = g.S.HashBuilder.hash_of s.hash_builder (g.K.Hash.hash_input c.args.key) in
     let d : Data g.row.K.Denot g.row.V.Denot g.row.P.Denot = record { key = c.args.key; value = c.args.value; properties = coming_in g.P.Properties.location_of g.P.Properties.with_phantom_of c.admit-admitted.result c.args.properties; hash = hash; weight = c.weigh-weight.result } in
     let over = at_over state_of s.capacity s.hash_builder s.weighter s.filter s.shards.items hash (vec_len s.shards) c.place-place.result x
@@ -124,7 +156,7 @@ pub returns-clause-stay : goal.returns-clause-stay
 returns-clause-stay g c =
     let s = c.args.self.now in
     let x = c.index_mut.result.now in
-    let y = c.emplace.new.self in
+    let y = c.emplace-emplaced.new.self in
     let hash = g.S.HashBuilder.hash_of s.hash_builder (g.K.Hash.hash_input c.args.key) in
     let d : Data g.row.K.Denot g.row.V.Denot g.row.P.Denot = record { key = c.args.key; value = c.args.value; properties = coming_in g.P.Properties.location_of g.P.Properties.with_phantom_of c.admit-admitted.result c.args.properties; hash = hash; weight = c.weigh-weight.result } in
     let over = at_over state_of s.capacity s.hash_builder s.weighter s.filter s.shards.items hash (vec_len s.shards) c.place-place.result x
@@ -137,7 +169,7 @@ pub returns-in_err-entry-clause-told : goal.returns-in_err-entry-clause-told
 returns-in_err-entry-clause-told g c =
     let s = c.args.self.now in
     let x = c.index_mut.result.now in
-    let y = c.emplace.new.self in
+    let y = c.emplace-emplaced.new.self in
     let hash = g.S.HashBuilder.hash_of s.hash_builder (g.K.Hash.hash_input c.args.key) in
     let d : Data g.row.K.Denot g.row.V.Denot g.row.P.Denot = record { key = c.args.key; value = c.args.value; properties = coming_in g.P.Properties.location_of g.P.Properties.with_phantom_of c.admit-admitted.result c.args.properties; hash = hash; weight = c.weigh-weight.result } in
     let over = at_over state_of s.capacity s.hash_builder s.weighter s.filter s.shards.items hash (vec_len s.shards) c.place-place.result x
@@ -157,7 +189,7 @@ pub returns-clause-told : goal.returns-clause-told
 returns-clause-told g c =
     let s = c.args.self.now in
     let x = c.index_mut.result.now in
-    let y = c.emplace.new.self in
+    let y = c.emplace-emplaced.new.self in
     let hash = g.S.HashBuilder.hash_of s.hash_builder (g.K.Hash.hash_input c.args.key) in
     let d : Data g.row.K.Denot g.row.V.Denot g.row.P.Denot = record { key = c.args.key; value = c.args.value; properties = coming_in g.P.Properties.location_of g.P.Properties.with_phantom_of c.admit-admitted.result c.args.properties; hash = hash; weight = c.weigh-weight.result } in
     let over = at_over state_of s.capacity s.hash_builder s.weighter s.filter s.shards.items hash (vec_len s.shards) c.place-place.result x

@@ -35,6 +35,9 @@ invariant_of-self-clause-hashed g c =
     done.ensures.done done.ensures.refused (λ ls. all_evicted_hashed hash m ss ls ts) (λ ls. all_evicted_until_hashed hash m ss ls ts)
     (shared_hashed hash m c.args.capacity (map state_of s.shards.items) ss c.share_out.ensures.shares s.hashed)
 
+pub invariant_of-self-clause-summed : goal.invariant_of-self-clause-summed
+invariant_of-self-clause-summed g c = rw c.deref.ensures.value at c.of_all-self.ensures
+
 pub returns-in-Ok-clause-done : goal.returns-in-Ok-clause-done
 returns-in-Ok-clause-done g c =
     let m = meaning_of_core c.args.self.now in
