@@ -1,9 +1,9 @@
 -- Texts that are written piece by piece, and a program's loop over lines, of which it writes a text for each.
 use Rattle.std.proofs.Common.{◌≡◌, ℕ, zero, suc, ◌+◌, List, [], ◌∷◌, ◌++◌, Option, Some, None, IfSome, OnErr, Result, Ok, Err, IsErr, length, take, refl, sym, ap, ◌∙◌, subst, arith, append_assoc, append-nil}
-use Rattle.std.specs.Io.KnownBytes.{Appends}
+use Rattle.std.specs.Io.KnownBytes.{Appends, Keeps}
 use Rattle.std.specs.Io.BufRead.{drop_through, DropsThrough}
 use Rattle.std.proofs.Math.Seq.{take-append-add}
-use Rattle.std.proofs.KnownBytes.{Appends-nil, Appends-trans}
+use Rattle.std.proofs.KnownBytes.{Appends-nil, Appends-kept, Appends-trans}
 use Rattle.std.proofs.lemmas.List.{take_all}
 use Rattle.foyer_session.specs.declared.text.Line.{Line}
 use Rattle.foyer_session.specs.Text.{next_line, Lines}
@@ -96,6 +96,11 @@ module _ {S : Type 0} (Answers : S → Line → List ℕ → S → Type 0) where
   SoFar-at-end old new (Some input) now then held holds (rest, text, known, told, wrote) is drops =
       let nothing : rest ≡ [] = no_line rest (sym (subst (λ o. IfSome o (λ xs. None ≡ next_line xs)) known is)) in
       subst (λ o. DropsThrough o then 10) (known ∙ ap (λ r. Some r) nothing) drops
+
+  -- what was written was handed on
+  pub SoFar-flushed : (old new : S) (known now held holds kept : Option (List ℕ)) → SoFar old new known now held holds → Keeps holds kept → SoFar old new known now held kept
+  SoFar-flushed old new None now held holds kept s same = tt
+  SoFar-flushed old new (Some input) now held holds kept (rest, text, known, told, wrote) same = (rest, text, known, told, Appends-kept held holds kept text wrote same)
 
   -- the loop stopped between two lines
   pub SoFar-stops : (old new : S) (known now held holds : Option (List ℕ)) → SoFar old new known now held holds → TellsPart Answers old new known held holds

@@ -7,7 +7,7 @@ ghost use Rattle.foyer_session.specs.Simulated.{LineTold};
 ghost use Rattle.foyer_session.specs.Told.{TellsAll, TellsPart};
 
 use crate::session::Session;
-use crate::text::read_line;
+use crate::text::Lines;
 use foyer_core::{AdmitAll, CacheProperties, Indexer};
 use foyer_policy::{Eviction, HashBuilder};
 use std::io;
@@ -25,6 +25,7 @@ pub use value::{SimValue, SimWeighter};
 /// Carries out the lines of a reader, each as a command, and writes for each the reply, what left, and the
 /// usage and the entries then. A line whose command is refused says so, and the next one is carried out.
 ///
+/// What was written is flushed before each read that may wait, and at other times only as the writer does.
 /// It ends at the end of the input. It fails only where the reader or the writer does, or after 2^64
 /// lines; then what was written is a beginning of the text of some first lines.
 pub fn simulate<R: BufRead, W: Write, E: Eviction, S: HashBuilder, I: Indexer<u64>>(
@@ -38,8 +39,9 @@ pub fn simulate<R: BufRead, W: Write, E: Eviction, S: HashBuilder, I: Indexer<u6
     ensures part { OnErr result (TellsPart (LineTold (meaning_of_session session.old) (λ builder key. S.hash_of builder (u64_input key)))
         (session_of session.old) (session_of session.new) (R.remaining reader.old) (W.contents writer.old) (W.contents writer.new)) }
 {
+    let mut lines = Lines::new();
     for _turn in 0..u64::MAX {
-        let Some(line) = read_line(reader)? else {
+        let Some(line) = lines.read(reader, writer)? else {
             return Ok(());
         };
         tell::tell(writer, session, line)?;

@@ -8,8 +8,8 @@ mod scan;
 
 pub use number::number_of;
 pub use parse::{is_word, line_of};
-pub use print::{write_number, write_out, write_wide_number};
-pub use scan::read_line;
+pub use print::{flush_out, write_number, write_out, write_wide_number};
+pub use scan::Lines;
 
 /// A line of commands. Words are parted by spaces, and numbers are decimal.
 #[derive(Clone, Copy, Debug, PartialEq, Eq)]

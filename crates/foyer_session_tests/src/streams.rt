@@ -48,13 +48,16 @@ impl BufRead for Parts<'_> {
     }
 }
 
-/// Takes a few bytes a call. One call of `write` fails, counted from 1.
+/// Takes a few bytes a call, and notes at each flush how many it has. One call of `write` fails, and one of
+/// `flush`, each counted from 1.
 #[derive(Drop)]
 pub struct Slow {
     pub taken: Vec<u8>,
     most: usize,
     calls: u64,
     pub fails_at: u64,
+    pub handed: Vec<usize>,
+    pub flush_fails_at: usize,
     pub kind: ErrorKind,
 }
 
@@ -65,6 +68,8 @@ impl Slow {
             most,
             calls: 0,
             fails_at: 0,
+            handed: Vec::new(alloc),
+            flush_fails_at: 0,
             kind: ErrorKind::Other,
         }
     }
@@ -82,6 +87,10 @@ impl Write for Slow {
     }
 
     fn flush(&mut self) -> io::Result<()> {
+        self.handed.push(self.taken.len())?;
+        if self.handed.len() == self.flush_fails_at {
+            return Err(io::Error::from(self.kind));
+        }
         Ok(())
     }
 }

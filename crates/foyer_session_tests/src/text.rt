@@ -1,6 +1,6 @@
 use crate::streams::{Parts, Slow};
 use foyer_session::text::{
-    Line, line_of, number_of, read_line, write_number, write_out, write_wide_number,
+    Line, Lines, line_of, number_of, write_number, write_out, write_wide_number,
 };
 use std::alloc::Global;
 use std::io;
@@ -8,9 +8,11 @@ use std::io::{BufRead, BufReader, ErrorKind};
 use std::test::Fail;
 
 fn lines_of<R: BufRead>(alloc: Global, reader: &mut R) -> io::Result<Vec<Line>> {
+    let mut source = Lines::new();
+    let mut writer = Vec::new(alloc);
     let mut lines = Vec::new(alloc);
     for _turn in 0..u64::MAX {
-        match read_line(reader)? {
+        match source.read(reader, &mut writer)? {
             Some(line) => lines.push(line)?,
             None => break,
         }
@@ -132,7 +134,9 @@ fn a_failed_reader_fails_the_call(rt: HostRuntime) -> Result<(), Fail> {
         let mut reader = Parts::new(b"get 123456789", 5);
         reader.fails_at = fails_at;
         reader.kind = ErrorKind::UnexpectedEof;
-        let kind = read_line(&mut reader).map_err(|e| e.kind());
+        let mut writer = Vec::new(rt.alloc());
+        let mut lines = Lines::new();
+        let kind = lines.read(&mut reader, &mut writer).map_err(|e| e.kind());
         assert_eq!(rt; kind, Err(ErrorKind::UnexpectedEof), "at call {fails_at}");
     }
     Ok(())

@@ -5,9 +5,12 @@
 use foyer_core::{AdmitAll, CacheCore, Limits, RawCacheConfig};
 use foyer_policy::{Eviction, Fifo, Lfu, Lru, ModHasher, S3Fifo, Sieve};
 use foyer_session::{Session, SimArgs, SimPolicy, SimWeighter, sim_args, simulate};
-use std::env;
 use std::io::{BufReader, BufWriter, ErrorKind, Write};
 use std::process::ExitCode;
+use std::{env, io};
+use watched::Watched;
+
+mod watched;
 
 // How many bytes are read or written at once.
 const BUFFER: usize = 64 * 1024;
@@ -17,20 +20,26 @@ const BUFFER: usize = 64 * 1024;
 enum Failure {
     Arguments,
     Memory,
-    InputOrOutput,
+    Reading(io::Error),
+    Writing(io::Error),
 }
 
 fn main(rt: HostRuntime) -> ExitCode {
     let Err(failure) = run(&rt) else {
         return ExitCode::SUCCESS;
     };
-    let (status, message) = match failure {
+    let (status, message) = match &failure {
         Failure::Arguments => (2, "usage: foyer-sim POLICY CAPACITY SHARDS"),
         Failure::Memory => (1, "foyer-sim: out of memory"),
-        Failure::InputOrOutput => (1, "foyer-sim: input or output failed"),
+        Failure::Reading(_) | Failure::Writing(_) => (1, "foyer-sim: input or output failed"),
     };
     // The status says it where standard error can't.
     let _ = eprintln!(rt; "{message}");
+    let _ = match failure {
+        Failure::Reading(error) => eprintln!(rt; "foyer-sim: reading standard input: {error}"),
+        Failure::Writing(error) => eprintln!(rt; "foyer-sim: writing standard output: {error}"),
+        Failure::Arguments | Failure::Memory => Ok(()),
+    };
     ExitCode::from(status)
 }
 
@@ -81,13 +90,15 @@ fn run_policy<E: Eviction>(rt: &HostRuntime, args: SimArgs) -> Result<(), Failur
     let Ok(mut reader) = BufReader::with_capacity(alloc, BUFFER, rt.stdin()) else {
         return Err(Failure::Memory);
     };
-    let Ok(mut writer) = BufWriter::with_capacity(alloc, BUFFER, rt.stdout()) else {
+    let Ok(mut writer) = BufWriter::with_capacity(alloc, BUFFER, Watched::new(rt.stdout())) else {
         return Err(Failure::Memory);
     };
     let told = simulate(&mut reader, &mut writer, &mut session);
-    let written = writer.flush();
-    if told.is_err() || written.is_err() {
-        return Err(Failure::InputOrOutput);
+    let has_failed = writer.get_ref().has_failed();
+    let flushed = writer.flush();
+    match told {
+        Ok(()) => flushed.map_err(Failure::Writing),
+        Err(error) if has_failed => Err(Failure::Writing(error)),
+        Err(error) => Err(Failure::Reading(error)),
     }
-    Ok(())
 }

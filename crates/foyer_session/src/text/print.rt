@@ -2,6 +2,7 @@
 
 ghost use Rattle.std.specs.Prelude.{◌≡◌, ◌≢◌, ◌≤◌, IfErr, decimal, drop, length};
 ghost use Rattle.std.specs.IoError.{error_kind};
+ghost use Rattle.std.specs.Io.KnownBytes.{Keeps};
 ghost use Rattle.foyer_session.specs.Text.{number_of};
 ghost use Rattle.foyer_session.specs.Print.{WritesText};
 
@@ -24,6 +25,25 @@ pub fn write_out<W: Write>(writer: &mut W, text: &[u8]) -> io::Result<()>
         match writer.write(&text[at..]) {
             Ok(0) => return Err(io::Error::from(ErrorKind::WriteZero)),
             Ok(n) => at += n,
+            Err(e) => {
+                if e.kind() != ErrorKind::Interrupted {
+                    return Err(e);
+                }
+            }
+        }
+    }
+    Err(io::Error::from(ErrorKind::Other))
+}
+
+/// Hands on what the writer holds back. It goes on after an interruption, and fails only where the writer
+/// does, or after 2^64 calls.
+pub fn flush_out<W: Write>(writer: &mut W) -> io::Result<()>
+    ensures kept { Keeps (W.contents writer.old) (W.contents writer.new) }
+    ensures retried { IfErr result (λ e. error_kind e ≢ ErrorKind.Interrupted) }
+{
+    for _turn in 0..u64::MAX {
+        match writer.flush() {
+            Ok(()) => return Ok(()),
             Err(e) => {
                 if e.kind() != ErrorKind::Interrupted {
                     return Err(e);

@@ -10,67 +10,148 @@ ghost use Rattle.foyer_session.specs.Reading.{StopsWithin, TakesPart};
 use super::Line;
 use super::kept::Kept;
 use super::parse::{len_before, line_of};
+use super::print::flush_out;
 use std::io;
-use std::io::{BufRead, ErrorKind};
+use std::io::{BufRead, ErrorKind, Write};
 
-/// Reads the next line, which a byte 10 or the end of the input ends. At the end it gives `None`.
-///
-/// It goes on after an interruption, and fails only where the reader fails, or after 2^64 calls. At
-/// `Err` some bytes of the line may have been taken, but not its end.
-pub fn read_line<R: BufRead>(reader: &mut R) -> io::Result<Option<Line>>
-    ensures line { IfOk result (λ line. IfSome (R.remaining reader.old)
-        (λ input. line ≡ next_line input)) }
-    ensures rest { OnOk result (DropsThrough (R.remaining reader.old) (R.remaining reader.new) 10) }
-    ensures err { OnErr result (StopsWithin (R.remaining reader.old) (R.remaining reader.new)) }
-    ensures retried { IfErr result (λ e. error_kind e ≢ ErrorKind.Interrupted) }
-{
-    let chunk = match reader.fill_buf() {
-        Ok(chunk) => chunk,
-        Err(e) => {
-            if e.kind() == ErrorKind::Interrupted {
-                return read_cut_line(reader);
-            }
-            return Err(e);
-        }
-    };
-    if chunk.is_empty() {
-        return Ok(None);
-    }
-    let end = len_before(chunk, b'\n');
-    if end == chunk.len() {
-        return read_cut_line(reader);
-    }
-    let line = line_of(&chunk[..end]);
-    reader.consume(end + 1);
-    Ok(Some(line))
+/// Reads lines, one after another. Before each read that may wait, what was written is handed on: when the
+/// bytes are used up that the reader gave before.
+#[derive(Drop)]
+pub struct Lines {
+    is_used_up: bool,
 }
 
-// Reads the next line as `read_line` does, by one part after another.
-#[cold]
-#[inline(never)]
-fn read_cut_line<R: BufRead>(reader: &mut R) -> io::Result<Option<Line>>
-    ensures line { IfOk result (λ line. IfSome (R.remaining reader.old)
-        (λ input. line ≡ next_line input)) }
-    ensures rest { OnOk result (DropsThrough (R.remaining reader.old) (R.remaining reader.new) 10) }
-    ensures err { OnErr result (StopsWithin (R.remaining reader.old) (R.remaining reader.new)) }
-    ensures retried { IfErr result (λ e. error_kind e ≢ ErrorKind.Interrupted) }
-{
-    let mut kept = Kept::new();
-    let mut is_started = false;
-    for _turn in 0..u64::MAX {
-        let part = match read_part(reader, &mut kept) {
-            Ok(part) => part,
-            Err(e) => return Err(e),
-        };
-        match part {
-            Part::Nothing => {}
-            Part::Open => is_started = true,
-            Part::Closed => return Ok(Some(kept.line())),
-            Part::End if is_started => return Ok(Some(kept.line())),
-            Part::End => return Ok(None),
-        }
+impl Lines {
+    /// Of a reader that gave nothing so far.
+    pub fn new() -> Self {
+        Lines { is_used_up: true }
     }
-    Err(io::Error::from(ErrorKind::Other))
+
+    /// Reads the next line, which a byte 10 or the end of the input ends. At the end it gives `None`.
+    ///
+    /// It goes on after an interruption, and fails only where the reader fails, the writer fails to hand on
+    /// what it holds, or after 2^64 calls. At `Err` some bytes of the line may have been taken, but not its end.
+    pub fn read<R: BufRead, W: Write>(
+        &mut self,
+        reader: &mut R,
+        writer: &mut W,
+    ) -> io::Result<Option<Line>>
+        ensures line { IfOk result (λ line. IfSome (R.remaining reader.old)
+            (λ input. line ≡ next_line input)) }
+        ensures rest { OnOk result (DropsThrough (R.remaining reader.old) (R.remaining reader.new) 10) }
+        ensures err { OnErr result (StopsWithin (R.remaining reader.old) (R.remaining reader.new)) }
+        ensures retried { IfErr result (λ e. error_kind e ≢ ErrorKind.Interrupted) }
+        ensures written { Keeps (W.contents writer.old) (W.contents writer.new) }
+    {
+        if let Err(e) = self.hand_on(writer) {
+            return Err(e);
+        }
+        let chunk = match reader.fill_buf() {
+            Ok(chunk) => chunk,
+            Err(e) => {
+                if e.kind() == ErrorKind::Interrupted {
+                    return self.read_by_parts(reader, writer);
+                }
+                return Err(e);
+            }
+        };
+        if chunk.is_empty() {
+            return Ok(None);
+        }
+        let end = len_before(chunk, b'\n');
+        if end == chunk.len() {
+            return self.read_by_parts(reader, writer);
+        }
+        let line = line_of(&chunk[..end]);
+        self.is_used_up = end + 1 == chunk.len();
+        reader.consume(end + 1);
+        Ok(Some(line))
+    }
+
+    // Hands on what was written, where the next read may wait.
+    fn hand_on<W: Write>(&self, writer: &mut W) -> io::Result<()>
+        ensures written { Keeps (W.contents writer.old) (W.contents writer.new) }
+        ensures retried { IfErr result (λ e. error_kind e ≢ ErrorKind.Interrupted) }
+    {
+        if self.is_used_up {
+            return flush_out(writer);
+        }
+        Ok(())
+    }
+
+    // Reads the next line as `read` does, by one part after another.
+    #[cold]
+    #[inline(never)]
+    fn read_by_parts<R: BufRead, W: Write>(
+        &mut self,
+        reader: &mut R,
+        writer: &mut W,
+    ) -> io::Result<Option<Line>>
+        ensures line { IfOk result (λ line. IfSome (R.remaining reader.old)
+            (λ input. line ≡ next_line input)) }
+        ensures rest { OnOk result (DropsThrough (R.remaining reader.old) (R.remaining reader.new) 10) }
+        ensures err { OnErr result (StopsWithin (R.remaining reader.old) (R.remaining reader.new)) }
+        ensures retried { IfErr result (λ e. error_kind e ≢ ErrorKind.Interrupted) }
+        ensures written { Keeps (W.contents writer.old) (W.contents writer.new) }
+    {
+        let mut kept = Kept::new();
+        let mut is_started = false;
+        for _turn in 0..u64::MAX {
+            let part = match self.read_part(reader, writer, &mut kept) {
+                Ok(part) => part,
+                Err(e) => return Err(e),
+            };
+            match part {
+                Part::Nothing => {}
+                Part::Open => is_started = true,
+                Part::Closed => return Ok(Some(kept.line())),
+                Part::End if is_started => return Ok(Some(kept.line())),
+                Part::End => return Ok(None),
+            }
+        }
+        Err(io::Error::from(ErrorKind::Other))
+    }
+
+    // Takes the reader's buffered bytes, up to the end of the line.
+    fn read_part<R: BufRead, W: Write>(
+        &mut self,
+        reader: &mut R,
+        writer: &mut W,
+        kept: &mut Kept,
+    ) -> io::Result<Part>
+        ensures taken { IfOk result
+            (TakesPart (R.remaining reader.old) (R.remaining reader.new) kept.old kept.new) }
+        ensures err { OnErr result (Keeps (R.remaining reader.old) (R.remaining reader.new)) }
+        ensures retried { IfErr result (λ e. error_kind e ≢ ErrorKind.Interrupted) }
+        ensures written { Keeps (W.contents writer.old) (W.contents writer.new) }
+    {
+        if let Err(e) = self.hand_on(writer) {
+            return Err(e);
+        }
+        let chunk = match reader.fill_buf() {
+            Ok(chunk) => chunk,
+            Err(e) => {
+                if e.kind() == ErrorKind::Interrupted {
+                    return Ok(Part::Nothing);
+                }
+                return Err(e);
+            }
+        };
+        if chunk.is_empty() {
+            return Ok(Part::End);
+        }
+        let len = chunk.len();
+        let end = len_before(chunk, b'\n');
+        kept.push_all(&chunk[..end]);
+        if end == len {
+            self.is_used_up = true;
+            reader.consume(end);
+            return Ok(Part::Open);
+        }
+        self.is_used_up = end + 1 == len;
+        reader.consume(end + 1);
+        Ok(Part::Closed)
+    }
 }
 
 // What was taken of a line.
@@ -83,34 +164,4 @@ enum Part {
     Closed,
     // The input is at its end.
     End,
-}
-
-// Takes the reader's buffered bytes, up to the end of the line.
-fn read_part<R: BufRead>(reader: &mut R, kept: &mut Kept) -> io::Result<Part>
-    ensures taken { IfOk result
-        (TakesPart (R.remaining reader.old) (R.remaining reader.new) kept.old kept.new) }
-    ensures err { OnErr result (Keeps (R.remaining reader.old) (R.remaining reader.new)) }
-    ensures retried { IfErr result (λ e. error_kind e ≢ ErrorKind.Interrupted) }
-{
-    let chunk = match reader.fill_buf() {
-        Ok(chunk) => chunk,
-        Err(e) => {
-            if e.kind() == ErrorKind::Interrupted {
-                return Ok(Part::Nothing);
-            }
-            return Err(e);
-        }
-    };
-    if chunk.is_empty() {
-        return Ok(Part::End);
-    }
-    let len = chunk.len();
-    let end = len_before(chunk, b'\n');
-    kept.push_all(&chunk[..end]);
-    if end == len {
-        reader.consume(end);
-        return Ok(Part::Open);
-    }
-    reader.consume(end + 1);
-    Ok(Part::Closed)
 }

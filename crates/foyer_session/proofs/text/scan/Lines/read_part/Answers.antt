@@ -4,7 +4,7 @@ use Rattle.std.specs.Io.BufRead.{FillKeeps}
 use Rattle.std.proofs.BufReadLemmas.{Consumes_shown}
 use Rattle.foyer_session.proofs.ReadLemmas.{take_closed}
 use Rattle.foyer_session.proofs.WordLemmas.{some_from_test}
-use Rattle.foyer_session.proofs.text.scan.read_part.Goals as goal
+use Rattle.foyer_session.proofs.text.scan.Lines.read_part.Goals as goal
 
 pub returns-then-end-len-clause-taken : goal.returns-then-end-len-clause-taken
 returns-then-end-len-clause-taken g c =
