@@ -1,0 +1,5 @@
+//! Callers of the libraries, each proved from their public contracts alone.
+#![tactic(auto)]
+
+pub mod policy;
+pub mod session;

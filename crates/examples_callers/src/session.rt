@@ -1,0 +1,33 @@
+//! A caller of a session.
+
+ghost use Rattle.std.specs.Prelude.{◌≡◌, IfOk, OnErr};
+ghost use Rattle.foyer_session.specs.Observed.{IsTold};
+ghost use Rattle.foyer_session.specs.Sessions.{session_of, terms_of};
+
+use foyer_core::{AdmitAll, CacheProperties, UnitWeighter};
+use foyer_policy::{DefaultHasher, Lru, Result};
+use foyer_session::{Command, NoPredicate, Reply, Session};
+use std::alloc::Global;
+
+/// A session over an LRU cache of numbers.
+pub type Numbers = Session<Lru, u64, u64, CacheProperties, DefaultHasher, UnitWeighter, AdmitAll>;
+
+/// A command to it.
+pub type Ask = Command<u64, u64, CacheProperties, NoPredicate>;
+
+/// Puts a value in and looks it up. What each key finds afterwards is what the replies tell; where memory
+/// is missing, nothing has changed.
+pub fn put_and_look(
+    numbers: &mut Numbers,
+    alloc: Global,
+    key: u64,
+    value: u64,
+) -> Result<Vec<Reply<u64, u64, CacheProperties>>>
+    ensures told { IfOk result (λ replies. IsTold (terms_of numbers.old) (session_of numbers.old) replies.items (session_of numbers.new)) }
+    ensures err { OnErr result (session_of numbers.new ≡ session_of numbers.old) }
+{
+    let mut asks: Vec<Ask> = Vec::with_capacity(alloc, 2)?;
+    asks.push_reserved(Command::Insert(key, value, CacheProperties::default()));
+    asks.push_reserved(Command::Get(key));
+    numbers.run(asks)
+}
