@@ -35,14 +35,14 @@ use Rattle.foyer_bench.proofs.ShardLemmas.{at_then, at_map, owns_at}
 
 -- ---- what a shard keeps
 
-module _ {E K V P S W A N I C X : Type 0} {e : EvictionGhosts E C X} {e1 : CloneGhosts C} {e2 : DefaultGhosts C} {e3 : _} {e4 : DefaultGhosts X}
+module _ {E K V P S W A N R I C X : Type 0} {e : EvictionGhosts E C X} {e1 : CloneGhosts C} {e2 : DefaultGhosts C} {e3 : _} {e4 : DefaultGhosts X}
     {q : EqGhosts K} {h : HashGhosts K} {c : CloneGhosts K} {p : PropertiesGhosts P} {d : DefaultGhosts P} {b : HashBuilderGhosts S} {w : WeighterGhosts W K V} {f : FilterGhosts A K V} {i : IndexerGhosts I K} where
-  pub kept_at : (core : CacheCore E K V P S W A N I C X e e1 e2 e3 e4 q h c p d b w f i) (hash : ℕ) (s : State K V P e.View) → shard_at (core_of core) hash ≡ Some s → ∥ IsKept (meaning_of_core core) s ∥₁
+  pub kept_at : (core : CacheCore E K V P S W A N R I C X e e1 e2 e3 e4 q h c p d b w f i) (hash : ℕ) (s : State K V P e.View) → shard_at (core_of core) hash ≡ Some s → ∥ IsKept (meaning_of_core core) s ∥₁
   kept_at core hash s there = kept_in (slice_get core.shards.items (shard_of (core_of core) hash)) (sym (slice_get-map state_of core.shards.items (shard_of (core_of core) hash)) ∙ there)
     where
-      kept_in : (found : Option (Shard E K V P I C X e e1 e2 e3 e4 q h c p d i)) → option_map state_of found ≡ Some s → ∥ IsKept (meaning_of_core core) s ∥₁
+      kept_in : (found : Option (Shard E K V P N R I C X e e1 e2 e3 e4 q h c p d i)) → option_map state_of found ≡ Some s → ∥ IsKept (meaning_of_core core) s ∥₁
       kept_in None is = absurd cc
-      kept_in (Some shard) is = (let same : state_of shard ≡ s = cc in ∥∥₁_map shard.kept (λ k. subst (IsKept (meaning_of_core core)) same k))
+      kept_in (Some shard) is = (let same : state_of shard ≡ s = cc in ∥∥₁_map shard.store.kept (λ k. subst (IsKept (meaning_of_core core)) same k))
 
 first_holds : (a b : Bool) → (a && b) ≡ true → a ≡ true
 first_holds true b h = refl

@@ -13,7 +13,7 @@ use foyer_core::{
 use foyer_policy::{Eviction, HashBuilder, Result};
 
 /// A core of `u64` keys and values that weigh 1 each.
-pub type Core<E, S> = CacheCore<E, u64, u64, CacheProperties, S, UnitWeighter, AdmitAll, ()>;
+pub type Core<E, S> = CacheCore<E, u64, u64, CacheProperties, S, UnitWeighter, AdmitAll, (), ()>;
 
 /// Looks each key up, and puts in each that is not found, as its own value. Each entry is given back at once.
 /// Answers how many keys were found. Refused where a key is: it and the keys after it are left out.

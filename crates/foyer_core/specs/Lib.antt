@@ -14,6 +14,7 @@ pub mod Records
 pub mod State
 pub mod Stored
 pub mod Shards
+pub mod Stores
 pub mod Steps
 pub mod Laws
 pub mod Observed

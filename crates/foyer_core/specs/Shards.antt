@@ -1,4 +1,4 @@
--- A shard as a state.
+-- A shard as a state and the places of open fetches.
 use Rattle.std.specs.declared.cmp.PartialEq.{Ghosts as EqGhosts}
 use Rattle.std.specs.declared.hash.Hash.{Ghosts as HashGhosts}
 use Rattle.std.specs.declared.clone.Clone.{Ghosts as CloneGhosts}
@@ -9,14 +9,20 @@ use Rattle.foyer_policy.specs.declared.properties.Properties.{Ghosts as Properti
 use Rattle.foyer_core.specs.declared.indexer.Indexer.{Ghosts as IndexerGhosts}
 use Rattle.foyer_core.specs.declared.shard.Shard.{Shard}
 use Rattle.foyer_core.specs.State.{Meaning, State}
-use Rattle.foyer_core.specs.Stored.{meaning, state}
+use Rattle.foyer_core.specs.Stores.{state_of as store_state, meaning_of as store_meaning}
+use Rattle.foyer_core.specs.Inflight.{Opens}
+use Rattle.foyer_core.specs.Inflights.{opens_of as manager_opens}
 
-module _ {E K V P I C S : Type 0} {e : EvictionGhosts E C S} {e1 : CloneGhosts C} {e2 : DefaultGhosts C} {e3 : DescribedGhosts C} {e4 : DefaultGhosts S}
+module _ {E K V P N R I C S : Type 0} {e : EvictionGhosts E C S} {e1 : CloneGhosts C} {e2 : DefaultGhosts C} {e3 : DescribedGhosts C} {e4 : DefaultGhosts S}
     {q : EqGhosts K} {h : HashGhosts K} {c : CloneGhosts K} {p : PropertiesGhosts P} {d : DefaultGhosts P} {i : IndexerGhosts I K} where
   -- what contracts see of a shard
-  abbrev pub state_of : Shard E K V P I C S e e1 e2 e3 e4 q h c p d i → State K V P e.View
-  state_of s = state s.number s.capacity s.limits (e.view s.eviction) (i.view s.index) s.records s.next
+  abbrev pub state_of : Shard E K V P N R I C S e e1 e2 e3 e4 q h c p d i → State K V P e.View
+  state_of s = store_state s.store
 
   -- what a shard is over
-  abbrev pub meaning_of : Shard E K V P I C S e e1 e2 e3 e4 q h c p d i → Meaning K P e.View C
-  meaning_of s = meaning q.eq e.model p.hint_of p.phantom_of
+  abbrev pub meaning_of : Shard E K V P N R I C S e e1 e2 e3 e4 q h c p d i → Meaning K P e.View C
+  meaning_of s = store_meaning s.store
+
+  -- the places of open fetches
+  abbrev pub opens_of : Shard E K V P N R I C S e e1 e2 e3 e4 q h c p d i → Opens K N R
+  opens_of s = manager_opens s.inflights

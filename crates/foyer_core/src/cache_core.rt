@@ -24,7 +24,6 @@ use foyer_policy::{
 };
 use load::Load;
 use std::alloc::Global;
-use std::marker::PhantomData;
 
 mod bulk;
 mod entries;
@@ -33,9 +32,9 @@ mod load;
 mod pieces;
 mod shards;
 
-/// The records of a cache, found by their keys, in one thread's hands. `N` is what waits for an answer, and
-/// `I` the index of each shard. Contracts see a `Core`: its shards, what gives its keys their hashes and its
-/// records their weights, and what admits them.
+/// The records of a cache, found by their keys, in one thread's hands. `N` is what waits for an answer, `R` what
+/// builds a fetch, and `I` the index of each shard. Contracts see a `Core`: its shards, what gives its keys their
+/// hashes and its records their weights, and what admits them.
 #[derive(Drop)]
 pub struct CacheCore<
     E: Eviction,
@@ -46,9 +45,10 @@ pub struct CacheCore<
     W: Weighter<K, V> = UnitWeighter,
     A: Filter<K, V> = AdmitAll,
     N: Drop = (),
+    R: Drop = (),
     I: Indexer<K> = HashTableIndexer<K>,
 > {
-    shards: Vec<Shard<E, K, V, P, I>>,
+    shards: Vec<Shard<E, K, V, P, N, R, I>>,
     // The sums over the shards, kept as these change.
     load: Load,
     capacity: usize,
@@ -56,8 +56,6 @@ pub struct CacheCore<
     weighter: W,
     filter: A,
     alloc: Global,
-    // Nothing waits for an answer yet.
-    waiters: PhantomData<N>,
     ghost sharded: { 0 < vec_len shards },
     ghost belong: { Belong (map state_of shards.items) },
     ghost hashed: { AreHashed (λ k. S.hash_of hash_builder (K.hash_input k)) (map state_of shards.items) },
@@ -73,7 +71,8 @@ impl<
     W: Weighter<K, V>,
     A: Filter<K, V>,
     N: Drop,
-> CacheCore<E, K, V, P, S, W, A, N> {
+    R: Drop,
+> CacheCore<E, K, V, P, S, W, A, N, R> {
     ghost use Rattle.foyer_core.specs.Core.{IsNewCore, core_fault};
     ghost use Rattle.foyer_core.specs.Cores.{core_of, meaning_of_core};
 
@@ -99,7 +98,6 @@ impl<
             weighter: config.weighter,
             filter: config.filter,
             alloc,
-            waiters: PhantomData,
         })
     }
 }
@@ -113,8 +111,9 @@ impl<
     W: Weighter<K, V>,
     A: Filter<K, V>,
     N: Drop,
+    R: Drop,
     I: Indexer<K>,
-> CacheCore<E, K, V, P, S, W, A, N, I> {
+> CacheCore<E, K, V, P, S, W, A, N, R, I> {
     ghost use Rattle.foyer_core.specs.Core.{AnswersNobody, AtShard, InsertsWeighed, Owns, entries_of_core, hit_in, usage_of_core};
     ghost use Rattle.foyer_core.specs.Cores.{core_of, hashes_of, meaning_of_core};
     ghost use Rattle.foyer_core.specs.Laws.{Finds, HandlesStay, IsBoundedAt, one_of};
@@ -298,8 +297,7 @@ impl<
     pub fn owns(&self, entry: &CoreEntry<K, V, P>) -> bool
         ensures { IsTrue result ↔ Owns (core_of self.now) entry.now }
     {
-        let shard = &self.shards[self.place(entry.hash())];
-        entry.number() == shard.number() && shard.handles(entry.id(), entry.slot()) > 0
+        self.shards[self.place(entry.hash())].owns(entry)
     }
 
     /// Takes an entry back: its record has one handle less. With its last handle a record that a get finds is

@@ -15,6 +15,7 @@ mod records;
 pub mod shard;
 mod share;
 mod slot;
+mod store;
 pub mod weighter;
 
 pub use cache_core::CacheCore;
@@ -27,4 +28,5 @@ pub use outcome::{Answers, Inserted, Outcome, Refused, Waiting};
 pub use piece::Piece;
 pub use properties::CacheProperties;
 pub use record::{Data, Flags, Limits, Record};
+pub use shard::Shard;
 pub use weighter::{UnitWeighter, Weighter};

@@ -1,54 +1,45 @@
-//! One shard of a cache: a policy, an index and records.
+//! One shard of a cache: the records that it holds, and the fetches that are open for keys that it does not hold.
 
-ghost use Rattle.std.specs.Prelude.{◌≡◌, ℕ, ◌≤◌, None, OnOk, IfOk, IfErr, IfSome, is_some, length, Err};
+ghost use Rattle.std.specs.Prelude.{◌≡◌, ◌↔◌, ℕ, ◌<◌, None, OnOk, IfOk, IfErr, IfSome, IsTrue, is_some, length, Err};
 ghost use Rattle.foyer_policy.specs.declared.error.Reason.TheVariants.{NoMemory};
-ghost use Rattle.foyer_policy.specs.Items.{weight_of};
-ghost use Rattle.foyer_core.specs.State.{IsKept};
-ghost use Rattle.foyer_core.specs.Stored.{meaning, state, IsStored};
+ghost use Rattle.foyer_core.specs.Inflight.{no_opens};
 
+use crate::entry::CoreEntry;
 use crate::indexer::Indexer;
+use crate::inflight::InflightManager;
 use crate::record::Limits;
-use crate::records::Records;
+use crate::store::Store;
 use foyer_policy::{Eviction, Key, Properties, Result, Value};
 use std::alloc::Global;
 
 mod bulk;
 mod clearing;
 mod entries;
-mod evictions;
-mod handles;
 mod insertion;
 mod keys;
-mod phantoms;
-mod picking;
-mod pieces;
-mod refusals;
 
-/// One shard of a cache. Contracts see its `State`: maps from hashed keys to ids and from ids to records.
+/// One shard of a cache. Contracts see its `State`: maps from hashed keys to ids and from ids to records; and its
+/// `Opens`: the places of open fetches. `N` is what waits for an answer, and `R` what builds a fetch.
 #[derive(Drop)]
-pub struct Shard<E: Eviction, K: Key, V: Value, P: Properties, I: Indexer<K>> {
-    eviction: E,
-    index: I,
-    records: Records<K, V, P>,
-    usage: usize,
-    entries: u64,
-    capacity: usize,
-    number: u64,
-    next: u64,
-    limits: Limits,
-    ghost kept: { ∥ IsKept (meaning K.eq E.model P.hint_of P.phantom_of) (state number capacity limits (E.view eviction) (I.view index) records next) ∥₁ },
-    ghost stored: { IsStored (meaning K.eq E.model P.hint_of P.phantom_of) (E.at eviction) (I.view index) records },
-    ghost weighed: { usage ≡ weight_of (E.model.order (E.view eviction)) },
-    ghost counted: { entries ≡ length (E.model.order (E.view eviction)) },
-    ghost numbered: { entries ≤ next },
+pub struct Shard<E: Eviction, K: Key, V: Value, P: Properties, N: Drop, R: Drop, I: Indexer<K>> {
+    store: Store<E, K, V, P, I>,
+    inflights: InflightManager<K, N, R>,
 }
 
-impl<E: Eviction, K: Key, V: Value, P: Properties, I: Indexer<K>> Shard<E, K, V, P, I> {
-    ghost use Rattle.foyer_core.specs.Shards.{state_of, meaning_of};
-    ghost use Rattle.foyer_core.specs.State.{hit, usage_of};
+impl<E: Eviction, K: Key, V: Value, P: Properties, N: Drop, R: Drop, I: Indexer<K>> Shard<
+    E,
+    K,
+    V,
+    P,
+    N,
+    R,
+    I,
+> {
+    ghost use Rattle.foyer_core.specs.Shards.{state_of, meaning_of, opens_of};
+    ghost use Rattle.foyer_core.specs.State.{hit, handles_in, usage_of};
 
-    /// A shard that holds nothing, over an empty index. `number` is its core's. Refused with the policy
-    /// configuration's first fault, and else only for want of memory (F7).
+    /// A shard that holds nothing, over an empty index, with no open fetch. `number` is its core's. Refused with
+    /// the policy configuration's first fault, and else only for want of memory (F7).
     pub fn new(
         alloc: Global,
         number: u64,
@@ -65,42 +56,45 @@ impl<E: Eviction, K: Key, V: Value, P: Properties, I: Indexer<K>> Shard<E, K, V,
         ensures index { IfOk result (λ s. (k : ℕ × K) → (state_of s).index k ≡ None) }
         ensures records { IfOk result (λ s. (id : ℕ) → (state_of s).records id ≡ None) }
         ensures next { IfOk result (λ s. (state_of s).next ≡ 0) }
+        ensures opens { IfOk result (λ s. opens_of s ≡ no_opens) }
         ensures accepted { OnOk result (E.model.fault config.now ≡ None) }
         ensures refused { IfSome (E.model.fault config.now) (λ reason. result ≡ Err reason) }
         ensures memory { IfErr result (λ e. E.model.fault config.now ≡ None → e ≡ NoMemory) }
     {
-        let eviction = E::new(alloc, capacity, config)?;
-        Ok(Shard {
-            eviction,
-            index,
-            records: Records::new(alloc),
-            usage: 0,
-            entries: 0,
-            capacity,
-            number,
-            next: 0,
-            limits,
-        })
+        match Store::new(alloc, number, capacity, limits, config, index) {
+            Ok(store) => Ok(Shard {
+                store,
+                inflights: InflightManager::new(alloc),
+            }),
+            Err(error) => Err(error),
+        }
     }
 
     /// The sum of the weights of the records in the index.
     pub fn usage(&self) -> usize
         ensures { result ≡ usage_of (meaning_of self.now) (state_of self.now) }
     {
-        self.usage
+        self.store.usage()
     }
 
     /// How many records are in the index.
     pub fn entries(&self) -> u64
         ensures { result ≡ length (E.model.order (state_of self.now).view) }
     {
-        self.entries
+        self.store.entries()
     }
 
     /// Whether a key has a record in the index. It takes no memory.
     pub fn contains(&self, hash: u64, key: &K) -> bool
         ensures { result ≡ is_some (hit (state_of self.now) (hash, key.now)) }
     {
-        self.index.get(hash, key).is_some()
+        self.store.contains(hash, key)
+    }
+
+    /// Whether the entry has the number of the shard's core and its record has a handle here. It takes no memory.
+    pub fn owns(&self, entry: &CoreEntry<K, V, P>) -> bool
+        ensures { IsTrue result ↔ ((entry.now.number ≡ (state_of self.now).number) × (0 < handles_in (state_of self.now) entry.now.id)) }
+    {
+        entry.number() == self.store.number() && self.store.handles(entry.id(), entry.slot()) > 0
     }
 }

@@ -23,7 +23,7 @@ mod pieces;
 mod shards;
 mod weights;
 
-type Core = CacheCore<Fifo, u64, u64, CacheProperties, ModHasher, UnitWeighter, AdmitAll, ()>;
+type Core = CacheCore<Fifo, u64, u64, CacheProperties, ModHasher, UnitWeighter, AdmitAll, (), ()>;
 
 type Entry = CoreEntry<u64, u64, CacheProperties>;
 

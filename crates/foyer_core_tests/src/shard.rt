@@ -1,11 +1,10 @@
-use foyer_core::shard::Shard;
-use foyer_core::{CacheProperties, CoreEntry, Data, HashTableIndexer, Left, Limits};
+use foyer_core::{CacheProperties, CoreEntry, Data, HashTableIndexer, Left, Limits, Shard};
 use foyer_policy::{Event, Lru, LruConfig, Result, Source};
 use std::alloc::Global;
 use std::process::Abort;
 use std::test::Fail;
 
-type Plain = Shard<Lru, u64, u64, CacheProperties, HashTableIndexer<u64>>;
+type Plain = Shard<Lru, u64, u64, CacheProperties, (), (), HashTableIndexer<u64>>;
 
 type Entry = CoreEntry<u64, u64, CacheProperties>;
 

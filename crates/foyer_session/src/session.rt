@@ -38,7 +38,7 @@ pub struct Session<
     A: Filter<K, V>,
     I: Indexer<K> = HashTableIndexer<K>,
 > {
-    core: CacheCore<E, K, V, P, S, W, A, (), I>,
+    core: CacheCore<E, K, V, P, S, W, A, (), (), I>,
     handles: Vec<Handle<K, V, P>>,
     pieces: Vec<Piece<K, V, P>>,
     alloc: Global,
@@ -62,7 +62,7 @@ impl<
     ghost use Rattle.foyer_session.specs.Step.{NumberStep, Step};
 
     /// A session over a core, which has handed nothing out.
-    pub fn new(alloc: Global, core: CacheCore<E, K, V, P, S, W, A, (), I>) -> Self
+    pub fn new(alloc: Global, core: CacheCore<E, K, V, P, S, W, A, (), (), I>) -> Self
         ensures core { (session_of result).core ≡ core_of core }
         ensures handles { (session_of result).handles ≡ [] }
         ensures pieces { (session_of result).pieces ≡ [] }

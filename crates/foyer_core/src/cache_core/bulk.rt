@@ -22,8 +22,9 @@ impl<
     W: Weighter<K, V>,
     A: Filter<K, V>,
     N: Drop,
+    R: Drop,
     I: Indexer<K>,
-> CacheCore<E, K, V, P, S, W, A, N, I> {
+> CacheCore<E, K, V, P, S, W, A, N, R, I> {
     ghost use Rattle.foyer_core.specs.Bulk.{Clears, EvictsIf, EvictsUnpinned, EvictingUnpinned, Says};
     ghost use Rattle.foyer_core.specs.CoreBulk.{InTurn, InTurnUntil, OfShards, EvictsToCapacity, EvictingToCapacity, Resizes, NothingPinned, IsEmptied, FitsOrPinned};
     ghost use Rattle.foyer_core.specs.Cores.{core_of, hashes_of, meaning_of_core};

@@ -18,8 +18,16 @@ use std::alloc::Global;
 
 // Evicts all that is not pinned. Refused for want of memory alone; then the first shards are done, and some
 // beginning of the next one's evictions has left.
-pub(super) fn evict_each<E: Eviction, K: Key, V: Value, P: Properties, I: Indexer<K>>(
-    shards: &mut Vec<Shard<E, K, V, P, I>>,
+pub(super) fn evict_each<
+    E: Eviction,
+    K: Key,
+    V: Value,
+    P: Properties,
+    N: Drop,
+    R: Drop,
+    I: Indexer<K>,
+>(
+    shards: &mut Vec<Shard<E, K, V, P, N, R, I>>,
     leaves: &mut Vec<Leave<K, V, P>>,
 ) -> Result<()>
     ensures done { OnOk result (GoesOn leaves.old.items leaves.new.items (λ ls. InTurn (EvictsUnpinned (meaning K.eq E.model P.hint_of P.phantom_of))
@@ -37,8 +45,16 @@ pub(super) fn evict_each<E: Eviction, K: Key, V: Value, P: Properties, I: Indexe
 
 // Evicts to the capacity of each shard. Refused for want of memory alone; then the first shards are done, and
 // some beginning of the next one's evictions has left.
-pub(super) fn evict_each_to_capacity<E: Eviction, K: Key, V: Value, P: Properties, I: Indexer<K>>(
-    shards: &mut Vec<Shard<E, K, V, P, I>>,
+pub(super) fn evict_each_to_capacity<
+    E: Eviction,
+    K: Key,
+    V: Value,
+    P: Properties,
+    N: Drop,
+    R: Drop,
+    I: Indexer<K>,
+>(
+    shards: &mut Vec<Shard<E, K, V, P, N, R, I>>,
     leaves: &mut Vec<Leave<K, V, P>>,
 ) -> Result<()>
     ensures done { OnOk result (GoesOn leaves.old.items leaves.new.items (λ ls. InTurn (EvictsToCapacity (meaning K.eq E.model P.hint_of P.phantom_of))
@@ -55,10 +71,15 @@ pub(super) fn evict_each_to_capacity<E: Eviction, K: Key, V: Value, P: Propertie
 }
 
 // Gives each shard its share of a capacity, and tells its policy. Nothing leaves, and it takes no memory.
-pub(super) fn share_out<E: Eviction, K: Key, V: Value, P: Properties, I: Indexer<K>>(
-    shards: &mut Vec<Shard<E, K, V, P, I>>,
-    capacity: usize,
-)
+pub(super) fn share_out<
+    E: Eviction,
+    K: Key,
+    V: Value,
+    P: Properties,
+    N: Drop,
+    R: Drop,
+    I: Indexer<K>,
+>(shards: &mut Vec<Shard<E, K, V, P, N, R, I>>, capacity: usize)
     ensures shares { SharesOut (meaning K.eq E.model P.hint_of P.phantom_of) capacity (map state_of shards.old.items) (map state_of shards.new.items) }
     ensures len { vec_len shards.new ≡ vec_len shards.old }
 {
@@ -70,8 +91,16 @@ pub(super) fn share_out<E: Eviction, K: Key, V: Value, P: Properties, I: Indexer
 
 // Takes everything out, as `Clear`, and answers what leaves. Room is made for all shards first; only memory can
 // be missing, and then nothing has changed.
-pub(super) fn clear_each<E: Eviction, K: Key, V: Value, P: Properties, I: Indexer<K>>(
-    shards: &mut Vec<Shard<E, K, V, P, I>>,
+pub(super) fn clear_each<
+    E: Eviction,
+    K: Key,
+    V: Value,
+    P: Properties,
+    N: Drop,
+    R: Drop,
+    I: Indexer<K>,
+>(
+    shards: &mut Vec<Shard<E, K, V, P, N, R, I>>,
     alloc: Global,
 ) -> Result<Vec<Leave<K, V, P>>>
     ensures done { IfOk result (λ leaves. InTurn (Clears (meaning K.eq E.model P.hint_of P.phantom_of)) (map state_of shards.old.items) leaves.items (map state_of shards.new.items)) }
@@ -89,12 +118,12 @@ pub(super) fn clear_each<E: Eviction, K: Key, V: Value, P: Properties, I: Indexe
 
 // Makes room in each policy for a `clear`, and answers what each shard holds. Only memory can be missing;
 // nothing else changes.
-fn reserve_each<E: Eviction, K: Key, V: Value, P: Properties, I: Indexer<K>>(
-    shards: &mut Vec<Shard<E, K, V, P, I>>,
+fn reserve_each<E: Eviction, K: Key, V: Value, P: Properties, N: Drop, R: Drop, I: Indexer<K>>(
+    shards: &mut Vec<Shard<E, K, V, P, N, R, I>>,
     alloc: Global,
 ) -> Result<Vec<Vec<Item>>>
     ensures same { map state_of shards.new.items ≡ map state_of shards.old.items }
-    ensures ready { IfOk result (λ lists. AllZip (λ s list. E.can_clear s.eviction × (list.items ≡ E.model.order (E.view s.eviction))) shards.new.items lists.items) }
+    ensures ready { IfOk result (λ lists. AllZip (λ s list. E.can_clear s.store.eviction × (list.items ≡ E.model.order (E.view s.store.eviction))) shards.new.items lists.items) }
     ensures refused { IfErr result (λ e. e ≡ NoMemory) }
     ensures len { vec_len shards.new ≡ vec_len shards.old }
 {
@@ -112,10 +141,12 @@ pub(super) fn evict_each_if<
     K: Key,
     V: Value,
     P: Properties,
+    N: Drop,
+    R: Drop,
     I: Indexer<K>,
     F: Fn(&K, &V) -> bool,
 >(
-    shards: &mut Vec<Shard<E, K, V, P, I>>,
+    shards: &mut Vec<Shard<E, K, V, P, N, R, I>>,
     alloc: Global,
     predicate: &F,
 ) -> Result<Vec<Leave<K, V, P>>>
@@ -134,14 +165,19 @@ pub(super) fn evict_each_if<
 }
 
 // The items of each shard of which the predicate says yes. It is asked once of each. Only memory can be missing.
-fn pick_each<E: Eviction, K: Key, V: Value, P: Properties, I: Indexer<K>, F: Fn(&K, &V) -> bool>(
-    shards: &[Shard<E, K, V, P, I>],
-    alloc: Global,
-    predicate: &F,
-) -> Result<Vec<Vec<Item>>>
+fn pick_each<
+    E: Eviction,
+    K: Key,
+    V: Value,
+    P: Properties,
+    N: Drop,
+    R: Drop,
+    I: Indexer<K>,
+    F: Fn(&K, &V) -> bool,
+>(shards: &[Shard<E, K, V, P, N, R, I>], alloc: Global, predicate: &F) -> Result<Vec<Vec<Item>>>
     requires { F.IsAlwaysCallable predicate.now }
     ensures picks { IfOk result (λ lists. AllZip
-        (λ s list. Picks (meaning K.eq E.model P.hint_of P.phantom_of) (Says F.Fn predicate.now) (state_of s) list.items × IsWithin list.items (E.model.order (E.view s.eviction)))
+        (λ s list. Picks (meaning K.eq E.model P.hint_of P.phantom_of) (Says F.Fn predicate.now) (state_of s) list.items × IsWithin list.items (E.model.order (E.view s.store.eviction)))
         shards.now lists.items) }
     ensures refused { IfErr result (λ e. e ≡ NoMemory) }
 {

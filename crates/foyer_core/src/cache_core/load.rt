@@ -22,8 +22,8 @@ pub(super) struct Load {
 impl Load {
     // The load of a shard.
     #[inline]
-    pub(super) fn of<E: Eviction, K: Key, V: Value, P: Properties, I: Indexer<K>>(
-        shard: &Shard<E, K, V, P, I>,
+    pub(super) fn of<E: Eviction, K: Key, V: Value, P: Properties, N: Drop, R: Drop, I: Indexer<K>>(
+        shard: &Shard<E, K, V, P, N, R, I>,
     ) -> Self
         ensures usage { result.usage ≡ usage_of (meaning K.eq E.model P.hint_of P.phantom_of) (state_of shard.now) }
         ensures entries { result.entries ≡ length (E.model.order (state_of shard.now).view) }
@@ -36,8 +36,8 @@ impl Load {
     }
 
     // The load of these shards together.
-    pub(super) fn of_all<E: Eviction, K: Key, V: Value, P: Properties, I: Indexer<K>>(
-        shards: &[Shard<E, K, V, P, I>],
+    pub(super) fn of_all<E: Eviction, K: Key, V: Value, P: Properties, N: Drop, R: Drop, I: Indexer<K>>(
+        shards: &[Shard<E, K, V, P, N, R, I>],
     ) -> Self
         ensures { AreSums (meaning K.eq E.model P.hint_of P.phantom_of) result.usage result.entries (map state_of shards.now) }
     {

@@ -22,8 +22,9 @@ impl<
     W: Weighter<K, V>,
     A: Filter<K, V>,
     N: Drop,
+    R: Drop,
     I: Indexer<K>,
-> CacheCore<E, K, V, P, S, W, A, N, I> {
+> CacheCore<E, K, V, P, S, W, A, N, R, I> {
     ghost use Rattle.foyer_core.specs.Core.{AnswersNobody, AtShard, InsertsAnswering, shard_at};
     ghost use Rattle.foyer_core.specs.Cores.{core_of, hashes_of, meaning_of_core};
     ghost use Rattle.foyer_core.specs.Laws.{Finds, HandlesStay};

@@ -23,14 +23,15 @@ impl<
     W: Weighter<K, V>,
     A: Filter<K, V>,
     N: Drop,
-> CacheCore<E, K, V, P, S, W, A, N> {
+    R: Drop,
+> CacheCore<E, K, V, P, S, W, A, N, R> {
     ghost use Rattle.foyer_core.specs.Shards.{state_of};
 
     // Shards that hold nothing and share the capacity, as many as there are to be.
     pub(super) fn new_shards(
         alloc: Global,
         config: &RawCacheConfig<E::Config, S, W, A>,
-    ) -> Result<Vec<Shard<E, K, V, P, HashTableIndexer<K>>>>
+    ) -> Result<Vec<Shard<E, K, V, P, N, R, HashTableIndexer<K>>>>
         requires some { 0 < config.now.shards }
         ensures made { IfOk result (λ shards. AreNewShards (meaning K.eq E.model P.hint_of P.phantom_of) config.now config.now.shards (map state_of shards.items)) }
         ensures accepted { OnOk result (E.model.fault config.now.eviction_config ≡ None) }
@@ -72,8 +73,9 @@ impl<
     W: Weighter<K, V>,
     A: Filter<K, V>,
     N: Drop,
+    R: Drop,
     I: Indexer<K>,
-> CacheCore<E, K, V, P, S, W, A, N, I> {
+> CacheCore<E, K, V, P, S, W, A, N, R, I> {
     // The place of the shard of a hash.
     #[inline]
     pub(super) fn place(&self, hash: u64) -> usize

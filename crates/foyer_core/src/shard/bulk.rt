@@ -1,25 +1,35 @@
 //! What a shard does with all of its records.
 
-ghost use Rattle.std.specs.Prelude.{◌≡◌, ℕ, None, OnOk, OnErr, IfErr};
+ghost use Rattle.std.specs.Prelude.{◌≡◌, OnOk, OnErr, IfOk, IfErr};
 ghost use Rattle.foyer_policy.specs.declared.error.Reason.TheVariants.{NoMemory};
 
 use super::Shard;
 use crate::entry::Leave;
 use crate::indexer::Indexer;
-use foyer_policy::{Error, Event, Eviction, Key, Properties, Reason, Result, Value};
+use foyer_policy::{Eviction, Key, Properties, Result, Value};
+use std::alloc::Global;
 
-impl<E: Eviction, K: Key, V: Value, P: Properties, I: Indexer<K>> Shard<E, K, V, P, I> {
-    ghost use Rattle.foyer_core.specs.Shards.{state_of, meaning_of};
+impl<E: Eviction, K: Key, V: Value, P: Properties, N: Drop, R: Drop, I: Indexer<K>> Shard<
+    E,
+    K,
+    V,
+    P,
+    N,
+    R,
+    I,
+> {
+    ghost use Rattle.foyer_core.specs.Shards.{state_of, meaning_of, opens_of};
     ghost use Rattle.foyer_core.specs.Bulk.{GoesOn, after_capacity, EvictsUnpinned, EvictingUnpinned};
     ghost use Rattle.foyer_core.specs.CoreBulk.{EvictsToCapacity, EvictingToCapacity};
+    ghost use Rattle.foyer_core.specs.Steps.{Evicts, Evicting};
 
     /// Sets the weight that the records may have together, and tells the policy. Nothing leaves, even where the
     /// usage is above it. It takes no memory.
     pub fn set_capacity(&mut self, capacity: usize)
-        ensures { state_of self.new ≡ after_capacity (meaning_of self.old) (state_of self.old) capacity }
+        ensures set { state_of self.new ≡ after_capacity (meaning_of self.old) (state_of self.old) capacity }
+        ensures opens { opens_of self.new ≡ opens_of self.old }
     {
-        tell_capacity(&mut self.eviction, capacity);
-        self.capacity = capacity;
+        self.store.set_capacity(capacity)
     }
 
     /// Evicts until the usage is at most the capacity, or nothing more leaves, and appends what leaves. Refused
@@ -28,8 +38,9 @@ impl<E: Eviction, K: Key, V: Value, P: Properties, I: Indexer<K>> Shard<E, K, V,
         ensures done { OnOk result (GoesOn leaves.old.items leaves.new.items (λ ls. EvictsToCapacity (meaning_of self.old) (state_of self.old) ls (state_of self.new))) }
         ensures refused { OnErr result (GoesOn leaves.old.items leaves.new.items (λ ls. EvictingToCapacity (meaning_of self.old) (state_of self.old) ls (state_of self.new))) }
         ensures reason { IfErr result (λ e. e ≡ NoMemory) }
+        ensures opens { opens_of self.new ≡ opens_of self.old }
     {
-        self.evict_onto(leaves, self.capacity)
+        self.store.evict_to_capacity(leaves)
     }
 
     /// Evicts all that is not pinned, in the order in which the policy gives it, and appends what leaves.
@@ -38,27 +49,38 @@ impl<E: Eviction, K: Key, V: Value, P: Properties, I: Indexer<K>> Shard<E, K, V,
         ensures done { OnOk result (GoesOn leaves.old.items leaves.new.items (λ ls. EvictsUnpinned (meaning_of self.old) (state_of self.old) ls (state_of self.new))) }
         ensures refused { OnErr result (GoesOn leaves.old.items leaves.new.items (λ ls. EvictingUnpinned (meaning_of self.old) (state_of self.old) ls (state_of self.new))) }
         ensures reason { IfErr result (λ e. e ≡ NoMemory) }
+        ensures opens { opens_of self.new ≡ opens_of self.old }
     {
-        loop {
-            let Ok(()) = leaves.reserve(1) else {
-                return Err(Error::new(Reason::NoMemory));
-            };
-            match self.evict_one() {
-                Ok(Some(left)) => leaves.push_reserved((Event::Evict, left)),
-                Ok(None) => return Ok(()),
-                Err(_) => return Err(Error::new(Reason::NoMemory)),
-            }
-        }
+        self.store.evict_unpinned(leaves)
     }
-}
 
-// Tells a policy another capacity.
-fn tell_capacity<'a, E: Eviction>(eviction: &'a mut E, capacity: usize)
-    ensures view { E.view eviction.new ≡ E.model.update (E.view eviction.old) capacity None }
-    ensures places { (p : ℕ) → E.at eviction.new p ≡ E.at eviction.old p }
-{
-    let same: Option<&'a E::Config> = None;
-    let Ok(()) = eviction.update(capacity, same) else {
-        unreachable!();
-    };
+    /// Evicts until the usage is at most the target, or nothing more leaves, and answers what left. Refused for
+    /// want of memory alone (F7); then some beginning of the evictions has left, which is handed out. There is
+    /// room for one leave more, where it is not refused.
+    pub fn evict_to(
+        &mut self,
+        alloc: Global,
+        target: usize,
+    ) -> std::result::Result<Vec<Leave<K, V, P>>, Vec<Leave<K, V, P>>>
+        ensures done { IfOk result (λ leaves. Evicts (meaning_of self.old) target (state_of self.old) leaves.items (state_of self.new)) }
+        ensures refused { IfErr result (λ leaves. Evicting (meaning_of self.old) target (state_of self.old) leaves.items (state_of self.new)) }
+        ensures opens { opens_of self.new ≡ opens_of self.old }
+    {
+        self.store.evict_to(alloc, target)
+    }
+
+    /// Evicts until the usage is at most the target, or nothing more leaves, and appends what leaves. Refused
+    /// for want of memory alone (F7); then some beginning of the evictions has left, and stands in the list.
+    pub fn evict_onto(
+        &mut self,
+        leaves: &mut Vec<Leave<K, V, P>>,
+        target: usize,
+    ) -> Result<()>
+        ensures done { OnOk result (GoesOn leaves.old.items leaves.new.items (λ ls. Evicts (meaning_of self.old) target (state_of self.old) ls (state_of self.new))) }
+        ensures refused { OnErr result (GoesOn leaves.old.items leaves.new.items (λ ls. Evicting (meaning_of self.old) target (state_of self.old) ls (state_of self.new))) }
+        ensures reason { IfErr result (λ e. e ≡ NoMemory) }
+        ensures opens { opens_of self.new ≡ opens_of self.old }
+    {
+        self.store.evict_onto(leaves, target)
+    }
 }

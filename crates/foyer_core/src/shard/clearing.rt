@@ -1,101 +1,91 @@
-//! All records of a shard leave at once.
+//! What a shard takes out at once: all of its records, or those of which a predicate says yes.
 
-ghost use Rattle.std.specs.Prelude.{◌≡◌, ℕ, ◌+◌, ◌≤◌, [], Some, None, OnOk, IfOk, IfErr, IsSomeAnd, nat_eq, true, length, vec_len, vec_capacity};
-ghost use Rattle.std.specs.Map.{update};
+ghost use Rattle.std.specs.Prelude.{◌≡◌, ◌+◌, ◌≤◌, OnOk, OnErr, IfOk, IfErr, length, vec_len, vec_capacity};
+ghost use Rattle.foyer_policy.specs.Items.{IsWithin};
 ghost use Rattle.foyer_policy.specs.declared.error.Reason.TheVariants.{NoMemory};
-ghost use Rattle.foyer_core.specs.Indexer.{same_key};
-ghost use Rattle.foyer_core.specs.State.{key_of};
-ghost use Rattle.foyer_core.specs.Steps.{outside};
-ghost use Rattle.foyer_core.specs.Values.{Kept};
-ghost use Rattle.foyer_core.specs.Stored.{meaning};
-ghost use Rattle.foyer_core.specs.Table.{rec_of, slot_outside};
-ghost use Rattle.foyer_core.specs.Records.{slot_in, record_in, HasRoom};
+ghost use Rattle.foyer_policy.specs.declared.types.Event.TheVariants.{Evict};
 
 use super::Shard;
-use crate::entry::{Leave, Left};
+use crate::entry::Leave;
 use crate::indexer::Indexer;
-use crate::records::Records;
-use foyer_policy::{Event, Eviction, Item, Key, Properties, Result, Value};
+use foyer_policy::{Eviction, Item, Key, Properties, Result, Value};
+use std::alloc::Global;
 
-impl<E: Eviction, K: Key, V: Value, P: Properties, I: Indexer<K>> Shard<E, K, V, P, I> {
-    ghost use Rattle.foyer_core.specs.Shards.{state_of, meaning_of};
-    ghost use Rattle.foyer_core.specs.Bulk.{GoesOn, Clears, Lined, Passes};
+impl<E: Eviction, K: Key, V: Value, P: Properties, N: Drop, R: Drop, I: Indexer<K>> Shard<
+    E,
+    K,
+    V,
+    P,
+    N,
+    R,
+    I,
+> {
+    ghost use Rattle.foyer_core.specs.Shards.{state_of, meaning_of, opens_of};
+    ghost use Rattle.foyer_core.specs.Bulk.{GoesOn, Clears, EvictsIf, Picks, Says, TakesOut};
 
     /// Makes room in the policy for a `clear`, and answers what is in, in the policy's order. Only memory can be
     /// missing (F7); nothing else changes.
     pub fn reserve_clear(&mut self) -> Result<Vec<Item>>
         ensures same { state_of self.new ≡ state_of self.old }
-        ensures can_clear { OnOk result (E.can_clear self.new.eviction) }
+        ensures can_clear { OnOk result (E.can_clear self.new.store.eviction) }
         ensures items { IfOk result (λ items. items.items ≡ E.model.order (state_of self.new).view) }
         ensures refused { IfErr result (λ e. e ≡ NoMemory) }
+        ensures opens { opens_of self.new ≡ opens_of self.old }
     {
-        self.eviction.reserve_clear()?;
-        self.eviction.order()
+        self.store.reserve_clear()
     }
 
     /// Takes everything out, as `Clear`, in the policy's order, and appends what leaves. It asks for the room
     /// and the items of `reserve_clear`, and for room in the list; it takes no memory.
     pub fn clear(&mut self, items: &[Item], leaves: &mut Vec<Leave<K, V, P>>)
-        requires can_clear { E.can_clear self.old.eviction }
+        requires can_clear { E.can_clear self.old.store.eviction }
         requires items { items.now ≡ E.model.order (state_of self.old).view }
         requires room { vec_len leaves.old + length items.now ≤ vec_capacity leaves.old }
         ensures told { GoesOn leaves.old.items leaves.new.items (λ ls. Clears (meaning_of self.old) (state_of self.old) ls (state_of self.new)) }
         ensures len { vec_len leaves.new ≡ vec_len leaves.old + length items.now }
         ensures capacity { vec_capacity leaves.new ≡ vec_capacity leaves.old }
+        ensures opens { opens_of self.new ≡ opens_of self.old }
     {
-        Self::leave_all(
-            &mut self.index,
-            &mut self.records,
-            self.number,
-            items,
-            leaves,
-        );
-        self.eviction.clear();
-        self.usage = 0;
-        self.entries = 0;
+        self.store.clear(items, leaves)
     }
 
-    // The records of these items leave the index and their slots, in the core of this number.
-    fn leave_all(
-        index: &mut I,
-        records: &mut Records<K, V, P>,
-        number: u64,
-        items: &[Item],
-        leaves: &mut Vec<Leave<K, V, P>>,
-    )
-        requires lined { Lined (meaning K.eq E.model P.hint_of P.phantom_of) number (I.view index.old) records.old items.now }
-        requires room { vec_len leaves.old + length items.now ≤ vec_capacity leaves.old }
-        ensures told { (o : Lined (meaning K.eq E.model P.hint_of P.phantom_of) number (I.view index.old) records.old items.now) → GoesOn leaves.old.items leaves.new.items (λ ls. Passes (meaning K.eq E.model P.hint_of P.phantom_of) o items.now [] ls (I.view index.new) records.new) }
-        ensures len { vec_len leaves.new ≡ vec_len leaves.old + length items.now }
+    /// Takes the records of which the predicate says yes out, pinned or not, as `Evict`, in the policy's order.
+    /// It is asked once of each. Refused for want of memory alone (F7); then nothing has changed.
+    pub fn evict_if<F: Fn(&K, &V) -> bool>(
+        &mut self,
+        alloc: Global,
+        predicate: &F,
+    ) -> Result<Vec<Leave<K, V, P>>>
+        requires { F.IsAlwaysCallable predicate.now }
+        ensures done { IfOk result (λ leaves. EvictsIf (meaning_of self.old) (Says F.Fn predicate.now) (state_of self.old) leaves.items (state_of self.new)) }
+        ensures err { OnErr result (state_of self.new ≡ state_of self.old) }
+        ensures refused { IfErr result (λ e. e ≡ NoMemory) }
+        ensures opens { opens_of self.new ≡ opens_of self.old }
+    {
+        self.store.evict_if(alloc, predicate)
+    }
+
+    /// The items of the records of which the predicate says yes, pinned or not, in the policy's order. It is
+    /// asked once of each. Only memory can be missing (F7); nothing changes.
+    pub fn pick<F: Fn(&K, &V) -> bool>(&self, alloc: Global, predicate: &F) -> Result<Vec<Item>>
+        requires { F.IsAlwaysCallable predicate.now }
+        ensures picks { IfOk result (λ picked. Picks (meaning_of self.now) (Says F.Fn predicate.now) (state_of self.now) picked.items) }
+        ensures within { IfOk result (λ picked. IsWithin picked.items (E.model.order (state_of self.now).view)) }
+        ensures refused { IfErr result (λ e. e ≡ NoMemory) }
+    {
+        self.store.pick(alloc, predicate)
+    }
+
+    /// Takes the records of these items out, as `Evict`, in this order, and appends what leaves. It asks for
+    /// items that are in, each once, as `pick` gives them, and for room in the list; it takes no memory.
+    pub fn evict_picked(&mut self, picked: &[Item], leaves: &mut Vec<Leave<K, V, P>>)
+        requires within { IsWithin picked.now (E.model.order (state_of self.old).view) }
+        requires room { vec_len leaves.old + length picked.now ≤ vec_capacity leaves.old }
+        ensures told { GoesOn leaves.old.items leaves.new.items (λ ls. TakesOut (meaning_of self.old) Evict picked.now (state_of self.old) ls (state_of self.new)) }
+        ensures len { vec_len leaves.new ≡ vec_len leaves.old + length picked.now }
         ensures capacity { vec_capacity leaves.new ≡ vec_capacity leaves.old }
+        ensures opens { opens_of self.new ≡ opens_of self.old }
     {
-        for item in items {
-            let Some(slot) = records.find(item.id, 0) else {
-                unreachable!();
-            };
-            let left = leave_slot(index, records, slot, number);
-            leaves.push_reserved((Event::Clear, left));
-        }
+        self.store.evict_picked(picked, leaves)
     }
-}
-
-// The record in a slot leaves the index and its slot, in the core of this number.
-pub(super) fn leave_slot<K: Key, V: Drop, P: Drop, I: Indexer<K>>(
-    index: &mut I,
-    records: &mut Records<K, V, P>,
-    slot: usize,
-    number: u64,
-) -> Left<K, V, P>
-    requires { IsSomeAnd (slot_in records.old slot) (λ s. s.resident ≡ true) }
-    ensures left { (s : Kept K V P) → slot_in records.old slot ≡ Some s → result ≡ record { number = number; id = s.id; kept = s.kept } }
-    ensures index { (s : Kept K V P) → slot_in records.old slot ≡ Some s → (q : ℕ × K) → I.view index.new q ≡ update (same_key K.eq) (I.view index.old) (key_of s.kept) None q }
-    ensures slots { (s : Kept K V P) → slot_in records.old slot ≡ Some s → (q : ℕ) → slot_in records.new q ≡ update nat_eq (slot_in records.old) slot (slot_outside s) q }
-    ensures records { (s : Kept K V P) → slot_in records.old slot ≡ Some s → (id : ℕ) → record_in records.new id ≡ update nat_eq (record_in records.old) s.id (outside (rec_of s)) id }
-    ensures room { HasRoom records.old → HasRoom records.new }
-{
-    let Some(found) = records.get(slot) else {
-        unreachable!();
-    };
-    let _ = index.remove(found.hash(), found.key());
-    records.leave(slot, number)
 }

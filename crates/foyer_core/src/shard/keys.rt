@@ -5,10 +5,18 @@ ghost use Rattle.std.specs.Prelude.{◌≡◌};
 use super::Shard;
 use crate::entry::{CoreEntry, Left};
 use crate::indexer::Indexer;
-use foyer_policy::{Error, Eviction, Key, Properties, Reason, Result, Source, Value};
+use foyer_policy::{Eviction, Key, Properties, Result, Value};
 
-impl<E: Eviction, K: Key, V: Value, P: Properties, I: Indexer<K>> Shard<E, K, V, P, I> {
-    ghost use Rattle.foyer_core.specs.Shards.{state_of, meaning_of};
+impl<E: Eviction, K: Key, V: Value, P: Properties, N: Drop, R: Drop, I: Indexer<K>> Shard<
+    E,
+    K,
+    V,
+    P,
+    N,
+    R,
+    I,
+> {
+    ghost use Rattle.foyer_core.specs.Shards.{state_of, meaning_of, opens_of};
     ghost use Rattle.foyer_core.specs.Steps.{Touches, Removes};
 
     /// Whether the key's record is in the index; if it is, that counts as a use, as a `get` does whose entry
@@ -16,26 +24,9 @@ impl<E: Eviction, K: Key, V: Value, P: Properties, I: Indexer<K>> Shard<E, K, V,
     /// memory.
     pub fn touch(&mut self, hash: u64, key: &K) -> Result<bool>
         ensures touches { Touches (meaning_of self.old) (state_of self.old) (hash, key.now) result (state_of self.new) }
+        ensures opens { opens_of self.new ≡ opens_of self.old }
     {
-        let Some(number) = self.index.get(hash, key) else {
-            return Ok(false);
-        };
-        let Some(found) = self.records.get(number as usize) else {
-            unreachable!();
-        };
-        let handles = found.handles();
-        if handles >= self.limits.handles {
-            return Err(Error::new(Reason::Handles));
-        }
-        let Some(place) = found.place() else {
-            unreachable!();
-        };
-        self.eviction.acquire(place);
-        if handles > 0 {
-            return Ok(true);
-        }
-        self.eviction.release(place);
-        Ok(true)
+        self.store.touch(hash, key)
     }
 
     /// Takes the key's record out, where it is in the index, and answers an entry of it, which counts as a
@@ -47,26 +38,8 @@ impl<E: Eviction, K: Key, V: Value, P: Properties, I: Indexer<K>> Shard<E, K, V,
         key: &K,
     ) -> Result<Option<(CoreEntry<K, V, P>, Left<K, V, P>)>>
         ensures removes { Removes (meaning_of self.old) (state_of self.old) (hash, key.now) result (state_of self.new) }
+        ensures opens { opens_of self.new ≡ opens_of self.old }
     {
-        let Some(number) = self.index.get(hash, key) else {
-            return Ok(None);
-        };
-        let slot = number as usize;
-        let Some(found) = self.records.get(slot) else {
-            unreachable!();
-        };
-        if found.handles() >= self.limits.handles {
-            return Err(Error::new(Reason::Handles));
-        }
-        let Some(place) = found.place() else {
-            unreachable!();
-        };
-        let entry = found.entry(self.number, slot, Source::Memory)?;
-        let _ = self.index.remove(hash, key);
-        let item = self.eviction.remove(place);
-        self.usage -= item.weight;
-        self.entries -= 1;
-        self.records.add_handle(slot);
-        Ok(Some((entry, self.records.leave(slot, self.number))))
+        self.store.remove(hash, key)
     }
 }

@@ -66,7 +66,7 @@ impl Properties for Placed {
     }
 }
 
-type PlacedCore = CacheCore<Fifo, u64, u64, Placed, ModHasher, UnitWeighter, AdmitAll, ()>;
+type PlacedCore = CacheCore<Fifo, u64, u64, Placed, ModHasher, UnitWeighter, AdmitAll, (), ()>;
 
 // A core of one shard that holds nothing.
 fn placed_core(alloc: Global) -> Result<PlacedCore> {

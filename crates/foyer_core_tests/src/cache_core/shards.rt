@@ -64,7 +64,7 @@ fn shards_count_their_own_handles(rt: HostRuntime) -> std::result::Result<(), Fa
 // The number of a core's refusal, where it is refused.
 fn refusal<E: Eviction>(alloc: Global, shards: usize, config: E::Config) -> Option<u8> {
     let made: Result<
-        CacheCore<E, u64, u64, CacheProperties, ModHasher, UnitWeighter, AdmitAll, ()>,
+        CacheCore<E, u64, u64, CacheProperties, ModHasher, UnitWeighter, AdmitAll, (), ()>,
     > = CacheCore::new(
         alloc,
         RawCacheConfig {

@@ -29,6 +29,7 @@ pub(super) type Heavy<E> = CacheCore<
     ByValue,
     AdmitAll,
     (),
+    (),
 >;
 
 pub(super) type HeavyEntry = CoreEntry<u64, usize, CacheProperties>;

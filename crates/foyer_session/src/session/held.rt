@@ -124,7 +124,7 @@ fn clone_held<
     A: Filter<K, V>,
     I: Indexer<K>,
 >(
-    core: &mut CacheCore<E, K, V, P, S, W, A, (), I>,
+    core: &mut CacheCore<E, K, V, P, S, W, A, (), (), I>,
     entry: &CoreEntry<K, V, P>,
 ) -> Result<CoreEntry<K, V, P>>
     requires owned { Owns (core_of core.old) entry.now }

@@ -41,7 +41,7 @@ invariant_of-self-clause-summed g c =
     let x = c.index_mut.result.now in
     let y = c.give_back.new.self in
     sums_same (meaning_of_core s) state_of s.shards.items (vec_len s.shards) c.place-place.result x s.load.usage s.load.entries s.shards.ok.0 c.place-place.ensures.within c.index_mut.ensures.value s.summed
-    y (given_back_load (meaning_of x) g.met.E.Eviction.lawful (state_of x) (state_of y) e.id (λ leave. e.number ≡ (state_of x).number) c.give_back.result x.kept c.give_back.ensures.taken c.give_back.ensures.err)
+    y (given_back_load (meaning_of x) g.met.E.Eviction.lawful (state_of x) (state_of y) e.id (λ leave. e.number ≡ (state_of x).number) c.give_back.result x.store.kept c.give_back.ensures.taken c.give_back.ensures.err)
 
 pub returns-clause-taken : goal.returns-clause-taken
 returns-clause-taken g c =

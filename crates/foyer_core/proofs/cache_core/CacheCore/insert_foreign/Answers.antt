@@ -121,4 +121,4 @@ returns-clause-stay g c =
     let over = at_over state_of s.capacity s.hash_builder s.weighter s.filter s.shards.items c.args.hash (vec_len s.shards) c.place-place.result x
     s.shards.ok.0 c.place-place.ensures.within c.place-place.ensures.place c.index_mut.ensures.value in
     let d = c.with-kept.result in
-    stays_at (core_of s) _ c.args.hash (over (RecordsStay nothing) y (came_stays m Memory (state_of x) (state_of y) d _ _ x.kept c.in_ok-entry.ensures.inserted))
+    stays_at (core_of s) _ c.args.hash (over (RecordsStay nothing) y (came_stays m Memory (state_of x) (state_of y) d _ _ x.store.kept c.in_ok-entry.ensures.inserted))

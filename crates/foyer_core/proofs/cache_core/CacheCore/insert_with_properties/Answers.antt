@@ -149,7 +149,7 @@ returns-clause-bounded g c plain sure =
     let over = at_over state_of s.capacity s.hash_builder s.weighter s.filter s.shards.items hash (vec_len s.shards) c.place-place.result x
     s.shards.ok.0 c.place-place.ensures.within (c.place-place.ensures.place ∙ ap (λ (n : ℕ). n % vec_len s.shards) c.hash-hash.ensures.hash) c.index_mut.ensures.value in
     let did = rw (c.hash-hash.ensures.hash, c.marked-properties.ensures) at c.in_ok-entry.ensures.inserted in
-    let at = over (Came (meaning_of x) g.met.K.Eq.laws g.met.E.Eviction.lawful Outer d c.in_ok-entry.leaves.items c.in_ok-entry.entry) y record { kept = x.kept; inc = newcomer (state_of x) d; inserts = came_plain (meaning_of x) g.P.Properties.location_of g.P.Properties.with_phantom_of c.admit-admitted.result c.args.properties plain (sure c.admit-admitted.result c.admit-admitted.ensures) Outer (state_of x) (state_of y) (newcomer (state_of x) d) _ _ refl did; data_are = refl } in
+    let at = over (Came (meaning_of x) g.met.K.Eq.laws g.met.E.Eviction.lawful Outer d c.in_ok-entry.leaves.items c.in_ok-entry.entry) y record { kept = x.store.kept; inc = newcomer (state_of x) d; inserts = came_plain (meaning_of x) g.P.Properties.location_of g.P.Properties.with_phantom_of c.admit-admitted.result c.args.properties plain (sure c.admit-admitted.result c.admit-admitted.ensures) Outer (state_of x) (state_of y) (newcomer (state_of x) d) _ _ refl did; data_are = refl } in
     rw c.told_to_nobody.ensures.entry (bounded_at (meaning_of x) g.met.K.Eq.laws g.met.E.Eviction.lawful (core_of s) _ Outer d _ _ hash at _ (ap (λ (e : Held g.row.K.Denot g.row.V.Denot g.row.P.Denot). e.kept.weight) at.stepped.inserts.entry_is ∙ ap (λ (x : Data g.row.K.Denot g.row.V.Denot g.row.P.Denot). x.weight) at.stepped.data_are))
 
 pub returns-clause-stay : goal.returns-clause-stay
@@ -163,7 +163,7 @@ returns-clause-stay g c =
     s.shards.ok.0 c.place-place.ensures.within (c.place-place.ensures.place ∙ ap (λ (n : ℕ). n % vec_len s.shards) c.hash-hash.ensures.hash) c.index_mut.ensures.value in
     let did = rw (c.hash-hash.ensures.hash, c.marked-properties.ensures) at c.in_ok-entry.ensures.inserted in
     stays_at (core_of s) _ hash (over (RecordsStay nothing) y
-    (came_stays (meaning_of x) Outer (state_of x) (state_of y) d _ _ x.kept did))
+    (came_stays (meaning_of x) Outer (state_of x) (state_of y) d _ _ x.store.kept did))
 
 pub returns-in_err-entry-clause-told : goal.returns-in_err-entry-clause-told
 returns-in_err-entry-clause-told g c =

@@ -35,7 +35,7 @@ invariant_of-self-clause-summed g c =
     let x = c.index_mut.result.now in
     let y = c.touch.new.self in
     sums_same (meaning_of_core s) state_of s.shards.items (vec_len s.shards) c.place-place.result x s.load.usage s.load.entries s.shards.ok.0 c.place-place.ensures.within c.index_mut.ensures.value s.summed
-    y (touches_load (meaning_of_core s) g.met.E.Eviction.lawful (state_of x) (state_of y) (c.hash-hash.result, c.args.key.now) c.touch.result x.kept c.touch.ensures.touches)
+    y (touches_load (meaning_of_core s) g.met.E.Eviction.lawful (state_of x) (state_of y) (c.hash-hash.result, c.args.key.now) c.touch.result x.store.kept c.touch.ensures.touches)
 
 pub returns : goal.returns
 returns g c =

@@ -14,7 +14,7 @@ pub loop-place-init : goal.loop-place-init
 loop-place-init g c =
     let shards = c.reserve_each.new.shards in
     let lists = c.in_ok-held.held in
-    let long = AllZip-long (λ s list. g.E.Eviction.can_clear s.eviction × (list.items ≡ g.E.Eviction.model.order (g.E.Eviction.view s.eviction))) shards.items lists.items c.in_ok-held.ensures.ready in
+    let long = AllZip-long (λ s list. g.E.Eviction.can_clear s.store.eviction × (list.items ≡ g.E.Eviction.model.order (g.E.Eviction.view s.store.eviction))) shards.items lists.items c.in_ok-held.ensures.ready in
     record {
       begun = (c.in_ok-leaves.ensures.empty, c.in_ok-held.ensures.same);
       len = c.in_ok-held.ensures.len;
@@ -36,7 +36,7 @@ loop-place-preserved g c =
     let told = c.clear.ensures.told in
     let less : n < length now.items = omega (arith, now.ok.0) in
     let less' : n < length lists.items = omega (arith, lists.ok.0, c.loop-place.invariant.long) in
-    let next = zip-next (λ s l. g.E.Eviction.can_clear s.eviction × (l.items ≡ g.E.Eviction.model.order (g.E.Eviction.view s.eviction))) now.items lists.items n x list less less'
+    let next = zip-next (λ s l. g.E.Eviction.can_clear s.store.eviction × (l.items ≡ g.E.Eviction.model.order (g.E.Eviction.view s.store.eviction))) now.items lists.items n x list less less'
     c.index_mut.ensures.value c.index.ensures c.loop-place.invariant.ready in
     record {
       begun = rw told.told

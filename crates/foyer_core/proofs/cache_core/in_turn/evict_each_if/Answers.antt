@@ -18,7 +18,7 @@ loop-place-init g c =
     let shards = c.args.shards.now in
     let lists = c.in_ok-picked.picked in
     let picked = rw c.deref.ensures.value at c.in_ok-picked.ensures.picks in
-    let long = AllZip-long (λ s list. Picks m says (state_of s) list.items × IsWithin list.items (g.E.Eviction.model.order (g.E.Eviction.view s.eviction))) shards.items lists.items picked in
+    let long = AllZip-long (λ s list. Picks m says (state_of s) list.items × IsWithin list.items (g.E.Eviction.model.order (g.E.Eviction.view s.store.eviction))) shards.items lists.items picked in
     record {
       begun = (c.in_ok-leaves.ensures.empty, refl);
       len = refl;
@@ -36,7 +36,7 @@ evict_picked-requires-clause-within g c κs within =
     let n = c.loop-place.place in
     let less : n < length now.items = omega (arith, now.ok.0) in
     let less' : n < length lists.items = omega (arith, lists.ok.0, c.loop-place.invariant.long) in
-    let next = zip-next (λ s l. Picks m says (state_of s) l.items × IsWithin l.items (g.E.Eviction.model.order (g.E.Eviction.view s.eviction))) now.items lists.items n c.index_mut.result.now c.index.result.now less less'
+    let next = zip-next (λ s l. Picks m says (state_of s) l.items × IsWithin l.items (g.E.Eviction.model.order (g.E.Eviction.view s.store.eviction))) now.items lists.items n c.index_mut.result.now c.index.result.now less less'
     c.index_mut.ensures.value c.index.ensures c.loop-place.invariant.picked in
     rw c.deref-in-loop-place.ensures.value next.0.1
 
@@ -54,7 +54,7 @@ loop-place-preserved g c =
     let told = c.evict_picked.ensures.told in
     let less : n < length now.items = omega (arith, now.ok.0) in
     let less' : n < length lists.items = omega (arith, lists.ok.0, c.loop-place.invariant.long) in
-    let next = zip-next (λ s l. Picks m says (state_of s) l.items × IsWithin l.items (g.E.Eviction.model.order (g.E.Eviction.view s.eviction))) now.items lists.items n x list less less'
+    let next = zip-next (λ s l. Picks m says (state_of s) l.items × IsWithin l.items (g.E.Eviction.model.order (g.E.Eviction.view s.store.eviction))) now.items lists.items n x list less less'
     c.index_mut.ensures.value c.index.ensures c.loop-place.invariant.picked in
     record {
       begun = rw told.told

@@ -19,7 +19,7 @@ loop-place-preserved g c =
       same = map-write state_of now.items (vec_len now) n c.index_mut.result.now y now.ok.0 (omega arith) c.index_mut.ensures.value c.reserve_clear.ensures.same ∙ c.loop-place.invariant.same;
       len = c.loop-place.invariant.len;
       ready = rw c.push_reserved.ensures.items
-          (zip-write (λ s list. g.E.Eviction.can_clear s.eviction × (list.items ≡ g.E.Eviction.model.order (g.E.Eviction.view s.eviction))) now.items c.loop-place.lists.items n y c.in_ok-reserve_clear.field-0 less
+          (zip-write (λ s list. g.E.Eviction.can_clear s.store.eviction × (list.items ≡ g.E.Eviction.model.order (g.E.Eviction.view s.store.eviction))) now.items c.loop-place.lists.items n y c.in_ok-reserve_clear.field-0 less
           c.loop-place.invariant.ready (c.in_ok-reserve_clear.ensures.can_clear, c.in_ok-reserve_clear.ensures.items));
       many = omega (arith, c.push_reserved.ensures.len, c.loop-place.invariant.many);
       room = c.push_reserved.ensures.capacity ∙ c.loop-place.invariant.room;

@@ -10,7 +10,7 @@ loop-place-preserved g c =
     let now = c.loop-place.shards in
     record {
       begun = shared-over m c.args.capacity c.len-count.result state_of (map state_of c.args.shards.now.items) now.items c.loop-place.place c.index_mut.result.now c.set_capacity.new.self (vec_len now) c.share.result
-          now.ok.0 (omega arith) c.index_mut.ensures.value c.loop-place.invariant.begun c.set_capacity.ensures c.share.ensures;
+          now.ok.0 (omega arith) c.index_mut.ensures.value c.loop-place.invariant.begun c.set_capacity.ensures.set c.share.ensures;
       len = c.loop-place.invariant.len;
     }
 

@@ -1,0 +1,105 @@
+use Rattle.std.proofs.Common.{◌≡◌, ◌+◌, Some, None, refl, sym, ◌∙◌, arith, rules}
+use Rattle.foyer_core.specs.Stores.{meaning_of, state_of}
+use Rattle.foyer_core.specs.Steps.{Gets}
+use Rattle.foyer_core.specs.Table.{rec_of}
+use Rattle.foyer_core.specs.Records.{slot_in}
+use Rattle.foyer_core.proofs.StoredLemmas.{none_not, err_is, place_is, count_stored}
+use Rattle.foyer_core.proofs.Holdings.{holding}
+use Rattle.foyer_core.proofs.ShardLemmas.{hits, found, resident, placed, got_after, got_kept, got_counted, got_entries}
+use Rattle.foyer_core.proofs.store.Store.get.Goals as goal
+
+pub unreachable-requires : goal.unreachable-requires
+unreachable-requires g c =
+    let s = c.args.self.now in
+    let none : slot_in s.records c.in-Some.number ≡ None = sym (rw c.in_default-get.is at c.get-2.ensures) in
+    none_not (slot_in s.records c.in-Some.number) (s.stored.led (c.args.hash, c.args.key.now) c.in-Some.number (sym c.get.ensures ∙ c.in-Some.is)) none
+
+pub returns-then-handles-self : goal.returns-then-handles-self
+returns-then-handles-self g c =
+    let s = c.args.self.now in
+    let x = c.in-Some-get.found.now in
+    let there : slot_in s.records c.in-Some.number ≡ Some x = sym (rw c.in-Some-get.is at c.get-2.ensures) in
+    let led = sym c.get.ensures ∙ c.in-Some.is in
+    rw c.new.ensures record {
+      gets = (
+        x.id,
+        rec_of x,
+        hits (meaning_of s) g.met.K.Eq.laws g.met.E.Eviction.lawful (holding s) (c.args.hash, c.args.key.now) c.in-Some.number led x there,
+        found (meaning_of s) g.met.K.Eq.laws g.met.E.Eviction.lawful (holding s) (c.args.hash, c.args.key.now) c.in-Some.number led x there,
+        omega (arith, c.handles.ensures, c.if-handles-self.true),
+        refl,
+      );
+    }
+
+pub unreachable-requires-in_default-place : goal.unreachable-requires-in_default-place
+unreachable-requires-in_default-place g c =
+    let s = c.args.self.now in
+    let x = c.in-Some-get.found.now in
+    let there : slot_in s.records c.in-Some.number ≡ Some x = sym (rw c.in-Some-get.is at c.get-2.ensures) in
+    let res = resident (meaning_of s) g.met.K.Eq.laws g.met.E.Eviction.lawful (holding s) (c.args.hash, c.args.key.now) c.in-Some.number (sym c.get.ensures ∙ c.in-Some.is) x there in
+    none_not x.place (place_is (meaning_of s) (g.E.Eviction.at s.eviction) (g.I.Indexer.view s.index) s.records s.stored c.in-Some.number x there res) (sym c.place.ensures ∙ c.in_default-place.is)
+
+pub returns-in_err-entry : goal.returns-in_err-entry
+returns-in_err-entry g c =
+    let s = c.args.self.now in
+    let x = c.in-Some-get.found.now in
+    let there : slot_in s.records c.in-Some.number ≡ Some x = sym (rw c.in-Some-get.is at c.get-2.ensures) in
+    let led = sym c.get.ensures ∙ c.in-Some.is in
+    record {
+      gets = err_is c.from_residual.result c.in_err-entry.field-0.0 (λ r. Gets (meaning_of s) (state_of s) (c.args.hash, c.args.key.now) r (state_of s)) c.from_residual.ensures.1
+          (rw c.in_err-entry.ensures.refused (
+            x.id,
+            rec_of x,
+            hits (meaning_of s) g.met.K.Eq.laws g.met.E.Eviction.lawful (holding s) (c.args.hash, c.args.key.now) c.in-Some.number led x there,
+            found (meaning_of s) g.met.K.Eq.laws g.met.E.Eviction.lawful (holding s) (c.args.hash, c.args.key.now) c.in-Some.number led x there,
+            omega (arith, c.handles.ensures, c.if-handles-self.false),
+            refl,
+          ));
+    }
+
+pub acquire-requires : goal.acquire-requires
+acquire-requires g c =
+    let s = c.args.self.now in
+    let x = c.in-Some-get.found.now in
+    let there : slot_in s.records c.in-Some.number ≡ Some x = sym (rw c.in-Some-get.is at c.get-2.ensures) in
+    let at = placed (meaning_of s) g.met.K.Eq.laws g.met.E.Eviction.lawful (holding s) (c.args.hash, c.args.key.now) c.in-Some.number (sym c.get.ensures ∙ c.in-Some.is) x there c.in-Some-place.place (sym c.place.ensures ∙ c.in-Some-place.is) in
+    rw at (search rules)
+
+pub invariant_of-self : goal.invariant_of-self
+invariant_of-self g c =
+    let s = c.args.self.now in
+    let m = meaning_of s in
+    let x = c.in-Some-get.found.now in
+    let there : slot_in s.records c.in-Some.number ≡ Some x = sym (rw c.in-Some-get.is at c.get-2.ensures) in
+    let led = sym c.get.ensures ∙ c.in-Some.is in
+    let at = placed m g.met.K.Eq.laws g.met.E.Eviction.lawful (holding s) (c.args.hash, c.args.key.now) c.in-Some.number led x there c.in-Some-place.place (sym c.place.ensures ∙ c.in-Some-place.is) in
+    let viewed : g.E.Eviction.view c.acquire.new.self ≡ m.policy.acquire (g.E.Eviction.view s.eviction) x.id = rw at at c.acquire.ensures.view in
+    let write = c.add_handle.ensures.slots x there in
+    record {
+      kept = got_kept m g.met.K.Eq.laws g.met.E.Eviction.lawful (holding s) (c.args.hash, c.args.key.now) c.in-Some.number led x there c.add_handle.new.self (g.E.Eviction.view c.acquire.new.self) viewed write c.add_handle.ensures.ids (omega (arith, c.handles.ensures, c.if-handles-self.false));
+      stored = count_stored m (g.E.Eviction.at s.eviction) (g.I.Indexer.view s.index) s.records (g.E.Eviction.at c.acquire.new.self) c.add_handle.new.self c.in-Some.number (x.handles + 1) x there write c.add_handle.ensures.ids c.acquire.ensures.places s.stored;
+      weighed = got_counted m g.met.K.Eq.laws g.met.E.Eviction.lawful (holding s) (c.args.hash, c.args.key.now) c.in-Some.number led x there c.add_handle.new.self (g.E.Eviction.view c.acquire.new.self) viewed write c.add_handle.ensures.ids s.usage s.weighed;
+      counted = got_entries m g.met.K.Eq.laws g.met.E.Eviction.lawful (holding s) (c.args.hash, c.args.key.now) c.in-Some.number led x there c.add_handle.new.self (g.E.Eviction.view c.acquire.new.self) viewed write c.add_handle.ensures.ids s.entries s.counted;
+      numbered = s.numbered;
+    }
+
+pub returns : goal.returns
+returns g c =
+    let s = c.args.self.now in
+    let m = meaning_of s in
+    let x = c.in-Some-get.found.now in
+    let there : slot_in s.records c.in-Some.number ≡ Some x = sym (rw c.in-Some-get.is at c.get-2.ensures) in
+    let led = sym c.get.ensures ∙ c.in-Some.is in
+    let at = placed m g.met.K.Eq.laws g.met.E.Eviction.lawful (holding s) (c.args.hash, c.args.key.now) c.in-Some.number led x there c.in-Some-place.place (sym c.place.ensures ∙ c.in-Some-place.is) in
+    let viewed : g.E.Eviction.view c.acquire.new.self ≡ m.policy.acquire (g.E.Eviction.view s.eviction) x.id = rw at at c.acquire.ensures.view in
+    let write = c.add_handle.ensures.slots x there in
+    rw c.in_ok-entry.ensures.entry record {
+      gets = (
+        rec_of x,
+        hits m g.met.K.Eq.laws g.met.E.Eviction.lawful (holding s) (c.args.hash, c.args.key.now) c.in-Some.number led x there,
+        found m g.met.K.Eq.laws g.met.E.Eviction.lawful (holding s) (c.args.hash, c.args.key.now) c.in-Some.number led x there,
+        omega (arith, c.handles.ensures, c.if-handles-self.false),
+        refl,
+        got_after m g.met.K.Eq.laws g.met.E.Eviction.lawful (holding s) (c.args.hash, c.args.key.now) c.in-Some.number led x there c.add_handle.new.self (g.E.Eviction.view c.acquire.new.self) viewed write c.add_handle.ensures.ids,
+      );
+    }

@@ -1,0 +1,106 @@
+//! What a shard holds: a policy, an index and records.
+
+ghost use Rattle.std.specs.Prelude.{◌≡◌, ℕ, ◌≤◌, None, OnOk, IfOk, IfErr, IfSome, is_some, length, Err};
+ghost use Rattle.foyer_policy.specs.declared.error.Reason.TheVariants.{NoMemory};
+ghost use Rattle.foyer_policy.specs.Items.{weight_of};
+ghost use Rattle.foyer_core.specs.State.{IsKept};
+ghost use Rattle.foyer_core.specs.Stored.{meaning, state, IsStored};
+
+use crate::indexer::Indexer;
+use crate::record::Limits;
+use crate::records::Records;
+use foyer_policy::{Eviction, Key, Properties, Result, Value};
+use std::alloc::Global;
+
+mod bulk;
+mod clearing;
+mod entries;
+mod evictions;
+mod handles;
+mod insertion;
+mod keys;
+mod phantoms;
+mod picking;
+mod pieces;
+mod refusals;
+
+/// What a shard holds. Contracts see its `State`: maps from hashed keys to ids and from ids to records.
+#[derive(Drop)]
+pub struct Store<E: Eviction, K: Key, V: Value, P: Properties, I: Indexer<K>> {
+    eviction: E,
+    index: I,
+    records: Records<K, V, P>,
+    usage: usize,
+    entries: u64,
+    capacity: usize,
+    number: u64,
+    next: u64,
+    limits: Limits,
+    ghost kept: { ∥ IsKept (meaning K.eq E.model P.hint_of P.phantom_of) (state number capacity limits (E.view eviction) (I.view index) records next) ∥₁ },
+    ghost stored: { IsStored (meaning K.eq E.model P.hint_of P.phantom_of) (E.at eviction) (I.view index) records },
+    ghost weighed: { usage ≡ weight_of (E.model.order (E.view eviction)) },
+    ghost counted: { entries ≡ length (E.model.order (E.view eviction)) },
+    ghost numbered: { entries ≤ next },
+}
+
+impl<E: Eviction, K: Key, V: Value, P: Properties, I: Indexer<K>> Store<E, K, V, P, I> {
+    ghost use Rattle.foyer_core.specs.Stores.{state_of, meaning_of};
+    ghost use Rattle.foyer_core.specs.State.{hit, usage_of};
+
+    /// A store that holds nothing, over an empty index. `number` is its core's. Refused with the policy
+    /// configuration's first fault, and else only for want of memory (F7).
+    pub fn new(
+        alloc: Global,
+        number: u64,
+        capacity: usize,
+        limits: Limits,
+        config: &E::Config,
+        index: I,
+    ) -> Result<Self>
+        requires { (k : ℕ × K) → I.view index k ≡ None }
+        ensures number { IfOk result (λ s. (state_of s).number ≡ number) }
+        ensures capacity { IfOk result (λ s. (state_of s).capacity ≡ capacity) }
+        ensures limits { IfOk result (λ s. (state_of s).limits ≡ limits) }
+        ensures view { IfOk result (λ s. (state_of s).view ≡ E.model.opening capacity config.now) }
+        ensures index { IfOk result (λ s. (k : ℕ × K) → (state_of s).index k ≡ None) }
+        ensures records { IfOk result (λ s. (id : ℕ) → (state_of s).records id ≡ None) }
+        ensures next { IfOk result (λ s. (state_of s).next ≡ 0) }
+        ensures accepted { OnOk result (E.model.fault config.now ≡ None) }
+        ensures refused { IfSome (E.model.fault config.now) (λ reason. result ≡ Err reason) }
+        ensures memory { IfErr result (λ e. E.model.fault config.now ≡ None → e ≡ NoMemory) }
+    {
+        let eviction = E::new(alloc, capacity, config)?;
+        Ok(Store {
+            eviction,
+            index,
+            records: Records::new(alloc),
+            usage: 0,
+            entries: 0,
+            capacity,
+            number,
+            next: 0,
+            limits,
+        })
+    }
+
+    /// The sum of the weights of the records in the index.
+    pub fn usage(&self) -> usize
+        ensures { result ≡ usage_of (meaning_of self.now) (state_of self.now) }
+    {
+        self.usage
+    }
+
+    /// How many records are in the index.
+    pub fn entries(&self) -> u64
+        ensures { result ≡ length (E.model.order (state_of self.now).view) }
+    {
+        self.entries
+    }
+
+    /// Whether a key has a record in the index. It takes no memory.
+    pub fn contains(&self, hash: u64, key: &K) -> bool
+        ensures { result ≡ is_some (hit (state_of self.now) (hash, key.now)) }
+    {
+        self.index.get(hash, key).is_some()
+    }
+}

@@ -1,0 +1,64 @@
+//! What a shard does with all of its records.
+
+ghost use Rattle.std.specs.Prelude.{◌≡◌, ℕ, None, OnOk, OnErr, IfErr};
+ghost use Rattle.foyer_policy.specs.declared.error.Reason.TheVariants.{NoMemory};
+
+use super::Store;
+use crate::entry::Leave;
+use crate::indexer::Indexer;
+use foyer_policy::{Error, Event, Eviction, Key, Properties, Reason, Result, Value};
+
+impl<E: Eviction, K: Key, V: Value, P: Properties, I: Indexer<K>> Store<E, K, V, P, I> {
+    ghost use Rattle.foyer_core.specs.Stores.{state_of, meaning_of};
+    ghost use Rattle.foyer_core.specs.Bulk.{GoesOn, after_capacity, EvictsUnpinned, EvictingUnpinned};
+    ghost use Rattle.foyer_core.specs.CoreBulk.{EvictsToCapacity, EvictingToCapacity};
+
+    /// Sets the weight that the records may have together, and tells the policy. Nothing leaves, even where the
+    /// usage is above it. It takes no memory.
+    pub fn set_capacity(&mut self, capacity: usize)
+        ensures { state_of self.new ≡ after_capacity (meaning_of self.old) (state_of self.old) capacity }
+    {
+        tell_capacity(&mut self.eviction, capacity);
+        self.capacity = capacity;
+    }
+
+    /// Evicts until the usage is at most the capacity, or nothing more leaves, and appends what leaves. Refused
+    /// for want of memory alone (F7); then some beginning of the evictions has left, and stands in the list.
+    pub fn evict_to_capacity(&mut self, leaves: &mut Vec<Leave<K, V, P>>) -> Result<()>
+        ensures done { OnOk result (GoesOn leaves.old.items leaves.new.items (λ ls. EvictsToCapacity (meaning_of self.old) (state_of self.old) ls (state_of self.new))) }
+        ensures refused { OnErr result (GoesOn leaves.old.items leaves.new.items (λ ls. EvictingToCapacity (meaning_of self.old) (state_of self.old) ls (state_of self.new))) }
+        ensures reason { IfErr result (λ e. e ≡ NoMemory) }
+    {
+        self.evict_onto(leaves, self.capacity)
+    }
+
+    /// Evicts all that is not pinned, in the order in which the policy gives it, and appends what leaves.
+    /// Refused for want of memory alone (F7); then some beginning of it has left, and stands in the list.
+    pub fn evict_unpinned(&mut self, leaves: &mut Vec<Leave<K, V, P>>) -> Result<()>
+        ensures done { OnOk result (GoesOn leaves.old.items leaves.new.items (λ ls. EvictsUnpinned (meaning_of self.old) (state_of self.old) ls (state_of self.new))) }
+        ensures refused { OnErr result (GoesOn leaves.old.items leaves.new.items (λ ls. EvictingUnpinned (meaning_of self.old) (state_of self.old) ls (state_of self.new))) }
+        ensures reason { IfErr result (λ e. e ≡ NoMemory) }
+    {
+        loop {
+            let Ok(()) = leaves.reserve(1) else {
+                return Err(Error::new(Reason::NoMemory));
+            };
+            match self.evict_one() {
+                Ok(Some(left)) => leaves.push_reserved((Event::Evict, left)),
+                Ok(None) => return Ok(()),
+                Err(_) => return Err(Error::new(Reason::NoMemory)),
+            }
+        }
+    }
+}
+
+// Tells a policy another capacity.
+fn tell_capacity<'a, E: Eviction>(eviction: &'a mut E, capacity: usize)
+    ensures view { E.view eviction.new ≡ E.model.update (E.view eviction.old) capacity None }
+    ensures places { (p : ℕ) → E.at eviction.new p ≡ E.at eviction.old p }
+{
+    let same: Option<&'a E::Config> = None;
+    let Ok(()) = eviction.update(capacity, same) else {
+        unreachable!();
+    };
+}

@@ -1,0 +1,58 @@
+//! What a shard does with an entry that is its own.
+
+ghost use Rattle.std.specs.Prelude.{◌≡◌, ◌<◌, ◌↔◌, IsTrue};
+
+use super::Store;
+use crate::entry::CoreEntry;
+use crate::indexer::Indexer;
+use foyer_policy::{Error, Eviction, Key, Properties, Reason, Result, Value};
+
+impl<E: Eviction, K: Key, V: Value, P: Properties, I: Indexer<K>> Store<E, K, V, P, I> {
+    ghost use Rattle.foyer_core.specs.Stores.{state_of, meaning_of};
+    ghost use Rattle.foyer_core.specs.State.{handles_in};
+    ghost use Rattle.foyer_core.specs.Steps.{ClonesHandle, IsOutdated};
+
+    /// One more entry of the same record, with the same source, which counts as a handle and not as a use. It
+    /// asks for an entry that is this shard's. Refused at the limit of handles (F9), or where the record could
+    /// not be shared (F7); then nothing has changed. It allocates nothing.
+    pub fn clone_handle(&mut self, entry: &CoreEntry<K, V, P>) -> Result<CoreEntry<K, V, P>>
+        requires owned { (entry.now.number ≡ (state_of self.old).number) × (0 < handles_in (state_of self.old) entry.now.id) }
+        ensures clones { ClonesHandle (state_of self.old) entry.now result (state_of self.new) }
+    {
+        let Some(slot) = self.records.find(entry.id(), entry.slot()) else {
+            unreachable!();
+        };
+        let Some(found) = self.records.get(slot) else {
+            unreachable!();
+        };
+        if found.handles() >= self.limits.handles {
+            return Err(Error::new(Reason::Handles));
+        }
+        let clone = entry.share(slot)?;
+        self.records.add_handle(slot);
+        Ok(clone)
+    }
+
+    /// How many handles an entry's record has. It asks for an entry that is this shard's, and takes no memory.
+    pub fn refs(&self, entry: &CoreEntry<K, V, P>) -> usize
+        requires owned { (entry.now.number ≡ (state_of self.now).number) × (0 < handles_in (state_of self.now) entry.now.id) }
+        ensures { result ≡ handles_in (state_of self.now) entry.now.id }
+    {
+        self.handles(entry.id(), entry.slot())
+    }
+
+    /// Whether an entry's record is in the index no more. It asks for an entry that is this shard's, and takes
+    /// no memory.
+    pub fn is_outdated(&self, entry: &CoreEntry<K, V, P>) -> bool
+        requires owned { (entry.now.number ≡ (state_of self.now).number) × (0 < handles_in (state_of self.now) entry.now.id) }
+        ensures { IsTrue result ↔ IsOutdated (state_of self.now) entry.now.id }
+    {
+        let Some(slot) = self.records.find(entry.id(), entry.slot()) else {
+            unreachable!();
+        };
+        match self.records.get(slot) {
+            Some(found) => !found.is_resident(),
+            None => unreachable!(),
+        }
+    }
+}

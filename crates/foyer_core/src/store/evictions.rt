@@ -1,0 +1,87 @@
+//! Evictions of a shard's records.
+
+ghost use Rattle.std.specs.Prelude.{◌≡◌, ◌<◌, ◌≤◌, None, OnOk, OnErr, IfOk, IfErr, IfSome, IfNone, vec_len, vec_capacity};
+ghost use Rattle.foyer_policy.specs.declared.error.Reason.TheVariants.{NoMemory};
+ghost use Rattle.foyer_core.specs.Records.{HasRoom};
+
+use super::Store;
+use crate::entry::{Leave, Left};
+use crate::indexer::Indexer;
+use foyer_policy::{Error, Event, Eviction, Key, Properties, Reason, Result, Value};
+use std::alloc::Global;
+
+impl<E: Eviction, K: Key, V: Value, P: Properties, I: Indexer<K>> Store<E, K, V, P, I> {
+    ghost use Rattle.foyer_core.specs.Stores.{state_of, meaning_of};
+    ghost use Rattle.foyer_core.specs.Steps.{Evicts, Evicting, EvictsOne};
+    ghost use Rattle.foyer_core.specs.Bulk.{GoesOn};
+
+    // One eviction.
+    pub(super) fn evict_one(&mut self) -> Result<Option<Left<K, V, P>>>
+        ensures some { IfOk result (λ found. IfSome found (λ left. EvictsOne (meaning_of self.old) (state_of self.old) left (state_of self.new))) }
+        ensures none { IfOk result (λ found. IfNone found ((E.model.pop (E.view self.old.eviction) ≡ None) × (state_of self.new ≡ state_of self.old))) }
+        ensures err { OnErr result (state_of self.new ≡ state_of self.old) }
+        ensures room { HasRoom self.old.records → HasRoom self.new.records }
+        ensures policy_room { E.room self.old.eviction ≤ E.room self.new.eviction }
+    {
+        let Some(item) = self.eviction.pop()? else {
+            return Ok(None);
+        };
+        let Some(slot) = self.records.find(item.id, 0) else {
+            unreachable!();
+        };
+        let Some(found) = self.records.get(slot) else {
+            unreachable!();
+        };
+        let _ = self.index.remove(found.hash(), found.key());
+        self.usage -= item.weight;
+        self.entries -= 1;
+        Ok(Some(self.records.leave(slot, self.number)))
+    }
+
+    /// Evicts until the usage is at most the target, or nothing more leaves, and answers what left. Refused for
+    /// want of memory alone (F7); then some beginning of the evictions has left, which is handed out. There is
+    /// room for one leave more, where it is not refused.
+    pub fn evict_to(
+        &mut self,
+        alloc: Global,
+        target: usize,
+    ) -> std::result::Result<Vec<Leave<K, V, P>>, Vec<Leave<K, V, P>>>
+        ensures done { IfOk result (λ leaves. Evicts (meaning_of self.old) target (state_of self.old) leaves.items (state_of self.new)) }
+        ensures refused { IfErr result (λ leaves. Evicting (meaning_of self.old) target (state_of self.old) leaves.items (state_of self.new)) }
+        ensures one_more { IfOk result (λ leaves. vec_len leaves < vec_capacity leaves) }
+        ensures room { HasRoom self.old.records → HasRoom self.new.records }
+        ensures policy_room { E.room self.old.eviction ≤ E.room self.new.eviction }
+    {
+        let mut leaves = Vec::new(alloc);
+        let Ok(()) = leaves.reserve(1) else {
+            return Err(leaves);
+        };
+        match self.evict_onto(&mut leaves, target) {
+            Ok(()) => Ok(leaves),
+            Err(_) => Err(leaves),
+        }
+    }
+
+    /// Evicts until the usage is at most the target, or nothing more leaves, and appends what leaves. Refused
+    /// for want of memory alone (F7); then some beginning of the evictions has left, and stands in the list.
+    pub fn evict_onto(&mut self, leaves: &mut Vec<Leave<K, V, P>>, target: usize) -> Result<()>
+        ensures done { OnOk result (GoesOn leaves.old.items leaves.new.items (λ ls. Evicts (meaning_of self.old) target (state_of self.old) ls (state_of self.new))) }
+        ensures refused { OnErr result (GoesOn leaves.old.items leaves.new.items (λ ls. Evicting (meaning_of self.old) target (state_of self.old) ls (state_of self.new))) }
+        ensures reason { IfErr result (λ e. e ≡ NoMemory) }
+        ensures one_more { vec_len leaves.old < vec_capacity leaves.old → vec_len leaves.new < vec_capacity leaves.new }
+        ensures room { HasRoom self.old.records → HasRoom self.new.records }
+        ensures policy_room { E.room self.old.eviction ≤ E.room self.new.eviction }
+    {
+        while self.usage > target {
+            let Ok(()) = leaves.reserve(2) else {
+                return Err(Error::new(Reason::NoMemory));
+            };
+            match self.evict_one() {
+                Ok(Some(left)) => leaves.push_reserved((Event::Evict, left)),
+                Ok(None) => return Ok(()),
+                Err(_) => return Err(Error::new(Reason::NoMemory)),
+            }
+        }
+        Ok(())
+    }
+}

@@ -1,0 +1,115 @@
+//! Handles of a shard's records.
+
+ghost use Rattle.std.specs.Prelude.{◌≡◌, ◌≢◌, ◌⊎◌, Some, OnErr, IfOk, IfErr, IsSomeAnd, false};
+ghost use Rattle.foyer_core.specs.Values.{Kept};
+ghost use Rattle.foyer_core.specs.Records.{slot_in};
+
+use super::Store;
+use crate::entry::{CoreEntry, Leave};
+use crate::indexer::Indexer;
+use foyer_policy::{Error, Event, Eviction, Key, Properties, Reason, Result, Source, Value};
+
+impl<E: Eviction, K: Key, V: Value, P: Properties, I: Indexer<K>> Store<E, K, V, P, I> {
+    ghost use Rattle.foyer_core.specs.Stores.{state_of, meaning_of};
+    ghost use Rattle.foyer_core.specs.State.{handles_in};
+    ghost use Rattle.foyer_core.specs.Steps.{Gets, GivesBack};
+
+    /// An entry of the key's record, where it is in the index, which counts as a handle and as a use.
+    /// Refused at the limit of handles (F9), or where the record could not be shared (F7); then nothing
+    /// has changed. It allocates nothing.
+    pub fn get(&mut self, hash: u64, key: &K) -> Result<Option<CoreEntry<K, V, P>>>
+        ensures gets { Gets (meaning_of self.old) (state_of self.old) (hash, key.now) result (state_of self.new) }
+    {
+        let Some(number) = self.index.get(hash, key) else {
+            return Ok(None);
+        };
+        let slot = number as usize;
+        let Some(found) = self.records.get(slot) else {
+            unreachable!();
+        };
+        if found.handles() >= self.limits.handles {
+            return Err(Error::new(Reason::Handles));
+        }
+        let Some(place) = found.place() else {
+            unreachable!();
+        };
+        let entry = found.entry(self.number, slot, Source::Memory)?;
+        self.records.add_handle(slot);
+        self.eviction.acquire(place);
+        Ok(Some(entry))
+    }
+
+    /// Takes an entry back: its record has one handle less. With its last handle a record in the index is
+    /// released, a phantom one leaves, and any other is forgotten. An entry of another core's number, or of
+    /// whose id there is no handle here, comes back, and nothing has changed. It takes no memory.
+    pub fn give_back(
+        &mut self,
+        entry: CoreEntry<K, V, P>,
+    ) -> std::result::Result<Option<Leave<K, V, P>>, CoreEntry<K, V, P>>
+        ensures taken { IfOk result (λ leave. (entry.number ≡ (state_of self.old).number) × GivesBack (meaning_of self.old) (state_of self.old) entry.id leave (state_of self.new)) }
+        ensures returned { IfErr result (λ e. e ≡ entry) }
+        ensures foreign { OnErr result ((entry.number ≢ (state_of self.old).number) ⊎ (handles_in (state_of self.old) entry.id ≡ 0)) }
+        ensures err { OnErr result (state_of self.new ≡ state_of self.old) }
+    {
+        if entry.number() != self.number {
+            return Err(entry);
+        }
+        let Some(slot) = self.records.find(entry.id(), entry.slot()) else {
+            return Err(entry);
+        };
+        let Some(found) = self.records.get(slot) else {
+            unreachable!();
+        };
+        let handles = found.handles();
+        if handles == 0 {
+            return Err(entry);
+        }
+        entry.discard();
+        if handles > 1 {
+            self.records.take_handle(slot);
+            return Ok(None);
+        }
+        if !found.is_resident() {
+            return Ok(self.forget(slot));
+        }
+        let Some(place) = found.place() else {
+            unreachable!();
+        };
+        self.records.take_handle(slot);
+        self.eviction.release(place);
+        Ok(None)
+    }
+
+    // The last handle of a record that is not in the index is gone.
+    fn forget(&mut self, slot: usize) -> Option<Leave<K, V, P>>
+        requires { IsSomeAnd (slot_in self.old.records slot) (λ s. (s.handles ≡ 1) × (s.resident ≡ false)) }
+        ensures { (s : Kept K V P) → slot_in self.old.records slot ≡ Some s → GivesBack (meaning_of self.old) (state_of self.old) s.id result (state_of self.new) }
+    {
+        let gone = self.records.forget(slot);
+        if gone.properties().phantom().unwrap_or(false) {
+            return Some((Event::Evict, gone.into_left(self.number)));
+        }
+        None
+    }
+
+    // The number of the shard's core.
+    pub(crate) fn number(&self) -> u64
+        ensures { result ≡ (state_of self.now).number }
+    {
+        self.number
+    }
+
+    // How many handles there are of an id, whose record may stand in the slot that is hinted. It takes no
+    // memory.
+    pub(crate) fn handles(&self, id: u64, hint: usize) -> usize
+        ensures { result ≡ handles_in (state_of self.now) id }
+    {
+        let Some(slot) = self.records.find(id, hint) else {
+            return 0;
+        };
+        match self.records.get(slot) {
+            Some(found) => found.handles(),
+            None => 0,
+        }
+    }
+}

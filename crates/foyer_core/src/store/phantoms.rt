@@ -1,0 +1,126 @@
+//! Phantom records, which are held and never in the index.
+
+ghost use Rattle.std.specs.Prelude.{◌≡◌, [], ◌+◌, ◌<◌, ◌≤◌, ◌^◌, Some, None, OnOk, IfOk, MatchResult, false, vec_len, vec_capacity};
+ghost use Rattle.foyer_core.specs.Records.{HasRoom};
+ghost use Rattle.foyer_core.specs.Values.{Rec, incoming_of};
+
+use super::Store;
+use super::insertion::above;
+use crate::entry::{CoreEntry, Leave, Left};
+use crate::indexer::Indexer;
+use crate::outcome::Refused;
+use crate::record::Data;
+use crate::share::Share;
+use crate::slot::Slot;
+use foyer_policy::{Event, Eviction, Key, Properties, Reason, Result, Source, Value};
+use std::alloc::Global;
+
+impl<E: Eviction, K: Key, V: Value, P: Properties, I: Indexer<K>> Store<E, K, V, P, I> {
+    ghost use Rattle.foyer_core.specs.Stores.{state_of, meaning_of};
+    ghost use Rattle.foyer_core.specs.Steps.{InsertsPhantom, RefusesPhantom, GivesWay, MayHold, after_hold, entry_of, newcomer, replaced_leaves};
+
+    // Takes a new phantom record in.
+    pub(super) fn emplace_phantom(
+        &mut self,
+        alloc: Global,
+        kept: Data<K, V, P>,
+        source: Source,
+    ) -> std::result::Result<(CoreEntry<K, V, P>, Vec<Leave<K, V, P>>), Refused<K, V, P>>
+        ensures inserted { MatchResult result
+            (λ made. InsertsPhantom (meaning_of self.old) source (state_of self.old) (newcomer (state_of self.old) kept) made.1.items made.0 (state_of self.new))
+            (λ refused. RefusesPhantom (meaning_of self.old) (state_of self.old) (newcomer (state_of self.old) kept) refused.error refused.leaves.items (state_of self.new)) }
+    {
+        let id = self.next;
+        if let Some(reason) = self.hold_refusal(id, 1) {
+            return Err(Refused::new(reason, Vec::new(alloc)));
+        }
+        let Ok(share) = Share::new(alloc, kept) else {
+            return Err(Refused::new(Reason::NoMemory, Vec::new(alloc)));
+        };
+        self.hold_in(alloc, Slot::outside(share, id, 1), source)
+    }
+
+    // Holds a phantom record, which is not refused but for want of memory: its key's record gives way, and it is
+    // held by its entries alone. It has a new id, or comes back under its own.
+    pub(super) fn hold_in(
+        &mut self,
+        alloc: Global,
+        slot: Slot<K, V, P>,
+        source: Source,
+    ) -> std::result::Result<(CoreEntry<K, V, P>, Vec<Leave<K, V, P>>), Refused<K, V, P>>
+        requires apart { slot ≡ record slot { resident = false; place = None } }
+        requires out { (r : Rec K V P) → (state_of self.old).records slot.id ≡ Some r → r.resident ≡ false }
+        requires number { slot.id + 1 < 2 ^ 64 }
+        requires held { 0 < slot.handles }
+        requires may { MayHold (meaning_of self.old) (state_of self.old) (incoming_of slot) }
+        ensures inserted { MatchResult result
+            (λ made. InsertsPhantom (meaning_of self.old) source (state_of self.old) (incoming_of slot) made.1.items made.0 (state_of self.new))
+            (λ refused. RefusesPhantom (meaning_of self.old) (state_of self.old) (incoming_of slot) refused.error refused.leaves.items (state_of self.new)) }
+    {
+        let Ok((mut entry, gone, mut leaves)) = self.prepare_phantom(alloc, &slot, source) else {
+            return Err(Refused::new(Reason::NoMemory, Vec::new(alloc)));
+        };
+        if let Some(left) = self.make_way(slot.hash(), slot.key()) {
+            leaves.push_reserved((Event::Replace, left));
+        }
+        leaves.push_reserved((Event::Remove, gone));
+        entry.set_slot(self.hold(slot));
+        Ok((entry, leaves))
+    }
+
+    // Makes room for one record that is not indexed, and makes an entry of it, what is told of it, and a list
+    // with room for two leaves.
+    fn prepare_phantom(
+        &mut self,
+        alloc: Global,
+        slot: &Slot<K, V, P>,
+        source: Source,
+    ) -> Result<(CoreEntry<K, V, P>, Left<K, V, P>, Vec<Leave<K, V, P>>)>
+        ensures same { state_of self.new ≡ state_of self.old }
+        ensures entry { IfOk result (λ made. made.0 ≡ entry_of (state_of self.old) slot.now.id slot.now.kept source) }
+        ensures gone { IfOk result (λ made. made.1 ≡ record { number = self.old.number; id = slot.now.id; kept = slot.now.kept }) }
+        ensures leaves { IfOk result (λ made. made.2.items ≡ []) }
+        ensures leaves_room { IfOk result (λ made. vec_len made.2 + 2 ≤ vec_capacity made.2) }
+        ensures room { OnOk result (HasRoom self.new.records) }
+    {
+        let mut leaves = Vec::new(alloc);
+        leaves.reserve(2)?;
+        self.records.reserve()?;
+        let gone = slot.left(self.number)?;
+        let entry = slot.entry(self.number, 0, source)?;
+        Ok((entry, gone, leaves))
+    }
+
+    // The key's record, where it has one, gives way.
+    fn make_way(&mut self, hash: u64, key: &K) -> Option<Left<K, V, P>>
+        ensures gives_way { GivesWay (meaning_of self.old) ((state_of self.old).index (hash, key.now)) (state_of self.old) (replaced_leaves result) (state_of self.new) }
+        ensures room { HasRoom self.old.records → HasRoom self.new.records }
+    {
+        let Some(number) = self.index.get(hash, key) else {
+            return None;
+        };
+        let Some(found) = self.records.get(number as usize) else {
+            unreachable!();
+        };
+        let id = found.id();
+        Some(self.take_out(id))
+    }
+
+    // Holds a record that is not to be indexed, in place of what is held under its id, and answers its slot. It
+    // asks for room.
+    fn hold(&mut self, slot: Slot<K, V, P>) -> usize
+        requires room { HasRoom self.old.records }
+        requires apart { slot ≡ record slot { resident = false; place = None } }
+        requires out { (r : Rec K V P) → (state_of self.old).records slot.id ≡ Some r → r.resident ≡ false }
+        requires number { slot.id + 1 < 2 ^ 64 }
+        requires held { 0 < slot.handles }
+        requires handles { slot.handles ≤ self.old.limits.handles }
+        ensures { state_of self.new ≡ after_hold (meaning_of self.old) (state_of self.old) (incoming_of slot) }
+    {
+        let id = slot.id();
+        let stands = self.stands(id);
+        let (place, _stood) = self.records.put(slot, stands);
+        self.next = above(self.next, id);
+        place
+    }
+}

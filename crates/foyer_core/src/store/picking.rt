@@ -1,0 +1,112 @@
+//! Records of a shard that leave by a predicate.
+
+ghost use Rattle.std.specs.Prelude.{◌≡◌, ◌+◌, ◌<◌, ◌≤◌, OnErr, IfOk, IfErr, length, vec_len, vec_capacity};
+ghost use Rattle.foyer_policy.specs.Items.{count_of, IsWithin};
+ghost use Rattle.foyer_policy.specs.declared.error.Reason.TheVariants.{NoMemory};
+ghost use Rattle.foyer_policy.specs.declared.types.Event.TheVariants.{Evict};
+ghost use Rattle.foyer_core.specs.Records.{HasRoom};
+
+use super::Store;
+use super::clearing::leave_slot;
+use crate::entry::{Leave, Left};
+use crate::indexer::Indexer;
+use foyer_policy::{Error, Event, Eviction, Item, Key, Properties, Reason, Result, Value};
+use std::alloc::Global;
+
+impl<E: Eviction, K: Key, V: Value, P: Properties, I: Indexer<K>> Store<E, K, V, P, I> {
+    ghost use Rattle.foyer_core.specs.Stores.{state_of, meaning_of};
+    ghost use Rattle.foyer_core.specs.Bulk.{GoesOn, TakesRecordOut, TakesOut, EvictsIf, Picks, Says, Answers};
+
+    /// Takes the records of which the predicate says yes out, pinned or not, as `Evict`, in the policy's order.
+    /// It is asked once of each. Refused for want of memory alone (F7); then nothing has changed.
+    pub fn evict_if<F: Fn(&K, &V) -> bool>(
+        &mut self,
+        alloc: Global,
+        predicate: &F,
+    ) -> Result<Vec<Leave<K, V, P>>>
+        requires { F.IsAlwaysCallable predicate.now }
+        ensures done { IfOk result (λ leaves. EvictsIf (meaning_of self.old) (Says F.Fn predicate.now) (state_of self.old) leaves.items (state_of self.new)) }
+        ensures err { OnErr result (state_of self.new ≡ state_of self.old) }
+        ensures refused { IfErr result (λ e. e ≡ NoMemory) }
+    {
+        let picked = self.pick(alloc, predicate)?;
+        let mut leaves = Vec::new(alloc);
+        let Ok(()) = leaves.reserve(picked.len()) else {
+            return Err(Error::new(Reason::NoMemory));
+        };
+        self.evict_picked(&picked, &mut leaves);
+        Ok(leaves)
+    }
+
+    /// The items of the records of which the predicate says yes, pinned or not, in the policy's order. It is
+    /// asked once of each. Only memory can be missing (F7); nothing changes.
+    pub fn pick<F: Fn(&K, &V) -> bool>(&self, alloc: Global, predicate: &F) -> Result<Vec<Item>>
+        requires { F.IsAlwaysCallable predicate.now }
+        ensures picks { IfOk result (λ picked. Picks (meaning_of self.now) (Says F.Fn predicate.now) (state_of self.now) picked.items) }
+        ensures within { IfOk result (λ picked. IsWithin picked.items (E.model.order (state_of self.now).view)) }
+        ensures refused { IfErr result (λ e. e ≡ NoMemory) }
+    {
+        let items = self.eviction.order()?;
+        let mut picked = Vec::new(alloc);
+        let Ok(()) = picked.reserve(items.len()) else {
+            return Err(Error::new(Reason::NoMemory));
+        };
+        for item in &items {
+            if self.says(item.id, predicate) {
+                picked.push_reserved(*item);
+            }
+        }
+        Ok(picked)
+    }
+
+    // What the predicate says of an id's record.
+    fn says<F: Fn(&K, &V) -> bool>(&self, id: u64, predicate: &F) -> bool
+        requires callable { F.IsAlwaysCallable predicate.now }
+        requires there { 0 < count_of id (E.model.order (E.view self.now.eviction)) }
+        ensures { Answers (Says F.Fn predicate.now) (state_of self.now) id result }
+    {
+        let Some(slot) = self.records.find(id, 0) else {
+            unreachable!();
+        };
+        let Some(found) = self.records.get(slot) else {
+            unreachable!();
+        };
+        predicate(found.key(), found.value())
+    }
+
+    /// Takes the records of these items out, as `Evict`, in this order, and appends what leaves. It asks for
+    /// items that are in, each once, as `pick` gives them, and for room in the list; it takes no memory.
+    pub fn evict_picked(&mut self, picked: &[Item], leaves: &mut Vec<Leave<K, V, P>>)
+        requires within { IsWithin picked.now (E.model.order (state_of self.old).view) }
+        requires room { vec_len leaves.old + length picked.now ≤ vec_capacity leaves.old }
+        ensures told { GoesOn leaves.old.items leaves.new.items (λ ls. TakesOut (meaning_of self.old) Evict picked.now (state_of self.old) ls (state_of self.new)) }
+        ensures len { vec_len leaves.new ≡ vec_len leaves.old + length picked.now }
+        ensures capacity { vec_capacity leaves.new ≡ vec_capacity leaves.old }
+    {
+        for item in picked {
+            let left = self.take_out(item.id);
+            leaves.push_reserved((Event::Evict, left));
+        }
+    }
+
+    // The record of an id leaves.
+    pub(super) fn take_out(&mut self, id: u64) -> Left<K, V, P>
+        requires { 0 < count_of id (E.model.order (E.view self.old.eviction)) }
+        ensures taken { TakesRecordOut (meaning_of self.old) (state_of self.old) id result (state_of self.new) }
+        ensures room { HasRoom self.old.records → HasRoom self.new.records }
+    {
+        let Some(slot) = self.records.find(id, 0) else {
+            unreachable!();
+        };
+        let Some(found) = self.records.get(slot) else {
+            unreachable!();
+        };
+        let Some(place) = found.place() else {
+            unreachable!();
+        };
+        let item = self.eviction.remove(place);
+        self.usage -= item.weight;
+        self.entries -= 1;
+        leave_slot(&mut self.index, &mut self.records, slot, self.number)
+    }
+}

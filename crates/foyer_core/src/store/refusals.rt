@@ -1,0 +1,96 @@
+//! Why a shard takes a record not in.
+
+ghost use Rattle.std.specs.Prelude.{◌≡◌, [], ◌⊎◌, ◌↔◌, ◌+◌, ◌<◌, ◌≤◌, ◌^◌, Some, IfSome, IfNone, IsTrue};
+ghost use Rattle.foyer_policy.specs.declared.error.Reason.TheVariants.{Ids, Handles, Weight};
+ghost use Rattle.foyer_policy.specs.Items.{weight_of};
+ghost use Rattle.foyer_core.specs.Values.{incoming_of};
+
+use super::Store;
+use crate::indexer::Indexer;
+use crate::slot::Slot;
+use foyer_policy::{Eviction, Key, Properties, Reason, Value};
+
+impl<E: Eviction, K: Key, V: Value, P: Properties, I: Indexer<K>> Store<E, K, V, P, I> {
+    ghost use Rattle.foyer_core.specs.Stores.{state_of, meaning_of};
+    ghost use Rattle.foyer_core.specs.State.{is_phantom_record, pinned_beside};
+    ghost use Rattle.foyer_core.specs.Steps.{HasId, LacksId, MayBy, RefusesInsert};
+
+    // Why what a slot keeps cannot come in, with so many handles, whatever memory there is.
+    pub(super) fn slot_refusal(&self, slot: &Slot<K, V, P>, handles: usize) -> Option<Reason>
+        ensures some { IfSome result (λ reason. RefusesInsert (meaning_of self.now) (state_of self.now) (record (incoming_of slot.now) { handles = handles }) reason [] (state_of self.now)) }
+        ensures none { IfNone result (MayBy (meaning_of self.now) (is_phantom_record (meaning_of self.now) slot.now.kept) (state_of self.now) (record (incoming_of slot.now) { handles = handles })) }
+        ensures number { IfNone result (slot.now.id + 1 < 2 ^ 64) }
+    {
+        if slot.properties().phantom().unwrap_or(false) {
+            self.hold_refusal(slot.id(), handles)
+        } else {
+            self.refusal(slot.id(), handles, slot.hash(), slot.key(), slot.weight())
+        }
+    }
+
+    // Why a record cannot come in whatever memory there is.
+    pub(super) fn refusal(
+        &self,
+        id: u64,
+        handles: usize,
+        hash: u64,
+        key: &K,
+        weight: usize,
+    ) -> Option<Reason>
+        ensures ids { result ≡ Some Ids ↔ LacksId (state_of self.now) id }
+        ensures handles { result ≡ Some Handles ↔ (HasId (state_of self.now) id × (self.now.limits.handles < handles)) }
+        ensures number { IfNone result (id + 1 < 2 ^ 64) }
+        ensures weight { result ≡ Some Weight ↔ (HasId (state_of self.now) id × (handles ≤ self.now.limits.handles) × (2 ^ 64 ≤ weight + pinned_beside (meaning_of self.now) (state_of self.now) (hash, key.now))) }
+        ensures only { IfSome result (λ reason. (reason ≡ Ids) ⊎ ((reason ≡ Handles) ⊎ (reason ≡ Weight))) }
+    {
+        if let Some(reason) = self.hold_refusal(id, handles) {
+            return Some(reason);
+        }
+        if !self.fits_beside_pinned(hash, key, weight) {
+            return Some(Reason::Weight);
+        }
+        None
+    }
+
+    // Why a record cannot be held whatever memory there is.
+    pub(super) fn hold_refusal(&self, id: u64, handles: usize) -> Option<Reason>
+        ensures ids { result ≡ Some Ids ↔ LacksId (state_of self.now) id }
+        ensures handles { result ≡ Some Handles ↔ (HasId (state_of self.now) id × (self.now.limits.handles < handles)) }
+        ensures only { IfSome result (λ reason. (reason ≡ Ids) ⊎ (reason ≡ Handles)) }
+        ensures number { IfNone result (id + 1 < 2 ^ 64) }
+    {
+        if id >= self.next && id >= self.limits.ids {
+            return Some(Reason::Ids);
+        }
+        if self.limits.handles < handles {
+            return Some(Reason::Handles);
+        }
+        None
+    }
+
+    // Whether a weight and the pinned weight of other keys fit a `usize` together.
+    fn fits_beside_pinned(&self, hash: u64, key: &K, weight: usize) -> bool
+        ensures { IsTrue result ↔ (weight + pinned_beside (meaning_of self.now) (state_of self.now) (hash, key.now) < 2 ^ 64) }
+    {
+        let pinned = self.eviction.pinned_weight();
+        weight <= usize::MAX - pinned
+            || weight <= usize::MAX - (pinned - self.own_pinned(hash, key))
+    }
+
+    // The weight of a key's record, where that is pinned.
+    fn own_pinned(&self, hash: u64, key: &K) -> usize
+        ensures { result + pinned_beside (meaning_of self.now) (state_of self.now) (hash, key.now) ≡ weight_of (E.model.pinned (E.view self.now.eviction)) }
+    {
+        let Some(number) = self.index.get(hash, key) else {
+            return 0;
+        };
+        let Some(found) = self.records.get(number as usize) else {
+            unreachable!();
+        };
+        let Some(place) = found.place() else {
+            unreachable!();
+        };
+        let pinned = self.eviction.is_pinned(place);
+        if pinned { found.weight() } else { 0 }
+    }
+}
