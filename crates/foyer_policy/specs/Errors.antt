@@ -5,7 +5,7 @@ use Rattle.foyer_policy.specs.declared.error.Fault.{Fault}
 use Rattle.foyer_policy.specs.declared.error.ErrorKind.{ErrorKind}
 use Rattle.foyer_policy.specs.declared.error.ErrorKind.TheVariants.{Config, Memory, Limit, External, ChannelClosed as ClosedChannel, TaskCancelled as CancelledTask}
 use Rattle.foyer_policy.specs.declared.error.Reason.{Reason}
-use Rattle.foyer_policy.specs.declared.error.Reason.TheVariants.{NoShards, ZeroDenominator, RatioRange, RatioSum, NoRows, NoBuckets, NoMemory, Weight, Handles, Ids, Fetch, WrongKey, NoValue, ChannelClosed, TaskCancelled, Spent}
+use Rattle.foyer_policy.specs.declared.error.Reason.TheVariants.{NoShards, ZeroDenominator, RatioRange, RatioSum, NoRows, NoBuckets, NoMemory, Weight, Handles, Ids, Fetch, WrongKey, NoValue, ChannelClosed, TaskCancelled, Spent, WrongPolicy}
 
 -- what a reason has to do with
 abbrev pub kind_of : Reason → ErrorKind
@@ -25,6 +25,7 @@ kind_of NoValue = External
 kind_of ChannelClosed = ClosedChannel
 kind_of TaskCancelled = CancelledTask
 kind_of Spent = External
+kind_of WrongPolicy = Config
 
 -- the number of a refusal: 7 for F7
 abbrev pub number_of : Reason → ℕ
@@ -44,6 +45,7 @@ number_of NoValue = 13
 number_of ChannelClosed = 14
 number_of TaskCancelled = 15
 number_of Spent = 16
+number_of WrongPolicy = 17
 
 -- the same reason, and for a fetch a fault with the same content
 abbrev pub SameReason : Reason → Reason → Type 0

@@ -83,6 +83,8 @@ pub enum Reason {
     TaskCancelled,
     #[error("the answer was taken before")]
     Spent,
+    #[error("the configuration is of another policy")]
+    WrongPolicy,
 }
 
 /// A refusal. Contracts see its reason, which tells its kind.
@@ -193,6 +195,7 @@ impl Error {
             Reason::ChannelClosed => 14,
             Reason::TaskCancelled => 15,
             Reason::Spent => 16,
+            Reason::WrongPolicy => 17,
         }
     }
 }
@@ -207,7 +210,8 @@ fn kind(reason: &Reason) -> ErrorKind
         | Reason::RatioRange(_)
         | Reason::RatioSum
         | Reason::NoRows
-        | Reason::NoBuckets => ErrorKind::Config,
+        | Reason::NoBuckets
+        | Reason::WrongPolicy => ErrorKind::Config,
         Reason::NoMemory => ErrorKind::Memory,
         Reason::Weight | Reason::Handles | Reason::Ids => ErrorKind::Limit,
         Reason::Fetch(_) | Reason::WrongKey | Reason::NoValue | Reason::Spent => {

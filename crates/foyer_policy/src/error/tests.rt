@@ -41,6 +41,7 @@ fn numbers(rt: HostRuntime) -> std::result::Result<(), Fail> {
         (Reason::ChannelClosed, 14, ErrorKind::ChannelClosed),
         (Reason::TaskCancelled, 15, ErrorKind::TaskCancelled),
         (Reason::Spent, 16, external),
+        (Reason::WrongPolicy, 17, config),
     ] {
         let error = Error::new(reason);
         assert_eq!(rt; error.number(), number);
@@ -57,6 +58,11 @@ fn texts(rt: HostRuntime) -> std::result::Result<(), Fail> {
     assert_eq!(rt;
         range.to_string(alloc)?.as_str(),
         "a ratio is out of its range: SmallQueue"
+    );
+    let policy = Error::new(Reason::WrongPolicy).clone()?;
+    assert_eq!(rt;
+        policy.to_string(alloc)?.as_str(),
+        "the configuration is of another policy"
     );
     let fetch = Error::new(Reason::Fetch(fault(alloc)?)).clone()?;
     assert_eq!(rt;
