@@ -78,35 +78,57 @@ first_of v [] (p ∷ ps) _ = Some (p, record v { probation = ps })
 first_of v [] [] (q ∷ qs) = Some (q, record v { protected = qs })
 first_of v [] [] [] = None
 
--- the limits that come of a capacity and two ratios
-abbrev pub with_limits : LfuView → ℕ → Ratio → Ratio → LfuView
-with_limits v capacity window protected = record v {
+-- the limits of window and protected, and the ratios that they come of
+pub record Limits : Type 0 where
+  pub window_limit : ℕ
+  pub protected_limit : ℕ
+  pub window_ratio : Ratio
+  pub protected_ratio : Ratio
+
+abbrev pub limits_by : ℕ → Ratio → Ratio → Limits
+limits_by capacity window protected = record {
   window_limit = limit_of capacity window;
   protected_limit = limit_of capacity protected;
   window_ratio = window;
   protected_ratio = protected;
 }
 
+-- the limits that come of a capacity and a configuration, of a new policy and of one that is updated
+abbrev pub limits_of : ℕ → LfuConfig → Limits
+limits_of capacity c = limits_by capacity c.window_capacity_ratio c.protected_capacity_ratio
+
+abbrev pub with_limits : LfuView → Limits → LfuView
+with_limits v l = record v {
+  window_limit = l.window_limit;
+  protected_limit = l.protected_limit;
+  window_ratio = l.window_ratio;
+  protected_ratio = l.protected_ratio;
+}
+
 -- the ratios of the configuration that is given, or else those in use; the sketch stays as it was made
 abbrev pub updated : LfuView → ℕ → Option LfuConfig → LfuView
-updated v capacity None = with_limits v capacity v.window_ratio v.protected_ratio
-updated v capacity (Some c) = with_limits v capacity c.window_capacity_ratio c.protected_capacity_ratio
+updated v capacity None = with_limits v (limits_by capacity v.window_ratio v.protected_ratio)
+updated v capacity (Some c) = with_limits v (limits_of capacity c)
+
+-- nothing is in
+abbrev pub no_items : Limits → Sketch → LfuView
+no_items l sketch = record {
+  window = [];
+  probation = [];
+  protected = [];
+  window_limit = l.window_limit;
+  protected_limit = l.protected_limit;
+  window_ratio = l.window_ratio;
+  protected_ratio = l.protected_ratio;
+  sketch = sketch;
+}
 
 -- Each push and each acquire counts the hash. Nothing is pinned, a release changes nothing, and `clear`
 -- leaves the sketch.
 abbrev pub lfu : Policy LfuView LfuConfig
 lfu = record {
   fault = config_fault;
-  opening = λ capacity c. record {
-    window = [];
-    probation = [];
-    protected = [];
-    window_limit = limit_of capacity c.window_capacity_ratio;
-    protected_limit = limit_of capacity c.protected_capacity_ratio;
-    window_ratio = c.window_capacity_ratio;
-    protected_ratio = c.protected_capacity_ratio;
-    sketch = new_sketch c.cmsketch_hashes c.cmsketch_buckets;
-  };
+  opening = λ capacity c. no_items (limits_of capacity c) (new_sketch c.cmsketch_hashes c.cmsketch_buckets);
   order = λ v. v.window ++ (v.probation ++ v.protected);
   pinned = λ v. [];
   push = λ v i. settle_window (seen (record v { window = v.window ++ i ∷ [] }) i.hash);

@@ -72,26 +72,35 @@ abbrev pub unpin_found : LruView → ℕ → Option Pinned → LruView
 unpin_found v id None = v
 unpin_found v id (Some p) = put (record v { pin = remove_pin id v.pin }) p.item p.is_high
 
--- the limit that comes of a capacity and a ratio
-abbrev pub with_limit : LruView → ℕ → Ratio → LruView
-with_limit v capacity ratio = record v { limit = limit_of capacity ratio; ratio = ratio }
+-- the pool's limit, and the ratio that it comes of
+pub record Limits : Type 0 where
+  pub limit : ℕ
+  pub ratio : Ratio
 
--- the ratio of the configuration that is given, or else the one in use
-abbrev pub ratio_or : Ratio → Option LruConfig → Ratio
-ratio_or ratio None = ratio
-ratio_or ratio (Some config) = config.high_priority_pool_ratio
+abbrev pub limits_by : ℕ → Ratio → Limits
+limits_by capacity ratio = record { limit = limit_of capacity ratio; ratio = ratio }
+
+-- the limits that come of a capacity and a configuration, of a new policy and of one that is updated
+abbrev pub limits_of : ℕ → LruConfig → Limits
+limits_of capacity config = limits_by capacity config.high_priority_pool_ratio
+
+-- those of the configuration that is given, or else of the ratio in use
+abbrev pub limits_or : Ratio → ℕ → Option LruConfig → Limits
+limits_or ratio capacity None = limits_by capacity ratio
+limits_or ratio capacity (Some config) = limits_of capacity config
+
+abbrev pub with_limits : LruView → Limits → LruView
+with_limits v l = record v { limit = l.limit; ratio = l.ratio }
+
+-- nothing is in
+abbrev pub no_items : Limits → LruView
+no_items l = record { low = []; high = []; pin = []; limit = l.limit; ratio = l.ratio }
 
 -- Three lists; pops come from `low`, then from `high`. Each call that puts an item somewhere, or sets the limit, settles.
 abbrev pub lru : Policy LruView LruConfig
 lru = record {
   fault = λ c. ratio_fault Closed HighPriorityPool c.high_priority_pool_ratio;
-  opening = λ capacity c. record {
-    low = [];
-    high = [];
-    pin = [];
-    limit = limit_of capacity c.high_priority_pool_ratio;
-    ratio = c.high_priority_pool_ratio;
-  };
+  opening = λ capacity c. no_items (limits_of capacity c);
   order = λ v. v.low ++ (v.high ++ map (λ p. p.item) v.pin);
   pinned = λ v. map (λ p. p.item) v.pin;
   push = λ v i. settle (put v i (is_high_hint i.hint));
@@ -102,7 +111,7 @@ lru = record {
       else record v { pin = remove_pin id v.pin };
   acquire = λ v id. settle (pin_found v id (find_id id v.low) (find_id id v.high));
   release = λ v id. settle (unpin_found v id (find_pin id v.pin));
-  update = λ v capacity config. settle (with_limit v capacity (ratio_or v.ratio config));
+  update = λ v capacity config. settle (with_limits v (limits_or v.ratio capacity config));
   clear = λ v. record v { low = []; high = []; pin = [] };
   looks = λ v. 0;
   credit = λ v. 0;

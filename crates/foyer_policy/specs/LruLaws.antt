@@ -10,7 +10,7 @@ use Rattle.foyer_policy.specs.Errors.{kind_of}
 use Rattle.foyer_policy.specs.Items.{HasIdsOnce, IsWithin, remove_id, find_id, fit, over}
 use Rattle.foyer_policy.specs.Limit.{ratio_fault, is_in_range}
 use Rattle.foyer_policy.specs.Policy.{IsPolicy, PinsAtMost, after_pops, removed}
-use Rattle.foyer_policy.specs.Lru.{Pinned, LruView, IsWithinLimit, settle, put, is_high_hint, find_pin, remove_pin, pin_found, unpin_found, with_limit, ratio_or, lru}
+use Rattle.foyer_policy.specs.Lru.{Pinned, LruView, IsWithinLimit, settle, put, is_high_hint, find_pin, remove_pin, pin_found, unpin_found, limits_or, with_limits, lru}
 use Rattle.foyer_policy.specs.FitLaws.{over-fit, fit_within}
 use Rattle.foyer_policy.specs.PartLaws.{IsPermutation-remove_id, remove_id-none, find_id-front, remove_id-front, find_id-back, remove_id-back, find_id-one_part}
 use Rattle.foyer_policy.specs.declared.types.Item.{Item}
@@ -225,7 +225,7 @@ lru_lawful = record {
   release_order = λ v id once. settled v (unpin_found v id (find_pin id v.pin)) (release-order v id);
   release_pinned = λ v id once. release-pinned v id;
   release_credit = λ v id. omega arith;
-  update_order = λ v capacity config once. settled v (with_limit v capacity (ratio_or v.ratio config)) (IsPermutation-refl (lru.order v));
+  update_order = λ v capacity config once. settled v (with_limits v (limits_or v.ratio capacity config)) (IsPermutation-refl (lru.order v));
   update_pinned = λ v capacity config. refl;
   update_credit = λ v capacity config. omega arith;
   clear_is = λ v. rw (all_popped v.low v.high v.pin v.limit v.ratio) (sym (all_removed v.pin v.limit v.ratio));

@@ -172,29 +172,42 @@ abbrev pub put : S3FifoView → Entry → Bool → S3FifoView
 put v e true = record v { main = v.main ++ e ∷ [] }
 put v e false = record v { small = v.small ++ e ∷ [] }
 
-abbrev pub setting_or : Setting → Option S3FifoConfig → Setting
-setting_or s None = s
-setting_or s (Some c) = setting_of c
+-- the small queue's limit, the ghost queue's capacity, and the setting that they come of
+pub record Limits : Type 0 where
+  pub small : ℕ
+  pub ghost : ℕ
+  pub setting : Setting
 
--- the limits that come of a capacity and a setting
-abbrev pub with_limits : S3FifoView → ℕ → Setting → S3FifoView
-with_limits v capacity s = record v {
-  ghost = ghost_update v.ghost (limit_of capacity s.ghost_ratio);
-  limit = limit_of capacity s.small_ratio;
-  setting = s;
+abbrev pub limits_by : ℕ → Setting → Limits
+limits_by capacity s = record { small = limit_of capacity s.small_ratio; ghost = limit_of capacity s.ghost_ratio; setting = s }
+
+-- the limits that come of a capacity and a configuration, with its threshold, of a new policy and of one that is updated
+abbrev pub limits_of : ℕ → S3FifoConfig → Limits
+limits_of capacity c = limits_by capacity (setting_of c)
+
+-- those of the configuration that is given, or else of the setting in use
+abbrev pub limits_or : Setting → ℕ → Option S3FifoConfig → Limits
+limits_or s capacity None = limits_by capacity s
+limits_or s capacity (Some c) = limits_of capacity c
+
+abbrev pub with_limits : S3FifoView → Limits → S3FifoView
+with_limits v l = record v { ghost = ghost_update v.ghost l.ghost; limit = l.small; setting = l.setting }
+
+-- nothing is in, and the ghost queue remembers nothing
+abbrev pub no_items : Limits → S3FifoView
+no_items l = record {
+  small = [];
+  main = [];
+  ghost = record { pairs = []; hashes = empty; capacity = l.ghost };
+  limit = l.small;
+  setting = l.setting;
 }
 
 -- A push goes to main where the ghost queue has the hash, else to small, with frequency 0.
 abbrev pub s3fifo : Policy S3FifoView S3FifoConfig
 s3fifo = record {
   fault = s3fifo_fault;
-  opening = λ capacity c. record {
-    small = [];
-    main = [];
-    ghost = record { pairs = []; hashes = empty; capacity = limit_of capacity c.ghost_queue_capacity_ratio };
-    limit = limit_of capacity c.small_queue_capacity_ratio;
-    setting = setting_of c;
-  };
+  opening = λ capacity c. no_items (limits_of capacity c);
   order = λ v. items v.small ++ items v.main;
   pinned = λ v. [];
   push = λ v i. put v (record { item = i; frequency = 0 }) (contains v.ghost.hashes i.hash);
@@ -204,7 +217,7 @@ s3fifo = record {
   acquire = λ v id.
       if is_in_small v id then record v { small = use_entry id v.small } else record v { main = use_entry id v.main };
   release = λ v id. v;
-  update = λ v capacity config. with_limits v capacity (setting_or v.setting config);
+  update = λ v capacity config. with_limits v (limits_or v.setting capacity config);
   clear = λ v. pop_times s3fifo_pop (length v.small + length v.main) v;
   looks = s3fifo_looks;
   credit = λ v. frequencies v.small + frequencies v.main;

@@ -13,7 +13,7 @@ use Rattle.foyer_policy.specs.PartLaws.{remove_id-front, remove_id-back}
 use Rattle.foyer_policy.specs.Policy.{IsPolicy, after_pops, after_all_pops, removed, view_or}
 use Rattle.foyer_policy.specs.PopTimes.{after_pop, pop_times}
 use Rattle.foyer_policy.specs.GhostQueue.{ghost_push}
-use Rattle.foyer_policy.specs.S3Fifo.{Entry, Setting, S3FifoView, items, frequencies, s3fifo_fault, denominator_fault, frequent_front, from_rare, MainTurn, main_turn, main_looks, first_of_small, main_gives, from_main, promoted, over_limit, is_over, s3fifo_pop, over_looks, s3fifo_looks, remove_entry, use_entry, is_in_small, put, setting_or, with_limits, s3fifo}
+use Rattle.foyer_policy.specs.S3Fifo.{Entry, Setting, S3FifoView, items, frequencies, s3fifo_fault, denominator_fault, frequent_front, from_rare, MainTurn, main_turn, main_looks, first_of_small, main_gives, from_main, promoted, over_limit, is_over, s3fifo_pop, over_looks, s3fifo_looks, remove_entry, use_entry, is_in_small, put, s3fifo}
 use Rattle.foyer_policy.specs.S3FifoTurns.{items-append, frequencies-append, frequencies-cons, MainTurned, main-turned, main-none}
 use Rattle.foyer_policy.specs.declared.types.Item.{Item}
 use Rattle.foyer_policy.specs.declared.types.Ratio.{Ratio}

@@ -1,6 +1,6 @@
-use Rattle.std.proofs.Common.{◌≡◌, ◌<◌, ◌∙◌, sym}
+use Rattle.std.proofs.Common.{◌≡◌, ◌<◌, ◌∙◌, ap, sym}
 use Rattle.std.specs.Option.{option_copied}
-use Rattle.foyer_policy.specs.Lru.{ratio_or}
+use Rattle.foyer_policy.specs.Lru.{Limits, limits_by, limits_or}
 use Rattle.foyer_policy.specs.declared.error.Field.TheVariants.{HighPriorityPool}
 use Rattle.foyer_policy.specs.declared.limit.Range.TheVariants.{Closed}
 use Rattle.foyer_policy.specs.declared.types.Ratio.{Ratio}
@@ -24,7 +24,7 @@ invariant_of-self c =
 pub returns-clause-view : goal.returns-clause-view
 returns-clause-view c =
     let i = c.self.inside in
-    let same : c.match-config.ratio ≡ ratio_or i.ratio (option_copied c.args.config) =
-    elim c.match-config.branch [ in-Some+in_ok-check-in-Some w ↦ rw w.in-Some.is w.ratio-is | in-None w ↦ rw w.in-None.is w.ratio-is ] in
+    let same : limits_by c.args.capacity c.match-config.ratio ≡ limits_or i.ratio c.args.capacity (option_copied c.args.config) =
+    elim c.match-config.branch [ in-Some+in_ok-check-in-Some w ↦ rw w.in-Some.is (ap (limits_by c.args.capacity) w.ratio-is) | in-None w ↦ rw w.in-None.is (ap (limits_by c.args.capacity) w.ratio-is) ] in
     let to = settled-view i.lists.lists c.settle-self-inside.new.lists.lists c.limit_of-self-inside.result c.settle-self-inside.ensures.low c.settle-self-inside.ensures.high c.settle-self-inside.ensures.pin c.match-config.ratio in
     rw (← c.self.view_is, ← same, ← c.limit_of-self-inside.ensures) to
