@@ -3,6 +3,7 @@
 ghost use Rattle.std.specs.Prelude.{◌≡◌, ◌≢◌, ◌↔◌, ℕ, ◌+◌, ◌<◌, ◌≤◌, ◌^◌, Option, Some, None, Ok, Err, OnOk, OnErr, IfOk, IfErr, IfSome, IfNone, IsSome, IsTrue, IsOk};
 ghost use Rattle.std.specs.Option.{option_copied};
 ghost use Rattle.foyer_policy.specs.Items.{weight_of, count_of, find_id, IsNewIn};
+ghost use Rattle.foyer_policy.specs.Limit.{ok_unless};
 ghost use Rattle.foyer_policy.specs.Policy.{Policy, IsPolicy, Pops, fault_in, without};
 ghost use Rattle.foyer_policy.specs.declared.types.Item.{Item};
 ghost use Rattle.foyer_policy.specs.declared.error.Reason.{Reason};
@@ -47,6 +48,11 @@ pub trait Eviction: Drop {
 
     // how many records the last pop read
     ghost looked: { Self → ℕ };
+
+    /// Refuses a configuration with its first fault, F2 to F6, for every capacity alike. `new` and
+    /// `update` refuse it so, and for no other fault of it. It takes no memory.
+    fn check(config: &Self::Config) -> Result<()>
+        ensures { result ≡ ok_unless (model.fault config.now) };
 
     /// A policy that holds nothing. Refused with the configuration's first fault, F2 to F6, and else
     /// only for want of memory.

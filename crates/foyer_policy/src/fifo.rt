@@ -11,7 +11,7 @@ use std::alloc::Global;
 use std::marker::Model;
 
 /// The configuration of a [`Fifo`], which has no parts.
-#[derive(Clone, Debug, Default, Drop, Serialize, Deserialize)]
+#[derive(Clone, Debug, Default, Drop, PartialEq, Eq, Serialize, Deserialize)]
 pub struct FifoConfig {}
 
 /// What a [`Fifo`] keeps beside an item: nothing.
@@ -70,15 +70,23 @@ impl Eviction for Fifo {
 
     ghost lawful = { fifo_lawful FifoConfig };
 
-    fn new(alloc: Global, _capacity: usize, _config: &FifoConfig) -> Result<Self> {
+    fn check(_config: &FifoConfig) -> Result<()> {
+        Ok(())
+    }
+
+    fn new(alloc: Global, _capacity: usize, config: &FifoConfig) -> Result<Self> {
+        Self::check(config)?;
         Ok(Fifo {
             queue: Lists::new(alloc),
             alloc,
         })
     }
 
-    fn update(&mut self, _capacity: usize, _config: Option<&FifoConfig>) -> Result<()> {
-        Ok(())
+    fn update(&mut self, _capacity: usize, config: Option<&FifoConfig>) -> Result<()> {
+        match config {
+            Some(config) => Self::check(config),
+            None => Ok(()),
+        }
     }
 
     fn reserve(&mut self) -> Result<()> {

@@ -1,7 +1,7 @@
 //! w-TinyLFU: least frequently used, with a window for what came in lately.
 
 ghost use Rattle.std.specs.Prelude.{◌≡◌};
-ghost use Rattle.foyer_policy.specs.Lfu.{config_fault, ratios_fault};
+ghost use Rattle.foyer_policy.specs.Lfu.{ratios_fault};
 ghost use Rattle.foyer_policy.specs.Limit.{ok_unless};
 
 mod segments;
@@ -18,7 +18,7 @@ use std::alloc::Global;
 use std::marker::Model;
 
 /// The configuration of an [`Lfu`].
-#[derive(Clone, Debug, Drop, Serialize, Deserialize)]
+#[derive(Clone, Debug, Drop, PartialEq, Eq, Serialize, Deserialize)]
 pub struct LfuConfig {
     /// The share of the capacity that the window may weigh, above 0 and below 1, rounded down.
     pub window_capacity_ratio: Ratio,
@@ -63,23 +63,6 @@ fn check_ratios(window: Ratio, protected: Ratio) -> Result<()>
     let (protected_num, protected_den) = (u128::from(protected.num), u128::from(protected.den));
     if window_num * protected_den + protected_num * window_den >= window_den * protected_den {
         return Err(Error::new(Reason::RatioSum));
-    }
-    Ok(())
-}
-
-// Refuses a configuration with its first fault, in the order of its fields.
-fn check(config: &LfuConfig) -> Result<()>
-    ensures { result ≡ ok_unless (config_fault config.now) }
-{
-    check_ratios(
-        config.window_capacity_ratio,
-        config.protected_capacity_ratio,
-    )?;
-    if config.cmsketch_buckets == 0 {
-        return Err(Error::new(Reason::NoBuckets));
-    }
-    if config.cmsketch_hashes == 0 {
-        return Err(Error::new(Reason::NoRows));
     }
     Ok(())
 }
@@ -168,8 +151,23 @@ impl Eviction for Lfu {
 
     ghost lawful = { lfu_lawful };
 
+    // The fields in their order, and the sum right after both ratios.
+    fn check(config: &LfuConfig) -> Result<()> {
+        check_ratios(
+            config.window_capacity_ratio,
+            config.protected_capacity_ratio,
+        )?;
+        if config.cmsketch_buckets == 0 {
+            return Err(Error::new(Reason::NoBuckets));
+        }
+        if config.cmsketch_hashes == 0 {
+            return Err(Error::new(Reason::NoRows));
+        }
+        Ok(())
+    }
+
     fn new(alloc: Global, capacity: usize, config: &LfuConfig) -> Result<Self> {
-        check(config)?;
+        Self::check(config)?;
         let sketch = Sketch::new(alloc, config.cmsketch_hashes, config.cmsketch_buckets)?;
         let window_ratio = config.window_capacity_ratio;
         let protected_ratio = config.protected_capacity_ratio;
@@ -188,7 +186,7 @@ impl Eviction for Lfu {
 
     fn update(&mut self, capacity: usize, config: Option<&LfuConfig>) -> Result<()> {
         if let Some(config) = config {
-            check(config)?;
+            Self::check(config)?;
             self.window_ratio = config.window_capacity_ratio;
             self.protected_ratio = config.protected_capacity_ratio;
         }

@@ -2,11 +2,8 @@
 
 ghost use Rattle.std.specs.Prelude.{◌≡◌, ◌≤◌, ℕ, IfNone, IfOk, IfSome, IsOk};
 ghost use Rattle.foyer_policy.specs.Items.{IsNewIn, weight_of};
-ghost use Rattle.foyer_policy.specs.Limit.{ok_unless, ratio_fault};
 ghost use Rattle.foyer_policy.specs.Lru.{IsWithinLimit};
 ghost use Rattle.foyer_policy.specs.Policy.{Pops, without};
-ghost use Rattle.foyer_policy.specs.declared.error.Field.TheVariants.{HighPriorityPool};
-ghost use Rattle.foyer_policy.specs.declared.limit.Range.TheVariants.{Closed};
 
 mod pools;
 
@@ -22,7 +19,7 @@ use std::alloc::Global;
 use std::marker::Model;
 
 /// The configuration of an [`Lru`].
-#[derive(Clone, Debug, Drop, Serialize, Deserialize)]
+#[derive(Clone, Debug, Drop, PartialEq, Eq, Serialize, Deserialize)]
 pub struct LruConfig {
     /// The share of the capacity that the pool of high priority may weigh, from 0 to 1, rounded
     /// down. Records that come in with the hint [`Hint::Normal`] have high priority; those that came
@@ -85,13 +82,6 @@ impl Model for Lru {
         l.pinned_weight };
 }
 
-// Refuses a ratio of the pool: F2 for a denominator of 0, F3 above 1.
-fn check(ratio: Ratio) -> Result<()>
-    ensures { result ≡ ok_unless (ratio_fault Closed HighPriorityPool ratio) }
-{
-    check_ratio(Range::Closed, Field::HighPriorityPool, ratio)
-}
-
 impl Lru {
     ghost use Rattle.foyer_policy.specs.LruLists.{lru_view};
 
@@ -132,9 +122,18 @@ impl Eviction for Lru {
 
     ghost lawful = { lru_lawful };
 
+    // The ratio of the pool: F2 for a denominator of 0, F3 above 1.
+    fn check(config: &LruConfig) -> Result<()> {
+        check_ratio(
+            Range::Closed,
+            Field::HighPriorityPool,
+            config.high_priority_pool_ratio,
+        )
+    }
+
     fn new(alloc: Global, capacity: usize, config: &LruConfig) -> Result<Self> {
+        Self::check(config)?;
         let ratio = config.high_priority_pool_ratio;
-        check(ratio)?;
         Ok(Lru {
             lists: Lists::new(alloc),
             high_weight: 0,
@@ -148,9 +147,8 @@ impl Eviction for Lru {
     fn update(&mut self, capacity: usize, config: Option<&LruConfig>) -> Result<()> {
         let ratio = match config {
             Some(config) => {
-                let ratio = config.high_priority_pool_ratio;
-                check(ratio)?;
-                ratio
+                Self::check(config)?;
+                config.high_priority_pool_ratio
             }
             None => self.ratio,
         };

@@ -2,9 +2,8 @@
 
 ghost use Rattle.std.specs.Prelude.{◌≡◌, ℕ, ◌+◌, ◌*◌, ◌<◌, ◌≤◌, Some, None, Option, IfNone, IfOk, IfErr, OnOk, OnErr, min, length};
 ghost use Rattle.foyer_policy.specs.GhostQueue.{ghost_of};
-ghost use Rattle.foyer_policy.specs.Limit.{ok_unless, limit_of};
 ghost use Rattle.foyer_policy.specs.Policy.{Pops};
-ghost use Rattle.foyer_policy.specs.S3Fifo.{s3fifo, s3fifo_fault, s3fifo_looks};
+ghost use Rattle.foyer_policy.specs.S3Fifo.{s3fifo, s3fifo_looks};
 ghost use Rattle.foyer_policy.specs.declared.error.Reason.TheVariants.{NoMemory};
 ghost use Rattle.foyer_policy.specs.S3FifoQueues.{item_at, view_of, PlacesAfter, HasRoomToPop, CanClear};
 
@@ -24,7 +23,7 @@ use std::alloc::Global;
 use std::marker::Model;
 
 /// The configuration of an [`S3Fifo`].
-#[derive(Clone, Debug, Drop, Serialize, Deserialize)]
+#[derive(Clone, Debug, Drop, PartialEq, Eq, Serialize, Deserialize)]
 pub struct S3FifoConfig {
     /// The share of the capacity that the small queue may weigh before a pop takes from it, above 0
     /// and below 1, rounded down.
@@ -95,21 +94,6 @@ impl Model for S3Fifo {
     ghost invariant = { λ s. IsSound s.queues.lists s.small_weight s.small_ratio s.ghost_ratio };
 }
 
-// Refuses a configuration with its first fault.
-fn check(config: &S3FifoConfig) -> Result<()>
-    ensures { result ≡ ok_unless (s3fifo_fault config.now) }
-{
-    check_ratio(
-        Range::Open,
-        Field::SmallQueue,
-        config.small_queue_capacity_ratio,
-    )?;
-    if config.ghost_queue_capacity_ratio.den == 0 {
-        return Err(Error::new(Reason::ZeroDenominator));
-    }
-    Ok(())
-}
-
 impl S3Fifo {
     // Takes the victim out, for which the ghost queue has room.
     fn pop_reserved(&mut self) -> Option<Item>
@@ -171,8 +155,21 @@ impl Eviction for S3Fifo {
 
     ghost lawful = { s3fifo_lawful };
 
+    // The ratio of the small queue, and then the denominator of the ghost queue's.
+    fn check(config: &S3FifoConfig) -> Result<()> {
+        check_ratio(
+            Range::Open,
+            Field::SmallQueue,
+            config.small_queue_capacity_ratio,
+        )?;
+        if config.ghost_queue_capacity_ratio.den == 0 {
+            return Err(Error::new(Reason::ZeroDenominator));
+        }
+        Ok(())
+    }
+
     fn new(alloc: Global, capacity: usize, config: &S3FifoConfig) -> Result<Self> {
-        check(config)?;
+        Self::check(config)?;
         let small_ratio = config.small_queue_capacity_ratio;
         let ghost_ratio = config.ghost_queue_capacity_ratio;
         Ok(S3Fifo {
@@ -190,7 +187,7 @@ impl Eviction for S3Fifo {
 
     fn update(&mut self, capacity: usize, config: Option<&S3FifoConfig>) -> Result<()> {
         if let Some(config) = config {
-            check(config)?;
+            Self::check(config)?;
             self.small_ratio = config.small_queue_capacity_ratio;
             self.ghost_ratio = config.ghost_queue_capacity_ratio;
             self.threshold = config.small_to_main_freq_threshold.min(MOST);

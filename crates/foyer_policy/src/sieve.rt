@@ -18,7 +18,7 @@ use std::alloc::Global;
 use std::marker::Model;
 
 /// The configuration of a [`Sieve`], which has no parts.
-#[derive(Clone, Debug, Default, Drop, Serialize, Deserialize)]
+#[derive(Clone, Debug, Default, Drop, PartialEq, Eq, Serialize, Deserialize)]
 pub struct SieveConfig;
 
 /// What a [`Sieve`] keeps beside an item: whether it was used since a pop last looked at it.
@@ -156,7 +156,12 @@ impl Eviction for Sieve {
 
     ghost lawful = { sieve_lawful SieveConfig };
 
-    fn new(alloc: Global, _capacity: usize, _config: &SieveConfig) -> Result<Self> {
+    fn check(_config: &SieveConfig) -> Result<()> {
+        Ok(())
+    }
+
+    fn new(alloc: Global, _capacity: usize, config: &SieveConfig) -> Result<Self> {
+        Self::check(config)?;
         Ok(Sieve {
             queue: Lists::new(alloc),
             hand: None,
@@ -165,8 +170,11 @@ impl Eviction for Sieve {
         })
     }
 
-    fn update(&mut self, _capacity: usize, _config: Option<&SieveConfig>) -> Result<()> {
-        Ok(())
+    fn update(&mut self, _capacity: usize, config: Option<&SieveConfig>) -> Result<()> {
+        match config {
+            Some(config) => Self::check(config),
+            None => Ok(()),
+        }
     }
 
     fn reserve(&mut self) -> Result<()> {

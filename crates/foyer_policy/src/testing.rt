@@ -60,6 +60,7 @@ pub(crate) fn each_call<'a, E: Eviction>(
     policy: &'a mut E,
     config: &E::Config,
 ) -> Answer<()> {
+    E::check(config)?;
     let place = push(rt, policy, item(7))?;
     let same: Option<&'a E::Config> = None;
     policy.update(2, same)?;

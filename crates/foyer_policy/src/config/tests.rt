@@ -1,4 +1,9 @@
 use super::*;
+use crate::fifo::FifoConfig;
+use crate::lfu::LfuConfig;
+use crate::lru::LruConfig;
+use crate::s3fifo::S3FifoConfig;
+use crate::sieve::SieveConfig;
 use crate::types::Ratio;
 use serde::Deserialize;
 
@@ -40,4 +45,20 @@ fn fitting_types(rt: HostRuntime) {
     let Unit = made::<Unit>();
     assert_eq!(rt; made::<Share>().ratio, Ratio { num: 9, den: 10 });
     assert!(rt; !begun::<Flag>().set);
+}
+
+fn equals_its_default<C: Config + Eq>() -> bool {
+    C::default() == C::default()
+}
+
+#[test]
+fn equal_configurations(rt: HostRuntime) {
+    assert!(rt; equals_its_default::<FifoConfig>() && equals_its_default::<SieveConfig>());
+    assert!(rt; equals_its_default::<LruConfig>() && equals_its_default::<LfuConfig>());
+    assert!(rt; equals_its_default::<S3FifoConfig>());
+    let other = LfuConfig {
+        cmsketch_hashes: 4,
+        ..LfuConfig::default()
+    };
+    assert!(rt; other != LfuConfig::default());
 }

@@ -161,6 +161,31 @@ fn refused_update_changes_nothing(rt: HostRuntime) -> Answer<()> {
     assert_lists(&rt, &policy, &[5, 6], &[2, 3, 4], &[0, 1])
 }
 
+// A sketch without buckets is refused, and the pops go on as without that.
+#[test]
+fn refused_sketch_changes_no_victim(rt: HostRuntime) -> Answer<()> {
+    let mut policy = six(&rt, rt.alloc())?;
+    for hashes in [0, 1] {
+        match policy.update(10, Some(&config((1, 10), (1, 10), 0, hashes))) {
+            Ok(()) => assert!(rt; false),
+            Err(error) => assert_eq!(rt; error.number(), 6),
+        }
+    }
+    assert_lists(&rt, &policy, &[4, 5], &[2, 3], &[0, 1])?;
+    assert_pops(&rt, &mut policy, &[2, 3, 4, 5, 0, 1])
+}
+
+// The new limits count from the next push on, and the sketch is the one from before.
+#[test]
+fn smaller_window_waits_for_a_push(rt: HostRuntime) -> Answer<()> {
+    let mut policy = six(&rt, rt.alloc())?;
+    policy.update(10, Some(&config((1, 10), (6, 10), 272, 3)))?;
+    assert_lists(&rt, &policy, &[4, 5], &[2, 3], &[0, 1])?;
+    assert_eq!(rt; policy.sketch.estimate(0), 2);
+    push_all(&rt, &mut policy, &[6])?;
+    assert_lists(&rt, &policy, &[6], &[2, 3, 4, 5], &[0, 1])
+}
+
 #[test]
 fn update_keeps_the_ratios(rt: HostRuntime) -> Answer<()> {
     let mut policy = six(&rt, rt.alloc())?;
@@ -183,6 +208,10 @@ fn clear_leaves_the_sketch(rt: HostRuntime) -> Answer<()> {
 }
 
 fn assert_fault(rt: &impl Abort, alloc: Global, config: &LfuConfig, number: u8) {
+    match Lfu::check(config) {
+        Ok(()) => assert!(rt; false),
+        Err(error) => assert_eq!(rt; error.number(), number),
+    }
     match Lfu::new(alloc, 10, config) {
         Ok(_) => assert!(rt; false),
         Err(error) => assert_eq!(rt; error.number(), number),
@@ -202,6 +231,7 @@ fn faults(rt: HostRuntime) -> Answer<()> {
     assert_fault(&rt, rt.alloc(), &config((1, 2), (1, 3), 0, 3), 6);
     assert_fault(&rt, rt.alloc(), &config((1, 2), (1, 3), 272, 0), 5);
     let least = config((1, u32::MAX), (u32::MAX - 2, u32::MAX), 1, 1);
+    Lfu::check(&least)?;
     Lfu::new(rt.alloc(), 10, &least)?;
 
     let standard = LfuConfig::default();

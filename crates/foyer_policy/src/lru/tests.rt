@@ -118,9 +118,23 @@ fn number<T>(answer: &Result<T>) -> u8 {
 
 #[test]
 fn refuses_ratios(rt: HostRuntime) -> Answer<()> {
-    for (num, den, want) in [(1, 0, 2), (3, 0, 2), (3, 2, 3), (0, 1, 0), (1, 1, 0)] {
+    let most = u32::MAX;
+    for (num, den, want) in [
+        (0, 0, 2),
+        (1, 0, 2),
+        (3, 0, 2),
+        (3, 2, 3),
+        (most, most - 1, 3),
+        (0, 1, 0),
+        (1, 1, 0),
+        (most, most, 0),
+    ] {
+        let checked = Lru::check(&pool(num, den));
+        assert_eq!(rt; number(&checked), want, "at {num}/{den}");
         let made = Lru::new(rt.alloc(), 8, &pool(num, den));
         assert_eq!(rt; number(&made), want, "at {num}/{den}");
+        let none = Lru::new(rt.alloc(), 0, &pool(num, den));
+        assert_eq!(rt; number(&none), want, "at {num}/{den}");
     }
     let mut policy = Lru::new(rt.alloc(), 2, &LruConfig::default())?;
     push(&rt, &mut policy, normal(0))?;

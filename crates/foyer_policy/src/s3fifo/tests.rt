@@ -155,10 +155,22 @@ fn a_small_queue_within_its_limit_tells_no_ghost(rt: HostRuntime) -> Answer<()> 
     Ok(())
 }
 
+// Two records over a limit of 1, of which the first was used once: by the threshold 3 it leaves first.
+#[test]
+fn a_new_threshold_counts_at_once(rt: HostRuntime) -> Answer<()> {
+    let mut policy = S3Fifo::new(rt.alloc(), 2, &config(1, 2, 1))?;
+    come_all(&rt, &mut policy, &[(1, 1), (2, 0)])?;
+    policy.update(2, Some(&config(1, 2, 3)))?;
+    assert_pops(&rt, &mut policy, 1, 0)?;
+    let mut policy = S3Fifo::new(rt.alloc(), 2, &config(1, 2, 1))?;
+    come_all(&rt, &mut policy, &[(1, 1), (2, 0)])?;
+    assert_pops(&rt, &mut policy, 2, 0)
+}
+
 // The number of a refusal, and whether it is of the small queue's ratio.
-fn refusal(made: Result<S3Fifo>) -> Option<(u8, bool)> {
+fn refusal<T: Drop>(made: Result<T>) -> Option<(u8, bool)> {
     match made {
-        Ok(_policy) => None,
+        Ok(_) => None,
         Err(error) => {
             let is_small = matches!(error.reason(), Reason::RatioRange(Field::SmallQueue));
             Some((error.number(), is_small))
@@ -172,6 +184,14 @@ fn refusals_of_a_configuration(rt: HostRuntime) -> Answer<()> {
     assert_eq!(rt; refusal(whole), Some((3, true)));
     let zero = S3Fifo::new(rt.alloc(), 8, &config(0, 0, 1));
     assert_eq!(rt; refusal(zero), Some((2, false)));
+    assert_eq!(rt; refusal(S3Fifo::check(&config(1, 1, 1))), Some((3, true)));
+    assert_eq!(rt; refusal(S3Fifo::check(&config(1, 0, 1))), Some((2, false)));
+    let endless = S3FifoConfig {
+        ghost_queue_capacity_ratio: Ratio { num: 1, den: 0 },
+        ..S3FifoConfig::default()
+    };
+    assert_eq!(rt; refusal(S3Fifo::check(&endless)), Some((2, false)));
+    assert_eq!(rt; refusal(S3Fifo::check(&config(1, 4, 200))), None);
     let mut policy = S3Fifo::new(rt.alloc(), 8, &S3FifoConfig::default())?;
     assert!(rt; policy.limit == 0 && policy.threshold == 1 && policy.ghost_queue.capacity() == 8);
     policy.update(40, Some(&config(1, 4, 9)))?;
