@@ -2,7 +2,7 @@
 use Rattle.std.specs.Prelude.{◌==◌, ℕ, ◌-◌, List, [], ◌∷◌, ◌++◌, if◌then◌else◌, sum_by}
 use Rattle.std.specs.Ordering.{nat_cmp}
 use Rattle.std.specs.FinSet.{FinSet, insert, remove, from_list}
-use Rattle.foyer_policy.specs.Items.{fit, over}
+use Rattle.foyer_policy.specs.Items.{fit, over, IsLongestTail}
 
 -- a hash, and the weight that left with it
 abbrev pub Pair : Type 0
@@ -44,6 +44,10 @@ with_pair hash weight g = record {
 -- difference is 0 where the new pair alone passes the capacity. With capacity 0 it changes nothing.
 abbrev pub ghost_push : Ghost → ℕ → ℕ → Ghost
 ghost_push g hash weight = if g.capacity == 0 then g else with_pair hash weight (shrunk (g.capacity - weight) g)
+
+-- what an update and a push keep of the pairs is the longest tail within a weight
+abbrev pub LongestTailsAreKept : Type 0
+LongestTailsAreKept = (most : ℕ) (g : Ghost) → IsLongestTail pair_weight most (over pair_weight most g.pairs) (shrunk most g).pairs g.pairs
 
 abbrev pub with_capacity : Ghost → ℕ → Ghost
 with_capacity g capacity = record { pairs = g.pairs; hashes = g.hashes; capacity = capacity }

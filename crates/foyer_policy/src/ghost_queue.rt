@@ -4,8 +4,8 @@ ghost use Rattle.std.specs.Prelude.{◌≡◌, ℕ, ◌+◌, ◌≤◌, ◌<◌,
 ghost use Rattle.std.specs.HashSet.{spare};
 ghost use Rattle.std.specs.VecDeque.{deque_len, deque_capacity};
 ghost use Rattle.std.specs.FinSet.{contains, empty};
-ghost use Rattle.foyer_policy.specs.Items.{fit, over, IsLongestTail};
-ghost use Rattle.foyer_policy.specs.GhostQueue.{pair_weight, ghost_weight, without_hashes, ghost_of, ghost_push, ghost_update};
+ghost use Rattle.foyer_policy.specs.Items.{fit, over};
+ghost use Rattle.foyer_policy.specs.GhostQueue.{pair_weight, ghost_weight, without_hashes, ghost_of, ghost_push, ghost_update, LongestTailsAreKept};
 ghost use Rattle.foyer_policy.specs.GhostParts.{set_of};
 ghost use Rattle.foyer_policy.specs.declared.error.Reason.TheVariants.{NoMemory};
 
@@ -17,8 +17,9 @@ use std::marker::Model;
 /// What left lately, oldest first, as pairs of a hash and a weight, with the set of the hashes that are
 /// remembered.
 ///
-/// The pairs weigh at most the capacity, or a single pair weighs more. A pair that goes takes its hash out
-/// of the set, even where a younger pair has the same hash.
+/// The pairs weigh at most the capacity, or a single pair weighs more, perhaps with some of weight 0; after
+/// an update to capacity 0 all stay, whatever they weigh. A pair that goes takes its hash out of the set,
+/// even where a younger pair has the same hash.
 #[derive(Drop)]
 pub struct GhostQueue {
     pairs: VecDeque<(u64, usize)>,
@@ -72,6 +73,14 @@ fn shrink(
     }
     left
 }
+
+/// The law that no pair goes without need: what an update and a push keep of the pairs is their longest
+/// tail within the weight that is left to them.
+///
+/// This function does nothing; the law is its contract.
+pub fn longest_tails_are_kept()
+    ensures { LongestTailsAreKept }
+{}
 
 impl GhostQueue {
     /// A queue that remembers nothing, which takes no memory.
@@ -137,15 +146,13 @@ impl GhostQueue {
     ///
     /// # Errors
     ///
-    /// [`Reason::NoMemory`] where memory is refused, and then nothing has changed.
+    /// [`Reason::NoMemory`] where memory is refused, and then nothing has changed. With capacity 0 it is
+    /// never refused.
     pub fn push(&mut self, hash: u64, weight: usize) -> Result<()>
         ensures queue { OnOk result (ghost_of self.new ≡ ghost_push (ghost_of self.old) hash weight) }
         ensures refused { IfErr result (λ e. e ≡ NoMemory) }
+        ensures granted { OnErr result (0 < self.old.capacity) }
         ensures err { OnErr result (ghost_of self.new ≡ ghost_of self.old) }
-
-        // What is kept is the longest tail, whatever the limit.
-        ensures longest { (most : ℕ) → IsLongestTail pair_weight most
-            (over pair_weight most self.old.pairs) (fit pair_weight most self.old.pairs) self.old.pairs }
     {
         if self.capacity == 0 {
             return Ok(());

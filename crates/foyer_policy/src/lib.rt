@@ -26,7 +26,7 @@ pub use config::{Config, State};
 pub use error::{Error, ErrorKind, Fault, Field, Reason, Result};
 pub use eviction::Eviction;
 pub use fifo::{Fifo, FifoConfig, FifoState};
-pub use ghost_queue::GhostQueue;
+pub use ghost_queue::{GhostQueue, longest_tails_are_kept};
 pub use hash::{DefaultHasher, HashBuilder, ModHasher};
 pub use lfu::{Lfu, LfuConfig, LfuState};
 pub use link::Link;

@@ -20,6 +20,7 @@ fn a_pair_that_goes_takes_its_hash_along(rt: HostRuntime) -> Tested {
 
 #[test]
 fn capacity_0_takes_nothing_and_drops_nothing(rt: HostRuntime) -> Tested {
+    longest_tails_are_kept();
     let mut queue = GhostQueue::new(rt.alloc(), 0);
     queue.push(1, 1)?;
     assert!(rt; !queue.contains(1) && queue.weight() == 0);
