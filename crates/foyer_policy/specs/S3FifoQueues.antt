@@ -107,6 +107,10 @@ HasGhostRoom q n = 0 < q.ghost.capacity → n ≤ q.ghost.room
 abbrev pub HasRoomToPop : S3Queues → Type 0
 HasRoomToPop q = q.limit < weight_of (items (small_of q.nodes.lists)) → HasGhostRoom q 1
 
--- there is room to pop all
+-- there is room to pop all: what leaves main enters no ghost queue, nor does what leaves a small queue within its limit
 abbrev pub CanClear : S3Queues → Type 0
-CanClear q = HasGhostRoom q (length (small_of q.nodes.lists) + length (main_of q.nodes.lists))
+CanClear q = q.limit < weight_of (items (small_of q.nodes.lists)) → HasGhostRoom q (length (small_of q.nodes.lists))
+
+-- the next pop may enter what it takes into the ghost queue
+abbrev pub WantsMemory : S3Queues → Type 0
+WantsMemory q = (q.limit < weight_of (items (small_of q.nodes.lists))) × (0 < q.ghost.capacity)

@@ -1,5 +1,6 @@
 -- Sieve: one queue with a visited bit for each item, and a hand.
 use Rattle.std.specs.Prelude.{◌==◌, ℕ, ◌+◌, Bool, true, false, List, [], ◌∷◌, ◌++◌, Option, Some, None, length, map, sum_by, if◌then◌else◌}
+use Rattle.foyer_policy.specs.Lists.{or_else}
 use Rattle.foyer_policy.specs.Policy.{Policy}
 use Rattle.foyer_policy.specs.PopTimes.{pop_times}
 use Rattle.foyer_policy.specs.declared.types.Item.{Item}
@@ -62,6 +63,14 @@ visited_front (e ∷ es) = if e.visited then e ∷ visited_front es else []
 abbrev pub from_unvisited : List Entry → List Entry
 from_unvisited [] = []
 from_unvisited (e ∷ es) = if e.visited then from_unvisited es else e ∷ es
+
+abbrev pub first_item : List Entry → Option Item
+first_item [] = None
+first_item (e ∷ es) = Some e.item
+
+-- the first unvisited of a rotation, or else its first
+abbrev pub unvisited_or_first : List Entry → Option Item
+unvisited_or_first es = or_else (first_item (from_unvisited es)) (first_item es)
 
 -- What a pop takes, and what then stands before the hand and from it on. The hand goes to the item that
 -- followed the victim in the queue, so what followed it stands from the hand on.

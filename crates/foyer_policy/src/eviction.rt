@@ -43,8 +43,8 @@ pub trait Eviction: Drop {
     // there is room for a `clear`
     ghost can_clear: { Self → Type 0 };
 
-    // a pop may want memory, as where the policy remembers what left
-    ghost pop_wants_memory: { Type 0 };
+    // a pop may want memory now, as where the policy is to remember what leaves
+    ghost pop_wants_memory: { Self → Type 0 };
 
     // how many records the last pop read
     ghost looked: { Self → ℕ };
@@ -97,7 +97,7 @@ pub trait Eviction: Drop {
         ensures looked { looked self.new ≡ looked self.old };
 
     /// Takes the victim out, or answers none where every item is pinned. Memory can be missing (F7) only
-    /// where a policy remembers what left; then nothing has changed.
+    /// where the policy is to remember what leaves; then nothing has changed.
     fn pop(&mut self) -> Result<Option<Item>>
         ensures pops { IfOk result (λ found. Pops model (view self.old) found (view self.new)) }
         ensures places { IfOk result (λ found. IfSome found (λ i. (p : ℕ) → at self.new p ≡ without i.id (at self.old p))) }
@@ -105,7 +105,7 @@ pub trait Eviction: Drop {
         ensures looked { OnOk result (looked self.new ≡ model.looks (view self.old)) }
         ensures room { room self.old ≤ room self.new }
         ensures refused { IfErr result (λ e. e ≡ NoMemory) }
-        ensures granted { OnErr result pop_wants_memory }
+        ensures granted { OnErr result (pop_wants_memory self.old) }
         ensures err_view { OnErr result (view self.new ≡ view self.old) }
         ensures err_places { OnErr result ((p : ℕ) → at self.new p ≡ at self.old p) }
         ensures err_looked { OnErr result (looked self.new ≡ looked self.old) };
@@ -134,6 +134,7 @@ pub trait Eviction: Drop {
         requires { can_clear self.old }
         ensures view { view self.new ≡ model.clear (view self.old) }
         ensures places { (p : ℕ) → at self.new p ≡ None }
+        ensures room { room self.old ≤ room self.new }
         ensures looked { looked self.new ≡ 0 };
 
     /// Tells the policy that the item at a place is used. It takes no memory.

@@ -64,7 +64,7 @@ impl Eviction for Fifo {
 
     ghost can_clear = { λ f. Unit {0} };
 
-    ghost pop_wants_memory = { ⊥ };
+    ghost pop_wants_memory = { λ f. ⊥ };
 
     ghost looked = { λ f. 0 };
 

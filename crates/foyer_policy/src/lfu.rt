@@ -145,7 +145,7 @@ impl Eviction for Lfu {
 
     ghost can_clear = { λ l. Unit {0} };
 
-    ghost pop_wants_memory = { ⊥ };
+    ghost pop_wants_memory = { λ l. ⊥ };
 
     ghost looked = { λ l. 0 };
 

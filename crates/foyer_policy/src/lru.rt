@@ -116,7 +116,7 @@ impl Eviction for Lru {
 
     ghost can_clear = { λ l. Unit {0} };
 
-    ghost pop_wants_memory = { ⊥ };
+    ghost pop_wants_memory = { λ l. ⊥ };
 
     ghost looked = { λ l. 0 };
 

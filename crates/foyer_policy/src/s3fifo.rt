@@ -5,7 +5,7 @@ ghost use Rattle.foyer_policy.specs.GhostQueue.{ghost_of};
 ghost use Rattle.foyer_policy.specs.Policy.{Pops};
 ghost use Rattle.foyer_policy.specs.S3Fifo.{s3fifo, s3fifo_looks};
 ghost use Rattle.foyer_policy.specs.declared.error.Reason.TheVariants.{NoMemory};
-ghost use Rattle.foyer_policy.specs.S3FifoQueues.{item_at, view_of, PlacesAfter, HasRoomToPop, CanClear};
+ghost use Rattle.foyer_policy.specs.S3FifoQueues.{item_at, view_of, PlacesAfter, HasRoomToPop, CanClear, WantsMemory};
 
 mod queues;
 
@@ -149,7 +149,7 @@ impl Eviction for S3Fifo {
 
     ghost can_clear = { CanClear };
 
-    ghost pop_wants_memory = { Unit {0} };
+    ghost pop_wants_memory = { WantsMemory };
 
     ghost looked = { λ s. s.looks };
 
@@ -224,6 +224,7 @@ impl Eviction for S3Fifo {
         ensures looked { OnOk result (self.new.looks ≡ s3fifo_looks (view_of self.old)) }
         ensures room { self.old.nodes.room ≤ self.new.nodes.room }
         ensures refused { IfErr result (λ e. e ≡ NoMemory) }
+        ensures granted { OnErr result (WantsMemory self.old) }
         ensures err_view { OnErr result (view_of self.new ≡ view_of self.old) }
         ensures err_places { OnErr result ((p : ℕ) → item_at self.new.nodes.lists p ≡ item_at self.old.nodes.lists p) }
         ensures err_looked { OnErr result (self.new.looks ≡ self.old.looks) }
@@ -242,12 +243,13 @@ impl Eviction for S3Fifo {
         item
     }
 
+    // Of what a clear takes out only records of the small queue enter the ghost queue, and none where
+    // that is within its limit.
     fn reserve_clear(&mut self) -> Result<()> {
-        if self.ghost_queue.capacity() == 0 {
+        if self.small_weight <= self.limit || self.ghost_queue.capacity() == 0 {
             return Ok(());
         }
-        let records = count(&self.queues, SMALL) + count(&self.queues, MAIN);
-        self.ghost_queue.reserve(records)
+        self.ghost_queue.reserve(count(&self.queues, SMALL))
     }
 
     fn clear(&mut self) {

@@ -4,7 +4,7 @@ ghost use Rattle.std.specs.Prelude.{◌≡◌, ◌≢◌, ℕ, false, ◌+◌, �
 ghost use Rattle.foyer_policy.specs.Lists.{list_at, find, first_or, with_value, AreLists};
 ghost use Rattle.foyer_policy.specs.Items.{HasIdsOnce};
 ghost use Rattle.foyer_policy.specs.Policy.{Pops, without};
-ghost use Rattle.foyer_policy.specs.Sieve.{hand_without, sieve};
+ghost use Rattle.foyer_policy.specs.Sieve.{hand_without, rotation, sieve, unvisited_or_first};
 ghost use Rattle.foyer_policy.specs.declared.sieve.SieveConfig.{SieveConfig};
 ghost use Rattle.foyer_policy.specs.SieveQueue.{view_of, entry, entries, entry_items, item_at, IsTurn};
 
@@ -150,7 +150,7 @@ impl Eviction for Sieve {
 
     ghost can_clear = { λ s. Unit {0} };
 
-    ghost pop_wants_memory = { ⊥ };
+    ghost pop_wants_memory = { λ s. ⊥ };
 
     ghost looked = { λ s. s.looks };
 
@@ -194,8 +194,11 @@ impl Eviction for Sieve {
         )
     }
 
+    /// Takes the first unvisited record of the rotation from the hand out, or else the first of the
+    /// rotation; or answers none where there is no record. It is never refused.
     fn pop(&mut self) -> Result<Option<Item>>
         ensures ok { IsOk result }
+        ensures first { IfOk result (λ found. found ≡ unvisited_or_first (rotation (view_of self.old))) }
         ensures few { self.new.looks ≤ length ((sieve SieveConfig).order (view_of self.old)) + 1 }
 
         // and what every policy ensures

@@ -1,6 +1,6 @@
 //! The three lists of an [`Lfu`](super::Lfu), below its running sums.
 
-ghost use Rattle.std.specs.Prelude.{◌≡◌, ◌≢◌, ℕ, ◌+◌, ◌<◌, ◌∷◌, ◌++◌, [], length, map, IfErr, OnOk, option_map, slice_set, if◌then◌else◌};
+ghost use Rattle.std.specs.Prelude.{◌≡◌, ◌≢◌, ℕ, ◌+◌, ◌<◌, ◌≤◌, ◌∷◌, ◌++◌, [], length, map, IfErr, OnOk, option_map, slice_set, if◌then◌else◌};
 ghost use Rattle.foyer_policy.specs.Items.{fit, over, weight_of};
 ghost use Rattle.foyer_policy.specs.LfuLists.{items_in, victim_list};
 ghost use Rattle.foyer_policy.specs.Lists.{find, first_value, list_at};
@@ -106,6 +106,7 @@ pub(super) fn drain(lists: &mut Lists<Item, 3>, list: usize)
     requires { list < 3 }
     ensures lists { lists.new.lists ≡ slice_set lists.old.lists list [] }
     ensures count { length lists.new.lists ≡ 3 }
+    ensures room { lists.old.room ≤ lists.new.room }
 {
     while lists.pop_front(list).is_some() {}
 }

@@ -1,6 +1,6 @@
 //! The three lists of an [`Lru`](super::Lru), below its running sums.
 
-ghost use Rattle.std.specs.Prelude.{◌≡◌, ℕ, ◌<◌, ◌∷◌, ◌++◌, [], length, map, sum_by, IsSome, slice_set};
+ghost use Rattle.std.specs.Prelude.{◌≡◌, ℕ, ◌<◌, ◌≤◌, ◌∷◌, ◌++◌, [], length, map, sum_by, IsSome, slice_set};
 ghost use Rattle.foyer_policy.specs.Held.{held_at};
 ghost use Rattle.foyer_policy.specs.Items.{fit, over};
 ghost use Rattle.foyer_policy.specs.Lists.{AreLists, find, list_at, moved, with_value};
@@ -80,6 +80,7 @@ pub(super) fn drain(lists: &mut Lists<Node, 3>, list: usize)
     requires { list < 3 }
     ensures lists { lists.new.lists ≡ slice_set lists.old.lists list [] }
     ensures count { length lists.new.lists ≡ 3 }
+    ensures room { lists.old.room ≤ lists.new.room }
 {
     while lists.pop_front(list).is_some() {}
 }

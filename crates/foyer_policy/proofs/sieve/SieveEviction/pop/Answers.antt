@@ -7,6 +7,7 @@ use Rattle.foyer_policy.specs.SieveQueue.{Node, entries, view_of, IsTurn}
 use Rattle.foyer_policy.specs.declared.sieve.SieveConfig.{SieveConfig}
 use Rattle.foyer_policy.proofs.PopsLemmas.{pop_once}
 use Rattle.foyer_policy.proofs.SieveCalls.{Gives, gives}
+use Rattle.foyer_policy.proofs.SieveFirst.{victim-first}
 use Rattle.foyer_policy.proofs.sieve.SieveEviction.pop.Goals as goal
 use Rattle.foyer_policy.proofs.sieve.SieveEviction.pop.Goals.{After-take_victim-hand}
 
@@ -40,3 +41,9 @@ returns-clause-few c =
     let new = view_of (record { nodes = c.take_victim-hand.new.queue; hand = c.take_victim-hand.result.hand; looks = 0 }) in
     let g = given (goal.at.returns-clause-few c).After-take_victim-hand in
     rw (← c.self.view_is) (omega (arith, g.looked, few_looks old new c.take_victim-hand.result.item g.pops))
+
+pub returns-clause-first : goal.returns-clause-first
+returns-clause-first c =
+    let old = view_of (record { nodes = c.self.inside.queue; hand = c.self.inside.hand; looks = 0 }) in
+    let new = view_of (record { nodes = c.take_victim-hand.new.queue; hand = c.take_victim-hand.result.hand; looks = 0 }) in
+    rw (← c.self.view_is) (victim-first old new (Some c.take_victim-hand.result.item) (given (goal.at.returns-clause-first c).After-take_victim-hand).pops)
