@@ -4,7 +4,8 @@ use Rattle.std.proofs.Common.{◌≡◌, ℕ, ◌+◌, ◌≤◌, List, [], ◌�
 use Rattle.std.specs.List.{fold}
 use Rattle.std.proofs.lemmas.List.Sorted.{IsPermutation-refl, IsPermutation-sym, IsPermutation-to_front}
 use Rattle.foyer_policy.specs.Items.{HasIdsOnce, IsWithin, remove_id, find_id}
-use Rattle.foyer_policy.specs.Policy.{Policy, IsPolicy, after_pops}
+use Rattle.foyer_policy.specs.Policy.{Policy, IsPolicy}
+use Rattle.foyer_policy.specs.PopTimes.{pop_times}
 use Rattle.foyer_policy.specs.Fifo.{fifo, take_first}
 use Rattle.foyer_policy.specs.declared.types.Item.{Item}
 use Rattle.foyer_policy.specs.declared.types.Hint.TheVariants.{Normal}
@@ -71,7 +72,7 @@ module _ {X : Type 0} (start : X) (popped : X → Item → X) (credit : X → �
   popped-none [] x h = λ f. omega arith
   popped-none (j ∷ js) x h = absurd cc
 
-  all_popped : (xs : List Item) (x : X) → after_pops queue_beside (length xs) (xs, x) ≡ ([], fold popped x xs)
+  all_popped : (xs : List Item) (x : X) → pop_times queue_beside.pop (length xs) (xs, x) ≡ ([], fold popped x xs)
   all_popped [] x = refl
   all_popped (j ∷ js) x = all_popped js (popped x j)
 

@@ -5,6 +5,7 @@ use Rattle.std.proofs.lemmas.Bool.Decides.{nat_tests}
 use Rattle.std.proofs.lemmas.List.Sorted.{sum_by-IsPermutation, sum_by_popped, sum_by_pushed, length_permutation}
 use Rattle.foyer_policy.specs.Items.{weight_of, count_of, IsNewIn, HasIdsOnce, remove_id, find_id}
 use Rattle.foyer_policy.specs.Policy.{Policy, IsPolicy, victims, pops, view_or, after_pops}
+use Rattle.foyer_policy.specs.PopTimes.{after_pop, pop_times}
 use Rattle.foyer_policy.specs.declared.types.Item.{Item}
 use Rattle.foyer_policy.specs.ItemLaws.{one_if, count-cons, count-other, found-id, sum-remove_id, once-remove_id, once-head, once-tail, new-cons}
 pub mod Cleared
@@ -44,6 +45,14 @@ module _ {V C : Type 0} (m : Policy V C) where
   pub after_pops-none : (n : ℕ) (v : V) → m.pop v ≡ None → after_pops m n v ≡ v
   after_pops-none zero v h = refl
   after_pops-none (suc n) v h = rw h
+
+  -- what leaves next is what pop gives
+  pub pop_times-is : (n : ℕ) (v : V) → pop_times m.pop n v ≡ after_pops m n v
+  pop_times-is zero v = refl
+  pop_times-is (suc n) v = go (m.pop v) (λ w. pop_times-is n w) where
+    go : (o : Option (Item × V)) → ((w : V) → pop_times m.pop n w ≡ after_pops m n w) → after_pop o v (λ w. pop_times m.pop n w) ≡ view_or m o v (λ w. after_pops m n w)
+    go None rec = refl
+    go (Some p) rec = rec p.1
 
   -- one pop more
   pub after_pops-more : (n : ℕ) (v w x : V) (i : Item) → after_pops m n v ≡ w → m.pop w ≡ Some (i, x) → after_pops m (suc n) v ≡ x

@@ -2,7 +2,7 @@
 use Rattle.std.proofs.Common.{◌≡◌, List, [], ◌∷◌, ◌++◌, Some, None, refl, ap, arith, inl}
 use Rattle.std.proofs.lemmas.List.Sorted.{IsPermutation-refl, IsPermutation-sym, IsPermutation-to_front}
 use Rattle.foyer_policy.specs.Items.{IsWithin}
-use Rattle.foyer_policy.specs.Policy.{IsPolicy, after_all_pops}
+use Rattle.foyer_policy.specs.Policy.{IsPolicy, popped_out}
 use Rattle.foyer_policy.specs.Fifo.{fifo, take_first}
 use Rattle.foyer_policy.specs.declared.types.Item.{Item}
 
@@ -14,7 +14,7 @@ take_first-none : (v : List Item) → take_first v ≡ None → IsWithin v []
 take_first-none [] h = λ f. omega arith
 take_first-none (x ∷ xs) h = absurd cc
 
-all_pops : (C : Type 0) (v : List Item) → after_all_pops (fifo C) v ≡ []
+all_pops : (C : Type 0) (v : List Item) → popped_out (fifo C) v ≡ []
 all_pops C [] = refl
 all_pops C (i ∷ is) = all_pops C is
 

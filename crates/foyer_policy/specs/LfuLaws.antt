@@ -8,7 +8,8 @@ use Rattle.foyer_policy.specs.Items.{HasIdsOnce, IsWithin, remove_id, find_id, f
 use Rattle.foyer_policy.specs.Limit.{ratio_fault}
 use Rattle.foyer_policy.specs.Lists.{or_else}
 use Rattle.foyer_policy.specs.LruLaws.{ratio_fault-kind}
-use Rattle.foyer_policy.specs.Policy.{IsPolicy, after_pops, view_or}
+use Rattle.foyer_policy.specs.Policy.{IsPolicy}
+use Rattle.foyer_policy.specs.PopTimes.{after_pop, pop_times}
 use Rattle.foyer_policy.specs.Lfu.{LfuView, sum_fault, ratios_fault, buckets_fault, config_fault, settle_window, settle_protected, seen, used, first_of, updated, lfu}
 use Rattle.foyer_policy.specs.FitLaws.{over-fit}
 use Rattle.foyer_policy.specs.PartLaws.{IsPermutation-remove_id, remove_id-front, remove_id-back}
@@ -183,10 +184,10 @@ nothing-clear v h = go v.window v.probation v.protected h where
   go (x ∷ xs) b c h = absurd (omega arith)
 
 -- all pops leave nothing
-all_popped : (n : ℕ) (v : LfuView) → length (lfu.order v) ≡ n → after_pops lfu n v ≡ lfu.clear v
+all_popped : (n : ℕ) (v : LfuView) → length (lfu.order v) ≡ n → pop_times lfu.pop n v ≡ lfu.clear v
 all_popped zero v h = nothing-clear v h
 all_popped (suc n) v h = go (lfu.pop v) refl (all_popped n) where
-  go : (o : Option (Item × LfuView)) → lfu.pop v ≡ o → ((w : LfuView) → length (lfu.order w) ≡ n → after_pops lfu n w ≡ lfu.clear w) → view_or lfu o v (λ w. after_pops lfu n w) ≡ lfu.clear v
+  go : (o : Option (Item × LfuView)) → lfu.pop v ≡ o → ((w : LfuView) → length (lfu.order w) ≡ n → pop_times lfu.pop n w ≡ lfu.clear w) → after_pop o v (λ w. pop_times lfu.pop n w) ≡ lfu.clear v
   go None is rec = (let e = pop-none v v.window v.probation v.protected is in absurd (omega (arith, ap length e)))
   go (Some p) is rec = (let t = pop-taken v p.1 p.0 is in rec p.1 (omega (arith, t.shorter)) ∙ t.cleared)
 

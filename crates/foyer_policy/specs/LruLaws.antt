@@ -9,7 +9,8 @@ use Rattle.std.proofs.lemmas.List.Sorted.{IsPermutation-refl, IsPermutation-sym,
 use Rattle.foyer_policy.specs.Errors.{kind_of}
 use Rattle.foyer_policy.specs.Items.{HasIdsOnce, IsWithin, remove_id, find_id, fit, over}
 use Rattle.foyer_policy.specs.Limit.{ratio_fault, is_in_range}
-use Rattle.foyer_policy.specs.Policy.{IsPolicy, PinsAtMost, after_pops, removed}
+use Rattle.foyer_policy.specs.Policy.{IsPolicy, PinsAtMost, removed}
+use Rattle.foyer_policy.specs.PopTimes.{pop_times}
 use Rattle.foyer_policy.specs.Lru.{Pinned, LruView, IsWithinLimit, settle, put, is_high_hint, find_pin, remove_pin, pin_found, unpin_found, limits_or, with_limits, lru}
 use Rattle.foyer_policy.specs.FitLaws.{over-fit, fit_within}
 use Rattle.foyer_policy.specs.PartLaws.{IsPermutation-remove_id, remove_id-none, find_id-front, remove_id-front, find_id-back, remove_id-back, find_id-one_part}
@@ -186,11 +187,11 @@ release-pinned v id = go (find_pin id v.pin) refl where
   go (Some p) is = ap pinned_items (put-pin (record v { pin = remove_pin id v.pin }) p.item p.is_high) ∙ pinned_items-remove_pin id v.pin
 
 -- all pops leave what is pinned
-no_more : (n : ℕ) (pin : List Pinned) (limit : ℕ) (ratio : Ratio) → after_pops lru n (view [] [] pin limit ratio) ≡ view [] [] pin limit ratio
+no_more : (n : ℕ) (pin : List Pinned) (limit : ℕ) (ratio : Ratio) → pop_times lru.pop n (view [] [] pin limit ratio) ≡ view [] [] pin limit ratio
 no_more zero pin limit ratio = refl
 no_more (suc n) pin limit ratio = refl
 
-all_popped : (low high : List Item) (pin : List Pinned) (limit : ℕ) (ratio : Ratio) → after_pops lru (length (low ++ (high ++ pinned_items pin))) (view low high pin limit ratio) ≡ view [] [] pin limit ratio
+all_popped : (low high : List Item) (pin : List Pinned) (limit : ℕ) (ratio : Ratio) → pop_times lru.pop (length (low ++ (high ++ pinned_items pin))) (view low high pin limit ratio) ≡ view [] [] pin limit ratio
 all_popped [] [] pin limit ratio = no_more (length (pinned_items pin)) pin limit ratio
 all_popped [] (x ∷ xs) pin limit ratio = all_popped [] xs pin limit ratio
 all_popped (x ∷ xs) high pin limit ratio = all_popped xs high pin limit ratio

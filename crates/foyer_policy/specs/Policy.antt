@@ -2,6 +2,7 @@
 use Rattle.std.specs.Prelude.{◌≡◌, ◌==◌, ℕ, zero, suc, ◌+◌, ◌-◌, ◌≤◌, ◌⊎◌, List, [], ◌∷◌, Option, Some, None, option_and_then, length, nat_le, if◌then◌else◌}
 use Rattle.std.specs.List.Sorted.{IsPermutation}
 use Rattle.foyer_policy.specs.Items.{weight_of, HasIdsOnce, IsWithin, remove_id, find_id}
+use Rattle.foyer_policy.specs.PopTimes.{pop_times}
 use Rattle.foyer_policy.specs.declared.types.Item.{Item}
 use Rattle.foyer_policy.specs.declared.error.Reason.{Reason}
 use Rattle.foyer_policy.specs.declared.error.ErrorKind.TheVariants.{Config}
@@ -76,6 +77,10 @@ module _ {V C : Type 0} (m : Policy V C) where
   abbrev pub after_all_pops : V → V
   after_all_pops v = after_pops (length (m.order v)) v
 
+  -- the view once pop itself was repeated until none, whatever an eviction takes
+  abbrev pub popped_out : V → V
+  popped_out v = pop_times m.pop (length (m.order v)) v
+
 -- the shortest beginning of the items after which at most `target` is left of the usage, or all of them
 abbrev pub until : ℕ → ℕ → List Item → List Item
 until target usage [] = []
@@ -136,4 +141,4 @@ module _ {V C : Type 0} (m : Policy V C) where
     pub update_pinned : (v : V) (capacity : ℕ) (config : Option C) → m.pinned (m.update v capacity config) ≡ m.pinned v
     pub update_credit : (v : V) (capacity : ℕ) (config : Option C) → m.credit (m.update v capacity config) ≤ m.credit v
     -- clear is pop until none, and then a remove of each item that is left, which is pinned
-    pub clear_is : (v : V) → m.clear v ≡ removed (m.order (after_all_pops m v)) (after_all_pops m v)
+    pub clear_is : (v : V) → m.clear v ≡ removed (m.order (popped_out m v)) (popped_out m v)

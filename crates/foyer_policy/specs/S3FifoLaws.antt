@@ -10,7 +10,7 @@ use Rattle.foyer_policy.specs.Items.{HasIdsOnce, remove_id, find_id, weight_of}
 use Rattle.foyer_policy.specs.Limit.{ratio_fault}
 use Rattle.foyer_policy.specs.Lists.{or_else}
 use Rattle.foyer_policy.specs.PartLaws.{remove_id-front, remove_id-back}
-use Rattle.foyer_policy.specs.Policy.{IsPolicy, after_pops, after_all_pops, removed, view_or}
+use Rattle.foyer_policy.specs.Policy.{IsPolicy, popped_out, removed}
 use Rattle.foyer_policy.specs.PopTimes.{after_pop, pop_times}
 use Rattle.foyer_policy.specs.GhostQueue.{ghost_push}
 use Rattle.foyer_policy.specs.S3Fifo.{Entry, Setting, S3FifoView, items, frequencies, s3fifo_fault, denominator_fault, frequent_front, from_rare, MainTurn, main_turn, main_looks, first_of_small, main_gives, from_main, promoted, over_limit, is_over, s3fifo_pop, over_looks, s3fifo_looks, remove_entry, use_entry, is_in_small, put, s3fifo}
@@ -144,14 +144,6 @@ none_looks v m s = go (is_over v) where
   go true = over (from_rare v.setting.threshold v.small)
   go false = ap main_looks m
 
--- pops until none leave nothing
-after_pops-times : (n : ℕ) (v : S3FifoView) → after_pops s3fifo n v ≡ pop_times s3fifo_pop n v
-after_pops-times zero v = refl
-after_pops-times (suc n) v = go (s3fifo_pop v) (λ w. after_pops-times n w) where
-  go : (o : Option (Item × S3FifoView)) → ((w : S3FifoView) → after_pops s3fifo n w ≡ pop_times s3fifo_pop n w) → view_or s3fifo o v (λ w. after_pops s3fifo n w) ≡ after_pop o v (λ w. pop_times s3fifo_pop n w)
-  go None rec = refl
-  go (Some p) rec = rec p.1
-
 pub count_of_entries : S3FifoView → ℕ
 count_of_entries v = length v.small + length v.main
 
@@ -176,13 +168,14 @@ emptied (suc n) v h = go (s3fifo_pop v) refl (λ w. emptied n w) where
   go None is rec = pop-nothing v is
   go (Some p) is rec = rec p.1 (omega (arith, pop-shorter v p.1 p.0 is))
 
-clear-is : (v : S3FifoView) → pop_times s3fifo_pop (length v.small + length v.main) v ≡ removed s3fifo (order_of (after_all_pops s3fifo v)) (after_all_pops s3fifo v)
+-- pops until none leave nothing
+clear-is : (v : S3FifoView) → pop_times s3fifo_pop (length v.small + length v.main) v ≡ removed s3fifo (order_of (popped_out s3fifo v)) (popped_out s3fifo v)
 clear-is v =
     let n = length v.small + length v.main in
-    let all : after_all_pops s3fifo v ≡ pop_times s3fifo_pop n v = ap (λ (k : ℕ). after_pops s3fifo k v) (length-order v) ∙ after_pops-times n v in
+    let all : popped_out s3fifo v ≡ pop_times s3fifo_pop n v = ap (λ (k : ℕ). pop_times s3fifo_pop k v) (length-order v) in
     let none = emptied n v (omega arith) in
-    let empty : order_of (after_all_pops s3fifo v) ≡ [] = ap order_of all ∙ rw (none.0, none.1) refl in
-    sym all ∙ ap (λ (l : List Item). removed s3fifo l (after_all_pops s3fifo v)) (sym empty)
+    let empty : order_of (popped_out s3fifo v) ≡ [] = ap order_of all ∙ rw (none.0, none.1) refl in
+    sym all ∙ ap (λ (l : List Item). removed s3fifo l (popped_out s3fifo v)) (sym empty)
 
 -- the other calls
 items-remove : (id : ℕ) (l : List Entry) → items (remove_entry id l) ≡ remove_id id (items l)

@@ -7,7 +7,7 @@ use Rattle.std.proofs.lemmas.List.{map-append, length-map}
 use Rattle.std.proofs.lemmas.List.Sums.{sum_by-cons, sum_by-append}
 use Rattle.std.proofs.lemmas.List.Sorted.{IsPermutation-refl, IsPermutation-sym, IsPermutation-to_front, IsPermutation-middle, length_permutation}
 use Rattle.foyer_policy.specs.Items.{IsWithin, remove_id}
-use Rattle.foyer_policy.specs.Policy.{Policy, IsPolicy, after_pops, after_all_pops, removed, view_or}
+use Rattle.foyer_policy.specs.Policy.{Policy, IsPolicy, popped_out, removed}
 use Rattle.foyer_policy.specs.PopTimes.{after_pop, pop_times}
 use Rattle.foyer_policy.specs.Sieve.{Entry, SieveView, items, cleared, all_cleared, set_bits, before_id, from_id, before_hand, from_hand, rotation, visited_front, from_unvisited, Turn, where_all_visited, where_behind_visited, first_unvisited, turn, looks_at, first_id, after_turn, popped, sieve_pop, remove_entry, visit, hand_without, sieve}
 use Rattle.foyer_policy.specs.declared.types.Item.{Item}
@@ -249,13 +249,6 @@ no_looks (Some id) [] h = refl
 no_looks hand (x ∷ xs) h = absurd cc
 
 -- pops until none leave nothing
-after_pops-times : (C : Type 0) (n : ℕ) (v : SieveView) → after_pops (sieve C) n v ≡ pop_times sieve_pop n v
-after_pops-times C zero v = refl
-after_pops-times C (suc n) v = go (sieve_pop v) (λ w. after_pops-times C n w) where
-  go : (o : Option (Item × SieveView)) → ((w : SieveView) → after_pops (sieve C) n w ≡ pop_times sieve_pop n w) → view_or (sieve C) o v (λ w. after_pops (sieve C) n w) ≡ after_pop o v (λ w. pop_times sieve_pop n w)
-  go None rec = refl
-  go (Some p) rec = rec p.1
-
 length-items : (q : List Entry) → length (items q) ≡ length q
 length-items q = length-map q item_of
 
@@ -340,7 +333,7 @@ sieve_lawful C = record {
   update_credit = λ v capacity config. omega arith;
   clear_is = λ v.
       let n : length (items v.queue) ≡ length v.queue = length-items v.queue in
-      let all : after_all_pops (sieve C) v ≡ pop_times sieve_pop (length v.queue) v = ap (λ (k : ℕ). after_pops (sieve C) k v) n ∙ after_pops-times C (length v.queue) v in
-      let none : items (after_all_pops (sieve C) v).queue ≡ [] = ap (λ (w : SieveView). items w.queue) all ∙ ap (λ (q : List Entry). items q) (emptied (length v.queue) v (omega arith)) in
-      sym all ∙ ap (λ (l : List Item). removed (sieve C) l (after_all_pops (sieve C) v)) (sym none);
+      let all : popped_out (sieve C) v ≡ pop_times sieve_pop (length v.queue) v = ap (λ (k : ℕ). pop_times sieve_pop k v) n in
+      let none : items (popped_out (sieve C) v).queue ≡ [] = ap (λ (w : SieveView). items w.queue) all ∙ ap (λ (q : List Entry). items q) (emptied (length v.queue) v (omega arith)) in
+      sym all ∙ ap (λ (l : List Item). removed (sieve C) l (popped_out (sieve C) v)) (sym none);
 }

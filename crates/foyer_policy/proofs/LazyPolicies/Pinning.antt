@@ -6,7 +6,8 @@ use Rattle.std.proofs.lemmas.Bool.Decides.{nat_tests}
 use Rattle.std.proofs.lemmas.List.Sums.{sum_by-append}
 use Rattle.std.proofs.lemmas.List.Sorted.{IsPermutation-refl, IsPermutation-sym, IsPermutation-trans, IsPermutation-to_front, IsPermutation-middle, IsPermutation-append_left, IsPermutation-append_right}
 use Rattle.foyer_policy.specs.Items.{IsNewIn, HasIdsOnce, IsWithin, remove_id, find_id}
-use Rattle.foyer_policy.specs.Policy.{IsPolicy, PinsAtMost, after_pops, removed}
+use Rattle.foyer_policy.specs.Policy.{IsPolicy, PinsAtMost, removed}
+use Rattle.foyer_policy.specs.PopTimes.{pop_times}
 use Rattle.foyer_policy.specs.declared.types.Item.{Item}
 use Rattle.foyer_policy.specs.ItemLaws.{one_if, count-same}
 use Rattle.foyer_policy.specs.PartLaws.{IsPermutation-remove_id, remove_id-none, find_id-front, remove_id-front, remove_id-back, find_id-one_part}
@@ -68,11 +69,11 @@ release-pinned id xs ps = go (find_id id ps) refl where
   go None is = sym (remove_id-none id ps is)
   go (Some i) is = refl
 
-no_more : (n : ℕ) (ps : List Item) → after_pops pinning n ([], ps) ≡ ([], ps)
+no_more : (n : ℕ) (ps : List Item) → pop_times pinning.pop n ([], ps) ≡ ([], ps)
 no_more zero ps = refl
 no_more (suc n) ps = refl
 
-all_popped : (xs ps : List Item) → after_pops pinning (length (xs ++ ps)) (xs, ps) ≡ ([], ps)
+all_popped : (xs ps : List Item) → pop_times pinning.pop (length (xs ++ ps)) (xs, ps) ≡ ([], ps)
 all_popped [] ps = no_more (length ps) ps
 all_popped (x ∷ xs) ps = all_popped xs ps
 

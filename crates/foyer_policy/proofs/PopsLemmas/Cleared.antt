@@ -6,13 +6,18 @@ use Rattle.foyer_policy.specs.Policy.{Policy, IsPolicy, removed, pops, after_pop
 use Rattle.foyer_policy.specs.Fifo.{fifo}
 use Rattle.foyer_policy.specs.declared.types.Item.{Item}
 use Rattle.std.proofs.lemmas.Bool.Decides.{nat_tests}
-use Rattle.foyer_policy.proofs.PopsLemmas.{after_pops-keeps, after_pops-none}
+use Rattle.foyer_policy.proofs.PopsLemmas.{pop_times-is, after_pops-keeps, after_pops-none}
 use Rattle.foyer_policy.proofs.PopsLemmas.Repeated.{after_all_pops-none, after_pops-pinned}
 
 -- what is within nothing is nothing
 pub within_nothing : (xs : List Item) → IsWithin xs [] → xs ≡ []
 within_nothing [] h = refl
 within_nothing (x ∷ xs) h = absurd (omega (arith, h (λ i. 1), sum_by-cons (λ (i : Item). 1) x xs))
+
+-- a clear, by the pops of an eviction of all
+module _ {V C : Type 0} (m : Policy V C) (law : IsPolicy m) where
+  clear_is : (v : V) → m.clear v ≡ removed m (m.order (after_all_pops m v)) (after_all_pops m v)
+  clear_is v = law.clear_is v ∙ ap (λ (u : V). removed m (m.order u) u) (pop_times-is m (length (m.order v)) v)
 
 module _ {V C : Type 0} (m : Policy V C) (law : IsPolicy m) (v : V) where
   removed-order : (is : List Item) (u : V) → m.order u ≡ is → m.order (removed m is u) ≡ []
@@ -27,23 +32,23 @@ module _ {V C : Type 0} (m : Policy V C) (law : IsPolicy m) (v : V) where
   removed-credit (i ∷ is) u = omega (arith, removed-credit is (m.remove u i.id), law.remove_credit u i.id)
 
   pub clear-order : m.order (m.clear v) ≡ []
-  clear-order = rw (law.clear_is v) (removed-order (m.order (after_all_pops m v)) (after_all_pops m v) refl)
+  clear-order = rw (clear_is m law v) (removed-order (m.order (after_all_pops m v)) (after_all_pops m v) refl)
 
   pub clear-credit : m.credit (m.clear v) ≤ m.credit v
   clear-credit =
       let popped : m.credit (after_all_pops m v) ≤ m.credit v = after_pops-keeps m (λ (u : V). m.credit u ≤ m.credit v) (λ u w i is h. omega (arith, law.pop_credit u w i is)) (length (m.order v)) v (omega arith) in
-      rw (law.clear_is v) (omega (arith, removed-credit (m.order (after_all_pops m v)) (after_all_pops m v)))
+      rw (clear_is m law v) (omega (arith, removed-credit (m.order (after_all_pops m v)) (after_all_pops m v)))
 
   pub clear-empty : m.order v ≡ [] → m.clear v ≡ v
   clear-empty h =
       let w : after_all_pops m v ≡ v = ap (λ (l : List Item). after_pops m (length l) v) h in
-      law.clear_is v ∙ rw w (ap (λ (l : List Item). removed m l v) h)
+      clear_is m law v ∙ rw w (ap (λ (l : List Item). removed m l v) h)
 
   pub clear-pops : m.clear v ≡ m.clear (after_all_pops m v)
   clear-pops =
       let w = after_all_pops m v in
       let stays : after_all_pops m w ≡ w = after_pops-none m (length (m.order w)) w (after_all_pops-none m law v) in
-      law.clear_is v ∙ sym (law.clear_is w ∙ ap (λ (u : V). removed m (m.order u) u) stays)
+      clear_is m law v ∙ sym (clear_is m law w ∙ ap (λ (u : V). removed m (m.order u) u) stays)
 
   -- a clear leaves no pin
   pub clear-pinned : m.pinned (m.clear v) ≡ []
@@ -57,7 +62,7 @@ module _ {V C : Type 0} (m : Policy V C) (law : IsPolicy m) (v : V) where
 
   -- and a clear is all pops
   pub clear-is : m.pinned v ≡ [] → m.clear v ≡ after_all_pops m v
-  clear-is none = law.clear_is v ∙ ap (λ (l : List Item). removed m l (after_all_pops m v)) (after_all_pops-order none)
+  clear-is none = clear_is m law v ∙ ap (λ (l : List Item). removed m l (after_all_pops m v)) (after_all_pops-order none)
 
 module _ (C : Type 0) where
   -- a queue is its own pops
