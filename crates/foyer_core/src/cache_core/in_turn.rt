@@ -26,10 +26,7 @@ pub(super) fn evict_each<
     N: Drop,
     R: Drop,
     I: Indexer<K>,
->(
-    shards: &mut Vec<Shard<E, K, V, P, N, R, I>>,
-    leaves: &mut Vec<Leave<K, V, P>>,
-) -> Result<()>
+>(shards: &mut Vec<Shard<E, K, V, P, N, R, I>>, leaves: &mut Vec<Leave<K, V, P>>) -> Result<()>
     ensures done { OnOk result (GoesOn leaves.old.items leaves.new.items (λ ls. InTurn (EvictsUnpinned (meaning K.eq E.model P.hint_of P.phantom_of))
         (map state_of shards.old.items) ls (map state_of shards.new.items))) }
     ensures refused { OnErr result (GoesOn leaves.old.items leaves.new.items (λ ls. InTurnUntil (EvictsUnpinned (meaning K.eq E.model P.hint_of P.phantom_of)) (EvictingUnpinned (meaning K.eq E.model P.hint_of P.phantom_of))
@@ -53,10 +50,7 @@ pub(super) fn evict_each_to_capacity<
     N: Drop,
     R: Drop,
     I: Indexer<K>,
->(
-    shards: &mut Vec<Shard<E, K, V, P, N, R, I>>,
-    leaves: &mut Vec<Leave<K, V, P>>,
-) -> Result<()>
+>(shards: &mut Vec<Shard<E, K, V, P, N, R, I>>, leaves: &mut Vec<Leave<K, V, P>>) -> Result<()>
     ensures done { OnOk result (GoesOn leaves.old.items leaves.new.items (λ ls. InTurn (EvictsToCapacity (meaning K.eq E.model P.hint_of P.phantom_of))
         (map state_of shards.old.items) ls (map state_of shards.new.items))) }
     ensures refused { OnErr result (GoesOn leaves.old.items leaves.new.items (λ ls. InTurnUntil (EvictsToCapacity (meaning K.eq E.model P.hint_of P.phantom_of)) (EvictingToCapacity (meaning K.eq E.model P.hint_of P.phantom_of))
@@ -99,10 +93,7 @@ pub(super) fn clear_each<
     N: Drop,
     R: Drop,
     I: Indexer<K>,
->(
-    shards: &mut Vec<Shard<E, K, V, P, N, R, I>>,
-    alloc: Global,
-) -> Result<Vec<Leave<K, V, P>>>
+>(shards: &mut Vec<Shard<E, K, V, P, N, R, I>>, alloc: Global) -> Result<Vec<Leave<K, V, P>>>
     ensures done { IfOk result (λ leaves. InTurn (Clears (meaning K.eq E.model P.hint_of P.phantom_of)) (map state_of shards.old.items) leaves.items (map state_of shards.new.items)) }
     ensures err { OnErr result (map state_of shards.new.items ≡ map state_of shards.old.items) }
     ensures refused { IfErr result (λ e. e ≡ NoMemory) }

@@ -36,9 +36,15 @@ impl Load {
     }
 
     // The load of these shards together.
-    pub(super) fn of_all<E: Eviction, K: Key, V: Value, P: Properties, N: Drop, R: Drop, I: Indexer<K>>(
-        shards: &[Shard<E, K, V, P, N, R, I>],
-    ) -> Self
+    pub(super) fn of_all<
+        E: Eviction,
+        K: Key,
+        V: Value,
+        P: Properties,
+        N: Drop,
+        R: Drop,
+        I: Indexer<K>,
+    >(shards: &[Shard<E, K, V, P, N, R, I>]) -> Self
         ensures { AreSums (meaning K.eq E.model P.hint_of P.phantom_of) result.usage result.entries (map state_of shards.now) }
     {
         let mut sum = Load {

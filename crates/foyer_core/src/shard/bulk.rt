@@ -71,11 +71,7 @@ impl<E: Eviction, K: Key, V: Value, P: Properties, N: Drop, R: Drop, I: Indexer<
 
     /// Evicts until the usage is at most the target, or nothing more leaves, and appends what leaves. Refused
     /// for want of memory alone (F7); then some beginning of the evictions has left, and stands in the list.
-    pub fn evict_onto(
-        &mut self,
-        leaves: &mut Vec<Leave<K, V, P>>,
-        target: usize,
-    ) -> Result<()>
+    pub fn evict_onto(&mut self, leaves: &mut Vec<Leave<K, V, P>>, target: usize) -> Result<()>
         ensures done { OnOk result (GoesOn leaves.old.items leaves.new.items (λ ls. Evicts (meaning_of self.old) target (state_of self.old) ls (state_of self.new))) }
         ensures refused { OnErr result (GoesOn leaves.old.items leaves.new.items (λ ls. Evicting (meaning_of self.old) target (state_of self.old) ls (state_of self.new))) }
         ensures reason { IfErr result (λ e. e ≡ NoMemory) }

@@ -20,7 +20,17 @@ impl Filter<u64, u64> for EvenKeys {
     }
 }
 
-type Filtered = CacheCore<Fifo, u64, u64, CacheProperties, ModHasher, UnitWeighter, EvenKeys, (), ()>;
+type Filtered = CacheCore<
+    Fifo,
+    u64,
+    u64,
+    CacheProperties,
+    ModHasher,
+    UnitWeighter,
+    EvenKeys,
+    (),
+    (),
+>;
 
 // A core of one shard that holds nothing, and admits even keys alone.
 fn filtered(alloc: Global, capacity: usize) -> Result<Filtered> {
