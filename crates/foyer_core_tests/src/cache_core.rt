@@ -13,6 +13,7 @@ use std::alloc::Global;
 use std::process::Abort;
 use std::test::Fail;
 
+mod asked;
 mod bulk;
 mod entries;
 mod filter;

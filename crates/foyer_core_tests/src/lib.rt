@@ -9,4 +9,6 @@ mod indexer;
 #[cfg(test)]
 mod inflight;
 #[cfg(test)]
+mod record;
+#[cfg(test)]
 mod shard;

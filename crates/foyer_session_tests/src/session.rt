@@ -6,7 +6,7 @@ use foyer_policy::{
     Error, Event, Eviction, Fifo, FifoConfig, HashBuilder, Key, ModHasher, Properties, Reason,
     Result, Value,
 };
-use foyer_session::{Answer, Command, NoPredicate, Predicate, Reply, Session, run_fifo};
+use foyer_session::{Answer, Command, NoPredicate, Predicate, Reply, Session};
 use std::alloc::{AllocError, Global};
 use std::process::Abort;
 use std::test::Fail;
@@ -15,17 +15,32 @@ mod bulk;
 mod filter;
 mod index;
 mod pieces;
+mod policies;
 
-type FifoSession = Session<Fifo, u64, u64, CacheProperties, ModHasher, UnitWeighter, AdmitAll>;
+type SessionOf<E> = Session<E, u64, u64, CacheProperties, ModHasher, UnitWeighter, AdmitAll>;
+
+type FifoSession = SessionOf<Fifo>;
 
 type Plain = Command<u64, u64, CacheProperties, NoPredicate>;
 
+type Plainly = Reply<u64, u64, CacheProperties>;
+
 // A session over an empty core of one shard.
 fn session(alloc: Global, capacity: usize, limits: Limits) -> Result<FifoSession> {
+    session_of::<Fifo>(alloc, capacity, limits, FifoConfig {})
+}
+
+// The same over any policy.
+fn session_of<E: Eviction>(
+    alloc: Global,
+    capacity: usize,
+    limits: Limits,
+    eviction_config: E::Config,
+) -> Result<SessionOf<E>> {
     let config = RawCacheConfig {
         capacity,
         shards: 1,
-        eviction_config: FifoConfig {},
+        eviction_config,
         hash_builder: ModHasher::default(),
         weighter: UnitWeighter,
         filter: AdmitAll,
@@ -72,11 +87,9 @@ fn told(
     Ok(told)
 }
 
-#[test]
-fn commands_have_their_replies(rt: HostRuntime) -> std::result::Result<(), Fail> {
-    let alloc = rt.alloc();
-    let mut session = session(alloc, 2, Limits::default())?;
-    let commands = vec![in alloc;
+// Commands of a cache with room for two records.
+fn some_commands(alloc: Global) -> std::result::Result<Vec<Plain>, Fail> {
+    Ok(vec![in alloc;
         insert(1, 10),
         insert(2, 20),
         insert(2, 21),
@@ -85,8 +98,16 @@ fn commands_have_their_replies(rt: HostRuntime) -> std::result::Result<(), Fail>
         Command::Drop(0),
         Command::Drop(0),
         Command::Drop(99),
-    ]?;
-    let replies = run_fifo(&mut session, commands)?;
+    ]?)
+}
+
+// These are the replies to them, of any policy.
+fn are_their_replies<E: Eviction>(
+    rt: &impl Abort,
+    alloc: Global,
+    session: &SessionOf<E>,
+    replies: &[Plainly],
+) -> std::result::Result<(), Fail> {
     assert_eq!(rt; replies.len(), 8);
     assert_eq!(rt; handed_out(&replies[0].answer), Some((0, 10)));
     assert_eq!(rt; handed_out(&replies[1].answer), Some((1, 20)));

@@ -8,7 +8,7 @@ use super::weights::{Heavy, HeavyEntry, HeavyLeaves, gone_for, heavy, pinning, r
 use super::*;
 
 // The keys of what left, all for this reason.
-fn keys_of(
+pub(super) fn keys_of(
     rt: &impl Abort,
     alloc: Global,
     leaves: &Leaves,
@@ -23,7 +23,11 @@ fn keys_of(
 }
 
 // What leaves by a predicate, with memory at hand.
-fn flushed<F: Fn(&u64, &u64) -> bool>(rt: &impl Abort, core: &mut Core, predicate: &F) -> Leaves
+pub(super) fn flushed<F: Fn(&u64, &u64) -> bool>(
+    rt: &impl Abort,
+    core: &mut Core,
+    predicate: &F,
+) -> Leaves
     requires { F.IsAlwaysCallable predicate.now }
 {
     match core.flush_if(predicate) {

@@ -2,8 +2,6 @@
 
 use super::*;
 
-type Plainly = Reply<u64, u64, CacheProperties>;
-
 // The id under which a get finds this key after a reply, where it was this one before.
 fn after(id: Option<u64>, key: u64, reply: &Plainly) -> Option<u64> {
     let mut id = id;
@@ -50,26 +48,32 @@ fn ids_after(
     Ok(ids)
 }
 
-#[test]
-fn replies_tell_the_index(rt: HostRuntime) -> std::result::Result<(), Fail> {
-    let alloc = rt.alloc();
-    let mut session = session(alloc, 2, Limits::default())?;
+// Commands of a cache with room for two records, after each of which the index is another.
+pub(super) fn index_commands(alloc: Global) -> std::result::Result<Vec<Plain>, Fail> {
     let phantom = CacheProperties::default().with_phantom(true);
-    let commands = vec![in alloc;
+    Ok(vec![in alloc;
         insert(1, 10),
         insert(2, 20),
         insert(2, 21),
         Command::Insert(2, 22, phantom),
         insert(1, 11),
         Command::Remove(1),
-    ]?;
-    let replies = run_fifo(&mut session, commands)?;
-    let first = ids_after(alloc, 1, replies.as_slice())?;
+    ]?)
+}
+
+// The replies to them tell the index, of any policy.
+pub(super) fn tell_the_index<E: Eviction>(
+    rt: &impl Abort,
+    alloc: Global,
+    session: &SessionOf<E>,
+    replies: &[Plainly],
+) -> std::result::Result<(), Fail> {
+    let first = ids_after(alloc, 1, replies)?;
     assert_eq!(rt;
         first.as_slice(),
         [Some(0), Some(0), None, None, Some(4), None].as_slice()
     );
-    let second = ids_after(alloc, 2, replies.as_slice())?;
+    let second = ids_after(alloc, 2, replies)?;
     assert_eq!(rt;
         second.as_slice(),
         [None, Some(1), Some(2), None, None, None].as_slice()

@@ -78,21 +78,22 @@ fn a_handle_that_is_gone_gives_no_piece(rt: HostRuntime) -> std::result::Result<
     Ok(())
 }
 
-#[test]
-fn each_command_has_room_for_a_piece(rt: HostRuntime) -> std::result::Result<(), Fail> {
-    let alloc = rt.alloc();
-    let mut session = session(alloc, 2, Limits::default())?;
-    let commands = vec![in alloc;
+// Commands of which each takes a piece but for the first.
+pub(super) fn piece_commands(alloc: Global) -> std::result::Result<Vec<Plain>, Fail> {
+    Ok(vec![in alloc;
         insert(1, 10),
         Command::TakePiece(0),
         Command::TakePiece(0),
         Command::TakePiece(1),
-    ]?;
-    let replies = run_fifo(&mut session, commands)?;
+    ]?)
+}
+
+// Each of them has room for its piece.
+pub(super) fn have_room_for_pieces(rt: &impl Abort, replies: &[Plainly]) {
+    assert_eq!(rt; replies.len(), 4);
     assert_eq!(rt; piece_number(&replies[1].answer), Some(0));
     assert_eq!(rt; piece_number(&replies[2].answer), Some(1));
     assert!(rt; matches!(replies[3].answer, Answer::NotHeld));
-    Ok(())
 }
 
 #[test]
