@@ -2,7 +2,8 @@
 
 ghost use Rattle.std.specs.Prelude.{◌≡◌, ◌≤◌, None, IfOk, IfErr, length};
 ghost use Rattle.std.specs.Hash.{u64 as u64_input};
-ghost use Rattle.foyer_core.specs.Core.{AnswersNobody, AtShard, Owns};
+ghost use Rattle.foyer_core.specs.Core.{AtShard, Owns};
+ghost use Rattle.foyer_core.specs.Waited.{AnswersNobody};
 ghost use Rattle.foyer_core.specs.Cores.{core_of, meaning_of_core};
 ghost use Rattle.foyer_core.specs.Steps.{GivesBack, RefusesInsert, newcomer};
 ghost use Rattle.foyer_bench.specs.Drive.{LooksUp, NoMoreHandles, PutsIn, RefusesLookUp, Runs, Stops, data_of};

@@ -11,7 +11,6 @@ use Rattle.std.proofs.lemmas.List.Sorted.{length_permutation}
 use Rattle.foyer_policy.specs.Items.{weight_of, IsNewIn, remove_id, find_id}
 use Rattle.foyer_policy.specs.Policy.{IsPolicy, without}
 use Rattle.foyer_policy.specs.declared.types.Item.{Item}
-use Rattle.foyer_core.specs.declared.record.Data.{Data}
 use Rattle.foyer_core.specs.declared.records.Records.{Records}
 use Rattle.foyer_core.specs.Values.{Kept, Gone, Rec, Incoming}
 use Rattle.foyer_core.specs.Indexer.{same_key}
@@ -20,7 +19,7 @@ use Rattle.foyer_core.specs.Records.{slot_in, number_of, record_in, id_in}
 use Rattle.foyer_core.specs.State.{Meaning, State, IsKept, key_of, item_of, usage_of, is_phantom_record}
 use Rattle.foyer_core.specs.Steps.{after_out, after_push, outside, GivesWay, Admits, replaced_leaves}
 use Rattle.foyer_core.specs.Stored.{IsStored, state}
-use Rattle.foyer_core.proofs.Keeps.{indexed_there, removed_keeps, removed_weight, push_new, push_keeps, push_weight}
+use Rattle.foyer_core.proofs.Keeps.{indexed_there, removed_keeps, removed_weight, push_keeps, push_weight}
 use Rattle.foyer_core.proofs.Keys.{same_key_laws}
 use Rattle.foyer_core.proofs.States.{same_state}
 use Rattle.foyer_core.proofs.LeaveLemmas.{taken_from}

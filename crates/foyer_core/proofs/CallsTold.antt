@@ -28,7 +28,7 @@ module _ {K V P View C S W A : Type 0} (m : Meaning K P View C) (laws : IsEquiva
   step_told step h at ls told = at_told m laws good hash equal old new step h at (after_leaves m.same (known hash old) ls) (told (known hash old))
 
   -- that leaves its index as it is
-  stays_so : (step : State K V P View → State K V P View → Type 0) (h : ℕ) (at : AtShard step h old new) → SameIndex at.before at.after → IsTold m.same hash old [] new
+  pub stays_so : (step : State K V P View → State K V P View → Type 0) (h : ℕ) (at : AtShard step h old new) → SameIndex at.before at.after → IsTold m.same hash old [] new
   stays_so step h at same = step_told step h at [] (same_told m laws good hash equal (length old.shards) (shard_of old h) at.before at.after same)
 
   pub nothing_told : new ≡ old → IsTold m.same hash old [] new
@@ -61,17 +61,17 @@ module _ {K V P View C S W A : Type 0} (m : Meaning K P View C) (laws : IsEquiva
 
   -- an insert of a record with the hash of its key
   module _ (d : Data K V P) (hashed : d.hash ≡ hash d.key) (ls : List (Event × Gone K V P)) where
-    pub insert_told : (source : Source) (entry : Held K V P) → AtShard (λ s t. Inserts m source s (newcomer s d) ls entry t) d.hash old new → IsToldWith m.same hash m.phantom old ls entry.id entry.kept new
-    insert_told source entry at =
+    pub insert_told : (handles : ℕ) (source : Source) (entry : Held K V P) → AtShard (λ s t. Inserts m source s (newcomer s d handles) ls entry t) d.hash old new → IsToldWith m.same hash m.phantom old ls entry.id entry.kept new
+    insert_told handles source entry at =
         let s = sound (shard_of old d.hash) at.before at.there in
-        at_told m laws good hash equal old new (λ s t. Inserts m source s (newcomer s d) ls entry t) d.hash at (after_entry m.same m.phantom (after_leaves m.same (known hash old) ls) entry.id entry.kept)
-        (inserts_told m laws good hash equal (length old.shards) (shard_of old d.hash) source at.before (newcomer at.before d) ls entry at.after s.kept s.at (refl, hashed) at.stepped (known hash old))
+        at_told m laws good hash equal old new (λ s t. Inserts m source s (newcomer s d handles) ls entry t) d.hash at (after_entry m.same m.phantom (after_leaves m.same (known hash old) ls) entry.id entry.kept)
+        (inserts_told m laws good hash equal (length old.shards) (shard_of old d.hash) source at.before (newcomer at.before d handles) ls entry at.after s.kept s.at (refl, hashed) at.stepped (known hash old))
 
-    pub refused_told : (reason : Reason) → AtShard (λ s t. RefusesInsert m s (newcomer s d) reason ls t) d.hash old new → IsTold m.same hash old ls new
-    refused_told reason at =
+    pub refused_told : (handles : ℕ) (reason : Reason) → AtShard (λ s t. RefusesInsert m s (newcomer s d handles) reason ls t) d.hash old new → IsTold m.same hash old ls new
+    refused_told handles reason at =
         let s = sound (shard_of old d.hash) at.before at.there in
-        step_told (λ s t. RefusesInsert m s (newcomer s d) reason ls t) d.hash at ls
-        (refuses_told m laws good hash equal (length old.shards) (shard_of old d.hash) at.before (newcomer at.before d) ls at.after s.kept s.at reason at.stepped)
+        step_told (λ s t. RefusesInsert m s (newcomer s d handles) reason ls t) d.hash at ls
+        (refuses_told m laws good hash equal (length old.shards) (shard_of old d.hash) at.before (newcomer at.before d handles) ls at.after s.kept s.at reason at.stepped)
 
   -- the calls on all shards
   module _ (ls : List (Event × Gone K V P)) where

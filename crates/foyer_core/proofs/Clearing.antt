@@ -2,7 +2,7 @@
 use Rattle.std.proofs.Common.{◌≡◌, ℕ, ◌<◌, List, [], ◌∷◌, ◌++◌, Some, None, Option, true, false, true≢false, nat_eq, length, refl, sym, ◌∙◌, ap, subst, subst₂, arith}
 use Rattle.std.proofs.Math.Logic.{∥∥₁_elim, ∥∥₁_map}
 use Rattle.std.proofs.Props.{props}
-use Rattle.std.specs.Prelude.{option_and_then, ◌==◌}
+use Rattle.std.specs.Prelude.{◌==◌}
 use Rattle.std.specs.Cmp.{IsEquivalence}
 use Rattle.std.specs.Map.{update}
 use Rattle.std.proofs.lemmas.Bool.Decides.{nat_tests}
@@ -15,13 +15,13 @@ use Rattle.foyer_policy.specs.declared.types.Event.{Event}
 use Rattle.foyer_policy.specs.declared.types.Event.TheVariants.{Clear}
 use Rattle.foyer_policy.proofs.PopsLemmas.Cleared.{clear-order, clear-pinned}
 use Rattle.foyer_core.specs.declared.records.Records.{Records}
-use Rattle.foyer_core.specs.Values.{Kept, Gone, Rec}
+use Rattle.foyer_core.specs.Values.{Kept, Gone}
 use Rattle.foyer_core.specs.Indexer.{same_key}
 use Rattle.foyer_core.specs.Table.{rec_of, slot_outside}
 use Rattle.foyer_core.specs.Records.{slot_in, number_of, record_in}
-use Rattle.foyer_core.specs.State.{Meaning, State, IsKept, key_of, item_of}
+use Rattle.foyer_core.specs.State.{Meaning, State, IsKept, key_of}
 use Rattle.foyer_core.specs.Stored.{IsStored, state}
-use Rattle.foyer_core.specs.Steps.{after_out, gone_of, ids_of, outside, Leave}
+use Rattle.foyer_core.specs.Steps.{after_out, ids_of, outside, Leave}
 use Rattle.foyer_core.specs.Bulk.{Clears, Lined, lined_state, Passes}
 use Rattle.foyer_core.proofs.Evictions.{Leave-snoc}
 use Rattle.foyer_core.proofs.LeaveLemmas.{leave-rests}

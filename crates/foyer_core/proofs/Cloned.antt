@@ -1,5 +1,5 @@
--- A shard that counts one more handle of a record, of which the policy is not told.
-use Rattle.std.proofs.Common.{◌≡◌, ℕ, ◌+◌, ◌<◌, Option, Some, None, Bool, true, false, true≢false, nat_eq, refl, sym, ◌∙◌, ap, subst, inr, arith}
+-- A shard that counts more handles of a record, of which the policy is not told.
+use Rattle.std.proofs.Common.{◌≡◌, ℕ, ◌+◌, ◌<◌, ◌≤◌, Option, Some, None, Bool, true, false, true≢false, nat_eq, refl, sym, ◌∙◌, ap, subst, inr, arith}
 use Rattle.std.proofs.Math.Logic.{∥∥₁_elim, ∥∥₁_map}
 use Rattle.std.proofs.Props.{props}
 use Rattle.std.specs.Prelude.{not, is_some, option_map, option_and_then, ◌↔◌}
@@ -14,7 +14,7 @@ use Rattle.foyer_core.specs.Table.{rec_of}
 use Rattle.foyer_core.specs.Records.{slot_in, number_of, record_in}
 use Rattle.foyer_core.specs.State.{Meaning, State, IsKept, handles_of}
 use Rattle.foyer_core.specs.Stored.{IsStored, state}
-use Rattle.foyer_core.specs.Steps.{after_handle, IsOutdated}
+use Rattle.foyer_core.specs.Steps.{after_handle, after_handles, IsOutdated}
 use Rattle.foyer_core.proofs.GivingBack.{named_id}
 use Rattle.foyer_core.proofs.Handles.{stands_some, change_keeps}
 use Rattle.foyer_core.proofs.Keeps.{counted_there, indexed_there}
@@ -39,10 +39,13 @@ pub record_named : {K V P : Type 0} (t : Records K V P) (id n : ℕ) → number_
 record_named t id n named x there = ap (λ (o : Option ℕ). option_map rec_of (option_and_then (slot_in t) o)) named ∙ ap (option_map rec_of) there
 
 module _ {K V P View C : Type 0} (m : Meaning K P View C) where
+  pub handles_keep : (s : State K V P View) → IsKept m s → (id : ℕ) (r : Rec K V P) (more : ℕ) → s.records id ≡ Some r → 0 < more → r.handles + more ≤ s.limits.handles → IsKept m (after_handles s id more r)
+  handles_keep s kept id r more there some room =
+      change_keeps m s kept id r there s.view (Some (record r { handles = r.handles + more })) (IsPermutation-refl (m.policy.order s.view)) (λ j apart pos. pos)
+      (stands_some s.limits.handles (count_of id (m.policy.pinned s.view)) r (r.handles + more) (inr (omega (arith, some))) (omega (arith, room)) (λ pos. omega (arith, some)))
+
   pub handle_keeps : (s : State K V P View) → IsKept m s → (id : ℕ) (r : Rec K V P) → s.records id ≡ Some r → r.handles < s.limits.handles → IsKept m (after_handle s id r)
-  handle_keeps s kept id r there room =
-      change_keeps m s kept id r there s.view (Some (record r { handles = r.handles + 1 })) (IsPermutation-refl (m.policy.order s.view)) (λ j apart pos. pos)
-      (stands_some s.limits.handles (count_of id (m.policy.pinned s.view)) r (r.handles + 1) (inr (omega arith)) (omega arith) (λ pos. omega arith))
+  handle_keeps s kept id r there room = handles_keep s kept id r 1 there (omega arith) (omega (arith, room))
 
   module _ (laws : IsEquivalence m.same) (good : IsPolicy m.policy) (o : Holding V m) (n : ℕ) (x : Kept K V P) where
     open o use {at, keys, t, number, capacity, limits, view, next, kept, stored}
@@ -51,20 +54,30 @@ module _ {K V P View C : Type 0} (m : Meaning K P View C) where
       there_record : (now_of o).records x.id ≡ Some (rec_of x)
       there_record = slot_record m at keys t n x there
 
+      module _ (more : ℕ) (t' : Records K V P) (write : (q : ℕ) → slot_in t' q ≡ update nat_eq (slot_in t) n (Some (with_handles x (x.handles + more))) q) (ids : (q : ℕ) → number_of t' q ≡ number_of t q) where
+        pub gained_after : state number capacity limits view keys t' next ≡ after_handles (now_of o) x.id more (rec_of x)
+        gained_after = same_state (state number capacity limits view keys t' next) (after_handles (now_of o) x.id more (rec_of x)) refl refl refl refl
+            (count_index m at keys t at t' n (x.handles + more) x there write ids (λ p. refl))
+            (write_records (slot_in t) (slot_in t') (number_of t) (number_of t') n t.agree x (with_handles x (x.handles + more)) there refl write ids) refl
+
+        pub gained_kept : 0 < more → x.handles + more ≤ limits.handles → ∥ IsKept m (state number capacity limits view keys t' next) ∥₁
+        gained_kept some room = ∥∥₁_map kept (λ k. subst (IsKept m) (sym gained_after) (handles_keep (now_of o) k x.id (rec_of x) more there_record some room))
+
+        pub gained_stored : IsStored m at keys t'
+        gained_stored = count_stored m at keys t at t' n (x.handles + more) x there write ids (λ p. refl) stored
+
       module _ (t' : Records K V P) (write : (q : ℕ) → slot_in t' q ≡ update nat_eq (slot_in t) n (Some (with_handles x (x.handles + 1))) q) (ids : (q : ℕ) → number_of t' q ≡ number_of t q) where
         pub cloned_after : state number capacity limits view keys t' next ≡ after_handle (now_of o) x.id (rec_of x)
-        cloned_after = same_state (state number capacity limits view keys t' next) (after_handle (now_of o) x.id (rec_of x)) refl refl refl refl
-            (count_index m at keys t at t' n (x.handles + 1) x there write ids (λ p. refl))
-            (write_records (slot_in t) (slot_in t') (number_of t) (number_of t') n t.agree x (with_handles x (x.handles + 1)) there refl write ids) refl
+        cloned_after = gained_after 1 t' write ids
 
         pub cloned_named : (id : ℕ) → number_of t id ≡ Some n → state number capacity limits view keys t' next ≡ after_handle (now_of o) id (rec_of x)
         cloned_named id named = subst (λ (a : ℕ). state number capacity limits view keys t' next ≡ after_handle (now_of o) a (rec_of x)) (named_id t id n named x there) cloned_after
 
         pub cloned_kept : x.handles < limits.handles → ∥ IsKept m (state number capacity limits view keys t' next) ∥₁
-        cloned_kept room = ∥∥₁_map kept (λ k. subst (IsKept m) (sym cloned_after) (handle_keeps (now_of o) k x.id (rec_of x) there_record room))
+        cloned_kept room = gained_kept 1 t' write ids (omega arith) (omega (arith, room))
 
         pub cloned_stored : IsStored m at keys t'
-        cloned_stored = count_stored m at keys t at t' n (x.handles + 1) x there write ids (λ p. refl) stored
+        cloned_stored = gained_stored 1 t' write ids
 
       -- a record is in the index exactly where its slot says so
       resident_of : (r : Rec K V P) → (now_of o).records x.id ≡ Some r → r.resident ≡ x.resident

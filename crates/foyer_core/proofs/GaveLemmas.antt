@@ -11,7 +11,6 @@ use Rattle.std.proofs.lemmas.Map.{update_here, update_apart}
 use Rattle.foyer_policy.specs.Items.{weight_of, IsNewIn}
 use Rattle.foyer_policy.specs.Policy.{IsPolicy, without}
 use Rattle.foyer_policy.specs.declared.types.Item.{Item}
-use Rattle.foyer_core.specs.declared.record.Data.{Data}
 use Rattle.foyer_core.specs.declared.records.Records.{Records}
 use Rattle.foyer_core.specs.Values.{Kept, Gone, Rec, Incoming}
 use Rattle.foyer_core.specs.Indexer.{same_key}

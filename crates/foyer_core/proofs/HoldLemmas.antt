@@ -1,13 +1,11 @@
 -- A new record that is held and does not come into the index: what the fields stand for then.
-use Rattle.std.proofs.Common.{◌≡◌, ◌≢◌, ℕ, ◌+◌, ◌<◌, ◌≤◌, ◌⊎◌, max, inl, inr, Option, Some, None, Bool, true, false, true≢false, nat_eq, refl, sym, ◌∙◌, ap, subst, arith}
+use Rattle.std.proofs.Common.{◌≡◌, ◌≢◌, ℕ, ◌+◌, ◌<◌, ◌≤◌, ◌⊎◌, max, inl, inr, Option, Some, None, true, false, true≢false, nat_eq, refl, sym, ◌∙◌, ap, subst, arith}
 use Rattle.std.proofs.Math.Logic.{∥∥₁_map}
 use Rattle.std.specs.Prelude.{option_map, option_and_then, is_some}
-use Rattle.std.specs.Cmp.{IsEquivalence}
 use Rattle.std.specs.Map.{update}
 use Rattle.std.proofs.lemmas.Map.{update_here, update_apart}
 use Rattle.std.proofs.lemmas.Bool.Decides.{eqb_tells}
 use Rattle.foyer_policy.specs.Items.{count_of}
-use Rattle.foyer_policy.specs.Policy.{IsPolicy}
 use Rattle.foyer_core.specs.declared.records.Records.{Records}
 use Rattle.foyer_core.specs.Values.{Kept, Rec, Incoming}
 use Rattle.foyer_core.specs.Table.{rec_of}

@@ -440,3 +440,16 @@ none_in {K = K} {eq = eq} laws (p ∷ ps) none =
 pub empty_in : {K : Type 0} (eq : K → K → Bool) (pairs : List (Pair K)) → (length pairs == 0) ≡ true → (q : ℕ × K) → lookup (same_key eq q) (entries_of pairs) ≡ None
 empty_in eq [] empty q = refl
 empty_in eq (p ∷ ps) empty q = (let none : length (p ∷ ps) ≡ 0 = eqb-true (length (p ∷ ps)) 0 empty in absurd (omega (arith, none)))
+
+module _ {K N R : Type 0} (eq : K → K → Bool) where
+  -- what is not open is closed already
+  pub closed_already : (f : Opens K N R) (k : ℕ × K) → ((q : ℕ × K) → same_key eq k q ≡ true → f.places k ≡ f.places q) → f.places k ≡ None → f ≡ closed eq f k
+  closed_already f k respects none = same_opens f (closed eq f k) (λ q. go q (same_key eq k q) refl) refl refl where
+    go : (q : ℕ × K) (b : Bool) → same_key eq k q ≡ b → f.places q ≡ cond b None (f.places q)
+    go q true h = sym (respects q h) ∙ none
+    go q false h = refl
+
+-- where any fetch was asked for, and there is none
+pub none_asked : {N R : Type 0} (p : Option (Place N R)) → asked None p ≡ None → p ≡ None
+none_asked None h = refl
+none_asked (Some o) h = absurd cc

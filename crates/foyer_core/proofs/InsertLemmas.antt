@@ -1,7 +1,6 @@
 -- What an insert leaves: its usage fits, and its key finds it.
-use Rattle.std.proofs.Common.{◌≡◌, ℕ, zero, suc, ◌+◌, ◌-◌, ◌<◌, ◌≤◌, ◌^◌, max, ◌⊎◌, inl, inr, List, [], ◌∷◌, Option, Some, None, true, false, length, refl, sym, ◌∙◌, ap, subst, arith}
+use Rattle.std.proofs.Common.{◌≡◌, ℕ, zero, suc, ◌+◌, ◌-◌, ◌<◌, ◌≤◌, ◌^◌, max, ◌⊎◌, inl, inr, List, [], ◌∷◌, Option, Some, None, true, length, refl, sym, ◌∙◌, ap, subst, arith}
 use Rattle.std.specs.Cmp.{IsEquivalence}
-use Rattle.std.proofs.lemmas.Map.{update_here}
 use Rattle.foyer_policy.specs.Items.{weight_of, count_of, IsNewIn, IsWithin, remove_id}
 use Rattle.foyer_policy.specs.Policy.{IsPolicy, after_pops, evicted}
 use Rattle.foyer_policy.specs.declared.types.Item.{Item}
@@ -12,12 +11,11 @@ use Rattle.foyer_policy.proofs.ItemLemmas.{one_if}
 use Rattle.foyer_core.specs.declared.record.Data.{Data}
 use Rattle.foyer_core.specs.Indexer.{same_key}
 use Rattle.foyer_core.specs.Values.{Rec, Gone, Held, Incoming}
-use Rattle.foyer_core.specs.State.{Meaning, State, key_of, hit, without_own, is_phantom_record, usage_of, pinned_beside, IsKept}
-use Rattle.foyer_core.specs.Steps.{after_out, after_push, ids_of, Evicts, GivesWay, InsertsPlain}
+use Rattle.foyer_core.specs.State.{Meaning, State, key_of, without_own, usage_of, pinned_beside, IsKept}
+use Rattle.foyer_core.specs.Steps.{after_out, ids_of, Evicts, GivesWay, InsertsPlain}
 use Rattle.foyer_core.proofs.Found.{sum-removed}
-use Rattle.foyer_core.proofs.Keeps.{counted_there, removed_keeps, removed_absent, push_keeps, push_weight}
-use Rattle.foyer_core.proofs.Keys.{same_key_laws}
-use Rattle.foyer_core.proofs.LeaveLemmas.{Rests, rests-rests, leave-rests, leave-view, evicts_keeps}
+use Rattle.foyer_core.proofs.Keeps.{counted_there, removed_keeps, removed_absent, push_weight}
+use Rattle.foyer_core.proofs.LeaveLemmas.{Rests, leave-rests, leave-view, evicts_keeps}
 use Rattle.foyer_core.proofs.Popped.{after_pops_pinned, evicted_ends}
 use Rattle.foyer_core.proofs.Weights.{removed_within, removed_new}
 

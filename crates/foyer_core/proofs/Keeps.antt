@@ -9,7 +9,6 @@ use Rattle.foyer_policy.specs.Items.{weight_of, count_of, IsNewIn, find_id, remo
 use Rattle.foyer_policy.specs.Policy.{IsPolicy, PinsAtMost}
 use Rattle.foyer_policy.specs.declared.types.Item.{Item}
 use Rattle.foyer_policy.proofs.ItemLemmas.{one_if, found-id, found-where, sum-remove_id}
-use Rattle.foyer_core.specs.declared.record.Data.{Data}
 use Rattle.foyer_core.specs.Indexer.{same_key}
 use Rattle.foyer_core.specs.Values.{Rec, Incoming}
 use Rattle.foyer_core.specs.State.{Meaning, State, key_of, item_of, is_phantom_record, usage_of, hit, IsKept}

@@ -123,6 +123,9 @@ module _ {K V P View C : Type 0} (m : Meaning K P View C) where
     same-view : (s t : State K V P View) → t.view ≡ s.view → SameLoad s t
     same-view s t h = (ap (λ (v : View). weight_of (m.policy.order v)) h, ap (λ (v : View). length (m.policy.order v)) h)
 
+    pub same-load : (s t : State K V P View) → t ≡ s → SameLoad s t
+    same-load s t h = same-view s t (ap (λ (a : State K V P View). a.view) h)
+
     permuted : (s t : State K V P View) → IsPermutation (m.policy.order s.view) (m.policy.order t.view) → SameLoad s t
     permuted s t h = (sum_by-IsPermutation (λ (i : Item). i.weight) (m.policy.order s.view) (m.policy.order t.view) h, length_permutation (m.policy.order s.view) (m.policy.order t.view) h)
 

@@ -23,7 +23,7 @@ use Rattle.foyer_core.specs.Core.{AreNewShards, Belong, share_of}
 use Rattle.foyer_core.specs.CoreBulk.{InTurn, InTurnUntil, SharesOut, EvictsToCapacity, EvictingToCapacity}
 use Rattle.foyer_core.specs.Pieces.{RefusesReturn, RefusesReturnBy, Returns, ReturnsBy, is_in, returning}
 use Rattle.foyer_core.specs.State.{Meaning, State, key_of, is_phantom_record}
-use Rattle.foyer_core.specs.Steps.{after_push, after_hold, after_get, after_handle, after_give_back, ids_of, Leave, GivesWay, Inserts, InsertsBy, RefusesBy, RefusesPlain, RefusesInsert, Gets, GivesBack, Touches, Removes, ClonesHandle, RefusesHandle, newcomer}
+use Rattle.foyer_core.specs.Steps.{after_push, after_hold, after_get, after_handle, after_handles, after_give_back, ids_of, Leave, GivesWay, Inserts, InsertsBy, RefusesBy, RefusesPlain, RefusesInsert, Gets, GivesBack, Touches, Removes, ClonesHandle, RefusesHandle, RefusesHandles, newcomer}
 use Rattle.foyer_core.specs.Values.{Carried, Rec, Gone, Held, Incoming}
 use Rattle.foyer_core.proofs.CoreLemmas.{set_here, set_apart}
 use Rattle.foyer_core.proofs.LeaveLemmas.{leave-rests}
@@ -37,7 +37,7 @@ module _ {K V P View : Type 0} (New : Data K V P → Type 0) where
   abbrev pub RecordsFrom : State K V P View → State K V P View → Type 0
   RecordsFrom old new = (id : ℕ) (r : Rec K V P) → new.records id ≡ Some r → ((q : Rec K V P) × (old.records id ≡ Some q) × (r.kept ≡ q.kept)) ⊎ New r.kept
 
-  from_same : (old new : State K V P View) → new ≡ old → RecordsFrom old new
+  pub from_same : (old new : State K V P View) → new ≡ old → RecordsFrom old new
   from_same old new e id r there = inl (r, ap (λ (s : State K V P View). s.records id) (sym e) ∙ there, refl)
 
   from_then : (old mid new : State K V P View) → RecordsFrom old mid → RecordsFrom mid new → RecordsFrom old new
@@ -72,13 +72,21 @@ module _ {K V P View : Type 0} (New : Data K V P → Type 0) where
   from_new : (old new : State K V P View) (id : ℕ) (now : Rec K V P) → ((j : ℕ) → new.records j ≡ update nat_eq old.records id (Some now) j) → New now.kept → RecordsFrom old new
   from_new old new id now write so = from_update old new id (Some now) write (λ r is. inr (subst New (ap (λ (x : Rec K V P). x.kept) (same_rec now r is)) so))
 
-  pub handle_from : (old : State K V P View) (id : ℕ) (r : Rec K V P) → old.records id ≡ Some r → RecordsFrom old (after_handle old id r)
-  handle_from old id r there = from_write old (after_handle old id r) id r (record r { handles = r.handles + 1 }) there (λ j. refl) refl
+  handles_from : (old : State K V P View) (id more : ℕ) (r : Rec K V P) → old.records id ≡ Some r → RecordsFrom old (after_handles old id more r)
+  handles_from old id more r there = from_write old (after_handles old id more r) id r (record r { handles = r.handles + more }) there (λ j. refl) refl
+
+  handle_from : (old : State K V P View) (id : ℕ) (r : Rec K V P) → old.records id ≡ Some r → RecordsFrom old (after_handle old id r)
+  handle_from old id r there = handles_from old id 1 r there
 
   refused_from : (old : State K V P View) (id : ℕ) (reason : Reason) (new : State K V P View) → RefusesHandle old id reason new → RecordsFrom old new
   refused_from old id Handles new h = from_same old new h.3
   refused_from old id NoMemory new h = from_same old new h.3
   refused_from old id _ new h = absurd h
+
+  refused_handles_from : (old : State K V P View) (id more : ℕ) (reason : Reason) (new : State K V P View) → RefusesHandles old id more reason new → RecordsFrom old new
+  refused_handles_from old id more Handles new h = from_same old new h.3
+  refused_handles_from old id more NoMemory new h = from_same old new h.3
+  refused_handles_from old id more _ new h = absurd h
 
   pub clones_from : (old : State K V P View) (entry : Held K V P) (answer : Result (Held K V P) Reason) (new : State K V P View) → ClonesHandle old entry answer new → RecordsFrom old new
   clones_from old entry (Ok clone) new h = subst (RecordsFrom old) (sym h.4) (handle_from old entry.id h.0 h.1)
@@ -171,27 +179,27 @@ module _ {K V P View : Type 0} (New : Data K V P → Type 0) where
     refuses_from old inc reason ls new h = refused_insert_from (is_phantom_record m inc.kept) old inc reason ls new h
 
     pub emplaced_from : {A B : Type 0} (r : Result A B) (made : A → List (Event × Gone K V P)) (entry : A → Held K V P) (reason : B → Reason) (left : B → List (Event × Gone K V P))
-        (source : Source) (old : State K V P View) (d : Data K V P) (new : State K V P View)
-        → MatchResult r (λ a. Inserts m source old (newcomer old d) (made a) (entry a) new) (λ b. RefusesInsert m old (newcomer old d) (reason b) (left b) new) → New d → RecordsFrom old new
-    emplaced_from (Ok a) made entry reason left source old d new h so = inserts_from source old (newcomer old d) (made a) (entry a) new h so
-    emplaced_from (Err b) made entry reason left source old d new h so = refuses_from old (newcomer old d) (reason b) (left b) new h
+        (source : Source) (old : State K V P View) (d : Data K V P) (handles : ℕ) (new : State K V P View)
+        → MatchResult r (λ a. Inserts m source old (newcomer old d handles) (made a) (entry a) new) (λ b. RefusesInsert m old (newcomer old d handles) (reason b) (left b) new) → New d → RecordsFrom old new
+    emplaced_from (Ok a) made entry reason left source old d handles new h so = inserts_from source old (newcomer old d handles) (made a) (entry a) new h so
+    emplaced_from (Err b) made entry reason left source old d handles new h so = refuses_from old (newcomer old d handles) (reason b) (left b) new h
 
     -- and one of a piece that stands for a record
-    returned_by : (b : Bool) (old : State K V P View) (piece : Carried K V P) (ls : List (Event × Gone K V P)) (entry : Held K V P) (new : State K V P View) → ReturnsBy m b old piece ls entry new
-        → New (returning old piece).kept → RecordsFrom old new
-    returned_by true old piece ls entry new h so = subst (RecordsFrom old) (sym h.after) (handle_from old piece.id h.rec h.there)
-    returned_by false old piece ls entry new h so = inserts_from Memory old (returning old piece) ls entry new h so
+    returned_by : (b : Bool) (old : State K V P View) (piece : Carried K V P) (more : ℕ) (ls : List (Event × Gone K V P)) (entry : Held K V P) (new : State K V P View) → ReturnsBy m b old piece more ls entry new
+        → New (returning old piece more).kept → RecordsFrom old new
+    returned_by true old piece more ls entry new h so = subst (RecordsFrom old) (sym h.after) (handles_from old piece.id more h.rec h.there)
+    returned_by false old piece more ls entry new h so = inserts_from Memory old (returning old piece more) ls entry new h so
 
-    refused_return_by : (b : Bool) (old : State K V P View) (piece : Carried K V P) (reason : Reason) (ls : List (Event × Gone K V P)) (new : State K V P View) → RefusesReturnBy m b old piece reason ls new
+    refused_return_by : (b : Bool) (old : State K V P View) (piece : Carried K V P) (more : ℕ) (reason : Reason) (ls : List (Event × Gone K V P)) (new : State K V P View) → RefusesReturnBy m b old piece more reason ls new
         → RecordsFrom old new
-    refused_return_by true old piece reason ls new h = refused_from old piece.id reason new h.1
-    refused_return_by false old piece reason ls new h = refuses_from old (returning old piece) reason ls new h
+    refused_return_by true old piece more reason ls new h = refused_handles_from old piece.id more reason new h.1
+    refused_return_by false old piece more reason ls new h = refuses_from old (returning old piece more) reason ls new h
 
     pub taken_back_from : {A B : Type 0} (r : Result A B) (made : A → List (Event × Gone K V P)) (entry : A → Held K V P) (reason : B → Reason) (left : B → List (Event × Gone K V P))
-        (old : State K V P View) (piece : Carried K V P) (new : State K V P View)
-        → MatchResult r (λ a. Returns m old piece (made a) (entry a) new) (λ b. RefusesReturn m old piece (reason b) (left b) new) → New (returning old piece).kept → RecordsFrom old new
-    taken_back_from (Ok a) made entry reason left old piece new h so = returned_by (is_in (old.records piece.id)) old piece (made a) (entry a) new h so
-    taken_back_from (Err b) made entry reason left old piece new h so = refused_return_by (is_in (old.records piece.id)) old piece (reason b) (left b) new h
+        (old : State K V P View) (piece : Carried K V P) (more : ℕ) (new : State K V P View)
+        → MatchResult r (λ a. Returns m old piece more (made a) (entry a) new) (λ b. RefusesReturn m old piece more (reason b) (left b) new) → New (returning old piece more).kept → RecordsFrom old new
+    taken_back_from (Ok a) made entry reason left old piece more new h so = returned_by (is_in (old.records piece.id)) old piece more (made a) (entry a) new h so
+    taken_back_from (Err b) made entry reason left old piece more new h so = refused_return_by (is_in (old.records piece.id)) old piece more (reason b) (left b) new h
 
 -- nothing comes in
 abbrev pub nothing_new : {K V P : Type 0} → Data K V P → Type 0

@@ -13,7 +13,7 @@ use Rattle.foyer_core.specs.declared.outcome.Inserted.{Inserted}
 use Rattle.foyer_core.specs.declared.outcome.Refused.{Refused}
 use Rattle.foyer_core.specs.Core.{Core, AtShard, InsertsAnswering, shard_at}
 use Rattle.foyer_core.specs.Indexer.{same_key}
-use Rattle.foyer_core.specs.Pieces.{GainsHandle, InsertsPiece, PieceBy, ReturnsAnswering, ReturnsBy, is_in, is_known, returning}
+use Rattle.foyer_core.specs.Pieces.{GainsHandles, InsertsPiece, PieceBy, ReturnsAnswering, ReturnsBy, is_in, is_known, returning}
 use Rattle.foyer_core.specs.State.{Meaning, State, IsKept, key_of, is_phantom_record}
 use Rattle.foyer_core.specs.Steps.{Inserts, InsertsBy, newcomer}
 use Rattle.foyer_core.specs.Values.{Carried, Gone, Held, Incoming, Rec}
@@ -21,29 +21,35 @@ use Rattle.foyer_core.specs.declared.record.Data.{Data}
 use Rattle.foyer_core.proofs.CoreLaws.{Stands, came_stands}
 use Rattle.foyer_core.proofs.Keeps.{counted_there}
 
-module _ {K V P View C S W A N : Type 0} (m : Meaning K P View C) (weighs : ℕ → Type 0) (hash : ℕ) (piece : Carried K V P) (result : Result (Inserted K V P N) (Refused K V P))
+module _ {K V P View C S W A N : Type 0} (m : Meaning K P View C) (weighs : ℕ → Type 0) (hash : ℕ) (piece : Carried K V P) (more : State K V P View → ℕ) (result : Result (Inserted K V P N) (Refused K V P))
     (old new : Core K V P View S W A) (x : State K V P View) (there : shard_at old hash ≡ Some x) where
   same_state_of : (s : State K V P View) → shard_at old hash ≡ Some s → x ≡ s
   same_state_of s h = (let e : Some x ≡ Some s = sym there ∙ h in cc)
 
-  by_step : (b : Bool) → is_known x hash piece ≡ b → AtShard (λ s t. PieceBy m b weighs hash piece result s t) hash old new → AtShard (λ s t. InsertsPiece m weighs hash piece result s t) hash old new
-  by_step b known at = record {
+  -- `own` says how many handles it gets, as its shard does
+  by_step : (b : Bool) → is_known x hash piece ≡ b → (own : State K V P View → ℕ) → own x ≡ more x → AtShard (λ s t. PieceBy m b weighs hash piece (own s) result s t) hash old new
+      → AtShard (λ s t. InsertsPiece m weighs hash piece (more s) result s t) hash old new
+  by_step b known own as at = record {
     before = at.before;
     after = at.after;
     there = at.there;
     stepped =
-        let is : is_known at.before hash piece ≡ b = ap (λ (s : State K V P View). is_known s hash piece) (sym (same_state_of at.before at.there)) ∙ known in
-        subst (λ (c : Bool). PieceBy m c weighs hash piece result at.before at.after) (sym is) at.stepped;
+        let here : x ≡ at.before = same_state_of at.before at.there in
+        let is : is_known at.before hash piece ≡ b = ap (λ (s : State K V P View). is_known s hash piece) (sym here) ∙ known in
+        let count : own at.before ≡ more at.before = subst (λ (s : State K V P View). own s ≡ more s) here as in
+        subst (λ (n : ℕ). InsertsPiece m weighs hash piece n result at.before at.after) count
+        (subst (λ (c : Bool). PieceBy m c weighs hash piece (own at.before) result at.before at.after) (sym is) at.stepped);
     rest = at.rest;
   }
 
-  pub known_inserts : is_known x hash piece ≡ true → AtShard (λ s t. ReturnsAnswering m s piece result t) hash old new → AtShard (λ s t. InsertsPiece m weighs hash piece result s t) hash old new
-  known_inserts known at = by_step true known at
+  pub known_inserts : is_known x hash piece ≡ true → (own : State K V P View → ℕ) → own x ≡ more x → AtShard (λ s t. ReturnsAnswering m s piece (own s) result t) hash old new
+      → AtShard (λ s t. InsertsPiece m weighs hash piece (more s) result s t) hash old new
+  known_inserts known own as at = by_step true known own as at
 
-  pub foreign_inserts : is_known x hash piece ≡ false
-      → AtShard (λ s t. (weight : ℕ) × weighs weight × InsertsAnswering m Memory s (newcomer s (record piece.kept { hash = hash; weight = weight })) result t) hash old new
-      → AtShard (λ s t. InsertsPiece m weighs hash piece result s t) hash old new
-  foreign_inserts known at = by_step false known at
+  pub foreign_inserts : is_known x hash piece ≡ false → (own : State K V P View → ℕ) → own x ≡ more x
+      → AtShard (λ s t. (weight : ℕ) × weighs weight × InsertsAnswering m Memory s (newcomer s (record piece.kept { hash = hash; weight = weight }) (own s)) result t) hash old new
+      → AtShard (λ s t. InsertsPiece m weighs hash piece (more s) result s t) hash old new
+  foreign_inserts known own as at = by_step false known own as at
 
 -- a plain record that came in by a piece is hit by equal keys
 module _ {K V P View C : Type 0} (m : Meaning K P View C) (laws : IsEquivalence m.same) (good : IsPolicy m.policy) (s t : State K V P View) (kept : ∥ IsKept m s ∥₁) where
@@ -56,10 +62,10 @@ module _ {K V P View C : Type 0} (m : Meaning K P View C) (laws : IsEquivalence 
     go true is h = absurd (true≢false (sym is ∙ ap (λ (e : Held K V P). is_phantom_record m e.kept) (sym h.entry_is) ∙ plain))
     go false is h = subst (λ (d : Data K V P). Stands m laws good d t) (ap (λ (e : Held K V P). e.kept) (sym h.entry_is)) (came_stands m laws good source s inc ls entry t h)
 
-  gains_stand : (id : ℕ) (ls : List (Event × Gone K V P)) (entry : Held K V P) → is_in (s.records id) ≡ true → GainsHandle s id ls entry t → Stands m laws good entry.kept t
-  gains_stand id ls entry inside h =
+  gains_stand : (id n : ℕ) (ls : List (Event × Gone K V P)) (entry : Held K V P) → is_in (s.records id) ≡ true → GainsHandles s id n ls entry t → Stands m laws good entry.kept t
+  gains_stand id n ls entry inside h =
       let res : h.rec.resident ≡ true = sym (ap is_in h.there) ∙ inside in
-      let more : Rec K V P = record h.rec { handles = h.rec.handles + 1 } in
+      let more : Rec K V P = record h.rec { handles = h.rec.handles + n } in
       subst (λ (d : Data K V P). Stands m laws good d t) (ap (λ (e : Held K V P). e.kept) (sym h.entry_is)) record {
         id = id;
         rec = more;
@@ -74,13 +80,13 @@ module _ {K V P View C : Type 0} (m : Meaning K P View C) (laws : IsEquivalence 
           let alike : c.0 ≡ r = same_rec c.0 r (sym c.1 ∙ there) in
           sym (κ.respects (key_of r.kept) k same) ∙ ap (λ (x : Rec K V P). s.index (key_of x.kept)) (sym alike) ∙ c.3
 
-  pub piece_stands : {N : Type 0} (weighs : ℕ → Type 0) (hash : ℕ) (piece : Carried K V P) (made : Inserted K V P N) → InsertsPiece m weighs hash piece (Ok made) s t
+  pub piece_stands : {N : Type 0} (weighs : ℕ → Type 0) (hash : ℕ) (piece : Carried K V P) (more : ℕ) (made : Inserted K V P N) → InsertsPiece m weighs hash piece more (Ok made) s t
       → is_phantom_record m made.entry.kept ≡ false → Stands m laws good made.entry.kept t
-  piece_stands {N} weighs hash piece made h plain = go (is_known s hash piece) h where
-    known : (b : Bool) → is_in (s.records piece.id) ≡ b → ReturnsBy m b s piece made.leaves.items made.entry t → Stands m laws good made.entry.kept t
-    known true is h = gains_stand piece.id made.leaves.items made.entry is h
-    known false is h = inserts_stand Memory (returning s piece) made.leaves.items made.entry h plain
+  piece_stands {N} weighs hash piece more made h plain = go (is_known s hash piece) h where
+    known : (b : Bool) → is_in (s.records piece.id) ≡ b → ReturnsBy m b s piece more made.leaves.items made.entry t → Stands m laws good made.entry.kept t
+    known true is h = gains_stand piece.id more made.leaves.items made.entry is h
+    known false is h = inserts_stand Memory (returning s piece more) made.leaves.items made.entry h plain
 
-    go : (b : Bool) → PieceBy m b weighs hash piece (Ok made) s t → Stands m laws good made.entry.kept t
+    go : (b : Bool) → PieceBy m b weighs hash piece more (Ok made) s t → Stands m laws good made.entry.kept t
     go true h = known (is_in (s.records piece.id)) refl h
-    go false h = inserts_stand Memory (newcomer s (record piece.kept { hash = hash; weight = h.0 })) made.leaves.items made.entry h.2 plain
+    go false h = inserts_stand Memory (newcomer s (record piece.kept { hash = hash; weight = h.0 }) more) made.leaves.items made.entry h.2 plain

@@ -22,7 +22,7 @@ use Rattle.foyer_core.specs.Bulk.{EvictsUnpinned, EvictingUnpinned, Clears, Evic
 use Rattle.foyer_core.specs.Indexer.{same_key}
 use Rattle.foyer_core.specs.Observed.{after_leave, after_leaves}
 use Rattle.foyer_core.specs.State.{Meaning, State, IsKept, AllData, key_of, is_phantom_record}
-use Rattle.foyer_core.specs.Steps.{after_out, after_handle, gone_of, ids_of, last_leave, Leave, Evicting, Evicts, GivesWay, Gets, GivesBack, Touches, Removes, ClonesHandle, RefusesHandle}
+use Rattle.foyer_core.specs.Steps.{after_out, after_handle, gone_of, ids_of, last_leave, Leave, Evicting, Evicts, GivesWay, Gets, GivesBack, Touches, Removes, ClonesHandle, RefusesHandle, RefusesHandles}
 use Rattle.foyer_core.specs.Values.{Rec, Gone, Held}
 use Rattle.foyer_core.proofs.Keeps.{counted_there}
 use Rattle.foyer_core.proofs.Observing.{BelongsAt, Knows, Tells, known_key, leave_unknown, leave_told, out_told, stays_told, tells_same, tells_then}
@@ -58,6 +58,11 @@ module _ {K V P View : Type 0} where
   refused_index old id NoMemory new h = same_index old new h.3
   refused_index old id _ new h = absurd h
 
+  pub refused_handles_index : (old : State K V P View) (id more : ℕ) (reason : Reason) (new : State K V P View) → RefusesHandles old id more reason new → SameIndex old new
+  refused_handles_index old id more Handles new h = same_index old new h.3
+  refused_handles_index old id more NoMemory new h = same_index old new h.3
+  refused_handles_index old id more _ new h = absurd h
+
   pub clones_index : (old : State K V P View) (entry : Held K V P) (answer : Result (Held K V P) Reason) (new : State K V P View) → ClonesHandle old entry answer new → SameIndex old new
   clones_index old entry (Ok clone) new h = λ q. ap (λ (s : State K V P View). s.index q) h.4
   clones_index old entry (Err reason) new h = refused_index old entry.id reason new h
@@ -70,7 +75,7 @@ module _ {K V P View C : Type 0} (m : Meaning K P View C) where
   gets_index old k (Err NoMemory) new h = same_index old new h.5
   gets_index old k (Err _) new h = absurd h
 
-  back_index : (old : State K V P View) (id : ℕ) (leave : Option (Event × Gone K V P)) (new : State K V P View) → GivesBack m old id leave new → SameIndex old new
+  pub back_index : (old : State K V P View) (id : ℕ) (leave : Option (Event × Gone K V P)) (new : State K V P View) → GivesBack m old id leave new → SameIndex old new
   back_index old id leave new h q = ap (λ (s : State K V P View). s.index q) h.after ∙ go (h.rec.handles == 1) h.rec.resident where
     go : (b c : Bool) → (cond b
         (cond c

@@ -13,7 +13,7 @@ use Rattle.foyer_policy.specs.declared.error.Reason.TheVariants.{Ids, Handles, W
 use Rattle.foyer_core.specs.declared.record.Data.{Data}
 use Rattle.foyer_core.specs.Values.{Rec, Gone, Held, Incoming}
 use Rattle.foyer_core.specs.State.{Meaning, State, key_of}
-use Rattle.foyer_core.specs.Steps.{outside, newcomer, after_out, after_hold, after_get, after_handle, after_give_back, ids_of, Leave, GivesWay, InsertsPlain, RefusesPlain, Gets, GivesBack, Touches, Removes, ClonesHandle, RefusesHandle}
+use Rattle.foyer_core.specs.Steps.{outside, newcomer, after_out, after_hold, after_get, after_handle, after_handles, after_give_back, ids_of, Leave, GivesWay, InsertsPlain, RefusesPlain, Gets, GivesBack, Touches, Removes, ClonesHandle, RefusesHandle, RefusesHandles}
 
 -- no handle is given back
 abbrev pub nothing : ℕ → ℕ
@@ -54,13 +54,21 @@ module _ {K V P View : Type 0} where
     | inr e ↦ (x, write j ∙ update_apart old.records id (Some q) j e.1 ∙ is, refl, omega arith)
   ]
 
-  pub handle_stays : (old : State K V P View) (id : ℕ) (r : Rec K V P) → old.records id ≡ Some r → RecordsStay nothing old (after_handle old id r)
-  handle_stays old id r there = stay_write nothing old (after_handle old id r) id r (record r { handles = r.handles + 1 }) there (λ j. refl) refl (omega arith)
+  pub handles_stay : (old : State K V P View) (id more : ℕ) (r : Rec K V P) → old.records id ≡ Some r → RecordsStay nothing old (after_handles old id more r)
+  handles_stay old id more r there = stay_write nothing old (after_handles old id more r) id r (record r { handles = r.handles + more }) there (λ j. refl) refl (omega arith)
+
+  handle_stays : (old : State K V P View) (id : ℕ) (r : Rec K V P) → old.records id ≡ Some r → RecordsStay nothing old (after_handle old id r)
+  handle_stays old id r there = handles_stay old id 1 r there
 
   pub refused_stays : (old : State K V P View) (id : ℕ) (reason : Reason) (new : State K V P View) → RefusesHandle old id reason new → RecordsStay nothing old new
   refused_stays old id Handles new h = stay_same old new h.3
   refused_stays old id NoMemory new h = stay_same old new h.3
   refused_stays old id _ new h = absurd h
+
+  pub refused_handles_stay : (old : State K V P View) (id more : ℕ) (reason : Reason) (new : State K V P View) → RefusesHandles old id more reason new → RecordsStay nothing old new
+  refused_handles_stay old id more Handles new h = stay_same old new h.3
+  refused_handles_stay old id more NoMemory new h = stay_same old new h.3
+  refused_handles_stay old id more _ new h = absurd h
 
   pub clones_stay : (old : State K V P View) (entry : Held K V P) (answer : Result (Held K V P) Reason) (new : State K V P View) → ClonesHandle old entry answer new → RecordsStay nothing old new
   clones_stay old entry (Ok clone) new h = subst (RecordsStay nothing old) (sym h.4) (handle_stays old entry.id h.0 h.1)
@@ -71,8 +79,8 @@ module _ {K V P View : Type 0} where
   GoesOnAs s inc = (r : Rec K V P) → s.records inc.id ≡ Some r → (inc.kept ≡ r.kept) × (r.handles ≤ inc.handles)
 
   -- so it is where the id is new
-  pub new_goes_on : (s : State K V P View) (d : Data K V P) → ((id : ℕ) (r : Rec K V P) → s.records id ≡ Some r → id < s.next) → GoesOnAs s (newcomer s d)
-  new_goes_on s d below r there = absurd (let b = below s.next r there in omega arith)
+  pub new_goes_on : (s : State K V P View) (d : Data K V P) (handles : ℕ) → ((id : ℕ) (r : Rec K V P) → s.records id ≡ Some r → id < s.next) → GoesOnAs s (newcomer s d handles)
+  new_goes_on s d handles below r there = absurd (let b = below s.next r there in omega arith)
 
   -- the others stay, and so does it
   pub write_stays : (old last new : State K V P View) (inc : Incoming K V P) (resident : Bool) → RecordsStay nothing old last → GoesOnAs old inc

@@ -1,5 +1,5 @@
 -- Lists of leaves that go on.
-use Rattle.std.proofs.Common.{◌≡◌, List, [], ◌∷◌, ◌++◌, refl, sym, ◌∙◌, ap, subst, append_assoc, append-nil}
+use Rattle.std.proofs.Common.{List, [], ◌∷◌, ◌++◌, sym, ◌∙◌, ap, subst, append_assoc, append-nil}
 use Rattle.foyer_policy.specs.declared.types.Event.{Event}
 use Rattle.foyer_core.specs.Values.{Gone}
 use Rattle.foyer_core.specs.Bulk.{GoesOn}

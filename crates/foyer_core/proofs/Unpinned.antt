@@ -1,6 +1,6 @@
 -- Pops until none, one record at a time.
 use Rattle.std.proofs.Common.{◌≡◌, ℕ, zero, suc, List, [], ◌∷◌, ◌++◌, Option, Some, None, length, refl, sym, ◌∙◌, ap, subst, subst₂, append_assoc, append-nil, length-append, arith}
-use Rattle.foyer_policy.specs.Policy.{Policy, IsPolicy, and_then, victims, pops, view_or, after_pops, after_all_pops}
+use Rattle.foyer_policy.specs.Policy.{Policy, IsPolicy, and_then, victims, pops, view_or, after_pops}
 use Rattle.foyer_policy.specs.declared.types.Item.{Item}
 use Rattle.foyer_policy.specs.declared.types.Event.{Event}
 use Rattle.foyer_policy.specs.declared.types.Event.TheVariants.{Evict}

@@ -1,5 +1,5 @@
 -- A shard whose policy's view changes, and no record leaves.
-use Rattle.std.proofs.Common.{◌≡◌, ℕ, ◌<◌, None, length, refl, sym, ap, ◌∙◌, subst, arith}
+use Rattle.std.proofs.Common.{◌≡◌, ℕ, ◌<◌, None, length, sym, ap, ◌∙◌, subst, arith}
 use Rattle.std.proofs.Math.Logic.{∥∥₁_elim, ∥∥₁_map}
 use Rattle.std.proofs.Props.{props}
 use Rattle.std.specs.Cmp.{IsEquivalence}
@@ -14,7 +14,6 @@ use Rattle.foyer_core.specs.Stored.{state}
 use Rattle.foyer_core.specs.Bulk.{after_capacity}
 use Rattle.foyer_core.proofs.Found.{found-permuted, once-permuted}
 use Rattle.foyer_core.proofs.ShardLemmas.{Holding, now_of}
-use Rattle.foyer_core.proofs.States.{same_state}
 
 -- a view with the same items, in any order, which pins nothing new
 pub rearranged_keeps : {K V P View C : Type 0} (m : Meaning K P View C) (s : State K V P View) → IsKept m s → (capacity : ℕ) (v : View) → IsPermutation (m.policy.order s.view) (m.policy.order v)

@@ -5,10 +5,7 @@ use Rattle.foyer_policy.specs.declared.error.Reason.{Reason}
 use Rattle.foyer_policy.specs.declared.error.Reason.TheVariants.{NoShards}
 use Rattle.foyer_policy.specs.declared.types.Source.{Source}
 use Rattle.foyer_core.specs.declared.config.RawCacheConfig.{RawCacheConfig}
-use Rattle.foyer_core.specs.declared.outcome.Answers.{Answers}
 use Rattle.foyer_core.specs.declared.outcome.Inserted.{Inserted}
-use Rattle.foyer_core.specs.declared.outcome.Outcome.{Outcome}
-use Rattle.foyer_core.specs.declared.outcome.Outcome.TheVariants.{Entries}
 use Rattle.foyer_core.specs.declared.outcome.Refused.{Refused}
 use Rattle.foyer_core.specs.declared.record.Data.{Data}
 use Rattle.foyer_core.specs.declared.record.Limits.{Limits}
@@ -41,6 +38,10 @@ shard_of core hash = hash % length core.shards
 abbrev pub shard_at : {K V P View S W A : Type 0} → Core K V P View S W A → ℕ → Option (State K V P View)
 shard_at core hash = slice_get core.shards (shard_of core hash)
 
+-- the id under a hashed key in the index of its shard
+abbrev pub index_in : {K V P View S W A : Type 0} → Core K V P View S W A → ℕ × K → Option ℕ
+index_in core k = option_and_then (λ s. s.index k) (shard_at core k.0)
+
 -- what a hashed key hits, in its shard
 abbrev pub hit_in : {K V P View S W A : Type 0} → Core K V P View S W A → ℕ × K → Option ℕ
 hit_in core k = option_and_then (λ s. hit s k) (shard_at core k.0)
@@ -72,14 +73,6 @@ pub record AtShard {K V P View S W A : Type 0} (step : State K V P View → Stat
 -- what each of some shards gets of a capacity
 abbrev pub share_of : ℕ → ℕ → ℕ → ℕ
 share_of capacity shards i = capacity / shards + (if nat_lt i (capacity % shards) then 1 else 0)
-
--- nobody waited for an answer
-abbrev pub entries_in : {K V P : Type 0} → Outcome K V P → Option (List (Held K V P))
-entries_in (Entries entries) = Some entries.items
-entries_in _ = None
-
-abbrev pub AnswersNobody : {K V P N : Type 0} → Answers K V P N → Type 0
-AnswersNobody answers = (answers.waiters.items ≡ []) × (entries_in answers.outcome ≡ Some [])
 
 -- why a configuration is not accepted: it has no shards, or else the policy's fault
 abbrev pub core_fault : {View C S W A : Type 0} → Policy View C → RawCacheConfig C S W A → Option Reason
@@ -130,13 +123,14 @@ module _ {K V P View C : Type 0} (m : Meaning K P View C) where
   InsertsAnswering source old i (Err refused) new = RefusesInsert m old i refused.error refused.leaves.items new
 
   -- An insert of a record in the shard of its hash, with a weight that the weighter may give it, and an answer that
-  -- the filter may give: `properties` says what its properties are with that answer. Its entry has this source.
-  pub record InsertsWeighed {S W A N : Type 0} (source : Source) (weighs : ℕ → Type 0) (admits : Bool → Type 0) (hash : ℕ) (key : K) (value : V) (properties : Bool → P)
+  -- the filter may give: `properties` says what its properties are with that answer. It gets so many handles, and its
+  -- entry has this source.
+  pub record InsertsWeighed {S W A N : Type 0} (source : Source) (weighs : ℕ → Type 0) (admits : Bool → Type 0) (hash : ℕ) (key : K) (value : V) (properties : Bool → P) (handles : ℕ)
       (result : Result (Inserted K V P N) (Refused K V P)) (old new : Core K V P View S W A) : Type 0 where
     pub weight : ℕ
     pub weighed : weighs weight
     pub admitted : Bool
     pub answered : admits admitted
     pub inserts : AtShard
-        (λ s t. InsertsAnswering source s (newcomer s record { key = key; value = value; properties = properties admitted; hash = hash; weight = weight }) result t)
+        (λ s t. InsertsAnswering source s (newcomer s record { key = key; value = value; properties = properties admitted; hash = hash; weight = weight } handles) result t)
         hash old new

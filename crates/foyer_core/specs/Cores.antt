@@ -1,5 +1,5 @@
 -- A core's struct as a core.
-use Rattle.std.specs.Prelude.{ℕ, map}
+use Rattle.std.specs.Prelude.{ℕ, List, map}
 use Rattle.std.specs.declared.cmp.PartialEq.{Ghosts as EqGhosts}
 use Rattle.std.specs.declared.hash.Hash.{Ghosts as HashGhosts}
 use Rattle.std.specs.declared.clone.Clone.{Ghosts as CloneGhosts}
@@ -13,7 +13,8 @@ use Rattle.foyer_core.specs.declared.weighter.Weighter.{Ghosts as WeighterGhosts
 use Rattle.foyer_core.specs.declared.filter.Filter.{Ghosts as FilterGhosts}
 use Rattle.foyer_core.specs.declared.cache_core.CacheCore.{CacheCore}
 use Rattle.foyer_core.specs.Core.{Core}
-use Rattle.foyer_core.specs.Shards.{state_of}
+use Rattle.foyer_core.specs.Inflight.{Opens}
+use Rattle.foyer_core.specs.Shards.{state_of, opens_of}
 use Rattle.foyer_core.specs.State.{Meaning}
 use Rattle.foyer_core.specs.Stored.{meaning}
 
@@ -30,3 +31,7 @@ module _ {E K V P S W A N R I C X : Type 0} {e : EvictionGhosts E C X} {e1 : Clo
   -- the hash that each key has in a core
   abbrev pub hashes_of : CacheCore E K V P S W A N R I C X e e1 e2 e3 e4 q h c p d b w f i → K → ℕ
   hashes_of s key = b.hash_of s.hash_builder (h.hash_input key)
+
+  -- the open fetches of each shard
+  abbrev pub fetches_of : CacheCore E K V P S W A N R I C X e e1 e2 e3 e4 q h c p d b w f i → List (Opens K N R)
+  fetches_of s = map opens_of s.shards.items

@@ -117,6 +117,10 @@ module _ {K N R : Type 0} where
   abbrev pub after_nothing : (K → K → Bool) → Opens K N R → ℕ × K → Opens K N R
   after_nothing eq f k = with_place eq f k (option_and_then without_later (f.places k))
 
+  -- a key that is in the index has no place
+  abbrev pub Apart : (ℕ × K → Option ℕ) → Opens K N R → Type 0
+  Apart index f = (q : ℕ × K) (id : ℕ) → index q ≡ Some id → f.places q ≡ None
+
   -- someone waits in each place. No fetch and no token stands twice, and all are below the next ones
   pub record AreOpen (eq : K → K → Bool) (f : Opens K N R) : Type 0 where
     pub waited : (q : ℕ × K) (o : Place N R) → f.places q ≡ Some o → 0 < length o.tokens

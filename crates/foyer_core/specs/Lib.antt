@@ -1,5 +1,7 @@
 pub mod Core
+pub mod CoreFetches
 pub mod Cores
+pub mod Fetching
 pub mod Flags
 pub mod Chains
 pub mod Entries
@@ -7,6 +9,7 @@ pub mod Indexer
 pub mod Inflight
 pub mod Inflights
 pub mod Values
+pub mod Waited
 pub mod Table
 pub mod Near
 pub mod Ids

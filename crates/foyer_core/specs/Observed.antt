@@ -4,7 +4,7 @@ use Rattle.std.specs.Map.{update}
 use Rattle.foyer_policy.specs.Properties.{is_phantom}
 use Rattle.foyer_policy.specs.declared.types.Event.{Event}
 use Rattle.foyer_core.specs.declared.record.Data.{Data}
-use Rattle.foyer_core.specs.Core.{Core, hit_in}
+use Rattle.foyer_core.specs.Core.{Core, index_in}
 use Rattle.foyer_core.specs.Values.{Gone}
 
 -- whether this id is known
@@ -27,9 +27,9 @@ module _ {K V P : Type 0} (same : K → K → Bool) where
   abbrev pub after_entry : (P → Option Bool) → (K → Option ℕ) → ℕ → Data K V P → K → Option ℕ
   after_entry phantom ids id d = if is_phantom (phantom d.properties) then ids else update same ids d.key (Some id)
 
--- what there is to know of a core: what each key hits; `hash` gives each key its hash
+-- what there is to know of a core: the id under each key in the index; `hash` gives each key its hash
 abbrev pub known : {K V P View S W A : Type 0} → (K → ℕ) → Core K V P View S W A → K → Option ℕ
-known hash core k = hit_in core (hash k, k)
+known hash core k = index_in core (hash k, k)
 
 module _ {K V P View S W A : Type 0} (same : K → K → Bool) (hash : K → ℕ) where
   -- the index afterwards is what these leaves tell of the index before

@@ -35,9 +35,9 @@ replaced_leaves (Some g) = (Replace, g) ∷ []
 abbrev pub ids_of : List Item → List ℕ
 ids_of items = map (λ i. i.id) items
 
--- a record of new data: it gets the next id, and one handle
-abbrev pub newcomer : {K V P View : Type 0} → State K V P View → Data K V P → Incoming K V P
-newcomer s d = record { id = s.next; kept = d; handles = 1 }
+-- a record of new data: it gets the next id, and so many handles
+abbrev pub newcomer : {K V P View : Type 0} → State K V P View → Data K V P → ℕ → Incoming K V P
+newcomer s d handles = record { id = s.next; kept = d; handles = handles }
 
 -- an id that was given, or that may be
 abbrev pub HasId : {K V P View : Type 0} → State K V P View → ℕ → Type 0
@@ -47,9 +47,13 @@ HasId s id = id < max s.next s.limits.ids
 abbrev pub LacksId : {K V P View : Type 0} → State K V P View → ℕ → Type 0
 LacksId s id = max s.next s.limits.ids ≤ id
 
+-- so many more handles of a record
+abbrev pub after_handles : {K V P View : Type 0} → State K V P View → ℕ → ℕ → Rec K V P → State K V P View
+after_handles s id more r = record s { records = update nat_eq s.records id (Some (record r { handles = r.handles + more })) }
+
 -- one more handle of a record
 abbrev pub after_handle : {K V P View : Type 0} → State K V P View → ℕ → Rec K V P → State K V P View
-after_handle s id r = record s { records = update nat_eq s.records id (Some (record r { handles = r.handles + 1 })) }
+after_handle s id r = after_handles s id 1 r
 
 -- A handle of a record is refused: F9 at the limit of handles, or F7 where the record could not be shared.
 -- Nothing has changed.
@@ -57,6 +61,12 @@ abbrev pub RefusesHandle : {K V P View : Type 0} → State K V P View → ℕ �
 RefusesHandle {K} {V} {P} old id Handles new = (r : Rec K V P) × (old.records id ≡ Some r) × (old.limits.handles ≤ r.handles) × (new ≡ old)
 RefusesHandle {K} {V} {P} old id NoMemory new = (r : Rec K V P) × (old.records id ≡ Some r) × (r.handles < old.limits.handles) × (new ≡ old)
 RefusesHandle old id _ new = ⊥
+
+-- So many handles of a record are refused together, in the same way.
+abbrev pub RefusesHandles : {K V P View : Type 0} → State K V P View → ℕ → ℕ → Reason → State K V P View → Type 0
+RefusesHandles {K} {V} {P} old id more Handles new = (r : Rec K V P) × (old.records id ≡ Some r) × (old.limits.handles < r.handles + more) × (new ≡ old)
+RefusesHandles {K} {V} {P} old id more NoMemory new = (r : Rec K V P) × (old.records id ≡ Some r) × (r.handles + more ≤ old.limits.handles) × (new ≡ old)
+RefusesHandles old id more _ new = ⊥
 
 -- What a clone of an entry answers: an entry like it, which is one more handle of its record, or a refusal
 -- of the handle. The policy is not told.

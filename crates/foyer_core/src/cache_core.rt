@@ -1,11 +1,13 @@
 //! The sharded core of a cache.
 
-ghost use Rattle.std.specs.Prelude.{◌≡◌, ◌↔◌, ℕ, ◌<◌, true, false, [], Some, None, Ok, Err, IfOk, IfErr, IfSome, OnOk, OnErr, IsOk, IsTrue, MatchResult, is_some, length, map, vec_len};
+ghost use Rattle.std.specs.Prelude.{◌≡◌, ◌↔◌, ℕ, ◌+◌, ◌<◌, true, false, All, [], Some, None, Ok, Err, IfOk, IfErr, IfSome, OnOk, OnErr, IsOk, IsTrue, MatchResult, is_some, length, map, vec_len};
 ghost use Rattle.std.specs.Option.{option_to_list};
 ghost use Rattle.foyer_policy.specs.declared.error.Reason.TheVariants.{NoMemory};
 ghost use Rattle.foyer_policy.specs.declared.types.Source.TheVariants.{Outer};
 ghost use Rattle.foyer_core.specs.Core.{AreHashed, AreSums, Belong};
+ghost use Rattle.foyer_core.specs.Inflight.{closed, no_opens, waiters_of};
 ghost use Rattle.foyer_core.specs.Shards.{state_of};
+ghost use Rattle.foyer_core.specs.Waited.{AnswersEach};
 ghost use Rattle.foyer_core.specs.State.{IsAdmitted, MakesPlain, coming_in};
 ghost use Rattle.foyer_core.specs.Stored.{meaning};
 
@@ -13,7 +15,7 @@ use crate::config::RawCacheConfig;
 use crate::entry::{CoreEntry, Leave};
 use crate::filter::{AdmitAll, Filter};
 use crate::indexer::{HashTableIndexer, Indexer};
-use crate::outcome::{Answers, Inserted, Outcome, Refused};
+use crate::outcome::{Inserted, Refused};
 use crate::properties::CacheProperties;
 use crate::record::Data;
 use crate::shard::Shard;
@@ -26,7 +28,9 @@ use load::Load;
 use std::alloc::Global;
 
 mod bulk;
+mod completion;
 mod entries;
+mod fetches;
 mod in_turn;
 mod load;
 mod pieces;
@@ -74,13 +78,14 @@ impl<
     R: Drop,
 > CacheCore<E, K, V, P, S, W, A, N, R> {
     ghost use Rattle.foyer_core.specs.Core.{IsNewCore, core_fault};
-    ghost use Rattle.foyer_core.specs.Cores.{core_of, meaning_of_core};
+    ghost use Rattle.foyer_core.specs.Cores.{core_of, fetches_of, meaning_of_core};
 
     /// A core that holds nothing, whose shards share the capacity: each of the n shards gets one n-th of it,
     /// rounded down, and the first ones one more, as many as that leaves over. Refused where there is to be no
     /// shard (F1), then with the policy configuration's first fault, and else only for want of memory (F7).
     pub fn new(alloc: Global, config: RawCacheConfig<E::Config, S, W, A>) -> Result<Self>
         ensures made { IfOk result (λ core. IsNewCore (meaning_of_core core) config (core_of core)) }
+        ensures fetches { IfOk result (λ core. All (λ f. f ≡ no_opens) (fetches_of core)) }
         ensures accepted { OnOk result (core_fault E.model config ≡ None) }
         ensures refused { IfSome (core_fault E.model config) (λ reason. result ≡ Err reason) }
         ensures memory { IfErr result (λ e. core_fault E.model config ≡ None → e ≡ NoMemory) }
@@ -114,8 +119,9 @@ impl<
     R: Drop,
     I: Indexer<K>,
 > CacheCore<E, K, V, P, S, W, A, N, R, I> {
-    ghost use Rattle.foyer_core.specs.Core.{AnswersNobody, AtShard, InsertsWeighed, Owns, entries_of_core, hit_in, usage_of_core};
-    ghost use Rattle.foyer_core.specs.Cores.{core_of, hashes_of, meaning_of_core};
+    ghost use Rattle.foyer_core.specs.CoreFetches.{at_hash, place_in};
+    ghost use Rattle.foyer_core.specs.Core.{AtShard, InsertsWeighed, Owns, entries_of_core, hit_in, usage_of_core};
+    ghost use Rattle.foyer_core.specs.Cores.{core_of, fetches_of, hashes_of, meaning_of_core};
     ghost use Rattle.foyer_core.specs.Laws.{Finds, HandlesStay, IsBoundedAt, one_of};
     ghost use Rattle.foyer_core.specs.Observed.{IsTold, IsToldWith};
     ghost use Rattle.foyer_core.specs.Steps.{Gets, GivesBack};
@@ -182,6 +188,7 @@ impl<
         ensures gets { let hash = S.hash_of (core_of self.old).hash_builder (K.hash_input key.now) in
             AtShard (λ s t. Gets (meaning_of_core self.old) s (hash, key.now) result t)
             hash (core_of self.old) (core_of self.new) }
+        ensures fetches { fetches_of self.new ≡ fetches_of self.old }
         ensures stay { HandlesStay (λ _. 0) (core_of self.old) (core_of self.new) }
         ensures told { IsTold K.eq (hashes_of self.old) (core_of self.old) [] (core_of self.new) }
     {
@@ -200,8 +207,13 @@ impl<
         ensures inserted { let hash = S.hash_of (core_of self.old).hash_builder (K.hash_input key) in
             (p : P) × P.is_default p
             × InsertsWeighed (meaning_of_core self.old) Outer (W.weighs (core_of self.old).weighter key value) (A.admits (core_of self.old).filter key value)
-            hash key value (λ admitted. coming_in P.location_of P.with_phantom_of admitted p) result (core_of self.old) (core_of self.new) }
-        ensures answers { IfOk result (λ made. AnswersNobody made.answers) }
+            hash key value (λ admitted. coming_in P.location_of P.with_phantom_of admitted p)
+            (1 + length (waiters_of (place_in (fetches_of self.old) (hash, key)))) result (core_of self.old) (core_of self.new) }
+        ensures answers { let hash = S.hash_of (core_of self.old).hash_builder (K.hash_input key) in
+            IfOk result (λ made. AnswersEach (waiters_of (place_in (fetches_of self.old) (hash, key))) made.entry made.answers) }
+        ensures closed { let hash = S.hash_of (core_of self.old).hash_builder (K.hash_input key) in
+            OnOk result (fetches_of self.new ≡ at_hash (λ f. closed K.eq f (hash, key)) (fetches_of self.old) hash) }
+        ensures fetches { OnErr result (fetches_of self.new ≡ fetches_of self.old) }
         ensures found { ((p : P) → P.is_default p → MakesPlain P.phantom_of P.location_of p) → IsAdmitted (A.admits (core_of self.old).filter key value)
             → IfOk result (λ _. Finds (meaning_of_core self.new) (λ k. S.hash_of (core_of self.new).hash_builder (K.hash_input k))
             (core_of self.new) key value) }
@@ -216,8 +228,8 @@ impl<
         self.insert_with_properties(key, value, P::default())
     }
 
-    /// Puts a record in, of the weight that the weighter gives it, and answers an entry of it and what left. A
-    /// clone of the key must equal it. Where the filter, which is asked after the weighter, does not admit the
+    /// Puts a record in, of the weight that the weighter gives it, and answers an entry of it, one more for each who
+    /// waits for the key, whose place is closed, and what left. A clone of the key must equal it. Where the filter, which is asked after the weighter, does not admit the
     /// record, or it is to be on disk alone, its properties are made to say that it is phantom.
     ///
     /// For a plain record others are evicted until its shard's capacity has room for it, or nothing more leaves,
@@ -228,7 +240,8 @@ impl<
     ///
     /// Refused, in this order, where no id is left (F10), the handle would pass the limit (F9), the weight of a
     /// plain record and the pinned weight of other keys pass a `usize` (F8), and then nothing has changed; or
-    /// for want of memory (F7): then some beginning of the evictions has left, which the refusal hands out.
+    /// for want of memory (F7): then some beginning of the evictions has left, which the refusal hands out. Who
+    /// waits for the key still waits.
     pub fn insert_with_properties(
         &mut self,
         key: K,
@@ -238,8 +251,13 @@ impl<
         requires clones { (k c : K) → K.is_clone k c → K.eq c k ≡ true }
         ensures inserted { let hash = S.hash_of (core_of self.old).hash_builder (K.hash_input key) in
             InsertsWeighed (meaning_of_core self.old) Outer (W.weighs (core_of self.old).weighter key value) (A.admits (core_of self.old).filter key value)
-            hash key value (λ admitted. coming_in P.location_of P.with_phantom_of admitted properties) result (core_of self.old) (core_of self.new) }
-        ensures answers { IfOk result (λ made. AnswersNobody made.answers) }
+            hash key value (λ admitted. coming_in P.location_of P.with_phantom_of admitted properties)
+            (1 + length (waiters_of (place_in (fetches_of self.old) (hash, key)))) result (core_of self.old) (core_of self.new) }
+        ensures answers { let hash = S.hash_of (core_of self.old).hash_builder (K.hash_input key) in
+            IfOk result (λ made. AnswersEach (waiters_of (place_in (fetches_of self.old) (hash, key))) made.entry made.answers) }
+        ensures closed { let hash = S.hash_of (core_of self.old).hash_builder (K.hash_input key) in
+            OnOk result (fetches_of self.new ≡ at_hash (λ f. closed K.eq f (hash, key)) (fetches_of self.old) hash) }
+        ensures fetches { OnErr result (fetches_of self.new ≡ fetches_of self.old) }
         ensures found { MakesPlain P.phantom_of P.location_of properties → IsAdmitted (A.admits (core_of self.old).filter key value)
             → IfOk result (λ _. Finds (meaning_of_core self.new) (λ k. S.hash_of (core_of self.new).hash_builder (K.hash_input k))
             (core_of self.new) key value) }
@@ -267,28 +285,7 @@ impl<
         let emplaced = self.shards[place].emplace(self.alloc, kept, Source::Outer);
         let after = Load::of(&self.shards[place]);
         self.load.replace(before, after);
-        let (entry, leaves) = emplaced?;
-        Ok(self.told_to_nobody(entry, leaves))
-    }
-
-    // What an insert answers for whose key nobody waited.
-    fn told_to_nobody(
-        &self,
-        entry: CoreEntry<K, V, P>,
-        leaves: Vec<Leave<K, V, P>>,
-    ) -> Inserted<K, V, P, N>
-        ensures entry { result.entry ≡ entry }
-        ensures leaves { result.leaves ≡ leaves }
-        ensures answers { AnswersNobody result.answers }
-    {
-        Inserted {
-            entry,
-            answers: Answers {
-                waiters: Vec::new(self.alloc),
-                outcome: Outcome::Entries(Vec::new(self.alloc)),
-            },
-            leaves,
-        }
+        emplaced
     }
 
     /// Whether the entry has the core's number and its record has a handle, as each entry has that the core
@@ -313,6 +310,7 @@ impl<
             entry.kept.hash (core_of self.old) (core_of self.new)) }
         ensures returned { IfErr result (λ e. e ≡ entry) }
         ensures err { OnErr result (core_of self.new ≡ core_of self.old) }
+        ensures fetches { fetches_of self.new ≡ fetches_of self.old }
         ensures stay { HandlesStay (one_of (core_of self.old) entry) (core_of self.old) (core_of self.new) }
         ensures told { MatchResult result
             (λ leave. IsTold K.eq (hashes_of self.old) (core_of self.old) (option_to_list leave) (core_of self.new))

@@ -253,3 +253,11 @@ impl<K: Drop, V: Drop, P: Drop> CoreEntry<K, V, P> {
         } = self;
     }
 }
+
+// Ends entries that were not counted, or whose core is gone.
+pub(crate) fn discard_all<K: Drop, V: Drop, P: Drop>(mut entries: Vec<CoreEntry<K, V, P>>) {
+    while let Some(entry) = entries.pop() {
+        entry.discard();
+    }
+    entries.destroy_empty();
+}

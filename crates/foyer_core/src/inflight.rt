@@ -1,6 +1,6 @@
 //! The open fetches of a shard: who leads the fetch of a key, and who waits for it.
 
-ghost use Rattle.std.specs.Prelude.{◌≡◌, ◌↔◌, ℕ, ◌+◌, [], ◌∷◌, Some, None, IsSomeAnd, IfSome, IfNone, OnSome, IfOk, IfErr, OnOk, OnErr, IsTrue, length, true, false, is_some, option_copied};
+ghost use Rattle.std.specs.Prelude.{◌≡◌, ◌↔◌, ℕ, ◌+◌, ◌<◌, [], ◌∷◌, Some, None, IsSomeAnd, IfSome, IfNone, OnSome, IfOk, IfErr, OnOk, OnErr, IsTrue, length, true, false, is_some, option_copied};
 ghost use Rattle.slab.specs.Slab.{get};
 ghost use Rattle.foyer_policy.specs.declared.error.Reason.TheVariants.{NoMemory};
 ghost use Rattle.foyer_core.specs.Indexer.{same_key};
@@ -211,9 +211,10 @@ impl<K: Key, N: Drop, R: Drop> InflightManager<K, N, R> {
         })
     }
 
-    /// Who waits for a key's fetch, which is not open any more. None where no fetch of the key is open, or another
-    /// one than was asked for. It takes no memory.
+    /// Who waits for a key's fetch, one or more, which is not open any more. None where no fetch of the key is open,
+    /// or another one than was asked for. It takes no memory.
     pub fn take(&mut self, hash: u64, key: &K, id: Option<u64>) -> Option<Vec<Waiting<N>>>
+        ensures waited { IfSome result (λ waiters. 0 < length waiters.items) }
         ensures taken { IfSome result (λ waiters. IsSomeAnd (asked id ((opens_of self.old).places (hash, key.now))) (λ o. waiters.items ≡ o.tokens)) }
         ensures none { IfNone result (asked id ((opens_of self.old).places (hash, key.now)) ≡ None) }
         ensures opens { OnSome result (opens_of self.new ≡ closed K.eq (opens_of self.old) (hash, key.now)) }
@@ -229,6 +230,20 @@ impl<K: Key, N: Drop, R: Drop> InflightManager<K, N, R> {
         let _ = self.index.remove(hash, key);
         let Inflight { waiters, .. } = self.inflights.remove(number);
         Some(waiters)
+    }
+
+    // Who waits for a key's fetch, if one is open, whose place is closed. It takes no memory.
+    pub(crate) fn close(&mut self, hash: u64, key: &K) -> Vec<Waiting<N>>
+        ensures waiters { result.items ≡ waiters_of ((opens_of self.old).places (hash, key.now)) }
+        ensures closed { opens_of self.new ≡ closed K.eq (opens_of self.old) (hash, key.now) }
+    {
+        if self.is_empty() {
+            return Vec::new(self.alloc);
+        }
+        match self.take(hash, key, None) {
+            Some(waiters) => waiters,
+            None => Vec::new(self.alloc),
+        }
     }
 
     /// A fetch of a key found nothing: the builder that is kept, to fetch with. Without one it is not open any more,

@@ -1,10 +1,12 @@
 //! What inserts answer.
 
-ghost use Rattle.std.specs.Prelude.{◌≡◌};
-ghost use Rattle.foyer_core.specs.Core.{AnswersNobody};
+ghost use Rattle.std.specs.Prelude.{◌≡◌, ◌+◌, ◌++◌, ◌≤◌, [], ◌∷◌, Err, Ok, Some, true, vec_len, vec_capacity};
+ghost use Rattle.foyer_core.specs.Waited.{AnswersNobody, ending_of, entries_in, lost};
 
 use crate::entry::{CoreEntry, Leave};
+use crate::piece::Piece;
 use foyer_policy::{Error, Reason};
+use std::alloc::Global;
 use std::fmt::{self, Debug, Display};
 
 /// Why an insert, a resize or an eviction of all was refused, and what had left by then.
@@ -37,6 +39,25 @@ pub struct Waiting<N> {
     pub waiter: N,
 }
 
+/// How many entries an insert makes beside the first, and for how many more their list has room.
+#[derive(Clone, Copy)]
+pub(crate) struct Further {
+    /// The entries.
+    pub(crate) count: usize,
+    /// The room beside them.
+    pub(crate) room: usize,
+}
+
+/// A record that came in.
+pub(crate) struct Arrival<K: Drop, V: Drop, P: Drop> {
+    /// A handle of the record.
+    pub(crate) entry: CoreEntry<K, V, P>,
+    /// The further handles that were asked for.
+    pub(crate) others: Vec<CoreEntry<K, V, P>>,
+    /// What left, in order.
+    pub(crate) leaves: Vec<Leave<K, V, P>>,
+}
+
 /// What the waiters of a key get.
 pub enum Outcome<K, V, P> {
     /// An entry each, in the order of the waiters.
@@ -53,6 +74,53 @@ pub struct Answers<K, V, P, N> {
     pub waiters: Vec<Waiting<N>>,
     /// What they get.
     pub outcome: Outcome<K, V, P>,
+}
+
+impl<K: Drop, V: Drop, P: Drop> Arrival<K, V, P> {
+    // What an insert answers, where these waited for the record's key.
+    pub(crate) fn answering<N>(self, waiters: Vec<Waiting<N>>) -> Inserted<K, V, P, N>
+        ensures entry { result.entry ≡ self.entry }
+        ensures leaves { result.leaves ≡ self.leaves }
+        ensures waiters { result.answers.waiters ≡ waiters }
+        ensures entries { entries_in result.answers.outcome ≡ Some self.others.items }
+    {
+        let Arrival {
+            entry,
+            others,
+            leaves,
+        } = self;
+        Inserted {
+            entry,
+            answers: Answers {
+                waiters,
+                outcome: Outcome::Entries(others),
+            },
+            leaves,
+        }
+    }
+}
+
+impl<K: Drop, V: Drop, P: Drop> Arrival<K, V, P> {
+    // What a fetch's end answers, where these waited, of whom each gets one of the handles.
+    pub(crate) fn ending<N>(self, waiters: Vec<Waiting<N>>) -> Ended<K, V, P, N>
+        requires room { vec_len self.others + 1 ≤ vec_capacity self.others }
+        ensures { ending_of result ≡ record { found = true; waiters = waiters.items; outcome = Ok (Some (self.others.items ++ self.entry ∷ [])); leaves = self.leaves.items } }
+    {
+        let Arrival {
+            entry,
+            mut others,
+            leaves,
+        } = self;
+        others.push_reserved(entry);
+        Ended {
+            found: true,
+            answers: Answers {
+                waiters,
+                outcome: Outcome::Entries(others),
+            },
+            leaves,
+        }
+    }
 }
 
 /// What an insert answers that is not refused.
@@ -107,6 +175,70 @@ impl<K, V, P, N: Drop> Answers<K, V, P, N> {
     }
 }
 
+/// What a look-up answers that leads to a fetch where the key is missing.
+pub enum Lookup<K, V, P, R> {
+    /// An entry of the key's record.
+    Hit(CoreEntry<K, V, P>),
+    /// Nobody fetches the key: who asks is to do it.
+    Lead {
+        /// The fetch.
+        fetch: u64,
+        /// With what the one who leads waits.
+        token: u64,
+        /// The builder that was brought.
+        required: Option<R>,
+    },
+    /// The key is fetched already.
+    Wait {
+        /// With what to wait.
+        token: u64,
+    },
+}
+
+/// What the end of a fetch answers.
+pub struct Ended<K: Drop, V: Drop, P: Drop, N> {
+    /// Whether the fetch was open. Where it was not, nothing has changed.
+    pub found: bool,
+    /// What those get who waited.
+    pub answers: Answers<K, V, P, N>,
+    /// What left, in order.
+    pub leaves: Vec<Leave<K, V, P>>,
+}
+
+impl<K: Drop, V: Drop, P: Drop, N> Ended<K, V, P, N> {
+    // The end of a fetch that is not open.
+    pub(crate) fn lost(alloc: Global) -> Self
+        ensures { ending_of result ≡ lost }
+    {
+        Ended {
+            found: false,
+            answers: Answers {
+                waiters: Vec::new(alloc),
+                outcome: Outcome::None,
+            },
+            leaves: Vec::new(alloc),
+        }
+    }
+
+    // The end of a fetch for which these wait, with a refusal.
+    pub(crate) fn refused(
+        waiters: Vec<Waiting<N>>,
+        error: Error,
+        leaves: Vec<Leave<K, V, P>>,
+    ) -> Self
+        ensures { ending_of result ≡ record { found = true; waiters = waiters.items; outcome = Err error; leaves = leaves.items } }
+    {
+        Ended {
+            found: true,
+            answers: Answers {
+                waiters,
+                outcome: Outcome::Fault(error),
+            },
+            leaves,
+        }
+    }
+}
+
 impl<K: Drop, V: Drop, P: Drop> From<Refused<K, V, P>> for Error {
     ghost use Rattle.std.specs.Prelude.{◌≡◌};
 
@@ -133,3 +265,48 @@ impl<K: Drop, V: Drop, P: Drop> Debug for Refused<K, V, P> {
 }
 
 impl<K: Drop, V: Drop, P: Drop> std::error::Error for Refused<K, V, P> {}
+
+/// With what a fetch completes.
+#[derive(Drop)]
+pub enum FetchTarget<K, V, P> {
+    /// A value of the key, with its properties.
+    Entry {
+        /// The value.
+        value: V,
+        /// What comes with it.
+        properties: P,
+    },
+    /// What is kept of a record of the key.
+    Piece(Piece<K, V, P>),
+}
+
+impl<K, V, P: Default> From<V> for FetchTarget<K, V, P> {
+    /// A value with default properties.
+    fn from(value: V) -> Self {
+        FetchTarget::Entry {
+            value,
+            properties: P::default(),
+        }
+    }
+}
+
+impl<K, V, P> From<(V, P)> for FetchTarget<K, V, P> {
+    /// A value with these properties.
+    fn from(made: (V, P)) -> Self {
+        let (value, properties) = made;
+        FetchTarget::Entry { value, properties }
+    }
+}
+
+impl<K, V, P> From<Piece<K, V, P>> for FetchTarget<K, V, P> {
+    /// A piece.
+    fn from(piece: Piece<K, V, P>) -> Self {
+        FetchTarget::Piece(piece)
+    }
+}
+
+impl<K, V, P> Debug for FetchTarget<K, V, P> {
+    fn fmt<W: fmt::Write>(&self, f: &mut fmt::Formatter<W>) -> fmt::Result {
+        f.debug_struct("FetchTarget").finish()
+    }
+}

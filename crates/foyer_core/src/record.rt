@@ -9,6 +9,7 @@ ghost use Rattle.foyer_core.specs.Values.{body_of};
 use crate::share::{Body, Share};
 use foyer_policy::{Error, Place, Reason, Result};
 use std::alloc::Global;
+use std::fmt::{self, Debug};
 use std::marker::Model;
 use std::sync::Arc;
 
@@ -257,6 +258,14 @@ impl<K: Drop, V: Drop, P: Drop> Record<K, V, P> {
     {
         let Record { kept, .. } = self;
         kept
+    }
+}
+
+impl<K, V, P> Debug for Record<K, V, P> {
+    fn fmt<W: fmt::Write>(&self, f: &mut fmt::Formatter<W>) -> fmt::Result {
+        f.debug_struct("Record")
+            .field("hash", &self.kept.hash())
+            .finish()
     }
 }
 

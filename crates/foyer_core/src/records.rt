@@ -146,6 +146,20 @@ impl<K: Drop, V: Drop, P: Drop> Records<K, V, P> {
         }
     }
 
+    /// Counts so many handles more.
+    pub fn add_handles(&mut self, slot: usize, more: usize)
+        requires { IsSomeAnd (slot_in self.old slot) (λ s. s.handles + more < 2 ^ 64) }
+        ensures slots { (s : Kept K V P) → slot_in self.old slot ≡ Some s → (n : ℕ) → slot_in self.new n ≡ update nat_eq (slot_in self.old) slot (Some (record s { handles = s.handles + more })) n }
+        ensures records { (s : Kept K V P) → slot_in self.old slot ≡ Some s → (id : ℕ) → record_in self.new id ≡ update nat_eq (record_in self.old) s.id (Some (rec_of (record s { handles = s.handles + more }))) id }
+        ensures ids { (id : ℕ) → number_of self.new id ≡ number_of self.old id }
+        ensures room { HasRoom self.old → HasRoom self.new }
+    {
+        let Some(found) = self.slots.get_mut(slot) else {
+            unreachable!();
+        };
+        found.add_handles(more);
+    }
+
     /// Counts one handle more.
     pub fn add_handle(&mut self, slot: usize)
         requires { IsSomeAnd (slot_in self.old slot) (λ s. s.handles + 1 < 2 ^ 64) }
@@ -154,10 +168,7 @@ impl<K: Drop, V: Drop, P: Drop> Records<K, V, P> {
         ensures ids { (id : ℕ) → number_of self.new id ≡ number_of self.old id }
         ensures room { HasRoom self.old → HasRoom self.new }
     {
-        let Some(found) = self.slots.get_mut(slot) else {
-            unreachable!();
-        };
-        found.add_handle();
+        self.add_handles(slot, 1);
     }
 
     /// Counts one handle less.

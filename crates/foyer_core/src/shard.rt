@@ -2,7 +2,9 @@
 
 ghost use Rattle.std.specs.Prelude.{◌≡◌, ◌↔◌, ℕ, ◌<◌, None, OnOk, IfOk, IfErr, IfSome, IsTrue, is_some, length, Err};
 ghost use Rattle.foyer_policy.specs.declared.error.Reason.TheVariants.{NoMemory};
-ghost use Rattle.foyer_core.specs.Inflight.{no_opens};
+ghost use Rattle.foyer_core.specs.Inflight.{Apart, no_opens};
+ghost use Rattle.foyer_core.specs.Inflights.{opens_of as manager_opens};
+ghost use Rattle.foyer_core.specs.Stores.{state_of as store_state};
 
 use crate::entry::CoreEntry;
 use crate::indexer::Indexer;
@@ -15,6 +17,7 @@ use std::alloc::Global;
 mod bulk;
 mod clearing;
 mod entries;
+mod fetches;
 mod insertion;
 mod keys;
 
@@ -24,6 +27,8 @@ mod keys;
 pub struct Shard<E: Eviction, K: Key, V: Value, P: Properties, N: Drop, R: Drop, I: Indexer<K>> {
     store: Store<E, K, V, P, I>,
     inflights: InflightManager<K, N, R>,
+    // a key that is in the index has no place
+    ghost apart: { Apart (store_state store).index (manager_opens inflights) },
 }
 
 impl<E: Eviction, K: Key, V: Value, P: Properties, N: Drop, R: Drop, I: Indexer<K>> Shard<

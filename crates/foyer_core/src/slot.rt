@@ -1,12 +1,13 @@
 //! Slots: where a shard keeps its records.
 
-ghost use Rattle.std.specs.Prelude.{◌≡◌, ◌+◌, ◌-◌, ◌<◌, ◌^◌, IfOk, IfErr, OnErr, true, false, IsTrue, Some, None};
+ghost use Rattle.std.specs.Prelude.{◌≡◌, ◌+◌, ◌-◌, ◌<◌, ◌≤◌, ◌^◌, IfOk, IfErr, OnErr, true, false, IsTrue, Some, None, replicate, vec_len, vec_capacity};
 ghost use Rattle.foyer_policy.specs.declared.error.Reason.TheVariants.{NoMemory};
 
-use crate::entry::{CoreEntry, Left};
+use crate::entry::{CoreEntry, Left, discard_all};
+use crate::outcome::Further;
 use crate::record::Record;
 use crate::share::{Body, Share};
-use foyer_policy::{Place, Result, Source};
+use foyer_policy::{Error, Place, Reason, Result, Source};
 use std::alloc::Global;
 use std::marker::Model;
 use std::sync::Arc;
@@ -145,13 +146,42 @@ impl<K: Drop, V: Drop, P: Drop> Slot<K, V, P> {
         Ok(CoreEntry::new(number, self.id, slot, share, left, source))
     }
 
-    /// Counts one handle more.
-    pub fn add_handle(&mut self)
-        requires { self.old.handles + 1 < 2 ^ 64 }
-        ensures { self.new ≡ record self.old { handles = self.old.handles + 1 } }
+    /// Entries of the record, not yet counted, as many as are said, in a list with the room that is said. Only
+    /// memory can be missing.
+    pub fn entries(
+        &self,
+        alloc: Global,
+        number: u64,
+        source: Source,
+        further: Further,
+    ) -> Result<Vec<CoreEntry<K, V, P>>>
+        requires { further.count + further.room < 2 ^ 64 }
+        ensures entries { IfOk result (λ es. es.items ≡ replicate further.count (record { number = number; id = self.now.id; kept = self.now.kept; source = source; left = true })) }
+        ensures refused { IfErr result (λ e. e ≡ NoMemory) }
+        ensures room { IfOk result (λ es. vec_len es + further.room ≤ vec_capacity es) }
+    {
+        let Ok(mut entries) = Vec::with_capacity(alloc, further.count + further.room) else {
+            return Err(Error::new(Reason::NoMemory));
+        };
+        for _made in 0..further.count {
+            match self.entry(number, 0, source) {
+                Ok(entry) => entries.push_reserved(entry),
+                Err(error) => {
+                    discard_all(entries);
+                    return Err(error);
+                }
+            }
+        }
+        Ok(entries)
+    }
+
+    /// Counts so many handles more.
+    pub fn add_handles(&mut self, more: usize)
+        requires { self.old.handles + more < 2 ^ 64 }
+        ensures { self.new ≡ record self.old { handles = self.old.handles + more } }
     {
         let limit = usize::MAX;
-        let _ = self.record.inc_refs(1, limit);
+        let _ = self.record.inc_refs(more, limit);
     }
 
     /// Counts one handle less, and answers how many are left.

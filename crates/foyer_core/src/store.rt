@@ -103,4 +103,11 @@ impl<E: Eviction, K: Key, V: Value, P: Properties, I: Indexer<K>> Store<E, K, V,
     {
         self.index.get(hash, key).is_some()
     }
+
+    // What the shard's numbers are below.
+    pub(crate) fn ids(&self) -> u64
+        ensures { result ≡ (state_of self.now).limits.ids }
+    {
+        self.limits.ids
+    }
 }

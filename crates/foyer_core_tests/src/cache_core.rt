@@ -1,5 +1,5 @@
 ghost use Rattle.std.specs.Prelude.{◌≡◌};
-ghost use Rattle.foyer_core.specs.Core.{AnswersNobody};
+ghost use Rattle.foyer_core.specs.Waited.{AnswersNobody};
 
 use foyer_core::{
     AdmitAll, Answers, CacheCore, CacheProperties, CoreEntry, Inserted, Left, Limits, Outcome,

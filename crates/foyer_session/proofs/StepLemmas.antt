@@ -13,7 +13,7 @@ use Rattle.foyer_core.specs.Pieces.{InsertsPiece}
 use Rattle.foyer_core.specs.Values.{Carried, Gone, Held}
 use Rattle.foyer_core.specs.State.{Meaning, State, hit, handles_in, is_phantom_record}
 use Rattle.foyer_core.specs.Steps.{Inserts, RefusesInsert, Gets, GivesBack, Touches, Removes, ClonesHandle, newcomer}
-use Rattle.foyer_core.specs.Core.{Core, AtShard, Owns, hit_in, shard_at, shard_of}
+use Rattle.foyer_core.specs.Core.{Core, AtShard, Owns, hit_in, index_in, shard_at, shard_of}
 use Rattle.foyer_session.specs.Step.{SessionState, held_at}
 use Rattle.foyer_session.specs.Owns.{OwnsHandles}
 use Rattle.foyer_session.proofs.CountLemmas.{Alike, alike_counts, inserts_counts, inserts_number, inserts_entry, refused_by_alike, gets_counts, gives_back_counts, gives_back_number}
@@ -132,7 +132,7 @@ module _ {K V P View C S W A : Type 0} (m : Meaning K P View C) (core new : Core
   touch_refused reason at = shard_same core new (λ s t. Touches m s k (Err reason) t) k.0 at (touches_refused at.before at.after reason at.stepped)
 
   -- and of a remove
-  pub remove_missing : AtShard (λ s t. Removes m s k (Ok None) t) k.0 core new → (hit_in core k ≡ None) × (new ≡ core)
+  pub remove_missing : AtShard (λ s t. Removes m s k (Ok None) t) k.0 core new → (index_in core k ≡ None) × (new ≡ core)
   remove_missing at = (hit_there at.before at.there at.stepped.0, shard_same core new (λ s t. Removes m s k (Ok None) t) k.0 at at.stepped.1)
 
   pub remove_refused : (reason : Reason) → AtShard (λ s t. Removes m s k (Err reason) t) k.0 core new → new ≡ core

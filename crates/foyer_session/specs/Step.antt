@@ -13,7 +13,7 @@ use Rattle.foyer_core.specs.Bulk.{Clears, EvictsIf, EvictsUnpinned, EvictingUnpi
 use Rattle.foyer_core.specs.CoreBulk.{InTurn, InTurnUntil, OfShards, EvictsToCapacity, EvictingToCapacity, Resizes}
 use Rattle.foyer_core.specs.Pieces.{InsertsPiece}
 use Rattle.foyer_core.specs.Steps.{Inserts, RefusesInsert, Gets, GivesBack, Touches, Removes, ClonesHandle, newcomer}
-use Rattle.foyer_core.specs.Core.{Core, AtShard, IsOutdatedIn, hit_in, refs_in, usage_of_core, entries_of_core}
+use Rattle.foyer_core.specs.Core.{Core, AtShard, IsOutdatedIn, hit_in, index_in, refs_in, usage_of_core, entries_of_core}
 use Rattle.foyer_session.specs.declared.command.Answer.{Answer}
 use Rattle.foyer_session.specs.declared.command.Answer.TheVariants.{Entry, Found, Missing, Yes, No, Done, Number, PieceNo, NotHeld, Refused}
 use Rattle.foyer_session.specs.declared.command.Command.{Command}
@@ -108,7 +108,7 @@ module _ {K V P View C S W A : Type 0} (t : Terms K V P View C S W A) where
       (entry : Held K V P) × (gone : Gone K V P)
       × AtShard (λ s u. Removes t.meaning s (hash_in old k, k) (Ok (Some (entry, gone))) u) (hash_in old k) old.core new.core
       × HandsOut old number told entry new × (leaves ≡ (RemoveEvent, gone) ∷ [])
-  RemoveStep old k Missing leaves new = (hit_in old.core (hash_in old k, k) ≡ None) × (leaves ≡ []) × (new ≡ old)
+  RemoveStep old k Missing leaves new = (index_in old.core (hash_in old k, k) ≡ None) × (leaves ≡ []) × (new ≡ old)
   RemoveStep old k (Refused reason) leaves new =
       AtShard (λ s u. Removes t.meaning s (hash_in old k, k) (Err reason) u) (hash_in old k) old.core new.core × (leaves ≡ []) × (new ≡ old)
   RemoveStep old k _ leaves new = ⊥

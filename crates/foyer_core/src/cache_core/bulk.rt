@@ -27,7 +27,7 @@ impl<
 > CacheCore<E, K, V, P, S, W, A, N, R, I> {
     ghost use Rattle.foyer_core.specs.Bulk.{Clears, EvictsIf, EvictsUnpinned, EvictingUnpinned, Says};
     ghost use Rattle.foyer_core.specs.CoreBulk.{InTurn, InTurnUntil, OfShards, EvictsToCapacity, EvictingToCapacity, Resizes, NothingPinned, IsEmptied, FitsOrPinned};
-    ghost use Rattle.foyer_core.specs.Cores.{core_of, hashes_of, meaning_of_core};
+    ghost use Rattle.foyer_core.specs.Cores.{core_of, fetches_of, hashes_of, meaning_of_core};
     ghost use Rattle.foyer_core.specs.Laws.{HandlesStay};
     ghost use Rattle.foyer_core.specs.Observed.{IsTold};
 
@@ -42,6 +42,7 @@ impl<
             (core_of self.old) refused.leaves.items (core_of self.new)) }
         ensures reason { IfErr result (λ refused. refused.error ≡ NoMemory) }
         ensures emptied { OnOk result (NothingPinned (meaning_of_core self.old) (core_of self.old) → IsEmptied (meaning_of_core self.new) (core_of self.new)) }
+        ensures fetches { fetches_of self.new ≡ fetches_of self.old }
         ensures stay { HandlesStay (λ _. 0) (core_of self.old) (core_of self.new) }
         ensures told { MatchResult result
             (λ leaves. IsTold K.eq (hashes_of self.old) (core_of self.old) leaves.items (core_of self.new))
@@ -71,6 +72,7 @@ impl<
             capacity (core_of self.old) refused.leaves.items (core_of self.new)) }
         ensures reason { IfErr result (λ refused. refused.error ≡ NoMemory) }
         ensures fits { OnOk result (FitsOrPinned (meaning_of_core self.new) (core_of self.new)) }
+        ensures fetches { fetches_of self.new ≡ fetches_of self.old }
         ensures stay { HandlesStay (λ _. 0) (core_of self.old) (core_of self.new) }
         ensures told { MatchResult result
             (λ leaves. IsTold K.eq (hashes_of self.old) (core_of self.old) leaves.items (core_of self.new))
@@ -99,6 +101,7 @@ impl<
         ensures err { OnErr result (core_of self.new ≡ core_of self.old) }
         ensures refused { IfErr result (λ e. e ≡ NoMemory) }
         ensures emptied { OnOk result (IsEmptied (meaning_of_core self.new) (core_of self.new)) }
+        ensures fetches { fetches_of self.new ≡ fetches_of self.old }
         ensures stay { HandlesStay (λ _. 0) (core_of self.old) (core_of self.new) }
         ensures told { MatchResult result
             (λ leaves. IsTold K.eq (hashes_of self.old) (core_of self.old) leaves.items (core_of self.new))
@@ -118,6 +121,7 @@ impl<
             (core_of self.old) leaves.items (core_of self.new)) }
         ensures err { OnErr result (core_of self.new ≡ core_of self.old) }
         ensures refused { IfErr result (λ e. e ≡ NoMemory) }
+        ensures fetches { fetches_of self.new ≡ fetches_of self.old }
         ensures stay { HandlesStay (λ _. 0) (core_of self.old) (core_of self.new) }
         ensures told { MatchResult result
             (λ leaves. IsTold K.eq (hashes_of self.old) (core_of self.old) leaves.items (core_of self.new))

@@ -25,7 +25,7 @@ impl<
     I: Indexer<K>,
 > CacheCore<E, K, V, P, S, W, A, N, R, I> {
     ghost use Rattle.foyer_core.specs.Core.{AtShard, IsOutdatedIn, Owns, refs_in};
-    ghost use Rattle.foyer_core.specs.Cores.{core_of, hashes_of, meaning_of_core};
+    ghost use Rattle.foyer_core.specs.Cores.{core_of, fetches_of, hashes_of, meaning_of_core};
     ghost use Rattle.foyer_core.specs.Laws.{HandlesStay, one_of};
     ghost use Rattle.foyer_core.specs.Observed.{IsTold};
     ghost use Rattle.foyer_core.specs.Steps.{ClonesHandle, GivesBack, Removes, Touches};
@@ -37,6 +37,7 @@ impl<
         ensures touches { let hash = S.hash_of (core_of self.old).hash_builder (K.hash_input key.now) in
             AtShard (λ s t. Touches (meaning_of_core self.old) s (hash, key.now) result t)
             hash (core_of self.old) (core_of self.new) }
+        ensures fetches { fetches_of self.new ≡ fetches_of self.old }
         ensures stay { HandlesStay (λ _. 0) (core_of self.old) (core_of self.new) }
         ensures told { IsTold K.eq (hashes_of self.old) (core_of self.old) [] (core_of self.new) }
     {
@@ -52,6 +53,7 @@ impl<
         ensures removes { let hash = S.hash_of (core_of self.old).hash_builder (K.hash_input key.now) in
             AtShard (λ s t. Removes (meaning_of_core self.old) s (hash, key.now) result t)
             hash (core_of self.old) (core_of self.new) }
+        ensures fetches { fetches_of self.new ≡ fetches_of self.old }
         ensures stay { HandlesStay (λ _. 0) (core_of self.old) (core_of self.new) }
         ensures told { MatchResult result
             (λ out. IsTold K.eq (hashes_of self.old) (core_of self.old) (option_to_list (option_map (λ o. (Remove, o.1)) out)) (core_of self.new))
@@ -73,6 +75,7 @@ impl<
         requires owned { Owns (core_of self.old) entry.now }
         ensures clones { AtShard (λ s t. ClonesHandle s entry.now result t)
             entry.now.kept.hash (core_of self.old) (core_of self.new) }
+        ensures fetches { fetches_of self.new ≡ fetches_of self.old }
         ensures stay { HandlesStay (λ _. 0) (core_of self.old) (core_of self.new) }
         ensures told { IsTold K.eq (hashes_of self.old) (core_of self.old) [] (core_of self.new) }
     {
@@ -103,6 +106,7 @@ impl<
         ensures owned { Owns (core_of self.old) entry → AtShard (λ s t. GivesBack (meaning_of_core self.old) s entry.id result t)
             entry.kept.hash (core_of self.old) (core_of self.new) }
         ensures foreign { (Owns (core_of self.old) entry → ⊥) → (result ≡ None) × (core_of self.new ≡ core_of self.old) }
+        ensures fetches { fetches_of self.new ≡ fetches_of self.old }
         ensures stay { HandlesStay (one_of (core_of self.old) entry) (core_of self.old) (core_of self.new) }
         ensures told { IsTold K.eq (hashes_of self.old) (core_of self.old) (option_to_list result) (core_of self.new) }
     {

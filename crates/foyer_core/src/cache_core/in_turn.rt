@@ -6,7 +6,7 @@ ghost use Rattle.foyer_policy.specs.Items.{IsWithin};
 ghost use Rattle.foyer_policy.specs.declared.error.Reason.TheVariants.{NoMemory};
 ghost use Rattle.foyer_core.specs.Bulk.{GoesOn, Clears, EvictsIf, EvictsUnpinned, EvictingUnpinned, Picks, Says};
 ghost use Rattle.foyer_core.specs.CoreBulk.{InTurn, InTurnUntil, EvictsToCapacity, EvictingToCapacity, SharesOut};
-ghost use Rattle.foyer_core.specs.Shards.{state_of};
+ghost use Rattle.foyer_core.specs.Shards.{opens_of, state_of};
 ghost use Rattle.foyer_core.specs.Stored.{meaning};
 
 use super::shards::share;
@@ -32,6 +32,7 @@ pub(super) fn evict_each<
     ensures refused { OnErr result (GoesOn leaves.old.items leaves.new.items (λ ls. InTurnUntil (EvictsUnpinned (meaning K.eq E.model P.hint_of P.phantom_of)) (EvictingUnpinned (meaning K.eq E.model P.hint_of P.phantom_of))
         (map state_of shards.old.items) ls (map state_of shards.new.items))) }
     ensures reason { IfErr result (λ e. e ≡ NoMemory) }
+    ensures opens { map opens_of shards.new.items ≡ map opens_of shards.old.items }
     ensures len { vec_len shards.new ≡ vec_len shards.old }
 {
     for place in 0..shards.len() {
@@ -56,6 +57,7 @@ pub(super) fn evict_each_to_capacity<
     ensures refused { OnErr result (GoesOn leaves.old.items leaves.new.items (λ ls. InTurnUntil (EvictsToCapacity (meaning K.eq E.model P.hint_of P.phantom_of)) (EvictingToCapacity (meaning K.eq E.model P.hint_of P.phantom_of))
         (map state_of shards.old.items) ls (map state_of shards.new.items))) }
     ensures reason { IfErr result (λ e. e ≡ NoMemory) }
+    ensures opens { map opens_of shards.new.items ≡ map opens_of shards.old.items }
     ensures len { vec_len shards.new ≡ vec_len shards.old }
 {
     for place in 0..shards.len() {
@@ -75,6 +77,7 @@ pub(super) fn share_out<
     I: Indexer<K>,
 >(shards: &mut Vec<Shard<E, K, V, P, N, R, I>>, capacity: usize)
     ensures shares { SharesOut (meaning K.eq E.model P.hint_of P.phantom_of) capacity (map state_of shards.old.items) (map state_of shards.new.items) }
+    ensures opens { map opens_of shards.new.items ≡ map opens_of shards.old.items }
     ensures len { vec_len shards.new ≡ vec_len shards.old }
 {
     let count = shards.len();
@@ -97,6 +100,7 @@ pub(super) fn clear_each<
     ensures done { IfOk result (λ leaves. InTurn (Clears (meaning K.eq E.model P.hint_of P.phantom_of)) (map state_of shards.old.items) leaves.items (map state_of shards.new.items)) }
     ensures err { OnErr result (map state_of shards.new.items ≡ map state_of shards.old.items) }
     ensures refused { IfErr result (λ e. e ≡ NoMemory) }
+    ensures opens { map opens_of shards.new.items ≡ map opens_of shards.old.items }
     ensures len { vec_len shards.new ≡ vec_len shards.old }
 {
     let held = reserve_each(shards, alloc)?;
@@ -116,6 +120,7 @@ fn reserve_each<E: Eviction, K: Key, V: Value, P: Properties, N: Drop, R: Drop, 
     ensures same { map state_of shards.new.items ≡ map state_of shards.old.items }
     ensures ready { IfOk result (λ lists. AllZip (λ s list. E.can_clear s.store.eviction × (list.items ≡ E.model.order (E.view s.store.eviction))) shards.new.items lists.items) }
     ensures refused { IfErr result (λ e. e ≡ NoMemory) }
+    ensures opens { map opens_of shards.new.items ≡ map opens_of shards.old.items }
     ensures len { vec_len shards.new ≡ vec_len shards.old }
 {
     let mut lists = Vec::with_capacity(alloc, shards.len())?;
@@ -145,6 +150,7 @@ pub(super) fn evict_each_if<
     ensures done { IfOk result (λ leaves. InTurn (EvictsIf (meaning K.eq E.model P.hint_of P.phantom_of) (Says F.Fn predicate.now)) (map state_of shards.old.items) leaves.items (map state_of shards.new.items)) }
     ensures err { OnErr result (map state_of shards.new.items ≡ map state_of shards.old.items) }
     ensures refused { IfErr result (λ e. e ≡ NoMemory) }
+    ensures opens { map opens_of shards.new.items ≡ map opens_of shards.old.items }
     ensures len { vec_len shards.new ≡ vec_len shards.old }
 {
     let picked = pick_each(shards, alloc, predicate)?;

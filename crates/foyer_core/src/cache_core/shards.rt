@@ -1,8 +1,9 @@
 //! The shards of a core: how they are made, and which one has a hash.
 
-ghost use Rattle.std.specs.Prelude.{◌≡◌, ◌<◌, ◌%◌, None, Err, IfOk, IfErr, IfSome, OnOk, map, vec_len};
+ghost use Rattle.std.specs.Prelude.{◌≡◌, ◌<◌, ◌%◌, All, None, Err, IfOk, IfErr, IfSome, OnOk, map, vec_len};
 ghost use Rattle.foyer_policy.specs.declared.error.Reason.TheVariants.{NoMemory};
 ghost use Rattle.foyer_core.specs.Core.{AreNewShards, share_of};
+ghost use Rattle.foyer_core.specs.Inflight.{no_opens};
 ghost use Rattle.foyer_core.specs.Stored.{meaning};
 
 use super::CacheCore;
@@ -25,7 +26,7 @@ impl<
     N: Drop,
     R: Drop,
 > CacheCore<E, K, V, P, S, W, A, N, R> {
-    ghost use Rattle.foyer_core.specs.Shards.{state_of};
+    ghost use Rattle.foyer_core.specs.Shards.{opens_of, state_of};
 
     // Shards that hold nothing and share the capacity, as many as there are to be.
     pub(super) fn new_shards(
@@ -34,6 +35,7 @@ impl<
     ) -> Result<Vec<Shard<E, K, V, P, N, R, HashTableIndexer<K>>>>
         requires some { 0 < config.now.shards }
         ensures made { IfOk result (λ shards. AreNewShards (meaning K.eq E.model P.hint_of P.phantom_of) config.now config.now.shards (map state_of shards.items)) }
+        ensures opens { IfOk result (λ shards. All (λ f. f ≡ no_opens) (map opens_of shards.items)) }
         ensures accepted { OnOk result (E.model.fault config.now.eviction_config ≡ None) }
         ensures refused { IfSome (E.model.fault config.now.eviction_config) (λ reason. result ≡ Err reason) }
         ensures memory { IfErr result (λ e. E.model.fault config.now.eviction_config ≡ None → e ≡ NoMemory) }

@@ -1,12 +1,14 @@
 //! Handles of a shard's records.
 
-ghost use Rattle.std.specs.Prelude.{◌≡◌, ◌≢◌, ◌⊎◌, Some, OnErr, IfOk, IfErr, IsSomeAnd, false};
+ghost use Rattle.std.specs.Prelude.{◌≡◌, ◌≢◌, ◌⊎◌, Some, OnErr, IfOk, IfErr, IsSomeAnd, false, option_copied, option_map};
 ghost use Rattle.foyer_core.specs.Values.{Kept};
 ghost use Rattle.foyer_core.specs.Records.{slot_in};
+ghost use Rattle.foyer_core.specs.Table.{rec_of};
 
 use super::Store;
 use crate::entry::{CoreEntry, Leave};
 use crate::indexer::Indexer;
+use crate::slot::Slot;
 use foyer_policy::{Error, Event, Eviction, Key, Properties, Reason, Result, Source, Value};
 
 impl<E: Eviction, K: Key, V: Value, P: Properties, I: Indexer<K>> Store<E, K, V, P, I> {
@@ -111,5 +113,13 @@ impl<E: Eviction, K: Key, V: Value, P: Properties, I: Indexer<K>> Store<E, K, V,
             Some(found) => found.handles(),
             None => 0,
         }
+    }
+
+    // What is held under an id, whose record may stand in the slot that is hinted. It takes no memory.
+    pub(crate) fn held(&self, id: u64, hint: usize) -> Option<&Slot<K, V, P>>
+        ensures { option_map rec_of (option_copied result) ≡ (state_of self.now).records id }
+    {
+        let slot = self.records.find(id, hint)?;
+        self.records.get(slot)
     }
 }

@@ -1,6 +1,6 @@
 //! Records that come into a shard.
 
-ghost use Rattle.std.specs.Prelude.{◌≡◌, ℕ, ◌+◌, ◌<◌, ◌≤◌, ◌^◌, Some, None, OnOk, OnErr, IfOk, IsSome, IsSomeAnd, option_and_then, MatchResult, max, nat_eq, true, false};
+ghost use Rattle.std.specs.Prelude.{◌≡◌, ℕ, ◌+◌, ◌<◌, ◌≤◌, ◌^◌, Some, None, OnOk, OnErr, IfOk, IsSome, IsSomeAnd, option_and_then, MatchResult, max, nat_eq, replicate, true, false, vec_len, vec_capacity};
 ghost use Rattle.std.specs.Option.{ForSome};
 ghost use Rattle.std.specs.Map.{update};
 ghost use Rattle.foyer_policy.specs.Policy.{without};
@@ -12,9 +12,9 @@ ghost use Rattle.foyer_core.specs.Table.{rec_of, slot_outside};
 ghost use Rattle.foyer_core.specs.Records.{slot_in, record_in, number_of, HasRoom};
 
 use super::Store;
-use crate::entry::{CoreEntry, Leave, Left};
+use crate::entry::{CoreEntry, Leave, Left, discard_all};
 use crate::indexer::Indexer;
-use crate::outcome::Refused;
+use crate::outcome::{Arrival, Further, Refused};
 use crate::record::Data;
 use crate::records::Records;
 use crate::share::Share;
@@ -24,63 +24,110 @@ use std::alloc::Global;
 
 impl<E: Eviction, K: Key, V: Value, P: Properties, I: Indexer<K>> Store<E, K, V, P, I> {
     ghost use Rattle.foyer_core.specs.Stores.{state_of, meaning_of};
-    ghost use Rattle.foyer_core.specs.State.{usage_of, key_of};
-    ghost use Rattle.foyer_core.specs.Steps.{Inserts, RefusesInsert, InsertsPlain, RefusesPlain, GivesWay, Admits, HasId, MayInsert, entry_of, newcomer};
+    ghost use Rattle.foyer_core.specs.State.{is_phantom_record, key_of, usage_of};
+    ghost use Rattle.foyer_core.specs.Steps.{Inserts, RefusesInsert, InsertsPlain, RefusesPlain, GivesWay, Admits, HasId, MayBy, MayInsert, entry_of, newcomer};
 
-    /// Takes a record in, and answers an entry of it, with this source, and what left. A clone of the key must
-    /// equal it.
+    /// Takes a record in, and answers an entry of it, with this source, as many further ones as are said, and what
+    /// left. A clone of the key must equal it.
     ///
     /// For a plain record others are evicted until the capacity has room for it, or nothing more leaves, and
     /// then the key's record gives way (`Replace`). For a phantom one, which its properties say, the key's
     /// record gives way and nothing is evicted; it is told as `Remove`, is in the index at no time, and leaves
     /// with its last handle.
     ///
-    /// Refused, in this order, where no id is left (F10), the handle would pass the limit (F9), the weight of a
+    /// Refused, in this order, where no id is left (F10), the handles would pass the limit (F9), the weight of a
     /// plain record and the pinned weight of other keys pass a `usize` (F8), and then nothing has changed; or
     /// for want of memory (F7): then some beginning of the evictions has left, which the refusal hands out.
-    pub fn emplace(
+    pub(crate) fn emplace(
         &mut self,
         alloc: Global,
         kept: Data<K, V, P>,
         source: Source,
-    ) -> std::result::Result<(CoreEntry<K, V, P>, Vec<Leave<K, V, P>>), Refused<K, V, P>>
+        further: Further,
+    ) -> std::result::Result<Arrival<K, V, P>, Refused<K, V, P>>
         requires clones { (k c : K) → K.is_clone k c → K.eq c k ≡ true }
+        requires listed { further.count + further.room < 2 ^ 64 }
         ensures inserted { MatchResult result
-            (λ made. Inserts (meaning_of self.old) source (state_of self.old) (newcomer (state_of self.old) kept) made.1.items made.0 (state_of self.new))
-            (λ refused. RefusesInsert (meaning_of self.old) (state_of self.old) (newcomer (state_of self.old) kept) refused.error refused.leaves.items (state_of self.new)) }
+            (λ made. Inserts (meaning_of self.old) source (state_of self.old) (newcomer (state_of self.old) kept (1 + further.count)) made.leaves.items made.entry (state_of self.new))
+            (λ refused. RefusesInsert (meaning_of self.old) (state_of self.old) (newcomer (state_of self.old) kept (1 + further.count)) refused.error refused.leaves.items (state_of self.new)) }
+        ensures others { IfOk result (λ made. made.others.items ≡ replicate further.count made.entry) }
+        ensures room { IfOk result (λ made. vec_len made.others + further.room ≤ vec_capacity made.others) }
     {
-        if kept.properties.phantom().unwrap_or(false) {
-            return self.emplace_phantom(alloc, kept, source);
-        }
-        self.emplace_plain(alloc, kept, source)
-    }
-
-    // Takes a new plain record in.
-    fn emplace_plain(
-        &mut self,
-        alloc: Global,
-        kept: Data<K, V, P>,
-        source: Source,
-    ) -> std::result::Result<(CoreEntry<K, V, P>, Vec<Leave<K, V, P>>), Refused<K, V, P>>
-        requires clones { (k c : K) → K.is_clone k c → K.eq c k ≡ true }
-        requires plain { is_phantom (P.phantom_of kept.properties) ≡ false }
-        ensures inserted { MatchResult result
-            (λ made. InsertsPlain (meaning_of self.old) source (state_of self.old) (newcomer (state_of self.old) kept) made.1.items made.0 (state_of self.new))
-            (λ refused. RefusesPlain (meaning_of self.old) (state_of self.old) (newcomer (state_of self.old) kept) refused.error refused.leaves.items (state_of self.new)) }
-    {
-        let id = self.next;
-        if let Some(reason) = self.refusal(id, 1, kept.hash, &kept.key, kept.weight) {
+        if let Some(reason) = self.data_refusal(&kept, further.count) {
             return Err(Refused::new(reason, Vec::new(alloc)));
         }
+        let id = self.next;
         let Ok(share) = Share::new(alloc, kept) else {
             return Err(Refused::new(Reason::NoMemory, Vec::new(alloc)));
         };
-        self.bring_in(alloc, Slot::outside(share, id, 1), source)
+        let slot = Slot::outside(share, id, 1 + further.count);
+        self.come_by(alloc, slot, source, further)
+    }
+
+    // A record comes in that is not refused but for want of memory, and as many entries as are said are made beside
+    // the first.
+    pub(super) fn come_by(
+        &mut self,
+        alloc: Global,
+        slot: Slot<K, V, P>,
+        source: Source,
+        further: Further,
+    ) -> std::result::Result<Arrival<K, V, P>, Refused<K, V, P>>
+        requires clones { (k c : K) → K.is_clone k c → K.eq c k ≡ true }
+        requires apart { slot ≡ record slot { resident = false; place = None } }
+        requires out { (r : Rec K V P) → (state_of self.old).records slot.id ≡ Some r → r.resident ≡ false }
+        requires number { slot.id + 1 < 2 ^ 64 }
+        requires held { 0 < slot.handles }
+        requires may { MayBy (meaning_of self.old) (is_phantom_record (meaning_of self.old) slot.kept) (state_of self.old) (incoming_of slot) }
+        requires listed { further.count + further.room < 2 ^ 64 }
+        ensures inserted { MatchResult result
+            (λ made. Inserts (meaning_of self.old) source (state_of self.old) (incoming_of slot) made.leaves.items made.entry (state_of self.new))
+            (λ refused. RefusesInsert (meaning_of self.old) (state_of self.old) (incoming_of slot) refused.error refused.leaves.items (state_of self.new)) }
+        ensures others { IfOk result (λ made. made.others.items ≡ replicate further.count made.entry) }
+        ensures room { IfOk result (λ made. vec_len made.others + further.room ≤ vec_capacity made.others) }
+    {
+        let Ok(others) = slot.entries(alloc, self.number, source, further) else {
+            return Err(Refused::new(Reason::NoMemory, Vec::new(alloc)));
+        };
+        match self.arrive(alloc, slot, source) {
+            Ok((entry, leaves)) => Ok(Arrival {
+                entry,
+                others,
+                leaves,
+            }),
+            Err(refused) => {
+                discard_all(others);
+                Err(refused)
+            }
+        }
+    }
+
+    // A record comes in that is not refused but for want of memory.
+    fn arrive(
+        &mut self,
+        alloc: Global,
+        slot: Slot<K, V, P>,
+        source: Source,
+    ) -> std::result::Result<(CoreEntry<K, V, P>, Vec<Leave<K, V, P>>), Refused<K, V, P>>
+        requires clones { (k c : K) → K.is_clone k c → K.eq c k ≡ true }
+        requires apart { slot ≡ record slot { resident = false; place = None } }
+        requires out { (r : Rec K V P) → (state_of self.old).records slot.id ≡ Some r → r.resident ≡ false }
+        requires number { slot.id + 1 < 2 ^ 64 }
+        requires held { 0 < slot.handles }
+        requires may { MayBy (meaning_of self.old) (is_phantom_record (meaning_of self.old) slot.kept) (state_of self.old) (incoming_of slot) }
+        ensures inserted { MatchResult result
+            (λ made. Inserts (meaning_of self.old) source (state_of self.old) (incoming_of slot) made.1.items made.0 (state_of self.new))
+            (λ refused. RefusesInsert (meaning_of self.old) (state_of self.old) (incoming_of slot) refused.error refused.leaves.items (state_of self.new)) }
+    {
+        if slot.properties().phantom().unwrap_or(false) {
+            return self.hold_in(alloc, slot, source);
+        }
+        self.bring_in(alloc, slot, source)
     }
 
     // Brings a plain record in, which is not refused but for want of memory: one with a new id, or one that
     // comes back under its own.
-    pub(super) fn bring_in(
+    fn bring_in(
         &mut self,
         alloc: Global,
         slot: Slot<K, V, P>,

@@ -9,36 +9,13 @@ use super::insertion::above;
 use crate::entry::{CoreEntry, Leave, Left};
 use crate::indexer::Indexer;
 use crate::outcome::Refused;
-use crate::record::Data;
-use crate::share::Share;
 use crate::slot::Slot;
 use foyer_policy::{Event, Eviction, Key, Properties, Reason, Result, Source, Value};
 use std::alloc::Global;
 
 impl<E: Eviction, K: Key, V: Value, P: Properties, I: Indexer<K>> Store<E, K, V, P, I> {
     ghost use Rattle.foyer_core.specs.Stores.{state_of, meaning_of};
-    ghost use Rattle.foyer_core.specs.Steps.{InsertsPhantom, RefusesPhantom, GivesWay, MayHold, after_hold, entry_of, newcomer, replaced_leaves};
-
-    // Takes a new phantom record in.
-    pub(super) fn emplace_phantom(
-        &mut self,
-        alloc: Global,
-        kept: Data<K, V, P>,
-        source: Source,
-    ) -> std::result::Result<(CoreEntry<K, V, P>, Vec<Leave<K, V, P>>), Refused<K, V, P>>
-        ensures inserted { MatchResult result
-            (λ made. InsertsPhantom (meaning_of self.old) source (state_of self.old) (newcomer (state_of self.old) kept) made.1.items made.0 (state_of self.new))
-            (λ refused. RefusesPhantom (meaning_of self.old) (state_of self.old) (newcomer (state_of self.old) kept) refused.error refused.leaves.items (state_of self.new)) }
-    {
-        let id = self.next;
-        if let Some(reason) = self.hold_refusal(id, 1) {
-            return Err(Refused::new(reason, Vec::new(alloc)));
-        }
-        let Ok(share) = Share::new(alloc, kept) else {
-            return Err(Refused::new(Reason::NoMemory, Vec::new(alloc)));
-        };
-        self.hold_in(alloc, Slot::outside(share, id, 1), source)
-    }
+    ghost use Rattle.foyer_core.specs.Steps.{InsertsPhantom, RefusesPhantom, GivesWay, MayHold, after_hold, entry_of, replaced_leaves};
 
     // Holds a phantom record, which is not refused but for want of memory: its key's record gives way, and it is
     // held by its entries alone. It has a new id, or comes back under its own.

@@ -1,49 +1,100 @@
 //! Why a shard takes a record not in.
 
-ghost use Rattle.std.specs.Prelude.{◌≡◌, [], ◌⊎◌, ◌↔◌, ◌+◌, ◌<◌, ◌≤◌, ◌^◌, Some, IfSome, IfNone, IsTrue};
+ghost use Rattle.std.specs.Prelude.{◌≡◌, [], ◌⊎◌, ◌↔◌, ◌+◌, ◌<◌, ◌≤◌, ◌^◌, false, Some, IfSome, IfNone, IsTrue};
 ghost use Rattle.foyer_policy.specs.declared.error.Reason.TheVariants.{Ids, Handles, Weight};
 ghost use Rattle.foyer_policy.specs.Items.{weight_of};
+ghost use Rattle.foyer_policy.specs.Properties.{is_phantom};
 ghost use Rattle.foyer_core.specs.Values.{incoming_of};
 
 use super::Store;
 use crate::indexer::Indexer;
+use crate::record::Data;
 use crate::slot::Slot;
 use foyer_policy::{Eviction, Key, Properties, Reason, Value};
 
 impl<E: Eviction, K: Key, V: Value, P: Properties, I: Indexer<K>> Store<E, K, V, P, I> {
     ghost use Rattle.foyer_core.specs.Stores.{state_of, meaning_of};
     ghost use Rattle.foyer_core.specs.State.{is_phantom_record, pinned_beside};
-    ghost use Rattle.foyer_core.specs.Steps.{HasId, LacksId, MayBy, RefusesInsert};
+    ghost use Rattle.foyer_core.specs.Steps.{HasId, LacksId, MayBy, RefusesInsert, newcomer};
 
-    // Why what a slot keeps cannot come in, with so many handles, whatever memory there is.
-    pub(super) fn slot_refusal(&self, slot: &Slot<K, V, P>, handles: usize) -> Option<Reason>
-        ensures some { IfSome result (λ reason. RefusesInsert (meaning_of self.now) (state_of self.now) (record (incoming_of slot.now) { handles = handles }) reason [] (state_of self.now)) }
-        ensures none { IfNone result (MayBy (meaning_of self.now) (is_phantom_record (meaning_of self.now) slot.now.kept) (state_of self.now) (record (incoming_of slot.now) { handles = handles })) }
+    // Why a new record cannot come in, with so many handles beside the first, whatever memory there is.
+    pub(super) fn data_refusal(&self, kept: &Data<K, V, P>, further: usize) -> Option<Reason>
+        ensures some { IfSome result (λ reason. RefusesInsert (meaning_of self.now) (state_of self.now) (newcomer (state_of self.now) kept.now (1 + further)) reason [] (state_of self.now)) }
+        ensures none { IfNone result (MayBy (meaning_of self.now) (is_phantom_record (meaning_of self.now) kept.now) (state_of self.now) (newcomer (state_of self.now) kept.now (1 + further))) }
+        ensures number { IfNone result (self.now.next + 1 < 2 ^ 64) }
+        ensures count { IfNone result (1 + further < 2 ^ 64) }
+    {
+        self.new_refusal(kept.hash, &kept.key, &kept.properties, kept.weight, further)
+    }
+
+    // The same of a new record by its parts, whatever its value is.
+    pub(crate) fn new_refusal(
+        &self,
+        hash: u64,
+        key: &K,
+        properties: &P,
+        weight: usize,
+        further: usize,
+    ) -> Option<Reason>
+        ensures some { IfSome result (λ reason. (value : V) → RefusesInsert (meaning_of self.now) (state_of self.now)
+            (newcomer (state_of self.now) (record { key = key.now; value = value; properties = properties.now; hash = hash; weight = weight }) (1 + further)) reason [] (state_of self.now)) }
+        ensures none { IfNone result ((value : V) → MayBy (meaning_of self.now) (is_phantom (P.phantom_of properties.now)) (state_of self.now)
+            (newcomer (state_of self.now) (record { key = key.now; value = value; properties = properties.now; hash = hash; weight = weight }) (1 + further))) }
+        ensures number { IfNone result (self.now.next + 1 < 2 ^ 64) }
+        ensures count { IfNone result (1 + further < 2 ^ 64) }
+    {
+        if properties.phantom().unwrap_or(false) {
+            self.hold_refusal(self.next, 0, further)
+        } else {
+            self.refusal(self.next, 0, further, hash, key, weight)
+        }
+    }
+
+    // Why what a slot keeps cannot come in, with a handle more than these and so many further ones, whatever
+    // memory there is.
+    pub(super) fn slot_refusal(
+        &self,
+        slot: &Slot<K, V, P>,
+        held: usize,
+        further: usize,
+    ) -> Option<Reason>
+        ensures some { IfSome result (λ reason. RefusesInsert (meaning_of self.now) (state_of self.now) (record (incoming_of slot.now) { handles = held + 1 + further }) reason [] (state_of self.now)) }
+        ensures none { IfNone result (MayBy (meaning_of self.now) (is_phantom_record (meaning_of self.now) slot.now.kept) (state_of self.now) (record (incoming_of slot.now) { handles = held + 1 + further })) }
         ensures number { IfNone result (slot.now.id + 1 < 2 ^ 64) }
+        ensures count { IfNone result (held + 1 + further < 2 ^ 64) }
     {
         if slot.properties().phantom().unwrap_or(false) {
-            self.hold_refusal(slot.id(), handles)
+            self.hold_refusal(slot.id(), held, further)
         } else {
-            self.refusal(slot.id(), handles, slot.hash(), slot.key(), slot.weight())
+            self.refusal(
+                slot.id(),
+                held,
+                further,
+                slot.hash(),
+                slot.key(),
+                slot.weight(),
+            )
         }
     }
 
     // Why a record cannot come in whatever memory there is.
-    pub(super) fn refusal(
+    fn refusal(
         &self,
         id: u64,
-        handles: usize,
+        held: usize,
+        further: usize,
         hash: u64,
         key: &K,
         weight: usize,
     ) -> Option<Reason>
         ensures ids { result ≡ Some Ids ↔ LacksId (state_of self.now) id }
-        ensures handles { result ≡ Some Handles ↔ (HasId (state_of self.now) id × (self.now.limits.handles < handles)) }
+        ensures handles { result ≡ Some Handles ↔ (HasId (state_of self.now) id × (self.now.limits.handles < held + 1 + further)) }
         ensures number { IfNone result (id + 1 < 2 ^ 64) }
-        ensures weight { result ≡ Some Weight ↔ (HasId (state_of self.now) id × (handles ≤ self.now.limits.handles) × (2 ^ 64 ≤ weight + pinned_beside (meaning_of self.now) (state_of self.now) (hash, key.now))) }
+        ensures weight { result ≡ Some Weight ↔ (HasId (state_of self.now) id × (held + 1 + further ≤ self.now.limits.handles) × (2 ^ 64 ≤ weight + pinned_beside (meaning_of self.now) (state_of self.now) (hash, key.now))) }
         ensures only { IfSome result (λ reason. (reason ≡ Ids) ⊎ ((reason ≡ Handles) ⊎ (reason ≡ Weight))) }
+        ensures count { IfNone result (held + 1 + further < 2 ^ 64) }
     {
-        if let Some(reason) = self.hold_refusal(id, handles) {
+        if let Some(reason) = self.hold_refusal(id, held, further) {
             return Some(reason);
         }
         if !self.fits_beside_pinned(hash, key, weight) {
@@ -53,19 +104,34 @@ impl<E: Eviction, K: Key, V: Value, P: Properties, I: Indexer<K>> Store<E, K, V,
     }
 
     // Why a record cannot be held whatever memory there is.
-    pub(super) fn hold_refusal(&self, id: u64, handles: usize) -> Option<Reason>
+    fn hold_refusal(&self, id: u64, held: usize, further: usize) -> Option<Reason>
         ensures ids { result ≡ Some Ids ↔ LacksId (state_of self.now) id }
-        ensures handles { result ≡ Some Handles ↔ (HasId (state_of self.now) id × (self.now.limits.handles < handles)) }
+        ensures handles { result ≡ Some Handles ↔ (HasId (state_of self.now) id × (self.now.limits.handles < held + 1 + further)) }
         ensures only { IfSome result (λ reason. (reason ≡ Ids) ⊎ (reason ≡ Handles)) }
         ensures number { IfNone result (id + 1 < 2 ^ 64) }
+        ensures count { IfNone result (held + 1 + further < 2 ^ 64) }
     {
         if id >= self.next && id >= self.limits.ids {
             return Some(Reason::Ids);
         }
-        if self.limits.handles < handles {
+        if self.passes_limit(held, further) {
             return Some(Reason::Handles);
         }
         None
+    }
+
+    // Whether one handle more than these, and so many further ones, pass the limit. Their number may pass a
+    // `usize`, which the limit does not.
+    pub(super) fn passes_limit(&self, held: usize, further: usize) -> bool
+        ensures passes { IsTrue result ↔ (self.now.limits.handles < held + 1 + further) }
+        ensures within { result ≡ false → held + 1 + further ≤ self.now.limits.handles }
+        ensures count { result ≡ false → held + 1 + further < 2 ^ 64 }
+    {
+        let limit = self.limits.handles;
+        match held.checked_add(further) {
+            Some(others) => limit <= others,
+            None => true,
+        }
     }
 
     // Whether a weight and the pinned weight of other keys fit a `usize` together.

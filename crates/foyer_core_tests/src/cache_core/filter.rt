@@ -1,7 +1,7 @@
 // Filters, which make of some records phantom ones.
 
 ghost use Rattle.std.specs.Prelude.{◌≡◌, ◌%◌, ◌==◌};
-ghost use Rattle.foyer_core.specs.Core.{AnswersNobody};
+ghost use Rattle.foyer_core.specs.Waited.{AnswersNobody};
 
 use super::*;
 use foyer_core::Filter;

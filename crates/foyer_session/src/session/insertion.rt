@@ -1,7 +1,7 @@
 //! What a session takes in.
 
 ghost use Rattle.std.specs.Prelude.{◌≡◌, ◌+◌, ◌<◌, ◌≤◌, ◌++◌, ◌∷◌, [], Some, true, false, length, vec_len, vec_capacity};
-ghost use Rattle.foyer_core.specs.Core.{AnswersNobody};
+ghost use Rattle.foyer_core.specs.Waited.{AnswersNobody};
 ghost use Rattle.foyer_session.specs.Step.{record_of};
 ghost use Rattle.foyer_session.specs.declared.command.Answer.TheVariants.{Entry, Refused as RefusedAnswer};
 

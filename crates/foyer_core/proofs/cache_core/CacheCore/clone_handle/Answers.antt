@@ -1,7 +1,7 @@
 use Rattle.std.proofs.Common.{ap, ◌∙◌, ℕ, ◌%◌, vec_len, ◌≡◌, true}
 use Rattle.std.specs.Prelude.{slice_set}
 use Rattle.foyer_core.specs.Cores.{core_of, hashes_of, meaning_of_core}
-use Rattle.foyer_core.specs.Shards.{state_of}
+use Rattle.foyer_core.specs.Shards.{opens_of, state_of}
 use Rattle.foyer_core.specs.Steps.{ClonesHandle}
 use Rattle.foyer_core.proofs.CallsTold.{clone_told}
 use Rattle.foyer_core.proofs.CoreLaws.{stays_at}
@@ -11,6 +11,7 @@ use Rattle.foyer_core.proofs.Hashing.{IsHashed, hashed_over}
 use Rattle.foyer_core.proofs.Loads.{sums_same, clones_load}
 use Rattle.foyer_core.proofs.Origins.{belongs_over, clones_from}
 use Rattle.foyer_core.proofs.Sound.{core_sound}
+use Rattle.foyer_core.proofs.Zips.{map-write}
 use Rattle.foyer_core.proofs.cache_core.CacheCore.clone_handle.Goals as goal
 
 pub invariant_of-self-clause-belong : goal.invariant_of-self-clause-belong
@@ -53,6 +54,7 @@ returns g c =
     let new = core_over state_of s.capacity s.hash_builder s.weighter s.filter (slice_set s.shards.items c.place-place.result y) in
     record {
       clones = step;
+      fetches = map-write opens_of s.shards.items (vec_len s.shards) c.place-place.result x y s.shards.ok.0 c.place-place.ensures.within c.index_mut.ensures.value c.clone_handle.ensures.opens;
       stay = stays_at (core_of s) _ e.kept.hash (over (RecordsStay nothing) y (clones_stay (state_of x) e c.clone_handle.result (state_of y) did));
       told = clone_told m g.met.K.Eq.laws g.met.E.Eviction.lawful (hashes_of s) equal (core_of s) new sound e e.kept.hash c.clone_handle.result step;
     }

@@ -4,7 +4,7 @@ use Rattle.std.specs.Prelude.{slice_set}
 use Rattle.std.specs.Option.{option_to_list}
 use Rattle.foyer_core.specs.Observed.{IsTold}
 use Rattle.foyer_core.specs.Cores.{core_of, hashes_of, meaning_of_core}
-use Rattle.foyer_core.specs.Shards.{meaning_of, state_of}
+use Rattle.foyer_core.specs.Shards.{meaning_of, opens_of, state_of}
 use Rattle.foyer_core.specs.Steps.{GivesBack}
 use Rattle.foyer_core.proofs.CallsTold.{give_back_told, match_so, nothing_told}
 use Rattle.foyer_core.proofs.CoreLaws.{gives_at}
@@ -14,6 +14,7 @@ use Rattle.foyer_core.proofs.Hashing.{IsHashed, hashed_over}
 use Rattle.foyer_core.proofs.Loads.{sums_same, given_back_load}
 use Rattle.foyer_core.proofs.Origins.{belongs_over, given_back_from}
 use Rattle.foyer_core.proofs.Sound.{core_sound}
+use Rattle.foyer_core.proofs.Zips.{map-write}
 use Rattle.foyer_core.proofs.cache_core.CacheCore.give_back.Goals as goal
 
 pub invariant_of-self-clause-belong : goal.invariant_of-self-clause-belong
@@ -91,3 +92,8 @@ returns-clause-told g c =
     (λ leave. IsTold m.same (hashes_of s) (core_of s) (option_to_list leave) new) (IsTold m.same (hashes_of s) (core_of s) [] new) c.give_back.ensures.taken c.give_back.ensures.err
     (λ leave given. give_back_told m g.met.K.Eq.laws g.met.E.Eviction.lawful (hashes_of s) equal (core_of s) new sound e.id e.kept.hash leave (over (λ a b. GivesBack (meaning_of x) a e.id leave b) y given.1))
     (λ stays. nothing_told m g.met.K.Eq.laws g.met.E.Eviction.lawful (hashes_of s) equal (core_of s) new sound (same y stays))
+
+pub returns-clause-fetches : goal.returns-clause-fetches
+returns-clause-fetches g c =
+    let s = c.args.self.now in
+    map-write opens_of s.shards.items (vec_len s.shards) c.place-place.result c.index_mut.result.now c.give_back.new.self s.shards.ok.0 c.place-place.ensures.within c.index_mut.ensures.value c.give_back.ensures.opens

@@ -1,7 +1,7 @@
 use Rattle.std.proofs.Common.{ap, ◌∙◌, ℕ, ◌%◌, vec_len, ◌≡◌, true}
 use Rattle.std.specs.Prelude.{slice_set}
 use Rattle.foyer_core.specs.Cores.{core_of, hashes_of, meaning_of_core}
-use Rattle.foyer_core.specs.Shards.{meaning_of, state_of}
+use Rattle.foyer_core.specs.Shards.{meaning_of, opens_of, state_of}
 use Rattle.foyer_core.specs.Steps.{Touches}
 use Rattle.foyer_core.proofs.CallsTold.{touch_told}
 use Rattle.foyer_core.proofs.CoreLaws.{stays_at}
@@ -11,6 +11,7 @@ use Rattle.foyer_core.proofs.Hashing.{IsHashed, hashed_over}
 use Rattle.foyer_core.proofs.Loads.{sums_same, touches_load}
 use Rattle.foyer_core.proofs.Origins.{belongs_over, touches_from}
 use Rattle.foyer_core.proofs.Sound.{core_sound}
+use Rattle.foyer_core.proofs.Zips.{map-write}
 use Rattle.foyer_core.proofs.cache_core.CacheCore.touch.Goals as goal
 
 pub invariant_of-self-clause-belong : goal.invariant_of-self-clause-belong
@@ -53,6 +54,7 @@ returns g c =
     let new = core_over state_of s.capacity s.hash_builder s.weighter s.filter (slice_set s.shards.items c.place-place.result y) in
     record {
       touches = step;
+      fetches = map-write opens_of s.shards.items (vec_len s.shards) c.place-place.result x y s.shards.ok.0 c.place-place.ensures.within c.index_mut.ensures.value c.touch.ensures.opens;
       stay = stays_at (core_of s) _ hash (over (RecordsStay nothing) y (touches_stay (meaning_of x) (state_of x) (hash, c.args.key.now) c.touch.result (state_of y) did));
       told = touch_told m g.met.K.Eq.laws g.met.E.Eviction.lawful (hashes_of s) equal (core_of s) new sound (hash, c.args.key.now) hash c.touch.result step;
     }

@@ -1,13 +1,13 @@
-use Rattle.std.proofs.Common.{◌≡◌, ◌+◌, ◌<◌, List, drop, length, map, sum_by, vec_len, arith}
+use Rattle.std.proofs.Common.{◌∙◌, ◌≡◌, ◌+◌, ◌<◌, List, drop, length, map, sum_by, vec_len, arith}
 use Rattle.std.specs.Prelude.{slice_set}
 use Rattle.std.specs.List.{AllZip}
 use Rattle.std.proofs.lemmas.List.{drop-set-lt}
 use Rattle.std.proofs.lemmas.Slice.Zip.{AllZip-long}
 use Rattle.foyer_core.specs.Bulk.{Clears}
-use Rattle.foyer_core.specs.Shards.{state_of}
+use Rattle.foyer_core.specs.Shards.{opens_of, state_of}
 use Rattle.foyer_core.specs.Stored.{meaning}
 use Rattle.foyer_core.proofs.InTurn.{InFirst, over-more, over-all}
-use Rattle.foyer_core.proofs.Zips.{zip-next, sum-next}
+use Rattle.foyer_core.proofs.Zips.{zip-next, sum-next, map-write}
 use Rattle.foyer_core.proofs.cache_core.in_turn.clear_each.Goals as goal
 
 pub loop-place-init : goal.loop-place-init
@@ -17,6 +17,7 @@ loop-place-init g c =
     let long = AllZip-long (λ s list. g.E.Eviction.can_clear s.store.eviction × (list.items ≡ g.E.Eviction.model.order (g.E.Eviction.view s.store.eviction))) shards.items lists.items c.in_ok-held.ensures.ready in
     record {
       begun = (c.in_ok-leaves.ensures.empty, c.in_ok-held.ensures.same);
+      opens = c.in_ok-held.ensures.opens;
       len = c.in_ok-held.ensures.len;
       ready = c.in_ok-held.ensures.ready;
       long = omega (arith, long, shards.ok.0, lists.ok.0, c.in_ok-held.ensures.len);
@@ -41,6 +42,7 @@ loop-place-preserved g c =
     record {
       begun = rw told.told
           (over-more state_of (Clears m) ss c.loop-place.leaves.items now.items (vec_len now) n x y told.more now.ok.0 (omega arith) c.index_mut.ensures.value c.loop-place.invariant.begun told.so);
+      opens = map-write opens_of c.loop-place.shards.items (vec_len c.loop-place.shards) c.loop-place.place c.index_mut.result.now c.clear.new.self c.loop-place.shards.ok.0 (omega arith) c.index_mut.ensures.value c.clear.ensures.opens ∙ c.loop-place.invariant.opens;
       len = c.loop-place.invariant.len;
       ready = rw (drop-set-lt (n + 1) now.items n y (omega arith)) next.1;
       long = c.loop-place.invariant.long;

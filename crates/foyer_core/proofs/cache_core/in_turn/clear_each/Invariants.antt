@@ -1,7 +1,7 @@
 use Rattle.std.proofs.Common.{◌≡◌, ◌+◌, ◌≤◌, map, drop, sum_by, vec_len, vec_capacity}
 use Rattle.std.specs.List.{AllZip}
 use Rattle.foyer_core.specs.Bulk.{Clears}
-use Rattle.foyer_core.specs.Shards.{state_of}
+use Rattle.foyer_core.specs.Shards.{opens_of, state_of}
 use Rattle.foyer_core.specs.Stored.{meaning}
 use Rattle.foyer_core.proofs.InTurn.{InFirst}
 use Rattle.foyer_core.proofs.cache_core.in_turn.clear_each.Given as goal
@@ -10,6 +10,7 @@ use Rattle.foyer_core.proofs.cache_core.in_turn.clear_each.Given as goal
 abbrev pub invariant-loop-place : goal.invariant-loop-place
 invariant-loop-place g l = record {
   begun : InFirst (Clears (meaning g.K.PartialEq.eq g.E.Eviction.model g.P.Properties.hint_of g.P.Properties.phantom_of)) l.place (map state_of l.fn.shards.items) l.leaves.items (map state_of l.shards.items);
+  opens : map opens_of l.shards.items ≡ map opens_of l.fn.shards.items;
   len : vec_len l.shards ≡ vec_len l.fn.shards;
   ready : AllZip (λ s list. g.E.Eviction.can_clear s.store.eviction × (list.items ≡ g.E.Eviction.model.order (g.E.Eviction.view s.store.eviction))) (drop l.place l.shards.items) (drop l.place l.held.items);
   long : vec_len l.held ≡ vec_len l.fn.shards;

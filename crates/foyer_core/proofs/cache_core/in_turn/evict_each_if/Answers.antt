@@ -1,14 +1,14 @@
-use Rattle.std.proofs.Common.{◌≡◌, ◌+◌, ◌<◌, List, drop, length, map, sum_by, vec_len, refl, arith}
+use Rattle.std.proofs.Common.{◌∙◌, ◌≡◌, ◌+◌, ◌<◌, List, drop, length, map, sum_by, vec_len, refl, arith}
 use Rattle.std.specs.Prelude.{slice_set}
 use Rattle.std.specs.List.{AllZip}
 use Rattle.std.proofs.lemmas.List.{drop-set-lt}
 use Rattle.std.proofs.lemmas.Slice.Zip.{AllZip-long}
 use Rattle.foyer_policy.specs.Items.{IsWithin}
 use Rattle.foyer_core.specs.Bulk.{EvictsIf, Picks, Says}
-use Rattle.foyer_core.specs.Shards.{state_of}
+use Rattle.foyer_core.specs.Shards.{opens_of, state_of}
 use Rattle.foyer_core.specs.Stored.{meaning}
 use Rattle.foyer_core.proofs.InTurn.{InFirst, over-more, over-all}
-use Rattle.foyer_core.proofs.Zips.{zip-next, sum-next}
+use Rattle.foyer_core.proofs.Zips.{zip-next, sum-next, map-write}
 use Rattle.foyer_core.proofs.cache_core.in_turn.evict_each_if.Goals as goal
 
 pub loop-place-init : goal.loop-place-init
@@ -21,6 +21,7 @@ loop-place-init g c =
     let long = AllZip-long (λ s list. Picks m says (state_of s) list.items × IsWithin list.items (g.E.Eviction.model.order (g.E.Eviction.view s.store.eviction))) shards.items lists.items picked in
     record {
       begun = (c.in_ok-leaves.ensures.empty, refl);
+      opens = refl;
       len = refl;
       picked = picked;
       long = omega (arith, long, shards.ok.0, lists.ok.0);
@@ -59,6 +60,7 @@ loop-place-preserved g c =
     record {
       begun = rw told.told
           (over-more state_of (EvictsIf m says) ss c.loop-place.leaves.items now.items (vec_len now) n x y told.more now.ok.0 (omega arith) c.index_mut.ensures.value c.loop-place.invariant.begun (record { picked = list.items; picks = next.0.0; leave = rw c.deref-in-loop-place.ensures.value at told.so }));
+      opens = map-write opens_of c.loop-place.shards.items (vec_len c.loop-place.shards) c.loop-place.place c.index_mut.result.now c.evict_picked.new.self c.loop-place.shards.ok.0 (omega arith) c.index_mut.ensures.value c.evict_picked.ensures.opens ∙ c.loop-place.invariant.opens;
       len = c.loop-place.invariant.len;
       picked = rw (drop-set-lt (n + 1) now.items n y (omega arith)) next.1;
       long = c.loop-place.invariant.long;

@@ -1,12 +1,13 @@
-use Rattle.std.proofs.Common.{◌+◌, arith, vec_len}
+use Rattle.std.proofs.Common.{◌∙◌, ◌+◌, arith, vec_len}
 use Rattle.std.specs.Prelude.{OnErr, map, slice_set}
 use Rattle.foyer_core.specs.Bulk.{GoesOn}
 use Rattle.foyer_core.specs.CoreBulk.{InTurn, InTurnUntil, EvictsToCapacity, EvictingToCapacity}
-use Rattle.foyer_core.specs.Shards.{state_of}
+use Rattle.foyer_core.specs.Shards.{opens_of, state_of}
 use Rattle.foyer_core.specs.Stored.{meaning}
 use Rattle.foyer_core.proofs.InTurn.{InFirst, over-more, over-until, over-all}
 use Rattle.foyer_core.proofs.StoredLemmas.{err_is}
 use Rattle.foyer_core.proofs.Told.{goes_on, goes_so}
+use Rattle.foyer_core.proofs.Zips.{map-write}
 use Rattle.foyer_core.proofs.cache_core.in_turn.evict_each_to_capacity.Goals as goal
 
 pub returns-in_err-evict_to_capacity-clause-refused : goal.returns-in_err-evict_to_capacity-clause-refused
@@ -25,6 +26,11 @@ returns-in_err-evict_to_capacity-clause-refused g c =
     (λ ls more h did. over-until state_of (EvictsToCapacity m) ss ls now.items (vec_len now) n x y more now.ok.0 (omega arith) c.index_mut.ensures.value (EvictingToCapacity m) h did)
     c.loop-place.invariant.begun c.in_err-evict_to_capacity.ensures.refused)
 
+pub returns-in_err-evict_to_capacity-clause-opens : goal.returns-in_err-evict_to_capacity-clause-opens
+returns-in_err-evict_to_capacity-clause-opens g c =
+    let now = c.loop-place.shards in
+    map-write opens_of now.items (vec_len now) c.loop-place.place c.index_mut.result.now c.evict_to_capacity.new.self now.ok.0 (omega arith) c.index_mut.ensures.value c.evict_to_capacity.ensures.opens ∙ c.loop-place.invariant.opens
+
 pub loop-place-preserved : goal.loop-place-preserved
 loop-place-preserved g c =
     let m = meaning g.K.PartialEq.eq g.E.Eviction.model g.P.Properties.hint_of g.P.Properties.phantom_of in
@@ -38,6 +44,7 @@ loop-place-preserved g c =
           (λ ls. InFirst (EvictsToCapacity m) (n + 1) ss ls (map state_of (slice_set now.items n y)))
           (λ ls more h did. over-more state_of (EvictsToCapacity m) ss ls now.items (vec_len now) n x y more now.ok.0 (omega arith) c.index_mut.ensures.value h did)
           c.loop-place.invariant.begun c.in_ok-evict_to_capacity.ensures.done;
+      opens = map-write opens_of c.loop-place.shards.items (vec_len c.loop-place.shards) c.loop-place.place c.index_mut.result.now c.evict_to_capacity.new.self c.loop-place.shards.ok.0 (omega arith) c.index_mut.ensures.value c.evict_to_capacity.ensures.opens ∙ c.loop-place.invariant.opens;
       len = c.loop-place.invariant.len;
     }
 

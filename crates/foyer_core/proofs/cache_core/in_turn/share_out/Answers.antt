@@ -1,7 +1,8 @@
-use Rattle.std.proofs.Common.{map, vec_len, arith}
-use Rattle.foyer_core.specs.Shards.{state_of}
+use Rattle.std.proofs.Common.{◌∙◌, map, vec_len, arith}
+use Rattle.foyer_core.specs.Shards.{opens_of, state_of}
 use Rattle.foyer_core.specs.Stored.{meaning}
 use Rattle.foyer_core.proofs.SharingOut.{shared-over, over-shared}
+use Rattle.foyer_core.proofs.Zips.{map-write}
 use Rattle.foyer_core.proofs.cache_core.in_turn.share_out.Goals as goal
 
 pub loop-place-preserved : goal.loop-place-preserved
@@ -11,6 +12,7 @@ loop-place-preserved g c =
     record {
       begun = shared-over m c.args.capacity c.len-count.result state_of (map state_of c.args.shards.now.items) now.items c.loop-place.place c.index_mut.result.now c.set_capacity.new.self (vec_len now) c.share.result
           now.ok.0 (omega arith) c.index_mut.ensures.value c.loop-place.invariant.begun c.set_capacity.ensures.set c.share.ensures;
+      opens = map-write opens_of c.loop-place.shards.items (vec_len c.loop-place.shards) c.loop-place.place c.index_mut.result.now c.set_capacity.new.self c.loop-place.shards.ok.0 (omega arith) c.index_mut.ensures.value c.set_capacity.ensures.opens ∙ c.loop-place.invariant.opens;
       len = c.loop-place.invariant.len;
     }
 

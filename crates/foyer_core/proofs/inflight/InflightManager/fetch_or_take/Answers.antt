@@ -1,10 +1,9 @@
-use Rattle.std.proofs.Common.{◌≡◌, ℕ, true, false, Option, Some, None, sym, ap, ◌∙◌, subst}
+use Rattle.std.proofs.Common.{◌≡◌, ℕ, false, Option, None, sym, ap, ◌∙◌, subst}
 use Rattle.std.specs.Prelude.{IsSomeAnd, is_some}
-use Rattle.std.proofs.lemmas.Bool.{true≢false}
-use Rattle.foyer_core.specs.Inflight.{Opens, Place, IsFetchOrTake, asked, closed, with_place}
+use Rattle.foyer_core.specs.Inflight.{Opens, Place, IsFetchOrTake, asked, closed}
 use Rattle.foyer_core.specs.Inflights.{opens_of}
 use Rattle.foyer_core.specs.declared.inflight.FetchOrTake.TheVariants.{Notifiers}
-use Rattle.foyer_core.proofs.InflightLemmas.{none_some, not_asked, nothing_kept, nothing_taken, open_asked, written_there}
+use Rattle.foyer_core.proofs.InflightLemmas.{none_some, nothing_taken, open_asked, written_there}
 use Rattle.foyer_core.proofs.inflight.InflightManager.fetch_or_take.Goals as goal
 
 pub unreachable-requires : goal.unreachable-requires

@@ -1,6 +1,7 @@
-use Rattle.std.proofs.Common.{ℕ, None, refl, sym}
+use Rattle.std.proofs.Common.{◌≡◌, ℕ, ◌<◌, ◌∙◌, Some, None, length, refl, sym, ap}
+use Rattle.std.specs.Prelude.{option_and_then}
 use Rattle.slab.specs.Slab.{get}
-use Rattle.foyer_core.specs.Inflight.{closed, numbers_in, opens_by}
+use Rattle.foyer_core.specs.Inflight.{Place, closed, numbers_in, opens_by}
 use Rattle.foyer_core.specs.Inflights.{opens_of}
 use Rattle.foyer_core.proofs.SlotLemmas.{updates_at}
 use Rattle.foyer_core.proofs.InflightLemmas.{led_to, same_opens, take_linked, take_open, take_places}
@@ -31,3 +32,12 @@ returns-clause-opens g c =
     let write = updates_at s.inflights c.remove-2.new.self n None c.remove-2.ensures.updates in
     same_opens (opens_by (numbers_in c.remove.new.self) (get c.remove-2.new.self) s.next_fetch s.next_token) (closed g.K.PartialEq.eq (opens_of s) k)
     (take_places g.met.K.Eq.laws (numbers_in s.index) (numbers_in c.remove.new.self) (get s.inflights) (get c.remove-2.new.self) k n s.linked (sym c.in_ok-number.ensures) c.remove.ensures.view write) refl refl
+
+pub returns-clause-waited : goal.returns-clause-waited
+returns-clause-waited g c =
+    let s = c.args.self.now in
+    let k : ℕ × g.row.K.Denot = (c.args.hash, c.args.key.now) in
+    let there : (opens_of s).places k ≡ Some c.remove-2.result = ap (option_and_then (get s.inflights)) (sym c.in_ok-number.ensures) ∙ c.remove-2.ensures.value in
+    let some : 0 < length c.remove-2.result.tokens = s.sound.waited k c.remove-2.result there in
+    let view : c.waiters.inside.waiters.items ≡ c.remove-2.result.tokens = ap (λ (o : Place g.row.N.Denot g.row.R.Denot). o.tokens) c.waiters.view_is in
+    rw view some

@@ -1,10 +1,10 @@
-use Rattle.std.proofs.Common.{◌≡◌, ◌-◌, ℕ, ◌++◌, Some, None, true, false, max, refl, sym, ◌∙◌, ap, subst, arith, append-nil}
+use Rattle.std.proofs.Common.{◌≡◌, ◌-◌, ℕ, ◌++◌, Some, None, true, refl, sym, ◌∙◌, ap, subst, arith, append-nil}
 use Rattle.std.proofs.Math.Logic.{∥∥₁_elim}
 use Rattle.std.proofs.Props.{props}
 use Rattle.foyer_core.specs.declared.record.Data.{Data}
-use Rattle.foyer_core.specs.Values.{Kept, Rec, Incoming, incoming_of}
+use Rattle.foyer_core.specs.Values.{Kept, Incoming, incoming_of}
 use Rattle.foyer_core.specs.State.{key_of}
-use Rattle.foyer_core.specs.Steps.{replaced_leaves, Evicts, GivesWay, HasId, RefusesPlain}
+use Rattle.foyer_core.specs.Steps.{replaced_leaves, Evicts, GivesWay}
 use Rattle.foyer_core.specs.Stores.{meaning_of, state_of}
 use Rattle.foyer_core.proofs.InsertLemmas.{fits_after}
 use Rattle.foyer_core.proofs.Emplaced.{evicts_rests, evicts_out, evicts_begin, emplaced, wants_memory, wants_memory_first}

@@ -1,8 +1,7 @@
-use Rattle.std.proofs.Common.{◌≡◌, ◌<◌, ◌≤◌, ℕ, [], arith, ap, subst}
+use Rattle.std.proofs.Common.{◌≡◌, ◌<◌, ◌≤◌, ℕ, arith, ap, subst}
 use Rattle.foyer_policy.specs.declared.types.Event.TheVariants.{Evict}
 use Rattle.foyer_core.specs.State.{usage_of}
 use Rattle.foyer_core.specs.Steps.{EvictsOne, Evicts}
-use Rattle.foyer_core.specs.Bulk.{GoesOn}
 use Rattle.foyer_core.specs.Stores.{meaning_of, state_of}
 use Rattle.foyer_core.proofs.Evictions.{Begun, begun-start, begun-evicts, begun-low, begun-none, popped_shorter}
 use Rattle.foyer_core.proofs.Told.{goes_start, goes_more, goes_so}

@@ -1,6 +1,4 @@
-use Rattle.std.proofs.Common.{◌≡◌, ◌<◌, ◌≤◌, List, ◌++◌, length, vec_len, vec_capacity}
-use Rattle.foyer_policy.specs.declared.types.Event.{Event}
-use Rattle.foyer_core.specs.Values.{Gone}
+use Rattle.std.proofs.Common.{◌<◌, ◌≤◌, length, vec_len, vec_capacity}
 use Rattle.foyer_core.specs.Records.{HasRoom}
 use Rattle.foyer_core.specs.Stores.{meaning_of, state_of}
 use Rattle.foyer_core.proofs.Evictions.{Begun}

@@ -1,4 +1,4 @@
-use Rattle.std.proofs.Common.{◌≡◌, ◌<◌, ◌+◌, ℕ, List, ◌∷◌, ◌++◌, [], Some, length, take, drop, refl, sym, ◌∙◌, ap, subst, subst₂, arith}
+use Rattle.std.proofs.Common.{◌≡◌, ◌+◌, List, ◌∷◌, ◌++◌, [], Some, length, take, drop, refl, sym, ◌∙◌, ap, subst, subst₂, arith}
 use Rattle.std.specs.Prelude.{Option, IsSomeAnd, true, slice_index_or}
 use Rattle.std.proofs.lemmas.List.{take_more, drop_more, take_all, drop_all}
 use Rattle.foyer_policy.specs.declared.types.Item.{Item}
@@ -8,7 +8,7 @@ use Rattle.foyer_core.specs.Values.{Kept}
 use Rattle.foyer_core.specs.State.{key_of}
 use Rattle.foyer_core.specs.Stored.{meaning}
 use Rattle.foyer_core.specs.Records.{slot_in, number_of}
-use Rattle.foyer_core.specs.Bulk.{GoesOn, Lined, Passes}
+use Rattle.foyer_core.specs.Bulk.{Passes}
 use Rattle.foyer_core.proofs.StoredLemmas.{none_not, some_of}
 use Rattle.foyer_core.proofs.ShardLemmas.{resident}
 use Rattle.foyer_core.proofs.Outgoing.{out_known, out_there, out_led}

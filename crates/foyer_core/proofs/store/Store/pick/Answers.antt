@@ -1,4 +1,4 @@
-use Rattle.std.proofs.Common.{◌≡◌, ◌<◌, ◌≤◌, ◌+◌, ℕ, List, ◌∷◌, ◌++◌, [], length, take, drop, refl, sym, ◌∙◌, ap, subst, arith, append-nil, vec_len, vec_capacity}
+use Rattle.std.proofs.Common.{◌≡◌, ◌<◌, ◌≤◌, ◌+◌, List, ◌∷◌, ◌++◌, [], length, take, drop, refl, sym, ◌∙◌, ap, subst, arith, append-nil, vec_len, vec_capacity}
 use Rattle.std.specs.Prelude.{slice_index_or, if◌then◌else◌}
 use Rattle.std.proofs.lemmas.List.{take_more, drop_more, take_all}
 use Rattle.foyer_policy.specs.Items.{count_of, IsWithin}
@@ -8,7 +8,7 @@ use Rattle.foyer_policy.proofs.ItemLemmas.{count-cons}
 use Rattle.foyer_core.specs.Bulk.{Says}
 use Rattle.foyer_core.specs.Stores.{state_of}
 use Rattle.foyer_core.proofs.Outs.{counted_first}
-use Rattle.foyer_core.proofs.Picking.{PickedSoFar, picked-start, picked-more, picked_within}
+use Rattle.foyer_core.proofs.Picking.{picked-start, picked-more, picked_within}
 use Rattle.foyer_core.proofs.store.Store.pick.Goals as goal
 use Rattle.foyer_core.proofs.store.Store.pick.Goals.{then-says, else-says}
 

@@ -1,10 +1,10 @@
-use Rattle.std.proofs.Common.{◌≡◌, ◌<◌, ℕ, Some, None, refl, sym, ◌∙◌, ap, subst, arith, rules}
+use Rattle.std.proofs.Common.{◌≡◌, ℕ, Some, None, sym, ◌∙◌, ap, subst, arith, rules}
 use Rattle.std.specs.Prelude.{Option, IsSomeAnd, true}
 use Rattle.foyer_policy.specs.Policy.{without}
 use Rattle.foyer_policy.specs.declared.types.Item.{Item}
 use Rattle.foyer_core.specs.Values.{Kept, Gone}
 use Rattle.foyer_core.specs.State.{key_of}
-use Rattle.foyer_core.specs.Stores.{meaning_of, state_of}
+use Rattle.foyer_core.specs.Stores.{meaning_of}
 use Rattle.foyer_core.specs.Table.{rec_of}
 use Rattle.foyer_core.specs.Records.{slot_in, number_of}
 use Rattle.foyer_core.proofs.StoredLemmas.{none_not, place_is}

@@ -1,7 +1,9 @@
-use Rattle.std.proofs.Common.{◌≡◌, ◌∙◌, ℕ, Err, ap}
+use Rattle.std.proofs.Common.{◌≡◌, ◌∙◌, ℕ, Err, ap, map}
 use Rattle.std.specs.Prelude.{IfSome}
 use Rattle.std.proofs.lemmas.List.{map-append}
-use Rattle.foyer_core.specs.Shards.{state_of}
+use Rattle.std.proofs.lemmas.List.Elements.{All-push}
+use Rattle.foyer_core.specs.Inflight.{no_opens}
+use Rattle.foyer_core.specs.Shards.{opens_of, state_of}
 use Rattle.foyer_core.specs.Stored.{meaning}
 use Rattle.foyer_core.proofs.Sharing.{new_pushed, refused_by}
 use Rattle.foyer_core.proofs.StoredLemmas.{err_is}
@@ -29,5 +31,6 @@ loop-number-preserved g c =
             no_records = made.records;
             starts = made.next;
           });
+      opens = rw (c.push_reserved.ensures.items, c.reserve.ensures.items, map-append) (All-push (λ f. f ≡ no_opens) (map opens_of c.loop-number.shards.items) (opens_of c.in_ok-shard.shard) c.loop-number.invariant.opens made.opens);
       accepted = λ some. made.accepted;
     }

@@ -1,0 +1,13 @@
+use Rattle.foyer_core.specs.Inflights.{opens_of}
+use Rattle.foyer_core.specs.Stores.{meaning_of, state_of}
+use Rattle.foyer_core.proofs.ApartLemmas.{within_apart, within_same}
+use Rattle.foyer_core.proofs.ShardTold.{touches_index}
+use Rattle.foyer_core.proofs.shard.Shard.touch.Goals as goal
+
+pub invariant_of-self : goal.invariant_of-self
+invariant_of-self g c =
+    let s = c.args.self.now in
+    let f = opens_of s.inflights in
+    let old = state_of s.store in
+    let new = state_of c.touch.new.self in
+    record { apart = within_apart f old new (within_same old new (touches_index (meaning_of s.store) old (c.args.hash, c.args.key.now) c.touch.result new c.touch.ensures.touches)) s.apart }

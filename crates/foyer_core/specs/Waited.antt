@@ -1,0 +1,50 @@
+-- What those get who wait for a key.
+use Rattle.std.specs.Prelude.{◌≡◌, ℕ, Bool, false, List, [], Option, Some, None, Result, Ok, Err, length, replicate}
+use Rattle.foyer_policy.specs.declared.error.Reason.{Reason}
+use Rattle.foyer_policy.specs.declared.types.Event.{Event}
+use Rattle.foyer_core.specs.declared.outcome.Answers.{Answers}
+use Rattle.foyer_core.specs.declared.outcome.Ended.{Ended}
+use Rattle.foyer_core.specs.declared.outcome.Outcome.{Outcome}
+use Rattle.foyer_core.specs.declared.outcome.Outcome.TheVariants.{Entries, Fault, None as Nothing}
+use Rattle.foyer_core.specs.declared.outcome.Waiting.{Waiting}
+use Rattle.foyer_core.specs.Inflight.{Opens, waiters_of}
+use Rattle.foyer_core.specs.Values.{Gone, Held}
+
+-- the entries that are handed out, where there are to be some
+abbrev pub entries_in : {K V P : Type 0} → Outcome K V P → Option (List (Held K V P))
+entries_in (Entries entries) = Some entries.items
+entries_in _ = None
+
+-- how many wait for a key
+abbrev pub waiting_for : {K N R : Type 0} → Opens K N R → ℕ × K → ℕ
+waiting_for f k = length (waiters_of (f.places k))
+
+-- these waited, and get an entry like this one each
+abbrev pub AnswersEach : {K V P N : Type 0} → List (Waiting N) → Held K V P → Answers K V P N → Type 0
+AnswersEach waiters entry answers = (answers.waiters.items ≡ waiters) × (entries_in answers.outcome ≡ Some (replicate (length waiters) entry))
+
+-- nobody waited
+abbrev pub AnswersNobody : {K V P N : Type 0} → Answers K V P N → Type 0
+AnswersNobody answers = (answers.waiters.items ≡ []) × (entries_in answers.outcome ≡ Some [])
+
+-- how a fetch ended: whether it was open, who waited in order, what they get (an entry each, none, or the one refusal),
+-- and what left
+pub record Ending (K V P N : Type 0) : Type 0 where
+  pub found : Bool
+  pub waiters : List (Waiting N)
+  pub outcome : Result (Option (List (Held K V P))) Reason
+  pub leaves : List (Event × Gone K V P)
+
+-- a fetch that is not open ends so
+abbrev pub lost : {K V P N : Type 0} → Ending K V P N
+lost = record { found = false; waiters = []; outcome = Ok None; leaves = [] }
+
+-- what those get who waited: an entry each, none, or the one refusal
+abbrev pub got_of : {K V P : Type 0} → Outcome K V P → Result (Option (List (Held K V P))) Reason
+got_of (Entries entries) = Ok (Some entries.items)
+got_of Nothing = Ok None
+got_of (Fault reason) = Err reason
+
+-- what contracts see of the end of a fetch
+abbrev pub ending_of : {K V P N : Type 0} → Ended K V P N → Ending K V P N
+ending_of e = record { found = e.found; waiters = e.answers.waiters.items; outcome = got_of e.answers.outcome; leaves = e.leaves.items }
