@@ -16,6 +16,7 @@ use std::test::Fail;
 mod asked;
 mod bulk;
 mod entries;
+mod fetches;
 mod filter;
 mod location;
 mod memory;

@@ -1,4 +1,7 @@
-use foyer_core::{CacheProperties, CoreEntry, Data, HashTableIndexer, Left, Limits, Shard};
+use foyer_core::{
+    Answers, CacheProperties, CoreEntry, Data, HashTableIndexer, Inserted, Left, Limits, Outcome,
+    Shard,
+};
 use foyer_policy::{Event, Lru, LruConfig, Result, Source};
 use std::alloc::Global;
 use std::process::Abort;
@@ -37,7 +40,19 @@ fn put(rt: &impl Abort, alloc: Global, shard: &mut Plain, key: u64, weight: usiz
         Source::Outer,
     );
     match made {
-        Ok((entry, leaves)) => {
+        Ok(made) => {
+            let Inserted {
+                entry,
+                answers,
+                leaves,
+            } = made;
+            let Answers { waiters, outcome } = answers;
+            drop(waiters);
+            match outcome {
+                Outcome::Entries(others) => others.destroy_empty(),
+                Outcome::None => (),
+                Outcome::Fault(_) => (),
+            }
             release(rt, shard, entry);
             assert!(rt; leaves.is_empty());
         }
