@@ -56,10 +56,7 @@ impl<E: Eviction, K: Key, V: Value, P: Properties, N: Drop, R: Drop, I: Indexer<
     {
         let further = self.further(kept.hash, &kept.key);
         match self.store.emplace(alloc, kept, source, further) {
-            Ok(made) => {
-                let waiters = self.inflights.close(made.entry.hash(), made.entry.key());
-                Ok(made.answering(waiters))
-            }
+            Ok(made) => Ok(self.inflights.answer(made)),
             Err(refused) => Err(refused),
         }
     }
@@ -93,10 +90,7 @@ impl<E: Eviction, K: Key, V: Value, P: Properties, N: Drop, R: Drop, I: Indexer<
     {
         let further = self.further_of(&piece);
         match self.store.take_back(alloc, piece, further) {
-            Ok(made) => {
-                let waiters = self.inflights.close(made.entry.hash(), made.entry.key());
-                Ok(made.answering(waiters))
-            }
+            Ok(made) => Ok(self.inflights.answer(made)),
             Err(refused) => Err(refused),
         }
     }
@@ -117,10 +111,7 @@ impl<E: Eviction, K: Key, V: Value, P: Properties, N: Drop, R: Drop, I: Indexer<
     {
         let further = self.further(kept.hash(), kept.key());
         match self.store.take_new(alloc, kept, further) {
-            Ok(made) => {
-                let waiters = self.inflights.close(made.entry.hash(), made.entry.key());
-                Ok(made.answering(waiters))
-            }
+            Ok(made) => Ok(self.inflights.answer(made)),
             Err(refused) => Err(refused),
         }
     }

@@ -1,4 +1,4 @@
-use Rattle.std.proofs.Common.{◌+◌}
+use Rattle.std.proofs.Common.{◌+◌, refl}
 use Rattle.foyer_core.specs.Inflights.{opens_of}
 use Rattle.foyer_core.specs.Steps.{newcomer}
 use Rattle.foyer_core.specs.Stores.{meaning_of, state_of}
@@ -13,7 +13,7 @@ invariant_of-self g c =
     let made = c.in-Ok.made in
     record {
       apart = arrived_apart (meaning_of s.store) (opens_of s.inflights) c.args.source old i made.leaves.items made.entry (state_of c.emplace.new.self) c.in-Ok.ensures.inserted
-          c.hash.result c.key.result.now c.hash.ensures c.key.ensures (opens_of c.close-waiters.new.self) c.close-waiters.ensures.closed s.apart;
+          made.entry.kept.hash made.entry.kept.key refl refl (opens_of c.answer.new.self) c.answer.ensures.closed s.apart;
     }
 
 pub invariant_of-self-in-Err-1 : goal.invariant_of-self-in-Err-1

@@ -1,4 +1,4 @@
-use Rattle.std.proofs.Common.{◌≡◌, ℕ, ◌+◌, ◌∙◌, Some, replicate, ap}
+use Rattle.std.proofs.Common.{◌≡◌, ℕ, ◌+◌, ◌∙◌, Some, replicate, ap, refl}
 use Rattle.foyer_core.specs.Inflight.{closed, waiters_of}
 use Rattle.foyer_core.specs.Inflights.{opens_of}
 use Rattle.foyer_core.specs.Pieces.{held_or}
@@ -14,7 +14,7 @@ invariant_of-self g c =
     let made = c.in-Ok.made in
     record {
       apart = back_apart (meaning_of s.store) (opens_of s.inflights) (state_of s.store) c.args.piece (1 + c.further_of-further.result.count) made.leaves.items made.entry (state_of c.take_back.new.self) c.in-Ok.ensures.returned
-          c.hash.result c.key.result.now c.hash.ensures c.key.ensures (opens_of c.close-waiters.new.self) c.close-waiters.ensures.closed s.apart;
+          made.entry.kept.hash made.entry.kept.key refl refl (opens_of c.answer.new.self) c.answer.ensures.closed s.apart;
     }
 
 pub invariant_of-self-in-Err-1 : goal.invariant_of-self-in-Err-1
@@ -32,11 +32,10 @@ returns-in-Ok-clause-answers g c =
     let f = opens_of s.inflights in
     let made = c.in-Ok.made in
     let k : ℕ × g.row.K.Denot = key_of (held_or c.args.piece.kept ((state_of s.store).records c.args.piece.id)) in
-    let under : ℕ × g.row.K.Denot = (c.hash.result, c.key.result.now) in
-    let named : under ≡ k = returned_key (meaning_of s.store) (state_of s.store) c.args.piece (1 + c.further_of-further.result.count) made.leaves.items made.entry (state_of c.take_back.new.self) c.in-Ok.ensures.returned
-    c.hash.result c.key.result.now c.hash.ensures c.key.ensures in
-    rw (c.answering.ensures.waiters, c.answering.ensures.entries, c.answering.ensures.entry) (
-      c.close-waiters.ensures.waiters ∙ ap (λ (q : ℕ × g.row.K.Denot). waiters_of (f.places q)) named,
+    let named : key_of made.entry.kept ≡ k = returned_key (meaning_of s.store) (state_of s.store) c.args.piece (1 + c.further_of-further.result.count) made.leaves.items made.entry (state_of c.take_back.new.self) c.in-Ok.ensures.returned
+    made.entry.kept.hash made.entry.kept.key refl refl in
+    rw (c.answer.ensures.waiters, c.answer.ensures.entries, c.answer.ensures.entry) (
+      ap (λ (q : ℕ × g.row.K.Denot). waiters_of (f.places q)) named,
       ap Some (c.in-Ok.ensures.others ∙ ap (λ (n : ℕ). replicate n made.entry) c.further_of-further.ensures.count),
     )
 
@@ -46,7 +45,6 @@ returns-in-Ok-clause-closed g c =
     let f = opens_of s.inflights in
     let made = c.in-Ok.made in
     let k : ℕ × g.row.K.Denot = key_of (held_or c.args.piece.kept ((state_of s.store).records c.args.piece.id)) in
-    let under : ℕ × g.row.K.Denot = (c.hash.result, c.key.result.now) in
-    let named : under ≡ k = returned_key (meaning_of s.store) (state_of s.store) c.args.piece (1 + c.further_of-further.result.count) made.leaves.items made.entry (state_of c.take_back.new.self) c.in-Ok.ensures.returned
-    c.hash.result c.key.result.now c.hash.ensures c.key.ensures in
-    c.close-waiters.ensures.closed ∙ ap (λ (q : ℕ × g.row.K.Denot). closed g.K.PartialEq.eq f q) named
+    let named : key_of made.entry.kept ≡ k = returned_key (meaning_of s.store) (state_of s.store) c.args.piece (1 + c.further_of-further.result.count) made.leaves.items made.entry (state_of c.take_back.new.self) c.in-Ok.ensures.returned
+    made.entry.kept.hash made.entry.kept.key refl refl in
+    c.answer.ensures.closed ∙ ap (λ (q : ℕ × g.row.K.Denot). closed g.K.PartialEq.eq f q) named
