@@ -2,6 +2,7 @@ pub mod AdmitLemmas
 pub mod Answered
 pub mod AnsweredPieces
 pub mod ApartLemmas
+pub mod Asked
 pub mod CallsTold
 pub mod ChainLemmas
 pub mod Clearing

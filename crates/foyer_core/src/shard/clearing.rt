@@ -8,7 +8,7 @@ ghost use Rattle.foyer_policy.specs.declared.types.Event.TheVariants.{Evict};
 use super::Shard;
 use crate::entry::Leave;
 use crate::indexer::Indexer;
-use foyer_policy::{Eviction, Item, Key, Properties, Result, Value};
+use foyer_policy::{Error, Eviction, Item, Key, Properties, Reason, Result, Value};
 use std::alloc::Global;
 
 impl<E: Eviction, K: Key, V: Value, P: Properties, N: Drop, R: Drop, I: Indexer<K>> Shard<
@@ -49,6 +49,23 @@ impl<E: Eviction, K: Key, V: Value, P: Properties, N: Drop, R: Drop, I: Indexer<
         self.store.clear(items, leaves)
     }
 
+    /// Takes everything out, as `Clear`, in the policy's order, and appends what leaves. Refused for want of memory
+    /// alone (F7); then nothing has changed.
+    pub fn clear_onto(&mut self, leaves: &mut Vec<Leave<K, V, P>>) -> Result<()>
+        ensures done { OnOk result (GoesOn leaves.old.items leaves.new.items (λ ls. Clears (meaning_of self.old) (state_of self.old) ls (state_of self.new))) }
+        ensures err { OnErr result (state_of self.new ≡ state_of self.old) }
+        ensures none { OnErr result (leaves.new.items ≡ leaves.old.items) }
+        ensures refused { IfErr result (λ e. e ≡ NoMemory) }
+        ensures opens { opens_of self.new ≡ opens_of self.old }
+    {
+        let items = self.reserve_clear()?;
+        let Ok(()) = leaves.reserve(items.len()) else {
+            return Err(Error::new(Reason::NoMemory));
+        };
+        self.clear(&items, leaves);
+        Ok(())
+    }
+
     /// Takes the records of which the predicate says yes out, pinned or not, as `Evict`, in the policy's order.
     /// It is asked once of each. Refused for want of memory alone (F7); then nothing has changed.
     pub fn evict_if<F: Fn(&K, &V) -> bool>(
@@ -63,6 +80,28 @@ impl<E: Eviction, K: Key, V: Value, P: Properties, N: Drop, R: Drop, I: Indexer<
         ensures opens { opens_of self.new ≡ opens_of self.old }
     {
         self.store.evict_if(alloc, predicate)
+    }
+
+    /// The same, and appends what leaves.
+    pub fn evict_if_onto<F: Fn(&K, &V) -> bool>(
+        &mut self,
+        alloc: Global,
+        predicate: &F,
+        leaves: &mut Vec<Leave<K, V, P>>,
+    ) -> Result<()>
+        requires { F.IsAlwaysCallable predicate.now }
+        ensures done { OnOk result (GoesOn leaves.old.items leaves.new.items (λ ls. EvictsIf (meaning_of self.old) (Says F.Fn predicate.now) (state_of self.old) ls (state_of self.new))) }
+        ensures err { OnErr result (state_of self.new ≡ state_of self.old) }
+        ensures none { OnErr result (leaves.new.items ≡ leaves.old.items) }
+        ensures refused { IfErr result (λ e. e ≡ NoMemory) }
+        ensures opens { opens_of self.new ≡ opens_of self.old }
+    {
+        let picked = self.pick(alloc, predicate)?;
+        let Ok(()) = leaves.reserve(picked.len()) else {
+            return Err(Error::new(Reason::NoMemory));
+        };
+        self.evict_picked(&picked, leaves);
+        Ok(())
     }
 
     /// The items of the records of which the predicate says yes, pinned or not, in the policy's order. It is

@@ -1,6 +1,6 @@
 //! Handles of a shard's records, and what it does with an entry that is its own.
 
-ghost use Rattle.std.specs.Prelude.{◌≡◌, ◌≢◌, ◌<◌, ◌↔◌, ◌⊎◌, OnErr, IfOk, IfErr, IsTrue};
+ghost use Rattle.std.specs.Prelude.{◌≡◌, ◌≢◌, ◌<◌, ◌↔◌, ◌⊎◌, OnErr, IfOk, IfErr, IfSome, IsTrue, true};
 
 use super::Shard;
 use crate::entry::{CoreEntry, Leave};
@@ -25,6 +25,7 @@ impl<E: Eviction, K: Key, V: Value, P: Properties, N: Drop, R: Drop, I: Indexer<
     /// has changed. It allocates nothing.
     pub fn get(&mut self, hash: u64, key: &K) -> Result<Option<CoreEntry<K, V, P>>>
         ensures gets { Gets (meaning_of self.old) (state_of self.old) (hash, key.now) result (state_of self.new) }
+        ensures asked { IfOk result (λ found. IfSome found (λ entry. K.eq key.now entry.kept.key ≡ true)) }
         ensures opens { opens_of self.new ≡ opens_of self.old }
     {
         self.store.get(hash, key)
@@ -52,6 +53,7 @@ impl<E: Eviction, K: Key, V: Value, P: Properties, N: Drop, R: Drop, I: Indexer<
     pub fn clone_handle(&mut self, entry: &CoreEntry<K, V, P>) -> Result<CoreEntry<K, V, P>>
         requires owned { (entry.now.number ≡ (state_of self.old).number) × (0 < handles_in (state_of self.old) entry.now.id) }
         ensures clones { ClonesHandle (state_of self.old) entry.now result (state_of self.new) }
+        ensures kept { IfOk result (λ clone. clone.kept ≡ entry.now.kept) }
         ensures opens { opens_of self.new ≡ opens_of self.old }
     {
         self.store.clone_handle(entry)

@@ -50,6 +50,7 @@ impl<E: Eviction, K: Key, V: Value, P: Properties, N: Drop, R: Drop, I: Indexer<
         ensures inserted { let handles = 1 + waiting_for (opens_of self.old) (key_of kept) in MatchResult result
             (λ made. Inserts (meaning_of self.old) source (state_of self.old) (newcomer (state_of self.old) kept handles) made.leaves.items made.entry (state_of self.new))
             (λ refused. RefusesInsert (meaning_of self.old) (state_of self.old) (newcomer (state_of self.old) kept handles) refused.error refused.leaves.items (state_of self.new)) }
+        ensures given { IfOk result (λ made. made.entry.kept ≡ kept) }
         ensures answers { IfOk result (λ made. AnswersEach (waiters_of ((opens_of self.old).places (key_of kept))) made.entry made.answers) }
         ensures closed { OnOk result (opens_of self.new ≡ closed K.eq (opens_of self.old) (key_of kept)) }
         ensures opens { OnErr result (opens_of self.new ≡ opens_of self.old) }

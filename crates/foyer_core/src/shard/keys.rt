@@ -1,6 +1,6 @@
 //! What a shard does with a key, beside a `get`.
 
-ghost use Rattle.std.specs.Prelude.{◌≡◌};
+ghost use Rattle.std.specs.Prelude.{◌≡◌, IfOk, IfSome, true};
 
 use super::Shard;
 use crate::entry::{CoreEntry, Left};
@@ -38,6 +38,7 @@ impl<E: Eviction, K: Key, V: Value, P: Properties, N: Drop, R: Drop, I: Indexer<
         key: &K,
     ) -> Result<Option<(CoreEntry<K, V, P>, Left<K, V, P>)>>
         ensures removes { Removes (meaning_of self.old) (state_of self.old) (hash, key.now) result (state_of self.new) }
+        ensures asked { IfOk result (λ taken. IfSome taken (λ out. K.eq key.now out.0.kept.key ≡ true)) }
         ensures opens { opens_of self.new ≡ opens_of self.old }
     {
         self.store.remove(hash, key)
