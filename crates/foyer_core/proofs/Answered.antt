@@ -1,9 +1,10 @@
 -- What an insert in one shard is for a core, refused or not.
-use Rattle.std.proofs.Common.{◌≡◌, ℕ, ◌+◌, ◌%◌, ◌<◌, length, List, map, Option, Ok, Err, Bool, true, refl, sym, ◌∙◌, ap, subst}
+use Rattle.std.proofs.Common.{◌≡◌, ℕ, ◌+◌, ◌%◌, ◌<◌, length, List, map, Option, Ok, Err, Bool, true, false, refl, sym, ◌∙◌, ap, subst}
 use Rattle.std.specs.Prelude.{IfOk, MatchResult, OnErr, OnOk, Result, slice_index_or, slice_set}
 use Rattle.std.specs.Cmp.{IsEquivalence}
 use Rattle.std.proofs.lemmas.Result.{on_err_weaker, on_ok_weaker}
 use Rattle.foyer_policy.specs.Policy.{IsPolicy}
+use Rattle.foyer_policy.specs.declared.types.Event.{Event}
 use Rattle.foyer_policy.specs.declared.types.Location.{Location}
 use Rattle.foyer_policy.specs.declared.types.Source.{Source}
 use Rattle.foyer_core.specs.declared.outcome.Answers.{Answers}
@@ -16,15 +17,16 @@ use Rattle.foyer_core.specs.Inflight.{Opens, Place, closed, waiters_of}
 use Rattle.foyer_core.specs.Laws.{Finds, HandlesStay, IsBoundedAt}
 use Rattle.foyer_core.specs.Observed.{IsTold, IsToldWith}
 use Rattle.foyer_core.specs.State.{Meaning, State, IsKept, MakesPlain, coming_in, is_phantom_record, key_of}
-use Rattle.foyer_core.specs.Steps.{Inserts, RefusesInsert, newcomer}
-use Rattle.foyer_core.specs.Values.{Held, Incoming}
+use Rattle.foyer_core.specs.Steps.{Inserts, InsertsBy, InsertsPlain, RefusesInsert, newcomer}
+use Rattle.foyer_core.specs.Values.{Gone, Held, Incoming}
 use Rattle.foyer_core.specs.Waited.{AnswersEach, waiting_for}
 use Rattle.foyer_core.proofs.CallsTold.{insert_told, refused_told}
 use Rattle.foyer_core.proofs.CoreLaws.{Came, Stands, came_stands, bounded_at, finds_at, stays_at}
 use Rattle.foyer_core.proofs.CoreLemmas.{at_over, core_over}
 use Rattle.foyer_core.proofs.CoreTold.{AreSound}
 use Rattle.foyer_core.proofs.FetchesOver.{fetches_become, fetches_stay, place_over}
-use Rattle.foyer_core.proofs.Inserting.{came_plain, came_stays, refused_stay}
+use Rattle.foyer_core.proofs.Inserting.{came_stays, made_plain, refused_stay}
+use Rattle.foyer_core.proofs.Returning.{inserted_entry}
 use Rattle.foyer_core.proofs.Staying.{RecordsStay, nothing}
 
 -- what a shard's insert answers, by its two cases
@@ -39,6 +41,16 @@ pub answer_stays : {K V P View C N : Type 0} (m : Meaning K P View C) (source : 
     → RecordsStay nothing old new
 answer_stays m source old new d handles kept (Ok made) h = came_stays m source old new d handles made.leaves.items made.entry kept h
 answer_stays m source old new d handles kept (Err refused) h = refused_stay m (is_phantom_record m d) old (newcomer old d handles) refused.error refused.leaves.items new h
+
+-- a record comes in as a plain one, where its entry says so
+module _ {K V P View C : Type 0} (m : Meaning K P View C) (source : Source) (d : Data K V P) (handles : ℕ) (s t : State K V P View) (ls : List (Event × Gone K V P)) (entry : Held K V P) where
+  entry_data : Inserts m source s (newcomer s d handles) ls entry t → entry.kept ≡ d
+  entry_data h = ap (λ (e : Held K V P). e.kept) (inserted_entry m source s (newcomer s d handles) ls entry t h)
+
+  as_plain : is_phantom_record m entry.kept ≡ false → Inserts m source s (newcomer s d handles) ls entry t → InsertsPlain m source s (newcomer s d handles) ls entry t
+  as_plain plain h =
+      let same : is_phantom_record m d ≡ false = ap (λ (e : Data K V P). is_phantom_record m e) (sym (entry_data h)) ∙ plain in
+      subst (λ (b : Bool). InsertsBy m b source s (newcomer s d handles) ls entry t) same h
 
 module _ {K V P View C S W A N : Type 0} (m : Meaning K P View C) (laws : IsEquivalence m.same) (good : IsPolicy m.policy) (hash : K → ℕ) (equal : (a b : K) → m.same a b ≡ true → hash a ≡ hash b)
     (old new : Core K V P View S W A) (sound : AreSound m laws good hash equal (length old.shards) old.shards)
@@ -57,40 +69,41 @@ module _ {K V P View C S W A N : Type 0} (m : Meaning K P View C) (laws : IsEqui
     go (Ok made) h = answer_stays m source at.before at.after d handles (sound (shard_of old d.hash) at.before at.there).kept (Ok made) h
     go (Err refused) h = answer_stays {N = N} m source at.before at.after d handles (sound (shard_of old d.hash) at.before at.there).kept (Err refused) h
 
-  -- the record is plain, whose properties are what the filter made of these
-  module _ (location : P → Option Location) (with_phantom : P → Bool → P) (admitted : Bool) (p : P) (plain : MakesPlain m.phantom location p) (sure : admitted ≡ true)
-      (is : d.properties ≡ coming_in location with_phantom admitted p) where
-    pub comes_found : (r : Result (Inserted K V P N) (Refused K V P)) → Comes r → IfOk r (λ made. Finds m hash new d.key d.value)
-    comes_found (Ok made) at =
-        let i : Incoming K V P = newcomer at.before d handles in
-        let stands : AtShard (λ s t. Stands m laws good d t) d.hash old new = record {
-          before = at.before;
-          after = at.after;
-          there = at.there;
-          stepped = came_stands m laws good source at.before i made.leaves.items made.entry at.after
-              (came_plain m location with_phantom admitted p plain sure source at.before at.after i made.leaves.items made.entry is at.stepped);
-          rest = at.rest;
-        } in
-        finds_at m laws good old new d d.hash refl stands hash (λ k same. sym (equal d.key k same) ∙ sym hashed)
-    comes_found (Err refused) at = tt
+  pub comes_found : (r : Result (Inserted K V P N) (Refused K V P)) → Comes r → IfOk r (λ made. is_phantom_record m made.entry.kept ≡ false → Finds m hash new d.key d.value)
+  comes_found (Ok made) at = λ plain.
+      let stands : AtShard (λ s t. Stands m laws good d t) d.hash old new = record {
+        before = at.before;
+        after = at.after;
+        there = at.there;
+        stepped = came_stands m laws good source at.before (newcomer at.before d handles) made.leaves.items made.entry at.after (as_plain m source d handles at.before at.after made.leaves.items made.entry plain at.stepped);
+        rest = at.rest;
+      } in
+      finds_at m laws good old new d d.hash refl stands hash (λ k same. sym (equal d.key k same) ∙ sym hashed)
+  comes_found (Err refused) at = tt
 
-    pub comes_bounded : (r : Result (Inserted K V P N) (Refused K V P)) → Comes r → IfOk r (λ made. IsBoundedAt m d.hash made.entry.kept.weight old new)
-    comes_bounded (Ok made) at =
-        let i : Incoming K V P = newcomer at.before d handles in
-        let came : AtShard (Came m laws good source d made.leaves.items made.entry) d.hash old new = record {
-          before = at.before;
-          after = at.after;
-          there = at.there;
-          stepped = record {
-            kept = (sound (shard_of old d.hash) at.before at.there).kept;
-            inc = i;
-            inserts = came_plain m location with_phantom admitted p plain sure source at.before at.after i made.leaves.items made.entry is at.stepped;
-            data_are = refl;
-          };
-          rest = at.rest;
-        } in
-        bounded_at m laws good old new source d made.leaves.items made.entry d.hash came made.entry.kept.weight (ap (λ (e : Held K V P). e.kept.weight) came.stepped.inserts.entry_is)
-    comes_bounded (Err refused) at = tt
+  pub comes_bounded : (r : Result (Inserted K V P N) (Refused K V P)) → Comes r → IfOk r (λ made. is_phantom_record m made.entry.kept ≡ false → IsBoundedAt m d.hash made.entry.kept.weight old new)
+  comes_bounded (Ok made) at = λ plain.
+      let came : AtShard (Came m laws good source d made.leaves.items made.entry) d.hash old new = record {
+        before = at.before;
+        after = at.after;
+        there = at.there;
+        stepped = record {
+          kept = (sound (shard_of old d.hash) at.before at.there).kept;
+          inc = newcomer at.before d handles;
+          inserts = as_plain m source d handles at.before at.after made.leaves.items made.entry plain at.stepped;
+          data_are = refl;
+        };
+        rest = at.rest;
+      } in
+      bounded_at m laws good old new source d made.leaves.items made.entry d.hash came made.entry.kept.weight (ap (λ (e : Held K V P). e.kept.weight) came.stepped.inserts.entry_is)
+  comes_bounded (Err refused) at = tt
+
+  -- and it does, where the filter makes so of its properties
+  pub comes_plain : (location : P → Option Location) (with_phantom : P → Bool → P) (admitted : Bool) (p : P) → MakesPlain m.phantom location p → admitted ≡ true
+      → d.properties ≡ coming_in location with_phantom admitted p → (r : Result (Inserted K V P N) (Refused K V P)) → Comes r → IfOk r (λ made. is_phantom_record m made.entry.kept ≡ false)
+  comes_plain location with_phantom admitted p plain sure is (Ok made) at =
+      ap (λ (e : Data K V P). is_phantom_record m e) (entry_data m source d handles at.before at.after made.leaves.items made.entry at.stepped) ∙ made_plain m location with_phantom admitted p plain sure d is
+  comes_plain location with_phantom admitted p plain sure is (Err refused) at = tt
 
 -- so for a core as what a list of shards shows
 module _ {X K V P View C S W A N R : Type 0} (m : Meaning K P View C) (f : X → State K V P View) (h : X → Opens K N R) (capacity : ℕ) (b : S) (w : W) (a : A)

@@ -41,13 +41,11 @@ module _ {K V P View C : Type 0} (m : Meaning K P View C) where
   came_stays source old new d handles ls entry kept h =
       inserted_stays (is_phantom_record m d) source old (newcomer old d handles) ls entry new h (new_goes_on old d handles (λ id r there. ∥∥₁_elim kept (hlevel props) (λ k. k.fresh id r there)))
 
-  -- a plain record comes in as one
-  pub came_plain : (location : P → Option Location) (with_phantom : P → Bool → P) (admitted : Bool) (p : P) → MakesPlain m.phantom location p → admitted ≡ true
-      → (source : Source) (old new : State K V P View) (inc : Incoming K V P) (ls : List (Event × Gone K V P)) (entry : Held K V P) → inc.kept.properties ≡ coming_in location with_phantom admitted p → Inserts m source old inc ls entry new
-      → InsertsPlain m source old inc ls entry new
-  came_plain location with_phantom admitted p plain sure source old new inc ls entry is h =
-      let same : is_phantom_record m inc.kept ≡ false = ap (λ (q : P). is_phantom (m.phantom q)) (is ∙ ap (λ (b : Bool). coming_in location with_phantom b p) sure ∙ comes_same m.phantom location with_phantom p plain) ∙ plain.0 in
-      subst (λ (b : Bool). InsertsBy m b source old inc ls entry new) same h
+  -- a record is plain, whose properties are what the filter made of these
+  pub made_plain : (location : P → Option Location) (with_phantom : P → Bool → P) (admitted : Bool) (p : P) → MakesPlain m.phantom location p → admitted ≡ true
+      → (d : Data K V P) → d.properties ≡ coming_in location with_phantom admitted p → is_phantom_record m d ≡ false
+  made_plain location with_phantom admitted p plain sure d is =
+      ap (λ (q : P). is_phantom (m.phantom q)) (is ∙ ap (λ (b : Bool). coming_in location with_phantom b p) sure ∙ comes_same m.phantom location with_phantom p plain) ∙ plain.0
 
   -- and where a piece's record comes in
   pub returns_stay : (old new : State K V P View) (piece : Carried K V P) (more : ℕ) (ls : List (Event × Gone K V P)) (entry : Held K V P) → Returns m old piece more ls entry new → RecordsStay nothing old new

@@ -3,6 +3,7 @@
 ghost use Rattle.std.specs.Prelude.{◌≡◌, ◌↔◌, ℕ, ◌+◌, ◌<◌, true, false, All, [], Some, None, Ok, Err, IfOk, IfErr, IfSome, OnOk, OnErr, IsOk, IsTrue, MatchResult, is_some, length, map, vec_len};
 ghost use Rattle.std.specs.Option.{option_to_list};
 ghost use Rattle.foyer_policy.specs.declared.error.Reason.TheVariants.{NoMemory};
+ghost use Rattle.foyer_policy.specs.Properties.{is_phantom};
 ghost use Rattle.foyer_policy.specs.declared.types.Source.TheVariants.{Outer};
 ghost use Rattle.foyer_core.specs.Core.{AreHashed, AreSums, Belong};
 ghost use Rattle.foyer_core.specs.Inflight.{closed, no_opens, waiters_of};
@@ -214,12 +215,13 @@ impl<
         ensures closed { let hash = S.hash_of (core_of self.old).hash_builder (K.hash_input key) in
             OnOk result (fetches_of self.new ≡ at_hash (λ f. closed K.eq f (hash, key)) (fetches_of self.old) hash) }
         ensures fetches { OnErr result (fetches_of self.new ≡ fetches_of self.old) }
-        ensures found { ((p : P) → P.is_default p → MakesPlain P.phantom_of P.location_of p) → IsAdmitted (A.admits (core_of self.old).filter key value)
-            → IfOk result (λ _. Finds (meaning_of_core self.new) (λ k. S.hash_of (core_of self.new).hash_builder (K.hash_input k))
-            (core_of self.new) key value) }
+        ensures plain { ((p : P) → P.is_default p → MakesPlain P.phantom_of P.location_of p) → IsAdmitted (A.admits (core_of self.old).filter key value)
+            → IfOk result (λ made. is_phantom (P.phantom_of made.entry.kept.properties) ≡ false) }
+        ensures found { IfOk result (λ made. is_phantom (P.phantom_of made.entry.kept.properties) ≡ false
+            → Finds (meaning_of_core self.new) (λ k. S.hash_of (core_of self.new).hash_builder (K.hash_input k)) (core_of self.new) key value) }
         ensures bounded { let hash = S.hash_of (core_of self.old).hash_builder (K.hash_input key) in
-            ((p : P) → P.is_default p → MakesPlain P.phantom_of P.location_of p) → IsAdmitted (A.admits (core_of self.old).filter key value)
-            → IfOk result (λ made. IsBoundedAt (meaning_of_core self.old) hash made.entry.kept.weight (core_of self.old) (core_of self.new)) }
+            IfOk result (λ made. is_phantom (P.phantom_of made.entry.kept.properties) ≡ false
+            → IsBoundedAt (meaning_of_core self.old) hash made.entry.kept.weight (core_of self.old) (core_of self.new)) }
         ensures stay { HandlesStay (λ _. 0) (core_of self.old) (core_of self.new) }
         ensures told { MatchResult result
             (λ made. IsToldWith K.eq (hashes_of self.old) P.phantom_of (core_of self.old) made.leaves.items made.entry.id made.entry.kept (core_of self.new))
@@ -258,12 +260,13 @@ impl<
         ensures closed { let hash = S.hash_of (core_of self.old).hash_builder (K.hash_input key) in
             OnOk result (fetches_of self.new ≡ at_hash (λ f. closed K.eq f (hash, key)) (fetches_of self.old) hash) }
         ensures fetches { OnErr result (fetches_of self.new ≡ fetches_of self.old) }
-        ensures found { MakesPlain P.phantom_of P.location_of properties → IsAdmitted (A.admits (core_of self.old).filter key value)
-            → IfOk result (λ _. Finds (meaning_of_core self.new) (λ k. S.hash_of (core_of self.new).hash_builder (K.hash_input k))
-            (core_of self.new) key value) }
+        ensures plain { MakesPlain P.phantom_of P.location_of properties → IsAdmitted (A.admits (core_of self.old).filter key value)
+            → IfOk result (λ made. is_phantom (P.phantom_of made.entry.kept.properties) ≡ false) }
+        ensures found { IfOk result (λ made. is_phantom (P.phantom_of made.entry.kept.properties) ≡ false
+            → Finds (meaning_of_core self.new) (λ k. S.hash_of (core_of self.new).hash_builder (K.hash_input k)) (core_of self.new) key value) }
         ensures bounded { let hash = S.hash_of (core_of self.old).hash_builder (K.hash_input key) in
-            MakesPlain P.phantom_of P.location_of properties → IsAdmitted (A.admits (core_of self.old).filter key value)
-            → IfOk result (λ made. IsBoundedAt (meaning_of_core self.old) hash made.entry.kept.weight (core_of self.old) (core_of self.new)) }
+            IfOk result (λ made. is_phantom (P.phantom_of made.entry.kept.properties) ≡ false
+            → IsBoundedAt (meaning_of_core self.old) hash made.entry.kept.weight (core_of self.old) (core_of self.new)) }
         ensures stay { HandlesStay (λ _. 0) (core_of self.old) (core_of self.new) }
         ensures told { MatchResult result
             (λ made. IsToldWith K.eq (hashes_of self.old) P.phantom_of (core_of self.old) made.leaves.items made.entry.id made.entry.kept (core_of self.new))

@@ -8,7 +8,7 @@ use Rattle.foyer_core.specs.Inflight.{waiters_of}
 use Rattle.foyer_core.specs.Shards.{meaning_of, opens_of, state_of}
 use Rattle.foyer_core.specs.State.{coming_in, key_of}
 use Rattle.foyer_core.specs.Waited.{waiting_for}
-use Rattle.foyer_core.proofs.Answered.{answers_over, closes_over, comes_bounded, comes_found, comes_over, comes_stay, comes_told, opens_stay}
+use Rattle.foyer_core.proofs.Answered.{answers_over, closes_over, comes_bounded, comes_found, comes_over, comes_plain, comes_stay, comes_told, opens_stay}
 use Rattle.foyer_core.proofs.CoreLemmas.{core_over}
 use Rattle.foyer_core.proofs.Hashing.{IsHashed, hashed_over}
 use Rattle.foyer_core.proofs.Loads.{sums_set, usage_fits, entries_fit}
@@ -115,8 +115,8 @@ returns-clause-fetches g c =
     let at = c.place-place.ensures.place ∙ ap (λ (n : ℕ). n % vec_len s.shards) c.hash-hash.ensures.hash in
     opens_stay (meaning_of_core s) state_of opens_of s.capacity s.hash_builder s.weighter s.filter s.shards.items (vec_len s.shards) c.place-place.result x y Outer d s.shards.ok.0 c.place-place.ensures.within at c.index_mut.ensures.value c.emplace-emplaced.result c.emplace-emplaced.ensures.opens
 
-pub returns-clause-found : goal.returns-clause-found
-returns-clause-found g c plain sure =
+pub returns-clause-plain : goal.returns-clause-plain
+returns-clause-plain g c plain sure =
     let s = c.args.self.now in
     let x = c.index_mut.result.now in
     let y = c.emplace-emplaced.new.self in
@@ -129,10 +129,26 @@ returns-clause-found g c plain sure =
     let new = core_over state_of s.capacity s.hash_builder s.weighter s.filter (slice_set s.shards.items c.place-place.result y) in
     let did = rw (c.hash-hash.ensures.hash, c.marked-properties.ensures) at c.emplace-emplaced.ensures.inserted in
     let step = comes_over (meaning_of_core s) state_of opens_of s.capacity s.hash_builder s.weighter s.filter s.shards.items (vec_len s.shards) c.place-place.result x y Outer d s.shards.ok.0 c.place-place.ensures.within at c.index_mut.ensures.value c.emplace-emplaced.result did in
-    comes_found m g.met.K.Eq.laws g.met.E.Eviction.lawful (hashes_of s) equal (core_of s) new sound Outer d refl (1 + length (waiters_of (place_in (fetches_of s) (hash, c.args.key)))) g.P.Properties.location_of g.P.Properties.with_phantom_of c.admit-admitted.result c.args.properties plain (sure c.admit-admitted.result c.admit-admitted.ensures) refl c.emplace-emplaced.result step
+    comes_plain m g.met.K.Eq.laws g.met.E.Eviction.lawful (hashes_of s) equal (core_of s) new sound Outer d refl (1 + length (waiters_of (place_in (fetches_of s) (hash, c.args.key)))) g.P.Properties.location_of g.P.Properties.with_phantom_of c.admit-admitted.result c.args.properties plain (sure c.admit-admitted.result c.admit-admitted.ensures) refl c.emplace-emplaced.result step
+
+pub returns-clause-found : goal.returns-clause-found
+returns-clause-found g c =
+    let s = c.args.self.now in
+    let x = c.index_mut.result.now in
+    let y = c.emplace-emplaced.new.self in
+    let hash = hashes_of s c.args.key in
+    let d : Data g.row.K.Denot g.row.V.Denot g.row.P.Denot = record { key = c.args.key; value = c.args.value; properties = coming_in g.P.Properties.location_of g.P.Properties.with_phantom_of c.admit-admitted.result c.args.properties; hash = hash; weight = c.weigh-weight.result } in
+    let at = c.place-place.ensures.place ∙ ap (λ (n : ℕ). n % vec_len s.shards) c.hash-hash.ensures.hash in
+    let m = meaning_of_core s in
+    let equal : (a b : g.row.K.Denot) → g.K.PartialEq.eq a b ≡ true → hashes_of s a ≡ hashes_of s b = λ a b same. ap (g.S.HashBuilder.hash_of s.hash_builder) (g.met.K.Hash.respects_eq a b same) in
+    let sound = core_sound s g.met.K.Eq.laws g.met.E.Eviction.lawful equal in
+    let new = core_over state_of s.capacity s.hash_builder s.weighter s.filter (slice_set s.shards.items c.place-place.result y) in
+    let did = rw (c.hash-hash.ensures.hash, c.marked-properties.ensures) at c.emplace-emplaced.ensures.inserted in
+    let step = comes_over (meaning_of_core s) state_of opens_of s.capacity s.hash_builder s.weighter s.filter s.shards.items (vec_len s.shards) c.place-place.result x y Outer d s.shards.ok.0 c.place-place.ensures.within at c.index_mut.ensures.value c.emplace-emplaced.result did in
+    comes_found m g.met.K.Eq.laws g.met.E.Eviction.lawful (hashes_of s) equal (core_of s) new sound Outer d refl (1 + length (waiters_of (place_in (fetches_of s) (hash, c.args.key)))) c.emplace-emplaced.result step
 
 pub returns-clause-bounded : goal.returns-clause-bounded
-returns-clause-bounded g c plain sure =
+returns-clause-bounded g c =
     let s = c.args.self.now in
     let x = c.index_mut.result.now in
     let y = c.emplace-emplaced.new.self in
@@ -145,7 +161,7 @@ returns-clause-bounded g c plain sure =
     let new = core_over state_of s.capacity s.hash_builder s.weighter s.filter (slice_set s.shards.items c.place-place.result y) in
     let did = rw (c.hash-hash.ensures.hash, c.marked-properties.ensures) at c.emplace-emplaced.ensures.inserted in
     let step = comes_over (meaning_of_core s) state_of opens_of s.capacity s.hash_builder s.weighter s.filter s.shards.items (vec_len s.shards) c.place-place.result x y Outer d s.shards.ok.0 c.place-place.ensures.within at c.index_mut.ensures.value c.emplace-emplaced.result did in
-    comes_bounded m g.met.K.Eq.laws g.met.E.Eviction.lawful (hashes_of s) equal (core_of s) new sound Outer d refl (1 + length (waiters_of (place_in (fetches_of s) (hash, c.args.key)))) g.P.Properties.location_of g.P.Properties.with_phantom_of c.admit-admitted.result c.args.properties plain (sure c.admit-admitted.result c.admit-admitted.ensures) refl c.emplace-emplaced.result step
+    comes_bounded m g.met.K.Eq.laws g.met.E.Eviction.lawful (hashes_of s) equal (core_of s) new sound Outer d refl (1 + length (waiters_of (place_in (fetches_of s) (hash, c.args.key)))) c.emplace-emplaced.result step
 
 pub returns-clause-stay : goal.returns-clause-stay
 returns-clause-stay g c =
