@@ -48,6 +48,7 @@ pub mod PairLemmas
 pub mod PathLemmas
 pub mod Phantoms
 pub mod Picking
+pub mod PieceBounds
 pub mod PieceCalls
 pub mod PieceLaws
 pub mod PieceTold

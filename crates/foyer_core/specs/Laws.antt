@@ -1,10 +1,11 @@
 -- What follows from the steps.
-use Rattle.std.specs.Prelude.{◌≡◌, ℕ, ◌+◌, ◌<◌, ◌≤◌, ◌==◌, ◌&&◌, max, if◌then◌else◌, Option, Some, Result, IfOk, IsSomeAnd, true}
+use Rattle.std.specs.Prelude.{◌≡◌, ℕ, ◌+◌, ◌<◌, ◌≤◌, ◌==◌, ◌&&◌, max, if◌then◌else◌, Option, Some, Result, IfOk, IsSomeAnd, true, false}
 use Rattle.foyer_policy.specs.Items.{weight_of}
 use Rattle.foyer_policy.specs.declared.error.Reason.{Reason}
 use Rattle.foyer_core.specs.Core.{Core, AtShard, record_of, shard_at, shard_of}
 use Rattle.foyer_core.specs.Values.{Rec, Held}
 use Rattle.foyer_core.specs.State.{Meaning, State, usage_of}
+use Rattle.foyer_core.specs.Pieces.{is_in}
 use Rattle.foyer_core.specs.Steps.{Gets}
 
 module _ {K V P View S W A : Type 0} where
@@ -17,6 +18,10 @@ module _ {K V P View S W A : Type 0} where
   -- one handle, for the record of this entry
   abbrev pub one_of : Core K V P View S W A → Held K V P → Held K V P → ℕ
   one_of core entry e = if (e.id == entry.id) && (shard_of core e.kept.hash == shard_of core entry.kept.hash) then 1 else 0
+
+  -- no record of this id is in the index of the shard of a hash
+  abbrev pub IsOutside : Core K V P View S W A → ℕ → ℕ → Type 0
+  IsOutside core hash id = (s : State K V P View) → shard_at core hash ≡ Some s → is_in (s.records id) ≡ false
 
 -- a shard's usage is at most its capacity, or a weight beside what was pinned before
 abbrev pub IsBounded : {K V P View C : Type 0} → Meaning K P View C → ℕ → State K V P View → State K V P View → Type 0

@@ -30,7 +30,7 @@ impl<
     ghost use Rattle.foyer_core.specs.Core.{AtShard, InsertsAnswering, shard_at};
     ghost use Rattle.foyer_core.specs.CoreFetches.{at_hash, place_in};
     ghost use Rattle.foyer_core.specs.Cores.{core_of, fetches_of, hashes_of, meaning_of_core};
-    ghost use Rattle.foyer_core.specs.Laws.{Finds, HandlesStay};
+    ghost use Rattle.foyer_core.specs.Laws.{Finds, HandlesStay, IsBoundedAt, IsOutside};
     ghost use Rattle.foyer_core.specs.Observed.{IsTold, IsToldWith};
     ghost use Rattle.foyer_core.specs.Pieces.{InsertsPiece, ReturnsAnswering, coming_under, held_or, is_known};
     ghost use Rattle.foyer_core.specs.State.{key_of};
@@ -63,6 +63,9 @@ impl<
         ensures found { IfOk result (λ made. is_phantom (P.phantom_of made.entry.kept.properties) ≡ false
             → Finds (meaning_of_core self.new) (λ k. S.hash_of (core_of self.new).hash_builder (K.hash_input k))
             (core_of self.new) made.entry.kept.key made.entry.kept.value) }
+        ensures bounded { let hash = S.hash_of (core_of self.old).hash_builder (K.hash_input piece.kept.key) in
+            IfOk result (λ made. is_phantom (P.phantom_of made.entry.kept.properties) ≡ false → IsOutside (core_of self.old) hash made.entry.id
+            → IsBoundedAt (meaning_of_core self.old) hash made.entry.kept.weight (core_of self.old) (core_of self.new)) }
         ensures stay { HandlesStay (λ _. 0) (core_of self.old) (core_of self.new) }
         ensures told { MatchResult result
             (λ made. IsToldWith K.eq (hashes_of self.old) P.phantom_of (core_of self.old) made.leaves.items made.entry.id made.entry.kept (core_of self.new))
