@@ -17,13 +17,12 @@ use crate::entry::{CoreEntry, Leave};
 use crate::filter::{AdmitAll, Filter};
 use crate::indexer::{HashTableIndexer, Indexer};
 use crate::outcome::{Inserted, Refused};
-use crate::properties::CacheProperties;
+use crate::properties::{CacheProperties, marked};
 use crate::record::Data;
 use crate::shard::Shard;
 use crate::weighter::{UnitWeighter, Weighter};
 use foyer_policy::{
-    DefaultHasher, Error, Eviction, HashBuilder, Key, Location, Properties, Reason, Result, Source,
-    Value,
+    DefaultHasher, Error, Eviction, HashBuilder, Key, Properties, Reason, Result, Source, Value,
 };
 use load::Load;
 use std::alloc::Global;
@@ -36,6 +35,8 @@ mod in_turn;
 mod load;
 mod pieces;
 mod shards;
+
+pub use shards::shard_capacity;
 
 /// The records of a cache, found by their keys, in one thread's hands. `N` is what waits for an answer, `R` what
 /// builds a fetch, and `I` the index of each shard. Contracts see a `Core`: its shards, what gives its keys their
@@ -91,20 +92,7 @@ impl<
         ensures refused { IfSome (core_fault E.model config) (λ reason. result ≡ Err reason) }
         ensures memory { IfErr result (λ e. core_fault E.model config ≡ None → e ≡ NoMemory) }
     {
-        if config.shards == 0 {
-            return Err(Error::new(Reason::NoShards));
-        }
-        let shards = Self::new_shards(alloc, &config)?;
-        let load = Load::of_all(&shards);
-        Ok(CacheCore {
-            shards,
-            load,
-            capacity: config.capacity,
-            hash_builder: config.hash_builder,
-            weighter: config.weighter,
-            filter: config.filter,
-            alloc,
-        })
+        Self::with_index(alloc, config)
     }
 }
 
@@ -121,11 +109,35 @@ impl<
     I: Indexer<K>,
 > CacheCore<E, K, V, P, S, W, A, N, R, I> {
     ghost use Rattle.foyer_core.specs.CoreFetches.{at_hash, place_in};
-    ghost use Rattle.foyer_core.specs.Core.{AtShard, InsertsWeighed, Owns, entries_of_core, hit_in, usage_of_core};
+    ghost use Rattle.foyer_core.specs.Core.{AtShard, InsertsWeighed, IsNewCore, Owns, core_fault, entries_of_core, hit_in, usage_of_core};
     ghost use Rattle.foyer_core.specs.Cores.{core_of, fetches_of, hashes_of, meaning_of_core};
     ghost use Rattle.foyer_core.specs.Laws.{Finds, HandlesStay, IsBoundedAt, one_of};
     ghost use Rattle.foyer_core.specs.Observed.{IsTold, IsToldWith};
     ghost use Rattle.foyer_core.specs.Steps.{Gets, GivesBack};
+
+    /// A core that holds nothing, as `new` makes it, over indexes of a type that the caller picks.
+    pub fn with_index(alloc: Global, config: RawCacheConfig<E::Config, S, W, A>) -> Result<Self>
+        ensures made { IfOk result (λ core. IsNewCore (meaning_of_core core) config (core_of core)) }
+        ensures fetches { IfOk result (λ core. All (λ f. f ≡ no_opens) (fetches_of core)) }
+        ensures accepted { OnOk result (core_fault E.model config ≡ None) }
+        ensures refused { IfSome (core_fault E.model config) (λ reason. result ≡ Err reason) }
+        ensures memory { IfErr result (λ e. core_fault E.model config ≡ None → e ≡ NoMemory) }
+    {
+        if config.shards == 0 {
+            return Err(Error::new(Reason::NoShards));
+        }
+        let shards = Self::new_shards(alloc, &config)?;
+        let load = Load::of_all(&shards);
+        Ok(CacheCore {
+            shards,
+            load,
+            capacity: config.capacity,
+            hash_builder: config.hash_builder,
+            weighter: config.weighter,
+            filter: config.filter,
+            alloc,
+        })
+    }
 
     /// The weight that the records may have together.
     pub fn capacity(&self) -> usize
@@ -321,17 +333,5 @@ impl<
     {
         let place = self.place(entry.hash());
         self.shards[place].give_back(entry)
-    }
-}
-
-// The properties with which a record comes in, where this is what the filter answered.
-fn marked<P: Properties>(properties: P, admitted: bool) -> P
-    ensures { result ≡ coming_in P.location_of P.with_phantom_of admitted properties }
-{
-    let is_on_disk = matches!(properties.location(), Some(Location::OnDisk));
-    if !admitted || is_on_disk {
-        properties.with_phantom(true)
-    } else {
-        properties
     }
 }

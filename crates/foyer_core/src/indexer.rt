@@ -5,6 +5,7 @@ ghost use Rattle.std.specs.Map.{update};
 ghost use Rattle.foyer_policy.specs.declared.error.Reason.TheVariants.{NoMemory};
 
 use foyer_policy::{Key, Result};
+use std::alloc::Global;
 
 mod chain;
 mod hash_table;
@@ -21,6 +22,10 @@ pub trait Indexer<K: Key>: Drop {
 
     // the number under a hashed key
     ghost view: { Self → (ℕ × K) → Option ℕ };
+
+    /// An index with no keys.
+    fn empty(alloc: Global) -> Self
+        ensures { (q : ℕ × K) → view result q ≡ None };
 
     /// Puts a number under a key, and answers the number that was there. Only a new key can be
     /// refused, for want of memory, and nothing changes then.

@@ -18,7 +18,7 @@ mod slot;
 mod store;
 pub mod weighter;
 
-pub use cache_core::CacheCore;
+pub use cache_core::{CacheCore, shard_capacity};
 pub use config::RawCacheConfig;
 pub use entry::{CoreEntry, Leave, Left};
 pub use filter::{AdmitAll, Filter};
@@ -26,7 +26,7 @@ pub use indexer::{HashTableIndexer, Indexer, Sentry};
 pub use inflight::{Enqueue, FetchOrTake, InflightManager};
 pub use outcome::{Answers, Ended, FetchTarget, Inserted, Lookup, Outcome, Refused, Waiting};
 pub use piece::Piece;
-pub use properties::CacheProperties;
+pub use properties::{CacheProperties, marked};
 pub use record::{Data, Flags, Limits, Record};
 pub use shard::Shard;
 pub use weighter::{UnitWeighter, Weighter};

@@ -1,6 +1,7 @@
 //! The properties of the records of a plain cache.
 
 ghost use Rattle.std.specs.Prelude.{◌≡◌};
+ghost use Rattle.foyer_core.specs.State.{coming_in};
 
 use foyer_policy::{Age, Hint, Location, Properties};
 use std::marker::Model;
@@ -111,5 +112,18 @@ impl Properties for CacheProperties {
 
     fn age(&self) -> Option<Age> {
         None
+    }
+}
+
+/// The properties with which a record comes in, where this is what the filter answered: where that is no, or the record
+/// is to be on disk alone, they are made to say that it is phantom.
+pub fn marked<P: Properties>(properties: P, admitted: bool) -> P
+    ensures { result ≡ coming_in P.location_of P.with_phantom_of admitted properties }
+{
+    let is_on_disk = matches!(properties.location(), Some(Location::OnDisk));
+    if !admitted || is_on_disk {
+        properties.with_phantom(true)
+    } else {
+        properties
     }
 }

@@ -5,12 +5,13 @@ ghost use Rattle.foyer_core.specs.Inflight.{asked};
 ghost use Rattle.foyer_core.specs.State.{coming_in};
 ghost use Rattle.foyer_core.specs.Waited.{ending_of};
 
+use super::CacheCore;
 use super::load::Load;
-use super::{CacheCore, marked};
 use crate::filter::Filter;
 use crate::indexer::Indexer;
 use crate::outcome::{Ended, FetchTarget};
 use crate::piece::Piece;
+use crate::properties::marked;
 use crate::record::Data;
 use crate::weighter::Weighter;
 use foyer_policy::{Error, Eviction, HashBuilder, Key, Properties, Reason, Source, Value};

@@ -9,7 +9,7 @@ ghost use Rattle.foyer_core.specs.CoreBulk.{InTurn, InTurnUntil, EvictsToCapacit
 ghost use Rattle.foyer_core.specs.Shards.{opens_of, state_of};
 ghost use Rattle.foyer_core.specs.Stored.{meaning};
 
-use super::shards::share;
+use super::shards::shard_capacity;
 use crate::entry::Leave;
 use crate::indexer::Indexer;
 use crate::shard::Shard;
@@ -82,7 +82,7 @@ pub(super) fn share_out<
 {
     let count = shards.len();
     for place in 0..count {
-        shards[place].set_capacity(share(capacity, count, place));
+        shards[place].set_capacity(shard_capacity(capacity, count, place));
     }
 }
 

@@ -9,57 +9,15 @@ ghost use Rattle.foyer_core.specs.Stored.{meaning};
 use super::CacheCore;
 use crate::config::RawCacheConfig;
 use crate::filter::Filter;
-use crate::indexer::{HashTableIndexer, Indexer};
+use crate::indexer::Indexer;
 use crate::shard::Shard;
 use crate::weighter::Weighter;
 use foyer_policy::{Eviction, HashBuilder, Key, Properties, Result, Value};
 use std::alloc::Global;
 
-impl<
-    E: Eviction,
-    K: Key,
-    V: Value,
-    P: Properties,
-    S: HashBuilder,
-    W: Weighter<K, V>,
-    A: Filter<K, V>,
-    N: Drop,
-    R: Drop,
-> CacheCore<E, K, V, P, S, W, A, N, R> {
-    ghost use Rattle.foyer_core.specs.Shards.{opens_of, state_of};
-
-    // Shards that hold nothing and share the capacity, as many as there are to be.
-    pub(super) fn new_shards(
-        alloc: Global,
-        config: &RawCacheConfig<E::Config, S, W, A>,
-    ) -> Result<Vec<Shard<E, K, V, P, N, R, HashTableIndexer<K>>>>
-        requires some { 0 < config.now.shards }
-        ensures made { IfOk result (λ shards. AreNewShards (meaning K.eq E.model P.hint_of P.phantom_of) config.now config.now.shards (map state_of shards.items)) }
-        ensures opens { IfOk result (λ shards. All (λ f. f ≡ no_opens) (map opens_of shards.items)) }
-        ensures accepted { OnOk result (E.model.fault config.now.eviction_config ≡ None) }
-        ensures refused { IfSome (E.model.fault config.now.eviction_config) (λ reason. result ≡ Err reason) }
-        ensures memory { IfErr result (λ e. E.model.fault config.now.eviction_config ≡ None → e ≡ NoMemory) }
-    {
-        let mut shards = Vec::new(alloc);
-        for number in 0..config.shards {
-            let shard = Shard::new(
-                alloc,
-                config.number,
-                share(config.capacity, config.shards, number),
-                config.limits,
-                &config.eviction_config,
-                HashTableIndexer::new(alloc),
-            )?;
-            // Room for all is asked for at once, and after the configuration's fault.
-            shards.reserve(config.shards - number)?;
-            shards.push_reserved(shard);
-        }
-        Ok(shards)
-    }
-}
-
-// What the shard of a number gets of a capacity.
-pub(super) fn share(capacity: usize, shards: usize, number: usize) -> usize
+/// What the shard of a number gets of a capacity that so many shards have together: one part of it, rounded down, and
+/// one more where that leaves some over.
+pub fn shard_capacity(capacity: usize, shards: usize, number: usize) -> usize
     requires { 0 < shards }
     ensures { result ≡ share_of capacity shards number }
 {
@@ -78,6 +36,38 @@ impl<
     R: Drop,
     I: Indexer<K>,
 > CacheCore<E, K, V, P, S, W, A, N, R, I> {
+    ghost use Rattle.foyer_core.specs.Shards.{opens_of, state_of};
+
+    /// Shards that hold nothing and share a configuration's capacity, as many as it says, each over an empty index. They
+    /// are what a core has, for a cache that keeps each behind a lock of its own. Refused as `new` is.
+    pub fn new_shards(
+        alloc: Global,
+        config: &RawCacheConfig<E::Config, S, W, A>,
+    ) -> Result<Vec<Shard<E, K, V, P, N, R, I>>>
+        requires some { 0 < config.now.shards }
+        ensures made { IfOk result (λ shards. AreNewShards (meaning K.eq E.model P.hint_of P.phantom_of) config.now config.now.shards (map state_of shards.items)) }
+        ensures opens { IfOk result (λ shards. All (λ f. f ≡ no_opens) (map opens_of shards.items)) }
+        ensures accepted { OnOk result (E.model.fault config.now.eviction_config ≡ None) }
+        ensures refused { IfSome (E.model.fault config.now.eviction_config) (λ reason. result ≡ Err reason) }
+        ensures memory { IfErr result (λ e. E.model.fault config.now.eviction_config ≡ None → e ≡ NoMemory) }
+    {
+        let mut shards = Vec::new(alloc);
+        for number in 0..config.shards {
+            let shard = Shard::new(
+                alloc,
+                config.number,
+                shard_capacity(config.capacity, config.shards, number),
+                config.limits,
+                &config.eviction_config,
+                I::empty(alloc),
+            )?;
+            // Room for all is asked for at once, and after the configuration's fault.
+            shards.reserve(config.shards - number)?;
+            shards.push_reserved(shard);
+        }
+        Ok(shards)
+    }
+
     // The place of the shard of a hash.
     #[inline]
     pub(super) fn place(&self, hash: u64) -> usize

@@ -76,6 +76,10 @@ impl<K: Key> Indexer<K> for HashTableIndexer<K> {
 
     ghost respects = { λ s p q same. lookup_same K.Eq.laws p q same (entries_of s.pairs.items) };
 
+    fn empty(alloc: Global) -> Self {
+        HashTableIndexer::new(alloc)
+    }
+
     fn insert(&mut self, hash: u64, key: K, id: u64) -> Result<Option<u64>> {
         if let Some(place) = find(&self.heads, self.shift, &self.pairs, hash, &key) {
             let pair = &mut self.pairs[place];

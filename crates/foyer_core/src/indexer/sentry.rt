@@ -38,6 +38,12 @@ impl<K: Key, I: Indexer<K>> Indexer<K> for Sentry<I> {
 
     ghost respects = { λ s p q same. I.respects s.indexer p q same };
 
+    fn empty(alloc: Global) -> Self {
+        Sentry {
+            indexer: I::empty(alloc),
+        }
+    }
+
     #[inline]
     fn insert(&mut self, hash: u64, key: K, id: u64) -> Result<Option<u64>> {
         self.indexer.insert(hash, key, id)

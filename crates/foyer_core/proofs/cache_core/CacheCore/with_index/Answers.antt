@@ -3,7 +3,7 @@ use Rattle.foyer_core.specs.Shards.{state_of}
 use Rattle.foyer_core.specs.Stored.{meaning}
 use Rattle.foyer_core.proofs.Hashing.{new_hashed}
 use Rattle.foyer_core.proofs.Origins.{new_belong}
-use Rattle.foyer_core.proofs.cache_core.CacheCore+E+K+V+P+S+W+A+N+R.new.Goals as goal
+use Rattle.foyer_core.proofs.cache_core.CacheCore.with_index.Goals as goal
 
 pub invariant_of-result-clause-belong : goal.invariant_of-result-clause-belong
 invariant_of-result-clause-belong g c =

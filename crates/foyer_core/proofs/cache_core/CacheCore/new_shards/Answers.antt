@@ -6,7 +6,7 @@ use Rattle.foyer_core.specs.Stored.{meaning}
 use Rattle.foyer_core.proofs.FetchesOver.{opens_pushed}
 use Rattle.foyer_core.proofs.Sharing.{new_pushed, refused_by}
 use Rattle.foyer_core.proofs.StoredLemmas.{err_is}
-use Rattle.foyer_core.proofs.cache_core.shards.CacheCore+E+K+V+P+S+W+A+N+R.new_shards.Goals as goal
+use Rattle.foyer_core.proofs.cache_core.CacheCore.new_shards.Goals as goal
 
 pub returns-in_err-shard-clause-refused : goal.returns-in_err-shard-clause-refused
 returns-in_err-shard-clause-refused g c =
@@ -23,9 +23,9 @@ loop-number-preserved g c =
       made = rw (c.push_reserved.ensures.items, c.reserve.ensures.items, map-append)
           (new_pushed m config c.loop-number.number _ (state_of c.in_ok-shard.shard) c.loop-number.invariant.made record {
             numbered = made.number;
-            capacity_is = made.capacity ∙ c.share.ensures;
+            capacity_is = made.capacity ∙ c.shard_capacity.ensures;
             limits_are = made.limits;
-            view_is = made.view ∙ ap (λ (n : ℕ). m.policy.opening n config.eviction_config) c.share.ensures;
+            view_is = made.view ∙ ap (λ (n : ℕ). m.policy.opening n config.eviction_config) c.shard_capacity.ensures;
             nothing_indexed = made.index;
             no_records = made.records;
             starts = made.next;

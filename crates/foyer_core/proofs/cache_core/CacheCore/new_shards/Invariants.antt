@@ -4,7 +4,7 @@ use Rattle.foyer_core.specs.Core.{AreNewShards}
 use Rattle.foyer_core.specs.Inflight.{no_opens}
 use Rattle.foyer_core.specs.Shards.{opens_of, state_of}
 use Rattle.foyer_core.specs.Stored.{meaning}
-use Rattle.foyer_core.proofs.cache_core.shards.CacheCore+E+K+V+P+S+W+A+N+R.new_shards.Given as goal
+use Rattle.foyer_core.proofs.cache_core.CacheCore.new_shards.Given as goal
 
 -- the shards so far are the first ones, and with a first one the configuration has no fault
 abbrev pub invariant-loop-number : goal.invariant-loop-number
