@@ -194,3 +194,20 @@ fn a_lower_capacity_evicts_nothing_by_itself(rt: HostRuntime) -> std::result::Re
     assert_eq!(rt; shard.usage(), 1);
     Ok(())
 }
+
+// What leaves goes behind what a list has: those of which a predicate says yes, and then all others.
+#[test]
+fn leaves_go_onto_a_list(rt: HostRuntime) -> std::result::Result<(), Fail> {
+    let mut shard = three(&rt, rt.alloc())?;
+    let mut leaves = Vec::new(rt.alloc());
+    shard.evict_if_onto(rt.alloc(), &|key: &u64, _: &u64| *key == 2, &mut leaves)?;
+    assert_eq!(rt; (shard.usage(), shard.entries()), (1, 2));
+    shard.clear_onto(&mut leaves)?;
+    let told = told(rt.alloc(), &leaves)?;
+    assert_eq!(rt;
+        told.as_slice(),
+        [(Event::Evict, 2), (Event::Clear, 1), (Event::Clear, 3)].as_slice()
+    );
+    assert_eq!(rt; shard.entries(), 0);
+    Ok(())
+}

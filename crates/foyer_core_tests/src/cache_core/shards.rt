@@ -5,6 +5,7 @@ ghost use Rattle.foyer_core.specs.Core.{Owns};
 ghost use Rattle.foyer_core.specs.Cores.{core_of};
 
 use super::*;
+use foyer_core::{HashTableIndexer, Sentry, shard_capacity};
 use foyer_policy::{Lru, LruConfig, Ratio};
 
 #[test]
@@ -102,5 +103,52 @@ fn no_shards_are_refused_first(rt: HostRuntime) -> std::result::Result<(), Fail>
         refusal::<Fifo>(alloc, 18446744073709551615, FifoConfig {}),
         Some(7)
     );
+    Ok(())
+}
+
+type Guarded = CacheCore<
+    Fifo,
+    u64,
+    u64,
+    CacheProperties,
+    ModHasher,
+    UnitWeighter,
+    AdmitAll,
+    (),
+    (),
+    Sentry<HashTableIndexer<u64>>,
+>;
+
+// A core's index is of the type that its maker picks.
+#[test]
+fn a_core_stands_over_another_index(rt: HostRuntime) -> std::result::Result<(), Fail> {
+    let config = RawCacheConfig {
+        shards: 3,
+        hash_builder: ModHasher::default(),
+        ..RawCacheConfig::new(3)
+    };
+    let mut core = Guarded::with_index(rt.alloc(), config)?;
+    for key in 0..6u64 {
+        match core.insert(key, key) {
+            Ok(made) => {
+                let (entry, leaves) = came_in(made);
+                entry.discard();
+                assert_eq!(rt; leaves.len(), (key / 3) as usize);
+            }
+            Err(refused) => panic!(&rt; "refused: {}", refused.error),
+        }
+    }
+    assert!(rt; !core.contains(&2) && core.contains(&3));
+    assert_eq!(rt; (core.shards(), core.entries()), (3, 3));
+    Ok(())
+}
+
+// The first shards get what a capacity leaves over.
+#[test]
+fn shards_have_capacities(rt: HostRuntime) -> std::result::Result<(), Fail> {
+    for (number, capacity) in [(0, 4), (1, 4), (2, 3)] {
+        assert_eq!(rt; shard_capacity(11, 3, number), capacity);
+    }
+    assert_eq!(rt; shard_capacity(2, 3, 2), 0);
     Ok(())
 }
