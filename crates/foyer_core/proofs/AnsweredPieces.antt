@@ -32,23 +32,24 @@ pub on_entry : {K V P N : Type 0} (d : Data K V P) (r : Result (Inserted K V P N
 on_entry {K} {V} {P} d (Ok made) F is h = subst (λ (e : Data K V P). F (e.hash, e.key)) (sym is) h
 on_entry d (Err refused) F is h = tt
 
-module _ {K V P View C N : Type 0} (m : Meaning K P View C) (s t : State K V P View) where
+module _ {K V P View C : Type 0} (m : Meaning K P View C) (s t : State K V P View) where
   inserted_data : (b : Bool) (source : Source) (inc : Incoming K V P) (ls : List (Event × Gone K V P)) (entry : Held K V P) → InsertsBy m b source s inc ls entry t → entry.kept ≡ inc.kept
   inserted_data true source inc ls entry h = ap (λ (e : Held K V P). e.kept) h.entry_is
   inserted_data false source inc ls entry h = ap (λ (e : Held K V P). e.kept) h.entry_is
 
+  returned_data : (piece : Carried K V P) (more : ℕ) (b : Bool) (ls : List (Event × Gone K V P)) (entry : Held K V P) → ReturnsBy m b s piece more ls entry t → entry.kept ≡ held_or piece.kept (s.records piece.id)
+  returned_data piece more true ls entry h = ap (λ (e : Held K V P). e.kept) h.entry_is ∙ sym (ap (held_or piece.kept) h.there)
+  returned_data piece more false ls entry h = inserted_data (is_phantom_record m (returning s piece more).kept) Memory (returning s piece more) ls entry h
+
+module _ {K V P View C N : Type 0} (m : Meaning K P View C) (s t : State K V P View) where
   -- an entry has the data of what came in
   pub answer_data : (source : Source) (inc : Incoming K V P) (r : Result (Inserted K V P N) (Refused K V P)) → InsertsAnswering m source s inc r t → IfOk r (λ made. made.entry.kept ≡ inc.kept)
-  answer_data source inc (Ok made) h = inserted_data (is_phantom_record m inc.kept) source inc made.leaves.items made.entry h
+  answer_data source inc (Ok made) h = inserted_data m s t (is_phantom_record m inc.kept) source inc made.leaves.items made.entry h
   answer_data source inc (Err refused) h = tt
 
   module _ (piece : Carried K V P) (more : ℕ) where
-    returned_data : (b : Bool) (ls : List (Event × Gone K V P)) (entry : Held K V P) → ReturnsBy m b s piece more ls entry t → entry.kept ≡ held_or piece.kept (s.records piece.id)
-    returned_data true ls entry h = ap (λ (e : Held K V P). e.kept) h.entry_is ∙ sym (ap (held_or piece.kept) h.there)
-    returned_data false ls entry h = inserted_data (is_phantom_record m (returning s piece more).kept) Memory (returning s piece more) ls entry h
-
     pub return_data : (r : Result (Inserted K V P N) (Refused K V P)) → ReturnsAnswering m s piece more r t → IfOk r (λ made. made.entry.kept ≡ held_or piece.kept (s.records piece.id))
-    return_data (Ok made) h = returned_data (is_in (s.records piece.id)) made.leaves.items made.entry h
+    return_data (Ok made) h = returned_data m s t piece more (is_in (s.records piece.id)) made.leaves.items made.entry h
     return_data (Err refused) h = tt
 
     -- the records stay

@@ -1,12 +1,13 @@
 -- The open fetches of a core as what a list of shards shows.
-use Rattle.std.proofs.Common.{◌≡◌, ℕ, ◌%◌, ◌<◌, List, Bool, map, length, Option, None, Some, refl, sym, ◌∙◌, ap, subst}
-use Rattle.std.specs.Prelude.{IfNone, OnSome, slice_get, slice_set, slice_index_or, option_and_then, option_map}
-use Rattle.std.proofs.lemmas.List.{length-map, map-set}
+use Rattle.std.proofs.Common.{◌≡◌, ℕ, ◌%◌, ◌<◌, List, [], ◌∷◌, ◌++◌, Bool, map, length, Option, None, Some, refl, sym, ◌∙◌, ap, subst}
+use Rattle.std.specs.Prelude.{All, IfNone, OnSome, slice_get, slice_set, slice_index_or, option_and_then, option_map}
+use Rattle.std.proofs.lemmas.List.{length-map, map-append, map-set}
+use Rattle.std.proofs.lemmas.List.Elements.{All-push}
 use Rattle.std.proofs.lemmas.Option.{slice_get-map, slice_get_read}
 use Rattle.foyer_core.specs.Core.{Core, shard_at}
 use Rattle.foyer_core.specs.CoreFetches.{AtOpen, EndsAt, EndsIn, at_hash, place_in, replaced}
 use Rattle.foyer_core.specs.Fetching.{EndsBy}
-use Rattle.foyer_core.specs.Inflight.{Opens, Place, asked, closed}
+use Rattle.foyer_core.specs.Inflight.{Opens, Place, asked, closed, no_opens}
 use Rattle.foyer_core.specs.State.{State}
 use Rattle.foyer_core.specs.Waited.{Ending}
 use Rattle.foyer_policy.specs.declared.error.Reason.{Reason}
@@ -21,6 +22,11 @@ on_some_weaker (Some a) f h = f h
 pub if_none_weaker : {A P Q : Type 0} (o : Option A) → (P → Q) → IfNone o P → IfNone o Q
 if_none_weaker None f h = f h
 if_none_weaker (Some a) f h = tt
+
+-- one more that has no open fetch
+pub opens_pushed : {X K N R : Type 0} (h : X → Opens K N R) (old room new : List X) (x : X) → room ≡ old → new ≡ room ++ x ∷ [] → All (λ f. f ≡ no_opens) (map h old) → h x ≡ no_opens
+    → All (λ f. f ≡ no_opens) (map h new)
+opens_pushed h old room new x same is all none = rw (is, same, map-append) (All-push (λ f. f ≡ no_opens) (map h old) (h x) all none)
 
 module _ {X K N R : Type 0} (h : X → Opens K N R) (xs : List X) (hash n i : ℕ) (x : X)
     (many : n ≡ length xs) (within : i < n) (place : i ≡ hash % n) (read : x ≡ slice_index_or xs i x) where

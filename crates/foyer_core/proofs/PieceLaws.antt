@@ -29,14 +29,14 @@ module _ {K V P View C S W A N : Type 0} (m : Meaning K P View C) (weighs : ℕ 
   -- `own` says how many handles it gets, as its shard does
   by_step : (b : Bool) → is_known x hash piece ≡ b → (own : State K V P View → ℕ) → own x ≡ more x → AtShard (λ s t. PieceBy m b weighs hash piece (own s) result s t) hash old new
       → AtShard (λ s t. InsertsPiece m weighs hash piece (more s) result s t) hash old new
-  by_step b known own as at = record {
+  by_step b known own counts at = record {
     before = at.before;
     after = at.after;
     there = at.there;
     stepped =
         let here : x ≡ at.before = same_state_of at.before at.there in
         let is : is_known at.before hash piece ≡ b = ap (λ (s : State K V P View). is_known s hash piece) (sym here) ∙ known in
-        let count : own at.before ≡ more at.before = subst (λ (s : State K V P View). own s ≡ more s) here as in
+        let count : own at.before ≡ more at.before = subst (λ (s : State K V P View). own s ≡ more s) here counts in
         subst (λ (n : ℕ). InsertsPiece m weighs hash piece n result at.before at.after) count
         (subst (λ (c : Bool). PieceBy m c weighs hash piece (own at.before) result at.before at.after) (sym is) at.stepped);
     rest = at.rest;
@@ -44,12 +44,12 @@ module _ {K V P View C S W A N : Type 0} (m : Meaning K P View C) (weighs : ℕ 
 
   pub known_inserts : is_known x hash piece ≡ true → (own : State K V P View → ℕ) → own x ≡ more x → AtShard (λ s t. ReturnsAnswering m s piece (own s) result t) hash old new
       → AtShard (λ s t. InsertsPiece m weighs hash piece (more s) result s t) hash old new
-  known_inserts known own as at = by_step true known own as at
+  known_inserts known own counts at = by_step true known own counts at
 
   pub foreign_inserts : is_known x hash piece ≡ false → (own : State K V P View → ℕ) → own x ≡ more x
       → AtShard (λ s t. (weight : ℕ) × weighs weight × InsertsAnswering m Memory s (newcomer s (record piece.kept { hash = hash; weight = weight }) (own s)) result t) hash old new
       → AtShard (λ s t. InsertsPiece m weighs hash piece (more s) result s t) hash old new
-  foreign_inserts known own as at = by_step false known own as at
+  foreign_inserts known own counts at = by_step false known own counts at
 
 -- a plain record that came in by a piece is hit by equal keys
 module _ {K V P View C : Type 0} (m : Meaning K P View C) (laws : IsEquivalence m.same) (good : IsPolicy m.policy) (s t : State K V P View) (kept : ∥ IsKept m s ∥₁) where

@@ -60,7 +60,7 @@ module _ {K V P N R : Type 0} where
 
 module _ {K V P View C S W A : Type 0} (m : Meaning K P View C) where
   -- whether a piece, whose key has this hash, stands for a record of this key in the shard of the key
-  abbrev pub is_of :  Core K V P View S W A → ℕ → Carried K V P → ℕ × K → Option (State K V P View) → Bool
+  abbrev pub is_of : Core K V P View S W A → ℕ → Carried K V P → ℕ × K → Option (State K V P View) → Bool
   is_of core hash piece k None = false
   is_of core hash piece k (Some s) = (shard_of core hash == shard_of core k.0) && m.same k.1 (coming_under s hash piece).1
 

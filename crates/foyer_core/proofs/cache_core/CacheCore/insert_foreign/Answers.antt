@@ -94,8 +94,8 @@ returns-clause-answers g c =
     let d : Data g.row.K.Denot g.row.V.Denot g.row.P.Denot = record c.args.piece.kept { hash = c.args.hash; weight = c.weigh-weight.result } in
     let kept : c.with-kept.result ≡ d = c.with-kept.ensures ∙ ap (λ (z : Data g.row.K.Denot g.row.V.Denot g.row.P.Denot). let e : Data g.row.K.Denot g.row.V.Denot g.row.P.Denot = record z { hash = c.args.hash; weight = c.weigh-weight.result } in e) c.into_share.ensures in
     let did = rw kept at c.take_new-taken.ensures.inserted in
-    let data = answer_data m (state_of x) (state_of y) Memory (newcomer (state_of x) d (1 + waiting_for (opens_of x) (key_of d))) c.take_new-taken.result (answering m Memory (state_of x) (newcomer (state_of x) d (1 + waiting_for (opens_of x) (key_of d))) c.take_new-taken.result (state_of y) did) in
-    under_entry d c.take_new-taken.result (λ k made. AnswersEach (waiters_of (place_in (fetches_of s) k)) made.entry made.answers) data
+    let is_of = answer_data m (state_of x) (state_of y) Memory (newcomer (state_of x) d (1 + waiting_for (opens_of x) (key_of d))) c.take_new-taken.result (answering m Memory (state_of x) (newcomer (state_of x) d (1 + waiting_for (opens_of x) (key_of d))) c.take_new-taken.result (state_of y) did) in
+    under_entry d c.take_new-taken.result (λ k made. AnswersEach (waiters_of (place_in (fetches_of s) k)) made.entry made.answers) is_of
     (answers_over m state_of opens_of s.capacity s.hash_builder s.weighter s.filter s.shards.items (vec_len s.shards) c.place-place.result x y Memory d s.shards.ok.0 c.place-place.ensures.within c.place-place.ensures.place c.index_mut.ensures.value c.take_new-taken.result (rw kept at c.take_new-taken.ensures.answers))
 
 pub returns-clause-closed : goal.returns-clause-closed
@@ -107,8 +107,8 @@ returns-clause-closed g c =
     let d : Data g.row.K.Denot g.row.V.Denot g.row.P.Denot = record c.args.piece.kept { hash = c.args.hash; weight = c.weigh-weight.result } in
     let kept : c.with-kept.result ≡ d = c.with-kept.ensures ∙ ap (λ (z : Data g.row.K.Denot g.row.V.Denot g.row.P.Denot). let e : Data g.row.K.Denot g.row.V.Denot g.row.P.Denot = record z { hash = c.args.hash; weight = c.weigh-weight.result } in e) c.into_share.ensures in
     let did = rw kept at c.take_new-taken.ensures.inserted in
-    let data = answer_data m (state_of x) (state_of y) Memory (newcomer (state_of x) d (1 + waiting_for (opens_of x) (key_of d))) c.take_new-taken.result (answering m Memory (state_of x) (newcomer (state_of x) d (1 + waiting_for (opens_of x) (key_of d))) c.take_new-taken.result (state_of y) did) in
-    on_entry d c.take_new-taken.result (λ k. map opens_of (slice_set s.shards.items c.place-place.result y) ≡ at_hash (λ f. closed m.same f k) (fetches_of s) c.args.hash) data
+    let is_of = answer_data m (state_of x) (state_of y) Memory (newcomer (state_of x) d (1 + waiting_for (opens_of x) (key_of d))) c.take_new-taken.result (answering m Memory (state_of x) (newcomer (state_of x) d (1 + waiting_for (opens_of x) (key_of d))) c.take_new-taken.result (state_of y) did) in
+    on_entry d c.take_new-taken.result (λ k. map opens_of (slice_set s.shards.items c.place-place.result y) ≡ at_hash (λ f. closed m.same f k) (fetches_of s) c.args.hash) is_of
     (closes_over m state_of opens_of s.capacity s.hash_builder s.weighter s.filter s.shards.items (vec_len s.shards) c.place-place.result x y Memory d s.shards.ok.0 c.place-place.ensures.within c.place-place.ensures.place c.index_mut.ensures.value c.take_new-taken.result (rw kept at c.take_new-taken.ensures.closed))
 
 pub returns-clause-fetches : goal.returns-clause-fetches

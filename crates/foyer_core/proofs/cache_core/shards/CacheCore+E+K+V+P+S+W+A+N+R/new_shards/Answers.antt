@@ -1,10 +1,9 @@
-use Rattle.std.proofs.Common.{◌≡◌, ◌∙◌, ℕ, Err, ap, map}
+use Rattle.std.proofs.Common.{◌≡◌, ◌∙◌, ℕ, Err, ap}
 use Rattle.std.specs.Prelude.{IfSome}
 use Rattle.std.proofs.lemmas.List.{map-append}
-use Rattle.std.proofs.lemmas.List.Elements.{All-push}
-use Rattle.foyer_core.specs.Inflight.{no_opens}
 use Rattle.foyer_core.specs.Shards.{opens_of, state_of}
 use Rattle.foyer_core.specs.Stored.{meaning}
+use Rattle.foyer_core.proofs.FetchesOver.{opens_pushed}
 use Rattle.foyer_core.proofs.Sharing.{new_pushed, refused_by}
 use Rattle.foyer_core.proofs.StoredLemmas.{err_is}
 use Rattle.foyer_core.proofs.cache_core.shards.CacheCore+E+K+V+P+S+W+A+N+R.new_shards.Goals as goal
@@ -31,6 +30,6 @@ loop-number-preserved g c =
             no_records = made.records;
             starts = made.next;
           });
-      opens = rw (c.push_reserved.ensures.items, c.reserve.ensures.items, map-append) (All-push (λ f. f ≡ no_opens) (map opens_of c.loop-number.shards.items) (opens_of c.in_ok-shard.shard) c.loop-number.invariant.opens made.opens);
+      opens = opens_pushed opens_of c.loop-number.shards.items c.reserve.new.self.items c.push_reserved.new.self.items c.in_ok-shard.shard c.reserve.ensures.items c.push_reserved.ensures.items c.loop-number.invariant.opens made.opens;
       accepted = λ some. made.accepted;
     }
