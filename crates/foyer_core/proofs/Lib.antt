@@ -7,6 +7,7 @@ pub mod CallsTold
 pub mod ChainLemmas
 pub mod Clearing
 pub mod Cloned
+pub mod Completing
 pub mod CoreLaws
 pub mod CoreLemmas
 pub mod CoreTold

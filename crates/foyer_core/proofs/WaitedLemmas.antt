@@ -49,7 +49,7 @@ either_way (Err e) h done refused = refused e h
 
 -- a fetch ends with a record that came in, of which those who waited have all handles
 module _ {K V P View C N R : Type 0} (m : Meaning K P View C) (source : Source) (s t : State K V P View) (f g : Opens K N R) (k : ℕ × K) (d : Data K V P) (shut : g ≡ closed m.same f k) where
-  completes_by : (p : Option (Place N R)) (waiters : List (Waiting N)) → IsSomeAnd p (λ o. waiters ≡ o.tokens) → (outcome : Result (Option (List (Held K V P))) Reason) (ls : List (Event × Gone K V P))
+  pub completes_by : (p : Option (Place N R)) (waiters : List (Waiting N)) → IsSomeAnd p (λ o. waiters ≡ o.tokens) → (outcome : Result (Option (List (Held K V P))) Reason) (ls : List (Event × Gone K V P))
       → Arrives m source s (newcomer s d (length waiters)) outcome ls t → CompletesBy m p source s f k d (record { found = true; waiters = waiters; outcome = outcome; leaves = ls }) t g
   completes_by None waiters there outcome ls arrives = absurd there
   completes_by (Some o) waiters there outcome ls arrives = record {
