@@ -2,11 +2,13 @@ pub mod AdmitLemmas
 pub mod Answered
 pub mod AnsweredPieces
 pub mod ApartLemmas
+pub mod Arriving
 pub mod Asked
 pub mod CallsTold
 pub mod ChainLemmas
 pub mod Clearing
 pub mod Cloned
+pub mod Completed
 pub mod Completing
 pub mod CoreLaws
 pub mod CoreLemmas

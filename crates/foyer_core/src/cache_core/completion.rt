@@ -1,7 +1,9 @@
 //! Fetches that end with a record of their key.
 
-ghost use Rattle.std.specs.Prelude.{◌≡◌, Some, true};
-ghost use Rattle.foyer_core.specs.Inflight.{asked};
+ghost use Rattle.std.specs.Prelude.{◌≡◌, ℕ, IsSomeAnd, Some, true};
+ghost use Rattle.foyer_policy.specs.declared.types.Source.{Source as SourceOf};
+ghost use Rattle.foyer_policy.specs.declared.types.Source.TheVariants.{Memory};
+ghost use Rattle.foyer_core.specs.Inflight.{Place, asked};
 ghost use Rattle.foyer_core.specs.State.{coming_in};
 ghost use Rattle.foyer_core.specs.Waited.{ending_of};
 
@@ -28,8 +30,11 @@ impl<
     R: Drop,
     I: Indexer<K>,
 > CacheCore<E, K, V, P, S, W, A, N, R, I> {
-    ghost use Rattle.foyer_core.specs.CoreFetches.{Completed, place_in};
+    ghost use Rattle.foyer_core.specs.Core.{shard_at};
+    ghost use Rattle.foyer_core.specs.CoreFetches.{AtOpen, Completed, PieceCompletes, ValueCompletes, is_of, place_in};
     ghost use Rattle.foyer_core.specs.Cores.{core_of, fetches_of, hashes_of, meaning_of_core};
+    ghost use Rattle.foyer_core.specs.Fetching.{CompletesBackBy, CompletesBy};
+    ghost use Rattle.foyer_core.specs.Pieces.{held_or, is_known};
 
     /// Ends an open fetch of a key with a record of it, of which each who waits gets an entry, and answers what left. The
     /// key's place is closed. A clone of the key must equal it.
@@ -72,15 +77,19 @@ impl<
         value: V,
         properties: P,
         source: Source,
-    ) -> Ended<K, V, P, N> {
+    ) -> Ended<K, V, P, N>
+        requires clones { (k c : K) → K.is_clone k c → K.eq c k ≡ true }
+        ensures completed { let k : ℕ × K = (hashes_of self.old key.now, key.now) in
+            (o : Place N R) → asked (Some fetch) (place_in (fetches_of self.old) k) ≡ Some o
+            → ValueCompletes (meaning_of_core self.old) source (W.weighs (core_of self.old).weighter key.now value) (A.admits (core_of self.old).filter key.now value) k value
+            (λ admitted. coming_in P.location_of P.with_phantom_of admitted properties) o (ending_of result) (core_of self.old) (fetches_of self.old) (core_of self.new) (fetches_of self.new) }
+    {
         let hash = self.hash(key);
         let weight = self.weighter.weigh(key, &value);
         let admitted = self.filter.admit(key, &value);
         let properties = marked(properties, admitted);
-        let place = self.place(hash);
         let Ok(own) = key.clone() else {
-            let shard = &mut self.shards[place];
-            return shard.refuse_value(self.alloc, hash, key, fetch, &properties, weight);
+            return self.refuse_value(hash, key, fetch, &properties, weight);
         };
         let kept = Data {
             key: own,
@@ -89,6 +98,23 @@ impl<
             hash,
             weight,
         };
+        self.complete_kept(fetch, kept, source)
+    }
+
+    // Ends an open fetch with a new record of its key.
+    fn complete_kept(
+        &mut self,
+        fetch: u64,
+        kept: Data<K, V, P>,
+        source: Source,
+    ) -> Ended<K, V, P, N>
+        requires clones { (k c : K) → K.is_clone k c → K.eq c k ≡ true }
+        requires hashed { kept.hash ≡ hashes_of self.old kept.key }
+        ensures completed { let k : ℕ × K = (kept.hash, kept.key) in
+            AtOpen (λ s f t g. CompletesBy (meaning_of_core self.old) (asked (Some fetch) (f.places k)) source s f k kept (ending_of result) t g)
+            kept.hash (core_of self.old) (fetches_of self.old) (core_of self.new) (fetches_of self.new) }
+    {
+        let place = self.place(kept.hash);
         let before = Load::of(&self.shards[place]);
         let ended = self.shards[place].complete(self.alloc, fetch, kept, source);
         let after = Load::of(&self.shards[place]);
@@ -96,22 +122,87 @@ impl<
         ended
     }
 
+    // Ends an open fetch with a value for which there was no memory to clone the key.
+    fn refuse_value(
+        &mut self,
+        hash: u64,
+        key: &K,
+        fetch: u64,
+        properties: &P,
+        weight: usize,
+    ) -> Ended<K, V, P, N>
+        ensures completed { let k : ℕ × K = (hash, key.now) in (source : SourceOf) (value : V) →
+            AtOpen (λ s f t g. CompletesBy (meaning_of_core self.old) (asked (Some fetch) (f.places k)) source s f k
+            (record { key = key.now; value = value; properties = properties.now; hash = hash; weight = weight }) (ending_of result) t g)
+            hash (core_of self.old) (fetches_of self.old) (core_of self.new) (fetches_of self.new) }
+    {
+        let place = self.place(hash);
+        self.shards[place].refuse_value(self.alloc, hash, key, fetch, properties, weight)
+    }
+
     // Ends an open fetch with a piece.
-    fn complete_piece(&mut self, key: &K, fetch: u64, piece: Piece<K, V, P>) -> Ended<K, V, P, N> {
+    fn complete_piece(&mut self, key: &K, fetch: u64, piece: Piece<K, V, P>) -> Ended<K, V, P, N>
+        requires clones { (k c : K) → K.is_clone k c → K.eq c k ≡ true }
+        ensures completed { let k : ℕ × K = (hashes_of self.old key.now, key.now) in let hash = hashes_of self.old piece.kept.key in
+            (o : Place N R) → asked (Some fetch) (place_in (fetches_of self.old) k) ≡ Some o
+            → PieceCompletes (meaning_of_core self.old) (is_of (meaning_of_core self.old) (core_of self.old) hash piece k (shard_at (core_of self.old) k.0))
+            (W.weighs (core_of self.old).weighter piece.kept.key piece.kept.value) hash piece k o (ending_of result) (core_of self.old) (fetches_of self.old) (core_of self.new) (fetches_of self.new) }
+    {
         let hash = self.hash(key);
         let place = self.place(hash);
         let own = self.hash(piece.key());
         if self.place(own) != place || !self.shards[place].is_under(own, &piece, key) {
             return self.end(key, fetch, Error::new(Reason::WrongKey));
         }
+        if self.shards[place].knows(own, &piece) {
+            return self.complete_known(hash, key, fetch, piece);
+        }
+        self.complete_foreign(own, fetch, piece)
+    }
+
+    // Ends an open fetch with the record of its key for which a piece stands.
+    fn complete_known(
+        &mut self,
+        hash: u64,
+        key: &K,
+        fetch: u64,
+        piece: Piece<K, V, P>,
+    ) -> Ended<K, V, P, N>
+        requires clones { (k c : K) → K.is_clone k c → K.eq c k ≡ true }
+        requires hashed { hash ≡ hashes_of self.old key.now }
+        requires known { IsSomeAnd (shard_at (core_of self.old) hash) (λ s. is_known s (hashes_of self.old piece.kept.key) piece ≡ true) }
+        requires same { IsSomeAnd (shard_at (core_of self.old) hash) (λ s. K.eq key.now (held_or piece.kept (s.records piece.id)).key ≡ true) }
+        ensures completed { let k : ℕ × K = (hash, key.now) in
+            AtOpen (λ s f t g. CompletesBackBy (meaning_of_core self.old) (asked (Some fetch) (f.places k)) s f k piece (ending_of result) t g)
+            hash (core_of self.old) (fetches_of self.old) (core_of self.new) (fetches_of self.new) }
+    {
+        let place = self.place(hash);
         let before = Load::of(&self.shards[place]);
-        let ended = if self.shards[place].knows(own, &piece) {
-            self.shards[place].complete_back(self.alloc, hash, key, fetch, piece)
-        } else {
-            let weight = self.weighter.weigh(piece.key(), piece.value());
-            let kept = piece.into_share().with(own, weight);
-            self.shards[place].complete_new(self.alloc, fetch, kept)
-        };
+        let ended = self.shards[place].complete_back(self.alloc, hash, key, fetch, piece);
+        let after = Load::of(&self.shards[place]);
+        self.load.replace(before, after);
+        ended
+    }
+
+    // Ends an open fetch with a new record of its key, of a piece that stands for none.
+    fn complete_foreign(
+        &mut self,
+        hash: u64,
+        fetch: u64,
+        piece: Piece<K, V, P>,
+    ) -> Ended<K, V, P, N>
+        requires clones { (k c : K) → K.is_clone k c → K.eq c k ≡ true }
+        requires hashed { hash ≡ hashes_of self.old piece.kept.key }
+        ensures completed { let k : ℕ × K = (hash, piece.kept.key) in
+            AtOpen (λ s f t g. (weight : ℕ) × W.weighs (core_of self.old).weighter piece.kept.key piece.kept.value weight
+            × CompletesBy (meaning_of_core self.old) (asked (Some fetch) (f.places k)) Memory s f k (record piece.kept { hash = hash; weight = weight }) (ending_of result) t g)
+            hash (core_of self.old) (fetches_of self.old) (core_of self.new) (fetches_of self.new) }
+    {
+        let place = self.place(hash);
+        let weight = self.weighter.weigh(piece.key(), piece.value());
+        let kept = piece.into_share().with(hash, weight);
+        let before = Load::of(&self.shards[place]);
+        let ended = self.shards[place].complete_new(self.alloc, fetch, kept);
         let after = Load::of(&self.shards[place]);
         self.load.replace(before, after);
         ended

@@ -225,6 +225,7 @@ impl<E: Eviction, K: Key, V: Value, P: Properties, N: Drop, R: Drop, I: Indexer<
     ) -> Ended<K, V, P, N>
         ensures completed { (source : SourceOf) (value : V) → CompletesBy (meaning_of self.old) (asked (Some fetch) ((opens_of self.old).places (hash, key.now))) source (state_of self.old) (opens_of self.old) (hash, key.now)
             (record { key = key.now; value = value; properties = properties.now; hash = hash; weight = weight }) (ending_of result) (state_of self.new) (opens_of self.new) }
+        ensures state { state_of self.new ≡ state_of self.old }
     {
         let Some(waiters) = self.inflights.take(hash, key, Some(fetch)) else {
             return Ended::lost(alloc);

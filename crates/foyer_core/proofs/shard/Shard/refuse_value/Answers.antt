@@ -21,8 +21,8 @@ invariant_of-self g c =
     let shut = closed g.K.PartialEq.eq f k in
     record { apart = step_apart index f (opens_of c.take.new.self) shut c.take.result c.take.ensures.opens c.take.ensures.same s.apart (closed_apart g.K.PartialEq.eq index f k s.apart) }
 
-pub returns : goal.returns
-returns g c =
+pub returns-clause-completed : goal.returns-clause-completed
+returns-clause-completed g c source value =
     let s = c.args.self.now in
     let m = meaning_of s.store in
     let f = opens_of s.inflights in
@@ -35,8 +35,5 @@ returns g c =
     let why : c.new.result ≡ reason = c.new.ensures ∙ c.unwrap_or-reason.ensures in
     let ended : Ending g.row.K.Denot g.row.V.Denot g.row.P.Denot g.row.N.Denot = record { found = true; waiters = c.in-Some.waiters.items; outcome = Err reason; leaves = [] } in
     let is : ending_of c.refused.result ≡ ended = c.refused.ensures ∙ (λ j. record { found = true; waiters = c.in-Some.waiters.items; outcome = Err (why j); leaves = c.new-2.ensures.items j }) in
-    record {
-      completed = λ source value.
-          refused_ends m source old old f (opens_of c.take.new.self) k (of value) c.in-Some.ensures.opens (asked (Some c.args.fetch) (f.places k)) c.in-Some.waiters.items c.in-Some.ensures.taken
-          (1 + count) many reason [] (ending_of c.refused.result) is (refusal_is m old (λ v. newcomer old (of v) (1 + count)) c.new_refusal-refusal.result c.new_refusal-refusal.ensures.some c.new_refusal-refusal.ensures.none value);
-    }
+    refused_ends m source old old f (opens_of c.take.new.self) k (of value) c.in-Some.ensures.opens (asked (Some c.args.fetch) (f.places k)) c.in-Some.waiters.items c.in-Some.ensures.taken
+    (1 + count) many reason [] (ending_of c.refused.result) is (refusal_is m old (λ v. newcomer old (of v) (1 + count)) c.new_refusal-refusal.result c.new_refusal-refusal.ensures.some c.new_refusal-refusal.ensures.none value)
