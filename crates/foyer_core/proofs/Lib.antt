@@ -14,6 +14,7 @@ pub mod CoreLaws
 pub mod CoreLemmas
 pub mod CoreTold
 pub mod Counting
+pub mod Dropping
 pub mod Emplaced
 pub mod EntryLemmas
 pub mod Evictions

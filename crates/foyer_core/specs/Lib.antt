@@ -1,6 +1,7 @@
 pub mod Core
 pub mod CoreFetches
 pub mod Cores
+pub mod Dropping
 pub mod Fetching
 pub mod Flags
 pub mod Chains

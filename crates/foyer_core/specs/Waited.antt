@@ -23,9 +23,16 @@ waiting_for f k = length (waiters_of (f.places k))
 abbrev pub AnswersEach : {K V P N : Type 0} → List (Waiting N) → Held K V P → Answers K V P N → Type 0
 AnswersEach waiters entry answers = (answers.waiters.items ≡ waiters) × (entries_in answers.outcome ≡ Some (replicate (length waiters) entry))
 
--- nobody waited
-abbrev pub AnswersNobody : {K V P N : Type 0} → Answers K V P N → Type 0
-AnswersNobody answers = (answers.waiters.items ≡ []) × (entries_in answers.outcome ≡ Some [])
+-- the entries that those get who waited, none where they get nothing, or the one refusal
+abbrev pub handed_out : {K V P : Type 0} → Outcome K V P → Result (List (Held K V P)) Reason
+handed_out (Entries entries) = Ok entries.items
+handed_out Nothing = Ok []
+handed_out (Fault reason) = Err reason
+
+-- the entries that they get
+abbrev pub entries_got : {K V P : Type 0} → Outcome K V P → List (Held K V P)
+entries_got (Entries entries) = entries.items
+entries_got _ = []
 
 -- how a fetch ended: whether it was open, who waited in order, what they get (an entry each, none, or the one refusal),
 -- and what left

@@ -27,6 +27,7 @@ use foyer_policy::{
 use load::Load;
 use std::alloc::Global;
 
+mod answers;
 mod bulk;
 mod completion;
 mod entries;

@@ -1,7 +1,7 @@
 //! What inserts answer.
 
-ghost use Rattle.std.specs.Prelude.{◌≡◌, ◌+◌, ◌++◌, ◌≤◌, [], ◌∷◌, Err, Ok, Some, true, vec_len, vec_capacity};
-ghost use Rattle.foyer_core.specs.Waited.{AnswersNobody, ending_of, entries_in, lost};
+ghost use Rattle.std.specs.Prelude.{◌≡◌, ◌+◌, ◌++◌, ◌≤◌, [], ◌∷◌, Err, MatchResult, Ok, Some, true, vec_len, vec_capacity};
+ghost use Rattle.foyer_core.specs.Waited.{ending_of, entries_in, handed_out, lost};
 
 use crate::entry::{CoreEntry, Leave};
 use crate::piece::Piece;
@@ -133,45 +133,20 @@ pub struct Inserted<K: Drop, V: Drop, P: Drop, N> {
     pub leaves: Vec<Leave<K, V, P>>,
 }
 
-impl<K: Drop, V: Drop, P: Drop, N: Drop> Inserted<K, V, P, N> {
-    /// The entry, and what left. It asks that nobody waited for the key, so no entry of a waiter is lost.
-    pub fn into_parts(self) -> (CoreEntry<K, V, P>, Vec<Leave<K, V, P>>)
-        requires nobody { AnswersNobody self.answers }
-        ensures entry { result.0 ≡ self.entry }
-        ensures leaves { result.1 ≡ self.leaves }
-    {
-        let Inserted {
-            entry,
-            answers,
-            leaves,
-        } = self;
-        answers.end();
-        (entry, leaves)
-    }
-
-    /// The entry alone: what left is dropped. It asks that nobody waited for the key, so no entry of a waiter is
-    /// lost.
-    pub fn into_entry(self) -> CoreEntry<K, V, P>
-        requires nobody { AnswersNobody self.answers }
-        ensures { result ≡ self.entry }
-    {
-        let (entry, _) = self.into_parts();
-        entry
-    }
-}
-
-impl<K, V, P, N: Drop> Answers<K, V, P, N> {
-    // Ends answers for which nobody waited.
-    fn end(self)
-        requires nobody { AnswersNobody self }
+impl<K, V, P, N> Answers<K, V, P, N> {
+    /// Who waited, in order, and what they get: the entries, one for each in the same order, no entry where they get
+    /// nothing, or the one refusal.
+    pub fn into_parts(self) -> (Vec<Waiting<N>>, Result<Vec<CoreEntry<K, V, P>>, Error>)
+        ensures waiters { result.0 ≡ self.waiters }
+        ensures got { MatchResult result.1 (λ entries. handed_out self.outcome ≡ Ok entries.items) (λ error. handed_out self.outcome ≡ Err error) }
     {
         let Answers { waiters, outcome } = self;
-        drop(waiters);
-        match outcome {
-            Outcome::Entries(entries) => entries.destroy_empty(),
-            Outcome::None => (),
-            Outcome::Fault(_) => (),
-        }
+        let got = match outcome {
+            Outcome::Entries(entries) => Ok(entries),
+            Outcome::None => Ok(Vec::new(*waiters.allocator())),
+            Outcome::Fault(error) => Err(error),
+        };
+        (waiters, got)
     }
 }
 
