@@ -28,6 +28,7 @@ pub mod Handles
 pub mod Hashing
 pub mod HoldLemmas
 pub mod Holdings
+pub mod IdleLemmas
 pub mod InTurn
 pub mod IndexLemmas
 pub mod IndexerLemmas

@@ -6,6 +6,7 @@ pub mod Fetching
 pub mod Flags
 pub mod Chains
 pub mod Entries
+pub mod Idle
 pub mod Indexer
 pub mod Inflight
 pub mod Inflights

@@ -6,6 +6,7 @@ ghost use Rattle.foyer_policy.specs.declared.error.Reason.TheVariants.{NoMemory}
 ghost use Rattle.foyer_policy.specs.Properties.{is_phantom};
 ghost use Rattle.foyer_policy.specs.declared.types.Source.TheVariants.{Outer};
 ghost use Rattle.foyer_core.specs.Core.{AreHashed, AreSums, Belong};
+ghost use Rattle.foyer_core.specs.Idle.{NoneOpen};
 ghost use Rattle.foyer_core.specs.Inflight.{closed, no_opens, waiters_of};
 ghost use Rattle.foyer_core.specs.Shards.{state_of};
 ghost use Rattle.foyer_core.specs.Waited.{AnswersEach};
@@ -89,6 +90,7 @@ impl<
     pub fn new(alloc: Global, config: RawCacheConfig<E::Config, S, W, A>) -> Result<Self>
         ensures made { IfOk result (λ core. IsNewCore (meaning_of_core core) config (core_of core)) }
         ensures fetches { IfOk result (λ core. All (λ f. f ≡ no_opens) (fetches_of core)) }
+        ensures idle { IfOk result (λ core. NoneOpen (fetches_of core)) }
         ensures accepted { OnOk result (core_fault E.model config ≡ None) }
         ensures refused { IfSome (core_fault E.model config) (λ reason. result ≡ Err reason) }
         ensures memory { IfErr result (λ e. core_fault E.model config ≡ None → e ≡ NoMemory) }

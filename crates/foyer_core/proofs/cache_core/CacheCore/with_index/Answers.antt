@@ -1,7 +1,8 @@
 use Rattle.std.proofs.Common.{map}
-use Rattle.foyer_core.specs.Shards.{state_of}
+use Rattle.foyer_core.specs.Shards.{opens_of, state_of}
 use Rattle.foyer_core.specs.Stored.{meaning}
 use Rattle.foyer_core.proofs.Hashing.{new_hashed}
+use Rattle.foyer_core.proofs.IdleLemmas.{none_open}
 use Rattle.foyer_core.proofs.Origins.{new_belong}
 use Rattle.foyer_core.proofs.cache_core.CacheCore.with_index.Goals as goal
 
@@ -15,3 +16,6 @@ invariant_of-result-clause-hashed g c =
 
 pub invariant_of-result-clause-summed : goal.invariant_of-result-clause-summed
 invariant_of-result-clause-summed g c = rw c.deref.ensures.value at c.of_all-load.ensures
+
+pub returns-clause-idle : goal.returns-clause-idle
+returns-clause-idle g c = none_open (map opens_of c.in_ok-shards.shards.items) c.in_ok-shards.ensures.opens
