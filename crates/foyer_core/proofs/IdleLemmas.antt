@@ -1,14 +1,25 @@
 -- Cores that fetch nothing, and go on so.
-use Rattle.std.proofs.Common.{◌≡◌, ℕ, ◌%◌, List, Bool, true, false, cond, length, Option, Some, None, Ok, Err, refl, sym, ◌∙◌, ap, subst, inl, inr}
-use Rattle.std.specs.Prelude.{All, OnErr, OnOk, Result, option_and_then, slice_get, slice_set}
+use Rattle.std.proofs.Common.{◌≡◌, ℕ, ◌+◌, ◌%◌, List, [], Bool, true, false, cond, length, Option, Some, None, Ok, Err, refl, sym, ◌∙◌, ap, subst, inl, inr}
+use Rattle.std.specs.Prelude.{All, IfOk, OnErr, OnOk, Result, option_and_then, slice_get, slice_set}
 use Rattle.std.proofs.lemmas.Bool.Decides.{eqb_tells}
 use Rattle.std.proofs.lemmas.List.{length-set}
 use Rattle.std.proofs.lemmas.List.Elements.{All-get_or}
 use Rattle.std.proofs.lemmas.Option.{get_or_from_slice_get, slice_get_within}
+use Rattle.foyer_policy.specs.declared.types.Source.{Source}
+use Rattle.foyer_core.specs.declared.outcome.Answers.{Answers}
+use Rattle.foyer_core.specs.declared.outcome.Inserted.{Inserted}
+use Rattle.foyer_core.specs.declared.outcome.Outcome.{Outcome}
+use Rattle.foyer_core.specs.declared.outcome.Outcome.TheVariants.{Entries, Fault, None as Nothing}
+use Rattle.foyer_core.specs.declared.outcome.Refused.{Refused}
+use Rattle.foyer_core.specs.Core.{Core, AtShard, InsertsWeighed}
 use Rattle.foyer_core.specs.CoreFetches.{at_hash, place_in, replaced}
 use Rattle.foyer_core.specs.Idle.{NoneOpen}
 use Rattle.foyer_core.specs.Indexer.{same_key}
-use Rattle.foyer_core.specs.Inflight.{Opens, Place, closed, no_opens}
+use Rattle.foyer_core.specs.Inflight.{Opens, Place, closed, no_opens, waiters_of}
+use Rattle.foyer_core.specs.Pieces.{InsertsPiece, coming_under}
+use Rattle.foyer_core.specs.State.{Meaning, State, key_of}
+use Rattle.foyer_core.specs.Values.{Carried, Held}
+use Rattle.foyer_core.specs.Waited.{AnswersEach, entries_got, entries_in}
 use Rattle.foyer_core.proofs.CoreLemmas.{set_here, set_apart}
 
 module _ {K N R : Type 0} where
@@ -50,8 +61,43 @@ module _ {K N R : Type 0} where
     go None is = none
     go (Some f) is = shut_at f is
 
+  -- nor where all stay
+  pub still_idle : {old new : List (Opens K N R)} → new ≡ old → NoneOpen old → NoneOpen new
+  still_idle same none = subst NoneOpen (sym same) none
+
   -- nor after an insert
   pub inserted_idle : {A E : Type 0} (result : Result A E) (eq : K → K → Bool) (k : ℕ × K) (hash : ℕ) (old new : List (Opens K N R))
       → OnOk result (new ≡ at_hash (λ f. closed eq f k) old hash) → OnErr result (new ≡ old) → NoneOpen old → NoneOpen new
   inserted_idle (Ok a) eq k hash old new ok err none = subst NoneOpen (sym ok) (closed_idle eq k hash old none)
   inserted_idle (Err e) eq k hash old new ok err none = subst NoneOpen (sym err) none
+
+  -- an insert has one handle
+  idle_handles : (fetches : List (Opens K N R)) → NoneOpen fetches → (k : ℕ × K) → 1 + length (waiters_of (place_in fetches k)) ≡ 1
+  idle_handles fetches none k = ap (λ (o : Option (Place N R)). 1 + length (waiters_of o)) (none k)
+
+  module _ {V P View C S W A : Type 0} (m : Meaning K P View C) (fetches : List (Opens K N R)) (none : NoneOpen fetches) (hash : ℕ) (result : Result (Inserted K V P N) (Refused K V P)) (old new : Core K V P View S W A) where
+    pub idle_weighed : (source : Source) (weighs : ℕ → Type 0) (admits : Bool → Type 0) (key : K) (value : V) (properties : Bool → P)
+        → InsertsWeighed m source weighs admits hash key value properties (1 + length (waiters_of (place_in fetches (hash, key)))) result old new
+        → InsertsWeighed m source weighs admits hash key value properties 1 result old new
+    idle_weighed source weighs admits key value properties did =
+        subst (λ (n : ℕ). InsertsWeighed m source weighs admits hash key value properties n result old new) (idle_handles fetches none (hash, key)) did
+
+    pub idle_piece : (weighs : ℕ → Type 0) (piece : Carried K V P)
+        → AtShard (λ s t. InsertsPiece m weighs hash piece (1 + length (waiters_of (place_in fetches (coming_under s hash piece)))) result s t) hash old new
+        → AtShard (λ s t. InsertsPiece m weighs hash piece 1 result s t) hash old new
+    idle_piece weighs piece at = record {
+      before = at.before;
+      after = at.after;
+      there = at.there;
+      stepped = subst (λ (n : ℕ). InsertsPiece m weighs hash piece n result at.before at.after) (idle_handles fetches none (coming_under at.before hash piece)) at.stepped;
+      rest = at.rest;
+    }
+
+  -- and nobody gets an entry
+  module _ {V P : Type 0} (fetches : List (Opens K N R)) (none : NoneOpen fetches) (entry : Held K V P) (answers : Answers K V P N) where
+    pub idle_answers : (k : ℕ × K) → AnswersEach (waiters_of (place_in fetches k)) entry answers → entries_got answers.outcome ≡ []
+    idle_answers k each = got answers.outcome (subst (λ (o : Option (Place N R)). AnswersEach (waiters_of o) entry answers) (none k) each).1 where
+      got : (o : Outcome K V P) → entries_in o ≡ Some [] → entries_got o ≡ []
+      got (Entries entries) is = cc
+      got Nothing is = refl
+      got (Fault reason) is = refl

@@ -5,7 +5,7 @@ use Rattle.foyer_policy.specs.declared.error.Reason.{Reason}
 use Rattle.foyer_policy.specs.declared.error.Reason.TheVariants.{Handles, NoMemory}
 use Rattle.foyer_core.specs.Values.{Rec, Gone, Held}
 use Rattle.foyer_core.specs.State.{Meaning, State}
-use Rattle.foyer_core.specs.Steps.{after_handle, Touches, Removes, RefusesHandle, ClonesHandle}
+use Rattle.foyer_core.specs.Steps.{after_handle, Touches, Removes, RefusesHandle, RefusesHandles, ClonesHandle}
 use Rattle.foyer_session.specs.Owns.{Counts}
 use Rattle.foyer_session.proofs.CountLemmas.{one_more, leave_alike, alike_counts, more_counts, gets_counts, gives_back_counts, gives_back_number}
 
@@ -14,6 +14,12 @@ pub refusal_same : {K V P View : Type 0} (old new : State K V P View) (id : ℕ)
 refusal_same old new id Handles h = h.3
 refusal_same old new id NoMemory h = h.3
 refusal_same old new id _ h = absurd h
+
+-- nor do several that are refused together
+pub refusals_same : {K V P View : Type 0} (old new : State K V P View) (id more : ℕ) (reason : Reason) → RefusesHandles old id more reason new → new ≡ old
+refusals_same old new id more Handles h = h.3
+refusals_same old new id more NoMemory h = h.3
+refusals_same old new id more _ h = absurd h
 
 module _ {K V P View C : Type 0} (m : Meaning K P View C) where
   -- a touch, whatever it answers

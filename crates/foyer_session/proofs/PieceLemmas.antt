@@ -6,13 +6,13 @@ use Rattle.foyer_policy.specs.declared.types.Source.TheVariants.{Memory}
 use Rattle.foyer_policy.specs.declared.error.Reason.{Reason}
 use Rattle.foyer_core.specs.declared.outcome.Inserted.{Inserted}
 use Rattle.foyer_core.specs.declared.outcome.Refused.{Refused}
-use Rattle.foyer_core.specs.Pieces.{GainsHandle, InsertsPiece, PieceBy, RefusesReturnBy, ReturnsBy, held_or, is_in, is_known, returning}
+use Rattle.foyer_core.specs.Pieces.{GainsHandles, InsertsPiece, PieceBy, RefusesReturnBy, ReturnsBy, held_or, is_in, is_known, returning}
 use Rattle.foyer_core.specs.State.{AllData, Meaning, State, handles_in, is_phantom_record}
 use Rattle.foyer_core.specs.Steps.{Inserts, newcomer}
 use Rattle.foyer_core.specs.Values.{Carried, Gone, Held, Incoming, Rec}
 use Rattle.foyer_session.specs.Owns.{Counts}
 use Rattle.foyer_session.proofs.CountLemmas.{Alike, alike_refl, inserts_counts, inserts_entry, inserts_number, one_more, refused_by_alike}
-use Rattle.foyer_session.proofs.EntryCounts.{handle_counts, refusal_same}
+use Rattle.foyer_session.proofs.EntryCounts.{handle_counts, refusals_same}
 use Rattle.foyer_session.proofs.FoundLemmas.{first_holds}
 
 last_holds : (a b : Bool) → (a && b) ≡ true → b ≡ true
@@ -47,7 +47,7 @@ module _ {K V P View C : Type 0} (m : Meaning K P View C) (many place : ℕ) (ol
         counts = inserts_counts m Memory old i ls entry new (is_phantom_record m i.kept) h more;
       }
 
-  gains_gives : (id : ℕ) (ls : List (Event × Gone K V P)) (entry : Held K V P) → GainsHandle old id ls entry new → Gives many place old entry new
+  gains_gives : (id : ℕ) (ls : List (Event × Gone K V P)) (entry : Held K V P) → GainsHandles old id 1 ls entry new → Gives many place old entry new
   gains_gives id ls entry h = record {
     number = ap (λ (x : State K V P View). x.number) h.after;
     numbered = ap (λ (x : Held K V P). x.number) h.entry_is;
@@ -63,30 +63,30 @@ module _ {K V P View C : Type 0} (m : Meaning K P View C) (many place : ℕ) (ol
   held_placed piece None is at = at
   held_placed piece (Some r) is at = belongs piece.id r is
 
-  returned_gives : (b : Bool) (piece : Carried K V P) (ls : List (Event × Gone K V P)) (entry : Held K V P) → ReturnsBy m b old piece ls entry new → piece.kept.hash % many ≡ place
+  returned_gives : (b : Bool) (piece : Carried K V P) (ls : List (Event × Gone K V P)) (entry : Held K V P) → ReturnsBy m b old piece 1 ls entry new → piece.kept.hash % many ≡ place
       → Gives many place old entry new
   returned_gives true piece ls entry h at = gains_gives piece.id ls entry h
-  returned_gives false piece ls entry h at = inserts_gives (returning old piece) ls entry h refl (held_placed piece (old.records piece.id) refl at)
+  returned_gives false piece ls entry h at = inserts_gives (returning old piece 1) ls entry h refl (held_placed piece (old.records piece.id) refl at)
 
-  pub piece_gives : {N : Type 0} (weighs : ℕ → Type 0) (hash : ℕ) (piece : Carried K V P) (made : Inserted K V P N) → InsertsPiece m weighs hash piece (Ok made) old new
+  pub piece_gives : {N : Type 0} (weighs : ℕ → Type 0) (hash : ℕ) (piece : Carried K V P) (made : Inserted K V P N) → InsertsPiece m weighs hash piece 1 (Ok made) old new
       → hash % many ≡ place → handles_in old old.next ≡ 0 → Gives many place old made.entry new
   piece_gives weighs hash piece made h at none = go (is_known old hash piece) refl h
     where
-      go : (b : Bool) → is_known old hash piece ≡ b → PieceBy m b weighs hash piece (Ok made) old new → Gives many place old made.entry new
+      go : (b : Bool) → is_known old hash piece ≡ b → PieceBy m b weighs hash piece 1 (Ok made) old new → Gives many place old made.entry new
       go true known h = returned_gives (is_in (old.records piece.id)) piece made.leaves.items made.entry h (ap (λ (x : ℕ). x % many) (known_hash old hash piece known) ∙ at)
       go false known h =
-          inserts_gives (newcomer old (record piece.kept { hash = hash; weight = h.0 })) made.leaves.items made.entry h.2 (ap (λ (x : ℕ). x + 1) (sym none)) at
+          inserts_gives (newcomer old (record piece.kept { hash = hash; weight = h.0 }) 1) made.leaves.items made.entry h.2 (ap (λ (x : ℕ). x + 1) (sym none)) at
 
 module _ {K V P View C : Type 0} (m : Meaning K P View C) (old new : State K V P View) where
-  refused_alike : (b : Bool) (piece : Carried K V P) (reason : Reason) (ls : List (Event × Gone K V P)) → RefusesReturnBy m b old piece reason ls new → Alike old new
-  refused_alike true piece reason ls h = alike_refl old new (refusal_same old new piece.id reason h.1)
-  refused_alike false piece reason ls h = refused_by_alike m (is_phantom_record m (returning old piece).kept) old (returning old piece) reason ls new h
+  refused_alike : (b : Bool) (piece : Carried K V P) (reason : Reason) (ls : List (Event × Gone K V P)) → RefusesReturnBy m b old piece 1 reason ls new → Alike old new
+  refused_alike true piece reason ls h = alike_refl old new (refusals_same old new piece.id 1 reason h.1)
+  refused_alike false piece reason ls h = refused_by_alike m (is_phantom_record m (returning old piece 1).kept) old (returning old piece 1) reason ls new h
 
-  pub piece_alike : (N : Type 0) (weighs : ℕ → Type 0) (hash : ℕ) (piece : Carried K V P) (refused : Refused K V P) → InsertsPiece m {N = N} weighs hash piece (Err refused) old new → Alike old new
+  pub piece_alike : (N : Type 0) (weighs : ℕ → Type 0) (hash : ℕ) (piece : Carried K V P) (refused : Refused K V P) → InsertsPiece m {N = N} weighs hash piece 1 (Err refused) old new → Alike old new
   piece_alike N weighs hash piece refused h = go (is_known old hash piece) h
     where
-      go : (b : Bool) → PieceBy m {N = N} b weighs hash piece (Err refused) old new → Alike old new
+      go : (b : Bool) → PieceBy m {N = N} b weighs hash piece 1 (Err refused) old new → Alike old new
       go true h = refused_alike (is_in (old.records piece.id)) piece refused.error refused.leaves.items h
       go false h =
-          let i = newcomer old (record piece.kept { hash = hash; weight = h.0 }) in
+          let i = newcomer old (record piece.kept { hash = hash; weight = h.0 }) 1 in
           refused_by_alike m (is_phantom_record m i.kept) old i refused.error refused.leaves.items new h.2

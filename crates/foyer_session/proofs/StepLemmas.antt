@@ -30,29 +30,29 @@ module _ {K V P View C S W A : Type 0} (m : Meaning K P View C) (core new : Core
   stayed_owns step hash at alike = owns_same core new step hash at alike.number handles (λ held. alike_counts m at.before at.after held alike) owns
 
   -- a record came in, under an id of which there was no handle
-  pub inserted_owns : (d : Data K V P) (leaves : List (Event × Gone K V P)) (entry : Held K V P) (at : AtShard (λ s t. Inserts m Outer s (newcomer s d) leaves entry t) d.hash core new)
+  pub inserted_owns : (d : Data K V P) (leaves : List (Event × Gone K V P)) (entry : Held K V P) (at : AtShard (λ s t. Inserts m Outer s (newcomer s d 1) leaves entry t) d.hash core new)
       → handles_in at.before at.before.next ≡ 0 → OwnsHandles new (handles ++ Some (record entry { left = false }) ∷ [])
   inserted_owns d leaves entry at none =
-      let i = newcomer at.before d in
+      let i = newcomer at.before d 1 in
       let is = inserts_entry m Outer at.before i leaves entry at.after (is_phantom_record m d) at.stepped in
-      owns_more core new (λ s t. Inserts m Outer s (newcomer s d) leaves entry t) d.hash at (inserts_number m Outer at.before i leaves entry at.after (is_phantom_record m d) at.stepped) handles
+      owns_more core new (λ s t. Inserts m Outer s (newcomer s d 1) leaves entry t) d.hash at (inserts_number m Outer at.before i leaves entry at.after (is_phantom_record m d) at.stepped) handles
       (record entry { left = false }) (ap (λ (x : Held K V P). shard_of core x.kept.hash) is) (ap (λ (x : Held K V P). x.number) is)
       (inserts_counts m Outer at.before i leaves entry at.after (is_phantom_record m d) at.stepped (ap (λ (n : ℕ). n + 1) (sym none))) owns
 
-  pub refused_owns : (d : Data K V P) (reason : Reason) (leaves : List (Event × Gone K V P)) (at : AtShard (λ s t. RefusesInsert m s (newcomer s d) reason leaves t) d.hash core new) → OwnsHandles new handles
+  pub refused_owns : (d : Data K V P) (reason : Reason) (leaves : List (Event × Gone K V P)) (at : AtShard (λ s t. RefusesInsert m s (newcomer s d 1) reason leaves t) d.hash core new) → OwnsHandles new handles
   refused_owns d reason leaves at =
-      stayed_owns (λ s t. RefusesInsert m s (newcomer s d) reason leaves t) d.hash at (refused_by_alike m (is_phantom_record m d) at.before (newcomer at.before d) reason leaves at.after at.stepped)
+      stayed_owns (λ s t. RefusesInsert m s (newcomer s d 1) reason leaves t) d.hash at (refused_by_alike m (is_phantom_record m d) at.before (newcomer at.before d 1) reason leaves at.after at.stepped)
 
   module _ (weighs : ℕ → Type 0) (hash : ℕ) (piece : Carried K V P) where
     -- a piece came in
-    pub piece_owns : {N : Type 0} (made : Inserted K V P N) (at : AtShard (λ s t. InsertsPiece m weighs hash piece (Ok made) s t) hash core new)
+    pub piece_owns : {N : Type 0} (made : Inserted K V P N) (at : AtShard (λ s t. InsertsPiece m weighs hash piece 1 (Ok made) s t) hash core new)
         → Gives (length core.shards) (shard_of core hash) at.before made.entry at.after → OwnsHandles new (handles ++ Some (record made.entry { left = false }) ∷ [])
     piece_owns made at gives =
-        owns_more core new (λ s t. InsertsPiece m weighs hash piece (Ok made) s t) hash at gives.number handles (record made.entry { left = false }) gives.placed gives.numbered gives.counts owns
+        owns_more core new (λ s t. InsertsPiece m weighs hash piece 1 (Ok made) s t) hash at gives.number handles (record made.entry { left = false }) gives.placed gives.numbered gives.counts owns
 
-    pub piece_refused_owns : (N : Type 0) (refused : Refused K V P) (at : AtShard (λ s t. InsertsPiece m {N = N} weighs hash piece (Err refused) s t) hash core new) → OwnsHandles new handles
+    pub piece_refused_owns : (N : Type 0) (refused : Refused K V P) (at : AtShard (λ s t. InsertsPiece m {N = N} weighs hash piece 1 (Err refused) s t) hash core new) → OwnsHandles new handles
     piece_refused_owns N refused at =
-        stayed_owns (λ s t. InsertsPiece m {N = N} weighs hash piece (Err refused) s t) hash at (piece_alike m at.before at.after N weighs hash piece refused at.stepped)
+        stayed_owns (λ s t. InsertsPiece m {N = N} weighs hash piece 1 (Err refused) s t) hash at (piece_alike m at.before at.after N weighs hash piece refused at.stepped)
 
   -- an entry of the key's record was made, which has the key's hash
   pub got_owns : (k : ℕ × K) (entry : Held K V P) (at : AtShard (λ s t. Gets m s k (Ok (Some entry)) t) k.0 core new) → entry.kept.hash ≡ k.0
@@ -142,6 +142,10 @@ module _ {K V P View C S W A : Type 0} (m : Meaning K P View C) (core new : Core
 -- and owns what it owned
 pub owns_still : {K V P View S W A : Type 0} (core new : Core K V P View S W A) (handles : List (Option (Held K V P))) → new ≡ core → ∥ OwnsHandles core handles ∥₁ → ∥ OwnsHandles new handles ∥₁
 owns_still core new handles same owns = subst (λ (c : Core _ _ _ _ _ _ _). ∥ OwnsHandles c handles ∥₁) (sym same) owns
+
+-- a step that leads to a core leads to the same one
+pub at_still : {K V P View S W A : Type 0} (step : State K V P View → State K V P View → Type 0) (hash : ℕ) (old mid new : Core K V P View S W A) → new ≡ mid → AtShard step hash old mid → AtShard step hash old new
+at_still {K} {V} {P} {View} {S} {W} {A} step hash old mid new same at = subst (λ (c : Core K V P View S W A). AtShard step hash old c) (sym same) at
 
 -- a list of no length has nothing
 pub empty_of : {A : Type 0} (xs : List A) → length xs ≡ 0 → xs ≡ []

@@ -98,11 +98,11 @@ module _ {K V P View C S W A : Type 0} (t : Terms K V P View C S W A) where
         let d = data_of t old k v p h.0 h.1 in
         let entry = h.2 in (
           at_builder _ (hash k) h.5,
-          λ q. insert_told t.meaning laws good hash equal old.core new.core sound d refl leaves Outer entry h.5 q
+          λ q. insert_told t.meaning laws good hash equal old.core new.core sound d refl leaves 1 Outer entry h.5 q
               ∙ ap (λ (g : Gone K V P). after_entry same t.meaning.phantom (after_leaves same (known hash old.core) leaves) g.id g.kept q) (sym h.6.tells),
         )
     insert_step k v p (Refused reason) leaves h =
-        (at_builder _ (hash k) h.4, refused_told t.meaning laws good hash equal old.core new.core sound (data_of t old k v p h.0 h.1) refl leaves reason h.4)
+        (at_builder _ (hash k) h.4, refused_told t.meaning laws good hash equal old.core new.core sound (data_of t old k v p h.0 h.1) refl leaves 1 reason h.4)
     insert_step k v p _ leaves h = absurd h
 
     get_step : (k : K) (answer : Answer K V P) (leaves : List (Event × Gone K V P)) → GetStep t old k answer leaves new → StepTold answer leaves
@@ -159,14 +159,14 @@ module _ {K V P View C S W A : Type 0} (t : Terms K V P View C S W A) where
         let made = h.1 in
         let weighs = t.weighs old.core.weighter piece.kept.key piece.kept.value in (
           at_builder _ (hash piece.kept.key) h.3,
-          λ q. piece_told t.meaning laws good t.hash old.core new.core equal sound weighs piece (Ok made) h.3 q
+          λ q. piece_told t.meaning laws good t.hash old.core new.core equal sound weighs piece (λ s. 1) (Ok made) h.3 q
               ∙ ap (λ (g : Gone K V P). after_entry same t.meaning.phantom (after_leaves same (known hash old.core) made.leaves.items) g.id g.kept q) (sym h.4.tells)
               ∙ ap (λ (ls : List (Event × Gone K V P)). after_entry same t.meaning.phantom (after_leaves same (known hash old.core) ls) told.id told.kept q) (sym h.6),
         )
     insert_piece_step n (Refused reason) leaves h = elim h.2 [
       | inl same ↦ unchanged leaves same.1 same.2
       | inr y ↦ (let weighs = t.weighs old.core.weighter h.0.kept.key h.0.kept.value in
-          subst Leaves (sym y.4) (at_builder _ (hash h.0.kept.key) y.1, piece_told t.meaning laws good t.hash old.core new.core equal sound weighs h.0 (Err y.0) y.1))
+          subst Leaves (sym y.4) (at_builder _ (hash h.0.kept.key) y.1, piece_told t.meaning laws good t.hash old.core new.core equal sound weighs h.0 (λ s. 1) (Err y.0) y.1))
     ]
     insert_piece_step n NotHeld leaves h = unchanged leaves h.1 h.2
     insert_piece_step n _ leaves h = absurd h

@@ -72,11 +72,11 @@ module _ {K V P View C S W A : Type 0} (t : Terms K V P View C S W A) where
   abbrev pub InsertStep : SessionState K V P View S W A → K → V → P → Answer K V P → List (Event × Gone K V P) → SessionState K V P View S W A → Type 0
   InsertStep old k v p (Entry number told answers) leaves new =
       (weight : ℕ) × (admitted : Bool) × (entry : Held K V P) × t.weighs old.core.weighter k v weight × t.admits old.core.filter k v admitted
-      × AtShard (λ s u. Inserts t.meaning Outer s (newcomer s (data_of old k v p weight admitted)) leaves entry u) (hash_in old k) old.core new.core
+      × AtShard (λ s u. Inserts t.meaning Outer s (newcomer s (data_of old k v p weight admitted) 1) leaves entry u) (hash_in old k) old.core new.core
       × HandsOut old number told entry new × (answers ≡ [])
   InsertStep old k v p (Refused reason) leaves new =
       (weight : ℕ) × (admitted : Bool) × t.weighs old.core.weighter k v weight × t.admits old.core.filter k v admitted
-      × AtShard (λ s u. RefusesInsert t.meaning s (newcomer s (data_of old k v p weight admitted)) reason leaves u) (hash_in old k) old.core new.core
+      × AtShard (λ s u. RefusesInsert t.meaning s (newcomer s (data_of old k v p weight admitted) 1) reason leaves u) (hash_in old k) old.core new.core
       × KeepsTables old new
   InsertStep old k v p _ leaves new = ⊥
 
@@ -144,7 +144,7 @@ module _ {K V P View C S W A : Type 0} (t : Terms K V P View C S W A) where
   -- what an insert of a piece makes of the core
   abbrev pub InsertsPieceIn : SessionState K V P View S W A → Carried K V P → Result (Inserted K V P (Unit {0})) (RefusedInsert K V P) → SessionState K V P View S W A → Type 0
   InsertsPieceIn old piece result new =
-      AtShard (λ s u. InsertsPiece t.meaning (t.weighs old.core.weighter piece.kept.key piece.kept.value) (hash_in old piece.kept.key) piece result s u)
+      AtShard (λ s u. InsertsPiece t.meaning (t.weighs old.core.weighter piece.kept.key piece.kept.value) (hash_in old piece.kept.key) piece 1 result s u)
       (hash_in old piece.kept.key) old.core new.core
 
   -- An insert of a clone of a held piece, which stays held. Where the piece could not be cloned for want of memory,

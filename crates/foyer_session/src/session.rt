@@ -2,7 +2,8 @@
 
 ghost use Rattle.std.specs.Prelude.{◌≡◌, ◌+◌, ◌*◌, ◌<◌, ◌≤◌, [], ◌∷◌, true, IfOk, IfErr, OnOk, OnErr, vec_len, vec_capacity};
 ghost use Rattle.foyer_policy.specs.declared.error.Reason.TheVariants.{NoMemory};
-ghost use Rattle.foyer_core.specs.Cores.{core_of};
+ghost use Rattle.foyer_core.specs.Cores.{core_of, fetches_of};
+ghost use Rattle.foyer_core.specs.Idle.{NoneOpen};
 ghost use Rattle.foyer_session.specs.Owns.{OwnsHandles};
 
 use crate::command::{Answer, Command, Reply};
@@ -43,6 +44,8 @@ pub struct Session<
     pieces: Vec<Piece<K, V, P>>,
     alloc: Global,
     ghost owns: { ∥ OwnsHandles (core_of core) handles.items ∥₁ },
+    // a session opens no fetch
+    ghost idle: { NoneOpen (fetches_of core) },
 }
 
 impl<
@@ -61,8 +64,10 @@ impl<
     ghost use Rattle.foyer_session.specs.Sessions.{session_of, meaning_of_session, terms_of};
     ghost use Rattle.foyer_session.specs.Step.{NumberStep, Step};
 
-    /// A session over a core, which has handed nothing out.
+    /// A session over a core, which has handed nothing out. It asks that no fetch is open in the core, as in a new
+    /// one, since it has nobody to answer.
     pub fn new(alloc: Global, core: CacheCore<E, K, V, P, S, W, A, (), (), I>) -> Self
+        requires idle { NoneOpen (fetches_of core) }
         ensures core { (session_of result).core ≡ core_of core }
         ensures handles { (session_of result).handles ≡ [] }
         ensures pieces { (session_of result).pieces ≡ [] }

@@ -2,7 +2,7 @@
 
 ghost use Rattle.std.specs.Prelude.{◌≡◌, ◌+◌, ◌<◌, ◌≤◌, vec_len, vec_capacity};
 ghost use Rattle.foyer_core.specs.Core.{AtShard, Owns};
-ghost use Rattle.foyer_core.specs.Cores.{core_of};
+ghost use Rattle.foyer_core.specs.Cores.{core_of, fetches_of};
 ghost use Rattle.foyer_core.specs.Steps.{ClonesHandle};
 
 use super::ready::with_leave;
@@ -128,8 +128,9 @@ fn clone_held<
     entry: &CoreEntry<K, V, P>,
 ) -> Result<CoreEntry<K, V, P>>
     requires owned { Owns (core_of core.old) entry.now }
-    ensures { AtShard (λ s t. ClonesHandle s entry.now result t)
+    ensures clones { AtShard (λ s t. ClonesHandle s entry.now result t)
         entry.now.kept.hash (core_of core.old) (core_of core.new) }
+    ensures fetches { fetches_of core.new ≡ fetches_of core.old }
 {
     core.clone_handle(entry)
 }

@@ -1,14 +1,15 @@
 //! What a session takes in.
 
 ghost use Rattle.std.specs.Prelude.{◌≡◌, ◌+◌, ◌<◌, ◌≤◌, ◌++◌, ◌∷◌, [], Some, true, false, length, vec_len, vec_capacity};
-ghost use Rattle.foyer_core.specs.Waited.{AnswersNobody};
+ghost use Rattle.foyer_core.specs.Cores.{core_of, fetches_of};
+ghost use Rattle.foyer_core.specs.Waited.{entries_got};
 ghost use Rattle.foyer_session.specs.Step.{record_of};
 ghost use Rattle.foyer_session.specs.declared.command.Answer.TheVariants.{Entry, Refused as RefusedAnswer};
 
 use super::handle::{self, Handle};
 use super::{Session, piece};
 use crate::command::{Answer, Answers, Reply};
-use foyer_core::{Filter, Indexer, Inserted, Outcome, Refused, Weighter};
+use foyer_core::{CacheCore, Filter, Indexer, Inserted, Refused, Weighter};
 use foyer_policy::{Error, Eviction, HashBuilder, Key, Properties, Reason, Value};
 use std::alloc::Global;
 
@@ -34,7 +35,9 @@ impl<
         ensures pieces { self.new.pieces ≡ self.old.pieces }
     {
         match self.core.insert_with_properties(key, value, properties) {
-            Ok(inserted) => tell_inserted(self.alloc, &mut self.handles, inserted),
+            Ok(inserted) => {
+                tell_inserted(self.alloc, &mut self.core, &mut self.handles, inserted)
+            }
             Err(refused) => tell_refused(refused),
         }
     }
@@ -56,32 +59,46 @@ impl<
             return Reply::new(Answer::Refused(error), Vec::new(self.alloc));
         };
         match self.core.insert_piece(piece) {
-            Ok(inserted) => tell_inserted(self.alloc, &mut self.handles, inserted),
+            Ok(inserted) => {
+                tell_inserted(self.alloc, &mut self.core, &mut self.handles, inserted)
+            }
             Err(refused) => tell_refused(refused),
         }
     }
 }
 
-// Hands the entry of a record out that came in. Nobody waited for its key.
-fn tell_inserted<K: Drop, V: Drop, P: Drop>(
+// Hands the entry of a record out that came in. Nobody gets one beside.
+fn tell_inserted<
+    E: Eviction,
+    K: Key,
+    V: Value,
+    P: Properties,
+    S: HashBuilder,
+    W: Weighter<K, V>,
+    A: Filter<K, V>,
+    I: Indexer<K>,
+>(
     alloc: Global,
+    core: &mut CacheCore<E, K, V, P, S, W, A, (), (), I>,
     handles: &mut Vec<Handle<K, V, P>>,
     inserted: Inserted<K, V, P, ()>,
 ) -> Reply<K, V, P>
     requires room { vec_len handles.old < vec_capacity handles.old }
-    requires nobody { AnswersNobody inserted.answers }
+    requires nobody { entries_got inserted.answers.outcome ≡ [] }
     requires untold { inserted.entry.left ≡ true }
     ensures answer { result.answer ≡ Entry (length handles.old.items) (record_of inserted.entry) [] }
     ensures leaves { result.leaves ≡ inserted.leaves.items }
     ensures handles { handles.new.items ≡ handles.old.items ++ Some (record inserted.entry { left = false }) ∷ [] }
     ensures capacity { vec_capacity handles.new ≡ vec_capacity handles.old }
+    ensures core { core_of core.new ≡ core_of core.old }
+    ensures fetches { fetches_of core.new ≡ fetches_of core.old }
 {
     let Inserted {
         entry,
         answers,
         leaves,
     } = inserted;
-    spend_nobody(answers);
+    core.drop_answers(answers);
     let (handle, record) = handle::hand_out(handles, entry);
     let answers = Answers::new(Vec::new(alloc));
     let answer = Answer::Entry {
@@ -99,19 +116,4 @@ fn tell_refused<K: Drop, V: Drop, P: Drop>(refused: Refused<K, V, P>) -> Reply<K
 {
     let Refused { error, leaves } = refused;
     Reply::new(Answer::Refused(error), leaves)
-}
-
-// Nobody waited.
-fn spend_nobody<K: Drop, V: Drop, P: Drop>(answers: foyer_core::Answers<K, V, P, ()>)
-    requires { AnswersNobody answers }
-{
-    let foyer_core::Answers {
-        waiters: _,
-        outcome,
-    } = answers;
-    match outcome {
-        Outcome::Entries(entries) => entries.destroy_empty(),
-        Outcome::None => {}
-        Outcome::Fault(_) => {}
-    }
 }

@@ -1,6 +1,7 @@
 use Rattle.std.proofs.Common.{refl}
 use Rattle.std.proofs.Math.Logic.{∥∥₁_map}
 use Rattle.foyer_core.specs.Cores.{core_of}
+use Rattle.foyer_core.proofs.IdleLemmas.{still_idle}
 use Rattle.foyer_session.specs.Sessions.{session_of, meaning_of_session}
 use Rattle.foyer_session.proofs.OwnLemmas.{owned_held}
 use Rattle.foyer_session.proofs.StepLemmas.{cloned_owns, clone_refused, session_same, owns_still}
@@ -17,14 +18,15 @@ invariant_of-self-in-Ok g c =
     let there = rw c.as_slice.ensures.value at c.in-Some.ensures.some in
     record {
       owns = rw c.hand_out-handle.ensures.handles (∥∥₁_map s.owns (λ o.
-          cloned_owns (meaning_of_session s) (core_of s.core) (core_of c.clone_held.new.core) s.handles.items o c.args.number c.in-Some.entry.now c.in-Ok.clone there c.in-Ok.ensures));
+          cloned_owns (meaning_of_session s) (core_of s.core) (core_of c.clone_held.new.core) s.handles.items o c.args.number c.in-Some.entry.now c.in-Ok.clone there c.in-Ok.ensures.clones));
+      idle = still_idle c.clone_held.ensures.fetches s.idle;
     }
 
 pub invariant_of-self-in-Err-1 : goal.invariant_of-self-in-Err-1
 invariant_of-self-in-Err-1 g c =
     let s = c.args.self.now in
-    let same = clone_refused (core_of s.core) (core_of c.clone_held.new.core) c.in-Some.entry.now c.in-Err.error c.in-Err.ensures in
-    record { owns = owns_still (core_of s.core) (core_of c.clone_held.new.core) s.handles.items same s.owns }
+    let same = clone_refused (core_of s.core) (core_of c.clone_held.new.core) c.in-Some.entry.now c.in-Err.error c.in-Err.ensures.clones in
+    record { owns = owns_still (core_of s.core) (core_of c.clone_held.new.core) s.handles.items same s.owns; idle = still_idle c.clone_held.ensures.fetches s.idle }
 
 pub returns-in-Ok-clause-step : goal.returns-in-Ok-clause-step
 returns-in-Ok-clause-step g c =
@@ -32,7 +34,7 @@ returns-in-Ok-clause-step g c =
       c.in-Some.entry.now,
       c.in-Ok.clone,
       rw c.as_slice.ensures.value at c.in-Some.ensures.some,
-      c.in-Ok.ensures,
+      c.in-Ok.ensures.clones,
       record {
         numbered = c.hand_out-handle.ensures.number;
         tells = c.hand_out-handle.ensures.«record»;
@@ -45,11 +47,11 @@ returns-in-Ok-clause-step g c =
 pub returns-in-Err-clause-step : goal.returns-in-Err-clause-step
 returns-in-Err-clause-step g c =
     let s = c.args.self.now in
-    let same = clone_refused (core_of s.core) (core_of c.clone_held.new.core) c.in-Some.entry.now c.in-Err.error c.in-Err.ensures in
+    let same = clone_refused (core_of s.core) (core_of c.clone_held.new.core) c.in-Some.entry.now c.in-Err.error c.in-Err.ensures.clones in
     rw (c.new-in-Err-2.ensures.answer, c.new-in-Err-2.ensures.leaves) (
       c.in-Some.entry.now,
       rw c.as_slice.ensures.value at c.in-Some.ensures.some,
-      c.in-Err.ensures,
+      c.in-Err.ensures.clones,
       c.new-in-Err.ensures.items,
       session_same (session_of s) (core_of c.clone_held.new.core) same,
     )

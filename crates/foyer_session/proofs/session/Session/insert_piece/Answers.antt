@@ -1,15 +1,24 @@
 use Rattle.std.proofs.Math.Logic.{∥∥₁_elim, ∥∥₁_map}
 use Rattle.std.proofs.Props.{props}
-use Rattle.std.proofs.Common.{◌≡◌, Some, inl, inr, length, refl, sym}
+use Rattle.std.proofs.Common.{◌≡◌, Some, Ok, Err, [], ◌∷◌, ◌++◌, false, inl, inr, length, refl, sym}
 use Rattle.std.specs.Prelude.{slice_get}
 use Rattle.foyer_core.specs.Core.{shard_of}
-use Rattle.foyer_core.specs.Cores.{core_of, hashes_of}
+use Rattle.foyer_core.specs.Cores.{core_of, fetches_of, hashes_of}
+use Rattle.foyer_core.specs.Pieces.{InsertsPiece}
+use Rattle.foyer_core.specs.State.{key_of}
+use Rattle.foyer_core.proofs.IdleLemmas.{closed_idle, idle_answers, idle_piece, still_idle}
 use Rattle.foyer_session.specs.Sessions.{meaning_of_session}
 use Rattle.foyer_session.proofs.CoreLemmas.{kept_at}
 use Rattle.foyer_session.proofs.FoundLemmas.{next_unused}
 use Rattle.foyer_session.proofs.PieceLemmas.{piece_gives}
-use Rattle.foyer_session.proofs.StepLemmas.{piece_owns, piece_refused_owns}
+use Rattle.foyer_session.proofs.StepLemmas.{at_still, owns_still, piece_owns, piece_refused_owns}
 use Rattle.foyer_session.proofs.session.Session.insert_piece.Goals as goal
+
+pub tell_inserted-requires-clause-nobody : goal.tell_inserted-requires-clause-nobody
+tell_inserted-requires-clause-nobody g c κs within =
+    let s = c.args.self.now in
+    let made = c.in-Ok-insert_piece.inserted in
+    idle_answers (fetches_of s.core) s.idle made.entry made.answers (key_of made.entry.kept) c.in-Ok-insert_piece.ensures.answers
 
 pub invariant_of-self : goal.invariant_of-self
 invariant_of-self g c =
@@ -17,24 +26,32 @@ invariant_of-self g c =
     let m = meaning_of_session s in
     let piece = c.in-Ok.piece in
     let made = c.in-Ok-insert_piece.inserted in
-    let at = c.in-Ok-insert_piece.ensures.inserted in
+    let mid = core_of c.insert_piece.new.self in
+    let told = c.tell_inserted.ensures in
     let hash = hashes_of s.core piece.kept.key in
     let place = shard_of (core_of s.core) hash in
     let weighs = g.W.Weighter.weighs s.core.weighter piece.kept.key piece.kept.value in
+    let at = idle_piece m (fetches_of s.core) s.idle hash (Ok made) (core_of s.core) mid weighs piece c.in-Ok-insert_piece.ensures.inserted in
     record {
-      owns = rw c.tell_inserted.ensures.handles (∥∥₁_elim (kept_at s.core hash at.before at.there) (hlevel props) (λ k. ∥∥₁_map s.owns (λ o.
-          piece_owns m (core_of s.core) (core_of c.insert_piece.new.self) s.handles.items o weighs hash piece made at
-          (piece_gives m (length (core_of s.core).shards) place at.before at.after (s.core.belong place at.before at.there) weighs hash piece made at.stepped refl (next_unused m at.before k)))));
+      owns = rw told.handles (owns_still mid (core_of c.tell_inserted.new.core) (s.handles.items ++ Some (record made.entry { left = false }) ∷ []) told.core
+          (∥∥₁_elim (kept_at s.core hash at.before at.there) (hlevel props) (λ k. ∥∥₁_map s.owns (λ o.
+          piece_owns m (core_of s.core) mid s.handles.items o weighs hash piece made at
+          (piece_gives m (length (core_of s.core).shards) place at.before at.after (s.core.belong place at.before at.there) weighs hash piece made at.stepped refl (next_unused m at.before k))))));
+      idle = still_idle told.fetches (still_idle c.in-Ok-insert_piece.ensures.closed (closed_idle m.same (key_of made.entry.kept) hash (fetches_of s.core) s.idle));
     }
 
 pub invariant_of-self-in-Err-insert_piece : goal.invariant_of-self-in-Err-insert_piece
 invariant_of-self-in-Err-insert_piece g c =
     let s = c.args.self.now in
+    let m = meaning_of_session s in
     let piece = c.in-Ok.piece in
+    let new = core_of c.insert_piece.new.self in
+    let hash = hashes_of s.core piece.kept.key in
     let weighs = g.W.Weighter.weighs s.core.weighter piece.kept.key piece.kept.value in
+    let at = idle_piece m (fetches_of s.core) s.idle hash (Err c.in-Err.refused) (core_of s.core) new weighs piece c.in-Err.ensures.inserted in
     record {
-      owns = ∥∥₁_map s.owns (λ o.
-          piece_refused_owns (meaning_of_session s) (core_of s.core) (core_of c.insert_piece.new.self) s.handles.items o weighs (hashes_of s.core piece.kept.key) piece (Unit {0}) c.in-Err.refused c.in-Err.ensures.inserted);
+      owns = ∥∥₁_map s.owns (λ o. piece_refused_owns m (core_of s.core) new s.handles.items o weighs hash piece (Unit {0}) c.in-Err.refused at);
+      idle = still_idle c.in-Err.ensures.fetches s.idle;
     }
 
 pub returns-in_default-clone-clause-step : goal.returns-in_default-clone-clause-step
@@ -44,18 +61,31 @@ returns-in_default-clone-clause-step g c =
 
 pub returns-in-Ok-insert_piece-clause-step : goal.returns-in-Ok-insert_piece-clause-step
 returns-in-Ok-insert_piece-clause-step g c =
+    let s = c.args.self.now in
+    let m = meaning_of_session s in
+    let piece = c.in-Ok.piece in
+    let made = c.in-Ok-insert_piece.inserted in
+    let mid = core_of c.insert_piece.new.self in
+    let told = c.tell_inserted.ensures in
+    let hash = hashes_of s.core piece.kept.key in
+    let weighs = g.W.Weighter.weighs s.core.weighter piece.kept.key piece.kept.value in
+    let at = idle_piece m (fetches_of s.core) s.idle hash (Ok made) (core_of s.core) mid weighs piece c.in-Ok-insert_piece.ensures.inserted in
     let there : slice_get c.args.self.now.pieces.items c.args.number ≡ Some c.in-Ok.piece = rw (c.as_slice.ensures.value, sym c.in-Ok.ensures.cases) at c.in-Some.ensures.some in
-    rw (c.tell_inserted.ensures.answer, c.tell_inserted.ensures.leaves) (
-      c.in-Ok.piece,
-      c.in-Ok-insert_piece.inserted,
+    rw (told.answer, told.leaves) (
+      piece,
+      made,
       there,
-      c.in-Ok-insert_piece.ensures.inserted,
-      record { numbered = refl; tells = refl; handles = c.tell_inserted.ensures.handles; pieces = refl },
+      at_still (λ a b. InsertsPiece m weighs hash piece 1 (Ok made) a b) hash (core_of s.core) mid (core_of c.tell_inserted.new.core) told.core at,
+      record { numbered = refl; tells = refl; handles = told.handles; pieces = refl },
       refl,
       refl,
     )
 
 pub returns-in-Err-clause-step : goal.returns-in-Err-clause-step
 returns-in-Err-clause-step g c =
+    let s = c.args.self.now in
+    let piece = c.in-Ok.piece in
+    let weighs = g.W.Weighter.weighs s.core.weighter piece.kept.key piece.kept.value in
+    let at = idle_piece (meaning_of_session s) (fetches_of s.core) s.idle (hashes_of s.core piece.kept.key) (Err c.in-Err.refused) (core_of s.core) (core_of c.insert_piece.new.self) weighs piece c.in-Err.ensures.inserted in
     let there : slice_get c.args.self.now.pieces.items c.args.number ≡ Some c.in-Ok.piece = rw (c.as_slice.ensures.value, sym c.in-Ok.ensures.cases) at c.in-Some.ensures.some in
-    rw (c.tell_refused.ensures.answer, c.tell_refused.ensures.leaves) (c.in-Ok.piece, there, inr (c.in-Err.refused, c.in-Err.ensures.inserted, (refl, refl), refl, refl))
+    rw (c.tell_refused.ensures.answer, c.tell_refused.ensures.leaves) (piece, there, inr (c.in-Err.refused, at, (refl, refl), refl, refl))
