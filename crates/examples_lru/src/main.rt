@@ -4,16 +4,14 @@
 mod texts;
 
 use foyer_core::{CacheCore, RawCacheConfig};
-use texts::{Bytes, Texts, put_and_get};
+use texts::{Bytes, Texts, put, put_and_get};
 
 fn main(rt: HostRuntime) -> anyhow::Result<()> {
     let base = RawCacheConfig::new(10).with_weighter(Bytes);
     let mut texts: Texts = CacheCore::new(rt.alloc(), RawCacheConfig { shards: 1, ..base })?;
     for (name, text) in [("tea", "green"), ("milk", "warm"), ("sugar", "cane")] {
         let name = String::from_str(rt.alloc(), name)?;
-        let made = texts.insert(name, String::from_str(rt.alloc(), text)?)?;
-        let (entry, leaves) = made.into_parts();
-        texts.drop_entry(entry);
+        let leaves = put(&mut texts, name, String::from_str(rt.alloc(), text)?)?;
         for (event, left) in &leaves {
             println!(rt; "{event:?} {} = {}", left.key(), left.value())?;
         }

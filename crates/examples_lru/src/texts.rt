@@ -2,7 +2,7 @@
 
 ghost use Rattle.std.specs.Prelude.{◌≡◌, IfOk};
 
-use foyer_core::{CacheCore, CacheProperties, CoreEntry, Weighter};
+use foyer_core::{CacheCore, CacheProperties, CoreEntry, Inserted, Leave, Weighter};
 use foyer_policy::{DefaultHasher, Lru, Result};
 
 /// An LRU cache of texts by their names.
@@ -10,6 +10,9 @@ pub type Texts = CacheCore<Lru, String, String, CacheProperties, DefaultHasher, 
 
 /// A handle of a text.
 pub type Text = CoreEntry<String, String, CacheProperties>;
+
+/// Texts that left, in order.
+pub type Leaves = Vec<Leave<String, String, CacheProperties>>;
 
 /// A text weighs as many bytes as it has.
 #[derive(Clone, Copy, Debug, Default)]
@@ -26,14 +29,32 @@ impl<K> Weighter<K, String> for Bytes {
     }
 }
 
+/// Puts a text in under a name, and answers what left for it.
+pub fn put(texts: &mut Texts, name: String, text: String) -> Result<Leaves> {
+    let Inserted {
+        entry,
+        answers,
+        leaves,
+    } = texts.insert(name, text)?;
+    // Those who wait for a fetch of the name get entries too. Here nobody fetches.
+    texts.drop_answers(answers);
+    texts.drop_entry(entry);
+    Ok(leaves)
+}
+
 /// Puts a text in under a name and looks it up: it is found, however heavy it is, unless one of the two calls
 /// is refused.
 pub fn put_and_get(texts: &mut Texts, name: String, text: String) -> Result<Text>
     ensures { IfOk result (λ entry. entry.kept.value ≡ text) }
 {
-    let made = texts.insert(name.clone()?, text)?;
+    let Inserted {
+        entry,
+        answers,
+        leaves: _,
+    } = texts.insert(name.clone()?, text)?;
     let found = texts.get(&name);
-    texts.drop_entry(made.into_entry());
+    texts.drop_answers(answers);
+    texts.drop_entry(entry);
     // The insert says that a get finds the text. So there is an entry, where the get is not refused.
     Ok(found?.unwrap())
 }

@@ -63,16 +63,16 @@ module _ {View C S W A : Type 0} (m : Meaning ℕ Answered View C) (old mid new 
   -- an insert of default properties, with a weight of 1, which the filter admits
   module _ {N : Type 0} (weighs : ℕ → Type 0) (admits : Bool → Type 0) (hash key : ℕ) (properties : Bool → Answered) (result : Result (Inserted ℕ ℕ Answered N) (Refused ℕ ℕ Answered))
       (plain : properties true ≡ record { phantom = None; hint = Normal }) (one : (n : ℕ) → weighs n → n ≡ 1) (yes : (b : Bool) → admits b → b ≡ true)
-      (did : InsertsWeighed m Outer weighs admits hash key key properties result old mid) where
-    pub weighed_plain : AtShard (λ s t. InsertsAnswering m Outer s (newcomer s (data_of (hash, key))) result t) hash old mid
+      (did : InsertsWeighed m Outer weighs admits hash key key properties 1 result old mid) where
+    pub weighed_plain : AtShard (λ s t. InsertsAnswering m Outer s (newcomer s (data_of (hash, key)) 1) result t) hash old mid
     weighed_plain =
         let is : record { key = key; value = key; properties = properties did.admitted; hash = hash; weight = did.weight } ≡ data_of (hash, key) =
         ap₂ (λ (x : Answered) (n : ℕ). record { key = key; value = key; properties = x; hash = hash; weight = n }) (ap properties (yes did.admitted did.answered) ∙ plain) (one did.weight did.weighed) in
-        at_map (λ s t. InsertsAnswering m Outer s (newcomer s record { key = key; value = key; properties = properties did.admitted; hash = hash; weight = did.weight }) result t)
-        (λ s t. InsertsAnswering m Outer s (newcomer s (data_of (hash, key))) result t) hash old mid
-        (λ s t h. subst (λ x. InsertsAnswering m Outer s (newcomer s x) result t) is h) did.inserts
+        at_map (λ s t. InsertsAnswering m Outer s (newcomer s record { key = key; value = key; properties = properties did.admitted; hash = hash; weight = did.weight } 1) result t)
+        (λ s t. InsertsAnswering m Outer s (newcomer s (data_of (hash, key)) 1) result t) hash old mid
+        (λ s t h. subst (λ x. InsertsAnswering m Outer s (newcomer s x 1) result t) is h) did.inserts
 
-  module _ (hash key : ℕ) (leaves : List (Event × Gone ℕ ℕ Answered)) (entry : Held ℕ ℕ Answered) (at : AtShard (λ s t. Inserts m Outer s (newcomer s (data_of (hash, key))) leaves entry t) hash old mid) where
+  module _ (hash key : ℕ) (leaves : List (Event × Gone ℕ ℕ Answered)) (entry : Held ℕ ℕ Answered) (at : AtShard (λ s t. Inserts m Outer s (newcomer s (data_of (hash, key)) 1) leaves entry t) hash old mid) where
     put_hash : entry.kept.hash ≡ hash
     put_hash =
         let made = inserts_make m (is_phantom_record m (data_of (hash, key))) at.before (data_of (hash, key)) leaves entry at.after at.stepped in
@@ -83,16 +83,16 @@ module _ {View C S W A : Type 0} (m : Meaning ℕ Answered View C) (old mid new 
     put_owned =
         let made = inserts_make m (is_phantom_record m (data_of (hash, key))) at.before (data_of (hash, key)) leaves entry at.after at.stepped in
         let held : 0 < handles_in at.after entry.id = elim (made.handles entry.id) [ inl e ↦ omega (arith, e.1) | inr e ↦ absurd (e.0 refl) ] in
-        owns_at (λ s t. Inserts m Outer s (newcomer s (data_of (hash, key))) leaves entry t) hash old mid at entry put_hash made.number held
+        owns_at (λ s t. Inserts m Outer s (newcomer s (data_of (hash, key)) 1) leaves entry t) hash old mid at entry put_hash made.number held
 
     -- and once the entry is given back, the key was put in
     pub put_done : (leave : Option (Event × Gone ℕ ℕ Answered)) → AtShard (λ s t. GivesBack m s entry.id leave t) entry.kept.hash mid new
         → AtShard (λ s t. PutsIn m s (hash, key) t) hash old new
     put_done leave gave =
         let here = subst (λ (x : ℕ). AtShard (λ s t. GivesBack m s entry.id leave t) x mid new) put_hash gave in
-        at_map (λ s t. (u : State ℕ ℕ Answered View) × Inserts m Outer s (newcomer s (data_of (hash, key))) leaves entry u × GivesBack m u entry.id leave t)
+        at_map (λ s t. (u : State ℕ ℕ Answered View) × Inserts m Outer s (newcomer s (data_of (hash, key)) 1) leaves entry u × GivesBack m u entry.id leave t)
         (λ s t. PutsIn m s (hash, key) t) hash old new (λ s t x. (entry, x.0, leaves, leave, x.1, x.2))
-        (at_then (λ s t. Inserts m Outer s (newcomer s (data_of (hash, key))) leaves entry t) (λ s t. GivesBack m s entry.id leave t) hash old mid new at here)
+        (at_then (λ s t. Inserts m Outer s (newcomer s (data_of (hash, key)) 1) leaves entry t) (λ s t. GivesBack m s entry.id leave t) hash old mid new at here)
 
   -- ---- a get
 
@@ -122,10 +122,10 @@ module _ {View C S W A : Type 0} (m : Meaning ℕ Answered View C) (old mid new 
       (at_then (λ s t. Gets m s k (Ok None) t) (λ s t. PutsIn m s k t) k.0 old mid new missed put)
 
   pub missed_refused : (k : ℕ × ℕ) (reason : Reason) → AtShard (λ s t. Gets m s k (Ok None) t) k.0 old mid
-      → AtShard (λ s t. (leaves : List (Event × Gone ℕ ℕ Answered)) × RefusesInsert m s (newcomer s (data_of k)) reason leaves t) k.0 mid new
+      → AtShard (λ s t. (leaves : List (Event × Gone ℕ ℕ Answered)) × RefusesInsert m s (newcomer s (data_of k) 1) reason leaves t) k.0 mid new
       → AtShard (λ s t. RefusesLookUp m s k reason t) k.0 old new
   missed_refused k reason missed refused =
-      at_map (λ s t. (u : State ℕ ℕ Answered View) × Gets m s k (Ok None) u × ((leaves : List (Event × Gone ℕ ℕ Answered)) × RefusesInsert m u (newcomer u (data_of k)) reason leaves t))
+      at_map (λ s t. (u : State ℕ ℕ Answered View) × Gets m s k (Ok None) u × ((leaves : List (Event × Gone ℕ ℕ Answered)) × RefusesInsert m u (newcomer u (data_of k) 1) reason leaves t))
       (λ s t. RefusesLookUp m s k reason t) k.0 old new
-      (λ s t x. inr (x.2.0, x.1.0, subst (λ u. RefusesInsert m u (newcomer u (data_of k)) reason x.2.0 t) x.1.1 x.2.1))
-      (at_then (λ s t. Gets m s k (Ok None) t) (λ s t. (leaves : List (Event × Gone ℕ ℕ Answered)) × RefusesInsert m s (newcomer s (data_of k)) reason leaves t) k.0 old mid new missed refused)
+      (λ s t x. inr (x.2.0, x.1.0, subst (λ u. RefusesInsert m u (newcomer u (data_of k) 1) reason x.2.0 t) x.1.1 x.2.1))
+      (at_then (λ s t. Gets m s k (Ok None) t) (λ s t. (leaves : List (Event × Gone ℕ ℕ Answered)) × RefusesInsert m s (newcomer s (data_of k) 1) reason leaves t) k.0 old mid new missed refused)

@@ -80,7 +80,7 @@ module _ {K V P View C : Type 0} (m : Meaning K P View C) where
   gives_way_alike (Some id) old ls new h = leave_alike Replace (id ∷ []) old ls (m.policy.remove old.view id) new h
 
   inserted_alike : (old : State K V P View) (d : Data K V P) (ls : List (Event × Gone K V P)) (entry : Held K V P) (new : State K V P View)
-      (h : InsertsPlain m Outer old (newcomer old d) ls entry new) → Alike old h.last
+      (h : InsertsPlain m Outer old (newcomer old d 1) ls entry new) → Alike old h.last
   inserted_alike old d ls entry new h =
       alike_then old h.mid h.last (leave_alike Evict _ old h.evictions _ h.mid h.evicts) (gives_way_alike (h.mid.index (key_of d)) h.mid h.replaced h.last h.gives_way)
 
@@ -107,7 +107,7 @@ module _ {K V P View C : Type 0} (m : Meaning K P View C) where
       }
 
   pub inserts_make : (b : Bool) (old : State K V P View) (d : Data K V P) (ls : List (Event × Gone K V P)) (entry : Held K V P) (new : State K V P View)
-      → InsertsBy m b Outer old (newcomer old d) ls entry new → Makes old d entry new
+      → InsertsBy m b Outer old (newcomer old d 1) ls entry new → Makes old d entry new
   inserts_make false old d ls entry new h =
       makes old h.last d entry new (record { kept = d; handles = 1; resident = true }) (inserted_alike old d ls entry new h) h.entry_is
       (ap (λ (x : State K V P View). x.records) h.after) refl (ap (λ (x : State K V P View). x.number) h.after)

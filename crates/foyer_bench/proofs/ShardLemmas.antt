@@ -73,6 +73,10 @@ module _ {K V P View S W A : Type 0} where
                 ∙ ap (λ (l : List (State K V P View)). record old { shards = l }) (set_again old.shards (shard_of old hash) x.after z.after);
           }
 
+  -- a step that leads to a core leads to the same one
+  pub at_still : (step : State K V P View → State K V P View → Type 0) (hash : ℕ) (old mid new : Core K V P View S W A) → new ≡ mid → AtShard step hash old mid → AtShard step hash old new
+  at_still step hash old mid new same at = subst (λ (c : Core K V P View S W A). AtShard step hash old c) (sym same) at
+
   -- another step of which the same is said
   pub at_map : (first second : State K V P View → State K V P View → Type 0) (hash : ℕ) (old new : Core K V P View S W A)
       → ((s t : State K V P View) → first s t → second s t) → AtShard first hash old new → AtShard second hash old new

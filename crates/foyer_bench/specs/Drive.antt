@@ -29,7 +29,7 @@ module _ {View C : Type 0} (m : Meaning ℕ Answered View C) where
   abbrev pub PutsIn : State ℕ ℕ Answered View → ℕ × ℕ → State ℕ ℕ Answered View → Type 0
   PutsIn old k new =
       (entry : Held ℕ ℕ Answered) × (mid : State ℕ ℕ Answered View) × (leaves : List (Event × Gone ℕ ℕ Answered)) × (leave : Option (Event × Gone ℕ ℕ Answered))
-      × Inserts m Outer old (newcomer old (data_of k)) leaves entry mid × GivesBack m mid entry.id leave new
+      × Inserts m Outer old (newcomer old (data_of k) 1) leaves entry mid × GivesBack m mid entry.id leave new
 
   -- a shard looks a hashed key up, and puts its record in where it finds none; the answer says which
   abbrev pub LookUp : State ℕ ℕ Answered View → ℕ × ℕ → Bool → State ℕ ℕ Answered View → Type 0
@@ -39,7 +39,7 @@ module _ {View C : Type 0} (m : Meaning ℕ Answered View C) where
   -- the get is refused, or finds nothing and the insert is
   abbrev pub RefusesLookUp : State ℕ ℕ Answered View → ℕ × ℕ → Reason → State ℕ ℕ Answered View → Type 0
   RefusesLookUp old k reason new =
-      Gets m old k (Err reason) new ⊎ ((leaves : List (Event × Gone ℕ ℕ Answered)) × (hit old k ≡ None) × RefusesInsert m old (newcomer old (data_of k)) reason leaves new)
+      Gets m old k (Err reason) new ⊎ ((leaves : List (Event × Gone ℕ ℕ Answered)) × (hit old k ≡ None) × RefusesInsert m old (newcomer old (data_of k) 1) reason leaves new)
 
   -- `hash` gives the hash of a key by a hash builder
   module _ {S W A : Type 0} (hash : S → ℕ → ℕ) where

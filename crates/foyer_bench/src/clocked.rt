@@ -2,7 +2,8 @@
 
 ghost use Rattle.std.specs.Prelude.{◌≡◌, IfOk};
 ghost use Rattle.std.specs.Hash.{u64 as u64_input};
-ghost use Rattle.foyer_core.specs.Cores.{core_of, meaning_of_core};
+ghost use Rattle.foyer_core.specs.Cores.{core_of, fetches_of, meaning_of_core};
+ghost use Rattle.foyer_core.specs.Idle.{NoneOpen};
 ghost use Rattle.foyer_bench.specs.Drive.{NoMoreHandles, Runs};
 
 use crate::drive::{Core, drive};
@@ -24,13 +25,15 @@ pub struct Timed {
     pub nanos: u64,
 }
 
-/// Runs over the keys as `drive` does, and says how long it took. At `Err` some first keys were looked up.
+/// Runs over the keys as `drive` does, and says how long it took. At `Err` some first keys were looked up. It asks
+/// that no fetch is open.
 pub fn run_clocked<R: Clock + Eprint, E: Eviction, S: HashBuilder>(
     rt: &R,
     core: &mut Core<E, S>,
     keys: &[u64],
     progress: &mut Progress,
 ) -> Result<Timed, Failure>
+    requires idle { NoneOpen (fetches_of core.old) }
     ensures runs { IfOk result (λ run. Runs (meaning_of_core core.old) (λ builder key. S.hash_of builder (u64_input key))
         (core_of core.old) keys.now run.hits (core_of core.new)) }
     ensures handles { IfOk result (λ _. NoMoreHandles (core_of core.old) (core_of core.new)) }

@@ -3,28 +3,29 @@
 ghost use Rattle.std.specs.Prelude.{◌≡◌, ◌≤◌, None, IfOk, IfErr, length};
 ghost use Rattle.std.specs.Hash.{u64 as u64_input};
 ghost use Rattle.foyer_core.specs.Core.{AtShard, Owns};
-ghost use Rattle.foyer_core.specs.Waited.{AnswersNobody};
-ghost use Rattle.foyer_core.specs.Cores.{core_of, meaning_of_core};
+ghost use Rattle.foyer_core.specs.Cores.{core_of, fetches_of, meaning_of_core};
+ghost use Rattle.foyer_core.specs.Idle.{NoneOpen};
 ghost use Rattle.foyer_core.specs.Steps.{GivesBack, RefusesInsert, newcomer};
 ghost use Rattle.foyer_bench.specs.Drive.{LooksUp, NoMoreHandles, PutsIn, RefusesLookUp, Runs, Stops, data_of};
 
-use foyer_core::{
-    AdmitAll, Answers, CacheCore, CacheProperties, CoreEntry, Inserted, Outcome, UnitWeighter,
-};
+use foyer_core::{AdmitAll, CacheCore, CacheProperties, CoreEntry, Inserted, UnitWeighter};
 use foyer_policy::{Eviction, HashBuilder, Result};
 
 /// A core of `u64` keys and values that weigh 1 each.
-pub type Core<E, S> = CacheCore<E, u64, u64, CacheProperties, S, UnitWeighter, AdmitAll, (), ()>;
+pub type Core<E, S> = CacheCore<E, u64, u64, CacheProperties, S, UnitWeighter, AdmitAll>;
 
 /// Looks each key up, and puts in each that is not found, as its own value. Each entry is given back at once.
-/// Answers how many keys were found. Refused where a key is: it and the keys after it are left out.
+/// Answers how many keys were found. Refused where a key is: it and the keys after it are left out. It asks that no
+/// fetch is open, as in a new core, and opens none.
 pub fn drive<E: Eviction, S: HashBuilder>(core: &mut Core<E, S>, keys: &[u64]) -> Result<usize>
+    requires idle { NoneOpen (fetches_of core.old) }
     ensures runs { IfOk result (λ hits. Runs (meaning_of_core core.old) (λ builder key. S.hash_of builder (u64_input key))
         (core_of core.old) keys.now hits (core_of core.new)) }
     ensures handles { IfOk result (λ _. NoMoreHandles (core_of core.old) (core_of core.new)) }
     ensures stops { IfErr result (λ reason. Stops (meaning_of_core core.old) (λ builder key. S.hash_of builder (u64_input key))
         (core_of core.old) keys.now reason (core_of core.new)) }
     ensures most { IfOk result (λ hits. hits ≤ length keys.now) }
+    ensures idle { NoneOpen (fetches_of core.new) }
 {
     let mut hits = 0;
     for key in keys {
@@ -42,11 +43,13 @@ pub fn drive<E: Eviction, S: HashBuilder>(core: &mut Core<E, S>, keys: &[u64]) -
 // Looks a key up, and puts it in where it is not found. Answers whether it was.
 #[inline]
 fn look_up<E: Eviction, S: HashBuilder>(core: &mut Core<E, S>, key: u64) -> Result<bool>
+    requires idle { NoneOpen (fetches_of core.old) }
     ensures looks_up { IfOk result (λ found. LooksUp (meaning_of_core core.old) (λ builder key. S.hash_of builder (u64_input key))
         (core_of core.old) key found (core_of core.new)) }
     ensures refused { let hash = S.hash_of (core_of core.old).hash_builder (u64_input key) in
         IfErr result (λ reason. AtShard (λ s t. RefusesLookUp (meaning_of_core core.old) s (hash, key) reason t)
         hash (core_of core.old) (core_of core.new)) }
+    ensures idle { NoneOpen (fetches_of core.new) }
 {
     match core.get(&key) {
         Ok(Some(entry)) => {
@@ -64,11 +67,13 @@ fn look_up<E: Eviction, S: HashBuilder>(core: &mut Core<E, S>, key: u64) -> Resu
 // Puts a key in, as its own value.
 #[inline]
 fn put_in<E: Eviction, S: HashBuilder>(core: &mut Core<E, S>, key: u64) -> Result<()>
+    requires idle { NoneOpen (fetches_of core.old) }
     ensures put { let hash = S.hash_of (core_of core.old).hash_builder (u64_input key) in
         IfOk result (λ _. AtShard (λ s t. PutsIn (meaning_of_core core.old) s (hash, key) t) hash (core_of core.old) (core_of core.new)) }
     ensures refused { let hash = S.hash_of (core_of core.old).hash_builder (u64_input key) in
-        IfErr result (λ reason. AtShard (λ s t. (leaves : _) × RefusesInsert (meaning_of_core core.old) s (newcomer s (data_of (hash, key))) reason leaves t)
+        IfErr result (λ reason. AtShard (λ s t. (leaves : _) × RefusesInsert (meaning_of_core core.old) s (newcomer s (data_of (hash, key)) 1) reason leaves t)
         hash (core_of core.old) (core_of core.new)) }
+    ensures idle { NoneOpen (fetches_of core.new) }
 {
     match core.insert(key, key) {
         Ok(made) => {
@@ -77,7 +82,7 @@ fn put_in<E: Eviction, S: HashBuilder>(core: &mut Core<E, S>, key: u64) -> Resul
                 answers,
                 leaves: _,
             } = made;
-            spend_nobody(answers);
+            core.drop_answers(answers);
             end(core, entry);
             Ok(())
         }
@@ -94,6 +99,7 @@ fn end<E: Eviction, S: HashBuilder>(
     requires owned { Owns (core_of core.old) entry }
     ensures given_back { (leave : _) × AtShard (λ s t. GivesBack (meaning_of_core core.old) s entry.id leave t)
         entry.kept.hash (core_of core.old) (core_of core.new) }
+    ensures fetches { fetches_of core.new ≡ fetches_of core.old }
 {
     match core.give_back(entry) {
         Ok(_) => {}
@@ -101,22 +107,6 @@ fn end<E: Eviction, S: HashBuilder>(
             entry.discard();
             unreachable!()
         }
-    }
-}
-
-// Nobody waited.
-#[inline]
-fn spend_nobody(answers: Answers<u64, u64, CacheProperties, ()>)
-    requires { AnswersNobody answers }
-{
-    let Answers {
-        waiters: _,
-        outcome,
-    } = answers;
-    match outcome {
-        Outcome::Entries(entries) => entries.destroy_empty(),
-        Outcome::None => {}
-        Outcome::Fault(_) => {}
     }
 }
 

@@ -62,8 +62,8 @@ module _ {K N R : Type 0} where
     go (Some f) is = shut_at f is
 
   -- nor where all stay
-  pub still_idle : {old new : List (Opens K N R)} → new ≡ old → NoneOpen old → NoneOpen new
-  still_idle same none = subst NoneOpen (sym same) none
+  pub still_idle : (old new : List (Opens K N R)) → new ≡ old → NoneOpen old → NoneOpen new
+  still_idle old new same none = subst NoneOpen (sym same) none
 
   -- nor after an insert
   pub inserted_idle : {A E : Type 0} (result : Result A E) (eq : K → K → Bool) (k : ℕ × K) (hash : ℕ) (old new : List (Opens K N R))

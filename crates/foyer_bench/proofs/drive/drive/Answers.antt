@@ -23,6 +23,7 @@ loop-key-preserved g c =
     record {
       run = rw (take_more keys i 0 c.loop-key-test.true, hits) (runs-more m hash old mid new (take i keys) c.loop-key.hits (get_or keys i 0) found c.loop-key.invariant.run c.in-Ok.ensures.looks_up);
       handles = less_then old mid new c.loop-key.invariant.handles (looks-less m hash mid new (get_or keys i 0) found c.in-Ok.ensures.looks_up);
+      idle = c.look_up.ensures.idle;
     }
 
 pub returns-in-Err-clause-stops : goal.returns-in-Err-clause-stops

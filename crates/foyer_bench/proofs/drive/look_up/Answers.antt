@@ -52,7 +52,7 @@ returns-in-Err-put_in-clause-refused g c =
     let hash = λ (b : _). g.S.HashBuilder.hash_of b (u64_input c.args.key) in
     let error = c.in-Err-put_in.error in
     let missed = rw c.in-Ok-None.field-0-is at c.in-Ok-None.ensures.gets in
-    let refused = subst (λ b. AtShard (λ s t. (leaves : _) × RefusesInsert m s (newcomer s (data_of (hash b, c.args.key))) error leaves t) (hash b) mid new) (ap (λ x. x.hash_builder) missed.rest) c.in-Err-put_in.ensures.refused in
+    let refused = subst (λ b. AtShard (λ s t. (leaves : _) × RefusesInsert m s (newcomer s (data_of (hash b, c.args.key)) 1) error leaves t) (hash b) mid new) (ap (λ x. x.hash_builder) missed.rest) c.in-Err-put_in.ensures.refused in
     missed_refused m (core_of core) mid new (hash core.hash_builder, c.args.key) error missed refused
 
 pub returns-in-Err-clause-refused : goal.returns-in-Err-clause-refused

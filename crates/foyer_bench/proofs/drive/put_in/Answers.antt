@@ -1,40 +1,68 @@
+use Rattle.std.proofs.Common.{Ok, Err}
 use Rattle.std.specs.Hash.{u64 as u64_input}
-use Rattle.foyer_core.specs.Cores.{core_of, meaning_of_core}
-use Rattle.foyer_core.specs.Steps.{RefusesInsert, newcomer}
+use Rattle.foyer_policy.specs.declared.types.Source.TheVariants.{Outer}
+use Rattle.foyer_core.specs.CoreFetches.{at_hash}
+use Rattle.foyer_core.specs.Cores.{core_of, fetches_of, meaning_of_core}
+use Rattle.foyer_core.specs.Inflight.{closed}
+use Rattle.foyer_core.specs.Steps.{Inserts, RefusesInsert, newcomer}
+use Rattle.foyer_core.proofs.IdleLemmas.{closed_idle, idle_answers, idle_weighed, still_idle}
 use Rattle.foyer_bench.specs.Drive.{data_of}
 use Rattle.foyer_bench.proofs.DriveLemmas.{weighed_plain, put_owned, put_done}
-use Rattle.foyer_bench.proofs.ShardLemmas.{at_map}
+use Rattle.foyer_bench.proofs.ShardLemmas.{at_map, at_still}
 use Rattle.foyer_bench.proofs.drive.put_in.Goals as goal
 
 pub end-requires-clause-owned : goal.end-requires-clause-owned
 end-requires-clause-owned g c =
-    let m = meaning_of_core c.args.core.now in
-    let old = core_of c.args.core.now in
-    let mid = core_of c.insert.new.self in
-    let hash = g.S.HashBuilder.hash_of c.args.core.now.hash_builder (u64_input c.args.key) in
+    let core = c.args.core.now in
+    let m = meaning_of_core core in
+    let put = core_of c.insert.new.self in
+    let mid = core_of c.drop_answers.new.self in
+    let hash = g.S.HashBuilder.hash_of core.hash_builder (u64_input c.args.key) in
     let (p, plain, did) = c.in-Ok.ensures.inserted in
     let made = c.in-Ok.made in
-    λ _ _. put_owned m old mid mid hash c.args.key made.leaves.items made.entry (weighed_plain m old mid mid _ _ hash c.args.key _ _ plain (λ n e. e) (λ b e. e) did)
+    let same = c.drop_answers.ensures.nobody (idle_answers (fetches_of core) c.requires made.entry made.answers (hash, c.args.key) c.in-Ok.ensures.answers) in
+    let one = idle_weighed m (fetches_of core) c.requires hash (Ok made) (core_of core) put Outer _ _ c.args.key c.args.key _ did in
+    let at = at_still (λ s t. Inserts m Outer s (newcomer s (data_of (hash, c.args.key)) 1) made.leaves.items made.entry t) hash (core_of core) put mid same
+    (weighed_plain m (core_of core) put put _ _ hash c.args.key _ _ plain (λ n e. e) (λ b e. e) one) in
+    λ _ _. put_owned m (core_of core) mid mid hash c.args.key made.leaves.items made.entry at
 
 pub returns-in-Ok-clause-put : goal.returns-in-Ok-clause-put
 returns-in-Ok-clause-put g c =
-    let m = meaning_of_core c.args.core.now in
-    let old = core_of c.args.core.now in
-    let mid = core_of c.insert.new.self in
-    let new = core_of c.end.new.core in
-    let hash = g.S.HashBuilder.hash_of c.args.core.now.hash_builder (u64_input c.args.key) in
+    let core = c.args.core.now in
+    let m = meaning_of_core core in
+    let put = core_of c.insert.new.self in
+    let mid = core_of c.drop_answers.new.self in
+    let hash = g.S.HashBuilder.hash_of core.hash_builder (u64_input c.args.key) in
     let (p, plain, did) = c.in-Ok.ensures.inserted in
     let made = c.in-Ok.made in
+    let same = c.drop_answers.ensures.nobody (idle_answers (fetches_of core) c.requires made.entry made.answers (hash, c.args.key) c.in-Ok.ensures.answers) in
+    let one = idle_weighed m (fetches_of core) c.requires hash (Ok made) (core_of core) put Outer _ _ c.args.key c.args.key _ did in
+    let at = at_still (λ s t. Inserts m Outer s (newcomer s (data_of (hash, c.args.key)) 1) made.leaves.items made.entry t) hash (core_of core) put mid same
+    (weighed_plain m (core_of core) put put _ _ hash c.args.key _ _ plain (λ n e. e) (λ b e. e) one) in
     let (leave, gave) = c.end.ensures.given_back in
-    put_done m old mid new hash c.args.key made.leaves.items made.entry (weighed_plain m old mid new _ _ hash c.args.key _ _ plain (λ n e. e) (λ b e. e) did) leave gave
+    put_done m (core_of core) mid (core_of c.end.new.core) hash c.args.key made.leaves.items made.entry at leave gave
+
+pub returns-in-Ok-clause-idle : goal.returns-in-Ok-clause-idle
+returns-in-Ok-clause-idle g c =
+    let core = c.args.core.now in
+    let hash = g.S.HashBuilder.hash_of core.hash_builder (u64_input c.args.key) in
+    let put = fetches_of c.insert.new.self in
+    let mid = fetches_of c.drop_answers.new.self in
+    let eq = (meaning_of_core core).same in
+    still_idle mid (fetches_of c.end.new.core) c.end.ensures.fetches (still_idle put mid c.drop_answers.ensures.fetches
+    (still_idle (at_hash (λ f. closed eq f (hash, c.args.key)) (fetches_of core) hash) put c.in-Ok.ensures.closed (closed_idle eq (hash, c.args.key) hash (fetches_of core) c.requires)))
 
 pub returns-in-Err-clause-refused : goal.returns-in-Err-clause-refused
 returns-in-Err-clause-refused g c =
-    let m = meaning_of_core c.args.core.now in
-    let old = core_of c.args.core.now in
+    let core = c.args.core.now in
+    let m = meaning_of_core core in
     let new = core_of c.insert.new.self in
-    let hash = g.S.HashBuilder.hash_of c.args.core.now.hash_builder (u64_input c.args.key) in
+    let hash = g.S.HashBuilder.hash_of core.hash_builder (u64_input c.args.key) in
     let (p, plain, did) = c.in-Err.ensures.inserted in
     let refused = c.in-Err.refused in
-    let at = weighed_plain m old new new _ _ hash c.args.key _ _ plain (λ n e. e) (λ b e. e) did in
-    at_map _ (λ s t. (leaves : _) × RefusesInsert m s (newcomer s (data_of (hash, c.args.key))) refused.error leaves t) hash old new (λ s t h. (refused.leaves.items, h)) at
+    let one = idle_weighed m (fetches_of core) c.requires hash (Err refused) (core_of core) new Outer _ _ c.args.key c.args.key _ did in
+    let at = weighed_plain m (core_of core) new new _ _ hash c.args.key _ _ plain (λ n e. e) (λ b e. e) one in
+    at_map _ (λ s t. (leaves : _) × RefusesInsert m s (newcomer s (data_of (hash, c.args.key)) 1) refused.error leaves t) hash (core_of core) new (λ s t h. (refused.leaves.items, h)) at
+
+pub returns-in-Err-clause-idle : goal.returns-in-Err-clause-idle
+returns-in-Err-clause-idle g c = still_idle (fetches_of c.args.core.now) (fetches_of c.insert.new.self) c.in-Err.ensures.fetches c.requires

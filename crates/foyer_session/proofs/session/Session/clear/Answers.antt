@@ -1,6 +1,6 @@
 use Rattle.std.proofs.Common.{refl}
 use Rattle.std.proofs.Math.Logic.{∥∥₁_map}
-use Rattle.foyer_core.specs.Cores.{core_of}
+use Rattle.foyer_core.specs.Cores.{core_of, fetches_of}
 use Rattle.foyer_core.proofs.IdleLemmas.{still_idle}
 use Rattle.foyer_session.specs.Sessions.{meaning_of_session}
 use Rattle.foyer_session.proofs.BulkLemmas.{cleared_owns, of_either}
@@ -15,7 +15,7 @@ invariant_of-self g c =
       owns = of_either c.clear.result c.clear.ensures.done c.clear.ensures.err
           (λ leaves done. ∥∥₁_map s.owns (λ o. cleared_owns (meaning_of_session s) (core_of s.core) leaves.items new s.handles.items done o))
           (λ same. owns_still (core_of s.core) new s.handles.items same s.owns);
-      idle = still_idle c.clear.ensures.fetches s.idle;
+      idle = still_idle (fetches_of s.core) (fetches_of c.clear.new.self) c.clear.ensures.fetches s.idle;
     }
 
 pub returns-in-Ok-clause-step : goal.returns-in-Ok-clause-step

@@ -1,6 +1,6 @@
 use Rattle.std.proofs.Common.{refl}
 use Rattle.std.proofs.Math.Logic.{∥∥₁_map}
-use Rattle.foyer_core.specs.Cores.{core_of}
+use Rattle.foyer_core.specs.Cores.{core_of, fetches_of}
 use Rattle.foyer_core.proofs.IdleLemmas.{still_idle}
 use Rattle.foyer_session.specs.Sessions.{session_of, meaning_of_session}
 use Rattle.foyer_session.proofs.OwnLemmas.{owned_held}
@@ -19,14 +19,14 @@ invariant_of-self-in-Ok g c =
     record {
       owns = rw c.hand_out-handle.ensures.handles (∥∥₁_map s.owns (λ o.
           cloned_owns (meaning_of_session s) (core_of s.core) (core_of c.clone_held.new.core) s.handles.items o c.args.number c.in-Some.entry.now c.in-Ok.clone there c.in-Ok.ensures.clones));
-      idle = still_idle c.clone_held.ensures.fetches s.idle;
+      idle = still_idle (fetches_of s.core) (fetches_of c.clone_held.new.core) c.clone_held.ensures.fetches s.idle;
     }
 
 pub invariant_of-self-in-Err-1 : goal.invariant_of-self-in-Err-1
 invariant_of-self-in-Err-1 g c =
     let s = c.args.self.now in
     let same = clone_refused (core_of s.core) (core_of c.clone_held.new.core) c.in-Some.entry.now c.in-Err.error c.in-Err.ensures.clones in
-    record { owns = owns_still (core_of s.core) (core_of c.clone_held.new.core) s.handles.items same s.owns; idle = still_idle c.clone_held.ensures.fetches s.idle }
+    record { owns = owns_still (core_of s.core) (core_of c.clone_held.new.core) s.handles.items same s.owns; idle = still_idle (fetches_of s.core) (fetches_of c.clone_held.new.core) c.clone_held.ensures.fetches s.idle }
 
 pub returns-in-Ok-clause-step : goal.returns-in-Ok-clause-step
 returns-in-Ok-clause-step g c =

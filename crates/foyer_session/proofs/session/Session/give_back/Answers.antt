@@ -2,7 +2,7 @@ use Rattle.std.proofs.Math.Logic.{∥∥₁_elim, ∥∥₁_map}
 use Rattle.std.proofs.Props.{props}
 use Rattle.std.proofs.Common.{refl, sym, ◌∙◌}
 use Rattle.std.proofs.lemmas.Bool.{false≢true}
-use Rattle.foyer_core.specs.Cores.{core_of}
+use Rattle.foyer_core.specs.Cores.{core_of, fetches_of}
 use Rattle.foyer_core.proofs.IdleLemmas.{still_idle}
 use Rattle.foyer_session.specs.Sessions.{meaning_of_session}
 use Rattle.foyer_session.proofs.OwnLemmas.{owned_entry}
@@ -17,7 +17,7 @@ invariant_of-self-2 g c =
       owns = rw c.take.ensures.handles (∥∥₁_map s.owns (λ o.
           gave_back_owns (meaning_of_session s) (core_of s.core) (core_of c.give_back.new.self) s.handles.items o c.args.number c.in-Some.entry c.give_back.result held
           (c.give_back.ensures.owned.1) c.give_back.ensures.taken));
-      idle = still_idle c.give_back.ensures.fetches s.idle;
+      idle = still_idle (fetches_of s.core) (fetches_of c.give_back.new.self) c.give_back.ensures.fetches s.idle;
     }
 
 pub unreachable-requires : goal.unreachable-requires

@@ -3,7 +3,9 @@ use Rattle.std.proofs.Props.{props}
 use Rattle.std.proofs.Common.{Some, Ok, Err, [], ◌∷◌, ◌++◌, false, refl}
 use Rattle.foyer_policy.specs.declared.types.Source.TheVariants.{Outer}
 use Rattle.foyer_core.specs.Core.{InsertsAnswering}
+use Rattle.foyer_core.specs.CoreFetches.{at_hash}
 use Rattle.foyer_core.specs.Cores.{core_of, fetches_of, hashes_of}
+use Rattle.foyer_core.specs.Inflight.{closed}
 use Rattle.foyer_core.specs.Steps.{newcomer}
 use Rattle.foyer_core.proofs.IdleLemmas.{closed_idle, idle_answers, idle_weighed, still_idle}
 use Rattle.foyer_session.specs.Sessions.{session_of, meaning_of_session, terms_of}
@@ -35,7 +37,9 @@ invariant_of-self g c =
           (∥∥₁_elim (kept_at s.core d.hash did.inserts.before did.inserts.there) (hlevel props) (λ k. ∥∥₁_map s.owns (λ o.
           inserted_owns m (core_of s.core) mid s.handles.items o d made.leaves.items made.entry did.inserts
           (next_unused m did.inserts.before k)))));
-      idle = still_idle told.fetches (still_idle c.in-Ok.ensures.closed (closed_idle m.same (hash, c.args.key) hash (fetches_of s.core) s.idle));
+      idle = still_idle (fetches_of c.insert_with_properties.new.self) (fetches_of c.tell_inserted.new.core) told.fetches
+          (still_idle (at_hash (λ f. closed m.same f (hash, c.args.key)) (fetches_of s.core) hash) (fetches_of c.insert_with_properties.new.self) c.in-Ok.ensures.closed
+          (closed_idle m.same (hash, c.args.key) hash (fetches_of s.core) s.idle));
     }
 
 pub invariant_of-self-in-Err-1 : goal.invariant_of-self-in-Err-1
@@ -50,7 +54,7 @@ invariant_of-self-in-Err-1 g c =
     let d = data_of (terms_of s) (session_of s) c.args.key c.args.value c.args.properties did.weight did.admitted in
     record {
       owns = ∥∥₁_map s.owns (λ o. refused_owns m (core_of s.core) new s.handles.items o d refused.error refused.leaves.items did.inserts);
-      idle = still_idle c.in-Err.ensures.fetches s.idle;
+      idle = still_idle (fetches_of s.core) (fetches_of c.insert_with_properties.new.self) c.in-Err.ensures.fetches s.idle;
     }
 
 pub returns-in-Ok-clause-step : goal.returns-in-Ok-clause-step

@@ -3,7 +3,9 @@ use Rattle.std.proofs.Props.{props}
 use Rattle.std.proofs.Common.{◌≡◌, Some, Ok, Err, [], ◌∷◌, ◌++◌, false, inl, inr, length, refl, sym}
 use Rattle.std.specs.Prelude.{slice_get}
 use Rattle.foyer_core.specs.Core.{shard_of}
+use Rattle.foyer_core.specs.CoreFetches.{at_hash}
 use Rattle.foyer_core.specs.Cores.{core_of, fetches_of, hashes_of}
+use Rattle.foyer_core.specs.Inflight.{closed}
 use Rattle.foyer_core.specs.Pieces.{InsertsPiece}
 use Rattle.foyer_core.specs.State.{key_of}
 use Rattle.foyer_core.proofs.IdleLemmas.{closed_idle, idle_answers, idle_piece, still_idle}
@@ -37,7 +39,9 @@ invariant_of-self g c =
           (∥∥₁_elim (kept_at s.core hash at.before at.there) (hlevel props) (λ k. ∥∥₁_map s.owns (λ o.
           piece_owns m (core_of s.core) mid s.handles.items o weighs hash piece made at
           (piece_gives m (length (core_of s.core).shards) place at.before at.after (s.core.belong place at.before at.there) weighs hash piece made at.stepped refl (next_unused m at.before k))))));
-      idle = still_idle told.fetches (still_idle c.in-Ok-insert_piece.ensures.closed (closed_idle m.same (key_of made.entry.kept) hash (fetches_of s.core) s.idle));
+      idle = still_idle (fetches_of c.insert_piece.new.self) (fetches_of c.tell_inserted.new.core) told.fetches
+          (still_idle (at_hash (λ f. closed m.same f (key_of made.entry.kept)) (fetches_of s.core) hash) (fetches_of c.insert_piece.new.self) c.in-Ok-insert_piece.ensures.closed
+          (closed_idle m.same (key_of made.entry.kept) hash (fetches_of s.core) s.idle));
     }
 
 pub invariant_of-self-in-Err-insert_piece : goal.invariant_of-self-in-Err-insert_piece
@@ -51,7 +55,7 @@ invariant_of-self-in-Err-insert_piece g c =
     let at = idle_piece m (fetches_of s.core) s.idle hash (Err c.in-Err.refused) (core_of s.core) new weighs piece c.in-Err.ensures.inserted in
     record {
       owns = ∥∥₁_map s.owns (λ o. piece_refused_owns m (core_of s.core) new s.handles.items o weighs hash piece (Unit {0}) c.in-Err.refused at);
-      idle = still_idle c.in-Err.ensures.fetches s.idle;
+      idle = still_idle (fetches_of s.core) (fetches_of c.insert_piece.new.self) c.in-Err.ensures.fetches s.idle;
     }
 
 pub returns-in_default-clone-clause-step : goal.returns-in_default-clone-clause-step

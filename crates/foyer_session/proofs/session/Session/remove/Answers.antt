@@ -1,7 +1,7 @@
 use Rattle.std.proofs.Common.{arith, refl}
 use Rattle.std.proofs.Math.Logic.{∥∥₁_elim, ∥∥₁_map}
 use Rattle.std.proofs.Props.{props}
-use Rattle.foyer_core.specs.Cores.{core_of}
+use Rattle.foyer_core.specs.Cores.{core_of, fetches_of}
 use Rattle.foyer_core.proofs.IdleLemmas.{still_idle}
 use Rattle.foyer_session.specs.Sessions.{session_of, meaning_of_session}
 use Rattle.foyer_session.proofs.CoreLemmas.{kept_at}
@@ -19,7 +19,7 @@ invariant_of-self g c =
       owns = rw c.hand_out-handle.ensures.handles (∥∥₁_elim (kept_at s.core hash at.before at.there) (hlevel props) (λ k. ∥∥₁_map s.owns (λ o.
           removed_owns m (core_of s.core) (core_of c.remove.new.self) s.handles.items o (hash, c.args.key.now) c.in-Ok-Some.entry c.in-Ok-Some.left at
           (removed_hash m at.before k (hash, c.args.key.now) c.in-Ok-Some.entry c.in-Ok-Some.left at.after at.stepped))));
-      idle = still_idle c.remove.ensures.fetches s.idle;
+      idle = still_idle (fetches_of s.core) (fetches_of c.remove.new.self) c.remove.ensures.fetches s.idle;
     }
 
 pub returns-in-Ok-Some-clause-step : goal.returns-in-Ok-Some-clause-step
@@ -43,14 +43,14 @@ invariant_of-self-in-Ok-None g c =
     let s = c.args.self.now in
     let hash = g.S.HashBuilder.hash_of s.core.hash_builder (g.K.Hash.hash_input c.args.key.now) in
     let gone = remove_missing (meaning_of_session s) (core_of s.core) (core_of c.remove.new.self) (hash, c.args.key.now) (rw c.in-Ok-None.field-0-is at c.in-Ok-None.ensures.removes) in
-    record { owns = owns_still (core_of s.core) (core_of c.remove.new.self) s.handles.items gone.1 s.owns; idle = still_idle c.remove.ensures.fetches s.idle }
+    record { owns = owns_still (core_of s.core) (core_of c.remove.new.self) s.handles.items gone.1 s.owns; idle = still_idle (fetches_of s.core) (fetches_of c.remove.new.self) c.remove.ensures.fetches s.idle }
 
 pub invariant_of-self-in-Err-1 : goal.invariant_of-self-in-Err-1
 invariant_of-self-in-Err-1 g c =
     let s = c.args.self.now in
     let hash = g.S.HashBuilder.hash_of s.core.hash_builder (g.K.Hash.hash_input c.args.key.now) in
     let same = remove_refused (meaning_of_session s) (core_of s.core) (core_of c.remove.new.self) (hash, c.args.key.now) c.in-Err.error c.in-Err.ensures.removes in
-    record { owns = owns_still (core_of s.core) (core_of c.remove.new.self) s.handles.items same s.owns; idle = still_idle c.remove.ensures.fetches s.idle }
+    record { owns = owns_still (core_of s.core) (core_of c.remove.new.self) s.handles.items same s.owns; idle = still_idle (fetches_of s.core) (fetches_of c.remove.new.self) c.remove.ensures.fetches s.idle }
 
 pub returns-in-Ok-None-clause-step : goal.returns-in-Ok-None-clause-step
 returns-in-Ok-None-clause-step g c =

@@ -1,6 +1,6 @@
 use Rattle.std.proofs.Common.{refl}
 use Rattle.std.proofs.Math.Logic.{∥∥₁_map}
-use Rattle.foyer_core.specs.Cores.{core_of}
+use Rattle.foyer_core.specs.Cores.{core_of, fetches_of}
 use Rattle.foyer_core.proofs.IdleLemmas.{still_idle}
 use Rattle.foyer_session.specs.Sessions.{meaning_of_session}
 use Rattle.foyer_session.proofs.BulkLemmas.{resized_owns, some_resized_owns, of_both}
@@ -14,7 +14,7 @@ invariant_of-self g c =
       owns = of_both c.resize.result c.resize.ensures.done c.resize.ensures.refused
           (λ leaves done. ∥∥₁_map s.owns (λ o. resized_owns (meaning_of_session s) c.args.capacity (core_of s.core) leaves.items new s.handles.items done o))
           (λ refused some. ∥∥₁_map s.owns (λ o. some_resized_owns (meaning_of_session s) c.args.capacity (core_of s.core) refused.leaves.items new s.handles.items some o));
-      idle = still_idle c.resize.ensures.fetches s.idle;
+      idle = still_idle (fetches_of s.core) (fetches_of c.resize.new.self) c.resize.ensures.fetches s.idle;
     }
 
 pub returns-in-Ok-clause-step : goal.returns-in-Ok-clause-step

@@ -1,6 +1,6 @@
 use Rattle.std.proofs.Common.{refl}
 use Rattle.std.proofs.Math.Logic.{∥∥₁_map}
-use Rattle.foyer_core.specs.Cores.{core_of}
+use Rattle.foyer_core.specs.Cores.{core_of, fetches_of}
 use Rattle.foyer_core.proofs.IdleLemmas.{still_idle}
 use Rattle.foyer_session.specs.Sessions.{session_of, meaning_of_session}
 use Rattle.foyer_session.proofs.StepLemmas.{touched_owns, touch_missing, touch_refused, session_same}
@@ -12,7 +12,7 @@ invariant_of-self g c =
     let hash = g.S.HashBuilder.hash_of s.core.hash_builder (g.K.Hash.hash_input c.args.key.now) in
     record {
       owns = ∥∥₁_map s.owns (λ o. touched_owns (meaning_of_session s) (core_of s.core) (core_of c.touch.new.self) s.handles.items o (hash, c.args.key.now) c.touch.result c.touch.ensures.touches);
-      idle = still_idle c.touch.ensures.fetches s.idle;
+      idle = still_idle (fetches_of s.core) (fetches_of c.touch.new.self) c.touch.ensures.fetches s.idle;
     }
 
 pub returns-in-Ok-true-clause-step : goal.returns-in-Ok-true-clause-step
