@@ -23,9 +23,9 @@ module _ {K V P View S W A : Type 0} where
     go (Some s) = elim (eqb_tells entry.number s.number) [
       | inr other ↦ inr (λ h. other.1 h.0)
       | inl same ↦ elim (eqb_tells (handles_in s entry.id) 0) [
-          | inl none ↦ inr (λ h. omega (arith, none.1, h.1))
-          | inr some ↦ inl (same.1, omega (arith, some.1))
-        ]
+        | inl none ↦ inr (λ h. omega (arith, none.1, h.1))
+        | inr some ↦ inl (same.1, omega (arith, some.1))
+      ]
     ]
 
   -- what leaves tell, and then further ones
