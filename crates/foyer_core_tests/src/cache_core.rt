@@ -1,9 +1,6 @@
-ghost use Rattle.std.specs.Prelude.{◌≡◌};
-ghost use Rattle.foyer_core.specs.Waited.{AnswersNobody};
-
 use foyer_core::{
-    AdmitAll, Answers, CacheCore, CacheProperties, CoreEntry, Inserted, Left, Limits, Outcome,
-    RawCacheConfig, UnitWeighter,
+    AdmitAll, CacheCore, CacheProperties, CoreEntry, Filter, Inserted, Left, Limits,
+    RawCacheConfig, UnitWeighter, Weighter,
 };
 use foyer_policy::{
     Event, Eviction, Fifo, FifoConfig, HashBuilder, Hint, Location, ModHasher, Properties, Result,
@@ -13,6 +10,7 @@ use std::alloc::Global;
 use std::process::Abort;
 use std::test::Fail;
 
+mod answers;
 mod asked;
 mod bulk;
 mod entries;
@@ -62,29 +60,22 @@ fn sharded(
 // What an insert answers, which is not refused.
 fn put(rt: &impl Abort, core: &mut Core, key: u64, value: u64) -> (Entry, Leaves) {
     match core.insert(key, value) {
-        Ok(made) => came_in(made),
+        Ok(made) => came_in(core, made),
         Err(refused) => panic!(rt; "refused: {}", refused.error),
     }
 }
 
-// The entry of what came in, for which nobody waited, and what left.
-fn came_in<V: Value, P: Properties>(
+// The entry of what came in, and what left. Nobody gets an entry beside.
+fn came_in<E: Eviction, V: Value, P: Properties, W: Weighter<u64, V>, A: Filter<u64, V>>(
+    core: &mut CacheCore<E, u64, V, P, ModHasher, W, A>,
     made: Inserted<u64, V, P, ()>,
-) -> (CoreEntry<u64, V, P>, Vec<(Event, Left<u64, V, P>)>)
-    requires { AnswersNobody made.answers }
-{
+) -> (CoreEntry<u64, V, P>, Vec<(Event, Left<u64, V, P>)>) {
     let Inserted {
         entry,
         answers,
         leaves,
     } = made;
-    let Answers { waiters, outcome } = answers;
-    drop(waiters);
-    match outcome {
-        Outcome::Entries(entries) => entries.destroy_empty(),
-        Outcome::None => (),
-        Outcome::Fault(_) => (),
-    }
+    core.drop_answers(answers);
     (entry, leaves)
 }
 
@@ -232,7 +223,7 @@ fn low_records_are_inserted_too(rt: HostRuntime) -> std::result::Result<(), Fail
     let low = CacheProperties::default().with_hint(Hint::Low);
     match core.insert_with_properties(1, 10, low) {
         Ok(made) => {
-            let (entry, leaves) = came_in(made);
+            let (entry, leaves) = came_in(&mut core, made);
             assert!(rt; leaves.is_empty());
             assert_eq!(rt; entry.properties().hint(), Hint::Low);
             release(&rt, &mut core, entry);

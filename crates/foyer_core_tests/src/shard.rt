@@ -1,6 +1,5 @@
 use foyer_core::{
-    Answers, CacheProperties, CoreEntry, Data, HashTableIndexer, Inserted, Left, Limits, Outcome,
-    Shard,
+    CacheProperties, CoreEntry, Data, HashTableIndexer, Inserted, Left, Limits, Shard,
 };
 use foyer_policy::{Event, Lru, LruConfig, Result, Source};
 use std::alloc::Global;
@@ -46,13 +45,12 @@ fn put(rt: &impl Abort, alloc: Global, shard: &mut Plain, key: u64, weight: usiz
                 answers,
                 leaves,
             } = made;
-            let Answers { waiters, outcome } = answers;
-            drop(waiters);
-            match outcome {
-                Outcome::Entries(others) => others.destroy_empty(),
-                Outcome::None => (),
-                Outcome::Fault(_) => (),
-            }
+            let (_, others) = answers.into_parts();
+            let Ok(others) = others else {
+                panic!(rt; "the waiters are refused");
+            };
+            assert!(rt; others.is_empty());
+            others.destroy_empty();
             release(rt, shard, entry);
             assert!(rt; leaves.is_empty());
         }

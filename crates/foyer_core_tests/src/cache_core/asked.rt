@@ -1,7 +1,7 @@
 // How often a weighter, a filter and a predicate are asked.
 
 ghost use Rattle.std.specs.Prelude.{◌≡◌, ◌↔◌, IsTrue};
-ghost use Rattle.foyer_core.specs.Core.{AnswersNobody, Owns};
+ghost use Rattle.foyer_core.specs.Core.{Owns};
 ghost use Rattle.foyer_core.specs.Cores.{core_of};
 
 use super::bulk::{flushed, keys_of};
@@ -109,7 +109,7 @@ fn release_traced(rt: &impl Abort, core: &mut Traced, entry: Entry) -> usize {
 fn put_traced(rt: &impl Abort, core: &mut Traced, key: u64, value: u64) -> usize {
     match core.insert(key, value) {
         Ok(made) => {
-            let (entry, leaves) = came_in(made);
+            let (entry, leaves) = came_in(core, made);
             let gone = release_traced(rt, core, entry);
             leaves.len().wrapping_add(gone)
         }
@@ -125,7 +125,7 @@ fn put_traced_piece(
 ) -> usize {
     match core.insert_piece(piece) {
         Ok(made) => {
-            let (entry, leaves) = came_in(made);
+            let (entry, leaves) = came_in(core, made);
             release_traced(rt, core, entry);
             leaves.len()
         }

@@ -1,7 +1,6 @@
 // Filters, which make of some records phantom ones.
 
 ghost use Rattle.std.specs.Prelude.{◌≡◌, ◌%◌, ◌==◌};
-ghost use Rattle.foyer_core.specs.Waited.{AnswersNobody};
 
 use super::*;
 use foyer_core::Filter;
@@ -65,7 +64,7 @@ fn came_and_went(
 ) -> std::result::Result<Told, Fail> {
     match core.insert(key, 10 * (key % 100)) {
         Ok(made) => {
-            let (entry, leaves) = came_in(made);
+            let (entry, leaves) = came_in(core, made);
             assert_eq!(rt; *entry.key(), key);
             let last = last_of(rt, core, entry);
             let mut told = Vec::new(alloc);

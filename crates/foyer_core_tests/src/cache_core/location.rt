@@ -96,7 +96,7 @@ fn put_at(
 ) -> (CoreEntry<u64, u64, Placed>, PlacedLeaves) {
     let properties = Placed::default().with_location(location);
     match core.insert_with_properties(key, key, properties) {
-        Ok(made) => came_in(made),
+        Ok(made) => came_in(core, made),
         Err(refused) => panic!(rt; "refused: {}", refused.error),
     }
 }

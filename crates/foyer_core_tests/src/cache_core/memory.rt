@@ -6,7 +6,7 @@ use super::*;
 fn leaves_or_refused(rt: &impl Abort, core: &mut Core, key: u64) -> (bool, Leaves) {
     match core.insert(key, key.wrapping_mul(10)) {
         Ok(made) => {
-            let (entry, leaves) = came_in(made);
+            let (entry, leaves) = came_in(core, made);
             release(rt, core, entry);
             (true, leaves)
         }

@@ -15,7 +15,7 @@ struct Told {
 fn phantom(rt: &impl Abort, core: &mut Core, key: u64, value: u64) -> Told {
     match core.insert_with_properties(key, value, CacheProperties::default().with_phantom(true)) {
         Ok(made) => {
-            let (entry, leaves) = came_in(made);
+            let (entry, leaves) = came_in(core, made);
             assert!(rt; core.owns(&entry) && core.is_outdated(&entry));
             let usage = core.usage();
             Told {
@@ -105,7 +105,7 @@ fn a_phantom_record_needs_a_number(rt: HostRuntime) -> std::result::Result<(), F
     let mut core = core(rt.alloc(), 1, 0, limits)?;
     match core.insert_with_properties(1, 1, CacheProperties::default().with_phantom(true)) {
         Ok(made) => {
-            let (entry, _) = came_in(made);
+            let (entry, _) = came_in(&mut core, made);
             entry.discard();
             assert!(rt; false, "a record without a number");
         }

@@ -67,7 +67,7 @@ fn put_heavy<E: Eviction>(
 ) -> (HeavyEntry, Option<u64>) {
     match core.insert(key, weight) {
         Ok(made) => {
-            let (entry, leaves) = came_in(made);
+            let (entry, leaves) = came_in(core, made);
             let mut gone = None;
             for (event, left) in &leaves {
                 assert!(rt; *event == Event::Evict && gone.is_none());
@@ -88,7 +88,7 @@ fn refused_weight<E: Eviction>(
 ) -> Option<u8> {
     match core.insert(key, weight) {
         Ok(made) => {
-            let (entry, _) = came_in(made);
+            let (entry, _) = came_in(core, made);
             release_heavy(rt, core, entry);
             None
         }

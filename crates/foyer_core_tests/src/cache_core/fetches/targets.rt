@@ -5,18 +5,16 @@ use super::*;
 type Piece64 = Piece<u64, u64, CacheProperties>;
 
 // The entries of those who waited, who are forgotten.
-fn entries_of(alloc: Global, answers: Waited) -> Vec<Entry> {
-    let Answers { waiters, outcome } = answers;
-    drop(waiters);
-    match outcome {
-        Outcome::Entries(entries) => entries,
-        Outcome::None => Vec::new(alloc),
-        Outcome::Fault(_) => Vec::new(alloc),
+fn entries_of(rt: &impl Abort, answers: Waited) -> Vec<Entry> {
+    let (_, entries) = answers.into_parts();
+    match entries {
+        Ok(entries) => entries,
+        Err(error) => panic!(rt; "refused: {error}"),
     }
 }
 
 // A piece of a value that is put in under a key, for which nobody waits, and taken out again.
-fn taken_piece(rt: &impl Abort, alloc: Global, core: &mut Plain, key: u64, value: u64) -> Piece64 {
+fn taken_piece(rt: &impl Abort, core: &mut Plain, key: u64, value: u64) -> Piece64 {
     match core.insert(key, value) {
         Ok(made) => {
             let Inserted {
@@ -25,7 +23,7 @@ fn taken_piece(rt: &impl Abort, alloc: Global, core: &mut Plain, key: u64, value
                 leaves,
             } = made;
             assert!(rt; leaves.is_empty());
-            let entries = entries_of(alloc, answers);
+            let entries = entries_of(rt, answers);
             assert_eq!(rt; of_entries(rt, core, entries), Got::Nothing);
             let piece = match entry.piece() {
                 Ok(piece) => piece,
@@ -65,13 +63,13 @@ fn complete_piece(
 #[test]
 fn a_piece_of_another_key_is_refused(rt: HostRuntime) -> std::result::Result<(), Fail> {
     let mut core = plain(rt.alloc(), 4, Limits::default())?;
-    let own = taken_piece(&rt, rt.alloc(), &mut core, 8, 80);
+    let own = taken_piece(&rt, &mut core, 8, 80);
     wait_for(&rt, &mut core, 7, 2);
     let (found, tokens, got) = complete_piece(&rt, rt.alloc(), &mut core, 7, 0, own);
     assert_eq!(rt; (found, tokens.len(), got), (true, 2, Got::Refusal(12)));
     assert!(rt; !core.is_open(&7, 0) && !core.contains(&7) && !core.contains(&8));
     let mut other = plain(rt.alloc(), 4, Limits::default())?;
-    let foreign = taken_piece(&rt, rt.alloc(), &mut other, 9, 90);
+    let foreign = taken_piece(&rt, &mut other, 9, 90);
     assert_eq!(rt; ask(&rt, &mut core, 7, None, 2), Asked::Leads(1, 2, None));
     let (found, tokens, got) = complete_piece(&rt, rt.alloc(), &mut core, 7, 1, foreign);
     assert_eq!(rt; (found, tokens.len(), got), (true, 1, Got::Refusal(12)));
@@ -83,14 +81,14 @@ fn a_piece_of_another_key_is_refused(rt: HostRuntime) -> std::result::Result<(),
 #[test]
 fn a_piece_of_the_key_comes_in(rt: HostRuntime) -> std::result::Result<(), Fail> {
     let mut core = plain(rt.alloc(), 4, Limits::default())?;
-    let own = taken_piece(&rt, rt.alloc(), &mut core, 7, 70);
+    let own = taken_piece(&rt, &mut core, 7, 70);
     wait_for(&rt, &mut core, 7, 2);
     let (found, tokens, got) = complete_piece(&rt, rt.alloc(), &mut core, 7, 0, own);
     assert_eq!(rt; (found, tokens.len(), got), (true, 2, Got::Value(70)));
     assert_eq!(rt; (core.contains(&7), core.entries()), (true, 1));
     take_out(&rt, &mut core, 7);
     let mut other = plain(rt.alloc(), 4, Limits::default())?;
-    let foreign = taken_piece(&rt, rt.alloc(), &mut other, 7, 71);
+    let foreign = taken_piece(&rt, &mut other, 7, 71);
     assert_eq!(rt; ask(&rt, &mut core, 7, None, 2), Asked::Leads(1, 2, None));
     let (found, tokens, got) = complete_piece(&rt, rt.alloc(), &mut core, 7, 1, foreign);
     assert_eq!(rt; (found, tokens.len(), got), (true, 1, Got::Value(71)));
@@ -118,14 +116,14 @@ fn a_fetch_completes_with_a_phantom(rt: HostRuntime) -> std::result::Result<(), 
 }
 
 // The source of the entries that those get who waited, which go back.
-fn source_of(rt: &impl Abort, alloc: Global, core: &mut Plain, ended: End) -> Option<Source> {
+fn source_of(rt: &impl Abort, core: &mut Plain, ended: End) -> Option<Source> {
     let Ended {
         found,
         answers,
         leaves,
     } = ended;
     assert!(rt; found && leaves.is_empty());
-    let mut entries = entries_of(alloc, answers);
+    let mut entries = entries_of(rt, answers);
     let mut source = None;
     while let Some(entry) = entries.pop() {
         source = Some(entry.source());
@@ -146,11 +144,11 @@ fn an_entry_tells_its_source(rt: HostRuntime) -> std::result::Result<(), Fail> {
             Asked::Leads(fetch, fetch, None)
         );
         let ended = core.complete(&key, fetch, FetchTarget::from(key), source);
-        assert!(rt; source_of(&rt, rt.alloc(), &mut core, ended) == Some(source));
+        assert!(rt; source_of(&rt, &mut core, ended) == Some(source));
     }
-    let piece = taken_piece(&rt, rt.alloc(), &mut core, 9, 90);
+    let piece = taken_piece(&rt, &mut core, 9, 90);
     assert_eq!(rt; ask(&rt, &mut core, 9, None, 2), Asked::Leads(2, 2, None));
     let ended = core.complete(&9, 2, FetchTarget::from(piece), Source::Disk);
-    assert!(rt; source_of(&rt, rt.alloc(), &mut core, ended) == Some(Source::Memory));
+    assert!(rt; source_of(&rt, &mut core, ended) == Some(Source::Memory));
     Ok(())
 }
