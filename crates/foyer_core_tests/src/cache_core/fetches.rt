@@ -5,7 +5,7 @@ ghost use Rattle.foyer_core.specs.Core.{Owns};
 ghost use Rattle.foyer_core.specs.Cores.{core_of};
 
 use super::*;
-use foyer_core::{Ended, FetchOrTake, FetchTarget, Lookup, Piece, Weighter};
+use foyer_core::{Answers, Ended, FetchOrTake, FetchTarget, Lookup, Outcome, Piece, Weighter};
 use foyer_policy::{Fault, Lru, LruConfig};
 use std::hash::{BuildHasher, Hasher};
 use std::marker::Model;

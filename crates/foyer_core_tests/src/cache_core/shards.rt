@@ -131,7 +131,12 @@ fn a_core_stands_over_another_index(rt: HostRuntime) -> std::result::Result<(), 
     for key in 0..6u64 {
         match core.insert(key, key) {
             Ok(made) => {
-                let (entry, leaves) = came_in(made);
+                let Inserted {
+                    entry,
+                    answers,
+                    leaves,
+                } = made;
+                core.drop_answers(answers);
                 entry.discard();
                 assert_eq!(rt; leaves.len(), (key / 3) as usize);
             }
