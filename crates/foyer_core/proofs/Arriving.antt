@@ -1,8 +1,8 @@
 -- The end of a fetch with a record, in its shard, is one in the core.
 use Rattle.std.proofs.Common.{◌≡◌, ℕ, ◌%◌, List, map, length, Bool, true, Option, Some, None, refl, sym, ◌∙◌, ap, subst}
-use Rattle.std.specs.Prelude.{Result, Ok, Err, option_and_then, option_map, slice_get, slice_set}
+use Rattle.std.specs.Prelude.{IsSomeAnd, Result, Ok, Err, if◌then◌else◌, option_and_then, option_map, slice_get, slice_set}
 use Rattle.std.specs.Cmp.{IsEquivalence}
-use Rattle.std.proofs.lemmas.List.{length-map}
+use Rattle.std.proofs.lemmas.Bool.{eq-eqb}
 use Rattle.std.proofs.lemmas.Option.{slice_get-map}
 use Rattle.foyer_policy.specs.declared.error.Reason.{Reason}
 use Rattle.foyer_policy.specs.declared.types.Event.{Event}
@@ -30,6 +30,11 @@ place_alike {X} {K} {N} {R} h xs hash a b alike = at b ∙ go (slice_get xs i) �
   go : (o : Option X) → option_and_then (λ (f : Opens K N R). f.places (hash, b)) (option_map h o) ≡ option_and_then (λ (f : Opens K N R). f.places (hash, a)) (option_map h o)
   go None = refl
   go (Some x) = alike x
+
+-- where a fetch is open, its place is the one that was asked for
+pub asked_open : {N R : Type 0} (fetch : ℕ) (p : Option (Place N R)) → IsSomeAnd p (λ o. o.fetch ≡ fetch) → (o : Place N R) × (asked (Some fetch) p ≡ Some o)
+asked_open fetch None h = absurd h
+asked_open {N} {R} fetch (Some o) h = (o, ap (λ (b : Bool). let q : Option (Place N R) = if b then Some o else None in q) (eq-eqb o.fetch fetch h))
 
 module _ {K V P View C S W A N R : Type 0} (m : Meaning K P View C) (laws : IsEquivalence m.same) (old new : Core K V P View S W A) (fs gs : List (Opens K N R)) (many : length fs ≡ length old.shards)
     (hash : ℕ) (key own : K) (same : m.same key own ≡ true) (alike : place_in fs (hash, own) ≡ place_in fs (hash, key)) (fetch : ℕ) (o : Place N R) (opened : asked (Some fetch) (place_in fs (hash, key)) ≡ Some o) (ended : Ending K V P N) where

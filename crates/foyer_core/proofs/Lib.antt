@@ -3,6 +3,7 @@ pub mod Answered
 pub mod AnsweredPieces
 pub mod ApartLemmas
 pub mod Arriving
+pub mod ArrivingPieces
 pub mod Asked
 pub mod CallsTold
 pub mod ChainLemmas

@@ -122,6 +122,7 @@ impl<
     pub fn with_index(alloc: Global, config: RawCacheConfig<E::Config, S, W, A>) -> Result<Self>
         ensures made { IfOk result (λ core. IsNewCore (meaning_of_core core) config (core_of core)) }
         ensures fetches { IfOk result (λ core. All (λ f. f ≡ no_opens) (fetches_of core)) }
+        ensures idle { IfOk result (λ core. NoneOpen (fetches_of core)) }
         ensures accepted { OnOk result (core_fault E.model config ≡ None) }
         ensures refused { IfSome (core_fault E.model config) (λ reason. result ≡ Err reason) }
         ensures memory { IfErr result (λ e. core_fault E.model config ≡ None → e ≡ NoMemory) }

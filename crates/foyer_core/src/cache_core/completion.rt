@@ -149,15 +149,22 @@ impl<
             (W.weighs (core_of self.old).weighter piece.kept.key piece.kept.value) hash piece k o (ending_of result) (core_of self.old) (fetches_of self.old) (core_of self.new) (fetches_of self.new) }
     {
         let hash = self.hash(key);
-        let place = self.place(hash);
         let own = self.hash(piece.key());
-        if self.place(own) != place || !self.shards[place].is_under(own, &piece, key) {
+        if !self.stands_for(own, &piece, hash, key) {
             return self.end(key, fetch, Error::new(Reason::WrongKey));
         }
-        if self.shards[place].knows(own, &piece) {
+        if self.shards[self.place(hash)].knows(own, &piece) {
             return self.complete_known(hash, key, fetch, piece);
         }
         self.complete_foreign(own, fetch, piece)
+    }
+
+    // Whether a piece, whose key has this hash, stands for a record of a key, which has that hash.
+    fn stands_for(&self, own: u64, piece: &Piece<K, V, P>, hash: u64, key: &K) -> bool
+        ensures { result ≡ is_of (meaning_of_core self.now) (core_of self.now) own piece.now (hash, key.now) (shard_at (core_of self.now) hash) }
+    {
+        let place = self.place(hash);
+        self.place(own) == place && self.shards[place].is_under(own, piece, key)
     }
 
     // Ends an open fetch with the record of its key for which a piece stands.

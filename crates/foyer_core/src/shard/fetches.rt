@@ -241,7 +241,7 @@ impl<E: Eviction, K: Key, V: Value, P: Properties, N: Drop, R: Drop, I: Indexer<
     /// Whether the record that a piece stands for, whose key has this hash, has a key that equals this one. It takes no
     /// memory.
     pub(crate) fn is_under(&self, hash: u64, piece: &Piece<K, V, P>, key: &K) -> bool
-        ensures { IsTrue result ↔ (K.eq key.now (coming_under (state_of self.now) hash piece.now).1 ≡ true) }
+        ensures { result ≡ K.eq key.now (coming_under (state_of self.now) hash piece.now).1 }
     {
         if !self.store.knows(hash, piece) {
             return *key == *piece.key();
