@@ -15,6 +15,8 @@ pub mod CoreLemmas
 pub mod CoreTold
 pub mod Counting
 pub mod Emplaced
+pub mod EndLaws
+pub mod EndTold
 pub mod EntryLemmas
 pub mod Evictions
 pub mod FetchesOver

@@ -2,6 +2,7 @@ pub mod Core
 pub mod CoreFetches
 pub mod Cores
 pub mod Fetching
+pub mod FetchLaws
 pub mod Flags
 pub mod Chains
 pub mod Entries
