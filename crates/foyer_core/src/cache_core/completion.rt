@@ -43,7 +43,8 @@ impl<
     /// A value comes in as an insert's does, with this source: the weighter is asked and then the filter. A piece comes
     /// in as an inserted one does, with the source `Memory`, where the record that it stands for has this key; else those
     /// who wait get F12. Where the record is refused, they get that refusal (F10, F9, F8, F7), and for want of memory
-    /// some beginning of the evictions has left.
+    /// some beginning of the evictions has left. Where it came in and is not phantom, a get of an equal key finds it
+    /// afterwards.
     ///
     /// A fetch that is not open ends as lost: nothing happens, and neither the weighter nor the filter is asked.
     pub fn complete(
