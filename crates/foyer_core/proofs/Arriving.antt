@@ -1,6 +1,6 @@
 -- The end of a fetch with a record, in its shard, is one in the core.
-use Rattle.std.proofs.Common.{◌≡◌, ℕ, ◌%◌, List, map, length, Bool, true, Option, Some, None, refl, sym, ◌∙◌, ap, subst}
-use Rattle.std.specs.Prelude.{IsSomeAnd, Result, Ok, Err, if◌then◌else◌, option_and_then, option_map, slice_get, slice_set}
+use Rattle.std.proofs.Common.{◌≡◌, ℕ, ◌%◌, ◌<◌, List, map, length, Bool, true, false, Option, Some, None, refl, sym, ◌∙◌, ap, subst}
+use Rattle.std.specs.Prelude.{IsSomeAnd, Result, if◌then◌else◌, ◌==◌, option_and_then, option_map, slice_get, slice_set}
 use Rattle.std.specs.Cmp.{IsEquivalence}
 use Rattle.std.proofs.lemmas.Bool.{eq-eqb}
 use Rattle.std.proofs.lemmas.Option.{slice_get-map}
@@ -30,6 +30,22 @@ place_alike {X} {K} {N} {R} h xs hash a b alike = at b ∙ go (slice_get xs i) �
   go : (o : Option X) → option_and_then (λ (f : Opens K N R). f.places (hash, b)) (option_map h o) ≡ option_and_then (λ (f : Opens K N R). f.places (hash, a)) (option_map h o)
   go None = refl
   go (Some x) = alike x
+
+-- someone waits in each place that was asked for, where someone does in each shard's
+pub place_waited : {X K N R : Type 0} (h : X → Opens K N R) (xs : List X) (k : ℕ × K) (fetch : ℕ) → ((x : X) (o : Place N R) → (h x).places k ≡ Some o → 0 < length o.tokens)
+    → (o : Place N R) → asked (Some fetch) (place_in (map h xs) k) ≡ Some o → 0 < length o.tokens
+place_waited {X} {K} {N} {R} h xs k fetch waited o found =
+    go (slice_get xs (k.0 % length (map h xs))) (sym (ap (option_and_then (λ (f : Opens K N R). f.places k)) (slice_get-map h xs (k.0 % length (map h xs)))) ∙ is (place_in (map h xs) k) found) where
+      is : (p : Option (Place N R)) → asked (Some fetch) p ≡ Some o → p ≡ Some o
+      is None e = absurd cc
+      is (Some q) e = pick (q.fetch == fetch) e where
+        pick : (b : Bool) → (let r : Option (Place N R) = if b then Some q else None in r) ≡ Some o → Some q ≡ Some o
+        pick true e = e
+        pick false e = absurd cc
+
+      go : (x : Option X) → option_and_then (λ (f : Opens K N R). f.places k) (option_map h x) ≡ Some o → 0 < length o.tokens
+      go None e = absurd cc
+      go (Some x) e = waited x o e
 
 -- where a fetch is open, its place is the one that was asked for
 pub asked_open : {N R : Type 0} (fetch : ℕ) (p : Option (Place N R)) → IsSomeAnd p (λ o. o.fetch ≡ fetch) → (o : Place N R) × (asked (Some fetch) p ≡ Some o)

@@ -1,6 +1,6 @@
 -- The end of a fetch with a piece, in its shard, is one in the core.
 use Rattle.std.proofs.Common.{◌≡◌, ℕ, List, length, Bool, true, false, Option, Some, refl, sym, ◌∙◌, ap, subst}
-use Rattle.std.specs.Prelude.{Result, Ok, Err, if◌then◌else◌, ◌&&◌, ◌==◌}
+use Rattle.std.specs.Prelude.{Result, if◌then◌else◌, ◌&&◌, ◌==◌}
 use Rattle.std.specs.Cmp.{IsEquivalence}
 use Rattle.foyer_policy.specs.declared.error.Reason.{Reason}
 use Rattle.foyer_policy.specs.declared.types.Event.{Event}

@@ -13,7 +13,7 @@ use Rattle.foyer_core.specs.Fetching.{ArrivesBack, CompletesBackBy, CompletesBy}
 use Rattle.foyer_core.specs.Indexer.{same_key, same_key_equiv}
 use Rattle.foyer_core.specs.Inflight.{Apart, Opens, Place, closed}
 use Rattle.foyer_core.specs.Pieces.{RefusesReturn, Returns, held_or}
-use Rattle.foyer_core.specs.State.{Meaning, State, is_phantom_record, key_of}
+use Rattle.foyer_core.specs.State.{Meaning, State, is_phantom_record}
 use Rattle.foyer_core.specs.Steps.{MayBy, RefusesInsert, newcomer}
 use Rattle.foyer_core.specs.Values.{Carried, Gone, Held, Incoming}
 use Rattle.foyer_core.specs.Waited.{Ending}
@@ -21,7 +21,7 @@ use Rattle.foyer_core.proofs.ApartLemmas.{closed_apart, refuses_return_apart, re
 use Rattle.foyer_core.proofs.GaveLemmas.{alike_key}
 use Rattle.foyer_core.proofs.InflightLemmas.{same_opens}
 use Rattle.foyer_core.proofs.Returning.{memory_refuses}
-use Rattle.foyer_core.proofs.WaitedLemmas.{completes_by, either_way}
+use Rattle.foyer_core.proofs.WaitedLemmas.{completes_by}
 
 -- the place of a key is closed, by another key that equals it
 pub closed_alike : {K N R : Type 0} {eq : K → K → Bool} → IsEquivalence eq → (f : Opens K N R) (hash hash' : ℕ) (key key' : K) → hash ≡ hash' → eq key key' ≡ true

@@ -17,6 +17,8 @@ pub mod CoreTold
 pub mod Counting
 pub mod Dropping
 pub mod Emplaced
+pub mod EndLaws
+pub mod EndTold
 pub mod EntryLemmas
 pub mod Evictions
 pub mod FetchesOver

@@ -56,13 +56,13 @@ module _ {K V P View C : Type 0} (m : Meaning K P View C) (laws : IsEquivalence 
   same_rec : (a b : Rec K V P) → Some a ≡ Some b → a ≡ b
   same_rec a b h = cc
 
-  inserts_stand : (source : Source) (inc : Incoming K V P) (ls : List (Event × Gone K V P)) (entry : Held K V P) → Inserts m source s inc ls entry t → is_phantom_record m entry.kept ≡ false → Stands m laws good entry.kept t
+  pub inserts_stand : (source : Source) (inc : Incoming K V P) (ls : List (Event × Gone K V P)) (entry : Held K V P) → Inserts m source s inc ls entry t → is_phantom_record m entry.kept ≡ false → Stands m laws good entry.kept t
   inserts_stand source inc ls entry h plain = go (is_phantom_record m inc.kept) refl h where
     go : (b : Bool) → is_phantom_record m inc.kept ≡ b → InsertsBy m b source s inc ls entry t → Stands m laws good entry.kept t
     go true is h = absurd (true≢false (sym is ∙ ap (λ (e : Held K V P). is_phantom_record m e.kept) (sym h.entry_is) ∙ plain))
     go false is h = subst (λ (d : Data K V P). Stands m laws good d t) (ap (λ (e : Held K V P). e.kept) (sym h.entry_is)) (came_stands m laws good source s inc ls entry t h)
 
-  gains_stand : (id n : ℕ) (ls : List (Event × Gone K V P)) (entry : Held K V P) → is_in (s.records id) ≡ true → GainsHandles s id n ls entry t → Stands m laws good entry.kept t
+  pub gains_stand : (id n : ℕ) (ls : List (Event × Gone K V P)) (entry : Held K V P) → is_in (s.records id) ≡ true → GainsHandles s id n ls entry t → Stands m laws good entry.kept t
   gains_stand id n ls entry inside h =
       let res : h.rec.resident ≡ true = sym (ap is_in h.there) ∙ inside in
       let more : Rec K V P = record h.rec { handles = h.rec.handles + n } in

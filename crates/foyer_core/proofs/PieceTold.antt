@@ -57,7 +57,7 @@ module _ {K V P View C : Type 0} (m : Meaning K P View C) (laws : IsEquivalence 
 
     module _ (kept : ∥ IsKept m s ∥₁) (t : State K V P View) where
       -- a record that gains a handle is known under its key
-      gains_told : (id n : ℕ) (ls : List (Event × Gone K V P)) (entry : Held K V P) → is_in (s.records id) ≡ true → GainsHandles s id n ls entry t
+      pub gains_told : (id n : ℕ) (ls : List (Event × Gone K V P)) (entry : Held K V P) → is_in (s.records id) ≡ true → GainsHandles s id n ls entry t
           → ToldWith m laws good hash equal many place s ls entry.id entry.kept t
       gains_told id n ls entry inside h f knows =
           let d = h.rec.kept in

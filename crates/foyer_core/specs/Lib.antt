@@ -3,6 +3,7 @@ pub mod CoreFetches
 pub mod Cores
 pub mod Dropping
 pub mod Fetching
+pub mod FetchLaws
 pub mod Flags
 pub mod Chains
 pub mod Entries

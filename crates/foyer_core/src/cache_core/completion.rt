@@ -33,7 +33,9 @@ impl<
     ghost use Rattle.foyer_core.specs.Core.{shard_at};
     ghost use Rattle.foyer_core.specs.CoreFetches.{AtOpen, Completed, PieceCompletes, ValueCompletes, is_of, place_in};
     ghost use Rattle.foyer_core.specs.Cores.{core_of, fetches_of, hashes_of, meaning_of_core};
+    ghost use Rattle.foyer_core.specs.FetchLaws.{BoundsTarget, FindsTarget, IsToldByEnd};
     ghost use Rattle.foyer_core.specs.Fetching.{CompletesBackBy, CompletesBy};
+    ghost use Rattle.foyer_core.specs.Laws.{HandlesStay};
     ghost use Rattle.foyer_core.specs.Pieces.{held_or, is_known};
 
     /// Ends an open fetch of a key with a record of it, of which each who waits gets an entry, and answers what left. The
@@ -42,7 +44,8 @@ impl<
     /// A value comes in as an insert's does, with this source: the weighter is asked and then the filter. A piece comes
     /// in as an inserted one does, with the source `Memory`, where the record that it stands for has this key; else those
     /// who wait get F12. Where the record is refused, they get that refusal (F10, F9, F8, F7), and for want of memory
-    /// some beginning of the evictions has left.
+    /// some beginning of the evictions has left. Where it came in and is not phantom, a get of an equal key finds it
+    /// afterwards.
     ///
     /// A fetch that is not open ends as lost: nothing happens, and neither the weighter nor the filter is asked.
     pub fn complete(
@@ -57,6 +60,11 @@ impl<
             (λ properties admitted. coming_in P.location_of P.with_phantom_of admitted properties) source target (hashes_of self.old key.now, key.now)
             (asked (Some fetch) (place_in (fetches_of self.old) (hashes_of self.old key.now, key.now))) (ending_of result)
             (core_of self.old) (fetches_of self.old) (core_of self.new) (fetches_of self.new) }
+        ensures found { FindsTarget (meaning_of_core self.new) (hashes_of self.new) P.location_of (A.admits (core_of self.old).filter) target key.now (ending_of result).outcome (core_of self.new) }
+        ensures bounded { BoundsTarget (meaning_of_core self.old) P.location_of (A.admits (core_of self.old).filter) target (hashes_of self.old key.now) key.now (ending_of result).outcome
+            (core_of self.old) (core_of self.new) }
+        ensures stay { HandlesStay (λ _. 0) (core_of self.old) (core_of self.new) }
+        ensures told { IsToldByEnd K.eq (hashes_of self.old) P.phantom_of (core_of self.old) (ending_of result).leaves (ending_of result).outcome (core_of self.new) }
     {
         if !self.is_open(key, fetch) {
             return Ended::lost(self.alloc);

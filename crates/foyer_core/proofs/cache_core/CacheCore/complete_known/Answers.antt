@@ -1,4 +1,4 @@
-use Rattle.std.proofs.Common.{◌≡◌, ℕ, Some, true, vec_len, ap, ◌∙◌, sym, arith}
+use Rattle.std.proofs.Common.{◌≡◌, ℕ, Some, true, vec_len, ap, sym, arith}
 use Rattle.foyer_core.specs.Cores.{hashes_of, meaning_of_core}
 use Rattle.foyer_core.specs.Fetching.{CompletesBackBy}
 use Rattle.foyer_core.specs.Inflight.{asked}

@@ -1,4 +1,4 @@
-use Rattle.std.proofs.Common.{◌≡◌, ℕ, ◌%◌, ◌∙◌, sym, refl, true, false, ap, length, vec_len}
+use Rattle.std.proofs.Common.{◌≡◌, ℕ, ◌%◌, ◌∙◌, sym, true, false, ap, length, vec_len}
 use Rattle.std.proofs.lemmas.List.{length-map}
 use Rattle.foyer_core.specs.Core.{shard_at}
 use Rattle.foyer_core.specs.CoreFetches.{is_of}
