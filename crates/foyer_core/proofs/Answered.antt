@@ -7,7 +7,6 @@ use Rattle.foyer_policy.specs.Policy.{IsPolicy}
 use Rattle.foyer_policy.specs.declared.types.Event.{Event}
 use Rattle.foyer_policy.specs.declared.types.Location.{Location}
 use Rattle.foyer_policy.specs.declared.types.Source.{Source}
-use Rattle.foyer_core.specs.declared.outcome.Answers.{Answers}
 use Rattle.foyer_core.specs.declared.outcome.Inserted.{Inserted}
 use Rattle.foyer_core.specs.declared.outcome.Refused.{Refused}
 use Rattle.foyer_core.specs.declared.record.Data.{Data}
@@ -16,7 +15,7 @@ use Rattle.foyer_core.specs.CoreFetches.{at_hash, place_in}
 use Rattle.foyer_core.specs.Inflight.{Opens, Place, closed, waiters_of}
 use Rattle.foyer_core.specs.Laws.{Finds, HandlesStay, IsBoundedAt}
 use Rattle.foyer_core.specs.Observed.{IsTold, IsToldWith}
-use Rattle.foyer_core.specs.State.{Meaning, State, IsKept, MakesPlain, coming_in, is_phantom_record, key_of}
+use Rattle.foyer_core.specs.State.{Meaning, State, IsKept, MakesPlain, coming_in, is_phantom_record}
 use Rattle.foyer_core.specs.Steps.{Inserts, InsertsBy, InsertsPlain, RefusesInsert, newcomer}
 use Rattle.foyer_core.specs.Values.{Gone, Held, Incoming}
 use Rattle.foyer_core.specs.Waited.{AnswersEach, waiting_for}

@@ -1,15 +1,13 @@
 -- The data of an entry are those that were asked for.
-use Rattle.std.proofs.Common.{◌≡◌, ℕ, Bool, true, false, List, Option, Some, None, Ok, Err, refl, ap, subst, sym}
+use Rattle.std.proofs.Common.{◌≡◌, ℕ, Bool, true, false, Option, Some, None, Ok, Err, refl, ap, subst, sym}
 use Rattle.std.proofs.Math.Logic.{∥∥₁_elim}
 use Rattle.std.proofs.Props.{props}
-use Rattle.std.specs.Prelude.{IfOk, IfSome, MatchResult, Result, ◌&&◌}
+use Rattle.std.specs.Prelude.{IfOk, IfSome, Result, ◌&&◌}
 use Rattle.foyer_policy.specs.declared.error.Reason.{Reason}
-use Rattle.foyer_policy.specs.declared.types.Source.{Source}
 use Rattle.foyer_core.specs.declared.record.Data.{Data}
-use Rattle.foyer_core.specs.State.{Meaning, State, IsKept, key_of}
-use Rattle.foyer_core.specs.Steps.{ClonesHandle, Gets, Inserts, Removes, entry_of, newcomer}
+use Rattle.foyer_core.specs.State.{Meaning, State, IsKept}
+use Rattle.foyer_core.specs.Steps.{ClonesHandle, Gets, Removes}
 use Rattle.foyer_core.specs.Values.{Gone, Held, Rec}
-use Rattle.foyer_core.proofs.Returning.{inserted_entry}
 
 second : (a b : Bool) → (a && b) ≡ true → b ≡ true
 second true b h = h

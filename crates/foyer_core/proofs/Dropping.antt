@@ -1,5 +1,5 @@
 -- Entries that end one after the other.
-use Rattle.std.proofs.Common.{◌≡◌, ◌≢◌, ℕ, ◌+◌, ◌%◌, ◌<◌, ◌==◌, ◌&&◌, ◌⊎◌, List, [], ◌∷◌, ◌++◌, length, Option, Some, None, Bool, sum_by, inl, inr, refl, sym, ◌∙◌, ap, subst, arith, append_assoc, append-nil}
+use Rattle.std.proofs.Common.{◌≡◌, ℕ, ◌+◌, ◌%◌, ◌<◌, ◌==◌, ◌&&◌, ◌⊎◌, List, [], ◌∷◌, ◌++◌, length, Option, Some, None, Bool, inl, inr, refl, sym, ◌∙◌, ap, subst, arith, append_assoc, append-nil}
 use Rattle.std.specs.Prelude.{IsSomeAnd, if◌then◌else◌}
 use Rattle.std.specs.Option.{option_to_list}
 use Rattle.std.proofs.lemmas.Bool.Decides.{eqb_tells}
@@ -7,11 +7,11 @@ use Rattle.std.proofs.lemmas.List.{length-set}
 use Rattle.std.proofs.lemmas.List.Sums.{sum_by-cons}
 use Rattle.foyer_policy.specs.declared.types.Event.{Event}
 use Rattle.foyer_core.specs.Core.{Core, Owns, shard_at, shard_of}
-use Rattle.foyer_core.specs.Dropping.{Drops, EndsAll, EndsEntry, among}
+use Rattle.foyer_core.specs.Dropping.{Drops, EndsEntry, among}
 use Rattle.foyer_core.specs.Laws.{HandlesStay, one_of}
 use Rattle.foyer_core.specs.Observed.{IsTold, after_leaves, known}
 use Rattle.foyer_core.specs.State.{Meaning, State, handles_in}
-use Rattle.foyer_core.specs.Values.{Gone, Held, Rec}
+use Rattle.foyer_core.specs.Values.{Gone, Held}
 use Rattle.foyer_core.proofs.Observing.{leaves_append, leaves_congr}
 
 module _ {K V P View S W A : Type 0} where

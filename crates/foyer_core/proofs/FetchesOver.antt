@@ -1,10 +1,9 @@
 -- The open fetches of a core as what a list of shards shows.
-use Rattle.std.proofs.Common.{◌≡◌, ℕ, ◌%◌, ◌<◌, List, [], ◌∷◌, ◌++◌, Bool, map, length, Option, None, Some, refl, sym, ◌∙◌, ap, subst}
+use Rattle.std.proofs.Common.{◌≡◌, ℕ, ◌%◌, ◌<◌, List, [], ◌∷◌, ◌++◌, Bool, map, length, Option, None, Some, sym, ◌∙◌, ap, subst}
 use Rattle.std.specs.Prelude.{All, IfNone, OnSome, slice_get, slice_set, slice_index_or, option_and_then, option_map}
 use Rattle.std.proofs.lemmas.List.{length-map, map-append, map-set}
 use Rattle.std.proofs.lemmas.List.Elements.{All-push}
 use Rattle.std.proofs.lemmas.Option.{slice_get-map, slice_get_read}
-use Rattle.foyer_core.specs.Core.{Core, shard_at}
 use Rattle.foyer_core.specs.CoreFetches.{AtOpen, EndsAt, EndsIn, at_hash, place_in, replaced}
 use Rattle.foyer_core.specs.Fetching.{EndsBy}
 use Rattle.foyer_core.specs.Inflight.{Opens, Place, asked, closed, no_opens}

@@ -1,6 +1,6 @@
 -- Cores that fetch nothing, and go on so.
 use Rattle.std.proofs.Common.{◌≡◌, ℕ, ◌+◌, ◌%◌, List, [], Bool, true, false, cond, length, Option, Some, None, Ok, Err, refl, sym, ◌∙◌, ap, subst, inl, inr}
-use Rattle.std.specs.Prelude.{All, IfOk, OnErr, OnOk, Result, option_and_then, slice_get, slice_set}
+use Rattle.std.specs.Prelude.{All, OnErr, OnOk, Result, option_and_then, slice_get, slice_set}
 use Rattle.std.proofs.lemmas.Bool.Decides.{eqb_tells}
 use Rattle.std.proofs.lemmas.List.{length-set}
 use Rattle.std.proofs.lemmas.List.Elements.{All-get_or}
@@ -17,7 +17,7 @@ use Rattle.foyer_core.specs.Idle.{NoneOpen}
 use Rattle.foyer_core.specs.Indexer.{same_key}
 use Rattle.foyer_core.specs.Inflight.{Opens, Place, closed, no_opens, waiters_of}
 use Rattle.foyer_core.specs.Pieces.{InsertsPiece, coming_under}
-use Rattle.foyer_core.specs.State.{Meaning, State, key_of}
+use Rattle.foyer_core.specs.State.{Meaning}
 use Rattle.foyer_core.specs.Values.{Carried, Held}
 use Rattle.foyer_core.specs.Waited.{AnswersEach, entries_got, entries_in}
 use Rattle.foyer_core.proofs.CoreLemmas.{set_here, set_apart}

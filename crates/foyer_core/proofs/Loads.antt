@@ -1,5 +1,5 @@
 -- The sums of what shards hold, as one of them changes.
-use Rattle.std.proofs.Common.{◌≡◌, ℕ, nat_eq, ◌+◌, ◌-◌, ◌*◌, ◌^◌, ◌<◌, ◌≤◌, ◌==◌, List, [], ◌∷◌, ◌++◌, map, take, length, sum_by, Option, Some, None, Result, Ok, Err, Bool, true, false, refl, sym, ◌∙◌, ap, subst, arith}
+use Rattle.std.proofs.Common.{◌≡◌, ℕ, nat_eq, ◌+◌, ◌-◌, ◌^◌, ◌<◌, ◌≤◌, ◌==◌, List, [], ◌∷◌, ◌++◌, map, take, length, sum_by, Option, Some, None, Result, Ok, Err, Bool, true, false, refl, sym, ◌∙◌, ap, subst, arith}
 use Rattle.std.proofs.Math.Logic.{∥∥₁_elim}
 use Rattle.std.proofs.Props.{props}
 use Rattle.std.specs.Prelude.{All, IfOk, OnErr, slice_set, slice_index_or, if◌then◌else◌}
@@ -17,8 +17,8 @@ use Rattle.foyer_policy.specs.declared.types.Event.{Event}
 use Rattle.foyer_policy.specs.declared.types.Item.{Item}
 use Rattle.foyer_core.specs.Core.{AreSums}
 use Rattle.foyer_core.specs.State.{Meaning, State, IsKept, usage_of}
-use Rattle.foyer_core.specs.Steps.{Gets, GivesBack, Touches, ClonesHandle, after_get, after_give_back, after_last}
-use Rattle.foyer_core.specs.Values.{Rec, Gone, Held}
+use Rattle.foyer_core.specs.Steps.{Gets, GivesBack, Touches, ClonesHandle, after_get}
+use Rattle.foyer_core.specs.Values.{Gone, Held}
 use Rattle.foyer_core.proofs.Found.{once-permuted}
 
 module _ {K V P View C : Type 0} (m : Meaning K P View C) where

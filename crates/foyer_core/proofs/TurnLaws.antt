@@ -1,5 +1,5 @@
 -- What follows for a core from steps of all of its shards in turn.
-use Rattle.std.proofs.Common.{◌≡◌, ℕ, zero, suc, ◌+◌, ◌%◌, ◌<◌, ◌≤◌, List, [], ◌∷◌, ◌++◌, length, Option, Some, None, refl, sym, ◌∙◌, ap, subst, subst₂, arith}
+use Rattle.std.proofs.Common.{◌≡◌, ℕ, zero, suc, ◌+◌, ◌%◌, ◌≤◌, List, [], ◌∷◌, ◌++◌, length, Option, Some, None, refl, sym, ◌∙◌, ap, subst, subst₂, arith}
 use Rattle.std.specs.Prelude.{Bool, Result, Ok, Err, IfOk, OnOk, OnErr, option_and_then, slice_get}
 use Rattle.std.specs.List.{AllZip}
 use Rattle.std.proofs.lemmas.Slice.Zip.{AllZip-long}
@@ -12,7 +12,7 @@ use Rattle.foyer_core.specs.CoreBulk.{InTurn, InTurnUntil, OfShards, SharesOut, 
 use Rattle.foyer_core.specs.Laws.{HandlesStay}
 use Rattle.foyer_core.specs.State.{Meaning, State}
 use Rattle.foyer_core.specs.Steps.{ids_of}
-use Rattle.foyer_core.specs.Values.{Rec, Gone, Held}
+use Rattle.foyer_core.specs.Values.{Rec, Gone}
 use Rattle.foyer_core.proofs.Staying.{RecordsStay, nothing, leave_stays}
 
 -- what each step keeps is kept of all

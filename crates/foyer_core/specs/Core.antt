@@ -1,5 +1,5 @@
 -- A core as a list of shards.
-use Rattle.std.specs.Prelude.{◌≡◌, ℕ, Bool, ◌+◌, ◌/◌, ◌%◌, ◌==◌, ◌<◌, ◌^◌, All, List, [], Option, Some, None, option_and_then, Result, Ok, Err, IsSomeAnd, if◌then◌else◌, nat_lt, length, slice_get, slice_set, sum_by}
+use Rattle.std.specs.Prelude.{◌≡◌, ℕ, Bool, ◌+◌, ◌/◌, ◌%◌, ◌==◌, ◌<◌, ◌^◌, All, List, Option, Some, None, option_and_then, Result, Ok, Err, IsSomeAnd, if◌then◌else◌, nat_lt, length, slice_get, slice_set, sum_by}
 use Rattle.foyer_policy.specs.Policy.{Policy}
 use Rattle.foyer_policy.specs.declared.error.Reason.{Reason}
 use Rattle.foyer_policy.specs.declared.error.Reason.TheVariants.{NoShards}
@@ -7,7 +7,6 @@ use Rattle.foyer_policy.specs.declared.types.Source.{Source}
 use Rattle.foyer_core.specs.declared.config.RawCacheConfig.{RawCacheConfig}
 use Rattle.foyer_core.specs.declared.outcome.Inserted.{Inserted}
 use Rattle.foyer_core.specs.declared.outcome.Refused.{Refused}
-use Rattle.foyer_core.specs.declared.record.Data.{Data}
 use Rattle.foyer_core.specs.declared.record.Limits.{Limits}
 use Rattle.foyer_core.specs.State.{Meaning, State, AllData, hit, handles_of, handles_in, usage_of}
 use Rattle.foyer_core.specs.Steps.{Inserts, RefusesInsert, IsOutdated, newcomer}

@@ -1,4 +1,4 @@
-use Rattle.std.proofs.Common.{ap, ◌∙◌, ℕ, ◌%◌, vec_len, ◌≡◌}
+use Rattle.std.proofs.Common.{ap, ◌∙◌, ℕ, ◌%◌, vec_len}
 use Rattle.foyer_core.specs.Cores.{hashes_of}
 use Rattle.foyer_core.specs.Inflight.{after_nothing}
 use Rattle.foyer_core.specs.Shards.{opens_of, state_of}

@@ -1,12 +1,10 @@
-use Rattle.std.proofs.Common.{◌∙◌, ◌≡◌, ◌+◌, ◌<◌, List, drop, length, map, sum_by, vec_len, arith}
-use Rattle.std.specs.Prelude.{slice_set}
-use Rattle.std.specs.List.{AllZip}
+use Rattle.std.proofs.Common.{◌∙◌, ◌≡◌, ◌+◌, ◌<◌, length, map, vec_len, arith}
 use Rattle.std.proofs.lemmas.List.{drop-set-lt}
 use Rattle.std.proofs.lemmas.Slice.Zip.{AllZip-long}
 use Rattle.foyer_core.specs.Bulk.{Clears}
 use Rattle.foyer_core.specs.Shards.{opens_of, state_of}
 use Rattle.foyer_core.specs.Stored.{meaning}
-use Rattle.foyer_core.proofs.InTurn.{InFirst, over-more, over-all}
+use Rattle.foyer_core.proofs.InTurn.{over-more, over-all}
 use Rattle.foyer_core.proofs.Zips.{zip-next, sum-next, map-write}
 use Rattle.foyer_core.proofs.cache_core.in_turn.clear_each.Goals as goal
 

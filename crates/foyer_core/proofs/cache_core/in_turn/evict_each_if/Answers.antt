@@ -1,13 +1,11 @@
-use Rattle.std.proofs.Common.{◌∙◌, ◌≡◌, ◌+◌, ◌<◌, List, drop, length, map, sum_by, vec_len, refl, arith}
-use Rattle.std.specs.Prelude.{slice_set}
-use Rattle.std.specs.List.{AllZip}
+use Rattle.std.proofs.Common.{◌∙◌, ◌+◌, ◌<◌, length, map, vec_len, refl, arith}
 use Rattle.std.proofs.lemmas.List.{drop-set-lt}
 use Rattle.std.proofs.lemmas.Slice.Zip.{AllZip-long}
 use Rattle.foyer_policy.specs.Items.{IsWithin}
 use Rattle.foyer_core.specs.Bulk.{EvictsIf, Picks, Says}
 use Rattle.foyer_core.specs.Shards.{opens_of, state_of}
 use Rattle.foyer_core.specs.Stored.{meaning}
-use Rattle.foyer_core.proofs.InTurn.{InFirst, over-more, over-all}
+use Rattle.foyer_core.proofs.InTurn.{over-more, over-all}
 use Rattle.foyer_core.proofs.Zips.{zip-next, sum-next, map-write}
 use Rattle.foyer_core.proofs.cache_core.in_turn.evict_each_if.Goals as goal
 

@@ -1,4 +1,4 @@
-use Rattle.std.proofs.Common.{◌≡◌, map, take, length, vec_len, vec_capacity}
+use Rattle.std.proofs.Common.{◌≡◌, take, length, vec_len, vec_capacity}
 use Rattle.std.specs.List.{AllZip}
 use Rattle.foyer_policy.specs.Items.{IsWithin}
 use Rattle.foyer_core.specs.Bulk.{Picks, Says}
