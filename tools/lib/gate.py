@@ -5,7 +5,6 @@ import shutil
 import subprocess
 import traceback
 from concurrent.futures import FIRST_COMPLETED, ThreadPoolExecutor, wait
-from threading import Lock
 
 from machine import free_memory, processors, rt
 from proving import Proof
@@ -20,16 +19,15 @@ class Gate:
         self.root, self.progress, self.crates = root, progress, Crates(root)
         self.logs = f"{root}/out/{place}"
         self.passed = self.failed = 0
-        self.counted, self.counting = {}, Lock()
+        self.counted = {}
         os.makedirs(self.logs, exist_ok=True)
         # what a gate that was killed left
         shutil.rmtree(f"{root}/out/rooms", ignore_errors=True)
 
     def count(self, what, passed, failed):
-        with self.counting:
-            self.passed, self.failed = self.passed + passed, self.failed + failed
-            were = self.counted.get(what, (0, 0))
-            self.counted[what] = were[0] + passed, were[1] + failed
+        self.passed, self.failed = self.passed + passed, self.failed + failed
+        were = self.counted.get(what, (0, 0))
+        self.counted[what] = were[0] + passed, were[1] + failed
 
     def log(self, name):
         return f"{self.logs}/{name}.log"
@@ -151,9 +149,9 @@ class Gate:
             self.tell_failure(f"{name}'s tests", f"rt try --test ended with {ran.returncode}", log)
         return is_well
 
-    def replay(self, root=None):
-        """The stored scripts, and the first run of a user, by the program that was built, here or in a clone."""
-        program = f"{root or self.root}/crates/foyer_sim/out/foyer_sim"
+    def replay(self):
+        """The stored scripts, and the first run of a user, by the program that was built."""
+        program = f"{self.crates.folder('foyer_sim')}/out/foyer_sim"
         self.script("replayed scripts", "tests/replay/run", program)
         self.script("first runs", "tests/first-run/run", program)
         self.script("bad arguments", "tests/first-run/arguments")
@@ -188,11 +186,11 @@ class Gate:
         elif line.startswith(("NOT REFUSED", "BROKEN", "note: ")):
             self.progress.say(line.rstrip()[:200])
 
-    def whole_ci(self, clone):
-        """`rt ci` in a clone: every proof, the proofs of tests too, and programs as two compilers build them."""
+    def whole_ci(self):
+        """`rt ci`: every proof, the proofs of tests too, and programs as two compilers build them."""
         log = self.log("rt-ci")
         self.progress.at("rt ci", "begun")
-        ran = self.follow([rt(), "ci"], log, self.of_ci, clone)
+        ran = self.follow([rt(), "ci"], log, self.of_ci)
         self.progress.at("rt ci", "")
         self.summed("rt ci", "rt ci", log, ran)
 
@@ -200,9 +198,9 @@ class Gate:
         if line.startswith("rt: "):
             self.progress.at("rt ci", line.removeprefix("rt: ").strip()[:80])
 
-    def follow(self, command, log, tell, folder=None):
+    def follow(self, command, log, tell):
         """Runs a command, keeps what it says, and returns its status."""
-        how = {"cwd": folder or self.root, "stdin": subprocess.DEVNULL, "stdout": subprocess.PIPE, "stderr": subprocess.STDOUT}
+        how = {"cwd": self.root, "stdin": subprocess.DEVNULL, "stdout": subprocess.PIPE, "stderr": subprocess.STDOUT}
         with open(log, "w", encoding="utf-8") as it:
             with subprocess.Popen(command, **how, text=True, errors="replace") as ran:
                 for line in ran.stdout:

@@ -1,4 +1,5 @@
-"""docs/gate-record: what the last full gate ran on, and what it counted. Lines 'WORD: TEXT'."""
+"""docs/gate-record: what the full gate showed of each of its parts, and on which commit. Lines 'PART: COMMIT, ..',
+and one of the kit."""
 import subprocess
 
 from machine import rt, text_of
@@ -7,10 +8,13 @@ from repository import git
 RECORD = "docs/gate-record"
 
 
+def rows_of(root):
+    return dict(line.partition(": ")[::2] for line in text_of(f"{root}/{RECORD}").splitlines())
+
+
 def last_full_gate(root):
-    """The commit of the last full gate that this repository has in its history, or None."""
-    said = dict(line.partition(": ")[::2] for line in text_of(f"{root}/{RECORD}").splitlines())
-    commit = said.get("commit", "")
+    """The commit whose edits were all tried last, where this repository has it in its history, or None."""
+    commit = rows_of(root).get("edits", "").partition(",")[0]
     known = ["git", "-C", root, "merge-base", "--is-ancestor", commit, "HEAD"]
     if not commit or subprocess.run(known, capture_output=True).returncode:
         return None
@@ -18,8 +22,10 @@ def last_full_gate(root):
 
 
 def write(root, rows):
+    """Puts rows into the record, each in the place of that of its part."""
+    with_rows = {**rows_of(root), **rows, "kit": kit()}
     with open(f"{root}/{RECORD}", "w", encoding="utf-8") as it:
-        it.writelines(f"{word}: {text}\n" for word, text in rows)
+        it.writelines(f"{word}: {text}\n" for word, text in sorted(with_rows.items()))
 
 
 def commit_of(root):

@@ -13,13 +13,13 @@ from verdicts import BROKEN, DOUBTFUL, NOT_REFUSED, Verdict, proves_all, reached
 KEPT = "out/incremental"
 # rattle touches this file itself, and reads nothing from it
 TOUCHED = "rattle-last-used"
-# and adds lines to this one in its place
-APPENDED = "linked-compared"
+# and writes these in their place
+IN_PLACE = {"linked-compared", "offered.json"}
 
 
 def copy_or_link(source, to):
-    """A hard link, where the file system allows one: rattle writes a new file and renames it, and changes none but one."""
-    if os.path.basename(source) == APPENDED:
+    """A hard link, where the file system allows one: rattle writes a new file and renames it, but for a few."""
+    if os.path.basename(source) in IN_PLACE:
         shutil.copy2(source, to)
         return
     try:
