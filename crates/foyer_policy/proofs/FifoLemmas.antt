@@ -1,8 +1,8 @@
 -- One list of items under places.
-use Rattle.std.proofs.Common.{◌≡◌, ◌≢◌, ℕ, ◌+◌, ◌<◌, true, false, cond, List, [], ◌∷◌, ◌++◌, Option, Some, None, length, map, get_or, set, refl, sym, ◌∙◌, ap, subst, arith, IfSome, append_assoc, length-append}
+use Rattle.std.proofs.Common.{◌≡◌, ◌≢◌, ℕ, ◌+◌, true, false, cond, List, [], ◌∷◌, ◌++◌, Option, Some, None, length, map, get_or, set, refl, sym, ◌∙◌, ap, arith, IfSome}
 use Rattle.std.specs.Prelude.{◌==◌, is_some}
 use Rattle.std.proofs.lemmas.Bool.Decides.{nat_tests}
-use Rattle.std.proofs.lemmas.List.{map-append, append-nil, length-map}
+use Rattle.std.proofs.lemmas.List.{map-append}
 use Rattle.foyer_policy.specs.Lists.{list_at, find_in, find, or_else, drop_place, first_or, first_value, rest, IsFree, IsDistinct, AreLists}
 use Rattle.foyer_policy.specs.Items.{IsNewIn, HasIdsOnce, remove_id, find_id}
 use Rattle.foyer_policy.specs.Policy.{without}
@@ -124,47 +124,6 @@ find_in-at p v (x ∷ xs) ys d =
     let e : (x.0 == p) ≡ false = grind (arith, nat_tests) in
     rw e (find_in-at p v xs ys d.1)
 
--- a walk along a list: what is done, what comes next, and the items that were met
-pub record Walk (all : List (ℕ × Item)) (next : Option ℕ) (met : List Item) : Type 0 where
-  pub done : List (ℕ × Item)
-  pub todo : List (ℕ × Item)
-  pub parts : all ≡ done ++ todo
-  pub here : next ≡ first_or todo None
-  pub told : met ≡ items self_item done
-
-pub walk-start : (all : List (ℕ × Item)) → Walk all (first_or all None) []
-walk-start all = record { done = []; todo = all; parts = refl; here = refl; told = refl }
-
-pub walk-end : (all : List (ℕ × Item)) (met : List Item) → Walk all None met → met ≡ items self_item all
-walk-end all met w = go w.todo w.here w.parts where
-  go : (todo : List (ℕ × Item)) → None ≡ first_or todo None → all ≡ w.done ++ todo → met ≡ items self_item all
-  go [] h parts = w.told ∙ ap (items self_item) (sym (append-nil w.done) ∙ sym parts)
-  go (x ∷ xs) h parts = absurd cc
-
-pub walk-within : (all : List (ℕ × Item)) (p : ℕ) (met : List Item) → Walk all (Some p) met → length met < length all
-walk-within all p met w = go w.todo w.here w.parts where
-  go : (todo : List (ℕ × Item)) → Some p ≡ first_or todo None → all ≡ w.done ++ todo → length met < length all
-  go [] h parts = absurd cc
-  go (x ∷ xs) h parts = omega (arith, ap length w.told, length-map w.done (λ (e : ℕ × Item). self_item e.1), ap length parts, length-append w.done (x ∷ xs))
-
-pub walk-on : (all : List (ℕ × Item)) (p : ℕ) (next : Option ℕ) (met : List Item) (i : Item) → IsDistinct all → Walk all (Some p) met → find_in p all ≡ Some i
-    → ((xs ys : List (ℕ × Item)) (v : Item) → all ≡ xs ++ (p, v) ∷ ys → next ≡ first_or ys None) → Walk all next (met ++ i ∷ [])
-walk-on all p next met i distinct w found after = go w.todo w.here w.parts where
-  go : (todo : List (ℕ × Item)) → Some p ≡ first_or todo None → all ≡ w.done ++ todo → Walk all next (met ++ i ∷ [])
-  go [] h parts = absurd cc
-  go (x ∷ xs) h parts =
-      let same : p ≡ x.0 = cc in
-      let whole : all ≡ w.done ++ (p, x.1) ∷ xs = parts ∙ ap (λ (q : ℕ). w.done ++ (q, x.1) ∷ xs) (sym same) in
-      let at : find_in p all ≡ Some x.1 = ap (find_in p) whole ∙ find_in-at p x.1 w.done xs (subst (λ (l : List (ℕ × Item)). IsDistinct l) whole distinct) in
-      let item : i ≡ x.1 = (let e : Some i ≡ Some x.1 = sym found ∙ at in cc) in
-      record {
-        done = w.done ++ (p, x.1) ∷ [];
-        todo = xs;
-        parts = whole ∙ sym (append_assoc w.done ((p, x.1) ∷ []) xs);
-        here = after w.done xs x.1 whole;
-        told = rw map-append (ap (λ (l : List Item). l ++ i ∷ []) w.told ∙ ap (λ (j : Item). items self_item w.done ++ j ∷ []) item);
-      }
-
 pub popped-list : (ls ls2 : List (List (ℕ × Item))) → AreLists 1 ls → ls2 ≡ set ls 0 (rest (list_at ls 0)) → list_at ls2 0 ≡ rest (list_at ls 0)
 popped-list ls ls2 sound popped = ap (λ (x : List (List (ℕ × Item))). get_or x 0 []) (popped ∙ ap (λ (x : List (List (ℕ × Item))). set x 0 (rest (list_at ls 0))) (single ls sound.count))
 
@@ -178,15 +137,6 @@ find-first ls p sound = ap (find p) (single ls sound.count) ∙ or_else-none (fi
 first-there : (p : ℕ) (l : List (ℕ × Item)) → Some p ≡ first_or l None → (i : Item) × (find_in p l ≡ Some i)
 first-there p [] h = absurd cc
 first-there p (x ∷ xs) h = (let e : p ≡ x.0 = cc in let y : (x.0 == p) ≡ true = grind (arith, nat_tests) in (x.1, rw y refl))
-
-pub walk-there : (all : List (ℕ × Item)) (p : ℕ) (met : List Item) → IsDistinct all → Walk all (Some p) met → (i : Item) × (find_in p all ≡ Some i)
-walk-there all p met distinct w = go w.todo w.here w.parts where
-  go : (todo : List (ℕ × Item)) → Some p ≡ first_or todo None → all ≡ w.done ++ todo → (i : Item) × (find_in p all ≡ Some i)
-  go [] h parts = absurd cc
-  go (x ∷ xs) h parts =
-      let same : p ≡ x.0 = cc in
-      let whole : all ≡ w.done ++ (p, x.1) ∷ xs = parts ∙ ap (λ (q : ℕ). w.done ++ (q, x.1) ∷ xs) (sym same) in
-      (x.1, ap (find_in p) whole ∙ find_in-at p x.1 w.done xs (subst (λ (l : List (ℕ × Item)). IsDistinct l) whole distinct))
 
 pub remove-member : (ls : List (List (ℕ × Item))) → AreLists 1 ls → (p : ℕ) (i : Item) → find p ls ≡ Some i → HasIdsOnce (items self_item (list_at ls 0)) → find_id i.id (items self_item (list_at ls 0)) ≡ Some i
 remove-member ls sound p i there once = find_id-found self_item p i (list_at ls 0) once (sym (find_in-item_at p (list_at ls 0)) ∙ sym (find-first ls p sound) ∙ there)

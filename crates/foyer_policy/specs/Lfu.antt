@@ -1,6 +1,6 @@
 -- w-TinyLFU: a window for what came in lately, and two lists behind it, of which the less often seen leaves.
 use Rattle.std.specs.Prelude.{◌==◌, ◌+◌, ◌*◌, ◌++◌, ℕ, List, [], ◌∷◌, Option, Some, None, nat_lt, is_some, if◌then◌else◌}
-use Rattle.foyer_policy.specs.Items.{weight_of, remove_id, find_id, fit, over}
+use Rattle.foyer_policy.specs.Items.{remove_id, find_id, fit, over}
 use Rattle.foyer_policy.specs.Limit.{limit_of, ratio_fault}
 use Rattle.foyer_policy.specs.Lists.{or_else}
 use Rattle.foyer_policy.specs.Policy.{Policy}

@@ -1,10 +1,10 @@
 -- w-TinyLFU is a policy.
-use Rattle.std.proofs.Common.{◌≡◌, ℕ, zero, suc, ◌+◌, ◌*◌, ◌≤◌, Bool, true, false, cond, List, [], ◌∷◌, ◌++◌, Option, Some, None, length, length-append, refl, sym, ◌∙◌, ap, subst, arith, inl, append_assoc}
+use Rattle.std.proofs.Common.{◌≡◌, ℕ, zero, suc, ◌+◌, ◌*◌, Bool, true, false, cond, List, [], ◌∷◌, ◌++◌, Option, Some, None, length, length-append, refl, sym, ◌∙◌, ap, subst, arith, inl, append_assoc}
 use Rattle.std.specs.Prelude.{◌==◌, is_some, nat_lt}
 use Rattle.std.specs.List.Sorted.{IsPermutation}
-use Rattle.std.proofs.lemmas.List.Sorted.{IsPermutation-refl, IsPermutation-sym, IsPermutation-trans, IsPermutation-to_front, IsPermutation-middle, IsPermutation-append, IsPermutation-append_left, IsPermutation-append_right, IsPermutation-append_comm}
+use Rattle.std.proofs.lemmas.List.Sorted.{IsPermutation-refl, IsPermutation-sym, IsPermutation-trans, IsPermutation-to_front, IsPermutation-middle, IsPermutation-append_left, IsPermutation-append_right, IsPermutation-append_comm}
 use Rattle.foyer_policy.specs.Errors.{kind_of}
-use Rattle.foyer_policy.specs.Items.{HasIdsOnce, IsWithin, remove_id, find_id, fit, over}
+use Rattle.foyer_policy.specs.Items.{remove_id, find_id, fit, over}
 use Rattle.foyer_policy.specs.Limit.{ratio_fault}
 use Rattle.foyer_policy.specs.Lists.{or_else}
 use Rattle.foyer_policy.specs.LruLaws.{ratio_fault-kind}

@@ -1,22 +1,20 @@
 -- S3-FIFO is a policy.
-use Rattle.std.proofs.Common.{◌≡◌, ℕ, zero, suc, ◌+◌, ◌*◌, ◌≤◌, ◌<◌, Bool, true, false, cond, List, [], ◌∷◌, ◌++◌, Option, Some, None, length, map, refl, sym, ◌∙◌, ap, subst, arith, inl, append_assoc, append-nil, length-append}
-use Rattle.std.specs.Prelude.{◌==◌, sum_by, nat_le, nat_lt, is_some, min}
+use Rattle.std.proofs.Common.{◌≡◌, ℕ, zero, suc, ◌+◌, ◌*◌, ◌≤◌, Bool, true, false, cond, List, [], ◌∷◌, ◌++◌, Option, Some, None, length, refl, sym, ◌∙◌, ap, subst, arith, inl, append_assoc, length-append}
+use Rattle.std.specs.Prelude.{◌==◌, nat_le, is_some, min}
 use Rattle.std.specs.FinSet.{contains}
 use Rattle.std.specs.List.Sorted.{IsPermutation}
-use Rattle.std.proofs.lemmas.Bool.Decides.{nat_tests}
 use Rattle.std.proofs.lemmas.List.{length-map}
 use Rattle.std.proofs.lemmas.List.Sorted.{IsPermutation-refl, IsPermutation-sym, IsPermutation-trans, IsPermutation-to_front, IsPermutation-middle, IsPermutation-append_comm, IsPermutation-append_left, IsPermutation-append_right, length_permutation}
-use Rattle.foyer_policy.specs.Items.{HasIdsOnce, remove_id, find_id, weight_of}
+use Rattle.foyer_policy.specs.Items.{remove_id, find_id}
 use Rattle.foyer_policy.specs.Limit.{ratio_fault}
 use Rattle.foyer_policy.specs.Lists.{or_else}
 use Rattle.foyer_policy.specs.PartLaws.{remove_id-front, remove_id-back}
 use Rattle.foyer_policy.specs.Policy.{IsPolicy, popped_out, removed}
 use Rattle.foyer_policy.specs.PopTimes.{after_pop, pop_times}
 use Rattle.foyer_policy.specs.GhostQueue.{ghost_push}
-use Rattle.foyer_policy.specs.S3Fifo.{Entry, Setting, S3FifoView, items, frequencies, s3fifo_fault, denominator_fault, frequent_front, from_rare, MainTurn, main_turn, main_looks, first_of_small, main_gives, from_main, promoted, over_limit, is_over, s3fifo_pop, over_looks, s3fifo_looks, remove_entry, use_entry, is_in_small, put, s3fifo}
-use Rattle.foyer_policy.specs.S3FifoTurns.{items-append, frequencies-append, frequencies-cons, MainTurned, main-turned, main-none}
+use Rattle.foyer_policy.specs.S3Fifo.{Entry, S3FifoView, items, frequencies, s3fifo_fault, denominator_fault, frequent_front, from_rare, MainTurn, main_turn, main_looks, first_of_small, main_gives, from_main, promoted, over_limit, is_over, s3fifo_pop, over_looks, s3fifo_looks, remove_entry, use_entry, is_in_small, put, s3fifo}
+use Rattle.foyer_policy.specs.S3FifoTurns.{items-append, frequencies-append, frequencies-cons, main-turned, main-none}
 use Rattle.foyer_policy.specs.declared.types.Item.{Item}
-use Rattle.foyer_policy.specs.declared.types.Ratio.{Ratio}
 use Rattle.foyer_policy.specs.declared.error.Reason.{Reason}
 use Rattle.foyer_policy.specs.LruLaws.{ratio_fault-kind}
 use Rattle.foyer_policy.specs.declared.limit.Range.TheVariants.{Open}

@@ -1,11 +1,11 @@
 -- An S3-FIFO as its code holds it: linked nodes in two lists, small and main.
-use Rattle.std.specs.Prelude.{◌≡◌, ℕ, ◌+◌, ◌<◌, ◌≤◌, Bool, true, false, List, [], ◌∷◌, ◌++◌, Option, Some, None, map, length, IfSome, IfNone}
+use Rattle.std.specs.Prelude.{◌≡◌, ℕ, ◌<◌, ◌≤◌, Bool, true, false, List, [], ◌∷◌, ◌++◌, Option, Some, None, map, length}
 use Rattle.std.specs.Option.{option_map}
 use Rattle.foyer_policy.specs.Lists.{Lists, list_at, find}
 use Rattle.foyer_policy.specs.Items.{HasIdsOnce, weight_of}
 use Rattle.foyer_policy.specs.Policy.{without}
 use Rattle.foyer_policy.specs.GhostQueue.{Ghost, GhostState, ghost_of}
-use Rattle.foyer_policy.specs.S3Fifo.{Entry, Setting, S3FifoView, items, MainTurn, frequent_front, from_rare, main_turn, main_looks, from_main, s3fifo_pop, s3fifo_looks}
+use Rattle.foyer_policy.specs.S3Fifo.{Entry, Setting, S3FifoView, items, frequent_front, from_rare, main_turn, main_looks}
 use Rattle.foyer_policy.specs.declared.types.Item.{Item}
 use Rattle.foyer_policy.specs.declared.types.Ratio.{Ratio}
 use Rattle.foyer_policy.specs.declared.held.Held.{Held}

@@ -1,15 +1,14 @@
 -- Sieve is a policy.
-use Rattle.std.proofs.Common.{◌≡◌, ℕ, zero, suc, ◌+◌, ◌≤◌, ◌<◌, Bool, true, false, cond, List, [], ◌∷◌, ◌++◌, Option, Some, None, length, map, refl, sym, ◌∙◌, ap, subst, arith, inl, append_assoc, append-nil, length-append}
-use Rattle.std.specs.Prelude.{◌==◌, sum_by}
+use Rattle.std.proofs.Common.{◌≡◌, ℕ, zero, suc, ◌+◌, ◌≤◌, Bool, true, false, cond, List, [], ◌∷◌, ◌++◌, Option, Some, None, length, refl, sym, ◌∙◌, ap, subst, arith, inl, append_assoc, append-nil, length-append}
+use Rattle.std.specs.Prelude.{◌==◌}
 use Rattle.std.specs.List.Sorted.{IsPermutation}
-use Rattle.std.proofs.lemmas.Bool.Decides.{nat_tests}
 use Rattle.std.proofs.lemmas.List.{map-append, length-map}
 use Rattle.std.proofs.lemmas.List.Sums.{sum_by-cons, sum_by-append}
 use Rattle.std.proofs.lemmas.List.Sorted.{IsPermutation-refl, IsPermutation-sym, IsPermutation-to_front, IsPermutation-middle, length_permutation}
-use Rattle.foyer_policy.specs.Items.{IsWithin, remove_id}
-use Rattle.foyer_policy.specs.Policy.{Policy, IsPolicy, popped_out, removed}
+use Rattle.foyer_policy.specs.Items.{remove_id}
+use Rattle.foyer_policy.specs.Policy.{IsPolicy, popped_out, removed}
 use Rattle.foyer_policy.specs.PopTimes.{after_pop, pop_times}
-use Rattle.foyer_policy.specs.Sieve.{Entry, SieveView, items, cleared, all_cleared, set_bits, before_id, from_id, before_hand, from_hand, rotation, visited_front, from_unvisited, Turn, where_all_visited, where_behind_visited, first_unvisited, turn, looks_at, first_id, after_turn, popped, sieve_pop, remove_entry, visit, hand_without, sieve}
+use Rattle.foyer_policy.specs.Sieve.{Entry, SieveView, items, cleared, all_cleared, set_bits, before_id, from_id, before_hand, from_hand, rotation, visited_front, from_unvisited, Turn, where_all_visited, where_behind_visited, first_unvisited, turn, looks_at, first_id, after_turn, popped, sieve_pop, remove_entry, visit, sieve}
 use Rattle.foyer_policy.specs.declared.types.Item.{Item}
 
 abbrev item_of : Entry → Item

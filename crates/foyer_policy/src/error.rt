@@ -42,14 +42,14 @@ pub enum Field {
 }
 
 /// What a fetch failed with.
-#[derive(Clone, Debug, Drop)]
+#[derive(Clone, Debug, Drop, PartialEq, Eq)]
 pub struct Fault {
     pub code: u64,
     pub message: String,
 }
 
 /// Why a call was refused.
-#[derive(Clone, Debug, Drop, ThisError)]
+#[derive(Clone, Debug, Drop, PartialEq, Eq, ThisError)]
 pub enum Reason {
     #[error("the cache has no shards")]
     NoShards,
@@ -122,6 +122,20 @@ impl Clone for Error {
             reason: self.reason.clone()?,
         })
     }
+}
+
+impl PartialEq for Error {
+    ghost eq = { ⟦<Reason as PartialEq>⟧.eq };
+
+    ghost laws = { ⟦<Reason as PartialEq>⟧.laws };
+
+    fn eq(&self, other: &Error) -> bool {
+        self.reason == other.reason
+    }
+}
+
+impl Eq for Error {
+    ghost laws = { ⟦<Reason as Eq>⟧.laws };
 }
 
 impl From<AllocError> for Error {

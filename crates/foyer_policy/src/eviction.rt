@@ -120,10 +120,12 @@ pub trait Eviction: Drop {
         ensures room { room self.old ≤ room self.new }
         ensures looked { looked self.new ≡ looked self.old };
 
-    /// Makes room for a `clear`. Only memory can be missing (F7); nothing else changes.
+    /// Makes room for a `clear`. Only memory can be missing (F7), and only where a `pop` may want some;
+    /// nothing else changes.
     fn reserve_clear(&mut self) -> Result<()>
         ensures can_clear { OnOk result (can_clear self.new) }
         ensures refused { IfErr result (λ e. e ≡ NoMemory) }
+        ensures granted { OnErr result (pop_wants_memory self.old) }
         ensures view { view self.new ≡ view self.old }
         ensures places { (p : ℕ) → at self.new p ≡ at self.old p }
         ensures kept { room self.old ≤ room self.new }

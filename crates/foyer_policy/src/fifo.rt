@@ -4,6 +4,7 @@ ghost use Rattle.std.specs.Prelude.{◌≡◌, [], ◌∷◌, map};
 
 use crate::error::{Error, Reason, Result};
 use crate::eviction::Eviction;
+use crate::held::append_items;
 use crate::lists::{Lists, Place};
 use crate::types::Item;
 use serde::{Deserialize, Serialize};
@@ -122,13 +123,7 @@ impl Eviction for Fifo {
 
     fn order(&self) -> Result<Vec<Item>> {
         let mut items = Vec::new(self.alloc);
-        let mut next = self.queue.front(0);
-        while let Some(place) = next {
-            let Ok(()) = items.push(*self.queue.get(place)) else {
-                return Err(Error::new(Reason::NoMemory));
-            };
-            next = self.queue.next(place);
-        }
+        append_items(&self.queue, 0, &mut items)?;
         Ok(items)
     }
 

@@ -1,6 +1,6 @@
 //! The ghost queue, which remembers by their hashes what left lately.
 
-ghost use Rattle.std.specs.Prelude.{◌≡◌, ℕ, ◌+◌, ◌≤◌, ◌<◌, min, [], IfErr, OnOk, OnErr, IsOk};
+ghost use Rattle.std.specs.Prelude.{◌≡◌, ◌+◌, ◌≤◌, ◌<◌, min, [], IfErr, OnOk, OnErr, IsOk};
 ghost use Rattle.std.specs.HashSet.{spare};
 ghost use Rattle.std.specs.VecDeque.{deque_len, deque_capacity};
 ghost use Rattle.std.specs.FinSet.{contains, empty};

@@ -1,13 +1,30 @@
-//! Items under places, each with what a policy keeps beside it.
+//! Items under places, alone or each with what a policy keeps beside it.
 
-ghost use Rattle.std.specs.Prelude.{◌≡◌, ◌++◌, ◌<◌, IfErr, OnOk};
-ghost use Rattle.foyer_policy.specs.Held.{items_of};
+ghost use Rattle.std.specs.Prelude.{◌≡◌, ◌++◌, ◌<◌, IfErr, OnOk, map};
 ghost use Rattle.foyer_policy.specs.Lists.{list_at};
+ghost use Rattle.foyer_policy.specs.declared.types.Item.{Item};
 ghost use Rattle.foyer_policy.specs.declared.error.Reason.TheVariants.{NoMemory};
 
 use crate::error::{Error, Reason, Result};
 use crate::lists::Lists;
 use crate::types::Item;
+
+/// A value of a list that holds an item.
+pub(crate) trait HasItem {
+    // the item
+    ghost item_of: { Self → Item };
+
+    fn item(&self) -> Item
+        ensures { result ≡ item_of self.now };
+}
+
+impl HasItem for Item {
+    ghost item_of = { λ i. i };
+
+    fn item(&self) -> Item {
+        *self
+    }
+}
 
 /// An item, and what its policy keeps beside it.
 #[derive(Clone, Copy)]
@@ -16,19 +33,28 @@ pub(crate) struct Held<S> {
     pub(crate) state: S,
 }
 
+impl<S> HasItem for Held<S> {
+    ghost item_of = { λ h. h.item };
+
+    fn item(&self) -> Item {
+        self.item
+    }
+}
+
 /// Appends the items of a list, first to last. Only memory can be missing (F7).
-pub(crate) fn append_items<S, const N: usize>(
-    lists: &Lists<Held<S>, N>,
+pub(crate) fn append_items<T: HasItem, const N: usize>(
+    lists: &Lists<T, N>,
     list: usize,
     items: &mut Vec<Item>,
 ) -> Result<()>
     requires { list < N }
-    ensures items { OnOk result (items.new.items ≡ items.old.items ++ items_of (list_at lists.now.lists list)) }
+    ensures items { OnOk result (items.new.items ≡ items.old.items ++ map (λ e. T.item_of e.1) (list_at lists.now.lists list)) }
     ensures refused { IfErr result (λ e. e ≡ NoMemory) }
 {
     let mut next = lists.front(list);
     while let Some(place) = next {
-        let Ok(()) = items.push(lists.get(place).item) else {
+        let item = lists.get(place).item();
+        let Ok(()) = items.push(item) else {
             return Err(Error::new(Reason::NoMemory));
         };
         next = lists.next(place);

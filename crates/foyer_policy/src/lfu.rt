@@ -8,11 +8,12 @@ mod segments;
 
 use crate::error::{Error, Field, Reason, Result};
 use crate::eviction::Eviction;
+use crate::held::append_items;
 use crate::limit::{Range, check_ratio, limit_of};
 use crate::lists::{Lists, Place};
 use crate::sketch::Sketch;
 use crate::types::{Item, Ratio};
-use segments::{PROBATION, PROTECTED, WINDOW, append_items, drain, next_list, settle, weight_if};
+use segments::{PROBATION, PROTECTED, WINDOW, drain, next_list, settle, weight_if};
 use serde::{Deserialize, Serialize};
 use std::alloc::Global;
 use std::marker::Model;

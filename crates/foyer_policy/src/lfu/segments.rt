@@ -1,12 +1,10 @@
 //! The three lists of an [`Lfu`](super::Lfu), below its running sums.
 
-ghost use Rattle.std.specs.Prelude.{◌≡◌, ◌≢◌, ℕ, ◌+◌, ◌<◌, ◌≤◌, ◌∷◌, ◌++◌, [], length, map, IfErr, OnOk, option_map, slice_set, if◌then◌else◌};
+ghost use Rattle.std.specs.Prelude.{◌≡◌, ◌≢◌, ℕ, ◌+◌, ◌<◌, ◌≤◌, ◌∷◌, ◌++◌, [], length, map, option_map, slice_set, if◌then◌else◌};
 ghost use Rattle.foyer_policy.specs.Items.{fit, over, weight_of};
 ghost use Rattle.foyer_policy.specs.LfuLists.{items_in, victim_list};
 ghost use Rattle.foyer_policy.specs.Lists.{find, first_value, list_at};
-ghost use Rattle.foyer_policy.specs.declared.error.Reason.TheVariants.{NoMemory};
 
-use crate::error::{Error, Reason, Result};
 use crate::lists::Lists;
 use crate::sketch::Sketch;
 use crate::types::Item;
@@ -109,20 +107,4 @@ pub(super) fn drain(lists: &mut Lists<Item, 3>, list: usize)
     ensures room { lists.old.room ≤ lists.new.room }
 {
     while lists.pop_front(list).is_some() {}
-}
-
-/// Appends the items of a list, first to last. Only memory can be missing (F7).
-pub(super) fn append_items(lists: &Lists<Item, 3>, list: usize, items: &mut Vec<Item>) -> Result<()>
-    requires { list < 3 }
-    ensures items { OnOk result (items.new.items ≡ items.old.items ++ items_in lists.now.lists list) }
-    ensures refused { IfErr result (λ e. e ≡ NoMemory) }
-{
-    let mut next = lists.front(list);
-    while let Some(place) = next {
-        let Ok(()) = items.push(*lists.get(place)) else {
-            return Err(Error::new(Reason::NoMemory));
-        };
-        next = lists.next(place);
-    }
-    Ok(())
 }

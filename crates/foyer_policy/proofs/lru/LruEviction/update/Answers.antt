@@ -1,6 +1,6 @@
 use Rattle.std.proofs.Common.{◌≡◌, ◌<◌, ◌∙◌, ap, sym}
 use Rattle.std.specs.Option.{option_copied}
-use Rattle.foyer_policy.specs.Lru.{Limits, limits_by, limits_or}
+use Rattle.foyer_policy.specs.Lru.{limits_by, limits_or}
 use Rattle.foyer_policy.specs.declared.error.Field.TheVariants.{HighPriorityPool}
 use Rattle.foyer_policy.specs.declared.limit.Range.TheVariants.{Closed}
 use Rattle.foyer_policy.specs.declared.types.Ratio.{Ratio}

@@ -1,4 +1,4 @@
-use Rattle.std.proofs.Common.{◌≡◌, arith, sym, ◌∙◌}
+use Rattle.std.proofs.Common.{arith, sym, ◌∙◌}
 use Rattle.foyer_policy.specs.S3FifoLaws.{pop-shorter}
 use Rattle.foyer_policy.specs.S3FifoQueues.{view_of}
 use Rattle.foyer_policy.proofs.S3FifoClears.{still-over}

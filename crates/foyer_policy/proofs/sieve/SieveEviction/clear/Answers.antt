@@ -1,7 +1,6 @@
-use Rattle.std.proofs.Common.{◌≡◌, refl, None, [], ap, sym, ◌∙◌}
+use Rattle.std.proofs.Common.{refl, [], ap, sym, ◌∙◌}
 use Rattle.foyer_policy.specs.Lists.{list_at}
 use Rattle.foyer_policy.specs.SieveQueue.{entries}
-use Rattle.foyer_policy.proofs.ListsLemmas.{single}
 use Rattle.foyer_policy.proofs.SieveCalls.{is_none, same_view, popped-empty, cleared-view}
 use Rattle.foyer_policy.proofs.sieve.SieveEviction.clear.Goals as goal
 

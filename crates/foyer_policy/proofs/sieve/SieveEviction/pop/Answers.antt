@@ -1,4 +1,4 @@
-use Rattle.std.proofs.Common.{◌≡◌, List, ℕ, Some, IfSome, arith, ap, sym, ◌∙◌, ◌++◌, ◌∷◌}
+use Rattle.std.proofs.Common.{◌≡◌, List, ℕ, Some, arith, ◌++◌, ◌∷◌}
 use Rattle.std.specs.Option.{unwrap_or}
 use Rattle.foyer_policy.specs.Lists.{list_at}
 use Rattle.foyer_policy.specs.SieveLaws.{sieve_lawful, few_looks}
