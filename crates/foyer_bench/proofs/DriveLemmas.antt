@@ -18,8 +18,6 @@ use Rattle.foyer_policy.specs.declared.types.Source.TheVariants.{Outer}
 use Rattle.foyer_core.specs.declared.cache_core.CacheCore.{CacheCore}
 use Rattle.foyer_core.specs.declared.filter.Filter.{Ghosts as FilterGhosts}
 use Rattle.foyer_core.specs.declared.indexer.Indexer.{Ghosts as IndexerGhosts}
-use Rattle.foyer_core.specs.declared.outcome.Inserted.{Inserted}
-use Rattle.foyer_core.specs.declared.outcome.Refused.{Refused}
 use Rattle.foyer_core.specs.declared.shard.Shard.{Shard}
 use Rattle.foyer_core.specs.declared.weighter.Weighter.{Ghosts as WeighterGhosts}
 use Rattle.foyer_core.specs.Core.{Core, AtShard, InsertsAnswering, InsertsWeighed, Owns, shard_at, shard_of}
@@ -28,7 +26,7 @@ use Rattle.foyer_core.specs.Indexer.{same_key}
 use Rattle.foyer_core.specs.Shards.{state_of}
 use Rattle.foyer_core.specs.State.{IsKept, Meaning, State, handles_in, is_phantom_record, key_of}
 use Rattle.foyer_core.specs.Steps.{Gets, GivesBack, Inserts, RefusesInsert, newcomer}
-use Rattle.foyer_core.specs.Values.{Answered, Gone, Held}
+use Rattle.foyer_core.specs.Values.{Answered, Denied, Gone, Held, Made}
 use Rattle.foyer_bench.specs.Drive.{data_of, PutsIn, LookUp, RefusesLookUp}
 use Rattle.foyer_bench.proofs.HandleLemmas.{inserts_make, gets_differ}
 use Rattle.foyer_bench.proofs.ShardLemmas.{at_then, at_map, owns_at}
@@ -61,7 +59,7 @@ module _ {View C S W A : Type 0} (m : Meaning ℕ Answered View C) (old mid new 
   -- ---- an insert
 
   -- an insert of default properties, with a weight of 1, which the filter admits
-  module _ {N : Type 0} (weighs : ℕ → Type 0) (admits : Bool → Type 0) (hash key : ℕ) (properties : Bool → Answered) (result : Result (Inserted ℕ ℕ Answered N) (Refused ℕ ℕ Answered))
+  module _ (weighs : ℕ → Type 0) (admits : Bool → Type 0) (hash key : ℕ) (properties : Bool → Answered) (result : Result (Made ℕ ℕ Answered) (Denied ℕ ℕ Answered))
       (plain : properties true ≡ record { phantom = None; hint = Normal }) (one : (n : ℕ) → weighs n → n ≡ 1) (yes : (b : Bool) → admits b → b ≡ true)
       (did : InsertsWeighed m Outer weighs admits hash key key properties 1 result old mid) where
     pub weighed_plain : AtShard (λ s t. InsertsAnswering m Outer s (newcomer s (data_of (hash, key)) 1) result t) hash old mid

@@ -18,7 +18,7 @@ use Rattle.foyer_core.specs.Observed.{IsTold, IsToldWith}
 use Rattle.foyer_core.specs.State.{Meaning, State, IsKept, MakesPlain, coming_in, is_phantom_record}
 use Rattle.foyer_core.specs.Steps.{Inserts, InsertsBy, InsertsPlain, RefusesInsert, newcomer}
 use Rattle.foyer_core.specs.Values.{Gone, Held, Incoming}
-use Rattle.foyer_core.specs.Waited.{AnswersEach, waiting_for}
+use Rattle.foyer_core.specs.Waited.{AnswersEach, insertion_of, waiting_for}
 use Rattle.foyer_core.proofs.CallsTold.{insert_told, refused_told}
 use Rattle.foyer_core.proofs.CoreLaws.{Came, Stands, came_stands, bounded_at, finds_at, stays_at}
 use Rattle.foyer_core.proofs.CoreLemmas.{at_over, core_over}
@@ -30,7 +30,7 @@ use Rattle.foyer_core.proofs.Staying.{RecordsStay, nothing}
 
 -- what a shard's insert answers, by its two cases
 pub answering : {K V P View C N : Type 0} (m : Meaning K P View C) (source : Source) (old : State K V P View) (i : Incoming K V P) (r : Result (Inserted K V P N) (Refused K V P)) (new : State K V P View)
-    → MatchResult r (λ made. Inserts m source old i made.leaves.items made.entry new) (λ refused. RefusesInsert m old i refused.error refused.leaves.items new) → InsertsAnswering m source old i r new
+    → MatchResult r (λ made. Inserts m source old i made.leaves.items made.entry new) (λ refused. RefusesInsert m old i refused.error refused.leaves.items new) → InsertsAnswering m source old i (insertion_of r) new
 answering m source old i (Ok made) new h = h
 answering m source old i (Err refused) new h = h
 
@@ -55,7 +55,7 @@ module _ {K V P View C S W A N : Type 0} (m : Meaning K P View C) (laws : IsEqui
     (old new : Core K V P View S W A) (sound : AreSound m laws good hash equal (length old.shards) old.shards)
     (source : Source) (d : Data K V P) (hashed : d.hash ≡ hash d.key) (handles : ℕ) where
   abbrev pub Comes : Result (Inserted K V P N) (Refused K V P) → Type 0
-  Comes r = AtShard (λ s t. InsertsAnswering m source s (newcomer s d handles) r t) d.hash old new
+  Comes r = AtShard (λ s t. InsertsAnswering m source s (newcomer s d handles) (insertion_of r) t) d.hash old new
 
   pub comes_told : (r : Result (Inserted K V P N) (Refused K V P)) → Comes r
       → MatchResult r (λ made. IsToldWith m.same hash m.phantom old made.leaves.items made.entry.id made.entry.kept new) (λ refused. IsTold m.same hash old refused.leaves.items new)
@@ -64,7 +64,7 @@ module _ {K V P View C S W A N : Type 0} (m : Meaning K P View C) (laws : IsEqui
 
   pub comes_stay : (r : Result (Inserted K V P N) (Refused K V P)) → Comes r → HandlesStay (λ e. 0) old new
   comes_stay r at = stays_at old new d.hash record { before = at.before; after = at.after; there = at.there; stepped = go r at.stepped; rest = at.rest } where
-    go : (r : Result (Inserted K V P N) (Refused K V P)) → InsertsAnswering m source at.before (newcomer at.before d handles) r at.after → RecordsStay nothing at.before at.after
+    go : (r : Result (Inserted K V P N) (Refused K V P)) → InsertsAnswering m source at.before (newcomer at.before d handles) (insertion_of r) at.after → RecordsStay nothing at.before at.after
     go (Ok made) h = answer_stays m source at.before at.after d handles (sound (shard_of old d.hash) at.before at.there).kept (Ok made) h
     go (Err refused) h = answer_stays {N = N} m source at.before at.after d handles (sound (shard_of old d.hash) at.before at.there).kept (Err refused) h
 
@@ -113,11 +113,11 @@ module _ {X K V P View C S W A N R : Type 0} (m : Meaning K P View C) (f : X →
 
   pub comes_over : MatchResult r (λ made. Inserts m source (f x) (newcomer (f x) d (1 + waiting_for (h x) (d.hash, d.key))) made.leaves.items made.entry (f y))
       (λ refused. RefusesInsert m (f x) (newcomer (f x) d (1 + waiting_for (h x) (d.hash, d.key))) refused.error refused.leaves.items (f y))
-      → AtShard (λ s t. InsertsAnswering m source s (newcomer s d (1 + length (waiters_of (place_in (map h xs) (d.hash, d.key))))) r t) d.hash
+      → AtShard (λ s t. InsertsAnswering m source s (newcomer s d (1 + length (waiters_of (place_in (map h xs) (d.hash, d.key))))) (insertion_of r) t) d.hash
       (core_over f capacity b w a xs) (core_over f capacity b w a (slice_set xs i y))
   comes_over did = at_over f capacity b w a xs d.hash n i x many within place read
-      (λ s t. InsertsAnswering m source s (newcomer s d (1 + length (waiters_of (place_in (map h xs) (d.hash, d.key))))) r t) y
-      (subst (λ (o : Option (Place N R)). InsertsAnswering m source (f x) (newcomer (f x) d (1 + length (waiters_of o))) r (f y)) (sym placed)
+      (λ s t. InsertsAnswering m source s (newcomer s d (1 + length (waiters_of (place_in (map h xs) (d.hash, d.key))))) (insertion_of r) t) y
+      (subst (λ (o : Option (Place N R)). InsertsAnswering m source (f x) (newcomer (f x) d (1 + length (waiters_of o))) (insertion_of r) (f y)) (sym placed)
       (answering m source (f x) (newcomer (f x) d (1 + waiting_for (h x) (d.hash, d.key))) r (f y) did))
 
   pub answers_over : IfOk r (λ made. AnswersEach (waiters_of ((h x).places (d.hash, d.key))) made.entry made.answers)

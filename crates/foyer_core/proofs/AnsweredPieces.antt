@@ -15,7 +15,7 @@ use Rattle.foyer_core.specs.Pieces.{RefusesReturn, Returns, ReturnsAnswering, Re
 use Rattle.foyer_core.specs.State.{Meaning, State, is_phantom_record, key_of}
 use Rattle.foyer_core.specs.Steps.{InsertsBy}
 use Rattle.foyer_core.specs.Values.{Carried, Gone, Held, Incoming}
-use Rattle.foyer_core.specs.Waited.{AnswersEach, waiting_for}
+use Rattle.foyer_core.specs.Waited.{AnswersEach, insertion_of, waiting_for}
 use Rattle.foyer_core.proofs.CoreLemmas.{at_over, core_over}
 use Rattle.foyer_core.proofs.FetchesOver.{fetches_become, place_over}
 use Rattle.foyer_core.proofs.Inserting.{refused_return_stays, returns_stay}
@@ -43,23 +43,23 @@ module _ {K V P View C : Type 0} (m : Meaning K P View C) (s t : State K V P Vie
 
 module _ {K V P View C N : Type 0} (m : Meaning K P View C) (s t : State K V P View) where
   -- an entry has the data of what came in
-  pub answer_data : (source : Source) (inc : Incoming K V P) (r : Result (Inserted K V P N) (Refused K V P)) → InsertsAnswering m source s inc r t → IfOk r (λ made. made.entry.kept ≡ inc.kept)
+  pub answer_data : (source : Source) (inc : Incoming K V P) (r : Result (Inserted K V P N) (Refused K V P)) → InsertsAnswering m source s inc (insertion_of r) t → IfOk r (λ made. made.entry.kept ≡ inc.kept)
   answer_data source inc (Ok made) h = inserted_data m s t (is_phantom_record m inc.kept) source inc made.leaves.items made.entry h
   answer_data source inc (Err refused) h = tt
 
   module _ (piece : Carried K V P) (more : ℕ) where
-    pub return_data : (r : Result (Inserted K V P N) (Refused K V P)) → ReturnsAnswering m s piece more r t → IfOk r (λ made. made.entry.kept ≡ held_or piece.kept (s.records piece.id))
+    pub return_data : (r : Result (Inserted K V P N) (Refused K V P)) → ReturnsAnswering m s piece more (insertion_of r) t → IfOk r (λ made. made.entry.kept ≡ held_or piece.kept (s.records piece.id))
     return_data (Ok made) h = returned_data m s t piece more (is_in (s.records piece.id)) made.leaves.items made.entry h
     return_data (Err refused) h = tt
 
     -- the records stay
-    pub return_stays : (r : Result (Inserted K V P N) (Refused K V P)) → ReturnsAnswering m s piece more r t → RecordsStay nothing s t
+    pub return_stays : (r : Result (Inserted K V P N) (Refused K V P)) → ReturnsAnswering m s piece more (insertion_of r) t → RecordsStay nothing s t
     return_stays (Ok made) h = returns_stay m s t piece more made.leaves.items made.entry h
     return_stays (Err refused) h = refused_return_stays m s t piece more refused.error refused.leaves.items h
 
     -- what a shard answers, by its two cases
     pub returning_answer : (r : Result (Inserted K V P N) (Refused K V P))
-        → MatchResult r (λ made. Returns m s piece more made.leaves.items made.entry t) (λ refused. RefusesReturn m s piece more refused.error refused.leaves.items t) → ReturnsAnswering m s piece more r t
+        → MatchResult r (λ made. Returns m s piece more made.leaves.items made.entry t) (λ refused. RefusesReturn m s piece more refused.error refused.leaves.items t) → ReturnsAnswering m s piece more (insertion_of r) t
     returning_answer (Ok made) h = h
     returning_answer (Err refused) h = h
 
@@ -77,19 +77,19 @@ module _ {X K V P View C S W A N R : Type 0} (m : Meaning K P View C) (f : X →
   placed : place_in (map h xs) (held.hash, held.key) ≡ (h x).places (held.hash, held.key)
   placed = place_over h xs held.hash n i x many within (sym here) read held.key
 
-  pub returns_over : ReturnsAnswering m (f x) piece more r (f y)
-      → AtShard (λ s t. ReturnsAnswering m s piece (1 + length (waiters_of (place_in (map h xs) (key_of (held_or piece.kept (s.records piece.id)))))) r t) hash
+  pub returns_over : ReturnsAnswering m (f x) piece more (insertion_of r) (f y)
+      → AtShard (λ s t. ReturnsAnswering m s piece (1 + length (waiters_of (place_in (map h xs) (key_of (held_or piece.kept (s.records piece.id)))))) (insertion_of r) t) hash
       (core_over f capacity b w a xs) (core_over f capacity b w a (slice_set xs i y))
   returns_over did = at_over f capacity b w a xs hash n i x many within place read
-      (λ s t. ReturnsAnswering m s piece (1 + length (waiters_of (place_in (map h xs) (key_of (held_or piece.kept (s.records piece.id)))))) r t) y
-      (subst (λ (o : Option (Place N R)). ReturnsAnswering m (f x) piece (1 + length (waiters_of o)) r (f y)) (sym placed) did)
+      (λ s t. ReturnsAnswering m s piece (1 + length (waiters_of (place_in (map h xs) (key_of (held_or piece.kept (s.records piece.id)))))) (insertion_of r) t) y
+      (subst (λ (o : Option (Place N R)). ReturnsAnswering m (f x) piece (1 + length (waiters_of o)) (insertion_of r) (f y)) (sym placed) did)
 
-  pub return_answers : ReturnsAnswering m (f x) piece more r (f y) → IfOk r (λ made. AnswersEach (waiters_of ((h x).places (held.hash, held.key))) made.entry made.answers)
+  pub return_answers : ReturnsAnswering m (f x) piece more (insertion_of r) (f y) → IfOk r (λ made. AnswersEach (waiters_of ((h x).places (held.hash, held.key))) made.entry made.answers)
       → IfOk r (λ made. AnswersEach (waiters_of (place_in (map h xs) (key_of made.entry.kept))) made.entry made.answers)
   return_answers did answers = under_entry held r (λ k made. AnswersEach (waiters_of (place_in (map h xs) k)) made.entry made.answers) (return_data m (f x) (f y) piece more r did)
       (subst (λ (o : Option (Place N R)). IfOk r (λ made. AnswersEach (waiters_of o) made.entry made.answers)) (sym placed) answers)
 
-  pub return_closes : ReturnsAnswering m (f x) piece more r (f y) → OnOk r (h y ≡ closed m.same (h x) (held.hash, held.key))
+  pub return_closes : ReturnsAnswering m (f x) piece more (insertion_of r) (f y) → OnOk r (h y ≡ closed m.same (h x) (held.hash, held.key))
       → IfOk r (λ made. map h (slice_set xs i y) ≡ at_hash (λ q. closed m.same q (key_of made.entry.kept)) (map h xs) hash)
   return_closes did is = on_entry held r (λ k. map h (slice_set xs i y) ≡ at_hash (λ q. closed m.same q k) (map h xs) hash) (return_data m (f x) (f y) piece more r did)
       (on_ok_weaker r (fetches_become h xs hash n i x many within place read (λ q. closed m.same q (held.hash, held.key)) y) is)

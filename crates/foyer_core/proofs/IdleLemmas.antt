@@ -7,10 +7,8 @@ use Rattle.std.proofs.lemmas.List.Elements.{All-get_or}
 use Rattle.std.proofs.lemmas.Option.{get_or_from_slice_get, slice_get_within}
 use Rattle.foyer_policy.specs.declared.types.Source.{Source}
 use Rattle.foyer_core.specs.declared.outcome.Answers.{Answers}
-use Rattle.foyer_core.specs.declared.outcome.Inserted.{Inserted}
 use Rattle.foyer_core.specs.declared.outcome.Outcome.{Outcome}
 use Rattle.foyer_core.specs.declared.outcome.Outcome.TheVariants.{Entries, Fault, None as Nothing}
-use Rattle.foyer_core.specs.declared.outcome.Refused.{Refused}
 use Rattle.foyer_core.specs.Core.{Core, AtShard, InsertsWeighed}
 use Rattle.foyer_core.specs.CoreFetches.{at_hash, place_in, replaced}
 use Rattle.foyer_core.specs.Idle.{NoneOpen}
@@ -18,7 +16,7 @@ use Rattle.foyer_core.specs.Indexer.{same_key}
 use Rattle.foyer_core.specs.Inflight.{Opens, Place, closed, no_opens, waiters_of}
 use Rattle.foyer_core.specs.Pieces.{InsertsPiece, coming_under}
 use Rattle.foyer_core.specs.State.{Meaning}
-use Rattle.foyer_core.specs.Values.{Carried, Held}
+use Rattle.foyer_core.specs.Values.{Carried, Denied, Held, Made}
 use Rattle.foyer_core.specs.Waited.{AnswersEach, entries_got, entries_in}
 use Rattle.foyer_core.proofs.CoreLemmas.{set_here, set_apart}
 
@@ -75,7 +73,7 @@ module _ {K N R : Type 0} where
   idle_handles : (fetches : List (Opens K N R)) → NoneOpen fetches → (k : ℕ × K) → 1 + length (waiters_of (place_in fetches k)) ≡ 1
   idle_handles fetches none k = ap (λ (o : Option (Place N R)). 1 + length (waiters_of o)) (none k)
 
-  module _ {V P View C S W A : Type 0} (m : Meaning K P View C) (fetches : List (Opens K N R)) (none : NoneOpen fetches) (hash : ℕ) (result : Result (Inserted K V P N) (Refused K V P)) (old new : Core K V P View S W A) where
+  module _ {V P View C S W A : Type 0} (m : Meaning K P View C) (fetches : List (Opens K N R)) (none : NoneOpen fetches) (hash : ℕ) (result : Result (Made K V P) (Denied K V P)) (old new : Core K V P View S W A) where
     pub idle_weighed : (source : Source) (weighs : ℕ → Type 0) (admits : Bool → Type 0) (key : K) (value : V) (properties : Bool → P)
         → InsertsWeighed m source weighs admits hash key value properties (1 + length (waiters_of (place_in fetches (hash, key)))) result old new
         → InsertsWeighed m source weighs admits hash key value properties 1 result old new

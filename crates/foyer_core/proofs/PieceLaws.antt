@@ -9,19 +9,17 @@ use Rattle.foyer_policy.specs.Policy.{IsPolicy}
 use Rattle.foyer_policy.specs.declared.types.Event.{Event}
 use Rattle.foyer_policy.specs.declared.types.Source.{Source}
 use Rattle.foyer_policy.specs.declared.types.Source.TheVariants.{Memory}
-use Rattle.foyer_core.specs.declared.outcome.Inserted.{Inserted}
-use Rattle.foyer_core.specs.declared.outcome.Refused.{Refused}
 use Rattle.foyer_core.specs.Core.{Core, AtShard, InsertsAnswering, shard_at}
 use Rattle.foyer_core.specs.Indexer.{same_key}
 use Rattle.foyer_core.specs.Pieces.{GainsHandles, InsertsPiece, PieceBy, ReturnsAnswering, ReturnsBy, is_in, is_known, returning}
 use Rattle.foyer_core.specs.State.{Meaning, State, IsKept, key_of, is_phantom_record}
 use Rattle.foyer_core.specs.Steps.{Inserts, InsertsBy, newcomer}
-use Rattle.foyer_core.specs.Values.{Carried, Gone, Held, Incoming, Rec}
+use Rattle.foyer_core.specs.Values.{Carried, Denied, Gone, Held, Incoming, Made, Rec}
 use Rattle.foyer_core.specs.declared.record.Data.{Data}
 use Rattle.foyer_core.proofs.CoreLaws.{Stands, came_stands}
 use Rattle.foyer_core.proofs.Keeps.{counted_there}
 
-module _ {K V P View C S W A N : Type 0} (m : Meaning K P View C) (weighs : ℕ → Type 0) (hash : ℕ) (piece : Carried K V P) (more : State K V P View → ℕ) (result : Result (Inserted K V P N) (Refused K V P))
+module _ {K V P View C S W A : Type 0} (m : Meaning K P View C) (weighs : ℕ → Type 0) (hash : ℕ) (piece : Carried K V P) (more : State K V P View → ℕ) (result : Result (Made K V P) (Denied K V P))
     (old new : Core K V P View S W A) (x : State K V P View) (there : shard_at old hash ≡ Some x) where
   same_state_of : (s : State K V P View) → shard_at old hash ≡ Some s → x ≡ s
   same_state_of s h = (let e : Some x ≡ Some s = sym there ∙ h in cc)
@@ -80,13 +78,13 @@ module _ {K V P View C : Type 0} (m : Meaning K P View C) (laws : IsEquivalence 
           let alike : c.0 ≡ r = same_rec c.0 r (sym c.1 ∙ there) in
           sym (κ.respects (key_of r.kept) k same) ∙ ap (λ (x : Rec K V P). s.index (key_of x.kept)) (sym alike) ∙ c.3
 
-  pub piece_stands : {N : Type 0} (weighs : ℕ → Type 0) (hash : ℕ) (piece : Carried K V P) (more : ℕ) (made : Inserted K V P N) → InsertsPiece m weighs hash piece more (Ok made) s t
+  pub piece_stands : (weighs : ℕ → Type 0) (hash : ℕ) (piece : Carried K V P) (more : ℕ) (made : Made K V P) → InsertsPiece m weighs hash piece more (Ok made) s t
       → is_phantom_record m made.entry.kept ≡ false → Stands m laws good made.entry.kept t
-  piece_stands {N} weighs hash piece more made h plain = go (is_known s hash piece) h where
-    known : (b : Bool) → is_in (s.records piece.id) ≡ b → ReturnsBy m b s piece more made.leaves.items made.entry t → Stands m laws good made.entry.kept t
-    known true is h = gains_stand piece.id more made.leaves.items made.entry is h
-    known false is h = inserts_stand Memory (returning s piece more) made.leaves.items made.entry h plain
+  piece_stands weighs hash piece more made h plain = go (is_known s hash piece) h where
+    known : (b : Bool) → is_in (s.records piece.id) ≡ b → ReturnsBy m b s piece more made.leaves made.entry t → Stands m laws good made.entry.kept t
+    known true is h = gains_stand piece.id more made.leaves made.entry is h
+    known false is h = inserts_stand Memory (returning s piece more) made.leaves made.entry h plain
 
     go : (b : Bool) → PieceBy m b weighs hash piece more (Ok made) s t → Stands m laws good made.entry.kept t
     go true h = known (is_in (s.records piece.id)) refl h
-    go false h = inserts_stand Memory (newcomer s (record piece.kept { hash = hash; weight = h.0 }) more) made.leaves.items made.entry h.2 plain
+    go false h = inserts_stand Memory (newcomer s (record piece.kept { hash = hash; weight = h.0 }) more) made.leaves made.entry h.2 plain

@@ -8,15 +8,13 @@ use Rattle.std.proofs.lemmas.Bool.Decides.{nat_tests}
 use Rattle.foyer_policy.specs.Policy.{IsPolicy}
 use Rattle.foyer_policy.specs.declared.types.Event.{Event}
 use Rattle.foyer_policy.specs.declared.types.Source.TheVariants.{Memory}
-use Rattle.foyer_core.specs.declared.outcome.Inserted.{Inserted}
-use Rattle.foyer_core.specs.declared.outcome.Refused.{Refused}
 use Rattle.foyer_core.specs.declared.record.Data.{Data}
 use Rattle.foyer_core.specs.Indexer.{same_key}
 use Rattle.foyer_core.specs.Observed.{after_entry, after_leaves}
 use Rattle.foyer_core.specs.Pieces.{GainsHandles, InsertsPiece, PieceBy, RefusesReturnBy, ReturnsBy, held_or, is_in, is_known, returning}
 use Rattle.foyer_core.specs.State.{Meaning, State, IsKept, AllData, key_of, is_phantom_record}
 use Rattle.foyer_core.specs.Steps.{Inserts, InsertsBy, RefusesInsert, newcomer}
-use Rattle.foyer_core.specs.Values.{Carried, Gone, Held, Incoming, Rec}
+use Rattle.foyer_core.specs.Values.{Carried, Denied, Gone, Held, Incoming, Made, Rec}
 use Rattle.foyer_core.proofs.InsertTold.{ToldWith, inserts_told, refuses_told}
 use Rattle.foyer_core.proofs.Observing.{BelongsAt, Tells, tells_same, write_apart, write_knows}
 use Rattle.foyer_core.proofs.ShardTold.{Stands, ToldBy, refused_handles_index, same_told, stands}
@@ -45,15 +43,15 @@ module _ {K V P View C : Type 0} (m : Meaning K P View C) (laws : IsEquivalence 
       go false h = subst At (sym (ap (λ (e : Held K V P). e.kept) h.entry_is)) comes
 
     -- so does the entry's
-    pub piece_at : {N : Type 0} (weighs : ℕ → Type 0) (made : Inserted K V P N) (t : State K V P View) → InsertsPiece m weighs (hash piece.kept.key) piece more (Ok made) s t → At made.entry.kept
-    piece_at {N} weighs made t h = go (is_known s (hash piece.kept.key) piece) refl h where
-      known : (b : Bool) → is_known s (hash piece.kept.key) piece ≡ true → ReturnsBy m b s piece more made.leaves.items made.entry t → At made.entry.kept
+    pub piece_at : (weighs : ℕ → Type 0) (made : Made K V P) (t : State K V P View) → InsertsPiece m weighs (hash piece.kept.key) piece more (Ok made) s t → At made.entry.kept
+    piece_at weighs made t h = go (is_known s (hash piece.kept.key) piece) refl h where
+      known : (b : Bool) → is_known s (hash piece.kept.key) piece ≡ true → ReturnsBy m b s piece more made.leaves made.entry t → At made.entry.kept
       known true is h = subst At (sym (ap (λ (e : Held K V P). e.kept) h.entry_is)) (at piece.id h.rec h.there)
-      known false is h = inserted_at (returning s piece more) made.leaves.items made.entry t (returning_at is) h
+      known false is h = inserted_at (returning s piece more) made.leaves made.entry t (returning_at is) h
 
       go : (b : Bool) → is_known s (hash piece.kept.key) piece ≡ b → PieceBy m b weighs (hash piece.kept.key) piece more (Ok made) s t → At made.entry.kept
       go true is h = known (is_in (s.records piece.id)) is h
-      go false is h = inserted_at (newcomer s (record piece.kept { hash = hash piece.kept.key; weight = h.0 }) more) made.leaves.items made.entry t (here, refl) h.2
+      go false is h = inserted_at (newcomer s (record piece.kept { hash = hash piece.kept.key; weight = h.0 }) more) made.leaves made.entry t (here, refl) h.2
 
     module _ (kept : ∥ IsKept m s ∥₁) (t : State K V P View) where
       -- a record that gains a handle is known under its key
@@ -82,33 +80,33 @@ module _ {K V P View C : Type 0} (m : Meaning K P View C) (laws : IsEquivalence 
             go false same = refl
 
       -- what an insert tells, and a refused one
-      pub made_told : {N : Type 0} (weighs : ℕ → Type 0) (made : Inserted K V P N) → InsertsPiece m weighs (hash piece.kept.key) piece more (Ok made) s t
-          → ToldWith m laws good hash equal many place s made.leaves.items made.entry.id made.entry.kept t
-      made_told {N} weighs made h = go (is_known s (hash piece.kept.key) piece) refl h where
-        comes : (inc : Incoming K V P) → At inc.kept → Inserts m Memory s inc made.leaves.items made.entry t → ToldWith m laws good hash equal many place s made.leaves.items made.entry.id made.entry.kept t
-        comes inc own h = inserts_told m laws good hash equal many place Memory s inc made.leaves.items made.entry t kept at own h
+      pub made_told : (weighs : ℕ → Type 0) (made : Made K V P) → InsertsPiece m weighs (hash piece.kept.key) piece more (Ok made) s t
+          → ToldWith m laws good hash equal many place s made.leaves made.entry.id made.entry.kept t
+      made_told weighs made h = go (is_known s (hash piece.kept.key) piece) refl h where
+        comes : (inc : Incoming K V P) → At inc.kept → Inserts m Memory s inc made.leaves made.entry t → ToldWith m laws good hash equal many place s made.leaves made.entry.id made.entry.kept t
+        comes inc own h = inserts_told m laws good hash equal many place Memory s inc made.leaves made.entry t kept at own h
 
-        known : (b : Bool) → is_in (s.records piece.id) ≡ b → is_known s (hash piece.kept.key) piece ≡ true → ReturnsBy m b s piece more made.leaves.items made.entry t
-            → ToldWith m laws good hash equal many place s made.leaves.items made.entry.id made.entry.kept t
-        known true inside is h = gains_told piece.id more made.leaves.items made.entry inside h
+        known : (b : Bool) → is_in (s.records piece.id) ≡ b → is_known s (hash piece.kept.key) piece ≡ true → ReturnsBy m b s piece more made.leaves made.entry t
+            → ToldWith m laws good hash equal many place s made.leaves made.entry.id made.entry.kept t
+        known true inside is h = gains_told piece.id more made.leaves made.entry inside h
         known false inside is h = comes (returning s piece more) (returning_at is) h
 
         go : (b : Bool) → is_known s (hash piece.kept.key) piece ≡ b → PieceBy m b weighs (hash piece.kept.key) piece more (Ok made) s t
-            → ToldWith m laws good hash equal many place s made.leaves.items made.entry.id made.entry.kept t
+            → ToldWith m laws good hash equal many place s made.leaves made.entry.id made.entry.kept t
         go true is h = known (is_in (s.records piece.id)) refl is h
         go false is h = comes (newcomer s (record piece.kept { hash = hash piece.kept.key; weight = h.0 }) more) (here, refl) h.2
 
-      pub refused_piece_told : (N : Type 0) (weighs : ℕ → Type 0) (refused : Refused K V P) → InsertsPiece m {N = N} weighs (hash piece.kept.key) piece more (Err refused) s t
-          → ToldBy m laws good hash equal many place s refused.leaves.items t
-      refused_piece_told N weighs refused h = go (is_known s (hash piece.kept.key) piece) h where
-        stays : (inc : Incoming K V P) → RefusesInsert m s inc refused.error refused.leaves.items t → ToldBy m laws good hash equal many place s refused.leaves.items t
-        stays inc h = refuses_told m laws good hash equal many place s inc refused.leaves.items t kept at refused.error h
+      pub refused_piece_told : (weighs : ℕ → Type 0) (denied : Denied K V P) → InsertsPiece m weighs (hash piece.kept.key) piece more (Err denied) s t
+          → ToldBy m laws good hash equal many place s denied.leaves t
+      refused_piece_told weighs denied h = go (is_known s (hash piece.kept.key) piece) h where
+        stays : (inc : Incoming K V P) → RefusesInsert m s inc denied.reason denied.leaves t → ToldBy m laws good hash equal many place s denied.leaves t
+        stays inc h = refuses_told m laws good hash equal many place s inc denied.leaves t kept at denied.reason h
 
-        known : (b : Bool) → RefusesReturnBy m b s piece more refused.error refused.leaves.items t → ToldBy m laws good hash equal many place s refused.leaves.items t
+        known : (b : Bool) → RefusesReturnBy m b s piece more denied.reason denied.leaves t → ToldBy m laws good hash equal many place s denied.leaves t
         known true h = subst (λ (l : List (Event × Gone K V P)). ToldBy m laws good hash equal many place s l t) (sym h.0)
-            (same_told m laws good hash equal many place s t (refused_handles_index s piece.id more refused.error t h.1))
+            (same_told m laws good hash equal many place s t (refused_handles_index s piece.id more denied.reason t h.1))
         known false h = stays (returning s piece more) h
 
-        go : (b : Bool) → PieceBy m {N = N} b weighs (hash piece.kept.key) piece more (Err refused) s t → ToldBy m laws good hash equal many place s refused.leaves.items t
+        go : (b : Bool) → PieceBy m b weighs (hash piece.kept.key) piece more (Err denied) s t → ToldBy m laws good hash equal many place s denied.leaves t
         go true h = known (is_in (s.records piece.id)) h
         go false h = stays (newcomer s (record piece.kept { hash = hash piece.kept.key; weight = h.0 }) more) h.2

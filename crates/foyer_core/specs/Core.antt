@@ -5,12 +5,10 @@ use Rattle.foyer_policy.specs.declared.error.Reason.{Reason}
 use Rattle.foyer_policy.specs.declared.error.Reason.TheVariants.{NoShards}
 use Rattle.foyer_policy.specs.declared.types.Source.{Source}
 use Rattle.foyer_core.specs.declared.config.RawCacheConfig.{RawCacheConfig}
-use Rattle.foyer_core.specs.declared.outcome.Inserted.{Inserted}
-use Rattle.foyer_core.specs.declared.outcome.Refused.{Refused}
 use Rattle.foyer_core.specs.declared.record.Limits.{Limits}
 use Rattle.foyer_core.specs.State.{Meaning, State, AllData, hit, handles_of, handles_in, usage_of}
 use Rattle.foyer_core.specs.Steps.{Inserts, RefusesInsert, IsOutdated, newcomer}
-use Rattle.foyer_core.specs.Values.{Held, Incoming, Rec}
+use Rattle.foyer_core.specs.Values.{Denied, Held, Incoming, Made, Rec}
 
 -- a core: its capacity, what gives its keys their hashes and its records their weights, what admits them, and its
 -- shards
@@ -117,15 +115,15 @@ module _ {K V P View C : Type 0} (m : Meaning K P View C) where
     pub shards_are : AreNewShards config config.shards core.shards
 
   -- what an insert makes of its shard, and answers
-  abbrev pub InsertsAnswering : {N : Type 0} → Source → State K V P View → Incoming K V P → Result (Inserted K V P N) (Refused K V P) → State K V P View → Type 0
-  InsertsAnswering source old i (Ok made) new = Inserts m source old i made.leaves.items made.entry new
-  InsertsAnswering source old i (Err refused) new = RefusesInsert m old i refused.error refused.leaves.items new
+  abbrev pub InsertsAnswering : Source → State K V P View → Incoming K V P → Result (Made K V P) (Denied K V P) → State K V P View → Type 0
+  InsertsAnswering source old i (Ok made) new = Inserts m source old i made.leaves made.entry new
+  InsertsAnswering source old i (Err denied) new = RefusesInsert m old i denied.reason denied.leaves new
 
   -- An insert of a record in the shard of its hash, with a weight that the weighter may give it, and an answer that
   -- the filter may give: `properties` says what its properties are with that answer. It gets so many handles, and its
   -- entry has this source.
-  pub record InsertsWeighed {S W A N : Type 0} (source : Source) (weighs : ℕ → Type 0) (admits : Bool → Type 0) (hash : ℕ) (key : K) (value : V) (properties : Bool → P) (handles : ℕ)
-      (result : Result (Inserted K V P N) (Refused K V P)) (old new : Core K V P View S W A) : Type 0 where
+  pub record InsertsWeighed {S W A : Type 0} (source : Source) (weighs : ℕ → Type 0) (admits : Bool → Type 0) (hash : ℕ) (key : K) (value : V) (properties : Bool → P) (handles : ℕ)
+      (result : Result (Made K V P) (Denied K V P)) (old new : Core K V P View S W A) : Type 0 where
     pub weight : ℕ
     pub weighed : weighs weight
     pub admitted : Bool

@@ -3,13 +3,11 @@ use Rattle.std.specs.Prelude.{◌≡◌, ℕ, Bool, ◌+◌, ◌≤◌, ◌==◌
 use Rattle.foyer_policy.specs.declared.types.Event.{Event}
 use Rattle.foyer_policy.specs.declared.types.Source.TheVariants.{Memory}
 use Rattle.foyer_policy.specs.declared.error.Reason.{Reason}
-use Rattle.foyer_core.specs.declared.outcome.Inserted.{Inserted}
-use Rattle.foyer_core.specs.declared.outcome.Refused.{Refused}
 use Rattle.foyer_core.specs.declared.record.Data.{Data}
 use Rattle.foyer_core.specs.Core.{InsertsAnswering}
 use Rattle.foyer_core.specs.State.{Meaning, State, handles_in, key_of}
 use Rattle.foyer_core.specs.Steps.{Inserts, RefusesInsert, RefusesHandles, after_handles, entry_of, newcomer}
-use Rattle.foyer_core.specs.Values.{Carried, Gone, Held, Incoming, Rec}
+use Rattle.foyer_core.specs.Values.{Carried, Denied, Gone, Held, Incoming, Made, Rec}
 
 -- A shard knows a piece whose key has this hash: the piece has its core's number, its hash is that hash, and its
 -- id was given.
@@ -62,16 +60,16 @@ module _ {K V P View C : Type 0} (m : Meaning K P View C) where
   RefusesReturn old piece more reason ls new = RefusesReturnBy (is_in (old.records piece.id)) old piece more reason ls new
 
   -- what an insert of a known piece answers
-  abbrev pub ReturnsAnswering : {N : Type 0} → State K V P View → Carried K V P → ℕ → Result (Inserted K V P N) (Refused K V P) → State K V P View → Type 0
-  ReturnsAnswering old piece more (Ok made) new = Returns old piece more made.leaves.items made.entry new
-  ReturnsAnswering old piece more (Err refused) new = RefusesReturn old piece more refused.error refused.leaves.items new
+  abbrev pub ReturnsAnswering : State K V P View → Carried K V P → ℕ → Result (Made K V P) (Denied K V P) → State K V P View → Type 0
+  ReturnsAnswering old piece more (Ok made) new = Returns old piece more made.leaves made.entry new
+  ReturnsAnswering old piece more (Err denied) new = RefusesReturn old piece more denied.reason denied.leaves new
 
   -- What an insert of a piece answers, whose key has this hash, with so many handles: one that the shard knows stands
   -- for its record, and any other makes a new record, with a weight that the weighter may give it.
-  abbrev pub PieceBy : {N : Type 0} → Bool → (ℕ → Type 0) → ℕ → Carried K V P → ℕ → Result (Inserted K V P N) (Refused K V P) → State K V P View → State K V P View → Type 0
+  abbrev pub PieceBy : Bool → (ℕ → Type 0) → ℕ → Carried K V P → ℕ → Result (Made K V P) (Denied K V P) → State K V P View → State K V P View → Type 0
   PieceBy true weighs hash piece more result old new = ReturnsAnswering old piece more result new
   PieceBy false weighs hash piece more result old new =
       (weight : ℕ) × weighs weight × InsertsAnswering m Memory old (newcomer old (record piece.kept { hash = hash; weight = weight }) more) result new
 
-  abbrev pub InsertsPiece : {N : Type 0} → (ℕ → Type 0) → ℕ → Carried K V P → ℕ → Result (Inserted K V P N) (Refused K V P) → State K V P View → State K V P View → Type 0
+  abbrev pub InsertsPiece : (ℕ → Type 0) → ℕ → Carried K V P → ℕ → Result (Made K V P) (Denied K V P) → State K V P View → State K V P View → Type 0
   InsertsPiece weighs hash piece more result old new = PieceBy (is_known old hash piece) weighs hash piece more result old new

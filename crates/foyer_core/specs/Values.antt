@@ -1,5 +1,7 @@
 -- What contracts see of a record, a slot, an entry and a leave.
-use Rattle.std.specs.Prelude.{ℕ, Bool, Option}
+use Rattle.std.specs.Prelude.{ℕ, Bool, List, Option}
+use Rattle.foyer_policy.specs.declared.error.Reason.{Reason}
+use Rattle.foyer_policy.specs.declared.types.Event.{Event}
 use Rattle.foyer_policy.specs.declared.types.Hint.{Hint}
 use Rattle.foyer_policy.specs.declared.types.Source.{Source}
 use Rattle.foyer_core.specs.declared.record.Data.{Data}
@@ -59,6 +61,16 @@ pub record Carried (K V P : Type 0) : Type 0 where
   pub number : ℕ
   pub id : ℕ
   pub kept : Data K V P
+
+-- what an insert answers that is not refused: an entry of the record, and what left
+pub record Made (K V P : Type 0) : Type 0 where
+  pub entry : Held K V P
+  pub leaves : List (Event × Gone K V P)
+
+-- what a refused insert answers: why, and what had left by then
+pub record Denied (K V P : Type 0) : Type 0 where
+  pub reason : Reason
+  pub leaves : List (Event × Gone K V P)
 
 -- what a shard holds under an id: the data, how many handles there are, and whether it is in the index
 pub record Rec (K V P : Type 0) : Type 0 where

@@ -4,11 +4,24 @@ use Rattle.foyer_policy.specs.declared.error.Reason.{Reason}
 use Rattle.foyer_policy.specs.declared.types.Event.{Event}
 use Rattle.foyer_core.specs.declared.outcome.Answers.{Answers}
 use Rattle.foyer_core.specs.declared.outcome.Ended.{Ended}
+use Rattle.foyer_core.specs.declared.outcome.Inserted.{Inserted}
 use Rattle.foyer_core.specs.declared.outcome.Outcome.{Outcome}
 use Rattle.foyer_core.specs.declared.outcome.Outcome.TheVariants.{Entries, Fault, None as Nothing}
+use Rattle.foyer_core.specs.declared.outcome.Refused.{Refused}
 use Rattle.foyer_core.specs.declared.outcome.Waiting.{Waiting}
 use Rattle.foyer_core.specs.Inflight.{Opens, waiters_of}
-use Rattle.foyer_core.specs.Values.{Gone, Held}
+use Rattle.foyer_core.specs.Values.{Denied, Gone, Held, Made}
+
+-- what contracts see of an insert's answer, beside those who wait
+abbrev pub made_of : {K V P N : Type 0} → Inserted K V P N → Made K V P
+made_of made = record { entry = made.entry; leaves = made.leaves.items }
+
+abbrev pub denied_of : {K V P : Type 0} → Refused K V P → Denied K V P
+denied_of refused = record { reason = refused.error; leaves = refused.leaves.items }
+
+abbrev pub insertion_of : {K V P N : Type 0} → Result (Inserted K V P N) (Refused K V P) → Result (Made K V P) (Denied K V P)
+insertion_of (Ok made) = Ok (made_of made)
+insertion_of (Err refused) = Err (denied_of refused)
 
 -- the entries that are handed out, where there are to be some
 abbrev pub entries_in : {K V P : Type 0} → Outcome K V P → Option (List (Held K V P))

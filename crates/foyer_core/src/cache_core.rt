@@ -9,7 +9,7 @@ ghost use Rattle.foyer_core.specs.Core.{AreHashed, AreSums, Belong};
 ghost use Rattle.foyer_core.specs.Idle.{NoneOpen};
 ghost use Rattle.foyer_core.specs.Inflight.{closed, no_opens, waiters_of};
 ghost use Rattle.foyer_core.specs.Shards.{state_of};
-ghost use Rattle.foyer_core.specs.Waited.{AnswersEach};
+ghost use Rattle.foyer_core.specs.Waited.{AnswersEach, insertion_of};
 ghost use Rattle.foyer_core.specs.State.{IsAdmitted, MakesPlain, coming_in};
 ghost use Rattle.foyer_core.specs.Stored.{meaning};
 
@@ -225,7 +225,7 @@ impl<
             (p : P) × P.is_default p
             × InsertsWeighed (meaning_of_core self.old) Outer (W.weighs (core_of self.old).weighter key value) (A.admits (core_of self.old).filter key value)
             hash key value (λ admitted. coming_in P.location_of P.with_phantom_of admitted p)
-            (1 + length (waiters_of (place_in (fetches_of self.old) (hash, key)))) result (core_of self.old) (core_of self.new) }
+            (1 + length (waiters_of (place_in (fetches_of self.old) (hash, key)))) (insertion_of result) (core_of self.old) (core_of self.new) }
         ensures answers { let hash = S.hash_of (core_of self.old).hash_builder (K.hash_input key) in
             IfOk result (λ made. AnswersEach (waiters_of (place_in (fetches_of self.old) (hash, key))) made.entry made.answers) }
         ensures closed { let hash = S.hash_of (core_of self.old).hash_builder (K.hash_input key) in
@@ -270,7 +270,7 @@ impl<
         ensures inserted { let hash = S.hash_of (core_of self.old).hash_builder (K.hash_input key) in
             InsertsWeighed (meaning_of_core self.old) Outer (W.weighs (core_of self.old).weighter key value) (A.admits (core_of self.old).filter key value)
             hash key value (λ admitted. coming_in P.location_of P.with_phantom_of admitted properties)
-            (1 + length (waiters_of (place_in (fetches_of self.old) (hash, key)))) result (core_of self.old) (core_of self.new) }
+            (1 + length (waiters_of (place_in (fetches_of self.old) (hash, key)))) (insertion_of result) (core_of self.old) (core_of self.new) }
         ensures answers { let hash = S.hash_of (core_of self.old).hash_builder (K.hash_input key) in
             IfOk result (λ made. AnswersEach (waiters_of (place_in (fetches_of self.old) (hash, key))) made.entry made.answers) }
         ensures closed { let hash = S.hash_of (core_of self.old).hash_builder (K.hash_input key) in

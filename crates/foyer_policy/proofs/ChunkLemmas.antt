@@ -1,10 +1,10 @@
 -- A list as chunks of one length, and a list that is halved chunk by chunk.
-use Rattle.std.proofs.Common.{◌≡◌, ℕ, zero, suc, ◌+◌, ◌-◌, ◌*◌, ◌/◌, ◌<◌, ◌≤◌, List, [], ◌∷◌, ◌++◌, length, map, take, drop, get_or, set, replicate, refl, sym, ◌∙◌, ap, subst, arith, append_assoc, length-append}
+use Rattle.std.proofs.Common.{◌≡◌, ℕ, zero, suc, ◌+◌, ◌-◌, ◌*◌, ◌<◌, ◌≤◌, List, [], ◌∷◌, ◌++◌, length, map, take, drop, get_or, set, replicate, refl, sym, ◌∙◌, ap, arith, append_assoc, length-append}
 use Rattle.std.specs.Simd.{first_chunks}
 use Rattle.std.specs.Simd.Lanes.{chunk, put_chunk}
 use Rattle.std.proofs.Math.Seq.{take-set-lt, take-suc-set, drop-cons}
 use Rattle.std.proofs.lemmas.List.{take-set-le, length-take-le, drop-set-lt, drop-set-add, drop-drop, take-map, drop-map, take-replicate, drop-replicate, map-append, take_all, drop_all, drop_at, append-nil, length-map}
-use Rattle.std.proofs.lemmas.Simd.{length-chunk, get_or-chunk, take_more_put_chunk, put_chunk_is, chunk-drop, length-put_chunk}
+use Rattle.std.proofs.lemmas.Simd.{length-chunk, get_or-chunk, take_more_put_chunk, put_chunk_is, chunk-drop}
 
 module _ {X : Type 0} (n : ℕ) where
   pub length-first_chunks : (k : ℕ) (xs : List X) → length (first_chunks n k xs) ≡ k

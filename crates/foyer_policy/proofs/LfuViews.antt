@@ -1,25 +1,24 @@
 -- What each call of an `Lfu` makes of its lists is what the model makes of its view.
-use Rattle.std.proofs.Common.{◌≡◌, ◌≢◌, ℕ, zero, suc, ◌+◌, ◌-◌, ◌^◌, ◌<◌, ◌≤◌, Bool, true, false, cond, List, [], ◌∷◌, ◌++◌, Option, Some, None, length, map, get_or, set, refl, sym, ◌∙◌, ap, subst, arith, append_assoc}
-use Rattle.std.specs.Prelude.{◌==◌, is_some}
+use Rattle.std.proofs.Common.{◌≡◌, ◌≢◌, ℕ, zero, suc, ◌+◌, ◌-◌, ◌^◌, ◌<◌, ◌≤◌, Bool, true, false, cond, List, [], ◌∷◌, ◌++◌, Option, Some, None, length, map, set, refl, sym, ◌∙◌, ap, subst, arith}
+use Rattle.std.specs.Prelude.{◌==◌}
 use Rattle.std.proofs.lemmas.Bool.Decides.{nat_tests}
 use Rattle.std.proofs.lemmas.List.{map-append, append-nil, get_or-set_same, get_or-set_other}
 use Rattle.std.proofs.lemmas.List.Sums.{sum_by-append, sum_by-cons}
 use Rattle.std.proofs.lemmas.List.Sorted.{sum_by-IsPermutation, IsPermutation-to_front}
 use Rattle.std.specs.List.Sorted.{IsPermutation}
-use Rattle.std.proofs.Math.ListN.{get_or-map, length-map}
+use Rattle.std.proofs.Math.ListN.{get_or-map}
 use Rattle.foyer_policy.specs.Items.{weight_of, IsNewIn, HasIdsOnce, remove_id, find_id, fit, over}
 use Rattle.foyer_policy.specs.ItemLaws.{one_if, sum-remove_id, once-remove_id, once-snoc}
-use Rattle.foyer_policy.specs.Lfu.{LfuView, settle_window, settle_protected, seen, used, lfu}
+use Rattle.foyer_policy.specs.Lfu.{LfuView, seen, lfu}
 use Rattle.foyer_policy.specs.LfuLaws.{with_lists, lfu_lawful}
 use Rattle.foyer_policy.specs.LfuLists.{items_in, IsLfu}
-use Rattle.foyer_policy.specs.Lists.{list_at, find, find_in, first_value, rest, drop_place, moved, flat, AreLists}
+use Rattle.foyer_policy.specs.Lists.{list_at, find, find_in, drop_place, moved, flat, AreLists}
 use Rattle.foyer_policy.specs.PartLaws.{find_id-front, find_id-back, find_id-other_part, once-front, once-back}
 use Rattle.foyer_policy.specs.Policy.{without}
-use Rattle.foyer_policy.specs.Sketch.{counting}
 use Rattle.foyer_policy.specs.declared.types.Item.{Item}
 use Rattle.foyer_policy.proofs.FlatLemmas.{find_in-flat, flat-drop_place, IsDistinct-flat}
 use Rattle.foyer_policy.proofs.ItemPlaces.{item_at, items-drop_place, item_at-drop_place, find_id-found}
-use Rattle.foyer_policy.proofs.ListsLemmas.{three, find-at, find-mid, found_here, pop-some, moved-own, moved-here, moved-there, moved-other}
+use Rattle.foyer_policy.proofs.ListsLemmas.{three, find-at, moved-own, moved-here, moved-there, moved-other}
 use Rattle.foyer_policy.proofs.PlaceLemmas.{Split, split, drop_place-free}
 
 abbrev self_item : Item → Item

@@ -1,5 +1,5 @@
 -- All looks of a lawful policy are paid for by victims and acquires.
-use Rattle.std.proofs.Common.{◌≡◌, ℕ, ◌+◌, ◌≤◌, List, [], ◌∷◌, Option, Some, None, refl, arith}
+use Rattle.std.proofs.Common.{◌≡◌, ◌+◌, ◌≤◌, List, [], ◌∷◌, Option, Some, None, refl, arith}
 use Rattle.foyer_policy.specs.Policy.{Policy, IsPolicy, view_or}
 use Rattle.foyer_policy.specs.Looks.{Call, Push, Pop, Remove, Acquire, Release, Update, Clear, after_call, call_looks, call_pays, one_if_some, all_looks, victims_and_acquires, LooksArePaid}
 use Rattle.foyer_policy.specs.declared.types.Item.{Item}

@@ -1,12 +1,12 @@
 -- What the calls of an S3-FIFO leave of its nodes, as the view has it.
-use Rattle.std.proofs.Common.{◌≡◌, ◌≢◌, ℕ, zero, suc, ◌+◌, ◌-◌, ◌<◌, ◌≤◌, Bool, true, false, cond, List, [], ◌∷◌, ◌++◌, Option, Some, None, length, map, refl, sym, ◌∙◌, ap, subst, arith, rules, append_assoc, get_or, set, IsSome, inl, inr}
-use Rattle.std.specs.Prelude.{◌==◌, ◌⊎◌, not, sum_by, is_some, min}
+use Rattle.std.proofs.Common.{◌≡◌, ◌≢◌, ℕ, zero, suc, ◌+◌, ◌<◌, Bool, true, false, List, [], ◌∷◌, ◌++◌, Option, Some, None, map, refl, sym, ◌∙◌, ap, subst, arith, set, inl, inr}
+use Rattle.std.specs.Prelude.{◌==◌, ◌⊎◌, not, min}
 use Rattle.std.proofs.lemmas.Bool.Decides.{nat_tests}
 use Rattle.std.proofs.lemmas.List.{get_or-set_same, get_or-set_other}
 use Rattle.std.proofs.lemmas.List.Sums.{sum_by-cons, sum_by-append}
-use Rattle.foyer_policy.specs.Lists.{list_at, find, drop_place, with_value, flat, AreLists}
-use Rattle.foyer_policy.specs.Items.{HasIdsOnce, IsNewIn, count_of, weight_of, remove_id, find_id}
-use Rattle.foyer_policy.specs.ItemLaws.{one_if, new-head, new-tail, once-head, once-tail, once-remove_id, once-snoc}
+use Rattle.foyer_policy.specs.Lists.{list_at, find, drop_place, with_value, AreLists}
+use Rattle.foyer_policy.specs.Items.{HasIdsOnce, IsNewIn, count_of, weight_of, find_id}
+use Rattle.foyer_policy.specs.ItemLaws.{new-head, new-tail, once-head, once-tail, once-remove_id, once-snoc}
 use Rattle.foyer_policy.specs.PartLaws.{find_id-one_part}
 use Rattle.foyer_policy.specs.GhostQueue.{Ghost}
 use Rattle.foyer_policy.specs.S3Fifo.{Entry, Setting, S3FifoView, items, remove_entry, use_entry, s3fifo}
@@ -17,7 +17,7 @@ use Rattle.foyer_policy.specs.declared.types.Item.{Item}
 use Rattle.foyer_policy.proofs.ListsLemmas.{stands, write-here, write-other, drop-here, drop-other}
 use Rattle.foyer_policy.proofs.PlaceLemmas.{same_place}
 use Rattle.foyer_policy.proofs.NodeLemmas.{find_id-placed}
-use Rattle.foyer_policy.proofs.S3FifoNodes.{item_of, entries-append, count-append, count-cons, are_in-append, are_in-left, are_in-right, order-flat, once-flat}
+use Rattle.foyer_policy.proofs.S3FifoNodes.{item_of, entries-append, count-append, are_in-append, are_in-left, are_in-right, order-flat, once-flat}
 
 once-left : (xs ys : List Item) → HasIdsOnce (xs ++ ys) → HasIdsOnce xs
 once-left xs ys h id = omega (arith, h id, count-append id xs ys)

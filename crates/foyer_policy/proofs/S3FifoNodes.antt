@@ -1,11 +1,10 @@
 -- The nodes of an S3-FIFO: what a call on the front of a queue leaves.
-use Rattle.std.proofs.Common.{◌≡◌, ◌≢◌, ℕ, zero, suc, ◌+◌, ◌-◌, ◌*◌, ◌<◌, ◌≤◌, Bool, true, false, cond, List, [], ◌∷◌, ◌++◌, Option, Some, None, length, map, refl, sym, ◌∙◌, ap, subst, arith, rules, length-append, append_assoc, append-nil, get_or, set, IsSome, IfSome}
-use Rattle.std.specs.Prelude.{◌==◌, sum_by}
-use Rattle.std.specs.Option.{option_map}
+use Rattle.std.proofs.Common.{◌≡◌, ℕ, ◌+◌, ◌*◌, ◌≤◌, Bool, true, false, List, [], ◌∷◌, ◌++◌, Option, Some, None, length, map, refl, sym, ◌∙◌, ap, subst, arith, rules, length-append, append_assoc, append-nil, set, IsSome}
+use Rattle.std.specs.Prelude.{sum_by}
 use Rattle.std.proofs.lemmas.List.{map-append, get_or-set_same, length-map}
 use Rattle.std.proofs.lemmas.List.Sums.{sum_by-cons, sum_by-append}
 use Rattle.foyer_policy.specs.Lists.{list_at, find, first_or, first_value, rest, drop_place, with_value, moved, flat, AreLists}
-use Rattle.foyer_policy.specs.Items.{HasIdsOnce, count_of, remove_id, find_id}
+use Rattle.foyer_policy.specs.Items.{HasIdsOnce, count_of}
 use Rattle.foyer_policy.specs.ItemLaws.{one_if}
 use Rattle.foyer_policy.specs.Policy.{without}
 use Rattle.foyer_policy.specs.S3Fifo.{Entry, items, frequencies}
@@ -17,7 +16,7 @@ use Rattle.foyer_policy.proofs.ListsLemmas.{two, find-mid, pop-some, write-here,
 use Rattle.foyer_policy.proofs.FlatLemmas.{length-flat}
 use Rattle.foyer_policy.proofs.FoundLemmas.{AreLists-write}
 use Rattle.foyer_policy.proofs.PlaceLemmas.{begins}
-use Rattle.foyer_policy.proofs.NodeLemmas.{placed-out, placed-write, find_id-placed}
+use Rattle.foyer_policy.proofs.NodeLemmas.{placed-out, placed-write}
 
 abbrev pub item_of : Node → Item
 item_of n = n.item

@@ -1,8 +1,8 @@
 -- One look of S3-FIFO at the front of its main queue changes nothing of what main gives.
-use Rattle.std.proofs.Common.{◌≡◌, ℕ, zero, suc, ◌+◌, ◌-◌, ◌*◌, ◌≤◌, ◌<◌, List, [], ◌∷◌, ◌++◌, Option, Some, None, length, map, refl, sym, ◌∙◌, ap, subst, arith, append_assoc, append-nil, length-append}
+use Rattle.std.proofs.Common.{◌≡◌, ℕ, zero, suc, ◌+◌, ◌-◌, ◌*◌, ◌≤◌, ◌<◌, List, [], ◌∷◌, ◌++◌, Option, Some, length, refl, sym, ◌∙◌, ap, subst, arith, append_assoc, append-nil, length-append}
 use Rattle.std.proofs.lemmas.List.{map-append}
-use Rattle.foyer_policy.specs.S3Fifo.{Entry, frequencies, least_of, lowered, MainTurn, main_turn, main_looks}
-use Rattle.foyer_policy.specs.S3FifoTurns.{AtLeast, weaker, at_least-append, Least, least-split, turn-is, looks-is, frequencies-append, frequencies-cons}
+use Rattle.foyer_policy.specs.S3Fifo.{Entry, frequencies, lowered, MainTurn, main_turn, main_looks}
+use Rattle.foyer_policy.specs.S3FifoTurns.{AtLeast, weaker, at_least-append, least-split, turn-is, looks-is, frequencies-append, frequencies-cons}
 use Rattle.foyer_policy.specs.declared.types.Item.{Item}
 
 -- an entry with its frequency lowered by one

@@ -1,11 +1,6 @@
 -- Lists of items: what the first of a list and a move of it leave.
-use Rattle.std.proofs.Common.{◌≡◌, ◌≢◌, ℕ, ◌+◌, ◌<◌, ◌≤◌, Bool, true, false, cond, List, [], ◌∷◌, ◌++◌, Option, Some, None, length, map, set, refl, sym, ◌∙◌, ap, arith, append_assoc, sum_by}
-use Rattle.std.specs.Prelude.{nat_le}
-use Rattle.std.proofs.lemmas.List.{map-append, append-nil}
-use Rattle.std.proofs.lemmas.List.Sums.{sum_by-cons}
-use Rattle.foyer_policy.specs.Items.{weight_of, fit, over}
-use Rattle.foyer_policy.specs.FitLaws.{fit-more, over-more, fit-le, over-le}
-use Rattle.foyer_policy.specs.LfuLists.{items_in}
+use Rattle.std.proofs.Common.{◌≡◌, ◌≢◌, ℕ, ◌<◌, List, [], ◌∷◌, ◌++◌, Some, None, length, map, set, refl, sym, ◌∙◌, ap, arith}
+use Rattle.foyer_policy.specs.Items.{weight_of}
 use Rattle.foyer_policy.specs.Lists.{list_at, find, find_in, first_or, first_value, rest, drop_place, moved, AreLists}
 use Rattle.foyer_policy.specs.declared.types.Item.{Item}
 use Rattle.foyer_policy.proofs.PlaceLemmas.{Begins, begins}

@@ -1,21 +1,21 @@
 -- What the calls of a Sieve leave of its nodes, as the view has it.
-use Rattle.std.proofs.Common.{◌≡◌, ◌≢◌, ℕ, zero, suc, ◌+◌, ◌<◌, ◌≤◌, Bool, true, false, cond, List, [], ◌∷◌, ◌++◌, Option, Some, None, length, map, set, refl, sym, ◌∙◌, ap, subst, arith, rules, append-nil, IsSome, IfSome}
+use Rattle.std.proofs.Common.{◌≡◌, ◌≢◌, ℕ, zero, suc, Bool, true, false, cond, List, [], ◌∷◌, ◌++◌, Option, Some, None, length, map, set, refl, sym, ◌∙◌, ap, arith, rules, append-nil, IsSome, IfSome}
 use Rattle.std.specs.Prelude.{◌==◌, is_some}
 use Rattle.std.specs.Option.{option_map, unwrap_or}
 use Rattle.std.proofs.lemmas.Bool.Decides.{nat_tests}
-use Rattle.foyer_policy.specs.Lists.{Lists, list_at, find, find_in, first_or, first_value, rest, drop_place, with_value, flat, AreLists}
+use Rattle.foyer_policy.specs.Lists.{list_at, find, first_or, first_value, rest, drop_place, with_value, AreLists}
 use Rattle.foyer_policy.specs.Items.{HasIdsOnce, IsNewIn, remove_id, find_id}
 use Rattle.foyer_policy.specs.Policy.{without}
-use Rattle.foyer_policy.specs.Sieve.{Entry, SieveView, items, cleared, before_id, from_id, before_hand, from_hand, Turn, turn, after_turn, looks_at, first_id, remove_entry, visit, hand_without, rotation, sieve_pop}
+use Rattle.foyer_policy.specs.Sieve.{Entry, SieveView, items, before_id, from_id, before_hand, from_hand, after_turn, looks_at, first_id, remove_entry, visit, hand_without, rotation, sieve_pop}
 use Rattle.foyer_policy.specs.SieveLaws.{items-append, pop-some, emptied}
 use Rattle.foyer_policy.specs.PopTimes.{after_pop, pop_times}
-use Rattle.foyer_policy.specs.SieveQueue.{Node, Queue, entry, entries, entry_items, item_at, hand_id, view_of, IsSound, IsTurn}
+use Rattle.foyer_policy.specs.SieveQueue.{Node, entry, entries, entry_items, item_at, hand_id, IsTurn}
 use Rattle.foyer_policy.specs.declared.types.Item.{Item}
 use Rattle.foyer_policy.specs.ItemLaws.{new-head, new-tail, once-head, once-tail, once-remove_id}
-use Rattle.foyer_policy.proofs.ListsLemmas.{pop-none, is_in, find-mid, stands, write-here, drop-here, single}
+use Rattle.foyer_policy.proofs.ListsLemmas.{pop-none, is_in, find-mid, stands, write-here, drop-here}
 use Rattle.foyer_policy.proofs.FoundLemmas.{find-drop_other, write_found}
 use Rattle.foyer_policy.proofs.PlaceLemmas.{begins, same_place, place_is, place_differs}
-use Rattle.foyer_policy.proofs.NodeLemmas.{flat-single, find_id-placed, items-out, placed-out, placed-write}
+use Rattle.foyer_policy.proofs.NodeLemmas.{flat-single, find_id-placed, placed-out, placed-write}
 use Rattle.foyer_policy.proofs.SieveLemmas.{turn-start}
 use Rattle.foyer_policy.proofs.SieveNodes.{item_of, entries-append, items-entries, once-flat}
 

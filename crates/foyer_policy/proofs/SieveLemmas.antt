@@ -1,5 +1,5 @@
 -- One look of a Sieve changes nothing of what its pop gives.
-use Rattle.std.proofs.Common.{◌≡◌, ℕ, suc, ◌+◌, ◌≤◌, Bool, true, false, cond, List, [], ◌∷◌, ◌++◌, Option, Some, None, length, map, refl, sym, ◌∙◌, ap, arith, append_assoc, append-nil}
+use Rattle.std.proofs.Common.{◌≡◌, ℕ, suc, ◌+◌, Bool, true, false, cond, List, [], ◌∷◌, ◌++◌, Option, Some, length, refl, sym, ◌∙◌, ap, arith, append_assoc, append-nil}
 use Rattle.std.proofs.lemmas.List.{map-append}
 use Rattle.foyer_policy.specs.Sieve.{Entry, cleared, all_cleared, visited_front, from_unvisited, Turn, where_all_visited, where_behind_visited, first_unvisited, turn, looks_at}
 use Rattle.foyer_policy.specs.SieveLaws.{unvisited-found, unvisited-none, front-found, front-none, all-front}

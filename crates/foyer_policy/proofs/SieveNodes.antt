@@ -1,21 +1,17 @@
 -- The nodes of a Sieve: where its hand stands while a pop looks.
-use Rattle.std.proofs.Common.{◌≡◌, ◌≢◌, ℕ, zero, suc, ◌+◌, ◌<◌, ◌≤◌, Bool, true, false, cond, List, [], ◌∷◌, ◌++◌, Option, Some, None, length, map, refl, sym, ◌∙◌, ap, subst, arith, rules, append_assoc, append-nil, IsSome, IfSome}
-use Rattle.std.specs.Prelude.{◌==◌, sum_by}
-use Rattle.std.specs.Option.{option_map}
-use Rattle.std.proofs.lemmas.Bool.Decides.{nat_tests}
-use Rattle.std.proofs.lemmas.List.{map-append, length-map}
+use Rattle.std.proofs.Common.{◌≡◌, ℕ, suc, ◌+◌, ◌≤◌, Bool, true, false, cond, List, [], ◌∷◌, ◌++◌, Option, Some, None, length, map, refl, sym, ◌∙◌, ap, arith, rules, append_assoc, append-nil, IsSome, IfSome}
+use Rattle.std.proofs.lemmas.List.{map-append}
 use Rattle.std.proofs.lemmas.List.Sums.{sum_by-cons, sum_by-append}
-use Rattle.foyer_policy.specs.Lists.{list_at, find, find_in, first_or, drop_place, with_value, flat, AreLists}
-use Rattle.foyer_policy.specs.Items.{HasIdsOnce, remove_id, find_id}
-use Rattle.foyer_policy.specs.Policy.{without}
-use Rattle.foyer_policy.specs.Sieve.{Entry, SieveView, items, cleared, set_bits, before_id, from_id, before_hand, from_hand, Turn, turn, looks_at, first_id}
+use Rattle.foyer_policy.specs.Lists.{list_at, find, first_or, with_value, flat, AreLists}
+use Rattle.foyer_policy.specs.Items.{HasIdsOnce}
+use Rattle.foyer_policy.specs.Sieve.{Entry, cleared, set_bits, Turn, turn, looks_at}
 use Rattle.foyer_policy.specs.SieveLaws.{items-append}
-use Rattle.foyer_policy.specs.SieveQueue.{Node, entry, entries, entry_items, item_at, hand_id, IsTurn}
+use Rattle.foyer_policy.specs.SieveQueue.{Node, entry, entries, entry_items, item_at}
 use Rattle.foyer_policy.specs.declared.types.Item.{Item}
 use Rattle.foyer_policy.proofs.ItemPlaces.{items as placed_items}
-use Rattle.foyer_policy.proofs.ListsLemmas.{is_in, find-mid, write-here, drop-here, first_found, single, length-list_at}
+use Rattle.foyer_policy.proofs.ListsLemmas.{is_in, find-mid, write-here, first_found}
 use Rattle.foyer_policy.proofs.FoundLemmas.{AreLists-write}
-use Rattle.foyer_policy.proofs.NodeLemmas.{flat-single, items-with_value, find_id-placed, items-out, placed-out, placed-write}
+use Rattle.foyer_policy.proofs.NodeLemmas.{flat-single, placed-write}
 use Rattle.foyer_policy.proofs.SieveLemmas.{turn-next, turn-wrap, turn-alone, turn-done, looks-next, looks-done}
 
 abbrev pub item_of : Node → Item

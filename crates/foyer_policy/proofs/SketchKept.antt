@@ -6,7 +6,7 @@ use Rattle.std.proofs.Math.Bool.{Bool-set}
 use Rattle.std.proofs.Math.Logic.{∥∥₁_map, ∥∥₁_elim}
 use Rattle.std.proofs.lemmas.Bool.Decides.{nat_tests}
 use Rattle.std.proofs.lemmas.List.{length-map, length-replicate}
-use Rattle.foyer_policy.specs.Sketch.{Sketch, Event, new_sketch, counted, halves, halved, settled, counting, IsPast, HasPast, sketch_of, IsSketch, estimate_of}
+use Rattle.foyer_policy.specs.Sketch.{Sketch, new_sketch, counted, halved, counting, HasPast, sketch_of, IsSketch, estimate_of}
 use Rattle.foyer_policy.specs.Sketch.Event.{Counted, Halved}
 use Rattle.foyer_policy.proofs.ChunkLemmas.{first_chunks-map, first_chunks-replicate, length-first_chunks}
 use Rattle.foyer_policy.proofs.SketchLemmas.{row-length}

@@ -1,9 +1,9 @@
 -- The pasts of a sketch, and what each says of its estimates.
-use Rattle.std.proofs.Common.{◌≡◌, ◌≢◌, ℕ, zero, suc, ◌+◌, ◌*◌, ◌/◌, ◌<◌, ◌≤◌, Bool, true, false, cond, List, [], ◌∷◌, length, map, get_or, set, replicate, refl, sym, ◌∙◌, ap, arith, min, length-set}
+use Rattle.std.proofs.Common.{◌≡◌, ◌≢◌, ℕ, zero, suc, ◌+◌, ◌/◌, ◌<◌, ◌≤◌, Bool, true, false, cond, List, [], ◌∷◌, length, map, get_or, replicate, refl, ap, arith}
 use Rattle.std.specs.Prelude.{◌==◌, nat_le}
 use Rattle.std.proofs.lemmas.Bool.Decides.{nat_tests}
-use Rattle.std.proofs.lemmas.List.{get_or-set_same, get_or-set_other, get_or-map, get_or-replicate, length-replicate, length-map}
-use Rattle.foyer_policy.specs.Sketch.{Sketch, Event, greatest, new_sketch, bucket, one_more, counted_at, counted, halves, halved, settled, counting, counters_of, least, estimate_of, step_after, number_in, own, counter, IsPast, EstimatesAreBounded}
+use Rattle.std.proofs.lemmas.List.{get_or-set_same, get_or-set_other, get_or-replicate, length-replicate, length-map}
+use Rattle.foyer_policy.specs.Sketch.{Sketch, Event, greatest, new_sketch, bucket, one_more, counted_at, counted, halves, halved, counting, counters_of, least, step_after, number_in, own, IsPast, EstimatesAreBounded}
 use Rattle.foyer_policy.specs.Sketch.Event.{Counted, Halved}
 use Rattle.foyer_policy.proofs.SketchLemmas.{bucket-below}
 

@@ -1,8 +1,7 @@
 -- A ghost queue's parts: the hash set as a set.
-use Rattle.std.specs.Prelude.{◌≡◌, ℕ, List}
+use Rattle.std.specs.Prelude.{ℕ, List}
 use Rattle.std.specs.Ordering.{nat_cmp}
 use Rattle.std.specs.FinSet.{FinSet, from_list}
-use Rattle.foyer_policy.specs.GhostQueue.{Pair, ghost_weight}
 
 -- the set of these keys
 abbrev pub set_of : List ℕ → FinSet nat_cmp

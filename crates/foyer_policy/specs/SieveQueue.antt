@@ -1,9 +1,9 @@
 -- A Sieve as its code holds it: linked nodes, and the hand as a place.
-use Rattle.std.specs.Prelude.{◌≡◌, ℕ, List, [], ◌∷◌, ◌++◌, Option, Some, None, map, IfSome, IsSome}
+use Rattle.std.specs.Prelude.{◌≡◌, ℕ, List, ◌++◌, Option, Some, None, map, IfSome, IsSome}
 use Rattle.std.specs.Option.{option_map}
 use Rattle.foyer_policy.specs.Lists.{Lists, list_at, find, first_or}
 use Rattle.foyer_policy.specs.Items.{HasIdsOnce}
-use Rattle.foyer_policy.specs.Sieve.{Entry, SieveView, items, Turn, turn, looks_at}
+use Rattle.foyer_policy.specs.Sieve.{Entry, SieveView, items, turn, looks_at}
 use Rattle.foyer_policy.specs.declared.types.Item.{Item}
 use Rattle.foyer_policy.specs.declared.held.Held.{Held}
 use Rattle.foyer_policy.specs.declared.sieve.SieveState.{SieveState}

@@ -4,12 +4,10 @@ use Rattle.std.proofs.lemmas.Bool.Decides.{nat_tests}
 use Rattle.foyer_policy.specs.declared.types.Event.{Event}
 use Rattle.foyer_policy.specs.declared.types.Source.TheVariants.{Memory}
 use Rattle.foyer_policy.specs.declared.error.Reason.{Reason}
-use Rattle.foyer_core.specs.declared.outcome.Inserted.{Inserted}
-use Rattle.foyer_core.specs.declared.outcome.Refused.{Refused}
 use Rattle.foyer_core.specs.Pieces.{GainsHandles, InsertsPiece, PieceBy, RefusesReturnBy, ReturnsBy, held_or, is_in, is_known, returning}
 use Rattle.foyer_core.specs.State.{AllData, Meaning, State, handles_in, is_phantom_record}
 use Rattle.foyer_core.specs.Steps.{Inserts, newcomer}
-use Rattle.foyer_core.specs.Values.{Carried, Gone, Held, Incoming, Rec}
+use Rattle.foyer_core.specs.Values.{Carried, Denied, Gone, Held, Incoming, Made, Rec}
 use Rattle.foyer_session.specs.Owns.{Counts}
 use Rattle.foyer_session.proofs.CountLemmas.{Alike, alike_refl, inserts_counts, inserts_entry, inserts_number, one_more, refused_by_alike}
 use Rattle.foyer_session.proofs.EntryCounts.{handle_counts, refusals_same}
@@ -68,25 +66,25 @@ module _ {K V P View C : Type 0} (m : Meaning K P View C) (many place : ℕ) (ol
   returned_gives true piece ls entry h at = gains_gives piece.id ls entry h
   returned_gives false piece ls entry h at = inserts_gives (returning old piece 1) ls entry h refl (held_placed piece (old.records piece.id) refl at)
 
-  pub piece_gives : {N : Type 0} (weighs : ℕ → Type 0) (hash : ℕ) (piece : Carried K V P) (made : Inserted K V P N) → InsertsPiece m weighs hash piece 1 (Ok made) old new
+  pub piece_gives : (weighs : ℕ → Type 0) (hash : ℕ) (piece : Carried K V P) (made : Made K V P) → InsertsPiece m weighs hash piece 1 (Ok made) old new
       → hash % many ≡ place → handles_in old old.next ≡ 0 → Gives many place old made.entry new
   piece_gives weighs hash piece made h at none = go (is_known old hash piece) refl h
     where
       go : (b : Bool) → is_known old hash piece ≡ b → PieceBy m b weighs hash piece 1 (Ok made) old new → Gives many place old made.entry new
-      go true known h = returned_gives (is_in (old.records piece.id)) piece made.leaves.items made.entry h (ap (λ (x : ℕ). x % many) (known_hash old hash piece known) ∙ at)
+      go true known h = returned_gives (is_in (old.records piece.id)) piece made.leaves made.entry h (ap (λ (x : ℕ). x % many) (known_hash old hash piece known) ∙ at)
       go false known h =
-          inserts_gives (newcomer old (record piece.kept { hash = hash; weight = h.0 }) 1) made.leaves.items made.entry h.2 (ap (λ (x : ℕ). x + 1) (sym none)) at
+          inserts_gives (newcomer old (record piece.kept { hash = hash; weight = h.0 }) 1) made.leaves made.entry h.2 (ap (λ (x : ℕ). x + 1) (sym none)) at
 
 module _ {K V P View C : Type 0} (m : Meaning K P View C) (old new : State K V P View) where
   refused_alike : (b : Bool) (piece : Carried K V P) (reason : Reason) (ls : List (Event × Gone K V P)) → RefusesReturnBy m b old piece 1 reason ls new → Alike old new
   refused_alike true piece reason ls h = alike_refl old new (refusals_same old new piece.id 1 reason h.1)
   refused_alike false piece reason ls h = refused_by_alike m (is_phantom_record m (returning old piece 1).kept) old (returning old piece 1) reason ls new h
 
-  pub piece_alike : (N : Type 0) (weighs : ℕ → Type 0) (hash : ℕ) (piece : Carried K V P) (refused : Refused K V P) → InsertsPiece m {N = N} weighs hash piece 1 (Err refused) old new → Alike old new
-  piece_alike N weighs hash piece refused h = go (is_known old hash piece) h
+  pub piece_alike : (weighs : ℕ → Type 0) (hash : ℕ) (piece : Carried K V P) (denied : Denied K V P) → InsertsPiece m weighs hash piece 1 (Err denied) old new → Alike old new
+  piece_alike weighs hash piece denied h = go (is_known old hash piece) h
     where
-      go : (b : Bool) → PieceBy m {N = N} b weighs hash piece 1 (Err refused) old new → Alike old new
-      go true h = refused_alike (is_in (old.records piece.id)) piece refused.error refused.leaves.items h
+      go : (b : Bool) → PieceBy m b weighs hash piece 1 (Err denied) old new → Alike old new
+      go true h = refused_alike (is_in (old.records piece.id)) piece denied.reason denied.leaves h
       go false h =
           let i = newcomer old (record piece.kept { hash = hash; weight = h.0 }) 1 in
-          refused_by_alike m (is_phantom_record m i.kept) old i refused.error refused.leaves.items new h.2
+          refused_by_alike m (is_phantom_record m i.kept) old i denied.reason denied.leaves new h.2

@@ -6,11 +6,9 @@ use Rattle.foyer_policy.specs.declared.types.Event.{Event}
 use Rattle.foyer_policy.specs.declared.types.Source.TheVariants.{Outer}
 use Rattle.foyer_policy.specs.declared.error.Reason.{Reason}
 use Rattle.foyer_policy.specs.declared.error.Reason.TheVariants.{Handles, NoMemory}
-use Rattle.foyer_core.specs.declared.outcome.Inserted.{Inserted}
-use Rattle.foyer_core.specs.declared.outcome.Refused.{Refused}
 use Rattle.foyer_core.specs.declared.record.Data.{Data}
 use Rattle.foyer_core.specs.Pieces.{InsertsPiece}
-use Rattle.foyer_core.specs.Values.{Carried, Gone, Held}
+use Rattle.foyer_core.specs.Values.{Carried, Denied, Gone, Held, Made}
 use Rattle.foyer_core.specs.State.{Meaning, State, hit, handles_in, is_phantom_record}
 use Rattle.foyer_core.specs.Steps.{Inserts, RefusesInsert, Gets, GivesBack, Touches, Removes, ClonesHandle, newcomer}
 use Rattle.foyer_core.specs.Core.{Core, AtShard, Owns, hit_in, index_in, shard_at, shard_of}
@@ -45,14 +43,14 @@ module _ {K V P View C S W A : Type 0} (m : Meaning K P View C) (core new : Core
 
   module _ (weighs : ℕ → Type 0) (hash : ℕ) (piece : Carried K V P) where
     -- a piece came in
-    pub piece_owns : {N : Type 0} (made : Inserted K V P N) (at : AtShard (λ s t. InsertsPiece m weighs hash piece 1 (Ok made) s t) hash core new)
+    pub piece_owns : (made : Made K V P) (at : AtShard (λ s t. InsertsPiece m weighs hash piece 1 (Ok made) s t) hash core new)
         → Gives (length core.shards) (shard_of core hash) at.before made.entry at.after → OwnsHandles new (handles ++ Some (record made.entry { left = false }) ∷ [])
     piece_owns made at gives =
         owns_more core new (λ s t. InsertsPiece m weighs hash piece 1 (Ok made) s t) hash at gives.number handles (record made.entry { left = false }) gives.placed gives.numbered gives.counts owns
 
-    pub piece_refused_owns : (N : Type 0) (refused : Refused K V P) (at : AtShard (λ s t. InsertsPiece m {N = N} weighs hash piece 1 (Err refused) s t) hash core new) → OwnsHandles new handles
-    piece_refused_owns N refused at =
-        stayed_owns (λ s t. InsertsPiece m {N = N} weighs hash piece 1 (Err refused) s t) hash at (piece_alike m at.before at.after N weighs hash piece refused at.stepped)
+    pub piece_refused_owns : (denied : Denied K V P) (at : AtShard (λ s t. InsertsPiece m weighs hash piece 1 (Err denied) s t) hash core new) → OwnsHandles new handles
+    piece_refused_owns denied at =
+        stayed_owns (λ s t. InsertsPiece m weighs hash piece 1 (Err denied) s t) hash at (piece_alike m at.before at.after weighs hash piece denied at.stepped)
 
   -- an entry of the key's record was made, which has the key's hash
   pub got_owns : (k : ℕ × K) (entry : Held K V P) (at : AtShard (λ s t. Gets m s k (Ok (Some entry)) t) k.0 core new) → entry.kept.hash ≡ k.0

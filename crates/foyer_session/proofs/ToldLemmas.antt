@@ -16,7 +16,7 @@ use Rattle.foyer_core.specs.Values.{Gone}
 use Rattle.foyer_core.proofs.CallsTold.{cleared_core, clone_told, get_told, give_back_told, insert_told, nothing_told, picked_core, refused_told, remove_told, resized_core, resized_until_core, touch_told, unpinned_core, unpinned_until_core}
 use Rattle.foyer_core.proofs.CoreTold.{AreSound}
 use Rattle.foyer_core.proofs.Observing.{leaves_congr}
-use Rattle.foyer_core.proofs.PieceCalls.{piece_told}
+use Rattle.foyer_core.proofs.PieceCalls.{piece_tells}
 use Rattle.foyer_session.specs.declared.command.Answer.{Answer}
 use Rattle.foyer_session.specs.declared.command.Answer.TheVariants.{Entry, Found, Missing, Yes, No, Done, Number, PieceNo, NotHeld, Refused}
 use Rattle.foyer_session.specs.declared.command.Command.{Command}
@@ -156,17 +156,15 @@ module _ {K V P View C S W A : Type 0} (t : Terms K V P View C S W A) where
     insert_piece_step : (n : ℕ) (answer : Answer K V P) (leaves : List (Event × Gone K V P)) → InsertPieceStep t old n answer leaves new → StepTold answer leaves
     insert_piece_step n (Entry number told answers) leaves h =
         let piece = h.0 in
-        let made = h.1 in
         let weighs = t.weighs old.core.weighter piece.kept.key piece.kept.value in (
           at_builder _ (hash piece.kept.key) h.3,
-          λ q. piece_told t.meaning laws good t.hash old.core new.core equal sound weighs piece (λ s. 1) (Ok made) h.3 q
-              ∙ ap (λ (g : Gone K V P). after_entry same t.meaning.phantom (after_leaves same (known hash old.core) made.leaves.items) g.id g.kept q) (sym h.4.tells)
-              ∙ ap (λ (ls : List (Event × Gone K V P)). after_entry same t.meaning.phantom (after_leaves same (known hash old.core) ls) told.id told.kept q) (sym h.6),
+          λ q. piece_tells t.meaning laws good t.hash old.core new.core equal sound weighs piece (λ s. 1) (Ok record { entry = h.1; leaves = leaves }) h.3 q
+              ∙ ap (λ (g : Gone K V P). after_entry same t.meaning.phantom (after_leaves same (known hash old.core) leaves) g.id g.kept q) (sym h.4.tells),
         )
     insert_piece_step n (Refused reason) leaves h = elim h.2 [
       | inl same ↦ unchanged leaves same.1 same.2
       | inr y ↦ (let weighs = t.weighs old.core.weighter h.0.kept.key h.0.kept.value in
-          subst Leaves (sym y.4) (at_builder _ (hash h.0.kept.key) y.1, piece_told t.meaning laws good t.hash old.core new.core equal sound weighs h.0 (λ s. 1) (Err y.0) y.1))
+          (at_builder _ (hash h.0.kept.key) y.0, piece_tells t.meaning laws good t.hash old.core new.core equal sound weighs h.0 (λ s. 1) (Err record { reason = reason; leaves = leaves }) y.0))
     ]
     insert_piece_step n NotHeld leaves h = unchanged leaves h.1 h.2
     insert_piece_step n _ leaves h = absurd h

@@ -5,10 +5,8 @@ use Rattle.foyer_policy.specs.declared.types.Event.{Event}
 use Rattle.foyer_policy.specs.declared.types.Event.TheVariants.{Remove as RemoveEvent}
 use Rattle.foyer_policy.specs.declared.types.Source.TheVariants.{Outer}
 use Rattle.foyer_policy.specs.declared.error.Reason.TheVariants.{NoMemory}
-use Rattle.foyer_core.specs.declared.outcome.Inserted.{Inserted}
-use Rattle.foyer_core.specs.declared.outcome.Refused.{Refused as RefusedInsert}
 use Rattle.foyer_core.specs.declared.record.Data.{Data}
-use Rattle.foyer_core.specs.Values.{Gone, Held, Carried}
+use Rattle.foyer_core.specs.Values.{Carried, Denied, Gone, Held, Made}
 use Rattle.foyer_core.specs.Bulk.{Clears, EvictsIf, EvictsUnpinned, EvictingUnpinned}
 use Rattle.foyer_core.specs.CoreBulk.{InTurn, InTurnUntil, OfShards, EvictsToCapacity, EvictingToCapacity, Resizes}
 use Rattle.foyer_core.specs.Pieces.{InsertsPiece}
@@ -142,7 +140,7 @@ module _ {K V P View C S W A : Type 0} (t : Terms K V P View C S W A) where
   TakePieceStep old n _ leaves new = ⊥
 
   -- what an insert of a piece makes of the core
-  abbrev pub InsertsPieceIn : SessionState K V P View S W A → Carried K V P → Result (Inserted K V P (Unit {0})) (RefusedInsert K V P) → SessionState K V P View S W A → Type 0
+  abbrev pub InsertsPieceIn : SessionState K V P View S W A → Carried K V P → Result (Made K V P) (Denied K V P) → SessionState K V P View S W A → Type 0
   InsertsPieceIn old piece result new =
       AtShard (λ s u. InsertsPiece t.meaning (t.weighs old.core.weighter piece.kept.key piece.kept.value) (hash_in old piece.kept.key) piece 1 result s u)
       (hash_in old piece.kept.key) old.core new.core
@@ -151,12 +149,12 @@ module _ {K V P View C S W A : Type 0} (t : Terms K V P View C S W A) where
   -- nothing changes.
   abbrev pub InsertPieceStep : SessionState K V P View S W A → ℕ → Answer K V P → List (Event × Gone K V P) → SessionState K V P View S W A → Type 0
   InsertPieceStep old n (Entry number told answers) leaves new =
-      (piece : Carried K V P) × (made : Inserted K V P (Unit {0})) × (slice_get old.pieces n ≡ Some piece) × InsertsPieceIn old piece (Ok made) new
-      × HandsOut old number told made.entry new × (answers ≡ []) × (leaves ≡ made.leaves.items)
+      (piece : Carried K V P) × (entry : Held K V P) × (slice_get old.pieces n ≡ Some piece)
+      × InsertsPieceIn old piece (Ok record { entry = entry; leaves = leaves }) new × HandsOut old number told entry new × (answers ≡ [])
   InsertPieceStep old n (Refused reason) leaves new =
       (piece : Carried K V P) × (slice_get old.pieces n ≡ Some piece)
       × (((reason ≡ NoMemory) × (leaves ≡ []) × (new ≡ old))
-      ⊎ ((refused : RefusedInsert K V P) × InsertsPieceIn old piece (Err refused) new × KeepsTables old new × (reason ≡ refused.error) × (leaves ≡ refused.leaves.items)))
+      ⊎ (InsertsPieceIn old piece (Err record { reason = reason; leaves = leaves }) new × KeepsTables old new))
   InsertPieceStep old n NotHeld leaves new = (slice_get old.pieces n ≡ None) × (leaves ≡ []) × (new ≡ old)
   InsertPieceStep old n _ leaves new = ⊥
 

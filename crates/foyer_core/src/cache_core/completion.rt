@@ -215,9 +215,8 @@ impl<
     {
         let place = self.place(hash);
         let weight = self.weighter.weigh(piece.key(), piece.value());
-        let kept = piece.into_share().with(hash, weight);
         let before = Load::of(&self.shards[place]);
-        let ended = self.shards[place].complete_new(self.alloc, fetch, kept);
+        let ended = self.shards[place].complete_new(self.alloc, fetch, piece, hash, weight);
         let after = Load::of(&self.shards[place]);
         self.load.replace(before, after);
         ended

@@ -3,7 +3,7 @@
 ghost use Rattle.std.specs.Prelude.{◌≡◌, ℕ, ◌+◌, IfOk, IsSomeAnd, MatchResult, OnErr, false, length, true};
 ghost use Rattle.foyer_policy.specs.Properties.{is_phantom};
 ghost use Rattle.foyer_core.specs.Inflight.{closed, waiters_of};
-ghost use Rattle.foyer_core.specs.Waited.{AnswersEach};
+ghost use Rattle.foyer_core.specs.Waited.{AnswersEach, insertion_of};
 ghost use Rattle.foyer_policy.specs.declared.types.Source.TheVariants.{Memory};
 
 use super::CacheCore;
@@ -54,7 +54,7 @@ impl<
         requires clones { (k c : K) → K.is_clone k c → K.eq c k ≡ true }
         ensures inserted { let hash = S.hash_of (core_of self.old).hash_builder (K.hash_input piece.kept.key) in
             AtShard (λ s t. InsertsPiece (meaning_of_core self.old) (W.weighs (core_of self.old).weighter piece.kept.key piece.kept.value) hash piece
-            (1 + length (waiters_of (place_in (fetches_of self.old) (coming_under s hash piece)))) result s t)
+            (1 + length (waiters_of (place_in (fetches_of self.old) (coming_under s hash piece)))) (insertion_of result) s t)
             hash (core_of self.old) (core_of self.new) }
         ensures answers { IfOk result (λ made. AnswersEach (waiters_of (place_in (fetches_of self.old) (key_of made.entry.kept))) made.entry made.answers) }
         ensures closed { let hash = S.hash_of (core_of self.old).hash_builder (K.hash_input piece.kept.key) in
@@ -89,7 +89,7 @@ impl<
         requires hashed { hash ≡ hashes_of self.old piece.kept.key }
         requires known { IsSomeAnd (shard_at (core_of self.old) hash) (λ s. is_known s hash piece ≡ true) }
         ensures returned { AtShard (λ s t. ReturnsAnswering (meaning_of_core self.old) s piece
-            (1 + length (waiters_of (place_in (fetches_of self.old) (key_of (held_or piece.kept (s.records piece.id)))))) result t) hash (core_of self.old) (core_of self.new) }
+            (1 + length (waiters_of (place_in (fetches_of self.old) (key_of (held_or piece.kept (s.records piece.id)))))) (insertion_of result) t) hash (core_of self.old) (core_of self.new) }
         ensures answers { IfOk result (λ made. AnswersEach (waiters_of (place_in (fetches_of self.old) (key_of made.entry.kept))) made.entry made.answers) }
         ensures closed { IfOk result (λ made. fetches_of self.new ≡ at_hash (λ f. closed K.eq f (key_of made.entry.kept)) (fetches_of self.old) hash) }
         ensures fetches { OnErr result (fetches_of self.new ≡ fetches_of self.old) }
@@ -113,7 +113,7 @@ impl<
         requires hashed { hash ≡ hashes_of self.old piece.kept.key }
         ensures inserted { AtShard (λ s t. (weight : ℕ) × W.weighs (core_of self.old).weighter piece.kept.key piece.kept.value weight
             × InsertsAnswering (meaning_of_core self.old) Memory s (newcomer s (record piece.kept { hash = hash; weight = weight })
-            (1 + length (waiters_of (place_in (fetches_of self.old) (hash, piece.kept.key))))) result t)
+            (1 + length (waiters_of (place_in (fetches_of self.old) (hash, piece.kept.key))))) (insertion_of result) t)
             hash (core_of self.old) (core_of self.new) }
         ensures answers { IfOk result (λ made. AnswersEach (waiters_of (place_in (fetches_of self.old) (key_of made.entry.kept))) made.entry made.answers) }
         ensures closed { IfOk result (λ made. fetches_of self.new ≡ at_hash (λ f. closed K.eq f (key_of made.entry.kept)) (fetches_of self.old) hash) }
@@ -122,9 +122,8 @@ impl<
     {
         let place = self.place(hash);
         let weight = self.weighter.weigh(piece.key(), piece.value());
-        let kept = piece.into_share().with(hash, weight);
         let before = Load::of(&self.shards[place]);
-        let taken = self.shards[place].take_new(self.alloc, kept);
+        let taken = self.shards[place].take_new(self.alloc, piece, hash, weight);
         let after = Load::of(&self.shards[place]);
         self.load.replace(before, after);
         taken

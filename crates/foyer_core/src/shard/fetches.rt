@@ -158,9 +158,26 @@ impl<E: Eviction, K: Key, V: Value, P: Properties, N: Drop, R: Drop, I: Indexer<
         }
     }
 
-    /// Ends an open fetch of a key with a new record of it, whose share another core's record may have, as `complete`
-    /// does, with the source `Memory`.
-    pub(crate) fn complete_new(
+    /// Ends an open fetch of a piece's key with a new record of it, where the piece stands for none of this shard's, as
+    /// `complete` does: it has this hash and this weight, and the source `Memory`.
+    pub fn complete_new(
+        &mut self,
+        alloc: Global,
+        fetch: u64,
+        piece: Piece<K, V, P>,
+        hash: u64,
+        weight: usize,
+    ) -> Ended<K, V, P, N>
+        requires clones { (k c : K) → K.is_clone k c → K.eq c k ≡ true }
+        ensures completed { let key : ℕ × K = (hash, piece.kept.key) in
+            CompletesBy (meaning_of self.old) (asked (Some fetch) ((opens_of self.old).places key)) Memory (state_of self.old) (opens_of self.old) key (record piece.kept { hash = hash; weight = weight })
+            (ending_of result) (state_of self.new) (opens_of self.new) }
+    {
+        self.complete_share(alloc, fetch, piece.into_share().with(hash, weight))
+    }
+
+    // Ends an open fetch of a key with a new record of it, whose share another core's record may have.
+    fn complete_share(
         &mut self,
         alloc: Global,
         fetch: u64,
@@ -185,7 +202,7 @@ impl<E: Eviction, K: Key, V: Value, P: Properties, N: Drop, R: Drop, I: Indexer<
 
     /// Ends an open fetch with the record of its key for which a piece stands, which the shard knows, as `complete`
     /// does. `hash` and `key` are the key that is fetched, and the record's key equals it.
-    pub(crate) fn complete_back(
+    pub fn complete_back(
         &mut self,
         alloc: Global,
         hash: u64,
@@ -212,9 +229,9 @@ impl<E: Eviction, K: Key, V: Value, P: Properties, N: Drop, R: Drop, I: Indexer<
         }
     }
 
-    // Ends an open fetch of a key with a value for which there was no memory to clone the key: those who wait get the
-    // refusal that an insert would have.
-    pub(crate) fn refuse_value(
+    /// Ends an open fetch of a key with a value for which there was no memory to clone the key: those who wait get the
+    /// refusal that an insert would have, which is that of the memory (F7) where nothing else refuses it.
+    pub fn refuse_value(
         &mut self,
         alloc: Global,
         hash: u64,
@@ -240,7 +257,7 @@ impl<E: Eviction, K: Key, V: Value, P: Properties, N: Drop, R: Drop, I: Indexer<
 
     /// Whether the record that a piece stands for, whose key has this hash, has a key that equals this one. It takes no
     /// memory.
-    pub(crate) fn is_under(&self, hash: u64, piece: &Piece<K, V, P>, key: &K) -> bool
+    pub fn is_under(&self, hash: u64, piece: &Piece<K, V, P>, key: &K) -> bool
         ensures { result ≡ K.eq key.now (coming_under (state_of self.now) hash piece.now).1 }
     {
         if !self.store.knows(hash, piece) {

@@ -96,8 +96,29 @@ impl<E: Eviction, K: Key, V: Value, P: Properties, N: Drop, R: Drop, I: Indexer<
         }
     }
 
+    /// Takes a new record in, for a piece that stands for none of this shard's: it has this hash and this weight, and
+    /// the piece's key, value and properties, which it may share with another core's record. It answers as `emplace`
+    /// does, with the source `Memory`. A clone of the key must equal it.
+    pub fn take_new(
+        &mut self,
+        alloc: Global,
+        piece: Piece<K, V, P>,
+        hash: u64,
+        weight: usize,
+    ) -> std::result::Result<Inserted<K, V, P, N>, Refused<K, V, P>>
+        requires clones { (k c : K) → K.is_clone k c → K.eq c k ≡ true }
+        ensures inserted { let handles = 1 + waiting_for (opens_of self.old) (hash, piece.kept.key) in MatchResult result
+            (λ made. Inserts (meaning_of self.old) Memory (state_of self.old) (newcomer (state_of self.old) (record piece.kept { hash = hash; weight = weight }) handles) made.leaves.items made.entry (state_of self.new))
+            (λ refused. RefusesInsert (meaning_of self.old) (state_of self.old) (newcomer (state_of self.old) (record piece.kept { hash = hash; weight = weight }) handles) refused.error refused.leaves.items (state_of self.new)) }
+        ensures answers { IfOk result (λ made. AnswersEach (waiters_of ((opens_of self.old).places (hash, piece.kept.key))) made.entry made.answers) }
+        ensures closed { OnOk result (opens_of self.new ≡ closed K.eq (opens_of self.old) (hash, piece.kept.key)) }
+        ensures opens { OnErr result (opens_of self.new ≡ opens_of self.old) }
+    {
+        self.take_share(alloc, piece.into_share().with(hash, weight))
+    }
+
     // Takes a new record in, of a share that another core's record may have, as `emplace` does.
-    pub(crate) fn take_new(
+    fn take_share(
         &mut self,
         alloc: Global,
         kept: Share<K, V, P>,

@@ -5,6 +5,7 @@ use Rattle.foyer_core.specs.CoreFetches.{at_hash}
 use Rattle.foyer_core.specs.Cores.{core_of, fetches_of, meaning_of_core}
 use Rattle.foyer_core.specs.Inflight.{closed}
 use Rattle.foyer_core.specs.Steps.{Inserts, RefusesInsert, newcomer}
+use Rattle.foyer_core.specs.Waited.{denied_of, made_of}
 use Rattle.foyer_core.proofs.IdleLemmas.{closed_idle, idle_answers, idle_weighed, still_idle}
 use Rattle.foyer_bench.specs.Drive.{data_of}
 use Rattle.foyer_bench.proofs.DriveLemmas.{weighed_plain, put_owned, put_done}
@@ -21,7 +22,7 @@ end-requires-clause-owned g c =
     let (p, plain, did) = c.in-Ok.ensures.inserted in
     let made = c.in-Ok.made in
     let same = c.drop_answers.ensures.nobody (idle_answers (fetches_of core) c.requires.idle made.entry made.answers (hash, c.args.key) c.in-Ok.ensures.answers) in
-    let one = idle_weighed m (fetches_of core) c.requires.idle hash (Ok made) (core_of core) put Outer _ _ c.args.key c.args.key _ did in
+    let one = idle_weighed m (fetches_of core) c.requires.idle hash (Ok (made_of made)) (core_of core) put Outer _ _ c.args.key c.args.key _ did in
     let at = at_still (λ s t. Inserts m Outer s (newcomer s (data_of (hash, c.args.key)) 1) made.leaves.items made.entry t) hash (core_of core) put mid same
     (weighed_plain m (core_of core) put put _ _ hash c.args.key _ _ plain (λ n e. e) (λ b e. e) one) in
     λ _ _. put_owned m (core_of core) mid mid hash c.args.key made.leaves.items made.entry at
@@ -36,7 +37,7 @@ returns-in-Ok-clause-put g c =
     let (p, plain, did) = c.in-Ok.ensures.inserted in
     let made = c.in-Ok.made in
     let same = c.drop_answers.ensures.nobody (idle_answers (fetches_of core) c.requires.idle made.entry made.answers (hash, c.args.key) c.in-Ok.ensures.answers) in
-    let one = idle_weighed m (fetches_of core) c.requires.idle hash (Ok made) (core_of core) put Outer _ _ c.args.key c.args.key _ did in
+    let one = idle_weighed m (fetches_of core) c.requires.idle hash (Ok (made_of made)) (core_of core) put Outer _ _ c.args.key c.args.key _ did in
     let at = at_still (λ s t. Inserts m Outer s (newcomer s (data_of (hash, c.args.key)) 1) made.leaves.items made.entry t) hash (core_of core) put mid same
     (weighed_plain m (core_of core) put put _ _ hash c.args.key _ _ plain (λ n e. e) (λ b e. e) one) in
     let (leave, gave) = c.end.ensures.given_back in
@@ -60,7 +61,7 @@ returns-in-Err-clause-refused g c =
     let hash = g.S.HashBuilder.hash_of core.hash_builder (u64_input c.args.key) in
     let (p, plain, did) = c.in-Err.ensures.inserted in
     let refused = c.in-Err.refused in
-    let one = idle_weighed m (fetches_of core) c.requires.idle hash (Err refused) (core_of core) new Outer _ _ c.args.key c.args.key _ did in
+    let one = idle_weighed m (fetches_of core) c.requires.idle hash (Err (denied_of refused)) (core_of core) new Outer _ _ c.args.key c.args.key _ did in
     let at = weighed_plain m (core_of core) new new _ _ hash c.args.key _ _ plain (λ n e. e) (λ b e. e) one in
     at_map _ (λ s t. (leaves : _) × RefusesInsert m s (newcomer s (data_of (hash, c.args.key)) 1) refused.error leaves t) hash (core_of core) new (λ s t h. (refused.leaves.items, h)) at
 

@@ -1,6 +1,5 @@
 use Rattle.std.proofs.Common.{◌≡◌, ◌+◌, ◌<◌, ◌∷◌, arith, ap, sym, ◌∙◌}
 use Rattle.std.proofs.lemmas.List.Sums.{sum_by-cons}
-use Rattle.foyer_policy.specs.Items.{fit, over}
 use Rattle.foyer_policy.specs.FitLaws.{fit-le, over-le}
 use Rattle.foyer_policy.specs.GhostQueue.{Pair, pair_weight, ghost_weight, without_hashes}
 use Rattle.foyer_policy.specs.GhostParts.{set_of}

@@ -1,4 +1,4 @@
-use Rattle.std.proofs.Common.{◌≡◌, ◌≤◌, length}
+use Rattle.std.proofs.Common.{◌≡◌, ◌≤◌}
 use Rattle.std.specs.HashSet.{spare}
 use Rattle.std.specs.VecDeque.{deque_len, deque_capacity}
 use Rattle.foyer_policy.specs.Items.{fit, over}

@@ -1,13 +1,12 @@
-use Rattle.std.proofs.Common.{rules, arith, ◌≡◌, ℕ, suc, ◌+◌, ◌<◌, ◌≤◌, ◌∷◌, ◌++◌, List, Option, Some, None, IsSome, IfSome, true, false, sym, ◌∙◌, ap, length, add-one, lit<}
+use Rattle.std.proofs.Common.{arith, ◌≡◌, Some, sym, ◌∙◌, ap, add-one, lit<}
 use Rattle.std.proofs.lemmas.List.{length-map}
-use Rattle.foyer_policy.specs.Lists.{list_at, find, first_or, AreLists}
-use Rattle.foyer_policy.specs.Sieve.{Turn, set_bits}
+use Rattle.foyer_policy.specs.Lists.{list_at, find, AreLists}
 use Rattle.foyer_policy.specs.Policy.{without}
-use Rattle.foyer_policy.specs.SieveQueue.{Node, entry, entries, item_at, IsTurn}
+use Rattle.foyer_policy.specs.SieveQueue.{entry, entries, item_at}
 use Rattle.foyer_policy.proofs.ListsLemmas.{length-list_at, find-mid, drop-here}
 use Rattle.foyer_policy.proofs.FoundLemmas.{AreLists-drop}
 use Rattle.foyer_policy.proofs.NodeLemmas.{placed-out}
-use Rattle.foyer_policy.proofs.SieveNodes.{item_of, clear_node, Stand, Somewhere, somewhere, stand-at, stand-found, stands_on, ends, here, looked, looked-items, looked-placed, looked-bits, sound_then, found_then, first-there, once-flat, bits-le}
+use Rattle.foyer_policy.proofs.SieveNodes.{item_of, clear_node, somewhere, stand-at, stand-found, stands_on, ends, looked, looked-items, looked-placed, looked-bits, sound_then, found_then, first-there, once-flat, bits-le}
 use Rattle.foyer_policy.proofs.sieve.take_victim.Goals as goal
 
 pub take_bit-requires-clause-few : goal.take_bit-requires-clause-few

@@ -1,8 +1,8 @@
-use Rattle.std.proofs.Common.{◌≡◌, ◌∙◌, ◌+◌, ◌*◌, ◌<◌, suc, sym, ap, arith, get_or, set, length}
+use Rattle.std.proofs.Common.{◌≡◌, ◌∙◌, ◌+◌, ◌*◌, suc, sym, ap, arith, get_or, length}
 use Rattle.std.specs.Simd.{first_chunks}
-use Rattle.foyer_policy.specs.Sketch.{mixed, bucket, one_more, counted}
+use Rattle.foyer_policy.specs.Sketch.{mixed, bucket, one_more}
 use Rattle.foyer_policy.proofs.ChunkLemmas.{length-first_chunks}
-use Rattle.foyer_policy.proofs.SketchLemmas.{counted_on, counted_on-next, counted_on-end}
+use Rattle.foyer_policy.proofs.SketchLemmas.{counted_on-next, counted_on-end}
 use Rattle.foyer_policy.proofs.sketch.count.Goals as goal
 
 pub loop-row-preserved : goal.loop-row-preserved

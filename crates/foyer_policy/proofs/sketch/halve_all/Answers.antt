@@ -1,5 +1,4 @@
-use Rattle.std.proofs.Common.{◌≡◌, ◌+◌, ◌*◌, ◌/◌, ◌≤◌, ℕ, List, length, map, sym, ◌∙◌, ap, arith}
-use Rattle.std.specs.Simd.Lanes.{chunk, put_chunk}
+use Rattle.std.proofs.Common.{◌≡◌, ◌+◌, ◌*◌, ◌/◌, ◌≤◌, ℕ, length, ◌∙◌, ap, arith}
 use Rattle.foyer_policy.proofs.ChunkLemmas.{done_from, done_from-chunk}
 use Rattle.foyer_policy.proofs.sketch.halve_all.Goals as goal
 

@@ -1,4 +1,4 @@
-use Rattle.std.proofs.Common.{◌≡◌, ◌*◌, ◌/◌, ◌<◌, List, [], ℕ, length, get_or, map, ◌∙◌, ap, arith}
+use Rattle.std.proofs.Common.{◌≡◌, ◌*◌, ◌/◌, ◌<◌, List, [], ℕ, length, get_or, ◌∙◌, ap, arith}
 use Rattle.std.specs.Simd.Lanes.{chunk, put_chunk}
 use Rattle.std.proofs.lemmas.Simd.{length-chunk, zip2_splat}
 use Rattle.foyer_policy.proofs.ChunkLemmas.{get_or-first_chunks}

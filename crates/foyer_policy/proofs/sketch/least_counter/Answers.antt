@@ -1,8 +1,8 @@
-use Rattle.std.proofs.Common.{◌≡◌, ◌∙◌, ◌+◌, ◌*◌, ◌<◌, ◌≤◌, [], suc, sym, ap, arith, get_or, length, min, refl}
+use Rattle.std.proofs.Common.{◌≡◌, ◌∙◌, ◌+◌, ◌*◌, ◌<◌, [], suc, sym, ap, arith, get_or, length, min, refl}
 use Rattle.std.specs.Simd.{first_chunks}
 use Rattle.foyer_policy.specs.Sketch.{mixed, bucket}
 use Rattle.foyer_policy.proofs.ChunkLemmas.{length-first_chunks, get_or-in_chunk}
-use Rattle.foyer_policy.proofs.SketchLemmas.{least_on, least_on-next, least_on-end, least_on-start}
+use Rattle.foyer_policy.proofs.SketchLemmas.{least_on-next, least_on-end, least_on-start}
 use Rattle.foyer_policy.proofs.sketch.least_counter.Goals as goal
 
 pub loop-row-init : goal.loop-row-init

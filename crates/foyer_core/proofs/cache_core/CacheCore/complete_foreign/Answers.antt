@@ -19,21 +19,18 @@ invariant_of-self-clause-belong g c =
     let s = c.args.self.now in
     let x = c.index_mut.result.now in
     let y = c.complete_new-ended.new.self in
-    let d = c.with-kept.result in
-    let hashed : d.hash ≡ c.args.hash = ap (λ (e : Data g.row.K.Denot g.row.V.Denot g.row.P.Denot). e.hash) c.with-kept.ensures in
+    let d : Data g.row.K.Denot g.row.V.Denot g.row.P.Denot = record c.args.piece.kept { hash = c.args.hash; weight = c.weigh-weight.result } in
     belongs_over state_of s.shards.items c.args.hash (vec_len s.shards) c.place-place.result x s.shards.ok.0 c.place-place.ensures.within c.place-place.ensures.place c.index_mut.ensures.value
-    y (completes_from (λ e. e.hash ≡ c.args.hash) (meaning_of x) (state_of x) (opens_of x) (key_of d) (ending_of c.complete_new-ended.result) (state_of y) (opens_of y) (asked (Some c.args.fetch) ((opens_of x).places (key_of d))) Memory d c.complete_new-ended.ensures.completed hashed) s.belong
+    y (completes_from (λ e. e.hash ≡ c.args.hash) (meaning_of x) (state_of x) (opens_of x) (key_of d) (ending_of c.complete_new-ended.result) (state_of y) (opens_of y) (asked (Some c.args.fetch) ((opens_of x).places (key_of d))) Memory d c.complete_new-ended.ensures.completed refl) s.belong
 
 pub invariant_of-self-clause-hashed : goal.invariant_of-self-clause-hashed
 invariant_of-self-clause-hashed g c =
     let s = c.args.self.now in
     let x = c.index_mut.result.now in
     let y = c.complete_new-ended.new.self in
-    let d = c.with-kept.result in
-    let key : d.key ≡ c.args.piece.kept.key = ap (λ (e : Data g.row.K.Denot g.row.V.Denot g.row.P.Denot). e.key) c.with-kept.ensures ∙ ap (λ (e : Data g.row.K.Denot g.row.V.Denot g.row.P.Denot). e.key) c.into_share.ensures in
-    let hashed : IsHashed (hashes_of s) d = ap (λ (e : Data g.row.K.Denot g.row.V.Denot g.row.P.Denot). e.hash) c.with-kept.ensures ∙ c.requires.hashed ∙ ap (hashes_of s) (sym key) in
+    let d : Data g.row.K.Denot g.row.V.Denot g.row.P.Denot = record c.args.piece.kept { hash = c.args.hash; weight = c.weigh-weight.result } in
     hashed_over (hashes_of s) state_of s.shards.items (vec_len s.shards) c.place-place.result x s.shards.ok.0 c.place-place.ensures.within c.index_mut.ensures.value
-    y (completes_from (IsHashed (hashes_of s)) (meaning_of x) (state_of x) (opens_of x) (key_of d) (ending_of c.complete_new-ended.result) (state_of y) (opens_of y) (asked (Some c.args.fetch) ((opens_of x).places (key_of d))) Memory d c.complete_new-ended.ensures.completed hashed) s.hashed
+    y (completes_from (IsHashed (hashes_of s)) (meaning_of x) (state_of x) (opens_of x) (key_of d) (ending_of c.complete_new-ended.result) (state_of y) (opens_of y) (asked (Some c.args.fetch) ((opens_of x).places (key_of d))) Memory d c.complete_new-ended.ensures.completed c.requires.hashed) s.hashed
 
 pub invariant_of-self-clause-summed : goal.invariant_of-self-clause-summed
 invariant_of-self-clause-summed g c =
@@ -74,9 +71,8 @@ returns g c =
     let weighs = g.W.Weighter.weighs s.weighter c.args.piece.kept.key c.args.piece.kept.value in
     let k : ℕ × g.row.K.Denot = (c.args.hash, c.args.piece.kept.key) in
     let of : ℕ → Data g.row.K.Denot g.row.V.Denot g.row.P.Denot = λ (n : ℕ). record c.args.piece.kept { hash = c.args.hash; weight = n } in
-    let kept : c.with-kept.result ≡ of c.weigh-weight.result = c.with-kept.ensures ∙ ap (λ (z : Data g.row.K.Denot g.row.V.Denot g.row.P.Denot). let e : Data g.row.K.Denot g.row.V.Denot g.row.P.Denot = record z { hash = c.args.hash; weight = c.weigh-weight.result } in e) c.into_share.ensures in
     let weighed : weighs c.weigh-weight.result = rw (← c.key.ensures, ← c.value.ensures) c.weigh-weight.ensures in
-    let did = rw kept at c.complete_new-ended.ensures.completed in
+    let did = c.complete_new-ended.ensures.completed in
     record {
       completed = open_over state_of opens_of s.capacity s.hash_builder s.weighter s.filter s.shards.items c.args.hash (vec_len s.shards) c.place-place.result x s.shards.ok.0 c.place-place.ensures.within c.place-place.ensures.place c.index_mut.ensures.value y
           (λ a f b h. (weight : ℕ) × weighs weight × CompletesBy (meaning_of_core s) (asked (Some c.args.fetch) (f.places k)) Memory a f k (of weight) (ending_of c.complete_new-ended.result) b h) (c.weigh-weight.result, weighed, did);

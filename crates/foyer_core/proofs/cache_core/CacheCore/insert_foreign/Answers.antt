@@ -24,21 +24,20 @@ invariant_of-self-clause-belong g c =
     let s = c.args.self.now in
     let x = c.index_mut.result.now in
     let y = c.take_new-taken.new.self in
-    let hashed : c.with-kept.result.hash ≡ c.args.hash = ap (λ (d : Data g.row.K.Denot g.row.V.Denot g.row.P.Denot). d.hash) c.with-kept.ensures in
+    let d : Data g.row.K.Denot g.row.V.Denot g.row.P.Denot = record c.args.piece.kept { hash = c.args.hash; weight = c.weigh-weight.result } in
     belongs_over state_of s.shards.items c.args.hash (vec_len s.shards) c.place-place.result x s.shards.ok.0 c.place-place.ensures.within c.place-place.ensures.place c.index_mut.ensures.value
     y (emplaced_from (λ e. e.hash ≡ c.args.hash) (meaning_of x) c.take_new-taken.result (λ made. made.leaves.items) (λ made. made.entry) (λ refused. refused.error) (λ refused. refused.leaves.items)
-    Memory (state_of x) c.with-kept.result (1 + waiting_for (opens_of x) (key_of c.with-kept.result)) (state_of y) c.take_new-taken.ensures.inserted hashed) s.belong
+    Memory (state_of x) d (1 + waiting_for (opens_of x) (key_of d)) (state_of y) c.take_new-taken.ensures.inserted refl) s.belong
 
 pub invariant_of-self-clause-hashed : goal.invariant_of-self-clause-hashed
 invariant_of-self-clause-hashed g c =
     let s = c.args.self.now in
     let x = c.index_mut.result.now in
     let y = c.take_new-taken.new.self in
-    let key : c.with-kept.result.key ≡ c.args.piece.kept.key = ap (λ (d : Data g.row.K.Denot g.row.V.Denot g.row.P.Denot). d.key) c.with-kept.ensures ∙ ap (λ (d : Data g.row.K.Denot g.row.V.Denot g.row.P.Denot). d.key) c.into_share.ensures in
-    let hashed : IsHashed (hashes_of s) c.with-kept.result = ap (λ (d : Data g.row.K.Denot g.row.V.Denot g.row.P.Denot). d.hash) c.with-kept.ensures ∙ c.requires.hashed ∙ ap (hashes_of s) (sym key) in
+    let d : Data g.row.K.Denot g.row.V.Denot g.row.P.Denot = record c.args.piece.kept { hash = c.args.hash; weight = c.weigh-weight.result } in
     hashed_over (hashes_of s) state_of s.shards.items (vec_len s.shards) c.place-place.result x s.shards.ok.0 c.place-place.ensures.within c.index_mut.ensures.value
     y (emplaced_from (IsHashed (hashes_of s)) (meaning_of x) c.take_new-taken.result (λ made. made.leaves.items) (λ made. made.entry) (λ refused. refused.error) (λ refused. refused.leaves.items)
-    Memory (state_of x) c.with-kept.result (1 + waiting_for (opens_of x) (key_of c.with-kept.result)) (state_of y) c.take_new-taken.ensures.inserted hashed) s.hashed
+    Memory (state_of x) d (1 + waiting_for (opens_of x) (key_of d)) (state_of y) c.take_new-taken.ensures.inserted c.requires.hashed) s.hashed
 
 pub invariant_of-self-clause-summed : goal.invariant_of-self-clause-summed
 invariant_of-self-clause-summed g c =
@@ -78,8 +77,7 @@ returns-clause-inserted g c =
     let y = c.take_new-taken.new.self in
     let m = meaning_of_core s in
     let d : Data g.row.K.Denot g.row.V.Denot g.row.P.Denot = record c.args.piece.kept { hash = c.args.hash; weight = c.weigh-weight.result } in
-    let kept : c.with-kept.result ≡ d = c.with-kept.ensures ∙ ap (λ (z : Data g.row.K.Denot g.row.V.Denot g.row.P.Denot). let e : Data g.row.K.Denot g.row.V.Denot g.row.P.Denot = record z { hash = c.args.hash; weight = c.weigh-weight.result } in e) c.into_share.ensures in
-    let did = rw kept at c.take_new-taken.ensures.inserted in
+    let did = c.take_new-taken.ensures.inserted in
     let weighs = g.W.Weighter.weighs s.weighter c.args.piece.kept.key c.args.piece.kept.value in
     let weighed : weighs c.weigh-weight.result = rw (c.key.ensures, c.value.ensures) at c.weigh-weight.ensures in
     let step = comes_over m state_of opens_of s.capacity s.hash_builder s.weighter s.filter s.shards.items (vec_len s.shards) c.place-place.result x y Memory d s.shards.ok.0 c.place-place.ensures.within c.place-place.ensures.place c.index_mut.ensures.value c.take_new-taken.result did in
@@ -92,11 +90,10 @@ returns-clause-answers g c =
     let y = c.take_new-taken.new.self in
     let m = meaning_of_core s in
     let d : Data g.row.K.Denot g.row.V.Denot g.row.P.Denot = record c.args.piece.kept { hash = c.args.hash; weight = c.weigh-weight.result } in
-    let kept : c.with-kept.result ≡ d = c.with-kept.ensures ∙ ap (λ (z : Data g.row.K.Denot g.row.V.Denot g.row.P.Denot). let e : Data g.row.K.Denot g.row.V.Denot g.row.P.Denot = record z { hash = c.args.hash; weight = c.weigh-weight.result } in e) c.into_share.ensures in
-    let did = rw kept at c.take_new-taken.ensures.inserted in
+    let did = c.take_new-taken.ensures.inserted in
     let is_of = answer_data m (state_of x) (state_of y) Memory (newcomer (state_of x) d (1 + waiting_for (opens_of x) (key_of d))) c.take_new-taken.result (answering m Memory (state_of x) (newcomer (state_of x) d (1 + waiting_for (opens_of x) (key_of d))) c.take_new-taken.result (state_of y) did) in
     under_entry d c.take_new-taken.result (λ k made. AnswersEach (waiters_of (place_in (fetches_of s) k)) made.entry made.answers) is_of
-    (answers_over m state_of opens_of s.capacity s.hash_builder s.weighter s.filter s.shards.items (vec_len s.shards) c.place-place.result x y Memory d s.shards.ok.0 c.place-place.ensures.within c.place-place.ensures.place c.index_mut.ensures.value c.take_new-taken.result (rw kept at c.take_new-taken.ensures.answers))
+    (answers_over m state_of opens_of s.capacity s.hash_builder s.weighter s.filter s.shards.items (vec_len s.shards) c.place-place.result x y Memory d s.shards.ok.0 c.place-place.ensures.within c.place-place.ensures.place c.index_mut.ensures.value c.take_new-taken.result (c.take_new-taken.ensures.answers))
 
 pub returns-clause-closed : goal.returns-clause-closed
 returns-clause-closed g c =
@@ -105,11 +102,10 @@ returns-clause-closed g c =
     let y = c.take_new-taken.new.self in
     let m = meaning_of_core s in
     let d : Data g.row.K.Denot g.row.V.Denot g.row.P.Denot = record c.args.piece.kept { hash = c.args.hash; weight = c.weigh-weight.result } in
-    let kept : c.with-kept.result ≡ d = c.with-kept.ensures ∙ ap (λ (z : Data g.row.K.Denot g.row.V.Denot g.row.P.Denot). let e : Data g.row.K.Denot g.row.V.Denot g.row.P.Denot = record z { hash = c.args.hash; weight = c.weigh-weight.result } in e) c.into_share.ensures in
-    let did = rw kept at c.take_new-taken.ensures.inserted in
+    let did = c.take_new-taken.ensures.inserted in
     let is_of = answer_data m (state_of x) (state_of y) Memory (newcomer (state_of x) d (1 + waiting_for (opens_of x) (key_of d))) c.take_new-taken.result (answering m Memory (state_of x) (newcomer (state_of x) d (1 + waiting_for (opens_of x) (key_of d))) c.take_new-taken.result (state_of y) did) in
     on_entry d c.take_new-taken.result (λ k. map opens_of (slice_set s.shards.items c.place-place.result y) ≡ at_hash (λ f. closed m.same f k) (fetches_of s) c.args.hash) is_of
-    (closes_over m state_of opens_of s.capacity s.hash_builder s.weighter s.filter s.shards.items (vec_len s.shards) c.place-place.result x y Memory d s.shards.ok.0 c.place-place.ensures.within c.place-place.ensures.place c.index_mut.ensures.value c.take_new-taken.result (rw kept at c.take_new-taken.ensures.closed))
+    (closes_over m state_of opens_of s.capacity s.hash_builder s.weighter s.filter s.shards.items (vec_len s.shards) c.place-place.result x y Memory d s.shards.ok.0 c.place-place.ensures.within c.place-place.ensures.place c.index_mut.ensures.value c.take_new-taken.result (c.take_new-taken.ensures.closed))
 
 pub returns-clause-fetches : goal.returns-clause-fetches
 returns-clause-fetches g c =
@@ -118,8 +114,7 @@ returns-clause-fetches g c =
     let y = c.take_new-taken.new.self in
     let m = meaning_of_core s in
     let d : Data g.row.K.Denot g.row.V.Denot g.row.P.Denot = record c.args.piece.kept { hash = c.args.hash; weight = c.weigh-weight.result } in
-    let kept : c.with-kept.result ≡ d = c.with-kept.ensures ∙ ap (λ (z : Data g.row.K.Denot g.row.V.Denot g.row.P.Denot). let e : Data g.row.K.Denot g.row.V.Denot g.row.P.Denot = record z { hash = c.args.hash; weight = c.weigh-weight.result } in e) c.into_share.ensures in
-    let did = rw kept at c.take_new-taken.ensures.inserted in
+    let did = c.take_new-taken.ensures.inserted in
     opens_stay m state_of opens_of s.capacity s.hash_builder s.weighter s.filter s.shards.items (vec_len s.shards) c.place-place.result x y Memory d s.shards.ok.0 c.place-place.ensures.within c.place-place.ensures.place c.index_mut.ensures.value c.take_new-taken.result c.take_new-taken.ensures.opens
 
 pub returns-clause-stay : goal.returns-clause-stay
@@ -129,7 +124,6 @@ returns-clause-stay g c =
     let y = c.take_new-taken.new.self in
     let m = meaning_of_core s in
     let d : Data g.row.K.Denot g.row.V.Denot g.row.P.Denot = record c.args.piece.kept { hash = c.args.hash; weight = c.weigh-weight.result } in
-    let kept : c.with-kept.result ≡ d = c.with-kept.ensures ∙ ap (λ (z : Data g.row.K.Denot g.row.V.Denot g.row.P.Denot). let e : Data g.row.K.Denot g.row.V.Denot g.row.P.Denot = record z { hash = c.args.hash; weight = c.weigh-weight.result } in e) c.into_share.ensures in
-    let did = rw kept at c.take_new-taken.ensures.inserted in
+    let did = c.take_new-taken.ensures.inserted in
     let over = at_over state_of s.capacity s.hash_builder s.weighter s.filter s.shards.items c.args.hash (vec_len s.shards) c.place-place.result x s.shards.ok.0 c.place-place.ensures.within c.place-place.ensures.place c.index_mut.ensures.value in
     stays_at (core_of s) _ c.args.hash (over (RecordsStay nothing) y (answer_stays m Memory (state_of x) (state_of y) d (1 + waiting_for (opens_of x) (key_of d)) x.store.kept c.take_new-taken.result did))

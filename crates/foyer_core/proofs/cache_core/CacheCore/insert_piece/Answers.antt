@@ -7,6 +7,7 @@ use Rattle.foyer_core.specs.Inflight.{closed, waiters_of}
 use Rattle.foyer_core.specs.Pieces.{InsertsPiece, coming_under, held_or, is_known}
 use Rattle.foyer_core.specs.Shards.{state_of}
 use Rattle.foyer_core.specs.State.{key_of}
+use Rattle.foyer_core.specs.Waited.{insertion_of}
 use Rattle.foyer_core.proofs.CoreLemmas.{shard_over}
 use Rattle.foyer_core.proofs.PieceBounds.{piece_bounds}
 use Rattle.foyer_core.proofs.PieceCalls.{piece_finds, piece_told}
@@ -43,8 +44,8 @@ returns-then-knows-clause-inserted g c =
     let known : is_known (state_of x) c.hash-hash.result piece ≡ true = sym c.knows.ensures ∙ c.if-knows.true in
     let waits = λ (k : ℕ × g.row.K.Denot). 1 + length (waiters_of (place_in (fetches_of s) k)) in
     let count = ap (λ (b : Bool). waits (if b then key_of (held_or piece.kept ((state_of x).records piece.id)) else (c.hash-hash.result, piece.kept.key))) (sym known) in
-    let at = subst (λ (h : ℕ). AtShard (λ a b. InsertsPiece m weighs h piece (waits (coming_under a h piece)) c.insert_known.result a b) h (core_of s) (core_of c.insert_known.new.self)) hash
-    (known_inserts m weighs c.hash-hash.result piece (λ a. waits (coming_under a c.hash-hash.result piece)) c.insert_known.result (core_of s) (core_of c.insert_known.new.self) (state_of x) there known
+    let at = subst (λ (h : ℕ). AtShard (λ a b. InsertsPiece m weighs h piece (waits (coming_under a h piece)) (insertion_of c.insert_known.result) a b) h (core_of s) (core_of c.insert_known.new.self)) hash
+    (known_inserts m weighs c.hash-hash.result piece (λ a. waits (coming_under a c.hash-hash.result piece)) (insertion_of c.insert_known.result) (core_of s) (core_of c.insert_known.new.self) (state_of x) there known
     (λ a. waits (key_of (held_or piece.kept (a.records piece.id)))) count c.insert_known.ensures.returned) in
     at
 
@@ -67,8 +68,8 @@ returns-then-knows-clause-found g c =
     let known : is_known (state_of x) c.hash-hash.result piece ≡ true = sym c.knows.ensures ∙ c.if-knows.true in
     let waits = λ (k : ℕ × g.row.K.Denot). 1 + length (waiters_of (place_in (fetches_of s) k)) in
     let count = ap (λ (b : Bool). waits (if b then key_of (held_or piece.kept ((state_of x).records piece.id)) else (c.hash-hash.result, piece.kept.key))) (sym known) in
-    let at = subst (λ (h : ℕ). AtShard (λ a b. InsertsPiece m weighs h piece (waits (coming_under a h piece)) c.insert_known.result a b) h (core_of s) (core_of c.insert_known.new.self)) hash
-    (known_inserts m weighs c.hash-hash.result piece (λ a. waits (coming_under a c.hash-hash.result piece)) c.insert_known.result (core_of s) (core_of c.insert_known.new.self) (state_of x) there known
+    let at = subst (λ (h : ℕ). AtShard (λ a b. InsertsPiece m weighs h piece (waits (coming_under a h piece)) (insertion_of c.insert_known.result) a b) h (core_of s) (core_of c.insert_known.new.self)) hash
+    (known_inserts m weighs c.hash-hash.result piece (λ a. waits (coming_under a c.hash-hash.result piece)) (insertion_of c.insert_known.result) (core_of s) (core_of c.insert_known.new.self) (state_of x) there known
     (λ a. waits (key_of (held_or piece.kept (a.records piece.id)))) count c.insert_known.ensures.returned) in
     let equal : (a b : g.row.K.Denot) → g.K.PartialEq.eq a b ≡ true → hashes_of s a ≡ hashes_of s b = λ a b same. ap (g.S.HashBuilder.hash_of s.hash_builder) (g.met.K.Hash.respects_eq a b same) in
     let sound = core_sound s g.met.K.Eq.laws g.met.E.Eviction.lawful equal in
@@ -87,8 +88,8 @@ returns-then-knows-clause-bounded g c =
     let known : is_known (state_of x) c.hash-hash.result piece ≡ true = sym c.knows.ensures ∙ c.if-knows.true in
     let waits = λ (k : ℕ × g.row.K.Denot). 1 + length (waiters_of (place_in (fetches_of s) k)) in
     let count = ap (λ (b : Bool). waits (if b then key_of (held_or piece.kept ((state_of x).records piece.id)) else (c.hash-hash.result, piece.kept.key))) (sym known) in
-    let at = subst (λ (h : ℕ). AtShard (λ a b. InsertsPiece m weighs h piece (waits (coming_under a h piece)) c.insert_known.result a b) h (core_of s) (core_of c.insert_known.new.self)) hash
-    (known_inserts m weighs c.hash-hash.result piece (λ a. waits (coming_under a c.hash-hash.result piece)) c.insert_known.result (core_of s) (core_of c.insert_known.new.self) (state_of x) there known
+    let at = subst (λ (h : ℕ). AtShard (λ a b. InsertsPiece m weighs h piece (waits (coming_under a h piece)) (insertion_of c.insert_known.result) a b) h (core_of s) (core_of c.insert_known.new.self)) hash
+    (known_inserts m weighs c.hash-hash.result piece (λ a. waits (coming_under a c.hash-hash.result piece)) (insertion_of c.insert_known.result) (core_of s) (core_of c.insert_known.new.self) (state_of x) there known
     (λ a. waits (key_of (held_or piece.kept (a.records piece.id)))) count c.insert_known.ensures.returned) in
     let equal : (a b : g.row.K.Denot) → g.K.PartialEq.eq a b ≡ true → hashes_of s a ≡ hashes_of s b = λ a b same. ap (g.S.HashBuilder.hash_of s.hash_builder) (g.met.K.Hash.respects_eq a b same) in
     let sound = core_sound s g.met.K.Eq.laws g.met.E.Eviction.lawful equal in
@@ -107,8 +108,8 @@ returns-then-knows-clause-told g c =
     let known : is_known (state_of x) c.hash-hash.result piece ≡ true = sym c.knows.ensures ∙ c.if-knows.true in
     let waits = λ (k : ℕ × g.row.K.Denot). 1 + length (waiters_of (place_in (fetches_of s) k)) in
     let count = ap (λ (b : Bool). waits (if b then key_of (held_or piece.kept ((state_of x).records piece.id)) else (c.hash-hash.result, piece.kept.key))) (sym known) in
-    let at = subst (λ (h : ℕ). AtShard (λ a b. InsertsPiece m weighs h piece (waits (coming_under a h piece)) c.insert_known.result a b) h (core_of s) (core_of c.insert_known.new.self)) hash
-    (known_inserts m weighs c.hash-hash.result piece (λ a. waits (coming_under a c.hash-hash.result piece)) c.insert_known.result (core_of s) (core_of c.insert_known.new.self) (state_of x) there known
+    let at = subst (λ (h : ℕ). AtShard (λ a b. InsertsPiece m weighs h piece (waits (coming_under a h piece)) (insertion_of c.insert_known.result) a b) h (core_of s) (core_of c.insert_known.new.self)) hash
+    (known_inserts m weighs c.hash-hash.result piece (λ a. waits (coming_under a c.hash-hash.result piece)) (insertion_of c.insert_known.result) (core_of s) (core_of c.insert_known.new.self) (state_of x) there known
     (λ a. waits (key_of (held_or piece.kept (a.records piece.id)))) count c.insert_known.ensures.returned) in
     let equal : (a b : g.row.K.Denot) → g.K.PartialEq.eq a b ≡ true → hashes_of s a ≡ hashes_of s b = λ a b same. ap (g.S.HashBuilder.hash_of s.hash_builder) (g.met.K.Hash.respects_eq a b same) in
     let sound = core_sound s g.met.K.Eq.laws g.met.E.Eviction.lawful equal in
@@ -127,8 +128,8 @@ returns-clause-inserted g c =
     let known : is_known (state_of x) c.hash-hash.result piece ≡ false = sym c.knows.ensures ∙ c.if-knows.false in
     let waits = λ (k : ℕ × g.row.K.Denot). 1 + length (waiters_of (place_in (fetches_of s) k)) in
     let count = ap (λ (b : Bool). waits (if b then key_of (held_or piece.kept ((state_of x).records piece.id)) else (c.hash-hash.result, piece.kept.key))) (sym known) in
-    let at = subst (λ (h : ℕ). AtShard (λ a b. InsertsPiece m weighs h piece (waits (coming_under a h piece)) c.insert_foreign.result a b) h (core_of s) (core_of c.insert_foreign.new.self)) hash
-    (foreign_inserts m weighs c.hash-hash.result piece (λ a. waits (coming_under a c.hash-hash.result piece)) c.insert_foreign.result (core_of s) (core_of c.insert_foreign.new.self) (state_of x) there known
+    let at = subst (λ (h : ℕ). AtShard (λ a b. InsertsPiece m weighs h piece (waits (coming_under a h piece)) (insertion_of c.insert_foreign.result) a b) h (core_of s) (core_of c.insert_foreign.new.self)) hash
+    (foreign_inserts m weighs c.hash-hash.result piece (λ a. waits (coming_under a c.hash-hash.result piece)) (insertion_of c.insert_foreign.result) (core_of s) (core_of c.insert_foreign.new.self) (state_of x) there known
     (λ a. waits (c.hash-hash.result, piece.kept.key)) count c.insert_foreign.ensures.inserted) in
     at
 
@@ -151,8 +152,8 @@ returns-clause-found g c =
     let known : is_known (state_of x) c.hash-hash.result piece ≡ false = sym c.knows.ensures ∙ c.if-knows.false in
     let waits = λ (k : ℕ × g.row.K.Denot). 1 + length (waiters_of (place_in (fetches_of s) k)) in
     let count = ap (λ (b : Bool). waits (if b then key_of (held_or piece.kept ((state_of x).records piece.id)) else (c.hash-hash.result, piece.kept.key))) (sym known) in
-    let at = subst (λ (h : ℕ). AtShard (λ a b. InsertsPiece m weighs h piece (waits (coming_under a h piece)) c.insert_foreign.result a b) h (core_of s) (core_of c.insert_foreign.new.self)) hash
-    (foreign_inserts m weighs c.hash-hash.result piece (λ a. waits (coming_under a c.hash-hash.result piece)) c.insert_foreign.result (core_of s) (core_of c.insert_foreign.new.self) (state_of x) there known
+    let at = subst (λ (h : ℕ). AtShard (λ a b. InsertsPiece m weighs h piece (waits (coming_under a h piece)) (insertion_of c.insert_foreign.result) a b) h (core_of s) (core_of c.insert_foreign.new.self)) hash
+    (foreign_inserts m weighs c.hash-hash.result piece (λ a. waits (coming_under a c.hash-hash.result piece)) (insertion_of c.insert_foreign.result) (core_of s) (core_of c.insert_foreign.new.self) (state_of x) there known
     (λ a. waits (c.hash-hash.result, piece.kept.key)) count c.insert_foreign.ensures.inserted) in
     let equal : (a b : g.row.K.Denot) → g.K.PartialEq.eq a b ≡ true → hashes_of s a ≡ hashes_of s b = λ a b same. ap (g.S.HashBuilder.hash_of s.hash_builder) (g.met.K.Hash.respects_eq a b same) in
     let sound = core_sound s g.met.K.Eq.laws g.met.E.Eviction.lawful equal in
@@ -171,8 +172,8 @@ returns-clause-bounded g c =
     let known : is_known (state_of x) c.hash-hash.result piece ≡ false = sym c.knows.ensures ∙ c.if-knows.false in
     let waits = λ (k : ℕ × g.row.K.Denot). 1 + length (waiters_of (place_in (fetches_of s) k)) in
     let count = ap (λ (b : Bool). waits (if b then key_of (held_or piece.kept ((state_of x).records piece.id)) else (c.hash-hash.result, piece.kept.key))) (sym known) in
-    let at = subst (λ (h : ℕ). AtShard (λ a b. InsertsPiece m weighs h piece (waits (coming_under a h piece)) c.insert_foreign.result a b) h (core_of s) (core_of c.insert_foreign.new.self)) hash
-    (foreign_inserts m weighs c.hash-hash.result piece (λ a. waits (coming_under a c.hash-hash.result piece)) c.insert_foreign.result (core_of s) (core_of c.insert_foreign.new.self) (state_of x) there known
+    let at = subst (λ (h : ℕ). AtShard (λ a b. InsertsPiece m weighs h piece (waits (coming_under a h piece)) (insertion_of c.insert_foreign.result) a b) h (core_of s) (core_of c.insert_foreign.new.self)) hash
+    (foreign_inserts m weighs c.hash-hash.result piece (λ a. waits (coming_under a c.hash-hash.result piece)) (insertion_of c.insert_foreign.result) (core_of s) (core_of c.insert_foreign.new.self) (state_of x) there known
     (λ a. waits (c.hash-hash.result, piece.kept.key)) count c.insert_foreign.ensures.inserted) in
     let equal : (a b : g.row.K.Denot) → g.K.PartialEq.eq a b ≡ true → hashes_of s a ≡ hashes_of s b = λ a b same. ap (g.S.HashBuilder.hash_of s.hash_builder) (g.met.K.Hash.respects_eq a b same) in
     let sound = core_sound s g.met.K.Eq.laws g.met.E.Eviction.lawful equal in
@@ -191,8 +192,8 @@ returns-clause-told g c =
     let known : is_known (state_of x) c.hash-hash.result piece ≡ false = sym c.knows.ensures ∙ c.if-knows.false in
     let waits = λ (k : ℕ × g.row.K.Denot). 1 + length (waiters_of (place_in (fetches_of s) k)) in
     let count = ap (λ (b : Bool). waits (if b then key_of (held_or piece.kept ((state_of x).records piece.id)) else (c.hash-hash.result, piece.kept.key))) (sym known) in
-    let at = subst (λ (h : ℕ). AtShard (λ a b. InsertsPiece m weighs h piece (waits (coming_under a h piece)) c.insert_foreign.result a b) h (core_of s) (core_of c.insert_foreign.new.self)) hash
-    (foreign_inserts m weighs c.hash-hash.result piece (λ a. waits (coming_under a c.hash-hash.result piece)) c.insert_foreign.result (core_of s) (core_of c.insert_foreign.new.self) (state_of x) there known
+    let at = subst (λ (h : ℕ). AtShard (λ a b. InsertsPiece m weighs h piece (waits (coming_under a h piece)) (insertion_of c.insert_foreign.result) a b) h (core_of s) (core_of c.insert_foreign.new.self)) hash
+    (foreign_inserts m weighs c.hash-hash.result piece (λ a. waits (coming_under a c.hash-hash.result piece)) (insertion_of c.insert_foreign.result) (core_of s) (core_of c.insert_foreign.new.self) (state_of x) there known
     (λ a. waits (c.hash-hash.result, piece.kept.key)) count c.insert_foreign.ensures.inserted) in
     let equal : (a b : g.row.K.Denot) → g.K.PartialEq.eq a b ≡ true → hashes_of s a ≡ hashes_of s b = λ a b same. ap (g.S.HashBuilder.hash_of s.hash_builder) (g.met.K.Hash.respects_eq a b same) in
     let sound = core_sound s g.met.K.Eq.laws g.met.E.Eviction.lawful equal in

@@ -1,4 +1,4 @@
-use Rattle.std.proofs.Common.{◌≡◌, sym, ◌∙◌}
+use Rattle.std.proofs.Common.{sym, ◌∙◌}
 use Rattle.foyer_policy.proofs.GhostLemmas.{has}
 use Rattle.foyer_policy.proofs.ghost_queue.GhostQueue.contains.Goals as goal
 

@@ -1,8 +1,7 @@
-use Rattle.std.proofs.Common.{◌≡◌, ◌≢◌, ℕ, List, ◌+◌, ◌-◌, ◌<◌, ◌≤◌, ◌∷◌, ◌++◌, [], false, arith, ap, sym, ◌∙◌}
-use Rattle.std.specs.Prelude.{◌==◌, min}
+use Rattle.std.proofs.Common.{List, ◌-◌, ◌<◌, ◌∷◌, ◌++◌, [], arith, ap, sym, ◌∙◌}
+use Rattle.std.specs.Prelude.{min}
 use Rattle.std.specs.HashSet.{spare}
 use Rattle.std.specs.VecDeque.{deque_len, deque_capacity}
-use Rattle.std.proofs.lemmas.Bool.Decides.{nat_tests}
 use Rattle.foyer_policy.specs.FitLaws.{fit_within}
 use Rattle.std.specs.FinSet.{insert}
 use Rattle.foyer_policy.specs.Items.{fit, over}

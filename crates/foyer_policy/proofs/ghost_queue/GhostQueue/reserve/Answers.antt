@@ -1,4 +1,3 @@
-use Rattle.std.proofs.Common.{◌≡◌, sym, ◌∙◌}
 use Rattle.foyer_policy.proofs.GhostLemmas.{same_ghost, set-reordered}
 use Rattle.foyer_policy.proofs.ghost_queue.GhostQueue.reserve.Goals as goal
 

@@ -1,9 +1,9 @@
-use Rattle.std.proofs.Common.{◌≡◌, ◌≢◌, ◌+◌, ◌^◌, ◌<◌, ◌≤◌, ℕ, Some, arith, ap, sym, ◌∙◌, subst, refl}
+use Rattle.std.proofs.Common.{◌≡◌, ℕ, Some, arith, ap, sym, ◌∙◌, subst, refl}
 use Rattle.std.specs.List.Sorted.{IsPermutation}
-use Rattle.foyer_policy.specs.Items.{weight_of, IsNewIn}
+use Rattle.foyer_policy.specs.Items.{weight_of}
 use Rattle.foyer_policy.specs.Lfu.{LfuView, seen, lfu}
 use Rattle.foyer_policy.specs.LfuLaws.{lfu_lawful}
-use Rattle.foyer_policy.specs.LfuLists.{LfuLists, lfu_view, items_in, IsLfu}
+use Rattle.foyer_policy.specs.LfuLists.{LfuLists, lfu_view, items_in}
 use Rattle.foyer_policy.specs.Lists.{list_at, find, find_in, moved}
 use Rattle.foyer_policy.specs.declared.types.Item.{Item}
 use Rattle.foyer_policy.specs.contracts.lfu.Lfu.{the_view}

@@ -1,8 +1,5 @@
-use Rattle.std.proofs.Common.{◌≡◌, ◌-◌, ◌≤◌, ◌<◌, Some, List, ℕ, arith, map, ap, sym, ◌∙◌, subst, refl}
-use Rattle.foyer_policy.specs.Lfu.{LfuView}
+use Rattle.std.proofs.Common.{◌∙◌, refl}
 use Rattle.foyer_policy.specs.LfuLists.{lfu_view}
-use Rattle.foyer_policy.specs.Lists.{drop_place}
-use Rattle.foyer_policy.specs.declared.types.Item.{Item}
 use Rattle.foyer_policy.specs.contracts.lfu.Lfu.{the_view}
 use Rattle.foyer_policy.proofs.LfuViews.{IsLfu-removed, dropped-places}
 use Rattle.foyer_policy.proofs.SegmentLemmas.{popped}

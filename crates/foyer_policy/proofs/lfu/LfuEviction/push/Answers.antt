@@ -1,8 +1,7 @@
-use Rattle.std.proofs.Common.{◌≡◌, ◌≢◌, ◌+◌, ◌^◌, ◌<◌, arith, ap, sym, ◌∙◌, subst}
+use Rattle.std.proofs.Common.{◌≡◌, ◌+◌, ◌^◌, ◌<◌, arith, ap, sym, ◌∙◌, subst}
 use Rattle.foyer_policy.specs.Items.{weight_of, IsNewIn}
 use Rattle.foyer_policy.specs.Lfu.{LfuView, seen, lfu}
 use Rattle.foyer_policy.specs.LfuLists.{LfuLists, lfu_view, IsLfu}
-use Rattle.foyer_policy.specs.Sketch.{Sketch}
 use Rattle.foyer_policy.specs.contracts.lfu.Lfu.{the_view}
 use Rattle.foyer_policy.proofs.LfuViews.{view_of, IsLfu-pushed, pushed-view}
 use Rattle.foyer_policy.proofs.lfu.LfuEviction.push.Goals as goal

@@ -1,8 +1,7 @@
-use Rattle.std.proofs.Common.{◌≡◌, ◌-◌, ◌≤◌, ◌<◌, Some, arith, map, ap, sym, ◌∙◌, subst, refl}
+use Rattle.std.proofs.Common.{◌≡◌, Some, ap, ◌∙◌, refl}
 use Rattle.foyer_policy.specs.Lfu.{LfuView, lfu}
-use Rattle.foyer_policy.specs.LfuLists.{LfuLists, lfu_view, IsLfu}
-use Rattle.foyer_policy.specs.Lists.{list_at, find, find_in, drop_place}
-use Rattle.foyer_policy.specs.declared.types.Item.{Item}
+use Rattle.foyer_policy.specs.LfuLists.{LfuLists, lfu_view}
+use Rattle.foyer_policy.specs.Lists.{list_at, find_in}
 use Rattle.foyer_policy.proofs.LfuViews.{view_of, IsLfu-removed, removed-view, dropped-places, in_all}
 use Rattle.foyer_policy.proofs.lfu.LfuEviction.remove.Goals as goal
 

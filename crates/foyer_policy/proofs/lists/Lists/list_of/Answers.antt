@@ -1,4 +1,4 @@
-use Rattle.std.proofs.Common.{◌≡◌, ◌<◌, ℕ, arith, refl, rules, sym, ◌∙◌, ap, IsSome, length}
+use Rattle.std.proofs.Common.{◌≡◌, ℕ, arith, refl, rules, sym, ◌∙◌, ap, IsSome, length}
 use Rattle.slab.specs.Slab.{get}
 use Rattle.foyer_policy.specs.Chain.{lists_of}
 use Rattle.foyer_policy.specs.Lists.{find, find_in, list_at}

@@ -1,9 +1,8 @@
-use Rattle.std.proofs.Common.{◌≡◌, ◌+◌, ◌*◌, ◌≤◌, false, true, length, refl, sym, ap, arith, ◌∙◌}
+use Rattle.std.proofs.Common.{refl, sym, arith}
 use Rattle.foyer_policy.specs.GhostQueue.{ghost_of}
-use Rattle.foyer_policy.specs.Lists.{list_at}
-use Rattle.foyer_policy.specs.S3Fifo.{Setting, frequencies}
-use Rattle.foyer_policy.specs.S3FifoLaws.{s3fifo_lawful, order_of, few_looks}
-use Rattle.foyer_policy.specs.S3FifoQueues.{small_of, main_of, view_with}
+use Rattle.foyer_policy.specs.S3Fifo.{Setting}
+use Rattle.foyer_policy.specs.S3FifoLaws.{s3fifo_lawful, few_looks}
+use Rattle.foyer_policy.specs.S3FifoQueues.{view_with}
 use Rattle.foyer_policy.proofs.S3FifoNodes.{few-frequencies}
 use Rattle.foyer_policy.proofs.s3fifo.S3Fifo.pop_reserved.Goals as goal
 

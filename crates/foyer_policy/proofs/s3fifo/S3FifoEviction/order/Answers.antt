@@ -1,4 +1,4 @@
-use Rattle.std.proofs.Common.{◌≡◌, ◌++◌, ap, sym, refl, ◌∙◌}
+use Rattle.std.proofs.Common.{◌++◌, ap, sym, refl, ◌∙◌}
 use Rattle.foyer_policy.specs.Held.{items_of}
 use Rattle.foyer_policy.specs.Lists.{list_at}
 use Rattle.foyer_policy.proofs.S3FifoNodes.{items-entries}

@@ -1,5 +1,4 @@
-use Rattle.std.proofs.Common.{rules, ◌≡◌, ◌++◌, refl, arith, ap, sym, ◌∙◌, true, false}
-use Rattle.std.specs.Prelude.{ℕ}
+use Rattle.std.proofs.Common.{rules, ◌≡◌, ◌++◌, arith, ap, sym, ◌∙◌}
 use Rattle.foyer_policy.specs.Items.{weight_of, IsNewIn}
 use Rattle.foyer_policy.specs.S3Fifo.{items}
 use Rattle.foyer_policy.specs.S3FifoQueues.{Node, small_of, main_of}

@@ -1,8 +1,8 @@
-use Rattle.std.proofs.Common.{◌≡◌, refl, arith, ap, sym, ◌∙◌}
+use Rattle.std.proofs.Common.{arith, ap, sym, ◌∙◌}
 use Rattle.foyer_policy.specs.GhostQueue.{ghost_of}
 use Rattle.foyer_policy.specs.Items.{weight_of}
-use Rattle.foyer_policy.specs.S3Fifo.{Setting, S3FifoView, items}
-use Rattle.foyer_policy.specs.S3FifoQueues.{small_of, view_with, item_at}
+use Rattle.foyer_policy.specs.S3Fifo.{Setting, items}
+use Rattle.foyer_policy.specs.S3FifoQueues.{view_with, item_at}
 use Rattle.foyer_policy.proofs.S3FifoNodes.{out-places}
 use Rattle.foyer_policy.proofs.S3FifoCalls.{member, remove-view, removed-queues, small-weight, main-weight, not-true, not-false}
 use Rattle.foyer_policy.proofs.s3fifo.S3FifoEviction.remove.Goals as goal

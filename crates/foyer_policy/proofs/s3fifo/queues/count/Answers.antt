@@ -1,4 +1,4 @@
-use Rattle.std.proofs.Common.{◌≡◌, Some, lit<}
+use Rattle.std.proofs.Common.{Some, lit<}
 use Rattle.foyer_policy.specs.Lists.{list_at}
 use Rattle.foyer_policy.proofs.S3FifoNodes.{Counted, counted-found, counted-on}
 use Rattle.foyer_policy.proofs.s3fifo.queues.count.Goals as goal

@@ -1,6 +1,5 @@
-use Rattle.std.proofs.Common.{◌≡◌, ℕ, ◌-◌, List, ◌++◌, None, length}
-use Rattle.foyer_policy.specs.Lists.{list_at, first_or}
-use Rattle.foyer_policy.specs.S3FifoQueues.{Node}
+use Rattle.std.proofs.Common.{◌-◌, length}
+use Rattle.foyer_policy.specs.Lists.{list_at}
 use Rattle.foyer_policy.proofs.s3fifo.queues.count.Given as goal
 use Rattle.foyer_policy.proofs.S3FifoNodes.{Counted}
 

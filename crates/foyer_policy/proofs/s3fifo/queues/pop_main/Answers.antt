@@ -1,4 +1,4 @@
-use Rattle.std.proofs.Common.{◌≡◌, ap, ◌∙◌}
+use Rattle.std.proofs.Common.{ap, ◌∙◌}
 use Rattle.foyer_policy.specs.Policy.{without}
 use Rattle.foyer_policy.proofs.S3FifoNodes.{popped-queues, popped-places}
 use Rattle.foyer_policy.proofs.s3fifo.queues.pop_main.Goals as goal

@@ -1,4 +1,4 @@
-use Rattle.std.proofs.Common.{◌≡◌, [], ap, subst, sym, ◌∙◌, refl, arith}
+use Rattle.std.proofs.Common.{◌≡◌, [], ap, subst, ◌∙◌, refl, arith}
 use Rattle.std.specs.Option.{option_map}
 use Rattle.foyer_policy.specs.GhostQueue.{ghost_of}
 use Rattle.foyer_policy.specs.S3Fifo.{S3FifoView, from_main, from_rare, promoted}

@@ -1,13 +1,13 @@
-use Rattle.std.proofs.Common.{◌≡◌, ◌≢◌, ℕ, suc, ◌+◌, ◌-◌, ◌*◌, ◌≤◌, ◌<◌, ◌∷◌, ◌++◌, [], List, Some, true, false, refl, arith, ap, sym, ◌∙◌, map, length}
-use Rattle.std.specs.Prelude.{nat_lt, IfSome}
+use Rattle.std.proofs.Common.{◌≡◌, ◌+◌, ◌-◌, ◌<◌, ◌∷◌, ◌++◌, [], true, false, refl, arith, ap, sym, ◌∙◌, map, length}
+use Rattle.std.specs.Prelude.{nat_lt}
 use Rattle.std.specs.Option.{option_map}
 use Rattle.std.proofs.lemmas.Bool.Decides.{nat_tests}
-use Rattle.foyer_policy.specs.Lists.{list_at, find, drop_place, with_value, moved, AreLists}
+use Rattle.foyer_policy.specs.Lists.{list_at, drop_place, with_value, moved}
 use Rattle.foyer_policy.specs.Policy.{without}
-use Rattle.foyer_policy.specs.S3Fifo.{Entry, frequencies, main_turn, main_looks}
+use Rattle.foyer_policy.specs.S3Fifo.{frequencies, main_turn, main_looks}
 use Rattle.foyer_policy.specs.S3FifoQueues.{Node, entry, entries, small_of, main_of, item_at}
 use Rattle.foyer_policy.proofs.ListsLemmas.{length-list_at}
-use Rattle.foyer_policy.proofs.S3FifoNodes.{item_of, Front, Fronted, fronted, out-places, write-places, main-head, look-sound, look-main, look-small, look-found, look-queues, round-main, round-small, round-length, round-queues, drop-main, drop-small, drop-queues, frequencies-le}
+use Rattle.foyer_policy.proofs.S3FifoNodes.{item_of, Front, fronted, out-places, write-places, main-head, look-sound, look-main, look-small, look-found, look-queues, round-main, round-small, round-length, round-queues, drop-main, drop-small, drop-queues, frequencies-le}
 use Rattle.foyer_policy.proofs.S3FifoSteps.{less, main-next, main-done, paid-next}
 use Rattle.foyer_policy.proofs.s3fifo.queues.take_main.Goals as goal
 use Rattle.foyer_policy.proofs.s3fifo.queues.take_main.Goals.{After-move_back}

@@ -1,4 +1,4 @@
-use Rattle.std.proofs.Common.{◌≡◌, ℕ, ◌+◌, ◌≤◌, length}
+use Rattle.std.proofs.Common.{◌≡◌, ℕ, ◌+◌, length}
 use Rattle.foyer_policy.specs.Lists.{list_at}
 use Rattle.foyer_policy.specs.S3Fifo.{frequencies, main_turn, main_looks}
 use Rattle.foyer_policy.specs.S3FifoQueues.{small_of, main_of, item_at, AreQueues}

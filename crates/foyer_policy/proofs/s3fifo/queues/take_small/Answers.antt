@@ -1,11 +1,10 @@
-use Rattle.std.proofs.Common.{◌≡◌, ℕ, ◌+◌, ◌-◌, ◌≤◌, ◌<◌, ◌∷◌, ◌++◌, [], List, Some, true, false, cond, refl, arith, ap, sym, ◌∙◌, map, append_assoc, append-nil}
+use Rattle.std.proofs.Common.{◌≡◌, ◌∷◌, ◌++◌, [], true, refl, arith, ap, sym, ◌∙◌, map, append_assoc, append-nil}
 use Rattle.std.specs.Option.{option_map}
-use Rattle.foyer_policy.specs.Lists.{list_at, drop_place, with_value, moved}
+use Rattle.foyer_policy.specs.Lists.{with_value, moved}
 use Rattle.foyer_policy.specs.Items.{weight_of}
 use Rattle.foyer_policy.specs.Policy.{without}
-use Rattle.foyer_policy.specs.S3Fifo.{Entry, items, frequent_front, from_rare}
+use Rattle.foyer_policy.specs.S3Fifo.{items, frequent_front, from_rare}
 use Rattle.foyer_policy.specs.S3FifoQueues.{Node, entry, entries, small_of, main_of, item_at}
-use Rattle.foyer_policy.specs.declared.types.Item.{Item}
 use Rattle.foyer_policy.proofs.S3FifoNodes.{item_of, front, small-head, out-places, out-small, out-main, out-queues, write-places, promote-small, promote-main, promote-queues}
 use Rattle.foyer_policy.proofs.S3FifoRare.{rare-stops, rare-goes, front-stops, front-goes, weight-head}
 use Rattle.foyer_policy.proofs.s3fifo.queues.take_small.Goals as goal

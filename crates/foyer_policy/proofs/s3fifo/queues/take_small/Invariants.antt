@@ -1,4 +1,4 @@
-use Rattle.std.proofs.Common.{◌≡◌, ℕ, ◌≤◌, ◌++◌, length}
+use Rattle.std.proofs.Common.{◌≡◌, ℕ, ◌++◌, length}
 use Rattle.foyer_policy.specs.Lists.{list_at}
 use Rattle.foyer_policy.specs.Items.{weight_of}
 use Rattle.foyer_policy.specs.S3Fifo.{items, frequent_front, from_rare}

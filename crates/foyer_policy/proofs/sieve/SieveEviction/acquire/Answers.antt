@@ -1,4 +1,4 @@
-use Rattle.std.proofs.Common.{◌≡◌, Some, true, refl, ap, sym, ◌∙◌}
+use Rattle.std.proofs.Common.{◌≡◌, Some, true, refl, ap}
 use Rattle.std.specs.Option.{option_map}
 use Rattle.foyer_policy.specs.SieveQueue.{Node, item_at}
 use Rattle.foyer_policy.proofs.SieveNodes.{item_of}

@@ -1,4 +1,4 @@
-use Rattle.std.proofs.Common.{◌≡◌, map, ap, sym, ◌∙◌}
+use Rattle.std.proofs.Common.{map, ap, ◌∙◌}
 use Rattle.foyer_policy.specs.Lists.{list_at, drop_place}
 use Rattle.foyer_policy.specs.SieveQueue.{entries, hand_id, item_at}
 use Rattle.foyer_policy.proofs.SieveCalls.{same_view, out-places, out-member, out-queue, out-once, out-hand, out-there}

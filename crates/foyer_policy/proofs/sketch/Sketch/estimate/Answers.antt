@@ -1,4 +1,4 @@
-use Rattle.std.proofs.Common.{◌≡◌, ◌<◌, ◌≤◌, ℕ, List, length, sym, ◌∙◌, ap, subst, arith}
+use Rattle.std.proofs.Common.{◌≡◌, ◌<◌, ℕ, List, length, ◌∙◌, ap, subst, arith}
 use Rattle.foyer_policy.specs.Sketch.{Sketch, HasPast, estimate_of, sketch_of}
 use Rattle.foyer_policy.proofs.ChunkLemmas.{length-first_chunks}
 use Rattle.foyer_policy.proofs.SketchPasts.{estimates_bounded}

@@ -1,9 +1,9 @@
-use Rattle.std.proofs.Common.{◌≡◌, ◌+◌, ◌/◌, ◌<◌, ◌≤◌, ℕ, List, length, map, sym, ◌∙◌, ap, subst, arith}
+use Rattle.std.proofs.Common.{◌≡◌, ◌+◌, ◌/◌, ℕ, List, length, map, sym, ◌∙◌, ap, subst, arith}
 use Rattle.std.specs.Simd.{first_chunks}
 use Rattle.std.specs.Vec.{with_items}
 use Rattle.std.proofs.lemmas.List.{with_items_is}
 use Rattle.foyer_policy.specs.Sketch.{sketch_of, IsSketch, counted, counting}
-use Rattle.foyer_policy.proofs.SketchKept.{IsSketch-counted, sketch_of-counted, IsSketch-settled, sketch_of-settled}
+use Rattle.foyer_policy.proofs.SketchKept.{IsSketch-counted, IsSketch-settled, sketch_of-settled}
 use Rattle.foyer_policy.proofs.sketch.Sketch.update.Goals as goal
 
 -- the counters that were written, without a halving

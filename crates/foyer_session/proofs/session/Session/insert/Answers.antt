@@ -7,6 +7,7 @@ use Rattle.foyer_core.specs.CoreFetches.{at_hash}
 use Rattle.foyer_core.specs.Cores.{core_of, fetches_of, hashes_of}
 use Rattle.foyer_core.specs.Inflight.{closed}
 use Rattle.foyer_core.specs.Steps.{newcomer}
+use Rattle.foyer_core.specs.Waited.{denied_of, made_of}
 use Rattle.foyer_core.proofs.IdleLemmas.{closed_idle, idle_answers, idle_weighed, still_idle}
 use Rattle.foyer_session.specs.Sessions.{session_of, meaning_of_session, terms_of}
 use Rattle.foyer_session.specs.Step.{data_of}
@@ -29,7 +30,7 @@ invariant_of-self g c =
     let mid = core_of c.insert_with_properties.new.self in
     let told = c.tell_inserted.ensures in
     let hash = hashes_of s.core c.args.key in
-    let did = idle_weighed m (fetches_of s.core) s.idle hash (Ok made) (core_of s.core) mid Outer (g.W.Weighter.weighs s.core.weighter c.args.key c.args.value) (g.A.Filter.admits s.core.filter c.args.key c.args.value)
+    let did = idle_weighed m (fetches_of s.core) s.idle hash (Ok (made_of made)) (core_of s.core) mid Outer (g.W.Weighter.weighs s.core.weighter c.args.key c.args.value) (g.A.Filter.admits s.core.filter c.args.key c.args.value)
     c.args.key c.args.value (λ admitted. (terms_of s).incoming admitted c.args.properties) c.in-Ok.ensures.inserted in
     let d = data_of (terms_of s) (session_of s) c.args.key c.args.value c.args.properties did.weight did.admitted in
     record {
@@ -49,7 +50,7 @@ invariant_of-self-in-Err-1 g c =
     let refused = c.in-Err.refused in
     let new = core_of c.insert_with_properties.new.self in
     let hash = hashes_of s.core c.args.key in
-    let did = idle_weighed m (fetches_of s.core) s.idle hash (Err refused) (core_of s.core) new Outer (g.W.Weighter.weighs s.core.weighter c.args.key c.args.value) (g.A.Filter.admits s.core.filter c.args.key c.args.value)
+    let did = idle_weighed m (fetches_of s.core) s.idle hash (Err (denied_of refused)) (core_of s.core) new Outer (g.W.Weighter.weighs s.core.weighter c.args.key c.args.value) (g.A.Filter.admits s.core.filter c.args.key c.args.value)
     c.args.key c.args.value (λ admitted. (terms_of s).incoming admitted c.args.properties) c.in-Err.ensures.inserted in
     let d = data_of (terms_of s) (session_of s) c.args.key c.args.value c.args.properties did.weight did.admitted in
     record {
@@ -65,7 +66,7 @@ returns-in-Ok-clause-step g c =
     let mid = core_of c.insert_with_properties.new.self in
     let told = c.tell_inserted.ensures in
     let hash = hashes_of s.core c.args.key in
-    let did = idle_weighed m (fetches_of s.core) s.idle hash (Ok made) (core_of s.core) mid Outer (g.W.Weighter.weighs s.core.weighter c.args.key c.args.value) (g.A.Filter.admits s.core.filter c.args.key c.args.value)
+    let did = idle_weighed m (fetches_of s.core) s.idle hash (Ok (made_of made)) (core_of s.core) mid Outer (g.W.Weighter.weighs s.core.weighter c.args.key c.args.value) (g.A.Filter.admits s.core.filter c.args.key c.args.value)
     c.args.key c.args.value (λ admitted. (terms_of s).incoming admitted c.args.properties) c.in-Ok.ensures.inserted in
     let d = data_of (terms_of s) (session_of s) c.args.key c.args.value c.args.properties did.weight did.admitted in
     rw (told.answer, told.leaves) (
@@ -74,7 +75,7 @@ returns-in-Ok-clause-step g c =
       made.entry,
       did.weighed,
       did.answered,
-      at_still (λ a b. InsertsAnswering m Outer a (newcomer a d 1) (Ok made) b) hash (core_of s.core) mid (core_of c.tell_inserted.new.core) told.core did.inserts,
+      at_still (λ a b. InsertsAnswering m Outer a (newcomer a d 1) (Ok (made_of made)) b) hash (core_of s.core) mid (core_of c.tell_inserted.new.core) told.core did.inserts,
       record {
         numbered = refl;
         tells = refl;
@@ -88,6 +89,6 @@ pub returns-in-Err-clause-step : goal.returns-in-Err-clause-step
 returns-in-Err-clause-step g c =
     let s = c.args.self.now in
     let new = core_of c.insert_with_properties.new.self in
-    let did = idle_weighed (meaning_of_session s) (fetches_of s.core) s.idle (hashes_of s.core c.args.key) (Err c.in-Err.refused) (core_of s.core) new Outer (g.W.Weighter.weighs s.core.weighter c.args.key c.args.value) (g.A.Filter.admits s.core.filter c.args.key c.args.value)
+    let did = idle_weighed (meaning_of_session s) (fetches_of s.core) s.idle (hashes_of s.core c.args.key) (Err (denied_of c.in-Err.refused)) (core_of s.core) new Outer (g.W.Weighter.weighs s.core.weighter c.args.key c.args.value) (g.A.Filter.admits s.core.filter c.args.key c.args.value)
     c.args.key c.args.value (λ admitted. (terms_of s).incoming admitted c.args.properties) c.in-Err.ensures.inserted in
     rw (c.tell_refused.ensures.answer, c.tell_refused.ensures.leaves) (did.weight, did.admitted, did.weighed, did.answered, did.inserts, (refl, refl))

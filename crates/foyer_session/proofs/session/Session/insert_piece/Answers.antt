@@ -8,6 +8,7 @@ use Rattle.foyer_core.specs.Cores.{core_of, fetches_of, hashes_of}
 use Rattle.foyer_core.specs.Inflight.{closed}
 use Rattle.foyer_core.specs.Pieces.{InsertsPiece}
 use Rattle.foyer_core.specs.State.{key_of}
+use Rattle.foyer_core.specs.Waited.{denied_of, made_of}
 use Rattle.foyer_core.proofs.IdleLemmas.{closed_idle, idle_answers, idle_piece, still_idle}
 use Rattle.foyer_session.specs.Sessions.{meaning_of_session}
 use Rattle.foyer_session.proofs.CoreLemmas.{kept_at}
@@ -33,12 +34,12 @@ invariant_of-self g c =
     let hash = hashes_of s.core piece.kept.key in
     let place = shard_of (core_of s.core) hash in
     let weighs = g.W.Weighter.weighs s.core.weighter piece.kept.key piece.kept.value in
-    let at = idle_piece m (fetches_of s.core) s.idle hash (Ok made) (core_of s.core) mid weighs piece c.in-Ok-insert_piece.ensures.inserted in
+    let at = idle_piece m (fetches_of s.core) s.idle hash (Ok (made_of made)) (core_of s.core) mid weighs piece c.in-Ok-insert_piece.ensures.inserted in
     record {
       owns = rw told.handles (owns_still mid (core_of c.tell_inserted.new.core) (s.handles.items ++ Some (record made.entry { left = false }) ∷ []) told.core
           (∥∥₁_elim (kept_at s.core hash at.before at.there) (hlevel props) (λ k. ∥∥₁_map s.owns (λ o.
-          piece_owns m (core_of s.core) mid s.handles.items o weighs hash piece made at
-          (piece_gives m (length (core_of s.core).shards) place at.before at.after (s.core.belong place at.before at.there) weighs hash piece made at.stepped refl (next_unused m at.before k))))));
+          piece_owns m (core_of s.core) mid s.handles.items o weighs hash piece (made_of made) at
+          (piece_gives m (length (core_of s.core).shards) place at.before at.after (s.core.belong place at.before at.there) weighs hash piece (made_of made) at.stepped refl (next_unused m at.before k))))));
       idle = still_idle (fetches_of c.insert_piece.new.self) (fetches_of c.tell_inserted.new.core) told.fetches
           (still_idle (at_hash (λ f. closed m.same f (key_of made.entry.kept)) (fetches_of s.core) hash) (fetches_of c.insert_piece.new.self) c.in-Ok-insert_piece.ensures.closed
           (closed_idle m.same (key_of made.entry.kept) hash (fetches_of s.core) s.idle));
@@ -52,9 +53,9 @@ invariant_of-self-in-Err-insert_piece g c =
     let new = core_of c.insert_piece.new.self in
     let hash = hashes_of s.core piece.kept.key in
     let weighs = g.W.Weighter.weighs s.core.weighter piece.kept.key piece.kept.value in
-    let at = idle_piece m (fetches_of s.core) s.idle hash (Err c.in-Err.refused) (core_of s.core) new weighs piece c.in-Err.ensures.inserted in
+    let at = idle_piece m (fetches_of s.core) s.idle hash (Err (denied_of c.in-Err.refused)) (core_of s.core) new weighs piece c.in-Err.ensures.inserted in
     record {
-      owns = ∥∥₁_map s.owns (λ o. piece_refused_owns m (core_of s.core) new s.handles.items o weighs hash piece (Unit {0}) c.in-Err.refused at);
+      owns = ∥∥₁_map s.owns (λ o. piece_refused_owns m (core_of s.core) new s.handles.items o weighs hash piece (denied_of c.in-Err.refused) at);
       idle = still_idle (fetches_of s.core) (fetches_of c.insert_piece.new.self) c.in-Err.ensures.fetches s.idle;
     }
 
@@ -73,15 +74,14 @@ returns-in-Ok-insert_piece-clause-step g c =
     let told = c.tell_inserted.ensures in
     let hash = hashes_of s.core piece.kept.key in
     let weighs = g.W.Weighter.weighs s.core.weighter piece.kept.key piece.kept.value in
-    let at = idle_piece m (fetches_of s.core) s.idle hash (Ok made) (core_of s.core) mid weighs piece c.in-Ok-insert_piece.ensures.inserted in
+    let at = idle_piece m (fetches_of s.core) s.idle hash (Ok (made_of made)) (core_of s.core) mid weighs piece c.in-Ok-insert_piece.ensures.inserted in
     let there : slice_get c.args.self.now.pieces.items c.args.number ≡ Some c.in-Ok.piece = rw (c.as_slice.ensures.value, sym c.in-Ok.ensures.cases) at c.in-Some.ensures.some in
     rw (told.answer, told.leaves) (
       piece,
-      made,
+      made.entry,
       there,
-      at_still (λ a b. InsertsPiece m weighs hash piece 1 (Ok made) a b) hash (core_of s.core) mid (core_of c.tell_inserted.new.core) told.core at,
+      at_still (λ a b. InsertsPiece m weighs hash piece 1 (Ok (made_of made)) a b) hash (core_of s.core) mid (core_of c.tell_inserted.new.core) told.core at,
       record { numbered = refl; tells = refl; handles = told.handles; pieces = refl },
-      refl,
       refl,
     )
 
@@ -90,6 +90,6 @@ returns-in-Err-clause-step g c =
     let s = c.args.self.now in
     let piece = c.in-Ok.piece in
     let weighs = g.W.Weighter.weighs s.core.weighter piece.kept.key piece.kept.value in
-    let at = idle_piece (meaning_of_session s) (fetches_of s.core) s.idle (hashes_of s.core piece.kept.key) (Err c.in-Err.refused) (core_of s.core) (core_of c.insert_piece.new.self) weighs piece c.in-Err.ensures.inserted in
+    let at = idle_piece (meaning_of_session s) (fetches_of s.core) s.idle (hashes_of s.core piece.kept.key) (Err (denied_of c.in-Err.refused)) (core_of s.core) (core_of c.insert_piece.new.self) weighs piece c.in-Err.ensures.inserted in
     let there : slice_get c.args.self.now.pieces.items c.args.number ≡ Some c.in-Ok.piece = rw (c.as_slice.ensures.value, sym c.in-Ok.ensures.cases) at c.in-Some.ensures.some in
-    rw (c.tell_refused.ensures.answer, c.tell_refused.ensures.leaves) (piece, there, inr (c.in-Err.refused, at, (refl, refl), refl, refl))
+    rw (c.tell_refused.ensures.answer, c.tell_refused.ensures.leaves) (piece, there, inr (at, (refl, refl)))

@@ -9,7 +9,7 @@ use Rattle.foyer_core.specs.Stores.{meaning_of, state_of}
 use Rattle.foyer_core.specs.Waited.{ending_of}
 use Rattle.foyer_core.proofs.ApartLemmas.{closed_apart, inserts_apart, refuses_apart, step_apart}
 use Rattle.foyer_core.proofs.WaitedLemmas.{completed, either_way}
-use Rattle.foyer_core.proofs.shard.Shard.complete_new.Goals as goal
+use Rattle.foyer_core.proofs.shard.Shard.complete_share.Goals as goal
 
 pub invariant_of-self : goal.invariant_of-self
 invariant_of-self g c =

@@ -4,7 +4,7 @@ use Rattle.foyer_core.specs.Inflights.{opens_of}
 use Rattle.foyer_core.specs.Steps.{newcomer}
 use Rattle.foyer_core.specs.Stores.{meaning_of, state_of}
 use Rattle.foyer_core.proofs.ApartLemmas.{arrived_apart, refuses_apart}
-use Rattle.foyer_core.proofs.shard.Shard.take_new.Goals as goal
+use Rattle.foyer_core.proofs.shard.Shard.take_share.Goals as goal
 
 pub invariant_of-self : goal.invariant_of-self
 invariant_of-self g c =
