@@ -125,9 +125,11 @@ impl Clone for Error {
 }
 
 impl PartialEq for Error {
+    ghost use Rattle.foyer_policy.specs.contracts.error.ReasonPartialEq.TheImpl.Laws.{laws-law};
+
     ghost eq = { ⟦<Reason as PartialEq>⟧.eq };
 
-    ghost laws = { ⟦<Reason as PartialEq>⟧.laws };
+    ghost laws = { laws-law };
 
     fn eq(&self, other: &Error) -> bool {
         self.reason == other.reason
@@ -135,7 +137,9 @@ impl PartialEq for Error {
 }
 
 impl Eq for Error {
-    ghost laws = { ⟦<Reason as Eq>⟧.laws };
+    ghost use Rattle.foyer_policy.specs.contracts.error.ReasonEq.TheImpl.Laws.{laws-law};
+
+    ghost laws = { laws-law };
 }
 
 impl From<AllocError> for Error {
