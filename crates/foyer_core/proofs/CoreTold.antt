@@ -10,9 +10,9 @@ use Rattle.std.proofs.lemmas.Slice.Zip.{AllZip-long}
 use Rattle.foyer_policy.specs.Items.{count_of}
 use Rattle.foyer_policy.specs.Policy.{IsPolicy}
 use Rattle.foyer_policy.specs.declared.types.Event.{Event}
-use Rattle.foyer_core.specs.Bulk.{after_capacity}
+use Rattle.foyer_core.specs.Bulk.{after_update}
 use Rattle.foyer_core.specs.Core.{Core, AreHashed, AtShard, Belong, share_of, shard_of}
-use Rattle.foyer_core.specs.CoreBulk.{InTurn, InTurnUntil, SharesOut, Resizes}
+use Rattle.foyer_core.specs.CoreBulk.{Configures, InTurn, InTurnUntil, SharesOut, Resizes}
 use Rattle.foyer_core.specs.Observed.{IsTold, after_leaves, known}
 use Rattle.foyer_core.specs.State.{Meaning, State, IsKept, AllData, hit}
 use Rattle.foyer_core.specs.Values.{Gone}
@@ -20,7 +20,7 @@ use Rattle.foyer_core.proofs.CoreLemmas.{set_here, set_apart}
 use Rattle.foyer_core.proofs.Observing.{BelongsAt, Knows, Tells, leaves_append, leaves_congr}
 use Rattle.foyer_core.proofs.Origins.{zip-back}
 use Rattle.foyer_core.proofs.ShardTold.{ToldBy}
-use Rattle.foyer_core.proofs.TurnLaws.{turn-keeps, shares-keep, zip-at}
+use Rattle.foyer_core.proofs.TurnLaws.{turn-keeps, updates-keep, zip-at}
 use Rattle.foyer_core.proofs.Views.{rearranged_keeps}
 
 module _ {S : Type 0} where
@@ -170,27 +170,31 @@ module _ {K V P View C : Type 0} (m : Meaning K P View C) (laws : IsEquivalence 
     until_told whole part so so' h =
         all_told (StepTold (length old.shards)) (λ s t own did. did) (until-turn (StepTold (length old.shards)) whole part so so' same_step old.shards ls new.shards h)
 
-  -- with another capacity each shard keeps what it keeps, and its index
-  capacity_sound : (many place : ℕ) (s : State K V P View) (capacity : ℕ) → IsSound many place s → IsSound many place (after_capacity m s capacity)
-  capacity_sound many place s capacity h = record {
-    kept = ∥∥₁_map h.kept (λ k. rearranged_keeps m s k capacity (m.policy.update s.view capacity None) (good.update_order s.view capacity None k.once)
-        (λ j pos. subst (λ l. 0 < count_of j l) (good.update_pinned s.view capacity None) pos));
+  -- with another capacity or configuration each shard keeps what it keeps, and its index
+  update_sound : (many place : ℕ) (s : State K V P View) (capacity : ℕ) (config : Option C) → IsSound many place s → IsSound many place (after_update m s capacity config)
+  update_sound many place s capacity config h = record {
+    kept = ∥∥₁_map h.kept (λ k. rearranged_keeps m s k capacity (m.policy.update s.view capacity config) (good.update_order s.view capacity config k.once)
+        (λ j pos. subst (λ l. 0 < count_of j l) (good.update_pinned s.view capacity config) pos));
     at = h.at;
   }
 
-  -- what a shard with another capacity keeps
+  -- what a shard with another capacity or configuration keeps
   abbrev Onward : State K V P View → State K V P View → Type 0
   Onward s t = ((many place : ℕ) → IsSound many place s → IsSound many place t) × ((q : ℕ × K) → t.index q ≡ s.index q)
 
-  module _ (capacity : ℕ) (ss ts : List (State K V P View)) (h : SharesOut m capacity ss ts) where
-    onward : AllZip Onward ss ts
-    onward = shares-keep m Onward (λ s c. (λ many place is. capacity_sound many place s c is, λ q. refl)) (share_of capacity (length ss)) ss ts h.counted h.each
+  updates_onward : (config : Option C) (f : ℕ → State K V P View → ℕ) (ss ts : List (State K V P View)) → length ts ≡ length ss
+      → ((i : ℕ) (s : State K V P View) → slice_get ss i ≡ Some s → slice_get ts i ≡ Some (after_update m s (f i s) config)) → AllZip Onward ss ts
+  updates_onward config f ss ts = updates-keep m Onward config (λ s c. (λ many place is. update_sound many place s c config is, λ q. refl)) f ss ts
 
-    shared_sound : (many : ℕ) → AreSound many ss → AreSound many ts
-    shared_sound many sound i t there = (let s = zip-back Onward ss ts onward i t there in s.2.0 many i (sound i s.0 s.1))
+  shares_onward : (capacity : ℕ) (ss ts : List (State K V P View)) → SharesOut m capacity ss ts → AllZip Onward ss ts
+  shares_onward capacity ss ts h = updates_onward None (λ i s. share_of capacity (length ss) i) ss ts h.counted h.each
 
-    shared_known : (many : ℕ) (k : K) → known_in hash many ts k ≡ known_in hash many ss k
-    shared_known many k = go (slice_get ss (hash k % many)) refl where
+  module _ (ss ts : List (State K V P View)) (onward : AllZip Onward ss ts) where
+    onward_sound : (many : ℕ) → AreSound many ss → AreSound many ts
+    onward_sound many sound i t there = (let s = zip-back Onward ss ts onward i t there in s.2.0 many i (sound i s.0 s.1))
+
+    onward_known : (many : ℕ) (k : K) → known_in hash many ts k ≡ known_in hash many ss k
+    onward_known many k = go (slice_get ss (hash k % many)) refl where
       go : (o : Option (State K V P View)) → slice_get ss (hash k % many) ≡ o → known_in hash many ts k ≡ option_and_then (λ (s : State K V P View). hit s (hash k, k)) o
       go (Some s) is = (let t = zip-at Onward ss ts onward (hash k % many) s is in ap (option_and_then (λ (x : State K V P View). hit x (hash k, k))) t.1 ∙ t.2.1 (hash k, k))
       go None is = none (slice_get ts (hash k % many)) refl where
@@ -205,7 +209,14 @@ module _ {K V P View C : Type 0} (m : Meaning K P View C) (laws : IsEquivalence 
         → Resizes m evicts capacity old ls new → IsTold m.same hash old ls new
     resized_told evicts so h k =
         let mid : Core K V P View S W A = record old { capacity = capacity; shards = h.shared } in
-        let still : AreSound (length h.shared) h.shared = subst (λ (n : ℕ). AreSound n h.shared) (sym h.shares.counted) (shared_sound capacity old.shards h.shared h.shares (length old.shards) sound) in
+        let onward = shares_onward capacity old.shards h.shared h.shares in
+        let still : AreSound (length h.shared) h.shared = subst (λ (n : ℕ). AreSound n h.shared) (sym h.shares.counted) (onward_sound old.shards h.shared onward (length old.shards) sound) in
         so mid still h.evicted.stepped k
         ∙ leaves_congr m.same (known hash mid) (known hash old)
-        (λ q. ap (λ (n : ℕ). known_in hash n h.shared q) h.shares.counted ∙ shared_known capacity old.shards h.shared h.shares (length old.shards) q) ls k
+        (λ q. ap (λ (n : ℕ). known_in hash n h.shared q) h.shares.counted ∙ onward_known old.shards h.shared onward (length old.shards) q) ls k
+
+  -- another configuration tells nothing
+  pub configured_told : {S W A : Type 0} (config : C) (old new : Core K V P View S W A) → Configures m config old new → IsTold m.same hash old [] new
+  configured_told config old new h k =
+      let onward = updates_onward (Some config) (λ i s. s.capacity) old.shards new.shards h.shards.counted h.shards.each in
+      ap (λ (n : ℕ). known_in hash n new.shards k) h.shards.counted ∙ onward_known old.shards new.shards onward (length old.shards) k

@@ -10,12 +10,12 @@ use Rattle.foyer_core.specs.declared.config.RawCacheConfig.{RawCacheConfig}
 use Rattle.foyer_core.specs.declared.record.Data.{Data}
 use Rattle.foyer_core.specs.Bulk.{GoesOn, Clears, EvictsIf, EvictsUnpinned, EvictingUnpinned}
 use Rattle.foyer_core.specs.Core.{AreHashed, AreNewShards, Belong, share_of}
-use Rattle.foyer_core.specs.CoreBulk.{InTurn, InTurnUntil, SharesOut, EvictsToCapacity, EvictingToCapacity}
+use Rattle.foyer_core.specs.CoreBulk.{ConfiguresEach, InTurn, InTurnUntil, SharesOut, EvictsToCapacity, EvictingToCapacity}
 use Rattle.foyer_core.specs.State.{Meaning, State, AllData}
 use Rattle.foyer_core.specs.Values.{Gone, Rec}
 use Rattle.foyer_core.proofs.CoreLemmas.{set_here, set_apart}
 use Rattle.foyer_core.proofs.Origins.{RecordsFrom, cleared_from, evicted_from, nothing_new, picked_from, same_from, some_evicted_from, some_unpinned_from, unpinned_from, zip-back}
-use Rattle.foyer_core.proofs.TurnLaws.{turn-keeps, until-keeps, shares-keep}
+use Rattle.foyer_core.proofs.TurnLaws.{turn-keeps, until-keeps, updates-keep}
 
 -- a record has the hash of its key
 abbrev pub IsHashed : {K V P : Type 0} → (K → ℕ) → Data K V P → Type 0
@@ -80,7 +80,10 @@ module _ {K V P View : Type 0} (hash : K → ℕ) where
       all_picked_hashed says h = zip_hashed ss ts (turn-keeps (RecordsFrom nothing_new) (EvictsIf m says) (picked_from m says) ss ls ts h)
 
     pub shared_hashed : (capacity : ℕ) (ss ts : List (State K V P View)) → SharesOut m capacity ss ts → AreHashed hash ss → AreHashed hash ts
-    shared_hashed capacity ss ts h = zip_hashed ss ts (shares-keep m (RecordsFrom nothing_new) (λ s c. same_from m s) (share_of capacity (length ss)) ss ts h.counted h.each)
+    shared_hashed capacity ss ts h = zip_hashed ss ts (updates-keep m (RecordsFrom nothing_new) None (λ s c. same_from m s) (λ i s. share_of capacity (length ss) i) ss ts h.counted h.each)
+
+    pub configured_hashed : (config : C) (ss ts : List (State K V P View)) → ConfiguresEach m config ss ts → AreHashed hash ss → AreHashed hash ts
+    configured_hashed config ss ts h = zip_hashed ss ts (updates-keep m (RecordsFrom nothing_new) (Some config) (λ s c. same_from m s) (λ i s. s.capacity) ss ts h.counted h.each)
 
     pub new_hashed : {S W A : Type 0} (config : RawCacheConfig C S W A) (many : ℕ) (ss : List (State K V P View)) → AreNewShards m config many ss → AreHashed hash ss
     new_hashed config many ss h i s there id r is = absurd (let none : s.records id ≡ None = (h.each i s there).no_records id in cc)

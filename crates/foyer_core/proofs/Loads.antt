@@ -3,23 +3,27 @@ use Rattle.std.proofs.Common.{◌≡◌, ℕ, nat_eq, ◌+◌, ◌-◌, ◌^◌,
 use Rattle.std.proofs.Math.Logic.{∥∥₁_elim}
 use Rattle.std.proofs.Props.{props}
 use Rattle.std.specs.Prelude.{All, IfOk, OnErr, slice_set, slice_index_or, if◌then◌else◌}
+use Rattle.std.specs.List.{AllZip}
 use Rattle.std.specs.List.Sorted.{IsPermutation}
 use Rattle.std.specs.Map.{update}
 use Rattle.std.proofs.lemmas.List.{length-map, length-set, map-append, map-set, get_or-map, get_or-set_same, take_all, take_more}
-use Rattle.std.proofs.lemmas.List.Elements.{All-set, All-push}
+use Rattle.std.proofs.lemmas.List.Elements.{All-cons, All-head, All-nil, All-tail, All-set, All-push}
 use Rattle.std.proofs.lemmas.List.Sorted.{sum_by-IsPermutation, length_permutation}
-use Rattle.std.proofs.lemmas.List.Sums.{sum_by-set, sum_by_push, get_or-le-sum_by, sum_by-le}
+use Rattle.std.proofs.lemmas.List.Sums.{sum_by-cons, sum_by-set, sum_by_push, get_or-le-sum_by, sum_by-le}
 use Rattle.foyer_policy.specs.Items.{weight_of, HasIdsOnce}
 use Rattle.foyer_policy.specs.Policy.{IsPolicy}
 use Rattle.foyer_policy.specs.declared.error.Reason.{Reason}
 use Rattle.foyer_policy.specs.declared.error.Reason.TheVariants.{Handles, NoMemory}
 use Rattle.foyer_policy.specs.declared.types.Event.{Event}
 use Rattle.foyer_policy.specs.declared.types.Item.{Item}
+use Rattle.foyer_core.specs.Bulk.{after_update}
 use Rattle.foyer_core.specs.Core.{AreSums}
+use Rattle.foyer_core.specs.CoreBulk.{ConfiguresEach}
 use Rattle.foyer_core.specs.State.{Meaning, State, IsKept, usage_of}
 use Rattle.foyer_core.specs.Steps.{Gets, GivesBack, Touches, ClonesHandle, after_get}
 use Rattle.foyer_core.specs.Values.{Gone, Held}
 use Rattle.foyer_core.proofs.Found.{once-permuted}
+use Rattle.foyer_core.proofs.TurnLaws.{updates-keep}
 
 module _ {K V P View C : Type 0} (m : Meaning K P View C) where
   -- how many records of a shard are in the index
@@ -119,6 +123,21 @@ module _ {K V P View C : Type 0} (m : Meaning K P View C) where
           All-set (λ s. (usage_of m s < 2 ^ 64) × (entries_of s < 2 ^ 64)) (map f xs) i (f y) (omega (arith, same.0, there.0), omega (arith, same.1, there.1)) sums.2,
         )
 
+  -- where each shard holds as much as before, the sums stay
+  abbrev IsSmall : State K V P View → Type 0
+  IsSmall s = (usage_of m s < 2 ^ 64) × (entries_of s < 2 ^ 64)
+
+  zip_sums : (ss ts : List (State K V P View)) → AllZip SameLoad ss ts → (sum_by (usage_of m) ts ≡ sum_by (usage_of m) ss) × (sum_by entries_of ts ≡ sum_by entries_of ss) × (All IsSmall ss → All IsSmall ts)
+  zip_sums [] [] h = (refl, refl, λ small. small)
+  zip_sums [] (t ∷ ts) h = absurd h
+  zip_sums (s ∷ ss) [] h = absurd h
+  zip_sums (s ∷ ss) (t ∷ ts) h =
+      let rest = zip_sums ss ts h.1 in (
+        omega (arith, h.0.0, rest.0, sum_by-cons (usage_of m) s ss, sum_by-cons (usage_of m) t ts),
+        omega (arith, h.0.1, rest.1, sum_by-cons entries_of s ss, sum_by-cons entries_of t ts),
+        λ small. (let first = All-head IsSmall s ss small in All-cons IsSmall t ts (omega (arith, h.0.0, first.0), omega (arith, h.0.1, first.1)) (rest.2 (All-tail IsSmall s ss small))),
+      )
+
   module _ (good : IsPolicy m.policy) where
     same-view : (s t : State K V P View) → t.view ≡ s.view → SameLoad s t
     same-view s t h = (ap (λ (v : View). weight_of (m.policy.order v)) h, ap (λ (v : View). length (m.policy.order v)) h)
@@ -178,3 +197,23 @@ module _ {K V P View C : Type 0} (m : Meaning K P View C) where
         → IfOk result (λ leave. x leave × GivesBack m s id leave t) → OnErr result (t ≡ s) → SameLoad s t
     given_back_load s t id x (Ok leave) kept ok err = gives_load s t id leave kept ok.1
     given_back_load s t id x (Err e) kept ok err = same-view s t (ap (λ (a : State K V P View). a.view) err)
+
+    -- another configuration
+    abbrev LoadKept : State K V P View → State K V P View → Type 0
+    LoadKept s t = ∥ IsKept m s ∥₁ → SameLoad s t
+
+    update_load : (config : Option C) (s : State K V P View) (c : ℕ) → LoadKept s (after_update m s c config)
+    update_load config s c kept = (let t = after_update m s c config in by-kept s t kept (λ once. permuted s t (good.update_order s.view c config once)))
+
+    zip_kept : {X : Type 0} (f : X → State K V P View) (xs : List X) (ts : List (State K V P View)) → ((x : X) → ∥ IsKept m (f x) ∥₁) → AllZip LoadKept (map f xs) ts → AllZip SameLoad (map f xs) ts
+    zip_kept f [] [] kept h = tt
+    zip_kept f [] (t ∷ ts) kept h = absurd h
+    zip_kept f (x ∷ xs) [] kept h = absurd h
+    zip_kept f (x ∷ xs) (t ∷ ts) kept h = (h.0 (kept x), zip_kept f xs ts kept h.1)
+
+    pub configured_sums : {X : Type 0} (f : X → State K V P View) (xs : List X) (ts : List (State K V P View)) → ((x : X) → ∥ IsKept m (f x) ∥₁) → (config : C) → ConfiguresEach m config (map f xs) ts
+        → (usage entries : ℕ) → AreSums m usage entries (map f xs) → AreSums m usage entries ts
+    configured_sums f xs ts kept config h usage entries sums =
+        let each = updates-keep m LoadKept (Some config) (update_load (Some config)) (λ i s. s.capacity) (map f xs) ts h.counted h.each in
+        let same = zip_sums (map f xs) ts (zip_kept f xs ts kept each) in
+        (sums.0 ∙ sym same.0, sums.1 ∙ sym same.1, same.2 sums.2)

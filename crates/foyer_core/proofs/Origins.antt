@@ -20,14 +20,14 @@ use Rattle.foyer_core.specs.declared.config.RawCacheConfig.{RawCacheConfig}
 use Rattle.foyer_core.specs.declared.record.Data.{Data}
 use Rattle.foyer_core.specs.Bulk.{GoesOn, EvictsUnpinned, EvictingUnpinned, Clears, EvictsIf}
 use Rattle.foyer_core.specs.Core.{AreNewShards, Belong, share_of}
-use Rattle.foyer_core.specs.CoreBulk.{InTurn, InTurnUntil, SharesOut, EvictsToCapacity, EvictingToCapacity}
+use Rattle.foyer_core.specs.CoreBulk.{ConfiguresEach, InTurn, InTurnUntil, SharesOut, EvictsToCapacity, EvictingToCapacity}
 use Rattle.foyer_core.specs.Pieces.{RefusesReturn, RefusesReturnBy, Returns, ReturnsBy, is_in, returning}
 use Rattle.foyer_core.specs.State.{Meaning, State, key_of, is_phantom_record}
 use Rattle.foyer_core.specs.Steps.{after_push, after_hold, after_get, after_handle, after_handles, after_give_back, ids_of, Leave, GivesWay, Inserts, InsertsBy, RefusesBy, RefusesPlain, RefusesInsert, Gets, GivesBack, Touches, Removes, ClonesHandle, RefusesHandle, RefusesHandles, newcomer}
 use Rattle.foyer_core.specs.Values.{Carried, Rec, Gone, Held, Incoming}
 use Rattle.foyer_core.proofs.CoreLemmas.{set_here, set_apart}
 use Rattle.foyer_core.proofs.LeaveLemmas.{leave-rests}
-use Rattle.foyer_core.proofs.TurnLaws.{turn-keeps, until-keeps, shares-keep}
+use Rattle.foyer_core.proofs.TurnLaws.{turn-keeps, until-keeps, updates-keep}
 
 same_rec : {K V P : Type 0} (a b : Rec K V P) → Some a ≡ Some b → a ≡ b
 same_rec a b h = cc
@@ -305,7 +305,10 @@ module _ {K V P View C : Type 0} (m : Meaning K P View C) where
     all_picked_belong says h = zip_belongs ss ts (turn-keeps (RecordsFrom nothing_new) (EvictsIf m says) (picked_from says) ss ls ts h)
 
   pub shared_belong : (capacity : ℕ) (ss ts : List (State K V P View)) → SharesOut m capacity ss ts → Belong ss → Belong ts
-  shared_belong capacity ss ts h = zip_belongs ss ts (shares-keep m (RecordsFrom nothing_new) (λ s c. same_from s) (share_of capacity (length ss)) ss ts h.counted h.each)
+  shared_belong capacity ss ts h = zip_belongs ss ts (updates-keep m (RecordsFrom nothing_new) None (λ s c. same_from s) (λ i s. share_of capacity (length ss) i) ss ts h.counted h.each)
+
+  pub configured_belong : (config : C) (ss ts : List (State K V P View)) → ConfiguresEach m config ss ts → Belong ss → Belong ts
+  configured_belong config ss ts h = zip_belongs ss ts (updates-keep m (RecordsFrom nothing_new) (Some config) (λ s c. same_from s) (λ i s. s.capacity) ss ts h.counted h.each)
 
   pub new_belong : {S W A : Type 0} (config : RawCacheConfig C S W A) (many : ℕ) (ss : List (State K V P View)) → AreNewShards m config many ss → Belong ss
   new_belong config many ss h i s there id r is = absurd (let none : s.records id ≡ None = (h.each i s there).no_records id in cc)

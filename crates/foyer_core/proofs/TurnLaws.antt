@@ -6,9 +6,9 @@ use Rattle.std.proofs.lemmas.Slice.Zip.{AllZip-long}
 use Rattle.foyer_policy.specs.Policy.{pops, after_all_pops, after_pops, evicted, removed}
 use Rattle.foyer_policy.specs.declared.types.Event.{Event}
 use Rattle.foyer_policy.specs.declared.types.Event.TheVariants.{Evict, Clear}
-use Rattle.foyer_core.specs.Bulk.{after_capacity, EvictsUnpinned, EvictingUnpinned, Clears, EvictsIf}
+use Rattle.foyer_core.specs.Bulk.{after_update, EvictsUnpinned, EvictingUnpinned, Clears, EvictsIf}
 use Rattle.foyer_core.specs.Core.{Core, record_of, share_of, shard_at}
-use Rattle.foyer_core.specs.CoreBulk.{InTurn, InTurnUntil, OfShards, SharesOut, EvictsToCapacity, EvictingToCapacity, Resizes}
+use Rattle.foyer_core.specs.CoreBulk.{Configures, InTurn, InTurnUntil, OfShards, SharesOut, EvictsToCapacity, EvictingToCapacity, Resizes}
 use Rattle.foyer_core.specs.Laws.{HandlesStay}
 use Rattle.foyer_core.specs.State.{Meaning, State}
 use Rattle.foyer_core.specs.Steps.{ids_of}
@@ -119,26 +119,32 @@ module _ {K V P View C : Type 0} (m : Meaning K P View C) where
         → OfShards (InTurn (EvictsIf m says)) old ls new → HandlesStay (λ e. 0) old new
     all_picked_stay old ls new h = zip_stay old new (turn-keeps (RecordsStay nothing) (EvictsIf m says) picked_stay old.shards ls new.shards h.stepped)
 
-  -- with the shares of another capacity each shard keeps what it keeps with another capacity
-  pub shares-keep : (R : State K V P View → State K V P View → Type 0) → ((s : State K V P View) (c : ℕ) → R s (after_capacity m s c)) → (f : ℕ → ℕ) (old new : List (State K V P View)) → length new ≡ length old
-      → ((i : ℕ) (s : State K V P View) → slice_get old i ≡ Some s → slice_get new i ≡ Some (after_capacity m s (f i))) → AllZip R old new
-  shares-keep R keep f [] [] long each = tt
-  shares-keep R keep f [] (t ∷ ts) long each = absurd (omega arith)
-  shares-keep R keep f (s ∷ ss) [] long each = absurd (omega arith)
-  shares-keep R keep f (s ∷ ss) (t ∷ ts) long each =
-      let first : ◌≡◌ {A = Option (State K V P View)} (Some t) (Some (after_capacity m s (f 0))) = each 0 s refl in
-      let is : t ≡ after_capacity m s (f 0) = cc in
-      (subst (R s) (sym is) (keep s (f 0)), shares-keep R keep (λ i. f (suc i)) ss ts (omega arith) (λ i a there. each (suc i) a there))
+  -- where each shard's policy is told a capacity, and a configuration where one is given, each keeps what it keeps
+  -- with any capacity
+  pub updates-keep : (R : State K V P View → State K V P View → Type 0) (config : Option C) → ((s : State K V P View) (c : ℕ) → R s (after_update m s c config)) → (f : ℕ → State K V P View → ℕ) (old new : List (State K V P View)) → length new ≡ length old
+      → ((i : ℕ) (s : State K V P View) → slice_get old i ≡ Some s → slice_get new i ≡ Some (after_update m s (f i s) config)) → AllZip R old new
+  updates-keep R config keep f [] [] long each = tt
+  updates-keep R config keep f [] (t ∷ ts) long each = absurd (omega arith)
+  updates-keep R config keep f (s ∷ ss) [] long each = absurd (omega arith)
+  updates-keep R config keep f (s ∷ ss) (t ∷ ts) long each =
+      let first : ◌≡◌ {A = Option (State K V P View)} (Some t) (Some (after_update m s (f 0 s) config)) = each 0 s refl in
+      let is : t ≡ after_update m s (f 0 s) config = cc in
+      (subst (R s) (sym is) (keep s (f 0 s)), updates-keep R config keep (λ i. f (suc i)) ss ts (omega arith) (λ i a there. each (suc i) a there))
 
   module _ {S W A : Type 0} (capacity : ℕ) (old : Core K V P View S W A) (ls : List (Event × Gone K V P)) (new : Core K V P View S W A) where
     shared_stay : (shared : List (State K V P View)) → SharesOut m capacity old.shards shared → HandlesStay (λ e. 0) old (record old { capacity = capacity; shards = shared })
-    shared_stay shared h = zip_stay old (record old { capacity = capacity; shards = shared }) (shares-keep (RecordsStay nothing) (λ s c id r there less. (r, there, refl, omega arith)) (share_of capacity (length old.shards)) old.shards shared h.counted h.each)
+    shared_stay shared h = zip_stay old (record old { capacity = capacity; shards = shared }) (updates-keep (RecordsStay nothing) None (λ s c id r there less. (r, there, refl, omega arith)) (λ i s. share_of capacity (length old.shards) i) old.shards shared h.counted h.each)
 
     pub resized_stay : Resizes m (InTurn (EvictsToCapacity m)) capacity old ls new → HandlesStay (λ e. 0) old new
     resized_stay h = stays_then old (record old { capacity = capacity; shards = h.shared }) new (shared_stay h.shared h.shares) (all_evicted_stay _ ls new h.evicted)
 
     pub resized_until_stay : Resizes m (InTurnUntil (EvictsToCapacity m) (EvictingToCapacity m)) capacity old ls new → HandlesStay (λ e. 0) old new
     resized_until_stay h = stays_then old (record old { capacity = capacity; shards = h.shared }) new (shared_stay h.shared h.shares) (all_evicted_until_stay _ ls new h.evicted)
+
+  -- another configuration
+  pub configured_stay : {S W A : Type 0} (config : C) (old new : Core K V P View S W A) → Configures m config old new → HandlesStay (λ e. 0) old new
+  configured_stay config old new h = zip_stay old new
+      (updates-keep (RecordsStay nothing) (Some config) (λ s c id r there less. (r, there, refl, omega arith)) (λ i s. s.capacity) old.shards new.shards h.shards.counted h.shards.each)
 
 -- what follows of an answer in either case
 pub of_result : {A E : Type 0} (r : Result A E) (P : A → Type 0) (Q G : Type 0) → IfOk r P → OnErr r Q → ((a : A) → P a → G) → (Q → G) → G

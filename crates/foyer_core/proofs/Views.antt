@@ -1,5 +1,5 @@
 -- A shard whose policy's view changes, and no record leaves.
-use Rattle.std.proofs.Common.{◌≡◌, ℕ, ◌<◌, None, length, sym, ap, ◌∙◌, subst, arith}
+use Rattle.std.proofs.Common.{◌≡◌, ℕ, ◌<◌, Option, length, sym, ap, ◌∙◌, subst, arith}
 use Rattle.std.proofs.Math.Logic.{∥∥₁_elim, ∥∥₁_map}
 use Rattle.std.proofs.Props.{props}
 use Rattle.std.specs.Cmp.{IsEquivalence}
@@ -11,7 +11,7 @@ use Rattle.foyer_policy.specs.declared.types.Item.{Item}
 use Rattle.foyer_policy.proofs.ItemLemmas.{one_if}
 use Rattle.foyer_core.specs.State.{Meaning, State, IsKept}
 use Rattle.foyer_core.specs.Stored.{state}
-use Rattle.foyer_core.specs.Bulk.{after_capacity}
+use Rattle.foyer_core.specs.Bulk.{after_update}
 use Rattle.foyer_core.proofs.Found.{found-permuted, once-permuted}
 use Rattle.foyer_core.proofs.ShardLemmas.{Holding, now_of}
 
@@ -37,31 +37,31 @@ rearranged_keeps m s kept capacity v perm pins = record {
   same_count : (j : ℕ) → count_of j (m.policy.order v) ≡ count_of j (m.policy.order s.view)
   same_count j = sum_by-IsPermutation (one_if j) (m.policy.order s.view) (m.policy.order v) perm
 
--- another capacity
-module _ {K V P View C : Type 0} (m : Meaning K P View C) (laws : IsEquivalence m.same) (good : IsPolicy m.policy) (o : Holding V m) (capacity' : ℕ)
-    (v : View) (updated : v ≡ m.policy.update o.view capacity' None) where
+-- another capacity, and another configuration where one is given
+module _ {K V P View C : Type 0} (m : Meaning K P View C) (laws : IsEquivalence m.same) (good : IsPolicy m.policy) (o : Holding V m) (capacity' : ℕ) (config : Option C)
+    (v : View) (updated : v ≡ m.policy.update o.view capacity' config) where
   open o use {keys, t, number, limits, view, next, kept}
 
-  pub capacity_after : state number capacity' limits v keys t next ≡ after_capacity m (now_of o) capacity'
-  capacity_after = ap (λ (w : View). state number capacity' limits w keys t next) updated
+  update_after : state number capacity' limits v keys t next ≡ after_update m (now_of o) capacity' config
+  update_after = ap (λ (w : View). state number capacity' limits w keys t next) updated
 
-  kept_by : IsKept m (now_of o) → IsKept m (after_capacity m (now_of o) capacity')
-  kept_by k' = rearranged_keeps m (now_of o) k' capacity' (m.policy.update view capacity' None) (good.update_order view capacity' None k'.once)
-      (λ j pos. subst (λ l. 0 < count_of j l) (good.update_pinned view capacity' None) pos)
+  kept_by : IsKept m (now_of o) → IsKept m (after_update m (now_of o) capacity' config)
+  kept_by k' = rearranged_keeps m (now_of o) k' capacity' (m.policy.update view capacity' config) (good.update_order view capacity' config k'.once)
+      (λ j pos. subst (λ l. 0 < count_of j l) (good.update_pinned view capacity' config) pos)
 
-  pub capacity_kept : ∥ IsKept m (state number capacity' limits v keys t next) ∥₁
-  capacity_kept = ∥∥₁_map kept (λ k'. subst (IsKept m) (sym capacity_after) (kept_by k'))
+  pub update_kept : ∥ IsKept m (state number capacity' limits v keys t next) ∥₁
+  update_kept = ∥∥₁_map kept (λ k'. subst (IsKept m) (sym update_after) (kept_by k'))
 
   same_weight : IsKept m (now_of o) → weight_of (m.policy.order v) ≡ weight_of (m.policy.order view)
   same_weight k' = ap (λ (w : View). weight_of (m.policy.order w)) updated
-      ∙ sum_by-IsPermutation (λ (i : Item). i.weight) (m.policy.order view) (m.policy.order (m.policy.update view capacity' None)) (good.update_order view capacity' None k'.once)
+      ∙ sum_by-IsPermutation (λ (i : Item). i.weight) (m.policy.order view) (m.policy.order (m.policy.update view capacity' config)) (good.update_order view capacity' config k'.once)
 
   same_length : IsKept m (now_of o) → length (m.policy.order v) ≡ length (m.policy.order view)
   same_length k' = ap (λ (w : View). length (m.policy.order w)) updated
-      ∙ length_permutation (m.policy.order view) (m.policy.order (m.policy.update view capacity' None)) (good.update_order view capacity' None k'.once)
+      ∙ length_permutation (m.policy.order view) (m.policy.order (m.policy.update view capacity' config)) (good.update_order view capacity' config k'.once)
 
-  pub capacity_weighed : (usage : ℕ) → usage ≡ weight_of (m.policy.order view) → usage ≡ weight_of (m.policy.order v)
-  capacity_weighed usage h = h ∙ sym (∥∥₁_elim kept (hlevel props) same_weight)
+  pub update_weighed : (usage : ℕ) → usage ≡ weight_of (m.policy.order view) → usage ≡ weight_of (m.policy.order v)
+  update_weighed usage h = h ∙ sym (∥∥₁_elim kept (hlevel props) same_weight)
 
-  pub capacity_counted : (entries : ℕ) → entries ≡ length (m.policy.order view) → entries ≡ length (m.policy.order v)
-  capacity_counted entries h = h ∙ sym (∥∥₁_elim kept (hlevel props) same_length)
+  pub update_counted : (entries : ℕ) → entries ≡ length (m.policy.order view) → entries ≡ length (m.policy.order v)
+  update_counted entries h = h ∙ sym (∥∥₁_elim kept (hlevel props) same_length)

@@ -34,9 +34,13 @@ pub record Answers {K V P View : Type 0} (says : K → V → Bool → Type 0) (s
   pub said : says rec.kept.key rec.kept.value answer
 
 module _ {K V P View C : Type 0} (m : Meaning K P View C) where
-  -- another capacity, which the policy is told: nothing leaves
+  -- another capacity, and another configuration where one is given, which the policy is told: nothing leaves
+  abbrev pub after_update : State K V P View → ℕ → Option C → State K V P View
+  after_update s capacity config = record s { capacity = capacity; view = m.policy.update s.view capacity config }
+
+  -- another capacity alone
   abbrev pub after_capacity : State K V P View → ℕ → State K V P View
-  after_capacity s capacity = record s { capacity = capacity; view = m.policy.update s.view capacity None }
+  after_capacity s capacity = after_update s capacity None
 
   -- all that the pops give leaves, in their order: what is not pinned
   abbrev pub EvictsUnpinned : State K V P View → List (Event × Gone K V P) → State K V P View → Type 0

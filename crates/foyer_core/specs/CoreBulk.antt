@@ -2,7 +2,7 @@
 use Rattle.std.specs.Prelude.{◌≡◌, ℕ, ◌≤◌, ◌⊎◌, List, [], ◌∷◌, ◌++◌, Some, length, slice_get}
 use Rattle.foyer_policy.specs.Items.{IsWithin}
 use Rattle.foyer_policy.specs.declared.types.Event.{Event}
-use Rattle.foyer_core.specs.Bulk.{after_capacity}
+use Rattle.foyer_core.specs.Bulk.{after_capacity, after_update}
 use Rattle.foyer_core.specs.Core.{Core, share_of, usage_of_core, entries_of_core}
 use Rattle.foyer_core.specs.State.{Meaning, State, usage_of}
 use Rattle.foyer_core.specs.Steps.{Evicts, Evicting}
@@ -45,6 +45,17 @@ module _ {K V P View C : Type 0} (m : Meaning K P View C) where
     pub counted : length new ≡ length old
     pub each : (i : ℕ) (s : State K V P View) → slice_get old i ≡ Some s
         → slice_get new i ≡ Some (after_capacity m s (share_of capacity (length old) i))
+
+  -- each shard's policy is told another configuration, with the capacity that the shard has: nothing leaves
+  pub record ConfiguresEach (config : C) (old new : List (State K V P View)) : Type 0 where
+    pub counted : length new ≡ length old
+    pub each : (i : ℕ) (s : State K V P View) → slice_get old i ≡ Some s
+        → slice_get new i ≡ Some (after_update m s s.capacity (Some config))
+
+  -- another configuration of a core: so it is with its shards, and all else of the core stays
+  pub record Configures {S W A : Type 0} (config : C) (old new : Core K V P View S W A) : Type 0 where
+    pub shards : ConfiguresEach config old.shards new.shards
+    pub rest : new ≡ record old { shards = new.shards }
 
   -- the evictions of a shard to its capacity
   abbrev pub EvictsToCapacity : State K V P View → List (Event × Gone K V P) → State K V P View → Type 0

@@ -20,6 +20,7 @@ mod location;
 mod memory;
 mod phantom;
 mod pieces;
+mod reconfigure;
 mod shards;
 mod weights;
 

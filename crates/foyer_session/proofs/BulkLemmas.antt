@@ -1,17 +1,17 @@
 -- The calls on all records keep what a session owns.
-use Rattle.std.proofs.Common.{◌≡◌, ℕ, zero, suc, ◌%◌, List, [], ◌∷◌, Bool, length, Option, Some, refl, sym, ap, ◌∙◌, subst, arith}
+use Rattle.std.proofs.Common.{◌≡◌, ℕ, zero, suc, ◌%◌, List, [], ◌∷◌, Bool, length, Option, Some, None, refl, sym, ap, ◌∙◌, subst, arith}
 use Rattle.std.specs.Prelude.{slice_get, Result, Ok, Err, IfOk, IfErr, OnErr}
 use Rattle.std.specs.List.{AllZip}
 use Rattle.std.proofs.lemmas.Slice.Zip.{AllZip-long}
 use Rattle.foyer_policy.specs.declared.types.Event.{Event}
 use Rattle.foyer_policy.specs.declared.types.Item.{Item}
 use Rattle.foyer_policy.specs.declared.types.Event.TheVariants.{Evict, Clear}
-use Rattle.foyer_core.specs.Bulk.{after_capacity, Answers, Clears, EvictsIf, EvictsUnpinned, EvictingUnpinned, Picks}
+use Rattle.foyer_core.specs.Bulk.{after_update, Answers, Clears, EvictsIf, EvictsUnpinned, EvictingUnpinned, Picks}
 use Rattle.foyer_core.specs.Core.{Core, share_of, shard_of}
 use Rattle.foyer_core.specs.CoreBulk.{InTurn, InTurnUntil, OfShards, SharesOut, EvictsToCapacity, EvictingToCapacity, Resizes}
 use Rattle.foyer_core.specs.State.{Meaning, State}
 use Rattle.foyer_core.specs.Values.{Gone, Held}
-use Rattle.foyer_core.proofs.TurnLaws.{turn-keeps, until-keeps, zip-at}
+use Rattle.foyer_core.proofs.TurnLaws.{turn-keeps, until-keeps, updates-keep, zip-at}
 use Rattle.foyer_core.specs.Steps.{ids_of}
 use Rattle.foyer_session.specs.Owns.{OwnsHandles}
 use Rattle.foyer_session.proofs.CountLemmas.{Alike, leave_alike}
@@ -63,18 +63,10 @@ module _ {K V P View C : Type 0} (m : Meaning K P View C) where
   picked_alike : (says : K → V → Bool → Type 0) (s u : State K V P View) (ls : List (Event × Gone K V P)) → EvictsIf m says s ls u → Alike s u
   picked_alike says s u ls h = leave_alike m Evict (ids_of h.picked) s ls _ u h.leave
 
-  -- with the shares of another capacity
-  shared_alike : (f : ℕ → ℕ) (old new : List (State K V P View)) → length new ≡ length old
-      → ((i : ℕ) (s : State K V P View) → slice_get old i ≡ Some s → slice_get new i ≡ Some (after_capacity m s (f i))) → AllZip Alike old new
-  shared_alike f [] [] long each = tt
-  shared_alike f [] (u ∷ us) long each = absurd (omega arith)
-  shared_alike f (s ∷ ss) [] long each = absurd (omega arith)
-  shared_alike f (s ∷ ss) (u ∷ us) long each =
-      let first : ◌≡◌ {A = Option (State K V P View)} (Some u) (Some (after_capacity m s (f 0))) = each 0 s refl in
-      let is : u ≡ after_capacity m s (f 0) = cc in (
-        subst (Alike s) (sym is) record { handles = λ id. refl; next = refl; number = refl },
-        shared_alike (λ i. f (suc i)) ss us (omega arith) (λ i a there. each (suc i) a there),
-      )
+  -- with another capacity, and another configuration where one is given
+  updated_alike : (config : Option C) (f : ℕ → State K V P View → ℕ) (old new : List (State K V P View)) → length new ≡ length old
+      → ((i : ℕ) (s : State K V P View) → slice_get old i ≡ Some s → slice_get new i ≡ Some (after_update m s (f i s) config)) → AllZip Alike old new
+  updated_alike config = updates-keep m Alike config (λ s c. record { handles = λ id. refl; next = refl; number = refl })
 
   module _ {S W A : Type 0} (core : Core K V P View S W A) (ls : List (Event × Gone K V P)) (new : Core K V P View S W A) (handles : List (Option (Held K V P))) where
     turn_owns : (step : State K V P View → List (Event × Gone K V P) → State K V P View → Type 0) → ((s u : State K V P View) (own : List (Event × Gone K V P)) → step s own u → Alike s u)
@@ -101,7 +93,7 @@ module _ {K V P View C : Type 0} (m : Meaning K P View C) where
 
   module _ {S W A : Type 0} (capacity : ℕ) (core : Core K V P View S W A) (ls : List (Event × Gone K V P)) (new : Core K V P View S W A) (handles : List (Option (Held K V P))) where
     shared_owns : (shared : List (State K V P View)) → SharesOut m capacity core.shards shared → OwnsHandles core handles → OwnsHandles (record core { capacity = capacity; shards = shared }) handles
-    shared_owns shared h owns = alike_owns core (record core { capacity = capacity; shards = shared }) handles (shared_alike (share_of capacity (length core.shards)) core.shards shared h.counted h.each) owns
+    shared_owns shared h owns = alike_owns core (record core { capacity = capacity; shards = shared }) handles (updated_alike None (λ i s. share_of capacity (length core.shards) i) core.shards shared h.counted h.each) owns
 
     pub resized_owns : Resizes m (InTurn (EvictsToCapacity m)) capacity core ls new → OwnsHandles core handles → OwnsHandles new handles
     resized_owns h owns = turn_owns (record core { capacity = capacity; shards = h.shared }) ls new handles (EvictsToCapacity m) evicted_alike h.evicted (shared_owns h.shared h.shares owns)

@@ -1,10 +1,12 @@
 //! What a core does with all of its records.
 
-ghost use Rattle.std.specs.Prelude.{◌≡◌, [], IfOk, IfErr, OnErr, OnOk, MatchResult};
+ghost use Rattle.std.specs.Prelude.{◌≡◌, ◌↔◌, [], None, Err, IfOk, IfErr, IfSome, IsOk, OnErr, OnOk, MatchResult};
 ghost use Rattle.foyer_policy.specs.declared.error.Reason.TheVariants.{NoMemory};
 
 use super::CacheCore;
-use super::in_turn::{clear_each, evict_each, evict_each_if, evict_each_to_capacity, share_out};
+use super::in_turn::{
+    clear_each, configure_each, evict_each, evict_each_if, evict_each_to_capacity, share_out,
+};
 use super::load::Load;
 use crate::entry::Leave;
 use crate::filter::Filter;
@@ -26,7 +28,7 @@ impl<
     I: Indexer<K>,
 > CacheCore<E, K, V, P, S, W, A, N, R, I> {
     ghost use Rattle.foyer_core.specs.Bulk.{Clears, EvictsIf, EvictsUnpinned, EvictingUnpinned, Says};
-    ghost use Rattle.foyer_core.specs.CoreBulk.{InTurn, InTurnUntil, OfShards, EvictsToCapacity, EvictingToCapacity, Resizes, NothingPinned, IsEmptied, FitsOrPinned};
+    ghost use Rattle.foyer_core.specs.CoreBulk.{InTurn, InTurnUntil, OfShards, EvictsToCapacity, EvictingToCapacity, Resizes, Configures, NothingPinned, IsEmptied, FitsOrPinned};
     ghost use Rattle.foyer_core.specs.Cores.{core_of, fetches_of, hashes_of, meaning_of_core};
     ghost use Rattle.foyer_core.specs.Laws.{HandlesStay};
     ghost use Rattle.foyer_core.specs.Observed.{IsTold};
@@ -90,6 +92,24 @@ impl<
                 leaves: evicted,
             }),
         }
+    }
+
+    /// Tells all policies another configuration. It counts for what each shard's policy does from then on, with the
+    /// capacity that the shard has, and for every later `resize`. Nothing leaves. Refused with the configuration's
+    /// first fault alone, F2 to F6, whatever the core holds, and then nothing has changed in any shard. It takes no
+    /// memory.
+    pub fn reconfigure(&mut self, config: &E::Config) -> Result<()>
+        ensures done { OnOk result (Configures (meaning_of_core self.old) config.now (core_of self.old) (core_of self.new)) }
+        ensures accepted { IsOk result ↔ (E.model.fault config.now ≡ None) }
+        ensures refused { IfSome (E.model.fault config.now) (λ reason. result ≡ Err reason) }
+        ensures err { OnErr result (core_of self.new ≡ core_of self.old) }
+        ensures fetches { fetches_of self.new ≡ fetches_of self.old }
+        ensures stay { HandlesStay (λ _. 0) (core_of self.old) (core_of self.new) }
+        ensures told { IsTold K.eq (hashes_of self.old) (core_of self.old) [] (core_of self.new) }
+    {
+        E::check(config)?;
+        configure_each(&mut self.shards, config);
+        Ok(())
     }
 
     /// Takes everything out, as `Clear`, shard by shard, in each policy's order, and answers what left. Room is

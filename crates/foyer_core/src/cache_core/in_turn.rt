@@ -1,11 +1,11 @@
 //! Steps of all shards, in their order.
 
-ghost use Rattle.std.specs.Prelude.{◌≡◌, ◌≤◌, [], OnOk, OnErr, IfOk, IfErr, map, sum_by, vec_len, vec_capacity};
+ghost use Rattle.std.specs.Prelude.{◌≡◌, ◌≤◌, [], None, OnOk, OnErr, IfOk, IfErr, map, sum_by, vec_len, vec_capacity};
 ghost use Rattle.std.specs.List.{AllZip};
 ghost use Rattle.foyer_policy.specs.Items.{IsWithin};
 ghost use Rattle.foyer_policy.specs.declared.error.Reason.TheVariants.{NoMemory};
 ghost use Rattle.foyer_core.specs.Bulk.{GoesOn, Clears, EvictsIf, EvictsUnpinned, EvictingUnpinned, Picks, Says};
-ghost use Rattle.foyer_core.specs.CoreBulk.{InTurn, InTurnUntil, EvictsToCapacity, EvictingToCapacity, SharesOut};
+ghost use Rattle.foyer_core.specs.CoreBulk.{InTurn, InTurnUntil, ConfiguresEach, EvictsToCapacity, EvictingToCapacity, SharesOut};
 ghost use Rattle.foyer_core.specs.Shards.{opens_of, state_of};
 ghost use Rattle.foyer_core.specs.Stored.{meaning};
 
@@ -83,6 +83,26 @@ pub(super) fn share_out<
     let count = shards.len();
     for place in 0..count {
         shards[place].set_capacity(shard_capacity(capacity, count, place));
+    }
+}
+
+// Tells each shard's policy another configuration, one that it accepts. Nothing leaves, and it takes no memory.
+pub(super) fn configure_each<
+    E: Eviction,
+    K: Key,
+    V: Value,
+    P: Properties,
+    N: Drop,
+    R: Drop,
+    I: Indexer<K>,
+>(shards: &mut Vec<Shard<E, K, V, P, N, R, I>>, config: &E::Config)
+    requires { E.model.fault config.now ≡ None }
+    ensures configured { ConfiguresEach (meaning K.eq E.model P.hint_of P.phantom_of) config.now (map state_of shards.old.items) (map state_of shards.new.items) }
+    ensures opens { map opens_of shards.new.items ≡ map opens_of shards.old.items }
+    ensures len { vec_len shards.new ≡ vec_len shards.old }
+{
+    for place in 0..shards.len() {
+        shards[place].configure(config);
     }
 }
 

@@ -1,6 +1,6 @@
 //! What a shard does with all of its records.
 
-ghost use Rattle.std.specs.Prelude.{◌≡◌, OnOk, OnErr, IfOk, IfErr};
+ghost use Rattle.std.specs.Prelude.{◌≡◌, Some, None, OnOk, OnErr, IfOk, IfErr};
 ghost use Rattle.foyer_policy.specs.declared.error.Reason.TheVariants.{NoMemory};
 
 use super::Shard;
@@ -19,7 +19,7 @@ impl<E: Eviction, K: Key, V: Value, P: Properties, N: Drop, R: Drop, I: Indexer<
     I,
 > {
     ghost use Rattle.foyer_core.specs.Shards.{state_of, meaning_of, opens_of};
-    ghost use Rattle.foyer_core.specs.Bulk.{GoesOn, after_capacity, EvictsUnpinned, EvictingUnpinned};
+    ghost use Rattle.foyer_core.specs.Bulk.{GoesOn, after_capacity, after_update, EvictsUnpinned, EvictingUnpinned};
     ghost use Rattle.foyer_core.specs.CoreBulk.{EvictsToCapacity, EvictingToCapacity};
     ghost use Rattle.foyer_core.specs.Steps.{Evicts, Evicting};
 
@@ -30,6 +30,16 @@ impl<E: Eviction, K: Key, V: Value, P: Properties, N: Drop, R: Drop, I: Indexer<
         ensures opens { opens_of self.new ≡ opens_of self.old }
     {
         self.store.set_capacity(capacity)
+    }
+
+    /// Tells the policy another configuration, one that it accepts. The capacity stays, and nothing leaves. It takes
+    /// no memory.
+    pub fn configure(&mut self, config: &E::Config)
+        requires { E.model.fault config.now ≡ None }
+        ensures configured { state_of self.new ≡ after_update (meaning_of self.old) (state_of self.old) (state_of self.old).capacity (Some config.now) }
+        ensures opens { opens_of self.new ≡ opens_of self.old }
+    {
+        self.store.configure(config)
     }
 
     /// Evicts until the usage is at most the capacity, or nothing more leaves, and appends what leaves. Refused

@@ -1,6 +1,6 @@
 //! What a shard does with all of its records.
 
-ghost use Rattle.std.specs.Prelude.{◌≡◌, ℕ, None, OnOk, OnErr, IfErr};
+ghost use Rattle.std.specs.Prelude.{◌≡◌, ℕ, Some, None, OnOk, OnErr, IfErr};
 ghost use Rattle.foyer_policy.specs.declared.error.Reason.TheVariants.{NoMemory};
 
 use super::Store;
@@ -10,7 +10,7 @@ use foyer_policy::{Error, Event, Eviction, Key, Properties, Reason, Result, Valu
 
 impl<E: Eviction, K: Key, V: Value, P: Properties, I: Indexer<K>> Store<E, K, V, P, I> {
     ghost use Rattle.foyer_core.specs.Stores.{state_of, meaning_of};
-    ghost use Rattle.foyer_core.specs.Bulk.{GoesOn, after_capacity, EvictsUnpinned, EvictingUnpinned};
+    ghost use Rattle.foyer_core.specs.Bulk.{GoesOn, after_capacity, after_update, EvictsUnpinned, EvictingUnpinned};
     ghost use Rattle.foyer_core.specs.CoreBulk.{EvictsToCapacity, EvictingToCapacity};
 
     /// Sets the weight that the records may have together, and tells the policy. Nothing leaves, even where the
@@ -20,6 +20,15 @@ impl<E: Eviction, K: Key, V: Value, P: Properties, I: Indexer<K>> Store<E, K, V,
     {
         tell_capacity(&mut self.eviction, capacity);
         self.capacity = capacity;
+    }
+
+    /// Tells the policy another configuration, one that it accepts. The capacity stays, and nothing leaves. It takes
+    /// no memory.
+    pub fn configure(&mut self, config: &E::Config)
+        requires { E.model.fault config.now ≡ None }
+        ensures { state_of self.new ≡ after_update (meaning_of self.old) (state_of self.old) (state_of self.old).capacity (Some config.now) }
+    {
+        tell_config(&mut self.eviction, self.capacity, config);
     }
 
     /// Evicts until the usage is at most the capacity, or nothing more leaves, and appends what leaves. Refused
@@ -59,6 +68,17 @@ fn tell_capacity<'a, E: Eviction>(eviction: &'a mut E, capacity: usize)
 {
     let same: Option<&'a E::Config> = None;
     let Ok(()) = eviction.update(capacity, same) else {
+        unreachable!();
+    };
+}
+
+// Tells a policy another configuration, one that it accepts, with the capacity that it has.
+fn tell_config<E: Eviction>(eviction: &mut E, capacity: usize, config: &E::Config)
+    requires { E.model.fault config.now ≡ None }
+    ensures view { E.view eviction.new ≡ E.model.update (E.view eviction.old) capacity (Some config.now) }
+    ensures places { (p : ℕ) → E.at eviction.new p ≡ E.at eviction.old p }
+{
+    let Ok(()) = eviction.update(capacity, Some(config)) else {
         unreachable!();
     };
 }

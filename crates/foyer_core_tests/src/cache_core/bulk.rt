@@ -53,7 +53,7 @@ fn cleared(rt: &impl Abort, core: &mut Core) -> Leaves {
 }
 
 // What leaves where all goes that is not pinned, with memory at hand.
-fn evicted<E: Eviction>(rt: &impl Abort, core: &mut Heavy<E>) -> HeavyLeaves {
+pub(super) fn evicted<E: Eviction>(rt: &impl Abort, core: &mut Heavy<E>) -> HeavyLeaves {
     match core.evict_all() {
         Ok(leaves) => leaves,
         Err(refused) => panic!(rt; "refused: {}", refused.error),
@@ -61,7 +61,7 @@ fn evicted<E: Eviction>(rt: &impl Abort, core: &mut Heavy<E>) -> HeavyLeaves {
 }
 
 // The keys of what was evicted.
-fn heavy_keys(
+pub(super) fn heavy_keys(
     rt: &impl Abort,
     alloc: Global,
     leaves: &HeavyLeaves,

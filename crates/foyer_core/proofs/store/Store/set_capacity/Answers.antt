@@ -1,8 +1,8 @@
-use Rattle.std.proofs.Common.{refl}
+use Rattle.std.proofs.Common.{None, refl}
 use Rattle.foyer_core.specs.Stores.{meaning_of}
 use Rattle.foyer_core.proofs.Holdings.{holding}
 use Rattle.foyer_core.proofs.LeftLemmas.{still_stored}
-use Rattle.foyer_core.proofs.Views.{capacity_kept, capacity_weighed, capacity_counted}
+use Rattle.foyer_core.proofs.Views.{update_kept, update_weighed, update_counted}
 use Rattle.foyer_core.proofs.store.Store.set_capacity.Goals as goal
 
 pub invariant_of-self : goal.invariant_of-self
@@ -12,9 +12,9 @@ invariant_of-self g c =
     let v = g.E.Eviction.view c.tell_capacity.new.eviction in
     let same = c.tell_capacity.ensures.view in
     record {
-      kept = capacity_kept m g.met.K.Eq.laws g.met.E.Eviction.lawful (holding s) c.args.capacity v same;
+      kept = update_kept m g.met.K.Eq.laws g.met.E.Eviction.lawful (holding s) c.args.capacity None v same;
       stored = still_stored m g.met.K.Eq.laws g.met.E.Eviction.lawful (holding s) (g.E.Eviction.view s.eviction) refl (g.E.Eviction.at c.tell_capacity.new.eviction) c.tell_capacity.ensures.places;
-      weighed = capacity_weighed m g.met.K.Eq.laws g.met.E.Eviction.lawful (holding s) c.args.capacity v same s.usage s.weighed;
-      counted = capacity_counted m g.met.K.Eq.laws g.met.E.Eviction.lawful (holding s) c.args.capacity v same s.entries s.counted;
+      weighed = update_weighed m g.met.K.Eq.laws g.met.E.Eviction.lawful (holding s) c.args.capacity None v same s.usage s.weighed;
+      counted = update_counted m g.met.K.Eq.laws g.met.E.Eviction.lawful (holding s) c.args.capacity None v same s.entries s.counted;
       numbered = s.numbered;
     }
