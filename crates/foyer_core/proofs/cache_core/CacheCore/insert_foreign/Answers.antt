@@ -1,4 +1,4 @@
-use Rattle.std.proofs.Common.{◌≡◌, ◌+◌, sym, ◌∙◌, ap, map, vec_len, arith}
+use Rattle.std.proofs.Common.{◌≡◌, refl, ◌+◌, sym, ◌∙◌, ap, map, vec_len, arith}
 use Rattle.std.specs.Prelude.{slice_set}
 use Rattle.foyer_policy.specs.declared.types.Source.TheVariants.{Memory}
 use Rattle.foyer_core.specs.declared.record.Data.{Data}
