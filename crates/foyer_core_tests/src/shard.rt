@@ -1,7 +1,9 @@
+ghost use Rattle.std.specs.Prelude.{◌≡◌};
+
 use foyer_core::{
     CacheProperties, CoreEntry, Data, HashTableIndexer, Inserted, Left, Limits, Shard,
 };
-use foyer_policy::{Event, Lru, LruConfig, Result, Source};
+use foyer_policy::{Event, Lru, LruConfig, Ratio, Result, Source};
 use std::alloc::Global;
 use std::process::Abort;
 use std::test::Fail;
@@ -102,6 +104,15 @@ fn cleared(rt: &impl Abort, alloc: Global, shard: &mut Plain) -> Leaves {
     leaves
 }
 
+// A pool of all of the capacity, or of none of it.
+fn pool(num: u32) -> LruConfig
+    ensures { result ≡ record { high_priority_pool_ratio = record { num = num; den = 1 } } }
+{
+    LruConfig {
+        high_priority_pool_ratio: Ratio { num, den: 1 },
+    }
+}
+
 // Records of the keys 1 to 3, of the weights 0, 3 and 1.
 fn three(rt: &impl Abort, alloc: Global) -> Result<Plain> {
     let mut shard = shard(alloc, 5)?;
@@ -190,6 +201,33 @@ fn a_lower_capacity_evicts_nothing_by_itself(rt: HostRuntime) -> std::result::Re
         [(Event::Evict, 1), (Event::Evict, 2)].as_slice()
     );
     assert_eq!(rt; shard.usage(), 1);
+    Ok(())
+}
+
+// What falls out of a pool that goes stays low when it comes back. The capacity stays, so nothing leaves for a
+// record that fills it.
+#[test]
+fn another_configuration_takes_nothing_out(rt: HostRuntime) -> std::result::Result<(), Fail> {
+    let mut shard = three(&rt, rt.alloc())?;
+    shard.configure(&pool(0));
+    assert_eq!(rt; (shard.usage(), shard.entries()), (4, 3));
+    shard.configure(&pool(1));
+    put(&rt, rt.alloc(), &mut shard, 4, 1);
+    let held = hold(&rt, &mut shard, 1);
+    release(&rt, &mut shard, held);
+    let mut leaves = Vec::new(rt.alloc());
+    shard.evict_unpinned(&mut leaves)?;
+    let told = told(rt.alloc(), &leaves)?;
+    assert_eq!(rt;
+        told.as_slice(),
+        [
+            (Event::Evict, 2),
+            (Event::Evict, 3),
+            (Event::Evict, 1),
+            (Event::Evict, 4)
+        ]
+        .as_slice()
+    );
     Ok(())
 }
 

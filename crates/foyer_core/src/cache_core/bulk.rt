@@ -99,7 +99,8 @@ impl<
     /// first fault alone, F2 to F6, whatever the core holds, and then nothing has changed in any shard. It takes no
     /// memory.
     pub fn reconfigure(&mut self, config: &E::Config) -> Result<()>
-        ensures done { OnOk result (Configures (meaning_of_core self.old) config.now (core_of self.old) (core_of self.new)) }
+        ensures done { OnOk result (Configures (meaning_of_core self.old) config.now
+            (core_of self.old) (core_of self.new)) }
         ensures accepted { IsOk result ↔ (E.model.fault config.now ≡ None) }
         ensures refused { IfSome (E.model.fault config.now) (λ reason. result ≡ Err reason) }
         ensures err { OnErr result (core_of self.new ≡ core_of self.old) }

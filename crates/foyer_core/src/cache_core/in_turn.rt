@@ -97,7 +97,8 @@ pub(super) fn configure_each<
     I: Indexer<K>,
 >(shards: &mut Vec<Shard<E, K, V, P, N, R, I>>, config: &E::Config)
     requires { E.model.fault config.now ≡ None }
-    ensures configured { ConfiguresEach (meaning K.eq E.model P.hint_of P.phantom_of) config.now (map state_of shards.old.items) (map state_of shards.new.items) }
+    ensures configured { ConfiguresEach (meaning K.eq E.model P.hint_of P.phantom_of) config.now
+        (map state_of shards.old.items) (map state_of shards.new.items) }
     ensures opens { map opens_of shards.new.items ≡ map opens_of shards.old.items }
     ensures len { vec_len shards.new ≡ vec_len shards.old }
 {

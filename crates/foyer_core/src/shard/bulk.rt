@@ -36,7 +36,8 @@ impl<E: Eviction, K: Key, V: Value, P: Properties, N: Drop, R: Drop, I: Indexer<
     /// no memory.
     pub fn configure(&mut self, config: &E::Config)
         requires { E.model.fault config.now ≡ None }
-        ensures configured { state_of self.new ≡ after_update (meaning_of self.old) (state_of self.old) (state_of self.old).capacity (Some config.now) }
+        ensures configured { state_of self.new
+            ≡ after_update (meaning_of self.old) (state_of self.old) (state_of self.old).capacity (Some config.now) }
         ensures opens { opens_of self.new ≡ opens_of self.old }
     {
         self.store.configure(config)

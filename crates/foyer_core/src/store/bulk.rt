@@ -26,7 +26,8 @@ impl<E: Eviction, K: Key, V: Value, P: Properties, I: Indexer<K>> Store<E, K, V,
     /// no memory.
     pub fn configure(&mut self, config: &E::Config)
         requires { E.model.fault config.now ≡ None }
-        ensures { state_of self.new ≡ after_update (meaning_of self.old) (state_of self.old) (state_of self.old).capacity (Some config.now) }
+        ensures { state_of self.new
+            ≡ after_update (meaning_of self.old) (state_of self.old) (state_of self.old).capacity (Some config.now) }
     {
         tell_config(&mut self.eviction, self.capacity, config);
     }
