@@ -16,6 +16,7 @@ mod bulk;
 mod entries;
 mod fetches;
 mod filter;
+mod generic;
 mod location;
 mod memory;
 mod phantom;

@@ -79,3 +79,64 @@ fn growth(rt: HostRuntime) -> std::result::Result<(), Fail> {
     assert_eq!(rt; bytes.as_slice(), [5].as_slice());
     Ok(())
 }
+
+// Whether values are equal, as their type's impl says.
+fn same<T: PartialEq>(one: &T, other: &T) -> bool
+    ensures { result ≡ T.eq one.now other.now }
+{
+    one == other
+}
+
+// A fault that is shared by nothing else.
+fn shared(
+    alloc: Global,
+    code: u64,
+    message: &str,
+) -> std::result::Result<Arc<Fault, Global>, Fail> {
+    let message = String::from_str(alloc, message)?;
+    Ok(Arc::new(alloc, Fault { code, message })?)
+}
+
+// Refusals are equal where their reasons are, and faults where code and message are, also apart in memory.
+#[test]
+fn refusals_are_compared(rt: HostRuntime) -> std::result::Result<(), Fail> {
+    let alloc = rt.alloc();
+    let wanted = fault(alloc)?;
+    for (code, message, equal) in [
+        (7, "no route", true),
+        (8, "no route", false),
+        (7, "no", false),
+    ] {
+        let other = shared(alloc, code, message)?;
+        assert_eq!(rt; same::<Fault>(&wanted, &other), equal, "{code} {message}");
+        let (one, two) = (
+            Reason::Fetch(Arc::try_clone(&wanted)?),
+            Reason::Fetch(other),
+        );
+        assert_eq!(rt; same(&one, &two), equal, "{code} {message}");
+        assert_eq!(rt;
+            same(&Error::new(one), &Error::new(two)),
+            equal,
+            "{code} {message}"
+        );
+    }
+    for (one, two, equal) in [
+        (Reason::NoMemory, Reason::NoMemory, true),
+        (Reason::NoMemory, Reason::Weight, false),
+        (
+            Reason::RatioRange(Field::Window),
+            Reason::RatioRange(Field::Window),
+            true,
+        ),
+        (
+            Reason::RatioRange(Field::Window),
+            Reason::RatioRange(Field::Protected),
+            false,
+        ),
+        (Reason::Fetch(wanted), Reason::NoValue, false),
+    ] {
+        assert_eq!(rt; same(&one, &two), equal, "{one:?} {two:?}");
+        assert_eq!(rt; same(&Error::new(one), &Error::new(two)), equal);
+    }
+    Ok(())
+}

@@ -80,54 +80,92 @@ fn a_completion_fits_beside_what_is_pinned(rt: HostRuntime) -> std::result::Resu
 
 type ByWeight = Fetching<Fifo, ModHasher, ByValue>;
 
-// A core of three records of weight one, where one waits for a fourth; none where memory is refused on the way.
-fn three_and_one_waits(rt: &impl Abort, alloc: Global) -> Result<Option<ByWeight>> {
+// A core of so many records of weight one, from the key 1 on, where one waits for the next key; none where memory is
+// refused on the way.
+fn full_and_one_waits(rt: &impl Abort, alloc: Global, count: u64) -> Option<ByWeight> {
     let mut core = fetching::<Fifo, ModHasher, ByValue>(
         alloc,
-        3,
+        count as usize,
         Limits::default(),
         FifoConfig {},
         ModHasher::default(),
         ByValue,
-    )?;
-    for key in 1..4u64 {
-        match put_in(rt, alloc, &mut core, key, 1) {
-            Ok(came) => assert_eq!(rt; came.id, key - 1),
+    )
+    .ok()?;
+    for key in 1..count.wrapping_add(1) {
+        match core.insert(key, 1) {
+            Ok(made) => {
+                let Inserted {
+                    entry,
+                    answers,
+                    leaves,
+                } = made;
+                assert!(rt; leaves.is_empty() && answers.waiters.is_empty());
+                core.drop_answers(answers);
+                assert!(rt; !goes_back(rt, &mut core, entry));
+            }
             Err(refused) => {
-                assert_eq!(rt; refused, (7, 0));
-                return Ok(None);
+                assert_eq!(rt; (refused.error.number(), refused.leaves.len()), (7, 0));
+                return None;
             }
         }
     }
-    let asked = ask(rt, &mut core, 4, None, 0);
-    if asked == Asked::Refused(7) {
-        return Ok(None);
+    match ask(rt, &mut core, count.wrapping_add(1), None, 0) {
+        Asked::Refused(number) => {
+            assert_eq!(rt; number, 7);
+            None
+        }
+        asked => {
+            assert_eq!(rt; asked, Asked::Leads(0, 0, None));
+            Some(core)
+        }
     }
-    assert_eq!(rt; asked, Asked::Leads(0, 0, None));
-    Ok(Some(core))
 }
 
-// Three records give way to one, which answers who waits. Where a growth is refused, some of them have left, and the
-// token waits. With `--fail-alloc` each growth is refused in turn.
+// Records give way to one that is as heavy as all of them, which answers who waits. Where a growth is refused, the first
+// of them have left, and the token waits. With `--fail-alloc` each growth is refused in turn.
 #[test]
 fn a_refused_insert_leaves_who_waits(rt: HostRuntime) -> std::result::Result<(), Fail> {
-    let Some(mut core) = three_and_one_waits(&rt, rt.alloc())? else {
-        return Ok(());
-    };
-    match put_in(&rt, rt.alloc(), &mut core, 4, 3) {
-        Ok(came) => {
-            assert_eq!(rt; (came.id, came.handles, came.left), (3, 2, 3));
-            assert_eq!(rt; came.tokens.as_slice(), [0].as_slice());
-            assert_eq!(rt; came.got, Got::Value(3));
-            assert_eq!(rt; (core.usage(), core.entries()), (3, 1));
-        }
-        Err((number, left)) => {
-            assert_eq!(rt; number, 7);
-            assert!(rt; core.is_open(&4, 0) && !core.contains(&4));
-            for key in 1..4u64 {
-                assert_eq!(rt; core.contains(&key), key > left as u64);
+    for count in [3, 9] {
+        let Some(mut core) = full_and_one_waits(&rt, rt.alloc(), count) else {
+            return Ok(());
+        };
+        let key = count.wrapping_add(1);
+        match core.insert(key, count) {
+            Ok(made) => {
+                let Inserted {
+                    entry,
+                    answers,
+                    leaves,
+                } = made;
+                assert_eq!(rt; (entry.id(), leaves.len() as u64), (count, count));
+                assert_eq!(rt; leave_in_order(&rt, &leaves), key);
+                assert_eq!(rt; answers.waiters.len(), 1);
+                assert_eq!(rt; answers.waiters[0].token, 0);
+                core.drop_answers(answers);
+                assert!(rt; !goes_back(&rt, &mut core, entry));
+                assert!(rt; core.contains(&key) && !core.is_open(&key, 0));
+                assert_eq!(rt; (core.usage(), core.entries()), (u128::from(count), 1));
+            }
+            Err(refused) => {
+                assert_eq!(rt; refused.error.number(), 7);
+                assert!(rt; core.is_open(&key, 0) && !core.contains(&key));
+                let next = leave_in_order(&rt, &refused.leaves);
+                for other in 1..key {
+                    assert_eq!(rt; core.contains(&other), other >= next);
+                }
             }
         }
     }
     Ok(())
+}
+
+// Evictions of the keys from 1 on, in order: the key that would be next.
+fn leave_in_order(rt: &impl Abort, leaves: &Leaves) -> u64 {
+    let mut next = 1u64;
+    for (event, left) in leaves {
+        assert!(rt; *event == Event::Evict && *left.key() == next);
+        next = next.wrapping_add(1);
+    }
+    next
 }
