@@ -256,6 +256,11 @@ pub enum FetchTarget<K, V, P> {
 }
 
 impl<K, V, P: Default> From<V> for FetchTarget<K, V, P> {
+    ghost use Rattle.std.specs.Prelude.{◌≡◌};
+    ghost use Rattle.foyer_core.specs.declared.outcome.FetchTarget.TheVariants.{Entry};
+
+    ghost from_gives = { λ value target. (properties : P) × P.is_default properties × (target ≡ Entry value properties) };
+
     /// A value with default properties.
     fn from(value: V) -> Self {
         FetchTarget::Entry {
@@ -266,6 +271,11 @@ impl<K, V, P: Default> From<V> for FetchTarget<K, V, P> {
 }
 
 impl<K, V, P> From<(V, P)> for FetchTarget<K, V, P> {
+    ghost use Rattle.std.specs.Prelude.{◌≡◌};
+    ghost use Rattle.foyer_core.specs.declared.outcome.FetchTarget.TheVariants.{Entry};
+
+    ghost from_gives = { λ made target. target ≡ Entry made.0 made.1 };
+
     /// A value with these properties.
     fn from(made: (V, P)) -> Self {
         let (value, properties) = made;
@@ -274,6 +284,11 @@ impl<K, V, P> From<(V, P)> for FetchTarget<K, V, P> {
 }
 
 impl<K, V, P> From<Piece<K, V, P>> for FetchTarget<K, V, P> {
+    ghost use Rattle.std.specs.Prelude.{◌≡◌};
+    ghost use Rattle.foyer_core.specs.declared.outcome.FetchTarget.TheVariants.{Piece as PieceOf};
+
+    ghost from_gives = { λ piece target. target ≡ PieceOf piece };
+
     /// A piece.
     fn from(piece: Piece<K, V, P>) -> Self {
         FetchTarget::Piece(piece)
