@@ -8,7 +8,7 @@ use Rattle.foyer_policy.specs.declared.types.Event.TheVariants.{Evict}
 use Rattle.foyer_core.specs.Values.{Rec, Gone}
 use Rattle.foyer_core.specs.State.{Meaning, State, usage_of}
 use Rattle.foyer_core.specs.Steps.{EvictsOne, after_out, gone_of, ids_of, Leave, Evicting, Evicts}
-use Rattle.foyer_core.proofs.Popped.{pop_weight, pop_shorter, pops_some, victims_none, after_pops_more, until_low, until_more}
+use Rattle.foyer_core.proofs.Popped.{pop_weight, pop_shorter, pops_some, first_pops_none, after_pops_more, until_low, until_more}
 
 module _ {K V P View C : Type 0} (m : Meaning K P View C) where
   -- one leave more
@@ -47,7 +47,7 @@ module _ {K V P View C : Type 0} (m : Meaning K P View C) where
 
   pub begun-none : (target : ℕ) (old : State K V P View) (ls : List (Event × Gone K V P)) (now : State K V P View) → Begun target old ls now
       → m.policy.pop now.view ≡ None → Evicts m target old ls now
-  begun-none target old ls now h none = begun-all target old ls now h (ap (until target (usage_of m now)) (victims_none m.policy (length (m.policy.order now.view)) now.view none))
+  begun-none target old ls now h none = begun-all target old ls now h (ap (until target (usage_of m now)) (first_pops_none m.policy (length (m.policy.order now.view)) now.view none))
 
   module _ (good : IsPolicy m.policy) where
     -- a pop makes the order shorter

@@ -4,7 +4,7 @@ use Rattle.std.specs.Prelude.{nat_le}
 use Rattle.std.proofs.lemmas.Bool.Decides.{nat_tests}
 use Rattle.std.proofs.lemmas.List.Sorted.{sum_by_popped, length_permutation}
 use Rattle.foyer_policy.specs.Items.{weight_of}
-use Rattle.foyer_policy.specs.Policy.{Policy, IsPolicy, and_then, victims, pops, view_or, after_pops, until, evicted}
+use Rattle.foyer_policy.specs.Policy.{Policy, IsPolicy, and_then, first_pops, pops, view_or, after_pops, until, evicted}
 use Rattle.foyer_policy.specs.declared.types.Item.{Item}
 
 module _ {V C : Type 0} (m : Policy V C) (good : IsPolicy m) (v w : V) (i : Item) (h : m.pop v ≡ Some (i, w)) where
@@ -18,9 +18,9 @@ module _ {V C : Type 0} (m : Policy V C) (good : IsPolicy m) (v w : V) (i : Item
   pops_some = rw (sym pop_shorter, add-one) (rw h refl)
 
 module _ {V C : Type 0} (m : Policy V C) where
-  pub victims_none : (n : ℕ) (v : V) → m.pop v ≡ None → victims m n v ≡ []
-  victims_none zero v h = refl
-  victims_none (suc n) v h = rw h
+  pub first_pops_none : (n : ℕ) (v : V) → m.pop v ≡ None → first_pops m n v ≡ []
+  first_pops_none zero v h = refl
+  first_pops_none (suc n) v h = rw h
 
   -- one pop more
   pub after_pops_more : (n : ℕ) (v w x : V) (i : Item) → w ≡ after_pops m n v → m.pop w ≡ Some (i, x) → x ≡ after_pops m (suc n) v
@@ -34,7 +34,7 @@ module _ {V C : Type 0} (m : Policy V C) where
 pub pops_first : {V C : Type 0} (m : Policy V C) → IsPolicy m → (v : V) (i : Item) (is : List Item) → i ∷ is ≡ pops m v → (w : V) × (m.pop v ≡ Some (i, w)) × (is ≡ pops m w)
 pops_first {V} m good v i is h = go (m.pop v) refl where
   go : (o : Option (Item × V)) → m.pop v ≡ o → (w : V) × (m.pop v ≡ Some (i, w)) × (is ≡ pops m w)
-  go None e = absurd (let f : ◌≡◌ {A = List Item} (i ∷ is) [] = h ∙ victims_none m (length (m.order v)) v e in cc)
+  go None e = absurd (let f : ◌≡◌ {A = List Item} (i ∷ is) [] = h ∙ first_pops_none m (length (m.order v)) v e in cc)
   go (Some (j, w)) e =
       let f : ◌≡◌ {A = List Item} (i ∷ is) (j ∷ pops m w) = h ∙ pops_some m good v w j e in
       let first : j ≡ i = cc in
@@ -78,14 +78,14 @@ abbrev pub Ends : {V C : Type 0} → Policy V C → ℕ → V → Type 0
 Ends m t v = (weight_of (m.order v) ≤ t) ⊎ (m.pop v ≡ None)
 
 module _ {V C : Type 0} (m : Policy V C) (good : IsPolicy m) (t : ℕ) where
-  ends_from : (n : ℕ) (v : V) → length (m.order v) ≤ n → Ends m t (after_pops m (length (until t (weight_of (m.order v)) (victims m n v))) v)
+  ends_from : (n : ℕ) (v : V) → length (m.order v) ≤ n → Ends m t (after_pops m (length (until t (weight_of (m.order v)) (first_pops m n v))) v)
   ends_from zero v h = inl (omega (arith, weight_none (m.order v) h))
   ends_from (suc n) v h = go (m.pop v) refl (ends_from n) where
-    go : (o : Option (Item × V)) → m.pop v ≡ o → ((w : V) → length (m.order w) ≤ n → Ends m t (after_pops m (length (until t (weight_of (m.order w)) (victims m n w))) w))
-        → Ends m t (after_pops m (length (until t (weight_of (m.order v)) (and_then m o (λ w. victims m n w)))) v)
+    go : (o : Option (Item × V)) → m.pop v ≡ o → ((w : V) → length (m.order w) ≤ n → Ends m t (after_pops m (length (until t (weight_of (m.order w)) (first_pops m n w))) w))
+        → Ends m t (after_pops m (length (until t (weight_of (m.order v)) (and_then m o (λ w. first_pops m n w)))) v)
     go None e rec = inr e
     go (Some (i, w)) e rec = low (nat_le (weight_of (m.order v)) t) refl where
-      low : (b : Bool) → nat_le (weight_of (m.order v)) t ≡ b → Ends m t (after_pops m (length (cond b [] (i ∷ until t (weight_of (m.order v) - i.weight) (victims m n w)))) v)
+      low : (b : Bool) → nat_le (weight_of (m.order v)) t ≡ b → Ends m t (after_pops m (length (cond b [] (i ∷ until t (weight_of (m.order v) - i.weight) (first_pops m n w)))) v)
       low true f = inl (grind (arith, nat_tests))
       low false f =
           let less : weight_of (m.order v) - i.weight ≡ weight_of (m.order w) = omega (arith, pop_weight m good v w i e) in

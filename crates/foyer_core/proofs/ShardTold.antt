@@ -16,7 +16,7 @@ use Rattle.foyer_policy.specs.declared.types.Event.{Event}
 use Rattle.foyer_policy.specs.declared.types.Event.TheVariants.{Evict, Replace, Remove, Clear}
 use Rattle.foyer_policy.specs.declared.types.Item.{Item}
 use Rattle.foyer_policy.proofs.ItemLemmas.{one_if}
-use Rattle.foyer_policy.proofs.PopsLemmas.Repeated.{victims-sum}
+use Rattle.foyer_policy.proofs.PopsLemmas.Repeated.{first_pops-sum}
 use Rattle.foyer_core.specs.declared.record.Data.{Data}
 use Rattle.foyer_core.specs.Bulk.{EvictsUnpinned, EvictingUnpinned, Clears, EvictsIf}
 use Rattle.foyer_core.specs.Indexer.{same_key}
@@ -38,7 +38,7 @@ begins_within left rest all parts f = omega (arith, ap (sum_by f) parts, sum_by-
 -- what leaves by pops is in
 module _ {V C : Type 0} (p : Policy V C) (good : IsPolicy p) where
   pops_within : (v : V) → IsWithin (pops p v) (p.order v)
-  pops_within v f = omega (arith, victims-sum p good f (length (p.order v)) v)
+  pops_within v f = omega (arith, first_pops-sum p good f (length (p.order v)) v)
 
   evicted_within : (target : ℕ) (v : V) → IsWithin (evicted p target v) (p.order v)
   evicted_within target v f =

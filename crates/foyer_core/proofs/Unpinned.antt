@@ -1,6 +1,6 @@
 -- Pops until none, one record at a time.
 use Rattle.std.proofs.Common.{◌≡◌, ℕ, zero, suc, List, [], ◌∷◌, ◌++◌, Option, Some, None, length, refl, sym, ◌∙◌, ap, subst, subst₂, append_assoc, append-nil, length-append, arith}
-use Rattle.foyer_policy.specs.Policy.{Policy, IsPolicy, and_then, victims, pops, view_or, after_pops}
+use Rattle.foyer_policy.specs.Policy.{Policy, IsPolicy, and_then, first_pops, pops, view_or, after_pops}
 use Rattle.foyer_policy.specs.declared.types.Item.{Item}
 use Rattle.foyer_policy.specs.declared.types.Event.{Event}
 use Rattle.foyer_policy.specs.declared.types.Event.TheVariants.{Evict}
@@ -9,14 +9,14 @@ use Rattle.foyer_core.specs.State.{Meaning, State}
 use Rattle.foyer_core.specs.Steps.{EvictsOne, after_out, gone_of, ids_of, Leave}
 use Rattle.foyer_core.specs.Bulk.{EvictsUnpinned, EvictingUnpinned}
 use Rattle.foyer_core.proofs.Evictions.{Leave-snoc}
-use Rattle.foyer_core.proofs.Popped.{pops_some, victims_none, after_pops_more}
+use Rattle.foyer_core.proofs.Popped.{pops_some, first_pops_none, after_pops_more}
 
 -- what is left after as many pops as give something is what all pops leave
-after_victims : {V C : Type 0} (m : Policy V C) (n : ℕ) (v : V) → after_pops m (length (victims m n v)) v ≡ after_pops m n v
-after_victims m zero v = refl
-after_victims {V} m (suc n) v = go (m.pop v) refl (after_victims m n) where
-  go : (o : Option (Item × V)) → m.pop v ≡ o → ((w : V) → after_pops m (length (victims m n w)) w ≡ after_pops m n w)
-      → after_pops m (length (and_then m o (λ w. victims m n w))) v ≡ view_or m o v (λ w. after_pops m n w)
+after_first_pops : {V C : Type 0} (m : Policy V C) (n : ℕ) (v : V) → after_pops m (length (first_pops m n v)) v ≡ after_pops m n v
+after_first_pops m zero v = refl
+after_first_pops {V} m (suc n) v = go (m.pop v) refl (after_first_pops m n) where
+  go : (o : Option (Item × V)) → m.pop v ≡ o → ((w : V) → after_pops m (length (first_pops m n w)) w ≡ after_pops m n w)
+      → after_pops m (length (and_then m o (λ w. first_pops m n w))) v ≡ view_or m o v (λ w. after_pops m n w)
   go None is rec = refl
   go (Some p) is rec = rw is (rec p.1)
 
@@ -41,8 +41,8 @@ module _ {K V P View C : Type 0} (m : Meaning K P View C) where
   -- where no pop gives anything, all left
   pub all-none : (old : State K V P View) (ls : List (Event × Gone K V P)) (now : State K V P View) → BegunAll old ls now → m.policy.pop now.view ≡ None → EvictsUnpinned m old ls now
   all-none old ls now h none =
-      let all : h.left ≡ pops m.policy old.view = sym (append-nil h.left) ∙ ap (λ (l : List Item). h.left ++ l) (sym (victims_none m.policy (length (m.policy.order now.view)) now.view none)) ∙ h.told in
-      subst (λ (v : View). Leave m Evict (ids_of (pops m.policy old.view)) old ls v now) (after_victims m.policy (length (m.policy.order old.view)) old.view)
+      let all : h.left ≡ pops m.policy old.view = sym (append-nil h.left) ∙ ap (λ (l : List Item). h.left ++ l) (sym (first_pops_none m.policy (length (m.policy.order now.view)) now.view none)) ∙ h.told in
+      subst (λ (v : View). Leave m Evict (ids_of (pops m.policy old.view)) old ls v now) (after_first_pops m.policy (length (m.policy.order old.view)) old.view)
       (subst (λ (l : List Item). Leave m Evict (ids_of l) old ls (after_pops m.policy (length l) old.view) now) all h.leave)
 
   module _ (good : IsPolicy m.policy) (old : State K V P View) (ls : List (Event × Gone K V P)) (now : State K V P View) (h : BegunAll old ls now)

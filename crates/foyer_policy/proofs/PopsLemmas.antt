@@ -4,7 +4,7 @@ use Rattle.std.specs.Prelude.{◌==◌, sum_by}
 use Rattle.std.proofs.lemmas.Bool.Decides.{nat_tests}
 use Rattle.std.proofs.lemmas.List.Sorted.{sum_by-IsPermutation, sum_by_popped, sum_by_pushed, length_permutation}
 use Rattle.foyer_policy.specs.Items.{weight_of, count_of, IsNewIn, HasIdsOnce, remove_id, find_id}
-use Rattle.foyer_policy.specs.Policy.{Policy, IsPolicy, victims, pops, view_or, after_pops}
+use Rattle.foyer_policy.specs.Policy.{Policy, IsPolicy, first_pops, pops, view_or, after_pops}
 use Rattle.foyer_policy.specs.PopTimes.{after_pop, pop_times}
 use Rattle.foyer_policy.specs.declared.types.Item.{Item}
 use Rattle.foyer_policy.specs.ItemLaws.{one_if, count-cons, count-other, found-id, sum-remove_id, once-remove_id, once-head, once-tail, new-cons}
@@ -29,15 +29,15 @@ count-remove_other j id (x ∷ xs) apart = go (x.id == id) refl (count-remove_ot
   go false e rec = omega (arith, rec, count-cons j x xs, count-cons j x (remove_id id xs))
 
 module _ {V C : Type 0} (m : Policy V C) where
-  pub victims-some : (n : ℕ) (v w : V) (i : Item) → m.pop v ≡ Some (i, w) → victims m (suc n) v ≡ i ∷ victims m n w
-  victims-some n v w i h = rw h
+  pub first_pops-some : (n : ℕ) (v w : V) (i : Item) → m.pop v ≡ Some (i, w) → first_pops m (suc n) v ≡ i ∷ first_pops m n w
+  first_pops-some n v w i h = rw h
 
-  pub victims-none : (n : ℕ) (v : V) → m.pop v ≡ None → victims m n v ≡ []
-  victims-none zero v h = refl
-  victims-none (suc n) v h = rw h
+  pub first_pops-none : (n : ℕ) (v : V) → m.pop v ≡ None → first_pops m n v ≡ []
+  first_pops-none zero v h = refl
+  first_pops-none (suc n) v h = rw h
 
   pub pops-none : (v : V) → m.pop v ≡ None → pops m v ≡ []
-  pops-none v h = victims-none (length (m.order v)) v h
+  pops-none v h = first_pops-none (length (m.order v)) v h
 
   pub after_pops-some : (n : ℕ) (v w : V) (i : Item) → m.pop v ≡ Some (i, w) → after_pops m (suc n) v ≡ after_pops m n w
   after_pops-some n v w i h = rw h
@@ -98,7 +98,7 @@ module _ {V C : Type 0} (m : Policy V C) (law : IsPolicy m) (v w : V) (i : Item)
       omega (arith, kept, pop_new once)
 
   pub pops-some : pops m v ≡ i ∷ pops m w
-  pops-some = rw (pop_shorter, add-one) (victims-some m (length (m.order w)) v w i h)
+  pops-some = rw (pop_shorter, add-one) (first_pops-some m (length (m.order w)) v w i h)
 
 -- the other calls, whatever is counted of the items
 module _ {V C : Type 0} (m : Policy V C) (law : IsPolicy m) (v : V) where

@@ -55,14 +55,14 @@ module _ {V C : Type 0} (m : Policy V C) where
   and_then None next = []
   and_then (Some p) next = p.0 ∷ next p.1
 
-  -- the next victims, at most so many
-  abbrev pub victims : ℕ → V → List Item
-  victims zero v = []
-  victims (suc n) v = and_then (victim v) (λ w. victims n w)
+  -- what leaves first where pop is repeated, at most so many
+  abbrev pub first_pops : ℕ → V → List Item
+  first_pops zero v = []
+  first_pops (suc n) v = and_then (victim v) (λ w. first_pops n w)
 
   -- all that leaves where pop is repeated until none, in order
   abbrev pub pops : V → List Item
-  pops v = victims (length (m.order v)) v
+  pops v = first_pops (length (m.order v)) v
 
   abbrev pub view_or : Option (Item × V) → V → (V → V) → V
   view_or None v next = v

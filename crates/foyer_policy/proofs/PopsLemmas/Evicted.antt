@@ -5,10 +5,10 @@ use Rattle.std.proofs.lemmas.Bool.{cases_lt}
 use Rattle.std.proofs.lemmas.Bool.Decides.{nat_tests}
 use Rattle.std.proofs.lemmas.List.Sums.{sum_by-cons}
 use Rattle.foyer_policy.specs.Items.{weight_of, IsWithin}
-use Rattle.foyer_policy.specs.Policy.{Policy, IsPolicy, and_then, victims, pops, after_pops, until, evicted}
+use Rattle.foyer_policy.specs.Policy.{Policy, IsPolicy, and_then, first_pops, pops, after_pops, until, evicted}
 use Rattle.foyer_policy.specs.declared.types.Item.{Item}
 use Rattle.foyer_policy.proofs.PopsLemmas.{pops-some, pop_shorter, none_weight}
-use Rattle.foyer_policy.proofs.PopsLemmas.Repeated.{victims-take, victims-sum, after_pops-pinned}
+use Rattle.foyer_policy.proofs.PopsLemmas.Repeated.{first_pops-take, first_pops-sum, after_pops-pinned}
 
 -- the beginning of a list of items that is taken out of a usage to bring it to the target: the shortest
 -- that does, or all of them
@@ -66,26 +66,26 @@ module _ {V C : Type 0} (m : Policy V C) (law : IsPolicy m) (target : ℕ) where
   IsShortestBeginning-evicted v = IsShortestBeginning-until target (weight_of (m.order v)) (pops m v)
 
   -- as many pops as were evicted give what was evicted
-  pub evicted-victims : (v : V) → evicted m target v ≡ victims m (length (evicted m target v)) v
-  evicted-victims v = (IsShortestBeginning-evicted v).begins ∙ sym (victims-take m law (length (evicted m target v)) v)
+  pub evicted-pops : (v : V) → evicted m target v ≡ first_pops m (length (evicted m target v)) v
+  evicted-pops v = (IsShortestBeginning-evicted v).begins ∙ sym (first_pops-take m law (length (evicted m target v)) v)
 
   -- the weights of what was evicted and of what is left make the usage
   pub evicted-weight : (v : V) → weight_of (evicted m target v) + weight_of (m.order (after_pops m (length (evicted m target v)) v)) ≡ weight_of (m.order v)
-  evicted-weight v = omega (arith, ap weight_of (evicted-victims v), victims-sum m law (λ (i : Item). i.weight) (length (evicted m target v)) v)
+  evicted-weight v = omega (arith, ap weight_of (evicted-pops v), first_pops-sum m law (λ (i : Item). i.weight) (length (evicted m target v)) v)
 
   -- before the last of them the usage passed the target
   pub evicted-needed : (n : ℕ) (v : V) → n < length (evicted m target v) → target < weight_of (m.order (after_pops m n v))
-  evicted-needed n v h = omega (arith, (IsShortestBeginning-evicted v).shortest n h, ap weight_of (victims-take m law n v), victims-sum m law (λ (i : Item). i.weight) n v)
+  evicted-needed n v h = omega (arith, (IsShortestBeginning-evicted v).shortest n h, ap weight_of (first_pops-take m law n v), first_pops-sum m law (λ (i : Item). i.weight) n v)
 
   -- with as many pops as there are, nothing more leaves
-  all_gone : (n : ℕ) (v : V) → length (m.order v) ≤ n → m.pop (after_pops m (length (victims m n v)) v) ≡ None
+  all_gone : (n : ℕ) (v : V) → length (m.order v) ≤ n → m.pop (after_pops m (length (first_pops m n v)) v) ≡ None
   all_gone zero v h = go (m.pop v) refl where
     go : (o : Option (Item × V)) → m.pop v ≡ o → o ≡ None
     go None is = refl
     go (Some p) is = absurd (omega (arith, pop_shorter m law v p.1 p.0 is))
   all_gone (suc n) v h = go (m.pop v) refl (λ w. all_gone n w) where
-    go : (o : Option (Item × V)) → m.pop v ≡ o → ((w : V) → length (m.order w) ≤ n → m.pop (after_pops m (length (victims m n w)) w) ≡ None)
-        → m.pop (after_pops m (length (and_then m o (λ w. victims m n w))) v) ≡ None
+    go : (o : Option (Item × V)) → m.pop v ≡ o → ((w : V) → length (m.order w) ≤ n → m.pop (after_pops m (length (first_pops m n w)) w) ≡ None)
+        → m.pop (after_pops m (length (and_then m o (λ w. first_pops m n w))) v) ≡ None
     go None is rec = is
     go (Some p) is rec = rw is (rec p.1 (omega (arith, pop_shorter m law v p.1 p.0 is)))
 
