@@ -5,7 +5,7 @@ ghost use Rattle.foyer_session.specs.Observed.{IsTold};
 ghost use Rattle.foyer_session.specs.Sessions.{session_of, terms_of};
 
 use foyer_core::{AdmitAll, CacheProperties, UnitWeighter};
-use foyer_policy::{DefaultHasher, Lru, Result};
+use foyer_policy::{DefaultHasher, Lru, LruConfig, Result};
 use foyer_session::{Command, NoPredicate, Reply, Session};
 use std::alloc::Global;
 
@@ -13,7 +13,7 @@ use std::alloc::Global;
 pub type Numbers = Session<Lru, u64, u64, CacheProperties, DefaultHasher, UnitWeighter, AdmitAll>;
 
 /// A command to it.
-pub type Ask = Command<u64, u64, CacheProperties, NoPredicate>;
+pub type Ask = Command<u64, u64, CacheProperties, NoPredicate, LruConfig>;
 
 /// Puts a value in and looks it up. What each key finds afterwards is what the replies tell; where memory
 /// is missing, nothing has changed.

@@ -1,6 +1,6 @@
 -- The calls on all records keep what a session owns.
 use Rattle.std.proofs.Common.{◌≡◌, ℕ, zero, suc, ◌%◌, List, [], ◌∷◌, Bool, length, Option, Some, None, refl, sym, ap, ◌∙◌, subst, arith}
-use Rattle.std.specs.Prelude.{slice_get, Result, Ok, Err, IfOk, IfErr, OnErr}
+use Rattle.std.specs.Prelude.{slice_get, Result, Ok, Err, IfOk, IfErr, OnOk, OnErr}
 use Rattle.std.specs.List.{AllZip}
 use Rattle.std.proofs.lemmas.Slice.Zip.{AllZip-long}
 use Rattle.foyer_policy.specs.declared.types.Event.{Event}
@@ -8,7 +8,7 @@ use Rattle.foyer_policy.specs.declared.types.Item.{Item}
 use Rattle.foyer_policy.specs.declared.types.Event.TheVariants.{Evict, Clear}
 use Rattle.foyer_core.specs.Bulk.{after_update, Answers, Clears, EvictsIf, EvictsUnpinned, EvictingUnpinned, Picks}
 use Rattle.foyer_core.specs.Core.{Core, share_of, shard_of}
-use Rattle.foyer_core.specs.CoreBulk.{InTurn, InTurnUntil, OfShards, SharesOut, EvictsToCapacity, EvictingToCapacity, Resizes}
+use Rattle.foyer_core.specs.CoreBulk.{Configures, InTurn, InTurnUntil, OfShards, SharesOut, EvictsToCapacity, EvictingToCapacity, Resizes}
 use Rattle.foyer_core.specs.State.{Meaning, State}
 use Rattle.foyer_core.specs.Values.{Gone, Held}
 use Rattle.foyer_core.proofs.TurnLaws.{turn-keeps, until-keeps, updates-keep, zip-at}
@@ -102,6 +102,10 @@ module _ {K V P View C : Type 0} (m : Meaning K P View C) where
     some_resized_owns h owns =
         until_owns (record core { capacity = capacity; shards = h.shared }) ls new handles (EvictsToCapacity m) (EvictingToCapacity m) evicted_alike some_evicted_alike h.evicted (shared_owns h.shared h.shares owns)
 
+  pub configured_owns : {S W A : Type 0} (config : C) (core new : Core K V P View S W A) (handles : List (Option (Held K V P))) → Configures m config core new → OwnsHandles core handles → OwnsHandles new handles
+  configured_owns config core new handles h owns =
+      alike_owns core new handles (updated_alike (Some config) (λ i s. s.capacity) core.shards new.shards h.shards.counted h.shards.each) owns
+
 -- one predicate may answer all that another may
 module _ {K V P View C : Type 0} (m : Meaning K P View C) (says tells : K → V → Bool → Type 0) (more : (key : K) (value : V) (answer : Bool) → says key value answer → tells key value answer) where
   answers_more : (s : State K V P View) (items : List Item) (answers : List Bool) → AllZip (λ i. Answers says s i.id) items answers → AllZip (λ i. Answers tells s i.id) items answers
@@ -132,6 +136,11 @@ module _ {K V P View C : Type 0} (m : Meaning K P View C) (says tells : K → V 
 pub of_either : {A E : Type 0} {P : A → Type 0} {Q G : Type 0} (result : Result A E) → IfOk result P → OnErr result Q → ((a : A) → P a → G) → (Q → G) → G
 of_either (Ok a) ok err f h = f a ok
 of_either (Err e) ok err f h = h err
+
+-- the same where the answer is nothing
+pub of_done : {A E : Type 0} {P Q G : Type 0} (result : Result A E) → OnOk result P → OnErr result Q → (P → G) → (Q → G) → G
+of_done (Ok a) ok err f h = f ok
+of_done (Err e) ok err f h = h err
 
 pub of_both : {A E : Type 0} {P : A → Type 0} {Q : E → Type 0} {G : Type 0} (result : Result A E) → IfOk result P → IfErr result Q → ((a : A) → P a → G) → ((e : E) → Q e → G) → G
 of_both (Ok a) ok err f h = f a ok

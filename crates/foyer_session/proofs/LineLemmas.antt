@@ -20,7 +20,7 @@ line_with_one-long verb n long = rw (bytes_eq-long verb (codes "get") (omega ari
 
 line_with_two-long : (verb : List ℕ) (m n : ℕ) → 8 < length verb → line_with_two verb m n ≡ Bad
 unfolding line_with_two
-line_with_two-long verb m n long = rw (bytes_eq-long verb (codes "insert") (omega arith), bytes_eq-long verb (codes "phantom") (omega arith)) refl
+line_with_two-long verb m n long = rw (bytes_eq-long verb (codes "high") (omega arith), bytes_eq-long verb (codes "insert") (omega arith), bytes_eq-long verb (codes "phantom") (omega arith)) refl
 
 line_with_three-long : (verb : List ℕ) (k m n : ℕ) → 8 < length verb → line_with_three verb k m n ≡ Bad
 unfolding line_with_three

@@ -14,16 +14,16 @@ use Rattle.foyer_core.specs.Observed.{IsTold as CoreTold, after_entry, after_lea
 use Rattle.foyer_core.specs.State.{State}
 use Rattle.foyer_core.specs.Values.{Gone}
 use Rattle.foyer_core.proofs.CallsTold.{cleared_core, clone_told, get_told, give_back_told, insert_told, nothing_told, picked_core, refused_told, remove_told, resized_core, resized_until_core, touch_told, unpinned_core, unpinned_until_core}
-use Rattle.foyer_core.proofs.CoreTold.{AreSound}
+use Rattle.foyer_core.proofs.CoreTold.{AreSound, configured_told}
 use Rattle.foyer_core.proofs.Observing.{leaves_congr}
 use Rattle.foyer_core.proofs.PieceCalls.{piece_tells}
 use Rattle.foyer_session.specs.declared.command.Answer.{Answer}
 use Rattle.foyer_session.specs.declared.command.Answer.TheVariants.{Entry, Found, Missing, Yes, No, Done, Number, PieceNo, NotHeld, Refused}
 use Rattle.foyer_session.specs.declared.command.Command.{Command}
-use Rattle.foyer_session.specs.declared.command.Command.TheVariants.{Insert, Get, Contains, Touch, Remove, Clone, Drop, TakePiece, InsertPiece, Refs, Outdated, Clear, EvictAll, FlushIf, Resize, Capacity, Usage, Entries}
+use Rattle.foyer_session.specs.declared.command.Command.TheVariants.{Insert, Get, Contains, Touch, Remove, Clone, Drop, TakePiece, InsertPiece, Refs, Outdated, Clear, EvictAll, FlushIf, Resize, Reconfigure, Capacity, Usage, Entries}
 use Rattle.foyer_session.specs.declared.command.Reply.{Reply}
 use Rattle.foyer_session.specs.Observed.{IsTold, after_answer, index_of, told}
-use Rattle.foyer_session.specs.Step.{SessionState, Step, InsertStep, GetStep, ContainsStep, TouchStep, RemoveStep, CloneStep, DropStep, TakePieceStep, InsertPieceStep, RefsStep, OutdatedStep, ClearStep, EvictAllStep, FlushIfStep, ResizeStep, NumberStep, data_of, hash_in, leaves_of}
+use Rattle.foyer_session.specs.Step.{SessionState, Step, InsertStep, GetStep, ContainsStep, TouchStep, RemoveStep, CloneStep, DropStep, TakePieceStep, InsertPieceStep, RefsStep, OutdatedStep, ClearStep, EvictAllStep, FlushIfStep, ResizeStep, ReconfigureStep, NumberStep, data_of, hash_in, leaves_of}
 use Rattle.foyer_session.specs.Terms.{Terms}
 
 -- maps that agree do so after replies
@@ -202,11 +202,17 @@ module _ {K V P View C S W A : Type 0} (t : Terms K V P View C S W A) where
         (ap (λ (c : Core K V P View S W A). c.hash_builder) h.0.evicted.rest, resized_until_core t.meaning laws good hash equal old.core new.core sound capacity leaves h.0)
     resize_step capacity _ leaves h = absurd h
 
+    reconfigure_step : (config : C) (answer : Answer K V P) (leaves : List (Event × Gone K V P)) → ReconfigureStep t old config answer leaves new → StepTold answer leaves
+    reconfigure_step config Done leaves h =
+        silent leaves h.2 (ap (λ (c : Core K V P View S W A). c.hash_builder) h.1.rest) (configured_told t.meaning laws good hash equal config old.core new.core h.1)
+    reconfigure_step config (Refused reason) leaves h = unchanged leaves h.1 h.2
+    reconfigure_step config _ leaves h = absurd h
+
     number_step : (count : ℕ) (answer : Answer K V P) (leaves : List (Event × Gone K V P)) → NumberStep count old answer leaves new → StepTold answer leaves
     number_step count (Number n) leaves h = unchanged leaves h.1 h.2
     number_step count _ leaves h = absurd h
 
-    any_step : {Q : Type 0} (picks : Q → K → V → Bool → Type 0) (command : Command K V P Q) (answer : Answer K V P) (leaves : List (Event × Gone K V P)) → Step t picks old command answer leaves new → StepTold answer leaves
+    any_step : {Q : Type 0} (picks : Q → K → V → Bool → Type 0) (command : Command K V P Q C) (answer : Answer K V P) (leaves : List (Event × Gone K V P)) → Step t picks old command answer leaves new → StepTold answer leaves
     any_step picks (Insert k v p) answer leaves h = insert_step k v p answer leaves h
     any_step picks (Get k) answer leaves h = get_step k answer leaves h
     any_step picks (Contains k) answer leaves h = contains_step k answer leaves h
@@ -222,12 +228,13 @@ module _ {K V P View C S W A : Type 0} (t : Terms K V P View C S W A) where
     any_step picks EvictAll answer leaves h = evict_all_step answer leaves h
     any_step picks (FlushIf q) answer leaves h = flush_if_step (picks q) answer leaves h
     any_step picks (Resize capacity) answer leaves h = resize_step capacity answer leaves h
+    any_step picks (Reconfigure config) answer leaves h = reconfigure_step config answer leaves h
     any_step picks Capacity answer leaves h = number_step _ answer leaves h
     any_step picks Usage answer leaves h = number_step _ answer leaves h
     any_step picks Entries answer leaves h = number_step _ answer leaves h
 
     -- a step's reply tells the index
-    pub step_told : {Q : Type 0} (picks : Q → K → V → Bool → Type 0) (command : Command K V P Q) (reply : Reply K V P) → Step t picks old command reply.answer reply.leaves new → IsTold t old (reply ∷ []) new
+    pub step_told : {Q : Type 0} (picks : Q → K → V → Bool → Type 0) (command : Command K V P Q C) (reply : Reply K V P) → Step t picks old command reply.answer reply.leaves new → IsTold t old (reply ∷ []) new
     step_told picks command reply h k =
         let s = any_step picks command reply.answer reply.leaves h in
         ap (λ (b : S). known (t.hash b) new.core k) s.0 ∙ s.1 k

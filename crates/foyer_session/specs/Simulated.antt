@@ -1,16 +1,17 @@
 -- What a program prints for a line.
-use Rattle.std.specs.Prelude.{◌≡◌, ℕ, Bool, true, false, List, [], ◌++◌, ◌⊎◌, Some, None, codes}
+use Rattle.std.specs.Prelude.{◌≡◌, ℕ, Bool, true, false, List, [], ◌++◌, ◌⊎◌, Option, Some, None, codes}
 use Rattle.foyer_policy.specs.declared.types.Event.{Event}
 use Rattle.foyer_policy.specs.declared.types.Hint.TheVariants.{Normal}
+use Rattle.foyer_policy.specs.declared.types.Ratio.{Ratio}
 use Rattle.foyer_core.specs.Values.{Gone, Answered}
 use Rattle.foyer_core.specs.State.{Meaning, coming_in}
 use Rattle.foyer_core.specs.Core.{usage_of_core, entries_of_core}
 use Rattle.foyer_session.specs.declared.command.Answer.{Answer}
 use Rattle.foyer_session.specs.declared.command.Command.{Command}
-use Rattle.foyer_session.specs.declared.command.Command.TheVariants.{Insert, Get, Contains, Touch, Remove, Drop, Clear, EvictAll, Resize}
+use Rattle.foyer_session.specs.declared.command.Command.TheVariants.{Insert, Get, Contains, Touch, Remove, Drop, Clear, EvictAll, Resize, Reconfigure}
 use Rattle.foyer_session.specs.declared.sim.value.SimValue.{SimValue}
 use Rattle.foyer_session.specs.declared.text.Line.{Line}
-use Rattle.foyer_session.specs.declared.text.Line.TheVariants.{Blank, Insert as InsertLine, Phantom as PhantomLine, Get as GetLine, Contains as ContainsLine, Touch as TouchLine, Remove as RemoveLine, Drop as DropLine, Clear as ClearLine, Evict as EvictLine, Resize as ResizeLine, Bad}
+use Rattle.foyer_session.specs.declared.text.Line.TheVariants.{Blank, Insert as InsertLine, Phantom as PhantomLine, Get as GetLine, Contains as ContainsLine, Touch as TouchLine, Remove as RemoveLine, Drop as DropLine, Clear as ClearLine, Evict as EvictLine, Resize as ResizeLine, High as HighLine, Bad}
 use Rattle.foyer_session.specs.declared.predicate.NoPredicate.{NoPredicate}
 use Rattle.foyer_session.specs.Printed.{answer_text, refusal_text, rest_text}
 use Rattle.foyer_session.specs.Step.{SessionState, Step}
@@ -49,23 +50,31 @@ module _ {View C S W A : Type 0} (m : Meaning ℕ Answered View C) where
 -- `hash` is what a hash builder gives a key.
 module _ {View C S W A : Type 0} (m : Meaning ℕ Answered View C) (hash : S → ℕ → ℕ) where
   -- a command is a step, or is refused for want of memory before it is made
-  abbrev pub CommandTold : SessionState ℕ SimValue Answered View S W A → Command ℕ SimValue Answered NoPredicate → List ℕ → SessionState ℕ SimValue Answered View S W A → Type 0
+  abbrev pub CommandTold : SessionState ℕ SimValue Answered View S W A → Command ℕ SimValue Answered NoPredicate C → List ℕ → SessionState ℕ SimValue Answered View S W A → Type 0
   CommandTold old command text new =
       ((answer : Answer ℕ SimValue Answered) × (leaves : List (Event × Gone ℕ SimValue Answered))
       × Step (sim_terms m hash) no_picks old command answer leaves new × (text ≡ line_text m (answer_text answer) leaves new))
       ⊎ ((text ≡ line_text m (refusal_text 7) [] new) × (new ≡ old))
 
+  -- a policy is told the configuration of a share, and is another one where there is none
+  abbrev pub HighTold : SessionState ℕ SimValue Answered View S W A → Option C → List ℕ → SessionState ℕ SimValue Answered View S W A → Type 0
+  HighTold old (Some config) text new = CommandTold old (Reconfigure config) text new
+  HighTold old None text new = (text ≡ line_text m (refusal_text 17) [] new) × (new ≡ old)
+
+-- `config_of` is the configuration of a share, where the policy has a pool of high priority.
+module _ {View C S W A : Type 0} (m : Meaning ℕ Answered View C) (hash : S → ℕ → ℕ) (config_of : Ratio → Option C) where
   -- the text of a line, and the state then
   abbrev pub LineTold : SessionState ℕ SimValue Answered View S W A → Line → List ℕ → SessionState ℕ SimValue Answered View S W A → Type 0
   LineTold old Blank text new = (text ≡ []) × (new ≡ old)
   LineTold old Bad text new = (text ≡ line_text m (codes "bad line") [] new) × (new ≡ old)
-  LineTold old (InsertLine key value weight) text new = CommandTold old (Insert key (record { value = value; weight = weight }) plain) text new
-  LineTold old (PhantomLine key value weight) text new = CommandTold old (Insert key (record { value = value; weight = weight }) phantom) text new
-  LineTold old (GetLine key) text new = CommandTold old (Get key) text new
-  LineTold old (ContainsLine key) text new = CommandTold old (Contains key) text new
-  LineTold old (TouchLine key) text new = CommandTold old (Touch key) text new
-  LineTold old (RemoveLine key) text new = CommandTold old (Remove key) text new
-  LineTold old (DropLine number) text new = CommandTold old (Drop number) text new
-  LineTold old ClearLine text new = CommandTold old Clear text new
-  LineTold old EvictLine text new = CommandTold old EvictAll text new
-  LineTold old (ResizeLine capacity) text new = CommandTold old (Resize capacity) text new
+  LineTold old (InsertLine key value weight) text new = CommandTold m hash old (Insert key (record { value = value; weight = weight }) plain) text new
+  LineTold old (PhantomLine key value weight) text new = CommandTold m hash old (Insert key (record { value = value; weight = weight }) phantom) text new
+  LineTold old (GetLine key) text new = CommandTold m hash old (Get key) text new
+  LineTold old (ContainsLine key) text new = CommandTold m hash old (Contains key) text new
+  LineTold old (TouchLine key) text new = CommandTold m hash old (Touch key) text new
+  LineTold old (RemoveLine key) text new = CommandTold m hash old (Remove key) text new
+  LineTold old (DropLine number) text new = CommandTold m hash old (Drop number) text new
+  LineTold old ClearLine text new = CommandTold m hash old Clear text new
+  LineTold old EvictLine text new = CommandTold m hash old EvictAll text new
+  LineTold old (ResizeLine capacity) text new = CommandTold m hash old (Resize capacity) text new
+  LineTold old (HighLine ratio) text new = HighTold m hash old (config_of ratio) text new

@@ -8,14 +8,14 @@ use Rattle.foyer_policy.specs.declared.error.Reason.TheVariants.{NoMemory}
 use Rattle.foyer_core.specs.declared.record.Data.{Data}
 use Rattle.foyer_core.specs.Values.{Carried, Denied, Gone, Held, Made}
 use Rattle.foyer_core.specs.Bulk.{Clears, EvictsIf, EvictsUnpinned, EvictingUnpinned}
-use Rattle.foyer_core.specs.CoreBulk.{InTurn, InTurnUntil, OfShards, EvictsToCapacity, EvictingToCapacity, Resizes}
+use Rattle.foyer_core.specs.CoreBulk.{InTurn, InTurnUntil, OfShards, EvictsToCapacity, EvictingToCapacity, Resizes, Configures}
 use Rattle.foyer_core.specs.Pieces.{InsertsPiece}
 use Rattle.foyer_core.specs.Steps.{Inserts, RefusesInsert, Gets, GivesBack, Touches, Removes, ClonesHandle, newcomer}
 use Rattle.foyer_core.specs.Core.{Core, AtShard, IsOutdatedIn, hit_in, index_in, refs_in, usage_of_core, entries_of_core}
 use Rattle.foyer_session.specs.declared.command.Answer.{Answer}
 use Rattle.foyer_session.specs.declared.command.Answer.TheVariants.{Entry, Found, Missing, Yes, No, Done, Number, PieceNo, NotHeld, Refused}
 use Rattle.foyer_session.specs.declared.command.Command.{Command}
-use Rattle.foyer_session.specs.declared.command.Command.TheVariants.{Insert, Get, Contains, Touch, Remove, Clone, Drop, TakePiece, InsertPiece, Refs, Outdated, Clear, EvictAll, FlushIf, Resize, Capacity, Usage, Entries}
+use Rattle.foyer_session.specs.declared.command.Command.TheVariants.{Insert, Get, Contains, Touch, Remove, Clone, Drop, TakePiece, InsertPiece, Refs, Outdated, Clear, EvictAll, FlushIf, Resize, Reconfigure, Capacity, Usage, Entries}
 use Rattle.foyer_session.specs.Terms.{Terms}
 
 -- a core with what was handed out, in order: the handles, each held or gone, and the pieces, which stay held
@@ -199,10 +199,17 @@ module _ {K V P View C S W A : Type 0} (t : Terms K V P View C S W A) where
       Resizes t.meaning (InTurnUntil (EvictsToCapacity t.meaning) (EvictingToCapacity t.meaning)) capacity old.core leaves new.core × KeepsTables old new
   ResizeStep old capacity _ leaves new = ⊥
 
+  -- each shard's policy is told the configuration, or its first fault is the answer and nothing changes
+  abbrev pub ReconfigureStep : SessionState K V P View S W A → C → Answer K V P → List (Event × Gone K V P) → SessionState K V P View S W A → Type 0
+  ReconfigureStep old config Done leaves new =
+      (t.meaning.policy.fault config ≡ None) × Configures t.meaning config old.core new.core × (leaves ≡ []) × KeepsTables old new
+  ReconfigureStep old config (Refused reason) leaves new = (t.meaning.policy.fault config ≡ Some reason) × (leaves ≡ []) × (new ≡ old)
+  ReconfigureStep old config _ leaves new = ⊥
+
 -- `picks` is what a predicate may answer of a key and a value.
 module _ {K V P View C S W A Q : Type 0} (t : Terms K V P View C S W A) (picks : Q → K → V → Bool → Type 0) where
   -- what a session answers to a command, what leaves, and the state then
-  abbrev pub Step : SessionState K V P View S W A → Command K V P Q → Answer K V P → List (Event × Gone K V P) → SessionState K V P View S W A → Type 0
+  abbrev pub Step : SessionState K V P View S W A → Command K V P Q C → Answer K V P → List (Event × Gone K V P) → SessionState K V P View S W A → Type 0
   Step old (Insert k v p) answer leaves new = InsertStep t old k v p answer leaves new
   Step old (Get k) answer leaves new = GetStep t old k answer leaves new
   Step old (Contains k) answer leaves new = ContainsStep t old k answer leaves new
@@ -218,6 +225,7 @@ module _ {K V P View C S W A Q : Type 0} (t : Terms K V P View C S W A) (picks :
   Step old EvictAll answer leaves new = EvictAllStep t old answer leaves new
   Step old (FlushIf q) answer leaves new = FlushIfStep t old (picks q) answer leaves new
   Step old (Resize capacity) answer leaves new = ResizeStep t old capacity answer leaves new
+  Step old (Reconfigure config) answer leaves new = ReconfigureStep t old config answer leaves new
   Step old Capacity answer leaves new = NumberStep old.core.capacity old answer leaves new
   Step old Usage answer leaves new = NumberStep (usage_of_core t.meaning old.core) old answer leaves new
   Step old Entries answer leaves new = NumberStep (entries_of_core t.meaning old.core) old answer leaves new

@@ -5,7 +5,7 @@ use Rattle.std.specs.Str.{all_ascii_digits}
 use Rattle.std.specs.Str.Parse.{digits_value}
 use Rattle.std.specs.Io.BufRead.{first_piece, drop_through}
 use Rattle.foyer_session.specs.declared.text.Line.{Line}
-use Rattle.foyer_session.specs.declared.text.Line.TheVariants.{Blank, Insert, Phantom, Get, Contains, Touch, Remove, Drop, Clear, Evict, Resize, Bad}
+use Rattle.foyer_session.specs.declared.text.Line.TheVariants.{Blank, Insert, Phantom, Get, Contains, Touch, Remove, Drop, Clear, Evict, Resize, High, Bad}
 
 -- the words: the longest runs of bytes other than the space, in order
 unfoldable pub words : List ℕ → List (List ℕ)
@@ -37,11 +37,16 @@ line_with_one verb n = if bytes_eq verb (codes "get") then Get n
     else (if bytes_eq verb (codes "resize") then Resize n
     else Bad)))))
 
+-- of a share, whose numbers are below 2^32
+abbrev pub high_line : ℕ → ℕ → Line
+high_line num den = if nat_lt num (2 ^ 32) && nat_lt den (2 ^ 32) then High (record { num = num; den = den }) else Bad
+
 -- of a first word and two numbers
 unfoldable pub line_with_two : List ℕ → ℕ → ℕ → Line
-line_with_two verb m n = if bytes_eq verb (codes "insert") then Insert m n 1
+line_with_two verb m n = if bytes_eq verb (codes "high") then high_line m n
+    else (if bytes_eq verb (codes "insert") then Insert m n 1
     else (if bytes_eq verb (codes "phantom") then Phantom m n 1
-    else Bad)
+    else Bad))
 
 -- of a first word and three numbers
 unfoldable pub line_with_three : List ℕ → ℕ → ℕ → ℕ → Line

@@ -7,9 +7,10 @@ use foyer_policy::{Error, Event};
 use std::marker::Model;
 
 /// What a session is asked. It names a handle by its number: handles are numbered from 0 in the order in
-/// which they were handed out, and so are pieces. `Q` is the predicate of a `FlushIf`.
+/// which they were handed out, and so are pieces. `Q` is the predicate of a `FlushIf`, and `C` the configuration of
+/// the cache's policy.
 #[derive(Debug, Drop)]
-pub enum Command<K, V, P, Q> {
+pub enum Command<K, V, P, Q, C> {
     /// Takes a record of this key, value and properties in.
     Insert(K, V, P),
     /// Asks for a handle of the key's record.
@@ -40,6 +41,8 @@ pub enum Command<K, V, P, Q> {
     FlushIf(Q),
     /// Sets the weight that the records may have together, and evicts to it.
     Resize(usize),
+    /// Sets the configuration of each shard's policy. Nothing leaves.
+    Reconfigure(C),
     /// Asks for the weight that the records may have together.
     Capacity,
     /// Asks for the sum of the weights of the records that a get finds.
@@ -134,7 +137,8 @@ pub enum Answer<K, V, P> {
     /// To `Contains` or `Touch`: the key has no record. To `Outdated`: a get of its key finds the handle's
     /// record.
     No,
-    /// To `Drop`: the handle was given back. To `Clear`, `EvictAll`, `FlushIf` or `Resize`: it is done.
+    /// To `Drop`: the handle was given back. To `Clear`, `EvictAll`, `FlushIf`, `Resize` or `Reconfigure`: it is
+    /// done.
     Done,
     /// To `Refs`, `Capacity`, `Usage` or `Entries`: so many.
     Number(u128),
@@ -143,7 +147,7 @@ pub enum Answer<K, V, P> {
     /// To what names a handle or a piece: none that is held has this number. Nothing has changed.
     NotHeld,
     /// To `Insert`, `InsertPiece`, `Get`, `Touch`, `Remove`, `Clone` or `TakePiece`, and to `Clear`, `EvictAll`,
-    /// `FlushIf` or `Resize`: why it was refused.
+    /// `FlushIf`, `Resize` or `Reconfigure`: why it was refused.
     Refused(Error),
 }
 

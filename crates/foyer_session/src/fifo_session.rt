@@ -13,7 +13,7 @@ use crate::command::{Command, Reply};
 use crate::predicate::Predicate;
 use crate::session::Session;
 use foyer_core::{Filter, Weighter};
-use foyer_policy::{Fifo, HashBuilder, Key, Properties, Result, Value};
+use foyer_policy::{Fifo, FifoConfig, HashBuilder, Key, Properties, Result, Value};
 
 /// Carries out commands as `Session::run` does. What leaves is what came in first.
 pub fn run_fifo<
@@ -26,7 +26,7 @@ pub fn run_fifo<
     Q: Predicate<K, V>,
 >(
     session: &mut Session<Fifo, K, V, P, S, W, A>,
-    commands: Vec<Command<K, V, P, Q>>,
+    commands: Vec<Command<K, V, P, Q, FifoConfig>>,
 ) -> Result<Vec<Reply<K, V, P>>>
     requires clones { (k c : K) → K.is_clone k c → K.eq c k ≡ true }
     ensures run { IfOk result (λ replies.

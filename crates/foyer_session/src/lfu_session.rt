@@ -12,7 +12,7 @@ use crate::command::{Command, Reply};
 use crate::predicate::Predicate;
 use crate::session::Session;
 use foyer_core::{Filter, Weighter};
-use foyer_policy::{HashBuilder, Key, Lfu, Properties, Result, Value};
+use foyer_policy::{HashBuilder, Key, Lfu, LfuConfig, Properties, Result, Value};
 
 /// Carries out commands as `Session::run` does. What leaves is the first of the window or of probation, by
 /// which a sketch has seen less often, in a tie that of probation, and then the first of what is protected.
@@ -26,7 +26,7 @@ pub fn run_lfu<
     Q: Predicate<K, V>,
 >(
     session: &mut Session<Lfu, K, V, P, S, W, A>,
-    commands: Vec<Command<K, V, P, Q>>,
+    commands: Vec<Command<K, V, P, Q, LfuConfig>>,
 ) -> Result<Vec<Reply<K, V, P>>>
     requires clones { (k c : K) → K.is_clone k c → K.eq c k ≡ true }
     ensures run { IfOk result (λ replies.

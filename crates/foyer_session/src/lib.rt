@@ -20,4 +20,7 @@ pub use predicate::{NoPredicate, Predicate};
 pub use s3fifo_session::run_s3fifo;
 pub use session::Session;
 pub use sieve_session::run_sieve;
-pub use sim::{SimArgs, SimPolicy, SimValue, SimWeighter, sim_args, simulate};
+pub use sim::{
+    HighRatio, LruHighRatio, NoHighRatio, SimArgs, SimPolicy, SimValue, SimWeighter, sim_args,
+    simulate,
+};

@@ -12,7 +12,7 @@ use crate::command::{Command, Reply};
 use crate::predicate::Predicate;
 use crate::session::Session;
 use foyer_core::{Filter, Weighter};
-use foyer_policy::{HashBuilder, Key, Lru, Properties, Result, Value};
+use foyer_policy::{HashBuilder, Key, Lru, LruConfig, Properties, Result, Value};
 
 /// Carries out commands as `Session::run` does. What leaves is what was released or came in longest ago, of
 /// low priority first, and nothing that has a handle since a `Get`.
@@ -26,7 +26,7 @@ pub fn run_lru<
     Q: Predicate<K, V>,
 >(
     session: &mut Session<Lru, K, V, P, S, W, A>,
-    commands: Vec<Command<K, V, P, Q>>,
+    commands: Vec<Command<K, V, P, Q, LruConfig>>,
 ) -> Result<Vec<Reply<K, V, P>>>
     requires clones { (k c : K) → K.is_clone k c → K.eq c k ≡ true }
     ensures run { IfOk result (λ replies.

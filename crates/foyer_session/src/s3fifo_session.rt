@@ -12,7 +12,7 @@ use crate::command::{Command, Reply};
 use crate::predicate::Predicate;
 use crate::session::Session;
 use foyer_core::{Filter, Weighter};
-use foyer_policy::{HashBuilder, Key, Properties, Result, S3Fifo, Value};
+use foyer_policy::{HashBuilder, Key, Properties, Result, S3Fifo, S3FifoConfig, Value};
 
 /// Carries out commands as `Session::run` does. What leaves is what was used seldom since it came into a
 /// small queue, where that is over its limit, and else the first of the least frequency of the main queue.
@@ -26,7 +26,7 @@ pub fn run_s3fifo<
     Q: Predicate<K, V>,
 >(
     session: &mut Session<S3Fifo, K, V, P, S, W, A>,
-    commands: Vec<Command<K, V, P, Q>>,
+    commands: Vec<Command<K, V, P, Q, S3FifoConfig>>,
 ) -> Result<Vec<Reply<K, V, P>>>
     requires clones { (k c : K) → K.is_clone k c → K.eq c k ≡ true }
     ensures run { IfOk result (λ replies.

@@ -86,7 +86,7 @@ impl<
     /// nothing has changed.
     pub fn run<Q: Predicate<K, V>>(
         &mut self,
-        commands: Vec<Command<K, V, P, Q>>,
+        commands: Vec<Command<K, V, P, Q, E::Config>>,
     ) -> Result<Vec<Reply<K, V, P>>>
         requires clones { (k c : K) → K.is_clone k c → K.eq c k ≡ true }
         ensures run { IfOk result (λ replies.
@@ -114,7 +114,7 @@ impl<
     /// then nothing has changed.
     pub fn step<Q: Predicate<K, V>>(
         &mut self,
-        command: Command<K, V, P, Q>,
+        command: Command<K, V, P, Q, E::Config>,
     ) -> Result<Reply<K, V, P>>
         requires clones { (k c : K) → K.is_clone k c → K.eq c k ≡ true }
         ensures step { IfOk result (λ reply.
@@ -170,7 +170,10 @@ impl<
     }
 
     // Carries out a command that nothing can be missing for.
-    fn carry_out<Q: Predicate<K, V>>(&mut self, ready: Ready<K, V, P, Q>) -> Reply<K, V, P>
+    fn carry_out<Q: Predicate<K, V>>(
+        &mut self,
+        ready: Ready<K, V, P, Q, E::Config>,
+    ) -> Reply<K, V, P>
         requires clones { (k c : K) → K.is_clone k c → K.eq c k ≡ true }
         requires room { vec_len self.old.handles < vec_capacity self.old.handles }
         requires piece { vec_len self.old.pieces < vec_capacity self.old.pieces }
@@ -198,6 +201,7 @@ impl<
             Command::EvictAll => self.evict_all(),
             Command::FlushIf(predicate) => self.flush_if(&predicate),
             Command::Resize(capacity) => self.resize(capacity),
+            Command::Reconfigure(config) => self.reconfigure(&config),
             Command::Capacity => self.tell_number(self.core.capacity() as u128),
             Command::Usage => self.tell_number(self.core.usage()),
             Command::Entries => self.tell_number(self.core.entries()),

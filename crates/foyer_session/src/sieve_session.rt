@@ -13,7 +13,7 @@ use crate::command::{Command, Reply};
 use crate::predicate::Predicate;
 use crate::session::Session;
 use foyer_core::{Filter, Weighter};
-use foyer_policy::{HashBuilder, Key, Properties, Result, Sieve, Value};
+use foyer_policy::{HashBuilder, Key, Properties, Result, Sieve, SieveConfig, Value};
 
 /// Carries out commands as `Session::run` does. What leaves is the first record from the hand on that was
 /// not used since the hand last passed it.
@@ -27,7 +27,7 @@ pub fn run_sieve<
     Q: Predicate<K, V>,
 >(
     session: &mut Session<Sieve, K, V, P, S, W, A>,
-    commands: Vec<Command<K, V, P, Q>>,
+    commands: Vec<Command<K, V, P, Q, SieveConfig>>,
 ) -> Result<Vec<Reply<K, V, P>>>
     requires clones { (k c : K) → K.is_clone k c → K.eq c k ≡ true }
     ensures run { IfOk result (λ replies.

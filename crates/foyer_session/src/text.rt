@@ -1,5 +1,7 @@
 //! The lines that a program reads, and the numbers that it prints. Nothing here allocates.
 
+use foyer_policy::Ratio;
+
 mod kept;
 mod number;
 mod parse;
@@ -36,6 +38,8 @@ pub enum Line {
     Evict,
     /// `resize C`, of the capacity.
     Resize(usize),
+    /// `high N D`, of the share `N / D`, each below 2^32.
+    High(Ratio),
     /// Any other line.
     Bad,
 }

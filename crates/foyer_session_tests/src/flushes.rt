@@ -1,7 +1,7 @@
 use crate::streams::{Parts, Slow};
 use foyer_core::{AdmitAll, CacheCore, CacheProperties, Limits, RawCacheConfig};
 use foyer_policy::{Fifo, ModHasher};
-use foyer_session::{Session, SimValue, SimWeighter, simulate};
+use foyer_session::{NoHighRatio, Session, SimValue, SimWeighter, simulate};
 use std::alloc::Global;
 use std::io;
 use std::io::{BufRead, BufReader, ErrorKind};
@@ -26,7 +26,7 @@ fn session(alloc: Global) -> Result<FifoSession, Fail> {
 // What a writer gets from these lines, which takes every byte.
 fn written<R: BufRead>(alloc: Global, reader: &mut R) -> Result<Slow, Fail> {
     let mut writer = Slow::new(alloc, usize::MAX);
-    simulate(reader, &mut writer, &mut session(alloc)?)?;
+    simulate(reader, &mut writer, &mut session(alloc)?, &NoHighRatio)?;
     Ok(writer)
 }
 
@@ -67,6 +67,7 @@ fn failure(alloc: Global, at: usize, kind: ErrorKind) -> Result<io::Result<()>, 
         &mut Parts::new(SCRIPT, 12),
         &mut writer,
         &mut session(alloc)?,
+        &NoHighRatio,
     ))
 }
 

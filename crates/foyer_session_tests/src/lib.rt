@@ -7,6 +7,8 @@ mod args;
 #[cfg(test)]
 mod flushes;
 #[cfg(test)]
+mod high;
+#[cfg(test)]
 mod session;
 #[cfg(test)]
 mod sim;

@@ -16,12 +16,15 @@ mod filter;
 mod index;
 mod pieces;
 mod policies;
+mod reconfigure;
 
 type SessionOf<E> = Session<E, u64, u64, CacheProperties, ModHasher, UnitWeighter, AdmitAll>;
 
 type FifoSession = SessionOf<Fifo>;
 
-type Plain = Command<u64, u64, CacheProperties, NoPredicate>;
+type PlainOf<C> = Command<u64, u64, CacheProperties, NoPredicate, C>;
+
+type Plain = PlainOf<FifoConfig>;
 
 type Plainly = Reply<u64, u64, CacheProperties>;
 
@@ -50,7 +53,7 @@ fn session_of<E: Eviction>(
     Ok(Session::new(alloc, CacheCore::new(alloc, config)?))
 }
 
-fn insert(key: u64, value: u64) -> Plain {
+fn insert<C>(key: u64, value: u64) -> PlainOf<C> {
     Command::Insert(key, value, CacheProperties::default())
 }
 
@@ -88,7 +91,7 @@ fn told(
 }
 
 // Commands of a cache with room for two records.
-fn some_commands(alloc: Global) -> std::result::Result<Vec<Plain>, Fail> {
+fn some_commands<C: Drop>(alloc: Global) -> std::result::Result<Vec<PlainOf<C>>, Fail> {
     Ok(vec![in alloc;
         insert(1, 10),
         insert(2, 20),

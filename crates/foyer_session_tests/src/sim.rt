@@ -2,7 +2,7 @@ use crate::streams::{Parts, Slow};
 use foyer_core::{AdmitAll, CacheCore, CacheProperties, Limits, RawCacheConfig};
 use foyer_policy::{Eviction, Fifo, Lfu, Lru, ModHasher, S3Fifo, Sieve};
 use foyer_session::sim::write_answer;
-use foyer_session::{Answer, Session, SimValue, SimWeighter, simulate};
+use foyer_session::{Answer, NoHighRatio, Session, SimValue, SimWeighter, simulate};
 use std::alloc::Global;
 use std::io::{BufRead, ErrorKind};
 use std::test::Fail;
@@ -47,7 +47,7 @@ fn printed_over<E: Eviction, R: BufRead>(
 ) -> Result<Vec<u8>, Fail> {
     let mut session = session_over::<E>(alloc, capacity, shards, Limits::default())?;
     let mut written = Vec::new(alloc);
-    simulate(reader, &mut written, &mut session)?;
+    simulate(reader, &mut written, &mut session, &NoHighRatio)?;
     Ok(written)
 }
 
@@ -203,7 +203,7 @@ fn a_refused_touch_or_remove_says_so(rt: HostRuntime) -> Result<(), Fail> {
     let mut session = session::<Fifo>(rt.alloc(), 2, limits)?;
     let mut script: &[u8] = b"insert 1 10\ntouch 1\nremove 1\ntouch 2\ndrop 0\ntouch 1\nremove 1\n";
     let mut written = Vec::new(rt.alloc());
-    simulate(&mut script, &mut written, &mut session)?;
+    simulate(&mut script, &mut written, &mut session, &NoHighRatio)?;
     let wanted: &[u8] = b"h0 | - | usage 1 entries 1
 F9 | - | usage 1 entries 1
 F9 | - | usage 1 entries 1
@@ -354,7 +354,7 @@ fn a_refused_line_says_so(rt: HostRuntime) -> Result<(), Fail> {
     let mut session = session::<Fifo>(rt.alloc(), 2, limits)?;
     let mut script: &[u8] = b"insert 1 10\nget 1\nget 1\ncontains 1\ndrop 0\nget 1\n";
     let mut written = Vec::new(rt.alloc());
-    simulate(&mut script, &mut written, &mut session)?;
+    simulate(&mut script, &mut written, &mut session, &NoHighRatio)?;
     let wanted: &[u8] = b"h0 | - | usage 1 entries 1
 h1 10 | - | usage 1 entries 1
 F9 | - | usage 1 entries 1
@@ -372,7 +372,9 @@ fn a_failed_reader_leaves_whole_lines(rt: HostRuntime) -> Result<(), Fail> {
     let mut reader = Parts::new(SCRIPT, 12);
     reader.fails_at = 3;
     let mut written = Vec::new(rt.alloc());
-    let ended = simulate(&mut reader, &mut written, &mut session).map_err(|e| e.kind());
+    let ended = simulate(&mut reader, &mut written, &mut session, &NoHighRatio).map_err(
+        |e| e.kind(),
+    );
     assert_eq!(rt; ended, Err(ErrorKind::Other));
     assert_eq!(rt; written.as_slice(), &PRINTED[..54]);
     Ok(())
@@ -385,7 +387,9 @@ fn a_failed_writer_has_a_beginning(rt: HostRuntime) -> Result<(), Fail> {
         let mut writer = Slow::new(rt.alloc(), 2);
         writer.fails_at = fails_at;
         let mut script = SCRIPT;
-        let ended = simulate(&mut script, &mut writer, &mut session).map_err(|e| e.kind());
+        let ended = simulate(&mut script, &mut writer, &mut session, &NoHighRatio).map_err(
+            |e| e.kind(),
+        );
         assert_eq!(rt; ended, Err(ErrorKind::Other), "at call {fails_at}");
         assert!(rt;
             PRINTED.starts_with(writer.taken.as_slice()),

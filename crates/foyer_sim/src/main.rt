@@ -4,7 +4,10 @@
 
 use foyer_core::{AdmitAll, CacheCore, Limits, RawCacheConfig};
 use foyer_policy::{Eviction, Fifo, Lfu, Lru, ModHasher, S3Fifo, Sieve};
-use foyer_session::{Session, SimArgs, SimPolicy, SimWeighter, sim_args, simulate};
+use foyer_session::{
+    HighRatio, LruHighRatio, NoHighRatio, Session, SimArgs, SimPolicy, SimWeighter, sim_args,
+    simulate,
+};
 use std::io::{BufReader, BufWriter, ErrorKind, Write};
 use std::process::ExitCode;
 use std::{env, io};
@@ -46,11 +49,11 @@ fn main(rt: HostRuntime) -> ExitCode {
 fn run(rt: &HostRuntime) -> Result<(), Failure> {
     let args = arguments(rt)?;
     match args.policy {
-        SimPolicy::Fifo => run_policy::<Fifo>(rt, args),
-        SimPolicy::Lru => run_policy::<Lru>(rt, args),
-        SimPolicy::Lfu => run_policy::<Lfu>(rt, args),
-        SimPolicy::S3Fifo => run_policy::<S3Fifo>(rt, args),
-        SimPolicy::Sieve => run_policy::<Sieve>(rt, args),
+        SimPolicy::Fifo => run_policy::<Fifo, _>(rt, args, &NoHighRatio),
+        SimPolicy::Lru => run_policy::<Lru, _>(rt, args, &LruHighRatio),
+        SimPolicy::Lfu => run_policy::<Lfu, _>(rt, args, &NoHighRatio),
+        SimPolicy::S3Fifo => run_policy::<S3Fifo, _>(rt, args, &NoHighRatio),
+        SimPolicy::Sieve => run_policy::<Sieve, _>(rt, args, &NoHighRatio),
     }
 }
 
@@ -71,7 +74,11 @@ fn arguments(rt: &HostRuntime) -> Result<SimArgs, Failure> {
 }
 
 // Runs over a cache of this policy, in its default configuration.
-fn run_policy<E: Eviction>(rt: &HostRuntime, args: SimArgs) -> Result<(), Failure> {
+fn run_policy<E: Eviction, H: HighRatio<E::Config>>(
+    rt: &HostRuntime,
+    args: SimArgs,
+    high: &H,
+) -> Result<(), Failure> {
     let alloc = rt.alloc();
     let config = RawCacheConfig {
         capacity: args.capacity,
@@ -93,7 +100,7 @@ fn run_policy<E: Eviction>(rt: &HostRuntime, args: SimArgs) -> Result<(), Failur
     let Ok(mut writer) = BufWriter::with_capacity(alloc, BUFFER, Watched::new(rt.stdout())) else {
         return Err(Failure::Memory);
     };
-    let told = simulate(&mut reader, &mut writer, &mut session);
+    let told = simulate(&mut reader, &mut writer, &mut session, high);
     let has_failed = writer.get_ref().has_failed();
     let flushed = writer.flush();
     match told {

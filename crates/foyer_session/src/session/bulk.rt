@@ -19,7 +19,7 @@ impl<
     I: Indexer<K>,
 > Session<E, K, V, P, S, W, A, I> {
     ghost use Rattle.foyer_session.specs.Sessions.{session_of, terms_of};
-    ghost use Rattle.foyer_session.specs.Step.{ClearStep, EvictAllStep, FlushIfStep, ResizeStep};
+    ghost use Rattle.foyer_session.specs.Step.{ClearStep, EvictAllStep, FlushIfStep, ResizeStep, ReconfigureStep};
 
     pub(super) fn clear(&mut self) -> Reply<K, V, P>
         ensures step { ClearStep (terms_of self.old) (session_of self.old) result.answer result.leaves (session_of self.new) }
@@ -76,5 +76,18 @@ impl<
                 Reply::new(Answer::Refused(error), leaves)
             }
         }
+    }
+
+    pub(super) fn reconfigure(&mut self, config: &E::Config) -> Reply<K, V, P>
+        ensures step { ReconfigureStep (terms_of self.old) (session_of self.old) config.now result.answer result.leaves (session_of self.new) }
+        ensures len { vec_len self.new.handles ≡ vec_len self.old.handles }
+        ensures capacity { vec_capacity self.new.handles ≡ vec_capacity self.old.handles }
+        ensures pieces { self.new.pieces ≡ self.old.pieces }
+    {
+        let answer = match self.core.reconfigure(config) {
+            Ok(()) => Answer::Done,
+            Err(error) => Answer::Refused(error),
+        };
+        Reply::new(answer, Vec::new(self.alloc))
     }
 }

@@ -13,17 +13,17 @@ use std::alloc::Global;
 /// A command, with room for the leave that it may have: of a handle that is given back, or of a record that
 /// is taken out.
 #[derive(Drop)]
-pub struct Ready<K: Drop, V: Drop, P: Drop, Q: Drop> {
-    pub command: Command<K, V, P, Q>,
+pub struct Ready<K: Drop, V: Drop, P: Drop, Q: Drop, C: Drop> {
+    pub command: Command<K, V, P, Q, C>,
     pub leaves: Vec<(Event, Left<K, V, P>)>,
     pub ghost empty: { vec_len leaves ≡ 0 },
     pub ghost gives_back: { (number : ℕ) → command ≡ GiveBack number → 0 < vec_capacity leaves },
     pub ghost removes: { (key : K) → command ≡ Remove key → 0 < vec_capacity leaves },
 }
 
-impl<K: Drop, V: Drop, P: Drop, Q: Drop> Ready<K, V, P, Q> {
+impl<K: Drop, V: Drop, P: Drop, Q: Drop, C: Drop> Ready<K, V, P, Q, C> {
     /// Makes the room. Only memory can be missing (F7).
-    pub fn new(alloc: Global, command: Command<K, V, P, Q>) -> Result<Self>
+    pub fn new(alloc: Global, command: Command<K, V, P, Q, C>) -> Result<Self>
         ensures command { IfOk result (λ ready. ready.command ≡ command) }
         ensures refused { IfErr result (λ e. e ≡ NoMemory) }
     {
@@ -33,9 +33,9 @@ impl<K: Drop, V: Drop, P: Drop, Q: Drop> Ready<K, V, P, Q> {
 }
 
 // An empty list, with room for the leave that the command may have.
-fn room_for<K: Drop, V: Drop, P: Drop, Q: Drop>(
+fn room_for<K: Drop, V: Drop, P: Drop, Q: Drop, C: Drop>(
     alloc: Global,
-    command: &Command<K, V, P, Q>,
+    command: &Command<K, V, P, Q, C>,
 ) -> Result<Vec<(Event, Left<K, V, P>)>>
     ensures empty { IfOk result (λ leaves. vec_len leaves ≡ 0) }
     ensures gives_back { IfOk result (λ leaves. (number : ℕ) → command.now ≡ GiveBack number → 0 < vec_capacity leaves) }
@@ -60,6 +60,7 @@ fn room_for<K: Drop, V: Drop, P: Drop, Q: Drop>(
         | Command::EvictAll
         | Command::FlushIf(_)
         | Command::Resize(_)
+        | Command::Reconfigure(_)
         | Command::Capacity
         | Command::Usage
         | Command::Entries => Ok(Vec::new(alloc)),
@@ -67,10 +68,10 @@ fn room_for<K: Drop, V: Drop, P: Drop, Q: Drop>(
 }
 
 /// Makes the room for each of the commands. Only memory can be missing (F7).
-pub fn ready_all<K: Drop, V: Drop, P: Drop, Q: Drop>(
+pub fn ready_all<K: Drop, V: Drop, P: Drop, Q: Drop, C: Drop>(
     alloc: Global,
-    commands: Vec<Command<K, V, P, Q>>,
-) -> Result<Vec<Ready<K, V, P, Q>>>
+    commands: Vec<Command<K, V, P, Q, C>>,
+) -> Result<Vec<Ready<K, V, P, Q, C>>>
     ensures commands { IfOk result (λ all. map (λ ready. ready.command) all.items ≡ commands.items) }
     ensures refused { IfErr result (λ e. e ≡ NoMemory) }
 {

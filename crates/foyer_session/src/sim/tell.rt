@@ -10,6 +10,7 @@ ghost use Rattle.foyer_session.specs.Sessions.{session_of, meaning_of_session};
 ghost use Rattle.foyer_session.specs.Simulated.{CommandTold, LineTold, line_text, plain, phantom};
 ghost use Rattle.foyer_session.specs.declared.command.Command.TheVariants.{Insert};
 
+use super::high::HighRatio;
 use super::reply::{write_answer, write_refusal, write_rest};
 use super::value::{SimValue, SimWeighter};
 use crate::command::{Command, Reply};
@@ -17,20 +18,21 @@ use crate::predicate::NoPredicate;
 use crate::session::Session;
 use crate::text::{Line, write_out};
 use foyer_core::{AdmitAll, CacheProperties, Indexer};
-use foyer_policy::{Error, Eviction, HashBuilder, Properties};
+use foyer_policy::{Error, Eviction, HashBuilder, Properties, Reason};
 use std::io;
 use std::io::Write;
 
-type SimCommand = Command<u64, SimValue, CacheProperties, NoPredicate>;
+type SimCommand<C> = Command<u64, SimValue, CacheProperties, NoPredicate, C>;
 
 /// Carries out a line, and writes what is printed for it.
-pub fn tell<W: Write, E: Eviction, S: HashBuilder, I: Indexer<u64>>(
+pub fn tell<W: Write, E: Eviction, S: HashBuilder, I: Indexer<u64>, H: HighRatio<E::Config>>(
     writer: &mut W,
     session: &mut Session<E, u64, SimValue, CacheProperties, S, SimWeighter, AdmitAll, I>,
+    high: &H,
     line: Line,
 ) -> io::Result<()>
     ensures { (text : List ℕ)
-        × LineTold (meaning_of_session session.old) (λ builder key. S.hash_of builder (u64_input key)) (session_of session.old) line text (session_of session.new)
+        × LineTold (meaning_of_session session.old) (λ builder key. S.hash_of builder (u64_input key)) (H.config_of high.now) (session_of session.old) line text (session_of session.new)
         × WritesText (W.contents writer.old) (W.contents writer.new) result text }
 {
     match line {
@@ -50,18 +52,22 @@ pub fn tell<W: Write, E: Eviction, S: HashBuilder, I: Indexer<u64>>(
         Line::Clear => tell_command(writer, session, Command::Clear),
         Line::Evict => tell_command(writer, session, Command::EvictAll),
         Line::Resize(capacity) => tell_command(writer, session, Command::Resize(capacity)),
+        Line::High(ratio) => match high.config(ratio) {
+            Some(config) => tell_command(writer, session, Command::Reconfigure(config)),
+            None => tell_wrong_policy(writer, session),
+        },
     }
 }
 
 // The insert of a plain record.
-fn plain_insert(key: u64, value: u64, weight: usize) -> SimCommand
+fn plain_insert<C>(key: u64, value: u64, weight: usize) -> SimCommand<C>
     ensures { result ≡ Insert key (record { value = value; weight = weight }) plain }
 {
     Command::Insert(key, SimValue { value, weight }, CacheProperties::default())
 }
 
 // The insert of a phantom record.
-fn phantom_insert(key: u64, value: u64, weight: usize) -> SimCommand
+fn phantom_insert<C>(key: u64, value: u64, weight: usize) -> SimCommand<C>
     ensures { result ≡ Insert key (record { value = value; weight = weight }) phantom }
 {
     let properties = CacheProperties::default().with_phantom(true);
@@ -72,7 +78,7 @@ fn phantom_insert(key: u64, value: u64, weight: usize) -> SimCommand
 fn tell_command<W: Write, E: Eviction, S: HashBuilder, I: Indexer<u64>>(
     writer: &mut W,
     session: &mut Session<E, u64, SimValue, CacheProperties, S, SimWeighter, AdmitAll, I>,
-    command: SimCommand,
+    command: SimCommand<E::Config>,
 ) -> io::Result<()>
     ensures { (text : List ℕ)
         × CommandTold (meaning_of_session session.old) (λ builder key. S.hash_of builder (u64_input key)) (session_of session.old) command text (session_of session.new)
@@ -111,6 +117,17 @@ fn tell_refusal<W: Write>(
 {
     write_refusal(writer, error)?;
     write_rest::<W, CacheProperties>(writer, &[], usage, entries)
+}
+
+// Says that the policy has no pool of high priority.
+fn tell_wrong_policy<W: Write, E: Eviction, S: HashBuilder, I: Indexer<u64>>(
+    writer: &mut W,
+    session: &Session<E, u64, SimValue, CacheProperties, S, SimWeighter, AdmitAll, I>,
+) -> io::Result<()>
+    ensures { WritesText (W.contents writer.old) (W.contents writer.new) result (line_text (meaning_of_session session.now) (refusal_text 17) [] (session_of session.now)) }
+{
+    let error = Error::new(Reason::WrongPolicy);
+    tell_refusal(writer, &error, session.usage(), session.entries())
 }
 
 // Says that a line is none.

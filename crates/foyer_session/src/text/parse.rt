@@ -1,10 +1,11 @@
 //! A line as a command.
 
 ghost use Rattle.std.specs.Prelude.{◌≡◌, ◌≢◌, ◌<◌, ◌≤◌, ◌∷◌, [], All, IfSome, IfNone, bytes_eq, length, slice_index, take};
-ghost use Rattle.foyer_session.specs.Text.{words, line_of, line_with_none, line_with_one, line_with_two, line_with_three};
+ghost use Rattle.foyer_session.specs.Text.{words, line_of, line_with_none, line_with_one, line_with_two, line_with_three, high_line};
 
 use super::Line;
 use super::number::number_of;
+use foyer_policy::Ratio;
 
 /// The line that these bytes are; they do not have the byte 10 that ended it.
 pub fn line_of(line: &[u8]) -> Line
@@ -78,7 +79,20 @@ fn with_one(verb: &[u8], number: u64) -> Line
 fn with_two(verb: &[u8], first: u64, second: u64) -> Line
     ensures { result ≡ line_with_two verb.now first second }
 {
+    if is_word(verb, b"high") {
+        return high(first, second);
+    }
     with_three(verb, first, second, 1)
+}
+
+// The line of a share, whose numbers are below 2^32.
+fn high(num: u64, den: u64) -> Line
+    ensures { result ≡ high_line num den }
+{
+    match (u32::try_from(num), u32::try_from(den)) {
+        (Ok(num), Ok(den)) => Line::High(Ratio { num, den }),
+        _ => Line::Bad,
+    }
 }
 
 // The line of a first word and three numbers.

@@ -18,7 +18,7 @@ impl Predicate<u64, u64> for EvenKeys {
     }
 }
 
-type Even = Command<u64, u64, CacheProperties, EvenKeys>;
+type Even = Command<u64, u64, CacheProperties, EvenKeys, FifoConfig>;
 
 type Told = Vec<(Event, u64, u64)>;
 

@@ -49,7 +49,7 @@ fn ids_after(
 }
 
 // Commands of a cache with room for two records, after each of which the index is another.
-pub(super) fn index_commands(alloc: Global) -> std::result::Result<Vec<Plain>, Fail> {
+pub(super) fn index_commands<C: Drop>(alloc: Global) -> std::result::Result<Vec<PlainOf<C>>, Fail> {
     let phantom = CacheProperties::default().with_phantom(true);
     Ok(vec![in alloc;
         insert(1, 10),

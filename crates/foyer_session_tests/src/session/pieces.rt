@@ -79,7 +79,7 @@ fn a_handle_that_is_gone_gives_no_piece(rt: HostRuntime) -> std::result::Result<
 }
 
 // Commands of which each takes a piece but for the first.
-pub(super) fn piece_commands(alloc: Global) -> std::result::Result<Vec<Plain>, Fail> {
+pub(super) fn piece_commands<C: Drop>(alloc: Global) -> std::result::Result<Vec<PlainOf<C>>, Fail> {
     Ok(vec![in alloc;
         insert(1, 10),
         Command::TakePiece(0),

@@ -7,7 +7,7 @@ use foyer_policy::{Lfu, LfuConfig, Lru, LruConfig, S3Fifo, S3FifoConfig, Sieve, 
 use foyer_session::{run_fifo, run_lfu, run_lru, run_s3fifo, run_sieve};
 
 // Commands of a cache with room for three records, under which each policy evicts others.
-fn crowding_commands(alloc: Global) -> std::result::Result<Vec<Plain>, Fail> {
+fn crowding_commands<C: Drop>(alloc: Global) -> std::result::Result<Vec<PlainOf<C>>, Fail> {
     Ok(vec![in alloc;
         insert(1, 10),
         insert(2, 20),
