@@ -1,7 +1,8 @@
 -- What each shard of a core keeps.
-use Rattle.std.proofs.Common.{◌≡◌, ℕ, Option, Some, None, sym, ◌∙◌, subst}
+use Rattle.std.proofs.Common.{◌≡◌, ℕ, length, Option, Some, None, sym, ◌∙◌, subst}
 use Rattle.std.proofs.Math.Logic.{∥∥₁_map}
 use Rattle.std.specs.Prelude.{slice_get, option_map}
+use Rattle.std.proofs.lemmas.List.{length-map}
 use Rattle.std.proofs.lemmas.Option.{slice_get-map}
 use Rattle.std.specs.declared.cmp.PartialEq.{Ghosts as EqGhosts}
 use Rattle.std.specs.declared.hash.Hash.{Ghosts as HashGhosts}
@@ -16,8 +17,9 @@ use Rattle.foyer_core.specs.declared.weighter.Weighter.{Ghosts as WeighterGhosts
 use Rattle.foyer_core.specs.declared.filter.Filter.{Ghosts as FilterGhosts}
 use Rattle.foyer_core.specs.declared.shard.Shard.{Shard}
 use Rattle.foyer_core.specs.Core.{shard_at, shard_of}
-use Rattle.foyer_core.specs.Cores.{core_of, meaning_of_core}
-use Rattle.foyer_core.specs.Shards.{state_of}
+use Rattle.foyer_core.specs.Cores.{core_of, fetches_of, meaning_of_core}
+use Rattle.foyer_core.specs.Inflight.{AreOpen, Opens}
+use Rattle.foyer_core.specs.Shards.{opens_of, state_of}
 use Rattle.foyer_core.specs.State.{State, IsKept}
 
 module _ {E K V P S W A N R I C X : Type 0} {e : EvictionGhosts E C X} {e1 : CloneGhosts C} {e2 : DefaultGhosts C} {e3 : _} {e4 : DefaultGhosts X}
@@ -28,3 +30,15 @@ module _ {E K V P S W A N R I C X : Type 0} {e : EvictionGhosts E C X} {e1 : Clo
       kept_in : (found : Option (Shard E K V P N R I C X e e1 e2 e3 e4 q h c p d i)) → option_map state_of found ≡ Some s → ∥ IsKept (meaning_of_core core) s ∥₁
       kept_in None is = absurd cc
       kept_in (Some shard) is = (let same : state_of shard ≡ s = cc in ∥∥₁_map shard.store.kept (λ k. subst (IsKept (meaning_of_core core)) same k))
+
+  -- and the open fetches of each are sound
+  pub open_at : (core : CacheCore E K V P S W A N R I C X e e1 e2 e3 e4 q h c p d b w f i) (shard : ℕ) (opens : Opens K N R) → slice_get (fetches_of core) shard ≡ Some opens → AreOpen q.eq opens
+  open_at core shard opens there = sound_in (slice_get core.shards.items shard) (sym (slice_get-map opens_of core.shards.items shard) ∙ there)
+    where
+      sound_in : (found : Option (Shard E K V P N R I C X e e1 e2 e3 e4 q h c p d i)) → option_map opens_of found ≡ Some opens → AreOpen q.eq opens
+      sound_in None is = absurd cc
+      sound_in (Some it) is = (let same : opens_of it ≡ opens = cc in subst (AreOpen q.eq) same it.inflights.sound)
+
+  -- there are as many lists of open fetches as shards
+  pub fetches_long : (core : CacheCore E K V P S W A N R I C X e e1 e2 e3 e4 q h c p d b w f i) → length (fetches_of core) ≡ length (core_of core).shards
+  fetches_long core = length-map core.shards.items opens_of ∙ sym (length-map core.shards.items state_of)

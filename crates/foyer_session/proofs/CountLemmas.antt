@@ -13,9 +13,13 @@ use Rattle.foyer_core.specs.State.{Meaning, State, key_of, handles_of, handles_i
 use Rattle.foyer_core.specs.Steps.{outside, after_out, after_push, after_last, after_give_back, Leave, Evicting, Evicts, GivesWay, InsertsBy, InsertsPhantom, InsertsPlain, RefusesBy, RefusesPlain, after_hold, entry_of, Gets, GivesBack}
 use Rattle.foyer_session.specs.Owns.{Counts}
 
--- one more handle of this id
+-- so many more handles of this id
+abbrev pub gained : (ℕ → ℕ) → ℕ → ℕ → ℕ → ℕ
+gained held id more j = held j + cond (id == j) more 0
+
+-- one more
 abbrev pub one_more : (ℕ → ℕ) → ℕ → ℕ → ℕ
-one_more held id j = held j + cond (id == j) 1 0
+one_more held id = gained held id 1
 
 -- each record has the handles that it had, and the numbers stay
 pub record Alike {K V P View : Type 0} (old new : State K V P View) : Type 0 where
@@ -96,16 +100,16 @@ module _ {K V P View C : Type 0} (m : Meaning K P View C) where
     phantom_alike : (h : InsertsPhantom m source old i ls entry new) → Alike old h.last
     phantom_alike h = gives_way_alike (old.index (key_of i.kept)) old h.replaced h.last h.gives_way
 
-  -- the count of a record that comes in with one handle more than there was of its id
-  push_counts : (s : State K V P View) (i : Incoming K V P) (held : ℕ → ℕ) → i.handles ≡ handles_in s i.id + 1 → Counts s held → Counts (after_push m s i) (one_more held i.id)
-  push_counts s i held more h j = elim (put_handles s.records i.id (Some record { kept = i.kept; handles = i.handles; resident = true }) j) [
+  -- the count of a record that comes in with so many handles more than there were of its id
+  push_counts : (s : State K V P View) (i : Incoming K V P) (held : ℕ → ℕ) (n : ℕ) → i.handles ≡ handles_in s i.id + n → Counts s held → Counts (after_push m s i) (gained held i.id n)
+  push_counts s i held n more h j = elim (put_handles s.records i.id (Some record { kept = i.kept; handles = i.handles; resident = true }) j) [
     | inl e ↦ (let c = h j in let was : handles_in s j ≡ handles_in s i.id = ap (handles_in s) e.0 in let now : handles_in (after_push m s i) j ≡ i.handles = e.1 in grind (arith, nat_tests))
     | inr e ↦ (let same : handles_in (after_push m s i) j ≡ handles_in s j = e.1 in let c = h j in let ne = e.0 in grind (arith, nat_tests))
   ]
 
   -- and of one that is held alone
-  hold_counts : (s : State K V P View) (i : Incoming K V P) (held : ℕ → ℕ) → i.handles ≡ handles_in s i.id + 1 → Counts s held → Counts (after_hold m s i) (one_more held i.id)
-  hold_counts s i held more h j = elim (put_handles s.records i.id (Some record { kept = i.kept; handles = i.handles; resident = false }) j) [
+  hold_counts : (s : State K V P View) (i : Incoming K V P) (held : ℕ → ℕ) (n : ℕ) → i.handles ≡ handles_in s i.id + n → Counts s held → Counts (after_hold m s i) (gained held i.id n)
+  hold_counts s i held n more h j = elim (put_handles s.records i.id (Some record { kept = i.kept; handles = i.handles; resident = false }) j) [
     | inl e ↦ (let c = h j in let was : handles_in s j ≡ handles_in s i.id = ap (handles_in s) e.0 in let now : handles_in (after_hold m s i) j ≡ i.handles = e.1 in grind (arith, nat_tests))
     | inr e ↦ (let same : handles_in (after_hold m s i) j ≡ handles_in s j = e.1 in let c = h j in let ne = e.0 in grind (arith, nat_tests))
   ]
@@ -119,17 +123,17 @@ module _ {K V P View C : Type 0} (m : Meaning K P View C) where
     inserts_entry false h = h.entry_is
     inserts_entry true h = h.entry_is
 
-    pub inserts_counts : (b : Bool) → InsertsBy m b source old i ls entry new → i.handles ≡ handles_in old i.id + 1 → (held : ℕ → ℕ) → Counts old held → Counts new (one_more held entry.id)
-    inserts_counts false h more held counts =
+    pub inserts_counts : (b : Bool) → InsertsBy m b source old i ls entry new → (n : ℕ) → i.handles ≡ handles_in old i.id + n → (held : ℕ → ℕ) → Counts old held → Counts new (gained held entry.id n)
+    inserts_counts false h n more held counts =
         let a = plain_alike source old i ls entry new h in
         let id : entry.id ≡ i.id = ap (λ (x : Held K V P). x.id) h.entry_is in
-        let last : i.handles ≡ handles_in h.last i.id + 1 = more ∙ ap (λ (n : ℕ). n + 1) (sym (a.handles i.id)) in
-        rw (h.after, id) (push_counts h.last i held last (alike_counts old h.last held a counts))
-    inserts_counts true h more held counts =
+        let last : i.handles ≡ handles_in h.last i.id + n = more ∙ ap (λ (x : ℕ). x + n) (sym (a.handles i.id)) in
+        rw (h.after, id) (push_counts h.last i held n last (alike_counts old h.last held a counts))
+    inserts_counts true h n more held counts =
         let a = phantom_alike source old i ls entry new h in
         let id : entry.id ≡ i.id = ap (λ (x : Held K V P). x.id) h.entry_is in
-        let last : i.handles ≡ handles_in h.last i.id + 1 = more ∙ ap (λ (n : ℕ). n + 1) (sym (a.handles i.id)) in
-        rw (h.after, id) (hold_counts h.last i held last (alike_counts old h.last held a counts))
+        let last : i.handles ≡ handles_in h.last i.id + n = more ∙ ap (λ (x : ℕ). x + n) (sym (a.handles i.id)) in
+        rw (h.after, id) (hold_counts h.last i held n last (alike_counts old h.last held a counts))
 
     pub inserts_number : (b : Bool) → InsertsBy m b source old i ls entry new → new.number ≡ old.number
     inserts_number false h = ap (λ (x : State K V P View). x.number) h.after ∙ (plain_alike source old i ls entry new h).number
@@ -145,10 +149,10 @@ module _ {K V P View C : Type 0} (m : Meaning K P View C) where
         | inr h ↦ inr (h.0, now ∙ h.1)
       ]
 
-  -- a record with one handle more
-  pub more_counts : (s t : State K V P View) (id : ℕ) (r : Rec K V P) (w : Option (Rec K V P)) (held : ℕ → ℕ) → s.records id ≡ Some r → t.records ≡ update nat_eq s.records id w
-      → handles_of w ≡ r.handles + 1 → Counts s held → Counts t (one_more held id)
-  more_counts s t id r w held there is count h j = elim (count_handles s t id r w there is j) [
+  -- a record with so many handles more
+  pub more_counts : (s t : State K V P View) (id : ℕ) (r : Rec K V P) (w : Option (Rec K V P)) (held : ℕ → ℕ) (n : ℕ) → s.records id ≡ Some r → t.records ≡ update nat_eq s.records id w
+      → handles_of w ≡ r.handles + n → Counts s held → Counts t (gained held id n)
+  more_counts s t id r w held n there is count h j = elim (count_handles s t id r w there is j) [
     | inl e ↦ (let c = h j in let a = e.1 in let b = e.2 in grind (arith, nat_tests))
     | inr e ↦ (let c = h j in let ne = e.0 in let same = e.1 in grind (arith, nat_tests))
   ]
@@ -164,7 +168,7 @@ module _ {K V P View C : Type 0} (m : Meaning K P View C) where
   pub gets_counts : (old : State K V P View) (k : ℕ × K) (entry : Held K V P) (new : State K V P View)
       → Gets m old k (Ok (Some entry)) new → (held : ℕ → ℕ) → Counts old held → Counts new (one_more held entry.id)
   gets_counts old k entry new h held counts =
-      more_counts old new entry.id h.0 (Some (record h.0 { handles = h.0.handles + 1 })) held h.2 (ap (λ (x : State K V P View). x.records) h.5) refl counts
+      more_counts old new entry.id h.0 (Some (record h.0 { handles = h.0.handles + 1 })) held 1 h.2 (ap (λ (x : State K V P View). x.records) h.5) refl counts
 
   -- another record, or none, is under an id
   abbrev Puts : State K V P View → State K V P View → ℕ → ℕ → Type 0

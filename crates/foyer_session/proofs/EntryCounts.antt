@@ -5,9 +5,9 @@ use Rattle.foyer_policy.specs.declared.error.Reason.{Reason}
 use Rattle.foyer_policy.specs.declared.error.Reason.TheVariants.{Handles, NoMemory}
 use Rattle.foyer_core.specs.Values.{Rec, Gone, Held}
 use Rattle.foyer_core.specs.State.{Meaning, State}
-use Rattle.foyer_core.specs.Steps.{after_handle, Touches, Removes, RefusesHandle, RefusesHandles, ClonesHandle}
+use Rattle.foyer_core.specs.Steps.{after_handle, after_handles, Touches, Removes, RefusesHandle, RefusesHandles, ClonesHandle}
 use Rattle.foyer_session.specs.Owns.{Counts}
-use Rattle.foyer_session.proofs.CountLemmas.{one_more, leave_alike, alike_counts, more_counts, gets_counts, gives_back_counts, gives_back_number}
+use Rattle.foyer_session.proofs.CountLemmas.{gained, one_more, leave_alike, alike_counts, more_counts, gets_counts, gives_back_counts, gives_back_number}
 
 -- a refused handle changes no shard
 pub refusal_same : {K V P View : Type 0} (old new : State K V P View) (id : ℕ) (reason : Reason) → RefusesHandle old id reason new → new ≡ old
@@ -36,9 +36,13 @@ module _ {K V P View C : Type 0} (m : Meaning K P View C) where
   touches_number old k (Err Handles) new h = ap (λ (x : State K V P View). x.number) h.5
   touches_number old k (Err _) new h = absurd h
 
+  pub handles_counts : (old : State K V P View) (id more : ℕ) (r : Rec K V P) → old.records id ≡ Some r → (held : ℕ → ℕ) → Counts old held → Counts (after_handles old id more r) (gained held id more)
+  handles_counts old id more r there held counts =
+      more_counts m old (after_handles old id more r) id r (Some (record r { handles = r.handles + more })) held more there refl refl counts
+
   pub handle_counts : (old : State K V P View) (id : ℕ) (r : Rec K V P) → old.records id ≡ Some r → (held : ℕ → ℕ) → Counts old held → Counts (after_handle old id r) (one_more held id)
   handle_counts old id r there held counts =
-      more_counts m old (after_handle old id r) id r (Some (record r { handles = r.handles + 1 })) held there refl refl counts
+      more_counts m old (after_handle old id r) id r (Some (record r { handles = r.handles + 1 })) held 1 there refl refl counts
 
   pub removes_counts : (old : State K V P View) (k : ℕ × K) (entry : Held K V P) (gone : Gone K V P) (new : State K V P View)
       → Removes m old k (Ok (Some (entry, gone))) new → (held : ℕ → ℕ) → Counts old held → Counts new (one_more held entry.id)

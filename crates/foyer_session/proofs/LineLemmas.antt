@@ -3,7 +3,7 @@ use Rattle.std.proofs.Common.{◌≡◌, ℕ, suc, ◌+◌, ◌*◌, ◌<◌, �
 use Rattle.std.proofs.lemmas.Bool.{false_from_ne_true}
 use Rattle.std.proofs.lemmas.Slice.Eq.{bytes_eq-Decides}
 use Rattle.foyer_session.specs.declared.text.Line.TheVariants.{Bad}
-use Rattle.foyer_session.specs.Text.{number_of, numbers_of, line_with_none, line_with_one, line_with_two, line_with_three, line_with, line_of_words}
+use Rattle.foyer_session.specs.Text.{number_of, numbers_of, line_with_none, line_with_one, line_with_two, line_with_three, insert_line, line_with, line_of_words}
 use Rattle.foyer_session.proofs.NumberLemmas.{number_of-short}
 
 bytes_eq-long : (word name : List ℕ) → length name < length word → bytes_eq word name ≡ false
@@ -16,15 +16,19 @@ line_with_none-long verb long = rw (bytes_eq-long verb (codes "clear") (omega ar
 
 line_with_one-long : (verb : List ℕ) (n : ℕ) → 8 < length verb → line_with_one verb n ≡ Bad
 unfolding line_with_one
-line_with_one-long verb n long = rw (bytes_eq-long verb (codes "get") (omega arith), bytes_eq-long verb (codes "contains") (omega arith), bytes_eq-long verb (codes "touch") (omega arith), bytes_eq-long verb (codes "remove") (omega arith), bytes_eq-long verb (codes "drop") (omega arith), bytes_eq-long verb (codes "resize") (omega arith)) refl
+line_with_one-long verb n long = rw (bytes_eq-long verb (codes "get") (omega arith), bytes_eq-long verb (codes "contains") (omega arith), bytes_eq-long verb (codes "touch") (omega arith), bytes_eq-long verb (codes "remove") (omega arith), bytes_eq-long verb (codes "drop") (omega arith), bytes_eq-long verb (codes "resize") (omega arith), bytes_eq-long verb (codes "fetch") (omega arith)) refl
+
+insert_line-long : (verb : List ℕ) (key value weight : ℕ) → 8 < length verb → insert_line verb key value weight ≡ Bad
+unfolding insert_line
+insert_line-long verb key value weight long = rw (bytes_eq-long verb (codes "insert") (omega arith), bytes_eq-long verb (codes "phantom") (omega arith)) refl
 
 line_with_two-long : (verb : List ℕ) (m n : ℕ) → 8 < length verb → line_with_two verb m n ≡ Bad
 unfolding line_with_two
-line_with_two-long verb m n long = rw (bytes_eq-long verb (codes "high") (omega arith), bytes_eq-long verb (codes "insert") (omega arith), bytes_eq-long verb (codes "phantom") (omega arith)) refl
+line_with_two-long verb m n long = rw (bytes_eq-long verb (codes "high") (omega arith), bytes_eq-long verb (codes "cancel") (omega arith)) (insert_line-long verb m n 1 long)
 
 line_with_three-long : (verb : List ℕ) (k m n : ℕ) → 8 < length verb → line_with_three verb k m n ≡ Bad
 unfolding line_with_three
-line_with_three-long verb k m n long = rw (bytes_eq-long verb (codes "insert") (omega arith), bytes_eq-long verb (codes "phantom") (omega arith)) refl
+line_with_three-long verb k m n long = rw (bytes_eq-long verb (codes "done") (omega arith)) (insert_line-long verb k m n long)
 
 -- the bytes of the words, and one more for each
 abbrev pub weight_of : List (List ℕ) → ℕ

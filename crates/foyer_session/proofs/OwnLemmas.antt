@@ -1,11 +1,12 @@
 -- The steps of a core keep what a session owns.
-use Rattle.std.proofs.Common.{◌≡◌, ◌≢◌, ℕ, zero, suc, ◌+◌, ◌⊎◌, ◌%◌, List, [], ◌∷◌, ◌++◌, length, set, sum_by, Option, Some, None, arith, refl, sym, ap, ◌∙◌, subst, ◌==◌, true, false, cond, inl, inr, get_or}
+use Rattle.std.proofs.Common.{◌≡◌, ◌≢◌, ℕ, zero, suc, ◌+◌, ◌*◌, ◌⊎◌, ◌%◌, Bool, List, [], ◌∷◌, ◌++◌, length, set, sum_by, Option, Some, None, arith, refl, sym, ap, ◌∙◌, subst, ◌==◌, true, false, cond, inl, inr, get_or, replicate}
 use Rattle.std.specs.Prelude.{slice_get, slice_set}
 use Rattle.std.specs.Option.{option_flatten}
 use Rattle.std.proofs.Math.Logic.{∥∥₁_elim}
 use Rattle.std.proofs.Props.{props}
 use Rattle.std.proofs.lemmas.Bool.Decides.{nat_tests}
-use Rattle.std.proofs.lemmas.List.Sums.{sum_by_push, sum_by-set}
+use Rattle.std.proofs.lemmas.List.Sums.{sum_by-append, sum_by-set}
+use Rattle.std.proofs.lemmas.List.Folds.{sum_by-replicate}
 use Rattle.std.proofs.lemmas.List.{set-get_or}
 use Rattle.std.proofs.lemmas.Option.{get_or_from_slice_get, slice_get_within}
 use Rattle.std.proofs.Math.ListN.{length-set}
@@ -14,7 +15,7 @@ use Rattle.foyer_core.specs.State.{State}
 use Rattle.foyer_core.specs.Core.{Core, AtShard, Owns, shard_at, shard_of}
 use Rattle.foyer_session.specs.Step.{held_at}
 use Rattle.foyer_session.specs.Owns.{Counts, held_in, held_count, OwnsHandles}
-use Rattle.foyer_session.proofs.CountLemmas.{one_more}
+use Rattle.foyer_session.proofs.CountLemmas.{gained, one_more}
 
 -- what a list has after a write
 pub get_written : {A : Type 0} (xs : List A) (i : ℕ) (y : A) (j : ℕ) (x : A) → slice_get (slice_set xs i y) j ≡ Some x
@@ -58,14 +59,27 @@ held_apart shards shard id entry at = let e : (entry.kept.hash % shards == shard
 pub counts_same : {K V P View : Type 0} (s : State K V P View) (held now : ℕ → ℕ) → ((id : ℕ) → now id ≡ held id) → Counts s held → Counts s now
 counts_same s held now same h id = omega (arith, same id, h id)
 
--- a handle more in the list
-push_here : {K V P : Type 0} (shards shard : ℕ) (handles : List (Option (Held K V P))) (entry : Held K V P) → IsIn shards shard entry → (id : ℕ)
-    → held_count shards (handles ++ Some entry ∷ []) shard id ≡ one_more (held_count shards handles shard) entry.id id
-push_here shards shard handles entry at id = sum_by_push (held_in shards shard id) handles (Some entry) ∙ ap (λ (n : ℕ). held_count shards handles shard id + n) (held_here shards shard id entry at)
+-- as many handles more in the list
+push_all : {K V P : Type 0} (shards shard : ℕ) (handles : List (Option (Held K V P))) (entry : Held K V P) (more id : ℕ)
+    → held_count shards (handles ++ replicate more (Some entry)) shard id ≡ held_count shards handles shard id + more * held_in shards shard id (Some entry)
+push_all shards shard handles entry more id =
+    sum_by-append (held_in shards shard id) handles (replicate more (Some entry)) ∙ ap (λ (n : ℕ). held_count shards handles shard id + n) (sum_by-replicate (held_in shards shard id) more (Some entry))
 
-push_apart : {K V P : Type 0} (shards shard : ℕ) (handles : List (Option (Held K V P))) (entry : Held K V P) → (entry.kept.hash % shards ≢ shard) → (id : ℕ)
-    → held_count shards (handles ++ Some entry ∷ []) shard id ≡ held_count shards handles shard id
-push_apart shards shard handles entry at id = omega (arith, sum_by_push (held_in shards shard id) handles (Some entry), held_apart shards shard id entry at)
+so_often : (b : Bool) (more : ℕ) → more * cond b 1 0 ≡ cond b more 0
+so_often true more = omega arith
+so_often false more = omega arith
+
+push_here : {K V P : Type 0} (shards shard : ℕ) (handles : List (Option (Held K V P))) (entry : Held K V P) (more : ℕ) → IsIn shards shard entry → (id : ℕ)
+    → held_count shards (handles ++ replicate more (Some entry)) shard id ≡ gained (held_count shards handles shard) entry.id more id
+push_here shards shard handles entry more at id =
+    push_all shards shard handles entry more id ∙ ap (λ (n : ℕ). held_count shards handles shard id + n) (ap (λ (n : ℕ). more * n) (held_here shards shard id entry at) ∙ so_often (entry.id == id) more)
+
+push_apart : {K V P : Type 0} (shards shard : ℕ) (handles : List (Option (Held K V P))) (entry : Held K V P) (more : ℕ) → (entry.kept.hash % shards ≢ shard) → (id : ℕ)
+    → held_count shards (handles ++ replicate more (Some entry)) shard id ≡ held_count shards handles shard id
+push_apart shards shard handles entry more at id =
+    let none : more * held_in shards shard id (Some entry) ≡ more * 0 = ap (λ (n : ℕ). more * n) (held_apart shards shard id entry at) in
+    let zero_times : more * 0 ≡ 0 = omega arith in
+    omega (arith, push_all shards shard handles entry more id, none, zero_times)
 
 -- a handle less in the list
 found_at : {K V P : Type 0} (handles : List (Option (Held K V P))) (n : ℕ) (entry : Held K V P) → held_at handles n ≡ Some entry → slice_get handles n ≡ Some (Some entry)
@@ -90,13 +104,17 @@ take_apart : {K V P : Type 0} (shards shard : ℕ) (handles : List (Option (Held
     → held_count shards (slice_set handles n None) shard id ≡ held_count shards handles shard id
 take_apart shards shard handles n entry h at id = omega (arith, taken (held_in shards shard id) handles n entry refl h, held_apart shards shard id entry at)
 
--- what is held after one more was handed out, or one was given back
-held_pushed : {K V P : Type 0} (handles : List (Option (Held K V P))) (entry : Held K V P) (n : ℕ) (e : Held K V P) → held_at (handles ++ Some entry ∷ []) n ≡ Some e
+-- what is held after more were handed out, or one was given back
+held_alike : {K V P : Type 0} (entry : Held K V P) (more n : ℕ) (e : Held K V P) → held_at (replicate more (Some entry)) n ≡ Some e → e ≡ entry
+held_alike entry zero n e h = absurd cc
+held_alike entry (suc more) zero e h = cc
+held_alike entry (suc more) (suc n) e h = held_alike entry more n e h
+
+held_pushed : {K V P : Type 0} (handles : List (Option (Held K V P))) (entry : Held K V P) (more n : ℕ) (e : Held K V P) → held_at (handles ++ replicate more (Some entry)) n ≡ Some e
     → (e ≡ entry) ⊎ (held_at handles n ≡ Some e)
-held_pushed [] entry zero e h = inl cc
-held_pushed [] entry (suc n) e h = inr h
-held_pushed (x ∷ handles) entry zero e h = inr h
-held_pushed (x ∷ handles) entry (suc n) e h = held_pushed handles entry n e h
+held_pushed [] entry more n e h = inl (held_alike entry more n e h)
+held_pushed (x ∷ handles) entry more zero e h = inr h
+held_pushed (x ∷ handles) entry more (suc n) e h = held_pushed handles entry more n e h
 
 held_taken : {K V P : Type 0} (handles : List (Option (Held K V P))) (n j : ℕ) (e : Held K V P) → held_at (slice_set handles n None) j ≡ Some e → held_at handles j ≡ Some e
 held_taken [] n j e h = h
@@ -148,20 +166,25 @@ module _ {K V P View S W A : Type 0} (core new : Core K V P View S W A) (step : 
     counts = rw shards_same (counts_step (held_count (length core.shards) handles) (held_count (length core.shards) handles) (keeps (held_count (length core.shards) handles (shard_of core hash))) (λ i ne id. refl) owns.counts);
   }
 
-  -- a step that hands one out
-  pub owns_more : (handles : List (Option (Held K V P))) (entry : Held K V P) → shard_of core entry.kept.hash ≡ shard_of core hash → entry.number ≡ at.before.number
-      → ((held : ℕ → ℕ) → Counts at.before held → Counts at.after (one_more held entry.id)) → OwnsHandles core handles → OwnsHandles new (handles ++ Some entry ∷ [])
-  owns_more handles entry is numbered gives owns = record {
-    numbered = numbered_step handles (handles ++ Some entry ∷ []) (λ n e h. elim (held_pushed handles entry n e h) [
+  -- a step that hands out so many that are alike
+  pub owns_gained : (handles : List (Option (Held K V P))) (entry : Held K V P) (more : ℕ) → shard_of core entry.kept.hash ≡ shard_of core hash → entry.number ≡ at.before.number
+      → ((held : ℕ → ℕ) → Counts at.before held → Counts at.after (gained held entry.id more)) → OwnsHandles core handles → OwnsHandles new (handles ++ replicate more (Some entry))
+  owns_gained handles entry more is numbered gives owns = record {
+    numbered = numbered_step handles (handles ++ replicate more (Some entry)) (λ n e h. elim (held_pushed handles entry more n e h) [
       | inl same ↦ (at.before, ap (λ (x : Held K V P). shard_at core x.kept.hash) same ∙ ap (slice_get core.shards) is ∙ at.there, ap (λ (x : Held K V P). x.number) same ∙ numbered)
       | inr old ↦ owns.numbered n e old
     ]);
-    counts = rw shards_same (counts_step (held_count (length core.shards) handles) (held_count (length core.shards) (handles ++ Some entry ∷ []))
-        (λ c. counts_same at.after (one_more (held_count (length core.shards) handles (shard_of core hash)) entry.id) (held_count (length core.shards) (handles ++ Some entry ∷ []) (shard_of core hash))
-        (push_here (length core.shards) (shard_of core hash) handles entry is) (gives (held_count (length core.shards) handles (shard_of core hash)) c))
-        (λ i ne id. push_apart (length core.shards) i handles entry (λ e. ne (sym e ∙ is)) id)
+    counts = rw shards_same (counts_step (held_count (length core.shards) handles) (held_count (length core.shards) (handles ++ replicate more (Some entry)))
+        (λ c. counts_same at.after (gained (held_count (length core.shards) handles (shard_of core hash)) entry.id more) (held_count (length core.shards) (handles ++ replicate more (Some entry)) (shard_of core hash))
+        (push_here (length core.shards) (shard_of core hash) handles entry more is) (gives (held_count (length core.shards) handles (shard_of core hash)) c))
+        (λ i ne id. push_apart (length core.shards) i handles entry more (λ e. ne (sym e ∙ is)) id)
         owns.counts);
   }
+
+  -- and one that hands one out
+  pub owns_more : (handles : List (Option (Held K V P))) (entry : Held K V P) → shard_of core entry.kept.hash ≡ shard_of core hash → entry.number ≡ at.before.number
+      → ((held : ℕ → ℕ) → Counts at.before held → Counts at.after (one_more held entry.id)) → OwnsHandles core handles → OwnsHandles new (handles ++ Some entry ∷ [])
+  owns_more handles entry is numbered gives owns = owns_gained handles entry 1 is numbered gives owns
 
   -- a step that takes one back
   pub owns_less : (handles : List (Option (Held K V P))) (n : ℕ) (entry : Held K V P) → held_at handles n ≡ Some entry → entry.kept.hash ≡ hash

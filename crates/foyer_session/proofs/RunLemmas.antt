@@ -1,6 +1,9 @@
 -- A run goes on by one step.
 use Rattle.std.proofs.Common.{◌≡◌, Bool, List, [], ◌∷◌, ◌++◌, map, length, refl, sym, ap, ◌∙◌, arith, append-nil}
 use Rattle.std.proofs.lemmas.List.{map-append}
+use Rattle.std.specs.Iterator.{Yields}
+use Rattle.std.specs.Vec.Iter.{into_iter_items, into_iter_steps}
+use Rattle.std.specs.declared.vec.IntoIter.{IntoIter}
 use Rattle.foyer_session.specs.declared.command.Command.{Command}
 use Rattle.foyer_session.specs.declared.command.Reply.{Reply}
 use Rattle.foyer_session.specs.Step.{SessionState, Step}
@@ -24,3 +27,8 @@ module _ {K V P View C S W A Q : Type 0} (t : Terms K V P View C S W A) (picks :
 pub all_yielded : {A B : Type 0} (f : A → B) (xs ys : List A) (zs : List B) → length ys ≡ 0 → map f (xs ++ ys) ≡ zs → map f xs ≡ zs
 all_yielded f xs [] zs none h = ap (map f) (sym (append-nil xs)) ∙ h
 all_yielded f xs (y ∷ ys) zs none h = absurd (omega arith)
+
+-- what the iterator of a vector has given is a front of its items
+pub taken_front : {X A : Type 0} (from : IntoIter X A) (xs : List X) (to : IntoIter X A) → Yields into_iter_steps from xs to → into_iter_items from ≡ xs ++ into_iter_items to
+taken_front from [] to y = ap into_iter_items y
+taken_front from (x ∷ xs) to y = y.1.0 ∙ ap (λ ys. x ∷ ys) (taken_front y.0 xs to y.2)

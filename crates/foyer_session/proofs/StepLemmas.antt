@@ -1,56 +1,34 @@
 -- The steps of a session keep what it owns.
-use Rattle.std.proofs.Common.{◌≡◌, ℕ, ◌+◌, ◌%◌, List, [], ◌∷◌, ◌++◌, Option, Some, None, Result, Ok, Err, Bool, false, length, refl, sym, ap, ◌∙◌, subst, arith}
+use Rattle.std.proofs.Common.{◌≡◌, ℕ, ◌+◌, ◌%◌, List, [], ◌∷◌, ◌++◌, Option, Some, None, Result, Ok, Err, Bool, false, length, replicate, refl, sym, ap, ◌∙◌, subst, arith}
 use Rattle.std.specs.Prelude.{slice_set, IsOk, IfOk, option_and_then}
 use Rattle.std.proofs.lemmas.Bool.{false≢true}
 use Rattle.foyer_policy.specs.declared.types.Event.{Event}
-use Rattle.foyer_policy.specs.declared.types.Source.TheVariants.{Outer}
 use Rattle.foyer_policy.specs.declared.error.Reason.{Reason}
 use Rattle.foyer_policy.specs.declared.error.Reason.TheVariants.{Handles, NoMemory}
-use Rattle.foyer_core.specs.declared.record.Data.{Data}
-use Rattle.foyer_core.specs.Pieces.{InsertsPiece}
-use Rattle.foyer_core.specs.Values.{Carried, Denied, Gone, Held, Made}
-use Rattle.foyer_core.specs.State.{Meaning, State, hit, handles_in, is_phantom_record}
-use Rattle.foyer_core.specs.Steps.{Inserts, RefusesInsert, Gets, GivesBack, Touches, Removes, ClonesHandle, newcomer}
+use Rattle.foyer_core.specs.Values.{Gone, Held}
+use Rattle.foyer_core.specs.State.{Meaning, State, hit}
+use Rattle.foyer_core.specs.Steps.{Gets, GivesBack, Touches, Removes, ClonesHandle}
 use Rattle.foyer_core.specs.Core.{Core, AtShard, Owns, hit_in, index_in, shard_at, shard_of}
-use Rattle.foyer_session.specs.Step.{SessionState, held_at}
+use Rattle.foyer_session.specs.Step.{Fetches, SessionState, given, held_at}
 use Rattle.foyer_session.specs.Owns.{OwnsHandles}
-use Rattle.foyer_session.proofs.CountLemmas.{Alike, alike_counts, inserts_counts, inserts_number, inserts_entry, refused_by_alike, gets_counts, gives_back_counts, gives_back_number}
+use Rattle.foyer_session.proofs.CountLemmas.{Alike, alike_counts, gets_counts, gives_back_counts, gives_back_number}
 use Rattle.foyer_session.proofs.EntryCounts.{touches_counts, touches_number, refusal_same, removes_counts, removes_number, clones_counts}
-use Rattle.foyer_session.proofs.PieceLemmas.{Gives, piece_alike}
-use Rattle.foyer_session.proofs.OwnLemmas.{owns_same, owns_more, owns_less, owned_entry, shard_same}
+use Rattle.foyer_session.proofs.PieceLemmas.{Gives}
+use Rattle.foyer_session.proofs.OwnLemmas.{owns_same, owns_gained, owns_more, owns_less, owned_entry, shard_same}
 
 some_same : {A : Type 0} {a b : A} → ◌≡◌ {A = Option A} (Some a) (Some b) → a ≡ b
 some_same h = cc
 
 module _ {K V P View C S W A : Type 0} (m : Meaning K P View C) (core new : Core K V P View S W A) (handles : List (Option (Held K V P))) (owns : OwnsHandles core handles) where
   -- a step in which each record of its shard keeps its handles
-  stayed_owns : (step : State K V P View → State K V P View → Type 0) (hash : ℕ) (at : AtShard step hash core new) → Alike at.before at.after → OwnsHandles new handles
+  pub stayed_owns : (step : State K V P View → State K V P View → Type 0) (hash : ℕ) (at : AtShard step hash core new) → Alike at.before at.after → OwnsHandles new handles
   stayed_owns step hash at alike = owns_same core new step hash at alike.number handles (λ held. alike_counts m at.before at.after held alike) owns
 
-  -- a record came in, under an id of which there was no handle
-  pub inserted_owns : (d : Data K V P) (leaves : List (Event × Gone K V P)) (entry : Held K V P) (at : AtShard (λ s t. Inserts m Outer s (newcomer s d 1) leaves entry t) d.hash core new)
-      → handles_in at.before at.before.next ≡ 0 → OwnsHandles new (handles ++ Some (record entry { left = false }) ∷ [])
-  inserted_owns d leaves entry at none =
-      let i = newcomer at.before d 1 in
-      let is = inserts_entry m Outer at.before i leaves entry at.after (is_phantom_record m d) at.stepped in
-      owns_more core new (λ s t. Inserts m Outer s (newcomer s d 1) leaves entry t) d.hash at (inserts_number m Outer at.before i leaves entry at.after (is_phantom_record m d) at.stepped) handles
-      (record entry { left = false }) (ap (λ (x : Held K V P). shard_of core x.kept.hash) is) (ap (λ (x : Held K V P). x.number) is)
-      (inserts_counts m Outer at.before i leaves entry at.after (is_phantom_record m d) at.stepped (ap (λ (n : ℕ). n + 1) (sym none))) owns
-
-  pub refused_owns : (d : Data K V P) (reason : Reason) (leaves : List (Event × Gone K V P)) (at : AtShard (λ s t. RefusesInsert m s (newcomer s d 1) reason leaves t) d.hash core new) → OwnsHandles new handles
-  refused_owns d reason leaves at =
-      stayed_owns (λ s t. RefusesInsert m s (newcomer s d 1) reason leaves t) d.hash at (refused_by_alike m (is_phantom_record m d) at.before (newcomer at.before d 1) reason leaves at.after at.stepped)
-
-  module _ (weighs : ℕ → Type 0) (hash : ℕ) (piece : Carried K V P) where
-    -- a piece came in
-    pub piece_owns : (made : Made K V P) (at : AtShard (λ s t. InsertsPiece m weighs hash piece 1 (Ok made) s t) hash core new)
-        → Gives (length core.shards) (shard_of core hash) at.before made.entry at.after → OwnsHandles new (handles ++ Some (record made.entry { left = false }) ∷ [])
-    piece_owns made at gives =
-        owns_more core new (λ s t. InsertsPiece m weighs hash piece 1 (Ok made) s t) hash at gives.number handles (record made.entry { left = false }) gives.placed gives.numbered gives.counts owns
-
-    pub piece_refused_owns : (denied : Denied K V P) (at : AtShard (λ s t. InsertsPiece m weighs hash piece 1 (Err denied) s t) hash core new) → OwnsHandles new handles
-    piece_refused_owns denied at =
-        stayed_owns (λ s t. InsertsPiece m weighs hash piece 1 (Err denied) s t) hash at (piece_alike m at.before at.after weighs hash piece denied at.stepped)
+  -- so many handles of a record were handed out
+  pub given_owns : (step : State K V P View → State K V P View → Type 0) (hash : ℕ) (at : AtShard step hash core new) (entry : Held K V P) (more : ℕ)
+      → Gives (length core.shards) (shard_of core hash) at.before entry more at.after → OwnsHandles new (handles ++ replicate more (given entry))
+  given_owns step hash at entry more gives =
+      owns_gained core new step hash at gives.number handles (record entry { left = false }) more gives.placed gives.numbered gives.counts owns
 
   -- an entry of the key's record was made, which has the key's hash
   pub got_owns : (k : ℕ × K) (entry : Held K V P) (at : AtShard (λ s t. Gets m s k (Ok (Some entry)) t) k.0 core new) → entry.kept.hash ≡ k.0
@@ -98,8 +76,16 @@ clone_refused core new entry reason at =
     shard_same core new (λ s t. ClonesHandle s entry (Err reason) t) entry.kept.hash at (refusal_same at.before at.after entry.id reason at.stepped)
 
 -- a session whose core stays, stays
-pub session_same : {K V P View S W A : Type 0} (old : SessionState K V P View S W A) (new : Core K V P View S W A) → new ≡ old.core → record old { core = new } ≡ old
-session_same {K} {V} {P} {View} {S} {W} {A} old new same = ap (λ (c : Core K V P View S W A). record old { core = c }) same
+pub session_same : {K V P View S W A : Type 0} (old : SessionState K V P View S W A) (new : Core K V P View S W A) (fetches : Fetches K) → new ≡ old.core → fetches ≡ old.fetches
+    → record old { core = new; fetches = fetches } ≡ old
+session_same {K} {V} {P} {View} {S} {W} {A} old new fetches same still =
+    ap (λ (c : Core K V P View S W A). record old { core = c; fetches = fetches }) same ∙ ap (λ (f : Fetches K). record old { fetches = f }) still
+
+-- and one whose core stays has other fetches alone
+pub session_fetches : {K V P View S W A : Type 0} (old : SessionState K V P View S W A) (new : Core K V P View S W A) (fetches now : Fetches K) → new ≡ old.core → fetches ≡ now
+    → record old { core = new; fetches = fetches } ≡ record old { fetches = now }
+session_fetches {K} {V} {P} {View} {S} {W} {A} old new fetches now same is =
+    ap (λ (c : Core K V P View S W A). record old { core = c; fetches = fetches }) same ∙ ap (λ (f : Fetches K). record old { fetches = f }) is
 
 module _ {K V P View C S W A : Type 0} (m : Meaning K P View C) (core new : Core K V P View S W A) (k : ℕ × K) where
   hit_there : (at : State K V P View) → shard_at core k.0 ≡ Some at → hit at k ≡ None → hit_in core k ≡ None
@@ -109,7 +95,7 @@ module _ {K V P View C S W A : Type 0} (m : Meaning K P View C) (core new : Core
   pub get_missing : AtShard (λ s t. Gets m s k (Ok None) t) k.0 core new → (hit_in core k ≡ None) × (new ≡ core)
   get_missing at = (hit_there at.before at.there at.stepped.0, shard_same core new (λ s t. Gets m s k (Ok None) t) k.0 at at.stepped.1)
 
-  gets_refused : (s t : State K V P View) (reason : Reason) → Gets m s k (Err reason) t → t ≡ s
+  pub gets_refused : (s t : State K V P View) (reason : Reason) → Gets m s k (Err reason) t → t ≡ s
   gets_refused s t Handles h = h.5
   gets_refused s t NoMemory h = h.5
   gets_refused s t _ h = absurd h

@@ -1,30 +1,44 @@
 -- What a step's reply tells of the index.
 use Rattle.std.proofs.Common.{◌≡◌, ℕ, length, List, [], ◌∷◌, ◌++◌, Option, Some, None, Ok, Err, inl, inr, true, false, refl, sym, ◌∙◌, ap, subst}
-use Rattle.std.specs.Prelude.{Bool, if◌then◌else◌}
+use Rattle.std.specs.Prelude.{Bool, Result, ◌+◌, ◌<◌, if◌then◌else◌, option_map, slice_get}
 use Rattle.std.specs.Option.{option_to_list}
 use Rattle.std.specs.Cmp.{IsEquivalence}
 use Rattle.foyer_policy.specs.Policy.{IsPolicy}
 use Rattle.foyer_policy.specs.Properties.{is_phantom}
-use Rattle.foyer_policy.specs.declared.error.Reason.TheVariants.{NoMemory}
+use Rattle.foyer_policy.specs.declared.error.Reason.{Reason}
+use Rattle.foyer_policy.specs.declared.error.Reason.TheVariants.{Fetch, NoMemory, TaskCancelled}
 use Rattle.foyer_policy.specs.declared.types.Event.{Event}
-use Rattle.foyer_policy.specs.declared.types.Source.TheVariants.{Outer}
+use Rattle.foyer_policy.specs.declared.types.Source.{Source}
+use Rattle.foyer_policy.specs.declared.types.Source.TheVariants.{Memory, Outer}
 use Rattle.foyer_core.specs.Core.{Core, AtShard}
 use Rattle.foyer_core.specs.CoreBulk.{OfShards}
 use Rattle.foyer_core.specs.Observed.{IsTold as CoreTold, after_entry, after_leaves, known}
 use Rattle.foyer_core.specs.State.{State}
-use Rattle.foyer_core.specs.Values.{Gone}
+use Rattle.foyer_core.specs.CoreFetches.{place_in}
+use Rattle.foyer_core.specs.FetchLaws.{IsToldByEnd}
+use Rattle.foyer_core.specs.Inflight.{Place}
+use Rattle.foyer_core.specs.Pieces.{coming_under}
+use Rattle.foyer_core.specs.Values.{Carried, Gone, Held}
+use Rattle.foyer_core.specs.Waited.{Ending}
+use Rattle.foyer_core.specs.declared.outcome.FetchTarget.{FetchTarget}
+use Rattle.foyer_core.specs.declared.outcome.FetchTarget.TheVariants.{Entry as ValueTarget, Piece as PieceTarget}
 use Rattle.foyer_core.proofs.CallsTold.{cleared_core, clone_told, get_told, give_back_told, insert_told, nothing_told, picked_core, refused_told, remove_told, resized_core, resized_until_core, touch_told, unpinned_core, unpinned_until_core}
 use Rattle.foyer_core.proofs.CoreTold.{AreSound, configured_told}
 use Rattle.foyer_core.proofs.Observing.{leaves_congr}
 use Rattle.foyer_core.proofs.PieceCalls.{piece_tells}
 use Rattle.foyer_session.specs.declared.command.Answer.{Answer}
-use Rattle.foyer_session.specs.declared.command.Answer.TheVariants.{Entry, Found, Missing, Yes, No, Done, Number, PieceNo, NotHeld, Refused}
+use Rattle.foyer_session.specs.declared.command.Answer.TheVariants.{Entry, Found, Missing, Lead, Wait, Answered, Later, Lost, Yes, No, Done, Number, PieceNo, NotHeld, Refused}
 use Rattle.foyer_session.specs.declared.command.Command.{Command}
-use Rattle.foyer_session.specs.declared.command.Command.TheVariants.{Insert, Get, Contains, Touch, Remove, Clone, Drop, TakePiece, InsertPiece, Refs, Outdated, Clear, EvictAll, FlushIf, Resize, Reconfigure, Capacity, Usage, Entries}
+use Rattle.foyer_session.specs.declared.command.Command.TheVariants.{Insert, Get, Contains, Touch, Remove, Clone, Drop, TakePiece, InsertPiece, Refs, Outdated, GetOrFetch, Complete, Fail, Cancel, FetchOrTake, IsOpen, Clear, EvictAll, FlushIf, Resize, Reconfigure, Capacity, Usage, Entries}
 use Rattle.foyer_session.specs.declared.command.Reply.{Reply}
 use Rattle.foyer_session.specs.Observed.{IsTold, after_answer, index_of, told}
-use Rattle.foyer_session.specs.Step.{SessionState, Step, InsertStep, GetStep, ContainsStep, TouchStep, RemoveStep, CloneStep, DropStep, TakePieceStep, InsertPieceStep, RefsStep, OutdatedStep, ClearStep, EvictAllStep, FlushIfStep, ResizeStep, ReconfigureStep, NumberStep, data_of, hash_in, leaves_of}
+use Rattle.foyer_session.specs.Step.{SessionState, Step, InsertStep, GetStep, ContainsStep, TouchStep, RemoveStep, CloneStep, DropStep, TakePieceStep, InsertPieceStep, RefsStep, OutdatedStep, GetOrFetchStep, CompletesWith, CompletesPiece, CompleteStep, EndStep, FetchOrTakeStep, IsOpenStep, TellsEnd, ClearStep, EvictAllStep, FlushIfStep, ResizeStep, ReconfigureStep, NumberStep, data_of, entries_by, first_told, hash_in, hashed, leaves_of, open_at, record_of, waiting_at}
+use Rattle.foyer_session.specs.declared.command.End.{End}
+use Rattle.foyer_session.specs.declared.command.End.TheVariants.{Value, PieceNo as PieceEnd}
 use Rattle.foyer_session.specs.Terms.{Terms}
+use Rattle.foyer_session.proofs.EndTells.{asked_some}
+use Rattle.foyer_session.proofs.EndTold.{completed_told, ends_told}
+use Rattle.foyer_session.proofs.LookLemmas.{led_core, looked_hit, waited_core}
 
 -- maps that agree do so after replies
 module _ {K V P : Type 0} (same : K → K → Bool) (phantom : P → Option Bool) where
@@ -36,6 +50,7 @@ module _ {K V P : Type 0} (same : K → K → Bool) (phantom : P → Option Bool
 
   answer_congr : (f g : K → Option ℕ) → ((k : K) → f k ≡ g k) → (answer : Answer K V P) (leaves : List (Event × Gone K V P)) (k : K) → after_answer same phantom f answer leaves k ≡ after_answer same phantom g answer leaves k
   answer_congr f g h (Entry number came answers) leaves k = entry_congr (after_leaves same f leaves) (after_leaves same g leaves) (leaves_congr same f g h leaves) came k
+  answer_congr f g h (Answered answers (Some came)) leaves k = entry_congr (after_leaves same f leaves) (after_leaves same g leaves) (leaves_congr same f g h leaves) came k
   answer_congr f g h _ leaves k = leaves_congr same f g h leaves k
 
   told_congr : (f g : K → Option ℕ) → ((k : K) → f k ≡ g k) → (replies : List (Reply K V P)) (k : K) → told same phantom f replies k ≡ told same phantom g replies k
@@ -59,7 +74,8 @@ module _ {K V P View C S W A : Type 0} (t : Terms K V P View C S W A) where
       ∙ sym (told_append t.meaning.same t.meaning.phantom (index_of t old) rs (r ∷ []) k)
 
   module _ (laws : IsEquivalence t.meaning.same) (good : IsPolicy t.meaning.policy) (old new : SessionState K V P View S W A)
-      (equal : (a b : K) → t.meaning.same a b ≡ true → hash_in t old a ≡ hash_in t old b) (sound : AreSound t.meaning laws good (hash_in t old) equal (length old.core.shards) old.core.shards) where
+      (equal : (a b : K) → t.meaning.same a b ≡ true → hash_in t old a ≡ hash_in t old b) (sound : AreSound t.meaning laws good (hash_in t old) equal (length old.core.shards) old.core.shards)
+      (waited : (q : ℕ × K) (o : Place (Unit {0}) ℕ) → place_in old.fetches q ≡ Some o → 0 < length o.tokens) where
     abbrev same : K → K → Bool
     same = t.meaning.same
 
@@ -98,11 +114,11 @@ module _ {K V P View C S W A : Type 0} (t : Terms K V P View C S W A) where
         let d = data_of t old k v p h.0 h.1 in
         let entry = h.2 in (
           at_builder _ (hash k) h.5,
-          λ q. insert_told t.meaning laws good hash equal old.core new.core sound d refl leaves 1 Outer entry h.5 q
+          λ q. insert_told t.meaning laws good hash equal old.core new.core sound d refl leaves (1 + length (waiting_at t old (hashed t old k))) Outer entry h.5 q
               ∙ ap (λ (g : Gone K V P). after_entry same t.meaning.phantom (after_leaves same (known hash old.core) leaves) g.id g.kept q) (sym h.6.tells),
         )
     insert_step k v p (Refused reason) leaves h =
-        (at_builder _ (hash k) h.4, refused_told t.meaning laws good hash equal old.core new.core sound (data_of t old k v p h.0 h.1) refl leaves 1 reason h.4)
+        (at_builder _ (hash k) h.4, refused_told t.meaning laws good hash equal old.core new.core sound (data_of t old k v p h.0 h.1) refl leaves (1 + length (waiting_at t old (hashed t old k))) reason h.4)
     insert_step k v p _ leaves h = absurd h
 
     get_step : (k : K) (answer : Answer K V P) (leaves : List (Event × Gone K V P)) → GetStep t old k answer leaves new → StepTold answer leaves
@@ -142,7 +158,7 @@ module _ {K V P View C S W A : Type 0} (t : Terms K V P View C S W A) where
 
     drop_step : (n : ℕ) (answer : Answer K V P) (leaves : List (Event × Gone K V P)) → DropStep t old n answer leaves new → StepTold answer leaves
     drop_step n Done leaves h =
-        subst Leaves (sym (h.6 ∙ leaves_listed h.1)) (at_builder _ h.0.kept.hash h.3, give_back_told t.meaning laws good hash equal old.core new.core sound h.0.id h.0.kept.hash h.1 h.3)
+        subst Leaves (sym (h.7 ∙ leaves_listed h.1)) (at_builder _ h.0.kept.hash h.3, give_back_told t.meaning laws good hash equal old.core new.core sound h.0.id h.0.kept.hash h.1 h.3)
     drop_step n NotHeld leaves h = unchanged leaves h.1 h.2
     drop_step n _ leaves h = absurd h
 
@@ -158,16 +174,92 @@ module _ {K V P View C S W A : Type 0} (t : Terms K V P View C S W A) where
         let piece = h.0 in
         let weighs = t.weighs old.core.weighter piece.kept.key piece.kept.value in (
           at_builder _ (hash piece.kept.key) h.3,
-          λ q. piece_tells t.meaning laws good t.hash old.core new.core equal sound weighs piece (λ s. 1) (Ok record { entry = h.1; leaves = leaves }) h.3 q
+          λ q. piece_tells t.meaning laws good t.hash old.core new.core equal sound weighs piece (λ s. 1 + length (waiting_at t old (coming_under s (hash piece.kept.key) piece))) (Ok record { entry = h.1; leaves = leaves }) h.3 q
               ∙ ap (λ (g : Gone K V P). after_entry same t.meaning.phantom (after_leaves same (known hash old.core) leaves) g.id g.kept q) (sym h.4.tells),
         )
     insert_piece_step n (Refused reason) leaves h = elim h.2 [
       | inl same ↦ unchanged leaves same.1 same.2
       | inr y ↦ (let weighs = t.weighs old.core.weighter h.0.kept.key h.0.kept.value in
-          (at_builder _ (hash h.0.kept.key) y.0, piece_tells t.meaning laws good t.hash old.core new.core equal sound weighs h.0 (λ s. 1) (Err record { reason = reason; leaves = leaves }) y.0))
+          (at_builder _ (hash h.0.kept.key) y.0, piece_tells t.meaning laws good t.hash old.core new.core equal sound weighs h.0 (λ s. 1 + length (waiting_at t old (coming_under s (hash h.0.kept.key) h.0))) (Err record { reason = reason; leaves = leaves }) y.0))
     ]
     insert_piece_step n NotHeld leaves h = unchanged leaves h.1 h.2
     insert_piece_step n _ leaves h = absurd h
+
+    -- a look-up that may lead to a fetch
+    get_or_fetch_step : (k : K) (later : Option ℕ) (answer : Answer K V P) (leaves : List (Event × Gone K V P)) → GetOrFetchStep t old k later answer leaves new → StepTold answer leaves
+    get_or_fetch_step k later (Found number told) leaves h =
+        let at = (looked_hit t.meaning old.core old.fetches new.core new.fetches (hashed t old k) later h.0 h.1).0 in
+        silent leaves h.3 (at_builder _ (hash k) at) (get_told t.meaning laws good hash equal old.core new.core sound (hash k, k) (hash k) (Ok (Some h.0)) at)
+    get_or_fetch_step k later (Lead fetch token) leaves h = same_core leaves h.3 (led_core t.meaning old.core old.fetches new.core new.fetches (hashed t old k) later fetch token h.0 h.1)
+    get_or_fetch_step k later (Wait token) leaves h = same_core leaves h.2 (waited_core t.meaning old.core old.fetches new.core new.fetches (hashed t old k) later token h.0)
+    get_or_fetch_step k later (Refused reason) leaves h = unchanged leaves h.1 h.2
+    get_or_fetch_step k later _ leaves h = absurd h
+
+    -- the end of a fetch tells its leaves, and the record of the entries that it gave
+    told_end : (ended : Ending K V P (Unit {0})) (answer : Answer K V P) (leaves : List (Event × Gone K V P)) → new.core.hash_builder ≡ old.core.hash_builder
+        → IsToldByEnd same hash t.meaning.phantom old.core ended.leaves ended.outcome new.core → TellsEnd old ended answer leaves new → StepTold answer leaves
+    told_end ended (Answered answers told) leaves builder by h = (builder, λ q. go ended.outcome refl q)
+      where
+        is_told : (o : Option (Gone K V P)) → told ≡ o → (q : K) → known hash new.core q ≡ after_answer same t.meaning.phantom (known hash old.core) (Answered answers o) ended.leaves q
+            → known hash new.core q ≡ after_answer same t.meaning.phantom (known hash old.core) (Answered answers told) leaves q
+        is_told o is q e = rw (is, h.1) e
+
+        go : (outcome : Result (Option (List (Held K V P))) Reason) → ended.outcome ≡ outcome → (q : K) → known hash new.core q ≡ after_answer same t.meaning.phantom (known hash old.core) (Answered answers told) leaves q
+        go (Ok (Some (entry ∷ more))) is q =
+            is_told (Some (record_of entry)) (h.3 ∙ ap (λ (o : Result (Option (List (Held K V P))) Reason). first_told (entries_by o)) is) q
+            ((subst (λ (o : Result (Option (List (Held K V P))) Reason). IsToldByEnd same hash t.meaning.phantom old.core ended.leaves o new.core) is by) q)
+        go (Ok (Some [])) is q =
+            is_told None (h.3 ∙ ap (λ (o : Result (Option (List (Held K V P))) Reason). first_told (entries_by o)) is) q
+            ((subst (λ (o : Result (Option (List (Held K V P))) Reason). IsToldByEnd same hash t.meaning.phantom old.core ended.leaves o new.core) is by) q)
+        go (Ok None) is q =
+            is_told None (h.3 ∙ ap (λ (o : Result (Option (List (Held K V P))) Reason). first_told (entries_by o)) is) q
+            ((subst (λ (o : Result (Option (List (Held K V P))) Reason). IsToldByEnd same hash t.meaning.phantom old.core ended.leaves o new.core) is by) q)
+        go (Err reason) is q =
+            is_told None (h.3 ∙ ap (λ (o : Result (Option (List (Held K V P))) Reason). first_told (entries_by o)) is) q
+            ((subst (λ (o : Result (Option (List (Held K V P))) Reason). IsToldByEnd same hash t.meaning.phantom old.core ended.leaves o new.core) is by) q)
+    told_end ended Lost leaves builder by h = (
+      builder,
+      subst (λ (ls : List (Event × Gone K V P)). (q : K) → known hash new.core q ≡ after_answer same t.meaning.phantom (known hash old.core) Lost ls q) (sym h.1)
+          (subst (λ (x : Ending K V P (Unit {0})). IsToldByEnd same hash t.meaning.phantom old.core x.leaves x.outcome new.core) h.0 by),
+    )
+    told_end ended _ leaves builder by h = absurd h
+
+    -- with a target
+    complete_with_step : (k : K) (fetch : ℕ) (source : Source) (target : FetchTarget K V P) (answer : Answer K V P) (leaves : List (Event × Gone K V P)) → CompletesWith t old k fetch source target answer leaves new → StepTold answer leaves
+    complete_with_step k fetch source target answer leaves h =
+        let told = completed_told t.meaning laws good t.hash old.core new.core equal sound old.fetches new.fetches source k h.0
+        (t.weighs old.core.weighter) (t.admits old.core.filter) (λ p admitted. t.incoming admitted p) target (open_at t old k fetch)
+        (λ o is. waited (hashed t old k) o (asked_some fetch (place_in old.fetches (hashed t old k)) o is)) h.1 in
+        told_end h.0 answer leaves told.0 told.1 h.2
+
+    complete_piece_step : (k : K) (fetch : ℕ) (piece : Option (Carried K V P)) (answer : Answer K V P) (leaves : List (Event × Gone K V P)) → CompletesPiece t old k fetch piece answer leaves new → StepTold answer leaves
+    complete_piece_step k fetch None NotHeld leaves h = unchanged leaves h.0 h.1
+    complete_piece_step k fetch None _ leaves h = absurd h
+    complete_piece_step k fetch (Some piece) (Refused NoMemory) leaves h = unchanged leaves h.0 h.1
+    complete_piece_step k fetch (Some piece) answer leaves h = complete_with_step k fetch Memory (PieceTarget piece) answer leaves h
+
+    complete_step : (k : K) (fetch : ℕ) (end : End V P) (answer : Answer K V P) (leaves : List (Event × Gone K V P)) → CompleteStep t old k fetch end answer leaves new → StepTold answer leaves
+    complete_step k fetch (Value v p source) answer leaves h = complete_with_step k fetch source (ValueTarget v p) answer leaves h
+    complete_step k fetch (PieceEnd n) answer leaves h = complete_piece_step k fetch (slice_get old.pieces n) answer leaves h
+
+    -- with a refusal
+    end_step : (k : K) (fetch : ℕ) (reason : Reason) (answer : Answer K V P) (leaves : List (Event × Gone K V P)) → EndStep t old k fetch reason answer leaves new → StepTold answer leaves
+    end_step k fetch reason answer leaves h =
+        told_end h.0 answer leaves (ap (λ (c : Core K V P View S W A). c.hash_builder) h.2)
+        (ends_told t.meaning laws good hash equal old.core new.core sound (hashed t old k) (open_at t old k fetch) reason old.fetches new.fetches h.0 h.1 h.2) h.3
+
+    fetch_or_take_step : (k : K) (fetch : ℕ) (outcome : Option Reason) (answer : Answer K V P) (leaves : List (Event × Gone K V P)) → FetchOrTakeStep t old k fetch outcome answer leaves new → StepTold answer leaves
+    fetch_or_take_step k fetch outcome (Later label) leaves h = same_core leaves h.1 (ap (λ (s : SessionState K V P View S W A). s.core) h.2)
+    fetch_or_take_step k fetch outcome (Answered answers told) leaves h =
+        let so = same_core leaves h.2 (ap (λ (s : SessionState K V P View S W A). s.core) h.3) in
+        (so.0, subst (λ (o : Option (Gone K V P)). (q : K) → known hash new.core q ≡ after_answer same t.meaning.phantom (known hash old.core) (Answered answers o) leaves q) (sym h.1) so.1)
+    fetch_or_take_step k fetch outcome Lost leaves h = unchanged leaves h.1 h.2
+    fetch_or_take_step k fetch outcome _ leaves h = absurd h
+
+    is_open_step : (k : K) (fetch : ℕ) (answer : Answer K V P) (leaves : List (Event × Gone K V P)) → IsOpenStep t old k fetch answer leaves new → StepTold answer leaves
+    is_open_step k fetch Yes leaves h = unchanged leaves h.1 h.2
+    is_open_step k fetch No leaves h = unchanged leaves h.1 h.2
+    is_open_step k fetch _ leaves h = absurd h
 
     refs_step : (n : ℕ) (answer : Answer K V P) (leaves : List (Event × Gone K V P)) → RefsStep t old n answer leaves new → StepTold answer leaves
     refs_step n (Number count) leaves h = unchanged leaves h.3 h.4
@@ -224,6 +316,12 @@ module _ {K V P View C S W A : Type 0} (t : Terms K V P View C S W A) where
     any_step picks (InsertPiece n) answer leaves h = insert_piece_step n answer leaves h
     any_step picks (Refs n) answer leaves h = refs_step n answer leaves h
     any_step picks (Outdated n) answer leaves h = outdated_step n answer leaves h
+    any_step picks (GetOrFetch k later) answer leaves h = get_or_fetch_step k later answer leaves h
+    any_step picks (Complete k fetch end) answer leaves h = complete_step k fetch end answer leaves h
+    any_step picks (Fail k fetch fault) answer leaves h = end_step k fetch (Fetch fault) answer leaves h
+    any_step picks (Cancel k fetch) answer leaves h = end_step k fetch TaskCancelled answer leaves h
+    any_step picks (FetchOrTake k fetch outcome) answer leaves h = fetch_or_take_step k fetch (option_map Fetch outcome) answer leaves h
+    any_step picks (IsOpen k fetch) answer leaves h = is_open_step k fetch answer leaves h
     any_step picks Clear answer leaves h = clear_step answer leaves h
     any_step picks EvictAll answer leaves h = evict_all_step answer leaves h
     any_step picks (FlushIf q) answer leaves h = flush_if_step (picks q) answer leaves h

@@ -3,15 +3,19 @@ use Rattle.std.specs.Prelude.{◌≡◌, ℕ, Bool, true, false, List, [], ◌++
 use Rattle.foyer_policy.specs.declared.types.Event.{Event}
 use Rattle.foyer_policy.specs.declared.types.Hint.TheVariants.{Normal}
 use Rattle.foyer_policy.specs.declared.types.Ratio.{Ratio}
+use Rattle.foyer_policy.specs.declared.types.Source.TheVariants.{Outer}
 use Rattle.foyer_core.specs.Values.{Gone, Answered}
 use Rattle.foyer_core.specs.State.{Meaning, coming_in}
 use Rattle.foyer_core.specs.Core.{usage_of_core, entries_of_core}
 use Rattle.foyer_session.specs.declared.command.Answer.{Answer}
 use Rattle.foyer_session.specs.declared.command.Command.{Command}
-use Rattle.foyer_session.specs.declared.command.Command.TheVariants.{Insert, Get, Contains, Touch, Remove, Drop, Clear, EvictAll, Resize, Reconfigure}
+use Rattle.foyer_session.specs.declared.command.Command.TheVariants.{Insert, Get, Contains, Touch, Remove, Drop, GetOrFetch, Complete, Cancel, Clear, EvictAll, Resize, Reconfigure}
+use Rattle.foyer_session.specs.declared.command.End.TheVariants.{Value}
+use Rattle.foyer_session.specs.declared.sim.tell.Asked.{Asked}
+use Rattle.foyer_session.specs.declared.sim.tell.Asked.TheVariants.{Nothing, NoLine, NoPool, Carry}
 use Rattle.foyer_session.specs.declared.sim.value.SimValue.{SimValue}
 use Rattle.foyer_session.specs.declared.text.Line.{Line}
-use Rattle.foyer_session.specs.declared.text.Line.TheVariants.{Blank, Insert as InsertLine, Phantom as PhantomLine, Get as GetLine, Contains as ContainsLine, Touch as TouchLine, Remove as RemoveLine, Drop as DropLine, Clear as ClearLine, Evict as EvictLine, Resize as ResizeLine, High as HighLine, Bad}
+use Rattle.foyer_session.specs.declared.text.Line.TheVariants.{Blank, Insert as InsertLine, Phantom as PhantomLine, Get as GetLine, Contains as ContainsLine, Touch as TouchLine, Remove as RemoveLine, Drop as DropLine, Clear as ClearLine, Evict as EvictLine, Resize as ResizeLine, High as HighLine, Fetch as FetchLine, Done as DoneLine, Cancel as CancelLine, Bad}
 use Rattle.foyer_session.specs.declared.predicate.NoPredicate.{NoPredicate}
 use Rattle.foyer_session.specs.Printed.{answer_text, refusal_text, rest_text}
 use Rattle.foyer_session.specs.Step.{SessionState, Step}
@@ -56,25 +60,40 @@ module _ {View C S W A : Type 0} (m : Meaning ℕ Answered View C) (hash : S →
       × Step (sim_terms m hash) no_picks old command answer leaves new × (text ≡ line_text m (answer_text answer) leaves new))
       ⊎ ((text ≡ line_text m (refusal_text 7) [] new) × (new ≡ old))
 
-  -- a policy is told the configuration of a share, and is another one where there is none
-  abbrev pub HighTold : SessionState ℕ SimValue Answered View S W A → Option C → List ℕ → SessionState ℕ SimValue Answered View S W A → Type 0
-  HighTold old (Some config) text new = CommandTold old (Reconfigure config) text new
-  HighTold old None text new = (text ≡ line_text m (refusal_text 17) [] new) × (new ≡ old)
+  -- what a line asks for is told
+  abbrev pub AskedTold : SessionState ℕ SimValue Answered View S W A → Asked C → List ℕ → SessionState ℕ SimValue Answered View S W A → Type 0
+  AskedTold old Nothing text new = (text ≡ []) × (new ≡ old)
+  AskedTold old NoLine text new = (text ≡ line_text m (codes "bad line") [] new) × (new ≡ old)
+  AskedTold old NoPool text new = (text ≡ line_text m (refusal_text 17) [] new) × (new ≡ old)
+  AskedTold old (Carry command) text new = CommandTold old command text new
 
 -- `config_of` is the configuration of a share, where the policy has a pool of high priority.
+module _ {C : Type 0} (config_of : Ratio → Option C) where
+  -- the share of a pool is a configuration, where there is such a pool
+  abbrev pub asked_of_pool : Option C → Asked C
+  asked_of_pool (Some config) = Carry (Reconfigure config)
+  asked_of_pool None = NoPool
+
+  -- what a line asks for
+  abbrev pub asked_by : Line → Asked C
+  asked_by Blank = Nothing
+  asked_by Bad = NoLine
+  asked_by (InsertLine key value weight) = Carry (Insert key (record { value = value; weight = weight }) plain)
+  asked_by (PhantomLine key value weight) = Carry (Insert key (record { value = value; weight = weight }) phantom)
+  asked_by (GetLine key) = Carry (Get key)
+  asked_by (ContainsLine key) = Carry (Contains key)
+  asked_by (TouchLine key) = Carry (Touch key)
+  asked_by (RemoveLine key) = Carry (Remove key)
+  asked_by (DropLine number) = Carry (Drop number)
+  asked_by ClearLine = Carry Clear
+  asked_by EvictLine = Carry EvictAll
+  asked_by (ResizeLine capacity) = Carry (Resize capacity)
+  asked_by (HighLine ratio) = asked_of_pool (config_of ratio)
+  asked_by (FetchLine key) = Carry (GetOrFetch key None)
+  asked_by (DoneLine key fetch value) = Carry (Complete key fetch (Value (record { value = value; weight = 1 }) plain Outer))
+  asked_by (CancelLine key fetch) = Carry (Cancel key fetch)
+
 module _ {View C S W A : Type 0} (m : Meaning ℕ Answered View C) (hash : S → ℕ → ℕ) (config_of : Ratio → Option C) where
   -- the text of a line, and the state then
   abbrev pub LineTold : SessionState ℕ SimValue Answered View S W A → Line → List ℕ → SessionState ℕ SimValue Answered View S W A → Type 0
-  LineTold old Blank text new = (text ≡ []) × (new ≡ old)
-  LineTold old Bad text new = (text ≡ line_text m (codes "bad line") [] new) × (new ≡ old)
-  LineTold old (InsertLine key value weight) text new = CommandTold m hash old (Insert key (record { value = value; weight = weight }) plain) text new
-  LineTold old (PhantomLine key value weight) text new = CommandTold m hash old (Insert key (record { value = value; weight = weight }) phantom) text new
-  LineTold old (GetLine key) text new = CommandTold m hash old (Get key) text new
-  LineTold old (ContainsLine key) text new = CommandTold m hash old (Contains key) text new
-  LineTold old (TouchLine key) text new = CommandTold m hash old (Touch key) text new
-  LineTold old (RemoveLine key) text new = CommandTold m hash old (Remove key) text new
-  LineTold old (DropLine number) text new = CommandTold m hash old (Drop number) text new
-  LineTold old ClearLine text new = CommandTold m hash old Clear text new
-  LineTold old EvictLine text new = CommandTold m hash old EvictAll text new
-  LineTold old (ResizeLine capacity) text new = CommandTold m hash old (Resize capacity) text new
-  LineTold old (HighLine ratio) text new = HighTold m hash old (config_of ratio) text new
+  LineTold old line text new = AskedTold m hash old (asked_by config_of line) text new

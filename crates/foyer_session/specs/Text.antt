@@ -5,7 +5,7 @@ use Rattle.std.specs.Str.{all_ascii_digits}
 use Rattle.std.specs.Str.Parse.{digits_value}
 use Rattle.std.specs.Io.BufRead.{first_piece, drop_through}
 use Rattle.foyer_session.specs.declared.text.Line.{Line}
-use Rattle.foyer_session.specs.declared.text.Line.TheVariants.{Blank, Insert, Phantom, Get, Contains, Touch, Remove, Drop, Clear, Evict, Resize, High, Bad}
+use Rattle.foyer_session.specs.declared.text.Line.TheVariants.{Blank, Insert, Phantom, Get, Contains, Touch, Remove, Drop, Clear, Evict, Resize, High, Fetch, Done, Cancel, Bad}
 
 -- the words: the longest runs of bytes other than the space, in order
 unfoldable pub words : List ℕ → List (List ℕ)
@@ -35,24 +35,29 @@ line_with_one verb n = if bytes_eq verb (codes "get") then Get n
     else (if bytes_eq verb (codes "remove") then Remove n
     else (if bytes_eq verb (codes "drop") then Drop n
     else (if bytes_eq verb (codes "resize") then Resize n
-    else Bad)))))
+    else (if bytes_eq verb (codes "fetch") then Fetch n
+    else Bad))))))
 
 -- of a share, whose numbers are below 2^32
 abbrev pub high_line : ℕ → ℕ → Line
 high_line num den = if nat_lt num (2 ^ 32) && nat_lt den (2 ^ 32) then High (record { num = num; den = den }) else Bad
 
--- of a first word and two numbers
+-- of a record that is to come in
+unfoldable pub insert_line : List ℕ → ℕ → ℕ → ℕ → Line
+insert_line verb key value weight = if bytes_eq verb (codes "insert") then Insert key value weight
+    else (if bytes_eq verb (codes "phantom") then Phantom key value weight
+    else Bad)
+
+-- of a first word and two numbers; a weight that is left out is 1
 unfoldable pub line_with_two : List ℕ → ℕ → ℕ → Line
 line_with_two verb m n = if bytes_eq verb (codes "high") then high_line m n
-    else (if bytes_eq verb (codes "insert") then Insert m n 1
-    else (if bytes_eq verb (codes "phantom") then Phantom m n 1
-    else Bad))
+    else (if bytes_eq verb (codes "cancel") then Cancel m n
+    else insert_line verb m n 1)
 
 -- of a first word and three numbers
 unfoldable pub line_with_three : List ℕ → ℕ → ℕ → ℕ → Line
-line_with_three verb k m n = if bytes_eq verb (codes "insert") then Insert k m n
-    else (if bytes_eq verb (codes "phantom") then Phantom k m n
-    else Bad)
+line_with_three verb k m n = if bytes_eq verb (codes "done") then Done k m n
+    else insert_line verb k m n
 
 -- of a first word and the numbers after it, `None` where a later word is no number
 abbrev pub line_with : List ℕ → Option (List ℕ) → Line

@@ -2,9 +2,12 @@
 
 ghost use Rattle.std.specs.Prelude.{◌≡◌};
 
+use crate::answers::Answers;
 use foyer_core::Left;
-use foyer_policy::{Error, Event};
+use foyer_policy::{Error, Event, Fault, Source};
+use std::alloc::Global;
 use std::marker::Model;
+use std::sync::Arc;
 
 /// What a session is asked. It names a handle by its number: handles are numbered from 0 in the order in
 /// which they were handed out, and so are pieces. `Q` is the predicate of a `FlushIf`, and `C` the configuration of
@@ -33,6 +36,20 @@ pub enum Command<K, V, P, Q, C> {
     Refs(u64),
     /// Asks whether the record of the handle of this number left.
     Outdated(u64),
+    /// Asks for a handle of the key's record. Where there is none, who asks waits for the key's fetch with a token,
+    /// and leads a new one where none is open. The number is the label of a builder that who waits brings.
+    GetOrFetch(K, Option<u64>),
+    /// Ends the key's fetch of this number with a record of the key.
+    Complete(K, u64, End<V, P>),
+    /// Ends the key's fetch of this number with a fault.
+    Fail(K, u64, Arc<Fault, Global>),
+    /// Ends the key's fetch of this number, whose task was dropped.
+    Cancel(K, u64),
+    /// The key's fetch of this number found nothing, or failed with the fault. Where a builder is kept it goes on
+    /// with that, and else it ends.
+    FetchOrTake(K, u64, Option<Arc<Fault, Global>>),
+    /// Asks whether the key's fetch of this number is open.
+    IsOpen(K, u64),
     /// Takes all records out.
     Clear,
     /// Evicts all records that are not pinned.
@@ -51,33 +68,13 @@ pub enum Command<K, V, P, Q, C> {
     Entries,
 }
 
-/// The waiters that an insert answered: each waiter's token, with the number of the handle that it got.
+/// With what a fetch ends that found a record.
 #[derive(Debug, Drop)]
-pub struct Answers {
-    items: Vec<(u64, u64)>,
-}
-
-impl Model for Answers {
-    ghost use Rattle.std.specs.Prelude.{ℕ, List};
-
-    ghost Value = { List (ℕ × ℕ) };
-
-    ghost view = { λ a. a.items.items };
-}
-
-impl Answers {
-    pub(crate) fn new(items: Vec<(u64, u64)>) -> Self
-        ensures { result ≡ items.items }
-    {
-        Answers { items }
-    }
-
-    /// The tokens and the numbers, in the order of the waiters.
-    pub fn as_slice(&self) -> &[(u64, u64)]
-        ensures { result.now ≡ self.now }
-    {
-        self.items.as_slice()
-    }
+pub enum End<V, P> {
+    /// A value of the key, with its properties, and where it came from.
+    Value(V, P, Source),
+    /// The record of the piece of this number. The piece stays held.
+    PieceNo(u64),
 }
 
 /// What left, in order.
@@ -123,7 +120,7 @@ pub enum Answer<K, V, P> {
         /// The key's waiters, who got handles as well.
         answers: Answers,
     },
-    /// To `Get`, `Remove` or `Clone`: a handle of the record that was asked for.
+    /// To `Get`, `GetOrFetch`, `Remove` or `Clone`: a handle of the record that was asked for.
     Found {
         /// The number of the new handle.
         handle: u64,
@@ -132,10 +129,34 @@ pub enum Answer<K, V, P> {
     },
     /// To `Get` or `Remove`: the key has no record.
     Missing,
-    /// To `Contains` or `Touch`: the key has a record. To `Outdated`: the handle's record left.
+    /// To `GetOrFetch`: the key has no record, and no fetch of it was open. Who asked leads a new one, and waits.
+    Lead {
+        /// The number of the fetch.
+        fetch: u64,
+        /// The number of the token.
+        token: u64,
+    },
+    /// To `GetOrFetch`: the key has no record, and a fetch of it is open. Who asked waits.
+    Wait {
+        /// The number of the token.
+        token: u64,
+    },
+    /// To `Complete`, `Fail`, `Cancel` or `FetchOrTake`: the fetch has ended.
+    Answered {
+        /// What those get who waited.
+        answers: Answers,
+        /// The record of which they got handles.
+        record: Option<Left<K, V, P>>,
+    },
+    /// To `FetchOrTake`: the label of the builder that was kept. The fetch goes on with it.
+    Later(u64),
+    /// To `Complete`, `Fail`, `Cancel` or `FetchOrTake`: that fetch is not open. Nothing has changed.
+    Lost,
+    /// To `Contains` or `Touch`: the key has a record. To `Outdated`: the handle's record left. To `IsOpen`: that
+    /// fetch is open.
     Yes,
     /// To `Contains` or `Touch`: the key has no record. To `Outdated`: a get of its key finds the handle's
-    /// record.
+    /// record. To `IsOpen`: that fetch is not open.
     No,
     /// To `Drop`: the handle was given back. To `Clear`, `EvictAll`, `FlushIf`, `Resize` or `Reconfigure`: it is
     /// done.
@@ -146,8 +167,9 @@ pub enum Answer<K, V, P> {
     PieceNo(u64),
     /// To what names a handle or a piece: none that is held has this number. Nothing has changed.
     NotHeld,
-    /// To `Insert`, `InsertPiece`, `Get`, `Touch`, `Remove`, `Clone` or `TakePiece`, and to `Clear`, `EvictAll`,
-    /// `FlushIf`, `Resize` or `Reconfigure`: why it was refused.
+    /// To `Insert`, `InsertPiece`, `Get`, `GetOrFetch`, `Touch`, `Remove`, `Clone` or `TakePiece`, to a `Complete`
+    /// whose piece could not be cloned, and to `Clear`, `EvictAll`, `FlushIf`, `Resize` or `Reconfigure`: why it was
+    /// refused.
     Refused(Error),
 }
 

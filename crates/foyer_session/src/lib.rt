@@ -1,6 +1,7 @@
 //! Sessions over a cache, and the text that a program reads and prints.
 #![tactic(auto)]
 
+pub mod answers;
 pub mod command;
 pub mod fifo_session;
 pub mod lfu_session;
@@ -12,7 +13,8 @@ pub mod sieve_session;
 pub mod sim;
 pub mod text;
 
-pub use command::{Answer, Answers, Command, Leaves, Reply};
+pub use answers::Answers;
+pub use command::{Answer, Command, End, Leaves, Reply};
 pub use fifo_session::run_fifo;
 pub use lfu_session::run_lfu;
 pub use lru_session::run_lru;

@@ -3,6 +3,7 @@
 ghost use Rattle.std.specs.Prelude.{◌≡◌, true, IfOk, IfErr, OnErr};
 ghost use Rattle.foyer_policy.specs.S3Fifo.{s3fifo};
 ghost use Rattle.foyer_policy.specs.declared.error.Reason.TheVariants.{NoMemory};
+ghost use Rattle.foyer_session.specs.Ledger.{AreAnswered, IsSettled};
 ghost use Rattle.foyer_session.specs.Observed.{IsTold};
 ghost use Rattle.foyer_session.specs.Run.{Run};
 ghost use Rattle.foyer_session.specs.Sessions.{session_of, terms_of};
@@ -33,6 +34,8 @@ pub fn run_s3fifo<
         Run (with_policy s3fifo (terms_of session.old)) Q.picks
         (session_of session.old) commands.items replies.items (session_of session.new)) }
     ensures told { IfOk result (λ replies. IsTold (terms_of session.old) (session_of session.old) replies.items (session_of session.new)) }
+    ensures settled { IfOk result (λ replies. IsSettled (terms_of session.old) (session_of session.old) commands.items replies.items (session_of session.new)) }
+    ensures answered { IfOk result (λ replies. AreAnswered (terms_of session.old) (session_of session.old) commands.items replies.items (session_of session.new)) }
     ensures refused { IfErr result (λ e. e ≡ NoMemory) }
     ensures err { OnErr result (session_of session.new ≡ session_of session.old) }
 {

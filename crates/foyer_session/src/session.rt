@@ -5,6 +5,7 @@ ghost use Rattle.foyer_policy.specs.declared.error.Reason.TheVariants.{NoMemory}
 ghost use Rattle.foyer_core.specs.Cores.{core_of, fetches_of};
 ghost use Rattle.foyer_core.specs.Idle.{NoneOpen};
 ghost use Rattle.foyer_session.specs.Owns.{OwnsHandles};
+ghost use Rattle.foyer_session.specs.Waits.{AtMost};
 
 use crate::command::{Answer, Command, Reply};
 use crate::predicate::Predicate;
@@ -13,12 +14,14 @@ use foyer_policy::{Error, Eviction, HashBuilder, Key, Properties, Reason, Result
 use std::alloc::Global;
 
 mod bulk;
+mod fetches;
 mod handle;
 mod held;
 mod insertion;
 mod keys;
 mod piece;
 mod ready;
+mod waiters;
 
 use handle::Handle;
 use ready::Ready;
@@ -39,13 +42,16 @@ pub struct Session<
     A: Filter<K, V>,
     I: Indexer<K> = HashTableIndexer<K>,
 > {
-    core: CacheCore<E, K, V, P, S, W, A, (), (), I>,
+    core: CacheCore<E, K, V, P, S, W, A, (), u64, I>,
     handles: Vec<Handle<K, V, P>>,
     pieces: Vec<Piece<K, V, P>>,
+    // how many tokens wait
+    waiting: usize,
     alloc: Global,
     ghost owns: { ∥ OwnsHandles (core_of core) handles.items ∥₁ },
-    // a session opens no fetch
-    ghost idle: { NoneOpen (fetches_of core) },
+    ghost waits: { ∥ AtMost (fetches_of core) waiting ∥₁ },
+    // each who waits has room for a handle
+    ghost room: { vec_len handles + waiting ≤ vec_capacity handles },
 }
 
 impl<
@@ -59,31 +65,35 @@ impl<
     I: Indexer<K>,
 > Session<E, K, V, P, S, W, A, I> {
     ghost use Rattle.foyer_core.specs.Core.{usage_of_core, entries_of_core};
+    ghost use Rattle.foyer_session.specs.Ledger.{AreAnswered, IsAnswered, IsSettled};
     ghost use Rattle.foyer_session.specs.Observed.{IsTold};
     ghost use Rattle.foyer_session.specs.Run.{Run};
-    ghost use Rattle.foyer_session.specs.Sessions.{session_of, meaning_of_session, terms_of};
+    ghost use Rattle.foyer_session.specs.Sessions.{session_of, meaning_of_session, taken, terms_of};
     ghost use Rattle.foyer_session.specs.Step.{NumberStep, Step};
 
     /// A session over a core, which has handed nothing out. It asks that no fetch is open in the core, as in a new
     /// one, since it has nobody to answer.
-    pub fn new(alloc: Global, core: CacheCore<E, K, V, P, S, W, A, (), (), I>) -> Self
+    pub fn new(alloc: Global, core: CacheCore<E, K, V, P, S, W, A, (), u64, I>) -> Self
         requires idle { NoneOpen (fetches_of core) }
         ensures core { (session_of result).core ≡ core_of core }
         ensures handles { (session_of result).handles ≡ [] }
         ensures pieces { (session_of result).pieces ≡ [] }
+        ensures fetches { (session_of result).fetches ≡ fetches_of core }
     {
         Session {
             core,
             handles: Vec::new(alloc),
             pieces: Vec::new(alloc),
+            waiting: 0,
             alloc,
         }
     }
 
     /// Carries out commands, each as `step` does, and answers their replies in order. So these tell what each
     /// key finds: a record that is not phantom is found from the reply that brought it in until its leave is
-    /// told. A clone of a key must equal it. Refused only for want of memory (F7), before any command, and then
-    /// nothing has changed.
+    /// told. Each token that waited or was issued waits then or was handed out once, with a handle of the record that
+    /// came in for its key with that very reply, with nothing, or with the reason why its fetch ended. A clone of a key
+    /// must equal it. Refused only for want of memory (F7), before any command, and then nothing has changed.
     pub fn run<Q: Predicate<K, V>>(
         &mut self,
         commands: Vec<Command<K, V, P, Q, E::Config>>,
@@ -92,6 +102,8 @@ impl<
         ensures run { IfOk result (λ replies.
             Run (terms_of self.old) Q.picks (session_of self.old) commands.items replies.items (session_of self.new)) }
         ensures told { IfOk result (λ replies. IsTold (terms_of self.old) (session_of self.old) replies.items (session_of self.new)) }
+        ensures settled { IfOk result (λ replies. IsSettled (terms_of self.old) (session_of self.old) commands.items replies.items (session_of self.new)) }
+        ensures answered { IfOk result (λ replies. AreAnswered (terms_of self.old) (session_of self.old) commands.items replies.items (session_of self.new)) }
         ensures refused { IfErr result (λ e. e ≡ NoMemory) }
         ensures err { OnErr result (session_of self.new ≡ session_of self.old) }
     {
@@ -110,8 +122,8 @@ impl<
 
     /// Carries out one command. The reply tells what each key finds then: a leave takes its key out where the
     /// key found that record, and then the record that an insert let in goes in under its key, unless it is
-    /// phantom. A clone of a key must equal it. Refused only for want of memory (F7), before the command, and
-    /// then nothing has changed.
+    /// phantom. The tokens of those who wait are settled and answered as `run` says. A clone of a key must equal it.
+    /// Refused only for want of memory (F7), before the command, and then nothing has changed.
     pub fn step<Q: Predicate<K, V>>(
         &mut self,
         command: Command<K, V, P, Q, E::Config>,
@@ -120,6 +132,8 @@ impl<
         ensures step { IfOk result (λ reply.
             Step (terms_of self.old) Q.picks (session_of self.old) command reply.answer reply.leaves (session_of self.new)) }
         ensures told { IfOk result (λ reply. IsTold (terms_of self.old) (session_of self.old) (reply ∷ []) (session_of self.new)) }
+        ensures settled { IfOk result (λ reply. IsSettled (terms_of self.old) (session_of self.old) (command ∷ []) (reply ∷ []) (session_of self.new)) }
+        ensures answered { IfOk result (λ reply. IsAnswered (terms_of self.old) (session_of self.old) command reply.answer (session_of self.new)) }
         ensures refused { IfErr result (λ e. e ≡ NoMemory) }
         ensures err { OnErr result (session_of self.new ≡ session_of self.old) }
     {
@@ -142,15 +156,19 @@ impl<
         self.core.entries()
     }
 
-    // Makes room for what so many commands may hand out: two handles and one piece each. Only memory can be
-    // missing (F7).
+    // Makes room for what so many commands may hand out, two handles and one piece each, beside a handle for each who
+    // waits. Only memory can be missing (F7).
     fn make_room(&mut self, commands: usize) -> Result<()>
         ensures session { session_of self.new ≡ session_of self.old }
-        ensures handles { OnOk result (vec_len self.new.handles + 2 * commands ≤ vec_capacity self.new.handles) }
+        ensures handles { OnOk result (taken self.new + 2 * commands ≤ vec_capacity self.new.handles) }
+        ensures taken { taken self.new ≡ taken self.old }
         ensures pieces { OnOk result (vec_len self.new.pieces + commands ≤ vec_capacity self.new.pieces) }
         ensures refused { IfErr result (λ e. e ≡ NoMemory) }
     {
-        let Some(handles) = commands.checked_mul(2) else {
+        let Some(more) = commands.checked_mul(2) else {
+            return Err(Error::new(Reason::NoMemory));
+        };
+        let Some(handles) = more.checked_add(self.waiting) else {
             return Err(Error::new(Reason::NoMemory));
         };
         let Ok(()) = self.handles.reserve(handles) else {
@@ -175,11 +193,11 @@ impl<
         ready: Ready<K, V, P, Q, E::Config>,
     ) -> Reply<K, V, P>
         requires clones { (k c : K) → K.is_clone k c → K.eq c k ≡ true }
-        requires room { vec_len self.old.handles < vec_capacity self.old.handles }
+        requires room { taken self.old < vec_capacity self.old.handles }
         requires piece { vec_len self.old.pieces < vec_capacity self.old.pieces }
         ensures step { Step (terms_of self.old) Q.picks
             (session_of self.old) ready.command result.answer result.leaves (session_of self.new) }
-        ensures len { vec_len self.new.handles ≤ vec_len self.old.handles + 1 }
+        ensures taken { taken self.new ≤ taken self.old + 1 }
         ensures capacity { vec_capacity self.new.handles ≡ vec_capacity self.old.handles }
         ensures pieces_len { vec_len self.new.pieces ≤ vec_len self.old.pieces + 1 }
         ensures pieces_capacity { vec_capacity self.new.pieces ≡ vec_capacity self.old.pieces }
@@ -197,6 +215,14 @@ impl<
             Command::InsertPiece(number) => self.insert_piece(number),
             Command::Refs(number) => self.refs(number),
             Command::Outdated(number) => self.is_outdated(number),
+            Command::GetOrFetch(key, later) => self.get_or_fetch(&key, later),
+            Command::Complete(key, fetch, end) => self.complete(&key, fetch, end),
+            Command::Fail(key, fetch, fault) => self.end(&key, fetch, Some(fault)),
+            Command::Cancel(key, fetch) => self.end(&key, fetch, None),
+            Command::FetchOrTake(key, fetch, outcome) => {
+                self.fetch_or_take(&key, fetch, outcome)
+            }
+            Command::IsOpen(key, fetch) => self.is_open(&key, fetch),
             Command::Clear => self.clear(),
             Command::EvictAll => self.evict_all(),
             Command::FlushIf(predicate) => self.flush_if(&predicate),

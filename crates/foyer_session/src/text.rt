@@ -40,6 +40,12 @@ pub enum Line {
     Resize(usize),
     /// `high N D`, of the share `N / D`, each below 2^32.
     High(Ratio),
+    /// `fetch K`.
+    Fetch(u64),
+    /// `done K F V`, the end of the key's fetch of the number F with a value of the weight 1.
+    Done { key: u64, fetch: u64, value: u64 },
+    /// `cancel K F`, the end of the key's fetch of the number F without one.
+    Cancel { key: u64, fetch: u64 },
     /// Any other line.
     Bad,
 }

@@ -5,6 +5,8 @@
 #[cfg(test)]
 mod args;
 #[cfg(test)]
+mod fetches;
+#[cfg(test)]
 mod flushes;
 #[cfg(test)]
 mod high;

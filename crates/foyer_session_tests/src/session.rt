@@ -12,6 +12,7 @@ use std::process::Abort;
 use std::test::Fail;
 
 mod bulk;
+mod fetches;
 mod filter;
 mod index;
 mod pieces;

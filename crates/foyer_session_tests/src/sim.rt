@@ -7,7 +7,15 @@ use std::alloc::Global;
 use std::io::{BufRead, ErrorKind};
 use std::test::Fail;
 
-type SimSession<E> = Session<E, u64, SimValue, CacheProperties, ModHasher, SimWeighter, AdmitAll>;
+pub type SimSession<E> = Session<
+    E,
+    u64,
+    SimValue,
+    CacheProperties,
+    ModHasher,
+    SimWeighter,
+    AdmitAll,
+>;
 
 // A session over an empty core of so many shards.
 fn session_over<E: Eviction>(
@@ -30,7 +38,7 @@ fn session_over<E: Eviction>(
 }
 
 // Over an empty core of one shard.
-fn session<E: Eviction>(
+pub fn session<E: Eviction>(
     alloc: Global,
     capacity: usize,
     limits: Limits,
@@ -39,7 +47,7 @@ fn session<E: Eviction>(
 }
 
 // What is printed for these lines by a cache of this capacity, of so many shards, and of this policy.
-fn printed_over<E: Eviction, R: BufRead>(
+pub fn printed_over<E: Eviction, R: BufRead>(
     alloc: Global,
     capacity: usize,
     shards: usize,

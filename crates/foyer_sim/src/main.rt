@@ -90,7 +90,7 @@ fn run_policy<E: Eviction, H: HighRatio<E::Config>>(
         number: 0,
         limits: Limits::default(),
     };
-    let Ok(core) = CacheCore::<E, _, _, _, _, _, _, _>::new(alloc, config) else {
+    let Ok(core) = CacheCore::<E, _, _, _, _, _, _, _, u64>::new(alloc, config) else {
         return Err(Failure::Memory);
     };
     let mut session = Session::new(alloc, core);

@@ -18,12 +18,12 @@ impl<
     A: Filter<K, V>,
     I: Indexer<K>,
 > Session<E, K, V, P, S, W, A, I> {
-    ghost use Rattle.foyer_session.specs.Sessions.{session_of, terms_of};
+    ghost use Rattle.foyer_session.specs.Sessions.{session_of, taken, terms_of};
     ghost use Rattle.foyer_session.specs.Step.{ClearStep, EvictAllStep, FlushIfStep, ResizeStep, ReconfigureStep};
 
     pub(super) fn clear(&mut self) -> Reply<K, V, P>
         ensures step { ClearStep (terms_of self.old) (session_of self.old) result.answer result.leaves (session_of self.new) }
-        ensures len { vec_len self.new.handles ≡ vec_len self.old.handles }
+        ensures taken { taken self.new ≡ taken self.old }
         ensures capacity { vec_capacity self.new.handles ≡ vec_capacity self.old.handles }
         ensures pieces { self.new.pieces ≡ self.old.pieces }
     {
@@ -35,7 +35,7 @@ impl<
 
     pub(super) fn evict_all(&mut self) -> Reply<K, V, P>
         ensures step { EvictAllStep (terms_of self.old) (session_of self.old) result.answer result.leaves (session_of self.new) }
-        ensures len { vec_len self.new.handles ≡ vec_len self.old.handles }
+        ensures taken { taken self.new ≡ taken self.old }
         ensures capacity { vec_capacity self.new.handles ≡ vec_capacity self.old.handles }
         ensures pieces { self.new.pieces ≡ self.old.pieces }
     {
@@ -50,7 +50,7 @@ impl<
 
     pub(super) fn flush_if<Q: Predicate<K, V>>(&mut self, predicate: &Q) -> Reply<K, V, P>
         ensures step { FlushIfStep (terms_of self.old) (session_of self.old) (Q.picks predicate.now) result.answer result.leaves (session_of self.new) }
-        ensures len { vec_len self.new.handles ≡ vec_len self.old.handles }
+        ensures taken { taken self.new ≡ taken self.old }
         ensures capacity { vec_capacity self.new.handles ≡ vec_capacity self.old.handles }
         ensures pieces { self.new.pieces ≡ self.old.pieces }
     {
@@ -65,7 +65,7 @@ impl<
 
     pub(super) fn resize(&mut self, capacity: usize) -> Reply<K, V, P>
         ensures step { ResizeStep (terms_of self.old) (session_of self.old) capacity result.answer result.leaves (session_of self.new) }
-        ensures len { vec_len self.new.handles ≡ vec_len self.old.handles }
+        ensures taken { taken self.new ≡ taken self.old }
         ensures capacity { vec_capacity self.new.handles ≡ vec_capacity self.old.handles }
         ensures pieces { self.new.pieces ≡ self.old.pieces }
     {
@@ -80,7 +80,7 @@ impl<
 
     pub(super) fn reconfigure(&mut self, config: &E::Config) -> Reply<K, V, P>
         ensures step { ReconfigureStep (terms_of self.old) (session_of self.old) config.now result.answer result.leaves (session_of self.new) }
-        ensures len { vec_len self.new.handles ≡ vec_len self.old.handles }
+        ensures taken { taken self.new ≡ taken self.old }
         ensures capacity { vec_capacity self.new.handles ≡ vec_capacity self.old.handles }
         ensures pieces { self.new.pieces ≡ self.old.pieces }
     {

@@ -21,14 +21,14 @@ impl<
     A: Filter<K, V>,
     I: Indexer<K>,
 > Session<E, K, V, P, S, W, A, I> {
-    ghost use Rattle.foyer_session.specs.Sessions.{session_of, terms_of};
+    ghost use Rattle.foyer_session.specs.Sessions.{session_of, taken, terms_of};
     ghost use Rattle.foyer_session.specs.Step.{CloneStep, DropStep, TakePieceStep, RefsStep, OutdatedStep};
 
     // Hands out one more handle of the record of a handle.
     pub(super) fn clone_handle(&mut self, number: u64) -> Reply<K, V, P>
-        requires room { vec_len self.old.handles < vec_capacity self.old.handles }
+        requires room { taken self.old < vec_capacity self.old.handles }
         ensures step { CloneStep (terms_of self.old) (session_of self.old) number result.answer result.leaves (session_of self.new) }
-        ensures len { vec_len self.new.handles ≤ vec_len self.old.handles + 1 }
+        ensures taken { taken self.new ≤ taken self.old + 1 }
         ensures capacity { vec_capacity self.new.handles ≡ vec_capacity self.old.handles }
         ensures pieces { self.new.pieces ≡ self.old.pieces }
     {
@@ -53,7 +53,7 @@ impl<
         requires empty { vec_len leaves ≡ 0 }
         requires room { 0 < vec_capacity leaves }
         ensures step { DropStep (terms_of self.old) (session_of self.old) number result.answer result.leaves (session_of self.new) }
-        ensures len { vec_len self.new.handles ≡ vec_len self.old.handles }
+        ensures taken { taken self.new ≡ taken self.old }
         ensures capacity { vec_capacity self.new.handles ≡ vec_capacity self.old.handles }
         ensures pieces { self.new.pieces ≡ self.old.pieces }
     {
@@ -74,6 +74,7 @@ impl<
         requires room { vec_len self.old.pieces < vec_capacity self.old.pieces }
         ensures step { TakePieceStep (terms_of self.old) (session_of self.old) number result.answer result.leaves (session_of self.new) }
         ensures handles { self.new.handles ≡ self.old.handles }
+        ensures taken { taken self.new ≡ taken self.old }
         ensures len { vec_len self.new.pieces ≤ vec_len self.old.pieces + 1 }
         ensures capacity { vec_capacity self.new.pieces ≡ vec_capacity self.old.pieces }
     {
@@ -124,7 +125,7 @@ fn clone_held<
     A: Filter<K, V>,
     I: Indexer<K>,
 >(
-    core: &mut CacheCore<E, K, V, P, S, W, A, (), (), I>,
+    core: &mut CacheCore<E, K, V, P, S, W, A, (), u64, I>,
     entry: &CoreEntry<K, V, P>,
 ) -> Result<CoreEntry<K, V, P>>
     requires owned { Owns (core_of core.old) entry.now }

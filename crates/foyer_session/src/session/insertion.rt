@@ -1,17 +1,17 @@
 //! What a session takes in.
 
-ghost use Rattle.std.specs.Prelude.{◌≡◌, ◌+◌, ◌<◌, ◌≤◌, ◌++◌, ◌∷◌, [], Some, true, false, length, vec_len, vec_capacity};
-ghost use Rattle.foyer_core.specs.Cores.{core_of, fetches_of};
-ghost use Rattle.foyer_core.specs.Waited.{entries_got};
-ghost use Rattle.foyer_session.specs.Step.{record_of};
+ghost use Rattle.std.specs.Prelude.{◌≡◌, ◌+◌, ◌<◌, ◌≤◌, ◌++◌, Some, length, replicate, true, vec_len, vec_capacity};
+ghost use Rattle.foyer_core.specs.Waited.{entries_in};
+ghost use Rattle.foyer_session.specs.Step.{given, record_of};
+ghost use Rattle.foyer_session.specs.Tokens.{handles_from, numbers_of};
 ghost use Rattle.foyer_session.specs.declared.command.Answer.TheVariants.{Entry, Refused as RefusedAnswer};
 
 use super::handle::{self, Handle};
+use super::waiters::answer_all;
 use super::{Session, piece};
-use crate::command::{Answer, Answers, Reply};
-use foyer_core::{CacheCore, Filter, Indexer, Inserted, Refused, Weighter};
+use crate::command::{Answer, Reply};
+use foyer_core::{Filter, Indexer, Inserted, Refused, Weighter};
 use foyer_policy::{Error, Eviction, HashBuilder, Key, Properties, Reason, Value};
-use std::alloc::Global;
 
 impl<
     E: Eviction,
@@ -23,21 +23,19 @@ impl<
     A: Filter<K, V>,
     I: Indexer<K>,
 > Session<E, K, V, P, S, W, A, I> {
-    ghost use Rattle.foyer_session.specs.Sessions.{session_of, terms_of};
+    ghost use Rattle.foyer_session.specs.Sessions.{session_of, taken, terms_of};
     ghost use Rattle.foyer_session.specs.Step.{InsertPieceStep, InsertStep};
 
     pub(super) fn insert(&mut self, key: K, value: V, properties: P) -> Reply<K, V, P>
         requires clones { (k c : K) → K.is_clone k c → K.eq c k ≡ true }
-        requires room { vec_len self.old.handles < vec_capacity self.old.handles }
+        requires room { taken self.old < vec_capacity self.old.handles }
         ensures step { InsertStep (terms_of self.old) (session_of self.old) key value properties result.answer result.leaves (session_of self.new) }
-        ensures len { vec_len self.new.handles ≤ vec_len self.old.handles + 1 }
+        ensures taken { taken self.new ≤ taken self.old + 1 }
         ensures capacity { vec_capacity self.new.handles ≡ vec_capacity self.old.handles }
         ensures pieces { self.new.pieces ≡ self.old.pieces }
     {
         match self.core.insert_with_properties(key, value, properties) {
-            Ok(inserted) => {
-                tell_inserted(self.alloc, &mut self.core, &mut self.handles, inserted)
-            }
+            Ok(inserted) => tell_inserted(&mut self.handles, &mut self.waiting, inserted),
             Err(refused) => tell_refused(refused),
         }
     }
@@ -45,9 +43,9 @@ impl<
     // Inserts a clone of the piece of a number, which stays held.
     pub(super) fn insert_piece(&mut self, number: u64) -> Reply<K, V, P>
         requires clones { (k c : K) → K.is_clone k c → K.eq c k ≡ true }
-        requires room { vec_len self.old.handles < vec_capacity self.old.handles }
+        requires room { taken self.old < vec_capacity self.old.handles }
         ensures step { InsertPieceStep (terms_of self.old) (session_of self.old) number result.answer result.leaves (session_of self.new) }
-        ensures len { vec_len self.new.handles ≤ vec_len self.old.handles + 1 }
+        ensures taken { taken self.new ≤ taken self.old + 1 }
         ensures capacity { vec_capacity self.new.handles ≡ vec_capacity self.old.handles }
         ensures pieces { self.new.pieces ≡ self.old.pieces }
     {
@@ -59,48 +57,36 @@ impl<
             return Reply::new(Answer::Refused(error), Vec::new(self.alloc));
         };
         match self.core.insert_piece(piece) {
-            Ok(inserted) => {
-                tell_inserted(self.alloc, &mut self.core, &mut self.handles, inserted)
-            }
+            Ok(inserted) => tell_inserted(&mut self.handles, &mut self.waiting, inserted),
             Err(refused) => tell_refused(refused),
         }
     }
 }
 
-// Hands the entry of a record out that came in. Nobody gets one beside.
-fn tell_inserted<
-    E: Eviction,
-    K: Key,
-    V: Value,
-    P: Properties,
-    S: HashBuilder,
-    W: Weighter<K, V>,
-    A: Filter<K, V>,
-    I: Indexer<K>,
->(
-    alloc: Global,
-    core: &mut CacheCore<E, K, V, P, S, W, A, (), (), I>,
+// Hands out the entry of a record that came in, after those of who waited for its key.
+fn tell_inserted<K: Drop, V: Drop, P: Drop>(
     handles: &mut Vec<Handle<K, V, P>>,
+    waiting: &mut usize,
     inserted: Inserted<K, V, P, ()>,
 ) -> Reply<K, V, P>
-    requires room { vec_len handles.old < vec_capacity handles.old }
-    requires nobody { entries_got inserted.answers.outcome ≡ [] }
+    requires room { vec_len handles.old + vec_len inserted.answers.waiters < vec_capacity handles.old }
+    requires counted { vec_len inserted.answers.waiters ≤ waiting.old }
     requires untold { inserted.entry.left ≡ true }
-    ensures answer { result.answer ≡ Entry (length handles.old.items) (record_of inserted.entry) [] }
+    requires each { entries_in inserted.answers.outcome ≡ Some (replicate (length inserted.answers.waiters.items) inserted.entry) }
+    ensures answer { result.answer ≡ Entry (length handles.old.items + length inserted.answers.waiters.items) (record_of inserted.entry)
+        (handles_from (length handles.old.items) (numbers_of inserted.answers.waiters.items)) }
     ensures leaves { result.leaves ≡ inserted.leaves.items }
-    ensures handles { handles.new.items ≡ handles.old.items ++ Some (record inserted.entry { left = false }) ∷ [] }
+    ensures handles { handles.new.items ≡ handles.old.items ++ replicate (1 + length inserted.answers.waiters.items) (given inserted.entry) }
+    ensures waiting { waiting.new + vec_len inserted.answers.waiters ≡ waiting.old }
     ensures capacity { vec_capacity handles.new ≡ vec_capacity handles.old }
-    ensures core { core_of core.new ≡ core_of core.old }
-    ensures fetches { fetches_of core.new ≡ fetches_of core.old }
 {
     let Inserted {
         entry,
         answers,
         leaves,
     } = inserted;
-    core.drop_answers(answers);
+    let (answers, _) = answer_all(handles, waiting, answers);
     let (handle, record) = handle::hand_out(handles, entry);
-    let answers = Answers::new(Vec::new(alloc));
     let answer = Answer::Entry {
         handle,
         record,

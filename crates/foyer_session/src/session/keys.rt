@@ -18,13 +18,13 @@ impl<
     A: Filter<K, V>,
     I: Indexer<K>,
 > Session<E, K, V, P, S, W, A, I> {
-    ghost use Rattle.foyer_session.specs.Sessions.{session_of, terms_of};
+    ghost use Rattle.foyer_session.specs.Sessions.{session_of, taken, terms_of};
     ghost use Rattle.foyer_session.specs.Step.{GetStep, ContainsStep, TouchStep, RemoveStep};
 
     pub(super) fn get(&mut self, key: &K) -> Reply<K, V, P>
-        requires room { vec_len self.old.handles < vec_capacity self.old.handles }
+        requires room { taken self.old < vec_capacity self.old.handles }
         ensures step { GetStep (terms_of self.old) (session_of self.old) key.now result.answer result.leaves (session_of self.new) }
-        ensures len { vec_len self.new.handles ≤ vec_len self.old.handles + 1 }
+        ensures taken { taken self.new ≤ taken self.old + 1 }
         ensures capacity { vec_capacity self.new.handles ≡ vec_capacity self.old.handles }
         ensures pieces { self.new.pieces ≡ self.old.pieces }
     {
@@ -51,7 +51,7 @@ impl<
 
     pub(super) fn touch(&mut self, key: &K) -> Reply<K, V, P>
         ensures step { TouchStep (terms_of self.old) (session_of self.old) key.now result.answer result.leaves (session_of self.new) }
-        ensures len { vec_len self.new.handles ≡ vec_len self.old.handles }
+        ensures taken { taken self.new ≡ taken self.old }
         ensures capacity { vec_capacity self.new.handles ≡ vec_capacity self.old.handles }
         ensures pieces { self.new.pieces ≡ self.old.pieces }
     {
@@ -64,11 +64,11 @@ impl<
 
     // Takes the key's record out, where there is one. Its leave has room in `leaves`.
     pub(super) fn remove(&mut self, key: &K, leaves: Vec<(Event, Left<K, V, P>)>) -> Reply<K, V, P>
-        requires room { vec_len self.old.handles < vec_capacity self.old.handles }
+        requires room { taken self.old < vec_capacity self.old.handles }
         requires empty { vec_len leaves ≡ 0 }
         requires leave { 0 < vec_capacity leaves }
         ensures step { RemoveStep (terms_of self.old) (session_of self.old) key.now result.answer result.leaves (session_of self.new) }
-        ensures len { vec_len self.new.handles ≤ vec_len self.old.handles + 1 }
+        ensures taken { taken self.new ≤ taken self.old + 1 }
         ensures capacity { vec_capacity self.new.handles ≡ vec_capacity self.old.handles }
         ensures pieces { self.new.pieces ≡ self.old.pieces }
     {

@@ -56,6 +56,12 @@ fn room_for<K: Drop, V: Drop, P: Drop, Q: Drop, C: Drop>(
         | Command::InsertPiece(_)
         | Command::Refs(_)
         | Command::Outdated(_)
+        | Command::GetOrFetch(_, _)
+        | Command::Complete(_, _, _)
+        | Command::Fail(_, _, _)
+        | Command::Cancel(_, _)
+        | Command::FetchOrTake(_, _, _)
+        | Command::IsOpen(_, _)
         | Command::Clear
         | Command::EvictAll
         | Command::FlushIf(_)

@@ -7,22 +7,37 @@ ghost use Rattle.foyer_session.specs.Print.{WritesText};
 ghost use Rattle.foyer_core.specs.Values.{Answered};
 ghost use Rattle.foyer_session.specs.Printed.{answer_text, refusal_text, rest_text};
 ghost use Rattle.foyer_session.specs.Sessions.{session_of, meaning_of_session};
-ghost use Rattle.foyer_session.specs.Simulated.{CommandTold, LineTold, line_text, plain, phantom};
-ghost use Rattle.foyer_session.specs.declared.command.Command.TheVariants.{Insert};
+ghost use Rattle.foyer_policy.specs.declared.types.Source.TheVariants.{Outer};
+ghost use Rattle.foyer_session.specs.Simulated.{CommandTold, LineTold, asked_by, line_text, plain, phantom};
+ghost use Rattle.foyer_session.specs.declared.command.Command.TheVariants.{Complete, Insert};
+ghost use Rattle.foyer_session.specs.declared.command.End.TheVariants.{Value};
 
 use super::high::HighRatio;
 use super::reply::{write_answer, write_refusal, write_rest};
 use super::value::{SimValue, SimWeighter};
-use crate::command::{Command, Reply};
+use crate::command::{Command, End, Reply};
 use crate::predicate::NoPredicate;
 use crate::session::Session;
 use crate::text::{Line, write_out};
 use foyer_core::{AdmitAll, CacheProperties, Indexer};
-use foyer_policy::{Error, Eviction, HashBuilder, Properties, Reason};
+use foyer_policy::{Error, Eviction, HashBuilder, Properties, Reason, Source};
 use std::io;
 use std::io::Write;
 
 type SimCommand<C> = Command<u64, SimValue, CacheProperties, NoPredicate, C>;
+
+/// What a line asks for.
+#[derive(Drop)]
+pub enum Asked<C> {
+    /// Nothing, and nothing is printed.
+    Nothing,
+    /// Nothing that there is.
+    NoLine,
+    /// A share of the pool of high priority, of a policy that has none.
+    NoPool,
+    /// That a command be carried out.
+    Carry(SimCommand<C>),
+}
 
 /// Carries out a line, and writes what is printed for it.
 pub fn tell<W: Write, E: Eviction, S: HashBuilder, I: Indexer<u64>, H: HighRatio<E::Config>>(
@@ -35,27 +50,38 @@ pub fn tell<W: Write, E: Eviction, S: HashBuilder, I: Indexer<u64>, H: HighRatio
         × LineTold (meaning_of_session session.old) (λ builder key. S.hash_of builder (u64_input key)) (H.config_of high.now) (session_of session.old) line text (session_of session.new)
         × WritesText (W.contents writer.old) (W.contents writer.new) result text }
 {
+    match asked_by(high, line) {
+        Asked::Nothing => Ok(()),
+        Asked::NoLine => tell_bad(writer, session),
+        Asked::NoPool => tell_wrong_policy(writer, session),
+        Asked::Carry(command) => tell_command(writer, session, command),
+    }
+}
+
+// What a line asks for, by a policy whose configurations of shares are those of `high`.
+fn asked_by<C, H: HighRatio<C>>(high: &H, line: Line) -> Asked<C>
+    ensures { result ≡ asked_by (H.config_of high.now) line }
+{
     match line {
-        Line::Blank => Ok(()),
-        Line::Bad => tell_bad(writer, session),
-        Line::Insert { key, value, weight } => {
-            tell_command(writer, session, plain_insert(key, value, weight))
-        }
-        Line::Phantom { key, value, weight } => {
-            tell_command(writer, session, phantom_insert(key, value, weight))
-        }
-        Line::Get(key) => tell_command(writer, session, Command::Get(key)),
-        Line::Contains(key) => tell_command(writer, session, Command::Contains(key)),
-        Line::Touch(key) => tell_command(writer, session, Command::Touch(key)),
-        Line::Remove(key) => tell_command(writer, session, Command::Remove(key)),
-        Line::Drop(number) => tell_command(writer, session, Command::Drop(number)),
-        Line::Clear => tell_command(writer, session, Command::Clear),
-        Line::Evict => tell_command(writer, session, Command::EvictAll),
-        Line::Resize(capacity) => tell_command(writer, session, Command::Resize(capacity)),
+        Line::Blank => Asked::Nothing,
+        Line::Bad => Asked::NoLine,
+        Line::Insert { key, value, weight } => Asked::Carry(plain_insert(key, value, weight)),
+        Line::Phantom { key, value, weight } => Asked::Carry(phantom_insert(key, value, weight)),
+        Line::Get(key) => Asked::Carry(Command::Get(key)),
+        Line::Contains(key) => Asked::Carry(Command::Contains(key)),
+        Line::Touch(key) => Asked::Carry(Command::Touch(key)),
+        Line::Remove(key) => Asked::Carry(Command::Remove(key)),
+        Line::Drop(number) => Asked::Carry(Command::Drop(number)),
+        Line::Clear => Asked::Carry(Command::Clear),
+        Line::Evict => Asked::Carry(Command::EvictAll),
+        Line::Resize(capacity) => Asked::Carry(Command::Resize(capacity)),
         Line::High(ratio) => match high.config(ratio) {
-            Some(config) => tell_command(writer, session, Command::Reconfigure(config)),
-            None => tell_wrong_policy(writer, session),
+            Some(config) => Asked::Carry(Command::Reconfigure(config)),
+            None => Asked::NoPool,
         },
+        Line::Fetch(key) => Asked::Carry(Command::GetOrFetch(key, None)),
+        Line::Done { key, fetch, value } => Asked::Carry(completion(key, fetch, value)),
+        Line::Cancel { key, fetch } => Asked::Carry(Command::Cancel(key, fetch)),
     }
 }
 
@@ -72,6 +98,18 @@ fn phantom_insert<C>(key: u64, value: u64, weight: usize) -> SimCommand<C>
 {
     let properties = CacheProperties::default().with_phantom(true);
     Command::Insert(key, SimValue { value, weight }, properties)
+}
+
+// The end of a fetch with a plain record of the weight 1, which comes from outside.
+fn completion<C>(key: u64, fetch: u64, value: u64) -> SimCommand<C>
+    ensures { result ≡ Complete key fetch (Value (record { value = value; weight = 1 }) plain Outer) }
+{
+    let value = SimValue { value, weight: 1 };
+    Command::Complete(
+        key,
+        fetch,
+        End::Value(value, CacheProperties::default(), Source::Outer),
+    )
 }
 
 // Carries out a command. Where memory was missing for it, nothing has changed.

@@ -1,7 +1,7 @@
 //! A line as a command.
 
 ghost use Rattle.std.specs.Prelude.{◌≡◌, ◌≢◌, ◌<◌, ◌≤◌, ◌∷◌, [], All, IfSome, IfNone, bytes_eq, length, slice_index, take};
-ghost use Rattle.foyer_session.specs.Text.{words, line_of, line_with_none, line_with_one, line_with_two, line_with_three, high_line};
+ghost use Rattle.foyer_session.specs.Text.{words, line_of, line_with_none, line_with_one, line_with_two, line_with_three, high_line, insert_line};
 
 use super::Line;
 use super::number::number_of;
@@ -33,7 +33,7 @@ pub fn line_of(line: &[u8]) -> Line
         return Line::Bad;
     };
     match next_word(rest) {
-        None => with_three(verb, first, second, third as usize),
+        None => with_three(verb, first, second, third),
         Some(_) => Line::Bad,
     }
 }
@@ -69,20 +69,28 @@ fn with_one(verb: &[u8], number: u64) -> Line
         Line::Drop(number)
     } else if is_word(verb, b"resize") {
         Line::Resize(number as usize)
+    } else if is_word(verb, b"fetch") {
+        Line::Fetch(number)
     } else {
         Line::Bad
     }
 }
 
 // The line of a first word and two numbers. A weight that is left out is 1.
-#[tactic(auto, unfolding(crate::specs::Text::line_with_two, crate::specs::Text::line_with_three))]
+#[tactic(auto, unfolding(crate::specs::Text::line_with_two))]
 fn with_two(verb: &[u8], first: u64, second: u64) -> Line
     ensures { result ≡ line_with_two verb.now first second }
 {
     if is_word(verb, b"high") {
-        return high(first, second);
+        high(first, second)
+    } else if is_word(verb, b"cancel") {
+        Line::Cancel {
+            key: first,
+            fetch: second,
+        }
+    } else {
+        insert(verb, first, second, 1)
     }
-    with_three(verb, first, second, 1)
 }
 
 // The line of a share, whose numbers are below 2^32.
@@ -97,8 +105,24 @@ fn high(num: u64, den: u64) -> Line
 
 // The line of a first word and three numbers.
 #[tactic(auto, unfolding(crate::specs::Text::line_with_three))]
-fn with_three(verb: &[u8], key: u64, value: u64, weight: usize) -> Line
-    ensures { result ≡ line_with_three verb.now key value weight }
+fn with_three(verb: &[u8], first: u64, second: u64, third: u64) -> Line
+    ensures { result ≡ line_with_three verb.now first second third }
+{
+    if is_word(verb, b"done") {
+        Line::Done {
+            key: first,
+            fetch: second,
+            value: third,
+        }
+    } else {
+        insert(verb, first, second, third as usize)
+    }
+}
+
+// The line of a record that is to come in.
+#[tactic(auto, unfolding(crate::specs::Text::insert_line))]
+fn insert(verb: &[u8], key: u64, value: u64, weight: usize) -> Line
+    ensures { result ≡ insert_line verb.now key value weight }
 {
     if is_word(verb, b"insert") {
         Line::Insert { key, value, weight }

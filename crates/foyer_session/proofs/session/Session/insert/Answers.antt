@@ -1,47 +1,64 @@
 use Rattle.std.proofs.Math.Logic.{∥∥₁_elim, ∥∥₁_map}
 use Rattle.std.proofs.Props.{props}
-use Rattle.std.proofs.Common.{Some, Ok, Err, [], ◌∷◌, ◌++◌, false, refl}
+use Rattle.std.proofs.Common.{◌≡◌, ◌+◌, ◌%◌, ◌++◌, ℕ, List, Ok, Err, length, refl, replicate, sym, ap, ◌∙◌, arith}
 use Rattle.foyer_policy.specs.declared.types.Source.TheVariants.{Outer}
-use Rattle.foyer_core.specs.Core.{InsertsAnswering}
-use Rattle.foyer_core.specs.CoreFetches.{at_hash}
+use Rattle.foyer_core.specs.Core.{InsertsAnswering, shard_of}
+use Rattle.foyer_core.specs.CoreFetches.{place_in}
 use Rattle.foyer_core.specs.Cores.{core_of, fetches_of, hashes_of}
-use Rattle.foyer_core.specs.Inflight.{closed}
+use Rattle.foyer_core.specs.Inflight.{waiters_of}
 use Rattle.foyer_core.specs.Steps.{newcomer}
 use Rattle.foyer_core.specs.Waited.{denied_of, made_of}
-use Rattle.foyer_core.proofs.IdleLemmas.{closed_idle, idle_answers, idle_weighed, still_idle}
 use Rattle.foyer_session.specs.Sessions.{session_of, meaning_of_session, terms_of}
-use Rattle.foyer_session.specs.Step.{data_of}
-use Rattle.foyer_session.proofs.CoreLemmas.{kept_at}
+use Rattle.foyer_session.specs.Step.{data_of, given}
+use Rattle.foyer_session.specs.Tokens.{handles_from, numbers_of}
+use Rattle.foyer_session.proofs.CoreLemmas.{kept_at, open_at}
+use Rattle.foyer_session.proofs.CountLemmas.{refused_by_alike}
 use Rattle.foyer_session.proofs.FoundLemmas.{next_unused}
-use Rattle.foyer_session.proofs.StepLemmas.{at_still, inserted_owns, owns_still, refused_owns}
+use Rattle.foyer_session.proofs.PieceLemmas.{inserts_gives}
+use Rattle.foyer_session.proofs.StepLemmas.{given_owns, stayed_owns}
+use Rattle.foyer_session.proofs.WaitsLemmas.{closed_waiting, still_waiting, waiting_counted}
 use Rattle.foyer_session.proofs.session.Session.insert.Goals as goal
 
-pub tell_inserted-requires-clause-nobody : goal.tell_inserted-requires-clause-nobody
-tell_inserted-requires-clause-nobody g c κs within =
+pub tell_inserted-requires-clause-counted : goal.tell_inserted-requires-clause-counted
+tell_inserted-requires-clause-counted g c =
     let s = c.args.self.now in
-    let made = c.in-Ok.inserted in
-    idle_answers (fetches_of s.core) s.idle made.entry made.answers (hashes_of s.core c.args.key, c.args.key) c.in-Ok.ensures.answers
+    let hash = hashes_of s.core c.args.key in
+    let few = waiting_counted g.K.PartialEq.eq (fetches_of s.core) (open_at s.core) (hash, c.args.key) hash refl s.waiting s.waits in
+    omega (arith, few, ap length c.in-Ok.ensures.answers.0, c.in-Ok.inserted.answers.waiters.ok.0)
 
-pub invariant_of-self : goal.invariant_of-self
-invariant_of-self g c =
+pub tell_inserted-requires-clause-room : goal.tell_inserted-requires-clause-room
+tell_inserted-requires-clause-room g c =
+    let s = c.args.self.now in
+    let hash = hashes_of s.core c.args.key in
+    let few = waiting_counted g.K.PartialEq.eq (fetches_of s.core) (open_at s.core) (hash, c.args.key) hash refl s.waiting s.waits in
+    omega (arith, few, ap length c.in-Ok.ensures.answers.0, c.in-Ok.inserted.answers.waiters.ok.0, c.requires.room)
+
+pub tell_inserted-requires-clause-each : goal.tell_inserted-requires-clause-each
+tell_inserted-requires-clause-each g c = (let each = c.in-Ok.ensures.answers in rw each.0 each.1)
+
+pub invariant_of-self-clause-owns : goal.invariant_of-self-clause-owns
+invariant_of-self-clause-owns g c =
     let s = c.args.self.now in
     let m = meaning_of_session s in
     let made = c.in-Ok.inserted in
-    let mid = core_of c.insert_with_properties.new.self in
+    let new = core_of c.insert_with_properties.new.self in
     let told = c.tell_inserted.ensures in
+    let did = c.in-Ok.ensures.inserted in
+    let each = c.in-Ok.ensures.answers.0 in
     let hash = hashes_of s.core c.args.key in
-    let did = idle_weighed m (fetches_of s.core) s.idle hash (Ok (made_of made)) (core_of s.core) mid Outer (g.W.Weighter.weighs s.core.weighter c.args.key c.args.value) (g.A.Filter.admits s.core.filter c.args.key c.args.value)
-    c.args.key c.args.value (λ admitted. (terms_of s).incoming admitted c.args.properties) c.in-Ok.ensures.inserted in
+    let n : ℕ = 1 + length (waiters_of (place_in (fetches_of s.core) (hash, c.args.key))) in
     let d = data_of (terms_of s) (session_of s) c.args.key c.args.value c.args.properties did.weight did.admitted in
-    record {
-      owns = rw told.handles (owns_still mid (core_of c.tell_inserted.new.core) (s.handles.items ++ Some (record made.entry { left = false }) ∷ []) told.core
-          (∥∥₁_elim (kept_at s.core d.hash did.inserts.before did.inserts.there) (hlevel props) (λ k. ∥∥₁_map s.owns (λ o.
-          inserted_owns m (core_of s.core) mid s.handles.items o d made.leaves.items made.entry did.inserts
-          (next_unused m did.inserts.before k)))));
-      idle = still_idle (fetches_of c.insert_with_properties.new.self) (fetches_of c.tell_inserted.new.core) told.fetches
-          (still_idle (at_hash (λ f. closed m.same f (hash, c.args.key)) (fetches_of s.core) hash) (fetches_of c.insert_with_properties.new.self) c.in-Ok.ensures.closed
-          (closed_idle m.same (hash, c.args.key) hash (fetches_of s.core) s.idle));
-    }
+    rw (told.handles, each) (∥∥₁_elim (kept_at s.core hash did.inserts.before did.inserts.there) (hlevel props) (λ k. ∥∥₁_map s.owns (λ o.
+    given_owns m (core_of s.core) new s.handles.items o (λ a b. InsertsAnswering m Outer a (newcomer a d n) (Ok (made_of made)) b) hash did.inserts made.entry n
+    (inserts_gives m (length (core_of s.core).shards) (shard_of (core_of s.core) hash) did.inserts.before did.inserts.after (s.core.belong (shard_of (core_of s.core) hash) did.inserts.before did.inserts.there)
+    Outer (newcomer did.inserts.before d n) made.leaves.items made.entry n did.inserts.stepped (let none = next_unused m did.inserts.before k in omega (arith, none)) refl))))
+
+pub invariant_of-self-clause-waits : goal.invariant_of-self-clause-waits
+invariant_of-self-clause-waits g c =
+    let s = c.args.self.now in
+    let hash = hashes_of s.core c.args.key in
+    closed_waiting g.K.PartialEq.eq (fetches_of s.core) (open_at s.core) (hash, c.args.key) hash refl s.waiting (fetches_of c.insert_with_properties.new.self) c.tell_inserted.new.waiting c.in-Ok.ensures.closed
+    (omega (arith, c.tell_inserted.ensures.waiting, ap length c.in-Ok.ensures.answers.0, c.in-Ok.inserted.answers.waiters.ok.0)) s.waits
 
 pub invariant_of-self-in-Err-1 : goal.invariant_of-self-in-Err-1
 invariant_of-self-in-Err-1 g c =
@@ -49,46 +66,42 @@ invariant_of-self-in-Err-1 g c =
     let m = meaning_of_session s in
     let refused = c.in-Err.refused in
     let new = core_of c.insert_with_properties.new.self in
+    let did = c.in-Err.ensures.inserted in
     let hash = hashes_of s.core c.args.key in
-    let did = idle_weighed m (fetches_of s.core) s.idle hash (Err (denied_of refused)) (core_of s.core) new Outer (g.W.Weighter.weighs s.core.weighter c.args.key c.args.value) (g.A.Filter.admits s.core.filter c.args.key c.args.value)
-    c.args.key c.args.value (λ admitted. (terms_of s).incoming admitted c.args.properties) c.in-Err.ensures.inserted in
+    let n : ℕ = 1 + length (waiters_of (place_in (fetches_of s.core) (hash, c.args.key))) in
     let d = data_of (terms_of s) (session_of s) c.args.key c.args.value c.args.properties did.weight did.admitted in
     record {
-      owns = ∥∥₁_map s.owns (λ o. refused_owns m (core_of s.core) new s.handles.items o d refused.error refused.leaves.items did.inserts);
-      idle = still_idle (fetches_of s.core) (fetches_of c.insert_with_properties.new.self) c.in-Err.ensures.fetches s.idle;
+      owns = ∥∥₁_map s.owns (λ o. stayed_owns m (core_of s.core) new s.handles.items o (λ a b. InsertsAnswering m Outer a (newcomer a d n) (Err (denied_of refused)) b) hash did.inserts
+          (refused_by_alike m _ did.inserts.before (newcomer did.inserts.before d n) refused.error refused.leaves.items did.inserts.after did.inserts.stepped));
+      waits = (let s = c.args.self.now in still_waiting (fetches_of s.core) (fetches_of c.insert_with_properties.new.self) s.waiting c.in-Err.ensures.fetches s.waits);
+      room = s.room;
     }
 
 pub returns-in-Ok-clause-step : goal.returns-in-Ok-clause-step
 returns-in-Ok-clause-step g c =
     let s = c.args.self.now in
-    let m = meaning_of_session s in
     let made = c.in-Ok.inserted in
-    let mid = core_of c.insert_with_properties.new.self in
     let told = c.tell_inserted.ensures in
-    let hash = hashes_of s.core c.args.key in
-    let did = idle_weighed m (fetches_of s.core) s.idle hash (Ok (made_of made)) (core_of s.core) mid Outer (g.W.Weighter.weighs s.core.weighter c.args.key c.args.value) (g.A.Filter.admits s.core.filter c.args.key c.args.value)
-    c.args.key c.args.value (λ admitted. (terms_of s).incoming admitted c.args.properties) c.in-Ok.ensures.inserted in
-    let d = data_of (terms_of s) (session_of s) c.args.key c.args.value c.args.properties did.weight did.admitted in
+    let did = c.in-Ok.ensures.inserted in
+    let each = c.in-Ok.ensures.answers.0 in
     rw (told.answer, told.leaves) (
       did.weight,
       did.admitted,
       made.entry,
       did.weighed,
       did.answered,
-      at_still (λ a b. InsertsAnswering m Outer a (newcomer a d 1) (Ok (made_of made)) b) hash (core_of s.core) mid (core_of c.tell_inserted.new.core) told.core did.inserts,
+      did.inserts,
       record {
-        numbered = refl;
+        answered = ap (λ ws. handles_from (length s.handles.items) (numbers_of ws)) each;
+        numbered = ap (λ ws. length s.handles.items + length ws) each;
         tells = refl;
-        handles = told.handles;
+        handles = told.handles ∙ ap (λ ws. s.handles.items ++ replicate (1 + length ws) (given made.entry)) each;
         pieces = refl;
       },
-      refl,
+      c.in-Ok.ensures.closed,
     )
 
 pub returns-in-Err-clause-step : goal.returns-in-Err-clause-step
 returns-in-Err-clause-step g c =
-    let s = c.args.self.now in
-    let new = core_of c.insert_with_properties.new.self in
-    let did = idle_weighed (meaning_of_session s) (fetches_of s.core) s.idle (hashes_of s.core c.args.key) (Err (denied_of c.in-Err.refused)) (core_of s.core) new Outer (g.W.Weighter.weighs s.core.weighter c.args.key c.args.value) (g.A.Filter.admits s.core.filter c.args.key c.args.value)
-    c.args.key c.args.value (λ admitted. (terms_of s).incoming admitted c.args.properties) c.in-Err.ensures.inserted in
-    rw (c.tell_refused.ensures.answer, c.tell_refused.ensures.leaves) (did.weight, did.admitted, did.weighed, did.answered, did.inserts, (refl, refl))
+    let did = c.in-Err.ensures.inserted in
+    rw (c.tell_refused.ensures.answer, c.tell_refused.ensures.leaves) (did.weight, did.admitted, did.weighed, did.answered, did.inserts, ((refl, refl), c.in-Err.ensures.fetches))

@@ -1,49 +1,72 @@
 use Rattle.std.proofs.Math.Logic.{∥∥₁_elim, ∥∥₁_map}
 use Rattle.std.proofs.Props.{props}
-use Rattle.std.proofs.Common.{◌≡◌, Some, Ok, Err, [], ◌∷◌, ◌++◌, false, inl, inr, length, refl, sym}
+use Rattle.std.proofs.Common.{◌≡◌, ◌+◌, ◌%◌, ◌++◌, ℕ, Some, Ok, Err, length, inl, inr, refl, replicate, sym, ap, ◌∙◌, arith}
 use Rattle.std.specs.Prelude.{slice_get}
 use Rattle.foyer_core.specs.Core.{shard_of}
-use Rattle.foyer_core.specs.CoreFetches.{at_hash}
+use Rattle.foyer_core.specs.CoreFetches.{place_in}
 use Rattle.foyer_core.specs.Cores.{core_of, fetches_of, hashes_of}
-use Rattle.foyer_core.specs.Inflight.{closed}
-use Rattle.foyer_core.specs.Pieces.{InsertsPiece}
+use Rattle.foyer_core.specs.Inflight.{waiters_of}
+use Rattle.foyer_core.specs.Pieces.{InsertsPiece, coming_under}
 use Rattle.foyer_core.specs.State.{key_of}
 use Rattle.foyer_core.specs.Waited.{denied_of, made_of}
-use Rattle.foyer_core.proofs.IdleLemmas.{closed_idle, idle_answers, idle_piece, still_idle}
 use Rattle.foyer_session.specs.Sessions.{meaning_of_session}
-use Rattle.foyer_session.proofs.CoreLemmas.{kept_at}
+use Rattle.foyer_session.specs.Step.{given}
+use Rattle.foyer_session.specs.Tokens.{handles_from, numbers_of}
+use Rattle.foyer_session.proofs.CoreLemmas.{kept_at, open_at}
 use Rattle.foyer_session.proofs.FoundLemmas.{next_unused}
-use Rattle.foyer_session.proofs.PieceLemmas.{piece_gives}
-use Rattle.foyer_session.proofs.StepLemmas.{at_still, owns_still, piece_owns, piece_refused_owns}
+use Rattle.foyer_session.proofs.PieceLemmas.{piece_alike, piece_gives, piece_key}
+use Rattle.foyer_session.proofs.PieceHome.{came_home}
+use Rattle.foyer_session.proofs.StepLemmas.{given_owns, stayed_owns}
+use Rattle.foyer_session.proofs.WaitsLemmas.{closed_waiting, still_waiting, waiting_counted}
 use Rattle.foyer_session.proofs.session.Session.insert_piece.Goals as goal
 
-pub tell_inserted-requires-clause-nobody : goal.tell_inserted-requires-clause-nobody
-tell_inserted-requires-clause-nobody g c κs within =
+pub tell_inserted-requires-clause-counted : goal.tell_inserted-requires-clause-counted
+tell_inserted-requires-clause-counted g c =
     let s = c.args.self.now in
     let made = c.in-Ok-insert_piece.inserted in
-    idle_answers (fetches_of s.core) s.idle made.entry made.answers (key_of made.entry.kept) c.in-Ok-insert_piece.ensures.answers
+    let hash = hashes_of s.core c.in-Ok.piece.kept.key in
+    let few = waiting_counted g.K.PartialEq.eq (fetches_of s.core) (open_at s.core) (key_of made.entry.kept) hash (came_home s.core _ c.in-Ok.piece (made_of made) _ _ c.in-Ok-insert_piece.ensures.inserted) s.waiting s.waits in
+    omega (arith, few, ap length c.in-Ok-insert_piece.ensures.answers.0, made.answers.waiters.ok.0)
 
-pub invariant_of-self : goal.invariant_of-self
-invariant_of-self g c =
+pub tell_inserted-requires-clause-room : goal.tell_inserted-requires-clause-room
+tell_inserted-requires-clause-room g c =
+    let s = c.args.self.now in
+    let made = c.in-Ok-insert_piece.inserted in
+    let hash = hashes_of s.core c.in-Ok.piece.kept.key in
+    let few = waiting_counted g.K.PartialEq.eq (fetches_of s.core) (open_at s.core) (key_of made.entry.kept) hash (came_home s.core _ c.in-Ok.piece (made_of made) _ _ c.in-Ok-insert_piece.ensures.inserted) s.waiting s.waits in
+    omega (arith, few, ap length c.in-Ok-insert_piece.ensures.answers.0, made.answers.waiters.ok.0, c.requires.room)
+
+pub tell_inserted-requires-clause-each : goal.tell_inserted-requires-clause-each
+tell_inserted-requires-clause-each g c = (let each = c.in-Ok-insert_piece.ensures.answers in rw each.0 each.1)
+
+pub invariant_of-self-clause-owns : goal.invariant_of-self-clause-owns
+invariant_of-self-clause-owns g c =
     let s = c.args.self.now in
     let m = meaning_of_session s in
     let piece = c.in-Ok.piece in
     let made = c.in-Ok-insert_piece.inserted in
-    let mid = core_of c.insert_piece.new.self in
+    let new = core_of c.insert_piece.new.self in
     let told = c.tell_inserted.ensures in
     let hash = hashes_of s.core piece.kept.key in
     let place = shard_of (core_of s.core) hash in
     let weighs = g.W.Weighter.weighs s.core.weighter piece.kept.key piece.kept.value in
-    let at = idle_piece m (fetches_of s.core) s.idle hash (Ok (made_of made)) (core_of s.core) mid weighs piece c.in-Ok-insert_piece.ensures.inserted in
-    record {
-      owns = rw told.handles (owns_still mid (core_of c.tell_inserted.new.core) (s.handles.items ++ Some (record made.entry { left = false }) ∷ []) told.core
-          (∥∥₁_elim (kept_at s.core hash at.before at.there) (hlevel props) (λ k. ∥∥₁_map s.owns (λ o.
-          piece_owns m (core_of s.core) mid s.handles.items o weighs hash piece (made_of made) at
-          (piece_gives m (length (core_of s.core).shards) place at.before at.after (s.core.belong place at.before at.there) weighs hash piece (made_of made) at.stepped refl (next_unused m at.before k))))));
-      idle = still_idle (fetches_of c.insert_piece.new.self) (fetches_of c.tell_inserted.new.core) told.fetches
-          (still_idle (at_hash (λ f. closed m.same f (key_of made.entry.kept)) (fetches_of s.core) hash) (fetches_of c.insert_piece.new.self) c.in-Ok-insert_piece.ensures.closed
-          (closed_idle m.same (key_of made.entry.kept) hash (fetches_of s.core) s.idle));
-    }
+    let at = c.in-Ok-insert_piece.ensures.inserted in
+    let n : ℕ = 1 + length (waiters_of (place_in (fetches_of s.core) (coming_under at.before hash piece))) in
+    let each = c.in-Ok-insert_piece.ensures.answers.0 in
+    let key = piece_key m at.before at.after weighs hash piece (made_of made) n at.stepped in
+    let shape = told.handles ∙ ap (λ ws. s.handles.items ++ replicate (1 + length ws) (given made.entry)) (each ∙ ap (λ q. waiters_of (place_in (fetches_of s.core) q)) key) in
+    rw shape (∥∥₁_elim (kept_at s.core hash at.before at.there) (hlevel props) (λ k. ∥∥₁_map s.owns (λ o.
+    given_owns m (core_of s.core) new s.handles.items o (λ a b. InsertsPiece m weighs hash piece (1 + length (waiters_of (place_in (fetches_of s.core) (coming_under a hash piece)))) (Ok (made_of made)) a b) hash at made.entry n
+    (piece_gives m (length (core_of s.core).shards) place at.before at.after (s.core.belong place at.before at.there) weighs hash piece (made_of made) n at.stepped refl (next_unused m at.before k)))))
+
+pub invariant_of-self-clause-waits : goal.invariant_of-self-clause-waits
+invariant_of-self-clause-waits g c =
+    let s = c.args.self.now in
+    let made = c.in-Ok-insert_piece.inserted in
+    let hash = hashes_of s.core c.in-Ok.piece.kept.key in
+    closed_waiting g.K.PartialEq.eq (fetches_of s.core) (open_at s.core) (key_of made.entry.kept) hash (came_home s.core _ c.in-Ok.piece (made_of made) _ _ c.in-Ok-insert_piece.ensures.inserted) s.waiting
+    (fetches_of c.insert_piece.new.self) c.tell_inserted.new.waiting c.in-Ok-insert_piece.ensures.closed
+    (omega (arith, c.tell_inserted.ensures.waiting, ap length c.in-Ok-insert_piece.ensures.answers.0, made.answers.waiters.ok.0)) s.waits
 
 pub invariant_of-self-in-Err-insert_piece : goal.invariant_of-self-in-Err-insert_piece
 invariant_of-self-in-Err-insert_piece g c =
@@ -53,10 +76,14 @@ invariant_of-self-in-Err-insert_piece g c =
     let new = core_of c.insert_piece.new.self in
     let hash = hashes_of s.core piece.kept.key in
     let weighs = g.W.Weighter.weighs s.core.weighter piece.kept.key piece.kept.value in
-    let at = idle_piece m (fetches_of s.core) s.idle hash (Err (denied_of c.in-Err.refused)) (core_of s.core) new weighs piece c.in-Err.ensures.inserted in
+    let at = c.in-Err.ensures.inserted in
+    let n : ℕ = 1 + length (waiters_of (place_in (fetches_of s.core) (coming_under at.before hash piece))) in
     record {
-      owns = ∥∥₁_map s.owns (λ o. piece_refused_owns m (core_of s.core) new s.handles.items o weighs hash piece (denied_of c.in-Err.refused) at);
-      idle = still_idle (fetches_of s.core) (fetches_of c.insert_piece.new.self) c.in-Err.ensures.fetches s.idle;
+      owns = ∥∥₁_map s.owns (λ o. stayed_owns m (core_of s.core) new s.handles.items o
+          (λ a b. InsertsPiece m weighs hash piece (1 + length (waiters_of (place_in (fetches_of s.core) (coming_under a hash piece)))) (Err (denied_of c.in-Err.refused)) a b) hash at
+          (piece_alike m at.before at.after weighs hash piece (denied_of c.in-Err.refused) n at.stepped));
+      waits = (let s = c.args.self.now in still_waiting (fetches_of s.core) (fetches_of c.insert_piece.new.self) s.waiting c.in-Err.ensures.fetches s.waits);
+      room = s.room;
     }
 
 pub returns-in_default-clone-clause-step : goal.returns-in_default-clone-clause-step
@@ -67,29 +94,28 @@ returns-in_default-clone-clause-step g c =
 pub returns-in-Ok-insert_piece-clause-step : goal.returns-in-Ok-insert_piece-clause-step
 returns-in-Ok-insert_piece-clause-step g c =
     let s = c.args.self.now in
-    let m = meaning_of_session s in
     let piece = c.in-Ok.piece in
     let made = c.in-Ok-insert_piece.inserted in
-    let mid = core_of c.insert_piece.new.self in
     let told = c.tell_inserted.ensures in
-    let hash = hashes_of s.core piece.kept.key in
-    let weighs = g.W.Weighter.weighs s.core.weighter piece.kept.key piece.kept.value in
-    let at = idle_piece m (fetches_of s.core) s.idle hash (Ok (made_of made)) (core_of s.core) mid weighs piece c.in-Ok-insert_piece.ensures.inserted in
-    let there : slice_get c.args.self.now.pieces.items c.args.number ≡ Some c.in-Ok.piece = rw (c.as_slice.ensures.value, sym c.in-Ok.ensures.cases) at c.in-Some.ensures.some in
+    let each = c.in-Ok-insert_piece.ensures.answers.0 in
+    let there : slice_get s.pieces.items c.args.number ≡ Some piece = rw (c.as_slice.ensures.value, sym c.in-Ok.ensures.cases) at c.in-Some.ensures.some in
     rw (told.answer, told.leaves) (
       piece,
       made.entry,
       there,
-      at_still (λ a b. InsertsPiece m weighs hash piece 1 (Ok (made_of made)) a b) hash (core_of s.core) mid (core_of c.tell_inserted.new.core) told.core at,
-      record { numbered = refl; tells = refl; handles = told.handles; pieces = refl },
-      refl,
+      c.in-Ok-insert_piece.ensures.inserted,
+      record {
+        answered = ap (λ ws. handles_from (length s.handles.items) (numbers_of ws)) each;
+        numbered = ap (λ ws. length s.handles.items + length ws) each;
+        tells = refl;
+        handles = told.handles ∙ ap (λ ws. s.handles.items ++ replicate (1 + length ws) (given made.entry)) each;
+        pieces = refl;
+      },
+      c.in-Ok-insert_piece.ensures.closed,
     )
 
 pub returns-in-Err-clause-step : goal.returns-in-Err-clause-step
 returns-in-Err-clause-step g c =
     let s = c.args.self.now in
-    let piece = c.in-Ok.piece in
-    let weighs = g.W.Weighter.weighs s.core.weighter piece.kept.key piece.kept.value in
-    let at = idle_piece (meaning_of_session s) (fetches_of s.core) s.idle (hashes_of s.core piece.kept.key) (Err (denied_of c.in-Err.refused)) (core_of s.core) (core_of c.insert_piece.new.self) weighs piece c.in-Err.ensures.inserted in
-    let there : slice_get c.args.self.now.pieces.items c.args.number ≡ Some c.in-Ok.piece = rw (c.as_slice.ensures.value, sym c.in-Ok.ensures.cases) at c.in-Some.ensures.some in
-    rw (c.tell_refused.ensures.answer, c.tell_refused.ensures.leaves) (piece, there, inr (at, (refl, refl)))
+    let there : slice_get s.pieces.items c.args.number ≡ Some c.in-Ok.piece = rw (c.as_slice.ensures.value, sym c.in-Ok.ensures.cases) at c.in-Some.ensures.some in
+    rw (c.tell_refused.ensures.answer, c.tell_refused.ensures.leaves) (c.in-Ok.piece, there, inr (c.in-Err.ensures.inserted, ((refl, refl), c.in-Err.ensures.fetches)))

@@ -1,10 +1,13 @@
 use Rattle.std.proofs.Common.{◌≡◌, length, map, true, sym, ap, ◌∙◌, arith, append_assoc}
 use Rattle.std.proofs.lemmas.List.{length-map}
-use Rattle.foyer_core.specs.Cores.{hashes_of}
+use Rattle.foyer_core.specs.Cores.{fetches_of, hashes_of}
 use Rattle.foyer_core.proofs.Sound.{core_sound}
 use Rattle.foyer_session.specs.Sessions.{session_of, terms_of}
+use Rattle.foyer_session.proofs.CoreLemmas.{open_at}
+use Rattle.foyer_session.proofs.LedgerCalls.{call_answered_more, call_settled_more, call_settled_none}
 use Rattle.foyer_session.proofs.RunLemmas.{Run-more, all_yielded}
 use Rattle.foyer_session.proofs.ToldLemmas.{step_told, told_more, told_none}
+use Rattle.foyer_session.proofs.WaitsLemmas.{place_waits}
 use Rattle.foyer_session.proofs.session.Session.run.Goals as goal
 
 pub loop-ready-init : goal.loop-ready-init
@@ -16,6 +19,8 @@ loop-ready-init g c =
     record {
       run = rw c.in-Ok.ensures.items c.make_room.ensures.session;
       told = rw c.in-Ok.ensures.items (told_none (terms_of c.args.self.now) (session_of c.args.self.now) (session_of c.make_room.new.self) c.make_room.ensures.session);
+      settled = rw c.in-Ok.ensures.items (call_settled_none g.met.K.Eq.laws c.args.self.now _ (session_of c.make_room.new.self) c.make_room.ensures.session);
+      answered = tt;
       commands = commands;
       handles = omega (arith, count, c.in_ok-make_room.ensures.handles, c.len-count.ensures, c.args.commands.ok.0);
       pieces = omega (arith, count, c.in_ok-make_room.ensures.pieces, c.len-count.ensures, c.args.commands.ok.0);
@@ -35,10 +40,14 @@ loop-ready-preserved g c =
           (session_of c.carry_out-reply.new.self) inv.run c.carry_out-reply.ensures.step);
       told = rw c.push_reserved.ensures.items (told_more (terms_of c.args.self.now) (session_of c.args.self.now) (session_of now) (session_of c.carry_out-reply.new.self) c.loop-ready.replies.items
           c.carry_out-reply.result inv.told
-          (step_told (terms_of now) g.met.K.Eq.laws g.met.E.Eviction.lawful (session_of now) (session_of c.carry_out-reply.new.self) equal (core_sound now.core g.met.K.Eq.laws g.met.E.Eviction.lawful equal)
+          (step_told (terms_of now) g.met.K.Eq.laws g.met.E.Eviction.lawful (session_of now) (session_of c.carry_out-reply.new.self) equal (core_sound now.core g.met.K.Eq.laws g.met.E.Eviction.lawful equal) (place_waits g.K.PartialEq.eq (fetches_of now.core) (open_at now.core))
           g.Q.Predicate.picks c.in-Some.ready.command c.carry_out-reply.result c.carry_out-reply.ensures.step));
+      settled = rw c.push_reserved.ensures.items (call_settled_more g.met.K.Eq.laws c.args.self.now now g.Q.Predicate.picks (λ ready. ready.command) c.loop-ready.yielded c.loop-ready.replies.items
+          c.in-Some.ready c.carry_out-reply.result (session_of c.carry_out-reply.new.self) inv.run inv.settled c.carry_out-reply.ensures.step);
+      answered = rw c.push_reserved.ensures.items (call_answered_more g.met.K.Eq.laws c.args.self.now now g.Q.Predicate.picks (λ ready. ready.command) c.loop-ready.yielded c.loop-ready.replies.items
+          c.in-Some.ready c.carry_out-reply.result (session_of c.carry_out-reply.new.self) inv.run inv.settled c.carry_out-reply.ensures.step inv.answered);
       commands = rw append_assoc (rw rest at inv.commands);
-      handles = omega (arith, inv.handles, one, c.carry_out-reply.ensures.len, c.carry_out-reply.ensures.capacity);
+      handles = omega (arith, inv.handles, one, c.carry_out-reply.ensures.taken, c.carry_out-reply.ensures.capacity);
       pieces = omega (arith, inv.pieces, one, c.carry_out-reply.ensures.pieces_len, c.carry_out-reply.ensures.pieces_capacity);
       replies = omega (arith, inv.replies, one, c.push_reserved.ensures.len, c.push_reserved.ensures.capacity);
     }
@@ -48,3 +57,15 @@ returns-clause-run g c =
     let inv = c.loop-ready.invariant in
     let rest = c.loop-ready.ready-iterator.rest in
     rw (all_yielded (λ ready. ready.command) c.loop-ready.yielded rest.items c.args.commands.items (sym rest.ok.0 ∙ c.in-None.ensures.steps.0) inv.commands) at inv.run
+
+pub returns-clause-settled : goal.returns-clause-settled
+returns-clause-settled g c =
+    let inv = c.loop-ready.invariant in
+    let rest = c.loop-ready.ready-iterator.rest in
+    rw (all_yielded (λ ready. ready.command) c.loop-ready.yielded rest.items c.args.commands.items (sym rest.ok.0 ∙ c.in-None.ensures.steps.0) inv.commands) at inv.settled
+
+pub returns-clause-answered : goal.returns-clause-answered
+returns-clause-answered g c =
+    let inv = c.loop-ready.invariant in
+    let rest = c.loop-ready.ready-iterator.rest in
+    rw (all_yielded (λ ready. ready.command) c.loop-ready.yielded rest.items c.args.commands.items (sym rest.ok.0 ∙ c.in-None.ensures.steps.0) inv.commands) at inv.answered

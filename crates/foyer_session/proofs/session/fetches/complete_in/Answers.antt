@@ -1,0 +1,17 @@
+use Rattle.std.proofs.Common.{ℕ, Some}
+use Rattle.foyer_core.specs.CoreFetches.{place_in}
+use Rattle.foyer_core.specs.Cores.{core_of, fetches_of, hashes_of, meaning_of_core}
+use Rattle.foyer_core.specs.Inflight.{asked}
+use Rattle.foyer_core.specs.State.{coming_in}
+use Rattle.foyer_core.specs.Waited.{ending_of}
+use Rattle.foyer_session.proofs.EndLemmas.{completed_answers}
+use Rattle.foyer_session.proofs.session.fetches.complete_in.Goals as goal
+
+pub returns-clause-answering : goal.returns-clause-answering
+returns-clause-answering g c =
+    let s = c.args.core.now in
+    let t = c.complete.new.self in
+    let k : ℕ × g.row.K.Denot = (hashes_of s c.args.key.now, c.args.key.now) in
+    completed_answers (meaning_of_core s) (core_of s) (fetches_of s) (core_of t) (fetches_of t) k (ending_of c.complete.result)
+    (hashes_of s) (g.W.Weighter.weighs s.weighter) (g.A.Filter.admits s.filter) (λ properties admitted. coming_in g.P.Properties.location_of g.P.Properties.with_phantom_of admitted properties)
+    c.args.source c.args.target (asked (Some c.args.fetch) (place_in (fetches_of s) k)) c.complete.ensures.completed
