@@ -1,0 +1,92 @@
+//! What a cache does with all of its records.
+
+ghost use Rattle.std.specs.Prelude.{◌≡◌};
+
+use super::RawCache;
+use crate::fetch::FetchTypes;
+use crate::pipe::Pipe;
+use foyer_core::{Filter, Leave, Weighter, shard_capacity};
+use foyer_policy::{EventListener, Eviction, HashBuilder, Key, Properties, Result, Value};
+use std::sync::Wait;
+
+impl<H, E, K, V, S, P, W, A, L, Q, T> RawCache<H, E, K, V, S, P, W, A, L, Q, T>
+where
+    H: Wait + Drop,
+    E: Eviction,
+    K: Key,
+    V: Value,
+    S: HashBuilder,
+    P: Properties,
+    W: Weighter<K, V>,
+    A: Filter<K, V>,
+    L: EventListener<Key = K, Value = V>,
+    Q: Pipe<Key = K, Value = V, Properties = P>,
+    T: FetchTypes<K, V, P>,
+{
+    /// Takes everything out, as `Clear`, shard by shard, in each policy's order. Refused for want of memory alone (F7); then
+    /// the shards before are done, and what left is told.
+    pub fn clear(&self) -> Result<()> {
+        let mut leaves = Vec::new(self.shares.shared.alloc);
+        let done = self.clear_each(&mut leaves);
+        self.shares.tell_all(leaves);
+        done
+    }
+
+    // Takes everything out of each shard in turn.
+    fn clear_each(&self, leaves: &mut Vec<Leave<K, V, P>>) -> Result<()> {
+        for shard in self.shares.shared.shards.as_slice() {
+            shard.lock(&self.shares.shared.rt).clear_onto(leaves)?;
+        }
+        Ok(())
+    }
+
+    /// Evicts all that is not pinned, shard by shard, in the order in which each policy gives it. Refused for want of memory
+    /// alone (F7); then the shards before are done and some of the next one's records may have left, and what left is told.
+    pub fn evict_all(&self) -> Result<()> {
+        let mut leaves = Vec::new(self.shares.shared.alloc);
+        let done = self.evict_each(&mut leaves);
+        self.shares.tell_all(leaves);
+        done
+    }
+
+    // Evicts all that is not pinned from each shard in turn.
+    fn evict_each(&self, leaves: &mut Vec<Leave<K, V, P>>) -> Result<()> {
+        for shard in self.shares.shared.shards.as_slice() {
+            shard.lock(&self.shares.shared.rt).evict_unpinned(leaves)?;
+        }
+        Ok(())
+    }
+
+    /// Sets the weight that the records may have together, of which each shard gets its part, and then evicts from each shard
+    /// what is over. Resizes take turns. Refused for want of memory alone (F7); then the capacities are set all the same, the
+    /// shards before are done, and what left is told.
+    pub fn resize(&self, capacity: usize) -> Result<()> {
+        let mut leaves = Vec::new(self.shares.shared.alloc);
+        let mut resizing = self.shares.shared.resizing.lock(&self.shares.shared.rt);
+        *resizing = capacity;
+        self.share_out(capacity);
+        let done = self.evict_each_to_capacity(&mut leaves);
+        drop(resizing);
+        self.shares.tell_all(leaves);
+        done
+    }
+
+    // Gives each shard its part of a capacity.
+    fn share_out(&self, capacity: usize) {
+        let shards = self.shares.shared.shards.as_slice();
+        for (number, shard) in shards.iter().enumerate() {
+            let part = shard_capacity(capacity, shards.len(), number);
+            shard.lock(&self.shares.shared.rt).set_capacity(part);
+        }
+    }
+
+    // Evicts from each shard in turn what is over its capacity.
+    fn evict_each_to_capacity(&self, leaves: &mut Vec<Leave<K, V, P>>) -> Result<()> {
+        for shard in self.shares.shared.shards.as_slice() {
+            shard
+                .lock(&self.shares.shared.rt)
+                .evict_to_capacity(leaves)?;
+        }
+        Ok(())
+    }
+}

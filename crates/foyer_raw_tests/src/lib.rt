@@ -1,0 +1,6 @@
+//! Tests of `foyer_raw` through its public calls alone. They stand in a crate of their own, so that they are
+//! proved over the contracts of `foyer_raw`, and it is not proved once more for them.
+#![tactic(auto)]
+
+#[cfg(test)]
+mod calls;
