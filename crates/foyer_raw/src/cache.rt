@@ -20,6 +20,7 @@ use std::alloc::Global;
 use std::sync::{Arc, Mutex, Wait};
 
 mod bulk;
+mod fetching;
 mod insertion;
 mod keys;
 

@@ -223,6 +223,7 @@ where
 }
 
 // A record by the hash of its key.
+#[derive(Clone, Copy)]
 struct Named {
     hash: u64,
 }

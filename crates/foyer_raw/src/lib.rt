@@ -5,6 +5,7 @@
 pub mod cache;
 pub mod entry;
 pub mod fetch;
+pub mod flush;
 pub mod listener;
 pub mod pipe;
 mod shared;
@@ -14,9 +15,11 @@ pub mod ticket;
 pub use cache::RawCache;
 pub use entry::RawCacheEntry;
 pub use fetch::{
-    Direct, FetchTypes, Given, NoFetch, OptionalFetch, OptionalFetchBuilder, Pollable,
-    RawFetchState, RequiredFetch, RequiredFetchBuilder, TaskEvent,
+    Direct, FetchTypes, Given, ListSpawner, NoFetch, OptionalFetch, OptionalFetchBuilder, Pollable,
+    RawFetch, RawFetchState, RawGetOrFetch, RawWait, RequiredFetch, RequiredFetchBuilder, Spawner,
+    TaskEvent,
 };
+pub use flush::{Flush, FlushIf};
 pub use listener::{NoListener, tell};
 pub use pipe::{NoopPipe, Pipe};
 pub use ticket::{Answer, Notifier, Ticket, Waiter};

@@ -8,8 +8,10 @@ use foyer_policy::{Event, EventListener, Eviction, HashBuilder, Key, Properties,
 use std::alloc::Global;
 use std::sync::{Arc, Mutex, MutexGuard, Wait};
 
+mod fetches;
 mod keys;
 
+pub(crate) use fetches::{Later, RawEnded};
 pub(crate) use keys::RawInserted;
 
 /// A shard of a cache whose waiters hold senders, and whose later builders are of this type.

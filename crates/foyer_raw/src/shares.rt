@@ -1,16 +1,15 @@
 //! A share of a cache, with the pipe that goes with it.
 
-ghost use Rattle.std.specs.Prelude.{◌≡◌};
+ghost use Rattle.std.specs.Prelude.{◌≡◌, IfSome};
 
 use crate::entry::RawCacheEntry;
+use crate::flush::Flush;
 use crate::listener::tell;
 use crate::pipe::Pipe;
-use crate::shared::Shared;
-use crate::ticket::{Answer, Notifier, Ticket};
-use foyer_core::{Answers, CoreEntry, Filter, Leave, Waiting, Weighter};
-use foyer_policy::{
-    Error, EventListener, Eviction, HashBuilder, Key, Properties, Reason, Result, Value,
-};
+use crate::shared::{RawEnded, Shared};
+use crate::ticket::{Answer, Notifier, Ticket, Waiters, refuse};
+use foyer_core::{Answers, CoreEntry, Ended, Filter, Leave, Left, Piece, Weighter};
+use foyer_policy::{EventListener, Eviction, HashBuilder, Key, Properties, Result, Value};
 use std::sync::{Arc, Wait};
 
 /// What a cache, an entry, a wait and a task each have: a share of what they have in common, and the pipe.
@@ -97,12 +96,19 @@ where
         }
     }
 
+    // Answers those who waited for a fetch that has ended, and then tells what left.
+    pub(crate) fn ended(&self, ended: RawEnded<K, V, P>) {
+        let Ended {
+            found: _,
+            answers,
+            leaves,
+        } = ended;
+        self.answer(answers);
+        self.tell_all(leaves);
+    }
+
     // Hands handles of one record out, one to each who waited, and none where there is none left.
-    fn hand_out(
-        &self,
-        waiters: Vec<Waiting<Notifier<Answer<K, V, P>>>>,
-        mut entries: Vec<CoreEntry<K, V, P>>,
-    ) {
+    fn hand_out(&self, waiters: Waiters<K, V, P>, mut entries: Vec<CoreEntry<K, V, P>>) {
         for waiting in waiters {
             let ticket = entries.pop().map(Ticket::new);
             self.send(waiting.waiter, ticket);
@@ -122,15 +128,37 @@ where
             self.give_back(core);
         }
     }
-}
 
-// Answers each who waited with the one refusal. Where a fault can't be shared it is F7.
-fn refuse<X: Drop>(waiters: Vec<Waiting<Notifier<X>>>, error: Error) {
-    for waiting in waiters {
-        let again = match error.clone() {
-            Ok(again) => again,
-            Err(refused) => Error::from(refused),
+    // Tells the listener all leaves, and then hands all their pieces to the pipe, if there is one that is enabled.
+    pub(crate) fn flush(
+        &self,
+        leaves: Vec<Leave<K, V, P>>,
+        mut pieces: Vec<Piece<K, V, P>>,
+        done: Result<()>,
+    ) -> Flush<Q::Flush>
+        ensures { IfSome result.inner Q.Flush.can_poll }
+    {
+        for (event, left) in leaves {
+            self.shared
+                .listener
+                .on_leave(event, left.key(), left.value());
+            self.collect(&mut pieces, left);
+        }
+        match self.pipe.as_deref() {
+            Some(pipe) if pipe.is_enabled() => Flush::new(Some(pipe.flush(pieces)), done),
+            _ => Flush::new(None, done),
+        }
+    }
+
+    // Appends the piece of what left. Where the room that was made for it does not suffice, the pipe gets it alone.
+    fn collect(&self, pieces: &mut Vec<Piece<K, V, P>>, left: Left<K, V, P>) {
+        let Err(refused) = pieces.push(left.piece()) else {
+            return;
         };
-        let _sent = waiting.waiter.send(Err(again));
+        if let Some(pipe) = self.pipe.as_deref() {
+            if pipe.is_enabled() {
+                pipe.send(refused.value);
+            }
+        }
     }
 }

@@ -1,7 +1,7 @@
 //! Handles as they cross a channel.
 
-use foyer_core::CoreEntry;
-use foyer_policy::Result;
+use foyer_core::{CoreEntry, Waiting};
+use foyer_policy::{Error, Result};
 use futures::channel::oneshot;
 
 /// The receiver of an answer.
@@ -37,5 +37,26 @@ impl<K: Drop, V: Drop, P: Drop> Ticket<K, V, P> {
     /// The handle.
     pub(crate) fn into_core(mut self) -> Option<CoreEntry<K, V, P>> {
         self.core.take()
+    }
+}
+
+/// Those who wait for a key.
+pub(crate) type Waiters<K, V, P> = Vec<Waiting<Notifier<Answer<K, V, P>>>>;
+
+// Answers each who waited with the one refusal. Where a fault can't be shared it is F7.
+pub(crate) fn refuse<K: Drop, V: Drop, P: Drop>(waiters: Waiters<K, V, P>, error: Error) {
+    for waiting in waiters {
+        let again = match error.clone() {
+            Ok(again) => again,
+            Err(refused) => Error::from(refused),
+        };
+        let _sent = waiting.waiter.send(Err(again));
+    }
+}
+
+// Answers each who waited with none.
+pub(crate) fn tell_none<K: Drop, V: Drop, P: Drop>(waiters: Waiters<K, V, P>) {
+    for waiting in waiters {
+        let _sent = waiting.waiter.send(Ok(None));
     }
 }

@@ -1,11 +1,12 @@
 //! What a cache does with all of its records.
 
-ghost use Rattle.std.specs.Prelude.{◌≡◌};
+ghost use Rattle.std.specs.Prelude.{◌≡◌, IfSome};
 
 use super::RawCache;
 use crate::fetch::FetchTypes;
+use crate::flush::{Flush, FlushIf};
 use crate::pipe::Pipe;
-use foyer_core::{Filter, Leave, Weighter, shard_capacity};
+use foyer_core::{Filter, Leave, Piece, Weighter, shard_capacity};
 use foyer_policy::{EventListener, Eviction, HashBuilder, Key, Properties, Result, Value};
 use std::sync::Wait;
 
@@ -86,6 +87,64 @@ where
             shard
                 .lock(&self.shares.shared.rt)
                 .evict_to_capacity(leaves)?;
+        }
+        Ok(())
+    }
+
+    /// Evicts all that is not pinned, as `evict_all` does, tells the listener all of it, and hands all its pieces to the pipe,
+    /// if there is one that is enabled. All of that happens here; the future waits for the pipe. It ends with `Ok`, or where
+    /// memory was missing with F7.
+    pub fn flush(&self) -> Flush<Q::Flush>
+        ensures { IfSome result.inner Q.Flush.can_poll }
+    {
+        let mut leaves = Vec::new(self.shares.shared.alloc);
+        let mut pieces = Vec::new(self.shares.shared.alloc);
+        let done = self.flush_each(&mut leaves, &mut pieces);
+        self.shares.flush(leaves, pieces, done)
+    }
+
+    // Evicts all that is not pinned from each shard in turn, once there is room for its pieces.
+    fn flush_each(
+        &self,
+        leaves: &mut Vec<Leave<K, V, P>>,
+        pieces: &mut Vec<Piece<K, V, P>>,
+    ) -> Result<()> {
+        for shard in self.shares.shared.shards.as_slice() {
+            let mut shard = shard.lock(&self.shares.shared.rt);
+            let room = leaves.len().saturating_add(shard.entries() as usize);
+            pieces.reserve(room)?;
+            shard.evict_unpinned(leaves)?;
+        }
+        Ok(())
+    }
+
+    /// Takes the records out of which the predicate says yes, pinned or not, as `Evict`, and tells them as `flush` does. The
+    /// predicate is asked once of each record, under its shard's lock: it must not call this cache.
+    pub fn flush_if<F: Fn(&K, &V) -> bool>(&self, predicate: F) -> FlushIf<Q::Flush>
+        requires { F.IsAlwaysCallable predicate }
+        ensures { IfSome result.inner Q.Flush.can_poll }
+    {
+        let mut leaves = Vec::new(self.shares.shared.alloc);
+        let mut pieces = Vec::new(self.shares.shared.alloc);
+        let done = self.flush_each_if(&predicate, &mut leaves, &mut pieces);
+        self.shares.flush(leaves, pieces, done)
+    }
+
+    // Takes the records out of each shard in turn of which the predicate says yes, once there is room for its pieces.
+    fn flush_each_if<F: Fn(&K, &V) -> bool>(
+        &self,
+        predicate: &F,
+        leaves: &mut Vec<Leave<K, V, P>>,
+        pieces: &mut Vec<Piece<K, V, P>>,
+    ) -> Result<()>
+        requires { F.IsAlwaysCallable predicate.now }
+    {
+        let alloc = self.shares.shared.alloc;
+        for shard in self.shares.shared.shards.as_slice() {
+            let mut shard = shard.lock(&self.shares.shared.rt);
+            let room = leaves.len().saturating_add(shard.entries() as usize);
+            pieces.reserve(room)?;
+            shard.evict_if_onto(alloc, predicate, leaves)?;
         }
         Ok(())
     }

@@ -54,7 +54,8 @@ where
         ensures { IfOk result (λ e. (e.kept.key ≡ key) × (e.kept.value ≡ value)) }
     {
         let shares = self.shares.try_clone()?;
-        let kept = self.shares.shared.kept(key, value, properties);
+        let hash = self.hash(&key);
+        let kept = self.shares.shared.kept(hash, key, value, properties);
         let answer = self.shares.shared.emplace(kept, Source::Outer);
         self.came_in(shares, answer)
     }

@@ -28,12 +28,12 @@ where
     L: EventListener<Key = K, Value = V>,
     R: Drop,
 {
-    // A record that is to come in: the weighter is asked, and then the filter, with no lock held.
-    pub(crate) fn kept(&self, key: K, value: V, properties: P) -> Data<K, V, P>
+    // A record that is to come in, of a key that has this hash: the weighter is asked, and then the filter, with no lock
+    // held.
+    pub(crate) fn kept(&self, hash: u64, key: K, value: V, properties: P) -> Data<K, V, P>
         ensures key { result.key ≡ key }
         ensures value { result.value ≡ value }
     {
-        let hash = self.hash(&key);
         let weight = self.weighter.weigh(&key, &value);
         let admitted = self.filter.admit(&key, &value);
         let properties = marked(properties, admitted);
