@@ -3,4 +3,16 @@
 #![tactic(auto)]
 
 #[cfg(test)]
+mod bulk;
+#[cfg(test)]
 mod calls;
+#[cfg(test)]
+mod fetches;
+#[cfg(test)]
+mod leaves;
+#[cfg(test)]
+mod states;
+#[cfg(test)]
+mod testing;
+#[cfg(test)]
+mod threads;
