@@ -49,7 +49,7 @@ impl<O: Drop> Future for Later<O> {
 }
 
 // A future that gives this, after so many polls.
-fn later<O>(pending: u64, answer: O) -> Later<O>
+fn after_polls<O>(pending: u64, answer: O) -> Later<O>
     ensures { IsSome result.answer }
 {
     Later {
