@@ -10,7 +10,8 @@ use crate::shared::{RawShard, Shared};
 use crate::shares::Shares;
 use crate::ticket::{Answer, Notifier};
 use foyer_core::{
-    AdmitAll, CacheCore, CacheProperties, Filter, RawCacheConfig, UnitWeighter, Weighter,
+    AdmitAll, CacheCore, CacheProperties, Filter, HashTableIndexer, Indexer, RawCacheConfig,
+    UnitWeighter, Weighter,
 };
 use foyer_policy::{
     DefaultHasher, Error, EventListener, Eviction, HashBuilder, Key, Properties, Reason, Result,
@@ -39,6 +40,7 @@ pub struct RawCache<
     L = NoListener<K, V>,
     Q = NoopPipe<K, V, P>,
     T = NoFetch,
+    I = HashTableIndexer<K>,
 >
 where
     H: Wait + Drop,
@@ -50,13 +52,14 @@ where
     W: Weighter<K, V>,
     A: Filter<K, V>,
     L: EventListener<Key = K, Value = V>,
+    I: Indexer<K>,
     Q: Pipe<Key = K, Value = V, Properties = P>,
     T: FetchTypes<K, V, P>,
 {
-    shares: Shares<H, E, K, V, S, P, W, A, L, Q, T::Required>,
+    shares: Shares<H, E, K, V, S, P, W, A, L, Q, T::Required, I>,
 }
 
-impl<H, E, K, V, S, P, W, A, L, Q, T> RawCache<H, E, K, V, S, P, W, A, L, Q, T>
+impl<H, E, K, V, S, P, W, A, L, Q, T, I> RawCache<H, E, K, V, S, P, W, A, L, Q, T, I>
 where
     H: Wait + Drop,
     E: Eviction,
@@ -67,6 +70,7 @@ where
     W: Weighter<K, V>,
     A: Filter<K, V>,
     L: EventListener<Key = K, Value = V>,
+    I: Indexer<K>,
     Q: Pipe<Key = K, Value = V, Properties = P>,
     T: FetchTypes<K, V, P>,
 {
@@ -97,6 +101,7 @@ where
             A,
             Notifier<Answer<K, V, P>>,
             T::Required,
+            I,
         >::new_shards(alloc, &config)?;
         let shards = locked(alloc, made)?;
         let capacity = config.capacity;
@@ -178,10 +183,10 @@ where
 }
 
 // Each shard under a lock of its own.
-fn locked<E: Eviction, K: Key, V: Value, P: Properties, R: Drop>(
+fn locked<E: Eviction, K: Key, V: Value, P: Properties, R: Drop, I: Indexer<K>>(
     alloc: Global,
-    made: Vec<RawShard<E, K, V, P, R>>,
-) -> Result<Vec<Mutex<RawShard<E, K, V, P, R>>>>
+    made: Vec<RawShard<E, K, V, P, R, I>>,
+) -> Result<Vec<Mutex<RawShard<E, K, V, P, R, I>>>>
     ensures len { IfOk result (λ all. vec_len all ≡ vec_len made) }
     ensures memory { IfErr result (λ e. e ≡ NoMemory) }
 {

@@ -4,7 +4,7 @@ ghost use Rattle.std.specs.Prelude.{◌≡◌, IfOk};
 
 use crate::pipe::Pipe;
 use crate::shares::Shares;
-use foyer_core::{CoreEntry, Filter, Piece, Weighter};
+use foyer_core::{CoreEntry, Filter, HashTableIndexer, Indexer, Piece, Weighter};
 use foyer_policy::{EventListener, Eviction, HashBuilder, Key, Properties, Result, Source, Value};
 use std::fmt::{self, Debug};
 use std::marker::Model;
@@ -13,7 +13,7 @@ use std::sync::Wait;
 
 /// A handle of a record. Its drop gives the handle back under its shard's lock, and then tells what left with it.
 /// Contracts see it as the core's entry that it keeps.
-pub struct RawCacheEntry<H, E, K, V, S, P, W, A, L, Q, R>
+pub struct RawCacheEntry<H, E, K, V, S, P, W, A, L, Q, R, I = HashTableIndexer<K>>
 where
     H: Wait + Drop,
     E: Eviction,
@@ -24,14 +24,15 @@ where
     W: Weighter<K, V>,
     A: Filter<K, V>,
     L: EventListener<Key = K, Value = V>,
+    I: Indexer<K>,
     Q: Pipe<Key = K, Value = V, Properties = P>,
     R: Drop,
 {
-    shares: Shares<H, E, K, V, S, P, W, A, L, Q, R>,
+    shares: Shares<H, E, K, V, S, P, W, A, L, Q, R, I>,
     core: CoreEntry<K, V, P>,
 }
 
-impl<H, E, K, V, S, P, W, A, L, Q, R> Model for RawCacheEntry<H, E, K, V, S, P, W, A, L, Q, R>
+impl<H, E, K, V, S, P, W, A, L, Q, R, I> Model for RawCacheEntry<H, E, K, V, S, P, W, A, L, Q, R, I>
 where
     H: Wait + Drop,
     E: Eviction,
@@ -42,6 +43,7 @@ where
     W: Weighter<K, V>,
     A: Filter<K, V>,
     L: EventListener<Key = K, Value = V>,
+    I: Indexer<K>,
     Q: Pipe<Key = K, Value = V, Properties = P>,
     R: Drop,
 {
@@ -52,7 +54,7 @@ where
     ghost view = { λ e. e.core };
 }
 
-impl<H, E, K, V, S, P, W, A, L, Q, R> Drop for RawCacheEntry<H, E, K, V, S, P, W, A, L, Q, R>
+impl<H, E, K, V, S, P, W, A, L, Q, R, I> Drop for RawCacheEntry<H, E, K, V, S, P, W, A, L, Q, R, I>
 where
     H: Wait + Drop,
     E: Eviction,
@@ -63,6 +65,7 @@ where
     W: Weighter<K, V>,
     A: Filter<K, V>,
     L: EventListener<Key = K, Value = V>,
+    I: Indexer<K>,
     Q: Pipe<Key = K, Value = V, Properties = P>,
     R: Drop,
 {
@@ -72,7 +75,7 @@ where
     }
 }
 
-impl<H, E, K, V, S, P, W, A, L, Q, R> RawCacheEntry<H, E, K, V, S, P, W, A, L, Q, R>
+impl<H, E, K, V, S, P, W, A, L, Q, R, I> RawCacheEntry<H, E, K, V, S, P, W, A, L, Q, R, I>
 where
     H: Wait + Drop,
     E: Eviction,
@@ -83,12 +86,13 @@ where
     W: Weighter<K, V>,
     A: Filter<K, V>,
     L: EventListener<Key = K, Value = V>,
+    I: Indexer<K>,
     Q: Pipe<Key = K, Value = V, Properties = P>,
     R: Drop,
 {
     // The entry of a handle.
     pub(crate) fn new(
-        shares: Shares<H, E, K, V, S, P, W, A, L, Q, R>,
+        shares: Shares<H, E, K, V, S, P, W, A, L, Q, R, I>,
         core: CoreEntry<K, V, P>,
     ) -> Self
         ensures { result ≡ core }
@@ -171,7 +175,7 @@ where
     }
 }
 
-impl<H, E, K, V, S, P, W, A, L, Q, R> Deref for RawCacheEntry<H, E, K, V, S, P, W, A, L, Q, R>
+impl<H, E, K, V, S, P, W, A, L, Q, R, I> Deref for RawCacheEntry<H, E, K, V, S, P, W, A, L, Q, R, I>
 where
     H: Wait + Drop,
     E: Eviction,
@@ -182,6 +186,7 @@ where
     W: Weighter<K, V>,
     A: Filter<K, V>,
     L: EventListener<Key = K, Value = V>,
+    I: Indexer<K>,
     Q: Pipe<Key = K, Value = V, Properties = P>,
     R: Drop,
 {
@@ -196,7 +201,7 @@ where
     }
 }
 
-impl<H, E, K, V, S, P, W, A, L, Q, R> Debug for RawCacheEntry<H, E, K, V, S, P, W, A, L, Q, R>
+impl<H, E, K, V, S, P, W, A, L, Q, R, I> Debug for RawCacheEntry<H, E, K, V, S, P, W, A, L, Q, R, I>
 where
     H: Wait + Drop,
     E: Eviction,
@@ -207,6 +212,7 @@ where
     W: Weighter<K, V>,
     A: Filter<K, V>,
     L: EventListener<Key = K, Value = V>,
+    I: Indexer<K>,
     Q: Pipe<Key = K, Value = V, Properties = P>,
     R: Drop,
 {

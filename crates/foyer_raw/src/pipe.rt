@@ -1,6 +1,6 @@
 //! Where what was evicted goes on to.
 
-ghost use Rattle.std.specs.Prelude.{◌≡◌};
+ghost use Rattle.std.specs.Prelude.{◌≡◌, IsSome};
 
 use foyer_core::{CacheProperties, Piece};
 use futures::Future;
@@ -71,7 +71,9 @@ impl<K: Drop + 'static, V: Drop + 'static, P: Drop + 'static> Pipe for NoopPipe<
 
     fn send(&self, _piece: Piece<K, V, P>) {}
 
-    fn flush(&self, _pieces: Vec<Piece<K, V, P>>) -> Ready<()> {
+    fn flush(&self, _pieces: Vec<Piece<K, V, P>>) -> Ready<()>
+        ensures { IsSome result.0 }
+    {
         ready(())
     }
 }

@@ -3,7 +3,7 @@
 ghost use Rattle.std.specs.Prelude.{◌≡◌, ◌<◌, vec_len};
 
 use crate::ticket::{Answer, Notifier};
-use foyer_core::{Filter, HashTableIndexer, Shard, Weighter};
+use foyer_core::{Filter, Indexer, Shard, Weighter};
 use foyer_policy::{Event, EventListener, Eviction, HashBuilder, Key, Properties, Value};
 use std::alloc::Global;
 use std::sync::{Arc, Mutex, MutexGuard, Wait};
@@ -15,19 +15,11 @@ pub(crate) use fetches::{Later, RawEnded};
 pub(crate) use keys::RawInserted;
 
 /// A shard of a cache whose waiters hold senders, and whose later builders are of this type.
-pub(crate) type RawShard<E, K, V, P, R> = Shard<
-    E,
-    K,
-    V,
-    P,
-    Notifier<Answer<K, V, P>>,
-    R,
-    HashTableIndexer<K>,
->;
+pub(crate) type RawShard<E, K, V, P, R, I> = Shard<E, K, V, P, Notifier<Answer<K, V, P>>, R, I>;
 
 /// What the clones, the entries and the tasks of a cache share. The last owner's drop takes the residents out and
 /// tells the listener.
-pub(crate) struct Shared<H, E, K, V, S, P, W, A, L, R>
+pub(crate) struct Shared<H, E, K, V, S, P, W, A, L, R, I>
 where
     H: Wait + Drop,
     E: Eviction,
@@ -38,10 +30,11 @@ where
     W: Weighter<K, V>,
     A: Filter<K, V>,
     L: EventListener<Key = K, Value = V>,
+    I: Indexer<K>,
     R: Drop,
 {
     pub(crate) rt: H,
-    pub(crate) shards: Vec<Mutex<RawShard<E, K, V, P, R>>>,
+    pub(crate) shards: Vec<Mutex<RawShard<E, K, V, P, R, I>>>,
     pub(crate) hash_builder: Arc<S>,
     pub(crate) weighter: W,
     pub(crate) filter: A,
@@ -52,7 +45,7 @@ where
     ghost some: { 0 < vec_len shards },
 }
 
-impl<H, E, K, V, S, P, W, A, L, R> Drop for Shared<H, E, K, V, S, P, W, A, L, R>
+impl<H, E, K, V, S, P, W, A, L, R, I> Drop for Shared<H, E, K, V, S, P, W, A, L, R, I>
 where
     H: Wait + Drop,
     E: Eviction,
@@ -63,6 +56,7 @@ where
     W: Weighter<K, V>,
     A: Filter<K, V>,
     L: EventListener<Key = K, Value = V>,
+    I: Indexer<K>,
     R: Drop,
 {
     fn drop(self) {
@@ -86,7 +80,7 @@ where
     }
 }
 
-impl<H, E, K, V, S, P, W, A, L, R> Shared<H, E, K, V, S, P, W, A, L, R>
+impl<H, E, K, V, S, P, W, A, L, R, I> Shared<H, E, K, V, S, P, W, A, L, R, I>
 where
     H: Wait + Drop,
     E: Eviction,
@@ -97,6 +91,7 @@ where
     W: Weighter<K, V>,
     A: Filter<K, V>,
     L: EventListener<Key = K, Value = V>,
+    I: Indexer<K>,
     R: Drop,
 {
     // The hash of a key.
@@ -104,9 +99,12 @@ where
         self.hash_builder.hash_one(key)
     }
 
-    // The shard of a hash, locked.
-    pub(crate) fn lock(&self, hash: u64) -> MutexGuard<'_, RawShard<E, K, V, P, R>> {
+    // The shard of a hash, locked. A lock that is free is had without waiting, which is cheaper.
+    pub(crate) fn lock(&self, hash: u64) -> MutexGuard<'_, RawShard<E, K, V, P, R, I>> {
         let place = (hash % self.shards.len() as u64) as usize;
-        self.shards[place].lock(&self.rt)
+        match self.shards[place].try_lock() {
+            Some(shard) => shard,
+            None => self.shards[place].lock(&self.rt),
+        }
     }
 }

@@ -8,13 +8,13 @@ use crate::listener::tell;
 use crate::pipe::Pipe;
 use crate::shared::{RawEnded, Shared};
 use crate::ticket::{Answer, Notifier, Ticket, Waiters, refuse};
-use foyer_core::{Answers, CoreEntry, Ended, Filter, Leave, Left, Piece, Weighter};
+use foyer_core::{Answers, CoreEntry, Ended, Filter, Indexer, Leave, Left, Piece, Weighter};
 use foyer_policy::{EventListener, Eviction, HashBuilder, Key, Properties, Result, Value};
 use std::sync::{Arc, Wait};
 
 /// What a cache, an entry, a wait and a task each have: a share of what they have in common, and the pipe.
 #[derive(Drop)]
-pub(crate) struct Shares<H, E, K, V, S, P, W, A, L, Q, R>
+pub(crate) struct Shares<H, E, K, V, S, P, W, A, L, Q, R, I>
 where
     H: Wait + Drop,
     E: Eviction,
@@ -25,14 +25,15 @@ where
     W: Weighter<K, V>,
     A: Filter<K, V>,
     L: EventListener<Key = K, Value = V>,
+    I: Indexer<K>,
     Q: Pipe<Key = K, Value = V, Properties = P>,
     R: Drop,
 {
-    pub(crate) shared: Arc<Shared<H, E, K, V, S, P, W, A, L, R>>,
+    pub(crate) shared: Arc<Shared<H, E, K, V, S, P, W, A, L, R, I>>,
     pub(crate) pipe: Option<Arc<Q>>,
 }
 
-impl<H, E, K, V, S, P, W, A, L, Q, R> Shares<H, E, K, V, S, P, W, A, L, Q, R>
+impl<H, E, K, V, S, P, W, A, L, Q, R, I> Shares<H, E, K, V, S, P, W, A, L, Q, R, I>
 where
     H: Wait + Drop,
     E: Eviction,
@@ -43,6 +44,7 @@ where
     W: Weighter<K, V>,
     A: Filter<K, V>,
     L: EventListener<Key = K, Value = V>,
+    I: Indexer<K>,
     Q: Pipe<Key = K, Value = V, Properties = P>,
     R: Drop,
 {
@@ -60,7 +62,7 @@ where
     pub(crate) fn entry(
         self,
         core: CoreEntry<K, V, P>,
-    ) -> RawCacheEntry<H, E, K, V, S, P, W, A, L, Q, R>
+    ) -> RawCacheEntry<H, E, K, V, S, P, W, A, L, Q, R, I>
         ensures { result ≡ core }
     {
         RawCacheEntry::new(self, core)

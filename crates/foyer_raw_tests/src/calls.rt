@@ -1,13 +1,14 @@
 //! Each call once.
 
-ghost use Rattle.std.specs.Prelude.{◌≡◌};
+ghost use Rattle.std.specs.Prelude.{◌≡◌, true};
 
 use crate::testing::fifo;
-use foyer_core::{CacheProperties, Limits, RawCacheConfig};
+use foyer_core::{AdmitAll, CacheProperties, Indexer, Limits, RawCacheConfig, UnitWeighter};
 use foyer_policy::{
-    DefaultHasher, Eviction, Fifo, Key, Lru, ModHasher, Reason, Result, Source, Value,
+    DefaultHasher, EventListener, Eviction, Fifo, Key, Lru, ModHasher, Reason, Result, Source,
+    Value,
 };
-use foyer_raw::{NoListener, NoopPipe, RawCache};
+use foyer_raw::{FetchTypes, NoListener, NoopPipe, Pipe, RawCache};
 use std::sync::Wait;
 use std::test::Fail;
 
@@ -121,13 +122,22 @@ fn a_pin_ends_with_its_entry(rt: HostRuntime) -> std::result::Result<(), Fail> {
     Ok(())
 }
 
-// Each call of a cache of any policy, key and value.
-fn all_calls<H: Wait + Drop, E: Eviction, K: Key, V: Value>(
-    cache: RawCache<H, E, K, V>,
+// Each call of a cache of any policy, key, value, listener and pipe.
+fn all_calls<H, E, K, V, L, Q, T, I>(
+    cache: RawCache<H, E, K, V, DefaultHasher, CacheProperties, UnitWeighter, AdmitAll, L, Q, T, I>,
     key: K,
     again: K,
     value: V,
 ) -> Result<bool>
+where
+    H: Wait + Drop,
+    E: Eviction,
+    K: Key,
+    V: Value,
+    L: EventListener<Key = K, Value = V>,
+    Q: Pipe<Key = K, Value = V, Properties = CacheProperties>,
+    T: FetchTypes<K, V, CacheProperties>,
+    I: Indexer<K>,
     requires clones { (k c : K) → K.is_clone k c → K.eq c k ≡ true }
 {
     let entry = cache.insert(key, value)?;

@@ -6,11 +6,11 @@ use super::RawCache;
 use crate::fetch::FetchTypes;
 use crate::flush::{Flush, FlushIf};
 use crate::pipe::Pipe;
-use foyer_core::{Filter, Leave, Piece, Weighter, shard_capacity};
+use foyer_core::{Filter, Indexer, Leave, Piece, Weighter, shard_capacity};
 use foyer_policy::{EventListener, Eviction, HashBuilder, Key, Properties, Result, Value};
 use std::sync::Wait;
 
-impl<H, E, K, V, S, P, W, A, L, Q, T> RawCache<H, E, K, V, S, P, W, A, L, Q, T>
+impl<H, E, K, V, S, P, W, A, L, Q, T, I> RawCache<H, E, K, V, S, P, W, A, L, Q, T, I>
 where
     H: Wait + Drop,
     E: Eviction,
@@ -21,6 +21,7 @@ where
     W: Weighter<K, V>,
     A: Filter<K, V>,
     L: EventListener<Key = K, Value = V>,
+    I: Indexer<K>,
     Q: Pipe<Key = K, Value = V, Properties = P>,
     T: FetchTypes<K, V, P>,
 {

@@ -1,6 +1,6 @@
 //! Look-ups that fetch what is missing.
 
-ghost use Rattle.std.specs.Prelude.{◌≡◌, IfOk, IfSome, Unit, true};
+ghost use Rattle.std.specs.Prelude.{◌≡◌, IfOk, IfSome, true};
 
 use super::RawCache;
 use crate::fetch::{
@@ -8,12 +8,12 @@ use crate::fetch::{
     RequiredFetch, Spawner,
 };
 use crate::pipe::Pipe;
-use foyer_core::{Filter, Lookup, Weighter};
+use foyer_core::{Filter, Indexer, Lookup, Weighter};
 use foyer_policy::{EventListener, Eviction, HashBuilder, Key, Properties, Result, Value};
 use futures::channel::oneshot;
 use std::sync::Wait;
 
-impl<H, E, K, V, S, P, W, A, L, Q, T> RawCache<H, E, K, V, S, P, W, A, L, Q, T>
+impl<H, E, K, V, S, P, W, A, L, Q, T, I> RawCache<H, E, K, V, S, P, W, A, L, Q, T, I>
 where
     H: Wait + Drop,
     E: Eviction,
@@ -24,6 +24,7 @@ where
     W: Weighter<K, V>,
     A: Filter<K, V>,
     L: EventListener<Key = K, Value = V>,
+    I: Indexer<K>,
     Q: Pipe<Key = K, Value = V, Properties = P>,
     T: FetchTypes<K, V, P>,
 {
@@ -42,11 +43,11 @@ where
         fr: F,
         context: T::Context,
         spawner: &mut X,
-    ) -> Result<RawGetOrFetch<H, E, K, V, S, P, W, A, L, Q, T::Required>>
+    ) -> Result<RawGetOrFetch<H, E, K, V, S, P, W, A, L, Q, T::Required, I>>
     where
         O: FnOnce() -> Option<T::Optional>,
         F: FnOnce() -> Option<T::Required>,
-        X: Spawner<RawFetch<H, E, K, V, S, P, W, A, L, Q, T>>,
+        X: Spawner<RawFetch<H, E, K, V, S, P, W, A, L, Q, T, I>>,
         requires clones { (k c : K) → K.is_clone k c → K.eq c k ≡ true }
         requires optional { O.IsAlwaysCallable fo }
         requires required { F.IsAlwaysCallable fr }
@@ -89,7 +90,7 @@ where
     }
 }
 
-impl<H, E, K, V, S, P, W, A, L, Q, R> RawCache<H, E, K, V, S, P, W, A, L, Q, Direct<R>>
+impl<H, E, K, V, S, P, W, A, L, Q, R, I> RawCache<H, E, K, V, S, P, W, A, L, Q, Direct<R>, I>
 where
     H: Wait + Drop,
     E: Eviction,
@@ -100,6 +101,7 @@ where
     W: Weighter<K, V>,
     A: Filter<K, V>,
     L: EventListener<Key = K, Value = V>,
+    I: Indexer<K>,
     Q: Pipe<Key = K, Value = V, Properties = P>,
     R: RequiredFetch<K, V, P>,
 {
@@ -112,10 +114,10 @@ where
         key: &K,
         fetch: F,
         spawner: &mut X,
-    ) -> Result<RawGetOrFetch<H, E, K, V, S, P, W, A, L, Q, Given<R>>>
+    ) -> Result<RawGetOrFetch<H, E, K, V, S, P, W, A, L, Q, Given<R>, I>>
     where
         F: FnOnce() -> R,
-        X: Spawner<RawFetch<H, E, K, V, S, P, W, A, L, Q, Direct<R>>>,
+        X: Spawner<RawFetch<H, E, K, V, S, P, W, A, L, Q, Direct<R>, I>>,
         requires clones { (k c : K) → K.is_clone k c → K.eq c k ≡ true }
         requires callable { F.IsAlwaysCallable fetch }
         requires futures { (r : _) → F.post fetch r → R.can_poll r }

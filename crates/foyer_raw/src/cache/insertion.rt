@@ -8,11 +8,11 @@ use crate::fetch::FetchTypes;
 use crate::pipe::Pipe;
 use crate::shared::RawInserted;
 use crate::shares::Shares;
-use foyer_core::{Filter, Inserted, Piece, Refused, Weighter};
+use foyer_core::{Filter, Indexer, Inserted, Piece, Refused, Weighter};
 use foyer_policy::{EventListener, Eviction, HashBuilder, Key, Properties, Result, Source, Value};
 use std::sync::Wait;
 
-impl<H, E, K, V, S, P, W, A, L, Q, T> RawCache<H, E, K, V, S, P, W, A, L, Q, T>
+impl<H, E, K, V, S, P, W, A, L, Q, T, I> RawCache<H, E, K, V, S, P, W, A, L, Q, T, I>
 where
     H: Wait + Drop,
     E: Eviction,
@@ -23,6 +23,7 @@ where
     W: Weighter<K, V>,
     A: Filter<K, V>,
     L: EventListener<Key = K, Value = V>,
+    I: Indexer<K>,
     Q: Pipe<Key = K, Value = V, Properties = P>,
     T: FetchTypes<K, V, P>,
 {
@@ -31,7 +32,7 @@ where
         &self,
         key: K,
         value: V,
-    ) -> Result<RawCacheEntry<H, E, K, V, S, P, W, A, L, Q, T::Required>>
+    ) -> Result<RawCacheEntry<H, E, K, V, S, P, W, A, L, Q, T::Required, I>>
         requires clones { (k c : K) → K.is_clone k c → K.eq c k ≡ true }
         ensures { IfOk result (λ e. (e.kept.key ≡ key) × (e.kept.value ≡ value)) }
     {
@@ -49,7 +50,7 @@ where
         key: K,
         value: V,
         properties: P,
-    ) -> Result<RawCacheEntry<H, E, K, V, S, P, W, A, L, Q, T::Required>>
+    ) -> Result<RawCacheEntry<H, E, K, V, S, P, W, A, L, Q, T::Required, I>>
         requires clones { (k c : K) → K.is_clone k c → K.eq c k ≡ true }
         ensures { IfOk result (λ e. (e.kept.key ≡ key) × (e.kept.value ≡ value)) }
     {
@@ -65,7 +66,7 @@ where
     pub fn insert_piece(
         &self,
         piece: Piece<K, V, P>,
-    ) -> Result<RawCacheEntry<H, E, K, V, S, P, W, A, L, Q, T::Required>>
+    ) -> Result<RawCacheEntry<H, E, K, V, S, P, W, A, L, Q, T::Required, I>>
         requires clones { (k c : K) → K.is_clone k c → K.eq c k ≡ true }
     {
         let shares = self.shares.try_clone()?;
@@ -82,9 +83,9 @@ where
     // What an insert answers, once those who waited are answered and what left is told.
     fn came_in(
         &self,
-        shares: Shares<H, E, K, V, S, P, W, A, L, Q, T::Required>,
+        shares: Shares<H, E, K, V, S, P, W, A, L, Q, T::Required, I>,
         answer: std::result::Result<RawInserted<K, V, P>, Refused<K, V, P>>,
-    ) -> Result<RawCacheEntry<H, E, K, V, S, P, W, A, L, Q, T::Required>>
+    ) -> Result<RawCacheEntry<H, E, K, V, S, P, W, A, L, Q, T::Required, I>>
         ensures { IfOk result (λ e. IfOk answer (λ made. e ≡ made.entry)) }
     {
         match answer {

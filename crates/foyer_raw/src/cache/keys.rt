@@ -6,11 +6,11 @@ use super::RawCache;
 use crate::entry::RawCacheEntry;
 use crate::fetch::FetchTypes;
 use crate::pipe::Pipe;
-use foyer_core::{Filter, Weighter};
+use foyer_core::{Filter, Indexer, Weighter};
 use foyer_policy::{Event, EventListener, Eviction, HashBuilder, Key, Properties, Result, Value};
 use std::sync::Wait;
 
-impl<H, E, K, V, S, P, W, A, L, Q, T> RawCache<H, E, K, V, S, P, W, A, L, Q, T>
+impl<H, E, K, V, S, P, W, A, L, Q, T, I> RawCache<H, E, K, V, S, P, W, A, L, Q, T, I>
 where
     H: Wait + Drop,
     E: Eviction,
@@ -21,6 +21,7 @@ where
     W: Weighter<K, V>,
     A: Filter<K, V>,
     L: EventListener<Key = K, Value = V>,
+    I: Indexer<K>,
     Q: Pipe<Key = K, Value = V, Properties = P>,
     T: FetchTypes<K, V, P>,
 {
@@ -29,7 +30,7 @@ where
     pub fn get(
         &self,
         key: &K,
-    ) -> Result<Option<RawCacheEntry<H, E, K, V, S, P, W, A, L, Q, T::Required>>>
+    ) -> Result<Option<RawCacheEntry<H, E, K, V, S, P, W, A, L, Q, T::Required, I>>>
         ensures { IfOk result (λ found. IfSome found (λ e. K.eq key.now e.kept.key ≡ true)) }
     {
         let hash = self.hash(key);
@@ -45,7 +46,7 @@ where
     pub fn remove(
         &self,
         key: &K,
-    ) -> Result<Option<RawCacheEntry<H, E, K, V, S, P, W, A, L, Q, T::Required>>>
+    ) -> Result<Option<RawCacheEntry<H, E, K, V, S, P, W, A, L, Q, T::Required, I>>>
         ensures { IfOk result (λ found. IfSome found (λ e. K.eq key.now e.kept.key ≡ true)) }
     {
         let hash = self.hash(key);

@@ -9,7 +9,7 @@ use super::state::{RawFetchState, TaskEvent};
 use super::types::{FetchTypes, OptionalFuture, RequiredFuture};
 use crate::pipe::Pipe;
 use crate::shares::Shares;
-use foyer_core::{Filter, Weighter};
+use foyer_core::{Filter, HashTableIndexer, Indexer, Weighter};
 use foyer_policy::{
     Error, EventListener, Eviction, Fault, HashBuilder, Key, Properties, Reason, Value,
 };
@@ -23,7 +23,7 @@ mod polls;
 
 /// The task that fetches for those who wait for a key. It belongs to the one who leads the fetch. Where it is dropped
 /// before it ended, those who wait get F15.
-pub struct RawFetch<H, E, K, V, S, P, W, A, L, Q, T>
+pub struct RawFetch<H, E, K, V, S, P, W, A, L, Q, T, I = HashTableIndexer<K>>
 where
     H: Wait + Drop,
     E: Eviction,
@@ -34,6 +34,7 @@ where
     W: Weighter<K, V>,
     A: Filter<K, V>,
     L: EventListener<Key = K, Value = V>,
+    I: Indexer<K>,
     Q: Pipe<Key = K, Value = V, Properties = P>,
     T: FetchTypes<K, V, P>,
 {
@@ -42,7 +43,7 @@ where
     hash: u64,
     // Until the key comes in.
     key: Option<K>,
-    shares: Shares<H, E, K, V, S, P, W, A, L, Q, T::Required>,
+    shares: Shares<H, E, K, V, S, P, W, A, L, Q, T::Required, I>,
     context: T::Context,
     // The builders, until their fetches are built.
     optional: Option<T::Optional>,
@@ -71,7 +72,7 @@ pub(crate) struct Begin<K, C, O, F> {
     pub(crate) required: Option<F>,
 }
 
-impl<H, E, K, V, S, P, W, A, L, Q, T> RawFetch<H, E, K, V, S, P, W, A, L, Q, T>
+impl<H, E, K, V, S, P, W, A, L, Q, T, I> RawFetch<H, E, K, V, S, P, W, A, L, Q, T, I>
 where
     H: Wait + Drop,
     E: Eviction,
@@ -82,12 +83,13 @@ where
     W: Weighter<K, V>,
     A: Filter<K, V>,
     L: EventListener<Key = K, Value = V>,
+    I: Indexer<K>,
     Q: Pipe<Key = K, Value = V, Properties = P>,
     T: FetchTypes<K, V, P>,
 {
     // A task that was not polled yet.
     pub(crate) fn new(
-        shares: Shares<H, E, K, V, S, P, W, A, L, Q, T::Required>,
+        shares: Shares<H, E, K, V, S, P, W, A, L, Q, T::Required, I>,
         begin: Begin<K, T::Context, T::Optional, T::Required>,
     ) -> Self
         requires clones { (k c : K) → K.is_clone k c → K.eq c k ≡ true }
@@ -140,7 +142,7 @@ where
     }
 }
 
-impl<H, E, K, V, S, P, W, A, L, Q, T> Drop for RawFetch<H, E, K, V, S, P, W, A, L, Q, T>
+impl<H, E, K, V, S, P, W, A, L, Q, T, I> Drop for RawFetch<H, E, K, V, S, P, W, A, L, Q, T, I>
 where
     H: Wait + Drop,
     E: Eviction,
@@ -151,6 +153,7 @@ where
     W: Weighter<K, V>,
     A: Filter<K, V>,
     L: EventListener<Key = K, Value = V>,
+    I: Indexer<K>,
     Q: Pipe<Key = K, Value = V, Properties = P>,
     T: FetchTypes<K, V, P>,
 {
@@ -178,7 +181,7 @@ where
     }
 }
 
-impl<H, E, K, V, S, P, W, A, L, Q, T> Debug for RawFetch<H, E, K, V, S, P, W, A, L, Q, T>
+impl<H, E, K, V, S, P, W, A, L, Q, T, I> Debug for RawFetch<H, E, K, V, S, P, W, A, L, Q, T, I>
 where
     H: Wait + Drop,
     E: Eviction,
@@ -189,6 +192,7 @@ where
     W: Weighter<K, V>,
     A: Filter<K, V>,
     L: EventListener<Key = K, Value = V>,
+    I: Indexer<K>,
     Q: Pipe<Key = K, Value = V, Properties = P>,
     T: FetchTypes<K, V, P>,
 {

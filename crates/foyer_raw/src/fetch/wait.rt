@@ -6,7 +6,7 @@ use crate::entry::RawCacheEntry;
 use crate::pipe::Pipe;
 use crate::shares::Shares;
 use crate::ticket::{Answer, Waiter};
-use foyer_core::{Filter, Weighter};
+use foyer_core::{Filter, HashTableIndexer, Indexer, Weighter};
 use foyer_policy::{
     Error, EventListener, Eviction, HashBuilder, Key, Properties, Reason, Result, Value,
 };
@@ -16,7 +16,7 @@ use std::fmt::{self, Debug};
 use std::sync::Wait;
 
 /// A future of an entry, or of none. One that is dropped gives a handle back that came meanwhile.
-pub struct RawWait<H, E, K, V, S, P, W, A, L, Q, R>
+pub struct RawWait<H, E, K, V, S, P, W, A, L, Q, R, I = HashTableIndexer<K>>
 where
     H: Wait + Drop,
     E: Eviction,
@@ -27,19 +27,20 @@ where
     W: Weighter<K, V>,
     A: Filter<K, V>,
     L: EventListener<Key = K, Value = V>,
+    I: Indexer<K>,
     Q: Pipe<Key = K, Value = V, Properties = P>,
     R: Drop,
 {
     // Until the answer came.
     open: Option<
         (
-            Shares<H, E, K, V, S, P, W, A, L, Q, R>,
+            Shares<H, E, K, V, S, P, W, A, L, Q, R, I>,
             Waiter<Answer<K, V, P>>,
         ),
     >,
 }
 
-impl<H, E, K, V, S, P, W, A, L, Q, R> RawWait<H, E, K, V, S, P, W, A, L, Q, R>
+impl<H, E, K, V, S, P, W, A, L, Q, R, I> RawWait<H, E, K, V, S, P, W, A, L, Q, R, I>
 where
     H: Wait + Drop,
     E: Eviction,
@@ -50,12 +51,13 @@ where
     W: Weighter<K, V>,
     A: Filter<K, V>,
     L: EventListener<Key = K, Value = V>,
+    I: Indexer<K>,
     Q: Pipe<Key = K, Value = V, Properties = P>,
     R: Drop,
 {
     // Waits for this answer.
     pub(crate) fn new(
-        shares: Shares<H, E, K, V, S, P, W, A, L, Q, R>,
+        shares: Shares<H, E, K, V, S, P, W, A, L, Q, R, I>,
         waiter: Waiter<Answer<K, V, P>>,
     ) -> Self {
         RawWait {
@@ -64,7 +66,7 @@ where
     }
 }
 
-impl<H, E, K, V, S, P, W, A, L, Q, R> Drop for RawWait<H, E, K, V, S, P, W, A, L, Q, R>
+impl<H, E, K, V, S, P, W, A, L, Q, R, I> Drop for RawWait<H, E, K, V, S, P, W, A, L, Q, R, I>
 where
     H: Wait + Drop,
     E: Eviction,
@@ -75,6 +77,7 @@ where
     W: Weighter<K, V>,
     A: Filter<K, V>,
     L: EventListener<Key = K, Value = V>,
+    I: Indexer<K>,
     Q: Pipe<Key = K, Value = V, Properties = P>,
     R: Drop,
 {
@@ -93,7 +96,7 @@ where
     }
 }
 
-impl<H, E, K, V, S, P, W, A, L, Q, R> Future for RawWait<H, E, K, V, S, P, W, A, L, Q, R>
+impl<H, E, K, V, S, P, W, A, L, Q, R, I> Future for RawWait<H, E, K, V, S, P, W, A, L, Q, R, I>
 where
     H: Wait + Drop,
     E: Eviction,
@@ -104,10 +107,11 @@ where
     W: Weighter<K, V>,
     A: Filter<K, V>,
     L: EventListener<Key = K, Value = V>,
+    I: Indexer<K>,
     Q: Pipe<Key = K, Value = V, Properties = P>,
     R: Drop,
 {
-    type Output = Result<Option<RawCacheEntry<H, E, K, V, S, P, W, A, L, Q, R>>>;
+    type Output = Result<Option<RawCacheEntry<H, E, K, V, S, P, W, A, L, Q, R, I>>>;
 
     fn poll(&mut self, cx: &mut Context<'_>) -> Poll<Self::Output> {
         let Some((shares, mut waiter)) = self.open.take() else {
@@ -127,7 +131,7 @@ where
     }
 }
 
-impl<H, E, K, V, S, P, W, A, L, Q, R> Debug for RawWait<H, E, K, V, S, P, W, A, L, Q, R>
+impl<H, E, K, V, S, P, W, A, L, Q, R, I> Debug for RawWait<H, E, K, V, S, P, W, A, L, Q, R, I>
 where
     H: Wait + Drop,
     E: Eviction,
@@ -138,6 +142,7 @@ where
     W: Weighter<K, V>,
     A: Filter<K, V>,
     L: EventListener<Key = K, Value = V>,
+    I: Indexer<K>,
     Q: Pipe<Key = K, Value = V, Properties = P>,
     R: Drop,
 {
@@ -148,7 +153,7 @@ where
 
 /// What a look-up answers that fetches what is missing: an entry at once, or a wait.
 #[derive(Drop)]
-pub enum RawGetOrFetch<H, E, K, V, S, P, W, A, L, Q, R>
+pub enum RawGetOrFetch<H, E, K, V, S, P, W, A, L, Q, R, I = HashTableIndexer<K>>
 where
     H: Wait + Drop,
     E: Eviction,
@@ -159,16 +164,17 @@ where
     W: Weighter<K, V>,
     A: Filter<K, V>,
     L: EventListener<Key = K, Value = V>,
+    I: Indexer<K>,
     Q: Pipe<Key = K, Value = V, Properties = P>,
     R: Drop,
 {
     /// The entry, until it is taken.
-    Hit(Option<RawCacheEntry<H, E, K, V, S, P, W, A, L, Q, R>>),
+    Hit(Option<RawCacheEntry<H, E, K, V, S, P, W, A, L, Q, R, I>>),
     /// A wait for the one that is fetched.
-    Miss(RawWait<H, E, K, V, S, P, W, A, L, Q, R>),
+    Miss(RawWait<H, E, K, V, S, P, W, A, L, Q, R, I>),
 }
 
-impl<H, E, K, V, S, P, W, A, L, Q, R> RawGetOrFetch<H, E, K, V, S, P, W, A, L, Q, R>
+impl<H, E, K, V, S, P, W, A, L, Q, R, I> RawGetOrFetch<H, E, K, V, S, P, W, A, L, Q, R, I>
 where
     H: Wait + Drop,
     E: Eviction,
@@ -179,6 +185,7 @@ where
     W: Weighter<K, V>,
     A: Filter<K, V>,
     L: EventListener<Key = K, Value = V>,
+    I: Indexer<K>,
     Q: Pipe<Key = K, Value = V, Properties = P>,
     R: Drop,
 {
@@ -186,7 +193,7 @@ where
 
     /// Whether the entry is still to come.
     pub fn need_await(&self) -> bool
-        ensures { elim [ Hit _ ↦ result ≡ false | Miss _ ↦ result ≡ true ] self.now }
+        ensures { elim self.now as (λ _. Type 0) [ Hit _ ↦ result ≡ false | Miss _ ↦ result ≡ true ] }
     {
         matches!(self, RawGetOrFetch::Miss(_))
     }
@@ -194,11 +201,11 @@ where
     /// The entry of a hit, or F16 where it was taken before; or a miss, as it was.
     pub fn try_unwrap(
         self,
-    ) -> std::result::Result<Result<RawCacheEntry<H, E, K, V, S, P, W, A, L, Q, R>>, Self>
-        ensures { elim [
+    ) -> std::result::Result<Result<RawCacheEntry<H, E, K, V, S, P, W, A, L, Q, R, I>>, Self>
+        ensures { elim self as (λ _. Type 0) [
           | Hit entry ↦ IfOk result (λ answer. MatchOption entry (IsErr answer) (λ e. answer ≡ Ok e)) × IsOk result
           | Miss _ ↦ IfErr result (λ back. back ≡ self) × IsErr result
-        ] self }
+        ] }
     {
         match self {
             RawGetOrFetch::Hit(Some(entry)) => Ok(Ok(entry)),
@@ -208,7 +215,8 @@ where
     }
 }
 
-impl<H, E, K, V, S, P, W, A, L, Q, R> Future for RawGetOrFetch<H, E, K, V, S, P, W, A, L, Q, R>
+impl<H, E, K, V, S, P, W, A, L, Q, R, I> Future
+    for RawGetOrFetch<H, E, K, V, S, P, W, A, L, Q, R, I>
 where
     H: Wait + Drop,
     E: Eviction,
@@ -219,10 +227,11 @@ where
     W: Weighter<K, V>,
     A: Filter<K, V>,
     L: EventListener<Key = K, Value = V>,
+    I: Indexer<K>,
     Q: Pipe<Key = K, Value = V, Properties = P>,
     R: Drop,
 {
-    type Output = Result<Option<RawCacheEntry<H, E, K, V, S, P, W, A, L, Q, R>>>;
+    type Output = Result<Option<RawCacheEntry<H, E, K, V, S, P, W, A, L, Q, R, I>>>;
 
     fn poll(&mut self, cx: &mut Context<'_>) -> Poll<Self::Output> {
         match self {
@@ -235,7 +244,7 @@ where
     }
 }
 
-impl<H, E, K, V, S, P, W, A, L, Q, R> Debug for RawGetOrFetch<H, E, K, V, S, P, W, A, L, Q, R>
+impl<H, E, K, V, S, P, W, A, L, Q, R, I> Debug for RawGetOrFetch<H, E, K, V, S, P, W, A, L, Q, R, I>
 where
     H: Wait + Drop,
     E: Eviction,
@@ -246,6 +255,7 @@ where
     W: Weighter<K, V>,
     A: Filter<K, V>,
     L: EventListener<Key = K, Value = V>,
+    I: Indexer<K>,
     Q: Pipe<Key = K, Value = V, Properties = P>,
     R: Drop,
 {

@@ -6,7 +6,9 @@ ghost use Rattle.foyer_core.specs.declared.outcome.Lookup.TheVariants.{Hit, Lead
 
 use super::{RawShard, Shared};
 use crate::ticket::{Answer, Notifier};
-use foyer_core::{Data, Ended, FetchOrTake, Filter, Inserted, Lookup, Piece, Refused, Weighter};
+use foyer_core::{
+    Data, Ended, FetchOrTake, Filter, Indexer, Inserted, Lookup, Piece, Refused, Weighter,
+};
 use foyer_policy::{
     Error, EventListener, Eviction, HashBuilder, Key, Properties, Reason, Result, Source, Value,
 };
@@ -19,7 +21,7 @@ pub(crate) type RawEnded<K, V, P> = Ended<K, V, P, Notifier<Answer<K, V, P>>>;
 /// What is to be done where a fetch found nothing.
 pub(crate) type Later<K, V, P, R> = FetchOrTake<R, Notifier<Answer<K, V, P>>>;
 
-impl<H, E, K, V, S, P, W, A, L, R> Shared<H, E, K, V, S, P, W, A, L, R>
+impl<H, E, K, V, S, P, W, A, L, R, I> Shared<H, E, K, V, S, P, W, A, L, R, I>
 where
     H: Wait + Drop,
     E: Eviction,
@@ -30,6 +32,7 @@ where
     W: Weighter<K, V>,
     A: Filter<K, V>,
     L: EventListener<Key = K, Value = V>,
+    I: Indexer<K>,
     R: Drop,
 {
     // A handle of the key's record, or a token: for a new fetch, or for the one that is open.
@@ -107,8 +110,8 @@ where
 
 // Ends an open fetch of a key in a shard with the record for which a piece stands, which the shard knows. Beside those who
 // wait it has a handle for the time of this step, which counts at the limit of handles (F9).
-fn complete_known<E: Eviction, K: Key, V: Value, P: Properties, R: Drop>(
-    shard: &mut RawShard<E, K, V, P, R>,
+fn complete_known<E: Eviction, K: Key, V: Value, P: Properties, R: Drop, I: Indexer<K>>(
+    shard: &mut RawShard<E, K, V, P, R, I>,
     alloc: Global,
     hash: u64,
     key: &K,
@@ -147,8 +150,8 @@ fn complete_known<E: Eviction, K: Key, V: Value, P: Properties, R: Drop>(
 }
 
 // A handle of the key's record in a shard, or a token.
-fn look_up<E: Eviction, K: Key, V: Value, P: Properties, R: Drop>(
-    shard: &mut RawShard<E, K, V, P, R>,
+fn look_up<E: Eviction, K: Key, V: Value, P: Properties, R: Drop, I: Indexer<K>>(
+    shard: &mut RawShard<E, K, V, P, R, I>,
     hash: u64,
     key: &K,
     required: Option<R>,

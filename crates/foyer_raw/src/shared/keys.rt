@@ -5,7 +5,7 @@ ghost use Rattle.std.specs.Prelude.{◌≡◌, IfOk, IfSome, true};
 use super::Shared;
 use crate::ticket::{Answer, Notifier};
 use foyer_core::{
-    CoreEntry, Data, Filter, Inserted, Leave, Left, Piece, Refused, Weighter, marked,
+    CoreEntry, Data, Filter, Indexer, Inserted, Leave, Left, Piece, Refused, Weighter, marked,
 };
 use foyer_policy::{
     Error, EventListener, Eviction, HashBuilder, Key, Properties, Reason, Result, Source, Value,
@@ -15,7 +15,7 @@ use std::sync::Wait;
 /// What an insert answers that is not refused.
 pub(crate) type RawInserted<K, V, P> = Inserted<K, V, P, Notifier<Answer<K, V, P>>>;
 
-impl<H, E, K, V, S, P, W, A, L, R> Shared<H, E, K, V, S, P, W, A, L, R>
+impl<H, E, K, V, S, P, W, A, L, R, I> Shared<H, E, K, V, S, P, W, A, L, R, I>
 where
     H: Wait + Drop,
     E: Eviction,
@@ -26,6 +26,7 @@ where
     W: Weighter<K, V>,
     A: Filter<K, V>,
     L: EventListener<Key = K, Value = V>,
+    I: Indexer<K>,
     R: Drop,
 {
     // A record that is to come in, of a key that has this hash: the weighter is asked, and then the filter, with no lock

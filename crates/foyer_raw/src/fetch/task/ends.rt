@@ -7,13 +7,13 @@ use crate::fetch::FetchTypes;
 use crate::pipe::Pipe;
 use crate::shared::Later;
 use crate::ticket::{Waiters, refuse, tell_none};
-use foyer_core::{FetchOrTake, FetchTarget, Filter, Piece, Weighter};
+use foyer_core::{FetchOrTake, FetchTarget, Filter, Indexer, Piece, Weighter};
 use foyer_policy::{
     Error, EventListener, Eviction, Fault, HashBuilder, Key, Properties, Reason, Source, Value,
 };
 use std::sync::{Arc, Wait};
 
-impl<H, E, K, V, S, P, W, A, L, Q, T> RawFetch<H, E, K, V, S, P, W, A, L, Q, T>
+impl<H, E, K, V, S, P, W, A, L, Q, T, I> RawFetch<H, E, K, V, S, P, W, A, L, Q, T, I>
 where
     H: Wait + Drop,
     E: Eviction,
@@ -24,6 +24,7 @@ where
     W: Weighter<K, V>,
     A: Filter<K, V>,
     L: EventListener<Key = K, Value = V>,
+    I: Indexer<K>,
     Q: Pipe<Key = K, Value = V, Properties = P>,
     T: FetchTypes<K, V, P>,
 {

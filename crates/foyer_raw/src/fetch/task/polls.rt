@@ -11,13 +11,13 @@ use crate::fetch::{
     TaskEvent,
 };
 use crate::pipe::Pipe;
-use foyer_core::{FetchOrTake, Filter, Weighter};
+use foyer_core::{FetchOrTake, Filter, Indexer, Weighter};
 use foyer_policy::{EventListener, Eviction, HashBuilder, Key, Properties, Source, Value};
 use futures::Future;
 use futures::task::{Context, Poll};
 use std::sync::Wait;
 
-impl<H, E, K, V, S, P, W, A, L, Q, T> Future for RawFetch<H, E, K, V, S, P, W, A, L, Q, T>
+impl<H, E, K, V, S, P, W, A, L, Q, T, I> Future for RawFetch<H, E, K, V, S, P, W, A, L, Q, T, I>
 where
     H: Wait + Drop,
     E: Eviction,
@@ -28,6 +28,7 @@ where
     W: Weighter<K, V>,
     A: Filter<K, V>,
     L: EventListener<Key = K, Value = V>,
+    I: Indexer<K>,
     Q: Pipe<Key = K, Value = V, Properties = P>,
     T: FetchTypes<K, V, P>,
 {
@@ -57,7 +58,7 @@ where
     }
 }
 
-impl<H, E, K, V, S, P, W, A, L, Q, T> RawFetch<H, E, K, V, S, P, W, A, L, Q, T>
+impl<H, E, K, V, S, P, W, A, L, Q, T, I> RawFetch<H, E, K, V, S, P, W, A, L, Q, T, I>
 where
     H: Wait + Drop,
     E: Eviction,
@@ -68,6 +69,7 @@ where
     W: Weighter<K, V>,
     A: Filter<K, V>,
     L: EventListener<Key = K, Value = V>,
+    I: Indexer<K>,
     Q: Pipe<Key = K, Value = V, Properties = P>,
     T: FetchTypes<K, V, P>,
 {
