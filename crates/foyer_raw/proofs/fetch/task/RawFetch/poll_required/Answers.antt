@@ -1,7 +1,7 @@
 use Rattle.std.proofs.Common.{rules, subst}
 use Rattle.foyer_raw.specs.Steps.{Leads}
 use Rattle.foyer_raw.proofs.Moves.{Leads-then}
-use Rattle.foyer_raw.proofs.fetch.task.polls.RawFetch.poll_required.Goals as goal
+use Rattle.foyer_raw.proofs.fetch.task.RawFetch.poll_required.Goals as goal
 
 pub returns-in-Ready-Ok-clause-leads : goal.returns-in-Ready-Ok-clause-leads
 returns-in-Ready-Ok-clause-leads g c =

@@ -1,6 +1,6 @@
 use Rattle.std.proofs.Common.{rules}
 use Rattle.foyer_raw.proofs.Moves.{Leads-then}
-use Rattle.foyer_raw.proofs.fetch.task.polls.RawFetch.poll_optional.Goals as goal
+use Rattle.foyer_raw.proofs.fetch.task.RawFetch.poll_optional.Goals as goal
 
 pub returns-in-Ready-Ok-Some-clause-ended : goal.returns-in-Ready-Ok-Some-clause-ended
 returns-in-Ready-Ok-Some-clause-ended g c =

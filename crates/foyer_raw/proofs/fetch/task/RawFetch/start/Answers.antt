@@ -1,5 +1,5 @@
 use Rattle.std.proofs.Common.{true, false, refl}
-use Rattle.foyer_raw.proofs.fetch.task.polls.RawFetch.start.Goals as goal
+use Rattle.foyer_raw.proofs.fetch.task.RawFetch.start.Goals as goal
 
 pub returns-in-Some-clause-leads : goal.returns-in-Some-clause-leads
 returns-in-Some-clause-leads g c = c.step.ensures.start true refl
