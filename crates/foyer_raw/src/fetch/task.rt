@@ -136,7 +136,8 @@ where
         ensures start { (optional : _) → event ≡ TaskEvent.Start optional → Leads 1 self.old.state self.new.state }
         ensures later { self.old.state ≢ RawFetchState.Init → Leads 1 self.old.state self.new.state }
         ensures state { (r : _) × (self.new.state ≡ next_state self.old.state r event) }
-        ensures rest { record self.new { state = self.old.state } ≡ self.old }
+        ensures optional { self.new.optional_fetch ≡ self.old.optional_fetch }
+        ensures required { self.new.required_fetch ≡ self.old.required_fetch }
     {
         self.state = self.state.next(self.required.is_some(), event);
     }

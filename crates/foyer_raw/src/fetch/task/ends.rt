@@ -38,7 +38,9 @@ where
 
     // The key, which comes in.
     pub(super) fn take_key(&mut self) -> Option<K>
-        ensures rest { record self.new { key = self.old.key } ≡ self.old }
+        ensures state { self.new.state ≡ self.old.state }
+        ensures optional { self.new.optional_fetch ≡ self.old.optional_fetch }
+        ensures required { self.new.required_fetch ≡ self.old.required_fetch }
     {
         self.key.take()
     }
