@@ -36,15 +36,6 @@ where
         }
     }
 
-    // The key, which comes in.
-    pub(super) fn take_key(&mut self) -> Option<K>
-        ensures state { self.new.state ≡ self.old.state }
-        ensures optional { self.new.optional_fetch ≡ self.old.optional_fetch }
-        ensures required { self.new.required_fetch ≡ self.old.required_fetch }
-    {
-        self.key.take()
-    }
-
     // Ends the fetch with what was fetched, and answers those who wait. Where the fetch is not open, nothing happens, and
     // neither the weighter nor the filter is asked.
     pub(super) fn complete(&self, key: Option<K>, target: FetchTarget<K, V, P>, source: Source) {

@@ -162,7 +162,7 @@ where
             }
             Poll::Ready(Ok(Some(target))) => {
                 self.step(TaskEvent::Given);
-                let key = self.take_key();
+                let key = self.key.take();
                 self.complete(key, target, Source::Disk);
                 self.step(TaskEvent::Told);
                 Poll::Ready(())
@@ -220,7 +220,7 @@ where
             }
             Poll::Ready(Ok(target)) => {
                 self.step(TaskEvent::Given);
-                let key = self.take_key();
+                let key = self.key.take();
                 self.complete(key, target, Source::Outer);
                 self.step(TaskEvent::Told);
                 Poll::Ready(())
