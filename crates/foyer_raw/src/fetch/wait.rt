@@ -122,7 +122,10 @@ where
             return Poll::Pending;
         };
         let answer = match received {
-            Ok(Ok(Some(ticket))) => Ok(ticket.into_core().map(|core| shares.entry(core))),
+            Ok(Ok(Some(ticket))) => match ticket.into_core() {
+                Some(core) => Ok(Some(shares.entry(core))),
+                None => Ok(None),
+            },
             Ok(Ok(None)) => Ok(None),
             Ok(Err(error)) => Err(error),
             Err(_) => Err(Error::new(Reason::ChannelClosed)),
