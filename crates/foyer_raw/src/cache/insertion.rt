@@ -9,7 +9,9 @@ use crate::pipe::Pipe;
 use crate::shared::RawInserted;
 use crate::shares::Shares;
 use foyer_core::{Filter, Indexer, Inserted, Piece, Refused, Weighter};
-use foyer_policy::{EventListener, Eviction, HashBuilder, Key, Properties, Result, Source, Value};
+use foyer_policy::{
+    Error, EventListener, Eviction, HashBuilder, Key, Properties, Result, Source, Value,
+};
 use std::sync::Wait;
 
 impl<H, E, K, V, S, P, W, A, L, Q, T, I> RawCache<H, E, K, V, S, P, W, A, L, Q, T, I>
@@ -57,8 +59,10 @@ where
         let shares = self.shares.try_clone()?;
         let hash = self.hash(&key);
         let kept = self.shares.shared.kept(hash, key, value, properties);
-        let answer = self.shares.shared.emplace(kept, Source::Outer);
-        self.came_in(shares, answer)
+        match self.shares.shared.emplace(kept, Source::Outer) {
+            Ok(made) => Ok(self.came_in(shares, made)),
+            Err(refused) => Err(self.refused(refused)),
+        }
     }
 
     /// Puts a piece's record in, and answers an entry of it, with the source `Memory`. A piece of this cache stands for its
@@ -76,34 +80,34 @@ where
             .shared
             .weighter
             .weigh(piece.key(), piece.value());
-        let answer = self.shares.shared.take(hash, weight, piece);
-        self.came_in(shares, answer)
+        match self.shares.shared.take(hash, weight, piece) {
+            Ok(made) => Ok(self.came_in(shares, made)),
+            Err(refused) => Err(self.refused(refused)),
+        }
     }
 
-    // What an insert answers, once those who waited are answered and what left is told.
+    // The entry of what came in, once those who waited are answered and what left is told.
     fn came_in(
         &self,
         shares: Shares<H, E, K, V, S, P, W, A, L, Q, T::Required, I>,
-        answer: std::result::Result<RawInserted<K, V, P>, Refused<K, V, P>>,
-    ) -> Result<RawCacheEntry<H, E, K, V, S, P, W, A, L, Q, T::Required, I>>
-        ensures { IfOk result (λ e. IfOk answer (λ made. e ≡ made.entry)) }
+        made: RawInserted<K, V, P>,
+    ) -> RawCacheEntry<H, E, K, V, S, P, W, A, L, Q, T::Required, I>
+        ensures { result ≡ made.entry }
     {
-        match answer {
-            Ok(
-                Inserted {
-                    entry,
-                    answers,
-                    leaves,
-                },
-            ) => {
-                self.shares.answer(answers);
-                self.shares.tell_all(leaves);
-                Ok(shares.entry(entry))
-            }
-            Err(Refused { error, leaves }) => {
-                self.shares.tell_all(leaves);
-                Err(error)
-            }
-        }
+        let Inserted {
+            entry,
+            answers,
+            leaves,
+        } = made;
+        self.shares.answer(answers);
+        self.shares.tell_all(leaves);
+        shares.entry(entry)
+    }
+
+    // Why nothing came in, once what left all the same is told.
+    fn refused(&self, refused: Refused<K, V, P>) -> Error {
+        let Refused { error, leaves } = refused;
+        self.shares.tell_all(leaves);
+        error
     }
 }

@@ -1,6 +1,6 @@
 //! What one poll of a task does.
 
-ghost use Rattle.std.specs.Prelude.{◌≡◌, ◌≢◌, ◌⊎◌, IfSome, IsNone};
+ghost use Rattle.std.specs.Prelude.{◌≡◌, ◌≢◌, ◌⊎◌, ⊤, IfSome, IsNone};
 ghost use Rattle.futures.specs.Task.{Covers, Keeps};
 ghost use Rattle.futures.specs.Poll.{IfReady, OnPending};
 ghost use Rattle.foyer_raw.specs.Steps.{Leads};
@@ -40,6 +40,8 @@ where
     /// changes nothing.
     fn poll(&mut self, cx: &mut Context<'_>) -> Poll<()>
         requires { IfSome self.old.optional_fetch T.Optional.Fetch.can_poll × IfSome self.old.required_fetch T.Required.Fetch.can_poll }
+        ensures value { IfReady result (λ _. ⊤) }
+        ensures same { OnPending result ((x : _) → ⊤ → ⊤) }
         ensures again { OnPending result (IfSome self.new.optional_fetch T.Optional.Fetch.can_poll × IfSome self.new.required_fetch T.Required.Fetch.can_poll) }
         ensures registered { OnPending result (Covers cx.new (λ _. ⊥)) }
         ensures kept { Keeps cx.old cx.new }
