@@ -1,0 +1,9 @@
+use Rattle.std.proofs.Common.{◌-◌, vec_len}
+use Rattle.futures.specs.Task.{Keeps}
+use Rattle.foyer_raw.proofs.fetch.spawner.ListSpawner.poll_all.Given as goal
+
+abbrev pub invariant-loop-place : goal.invariant-loop-place
+invariant-loop-place g l = Keeps l.initial.cx l.cx
+
+abbrev pub decreases-loop-place : goal.decreases-loop-place
+decreases-loop-place g l = vec_len l.self.tasks - l.place

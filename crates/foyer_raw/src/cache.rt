@@ -1,0 +1,198 @@
+//! The cache that many threads share.
+
+ghost use Rattle.std.specs.Prelude.{◌≡◌, ◌<◌, None, Err, IfOk, IfErr, IfSome, OnOk, true, vec_len};
+ghost use Rattle.foyer_policy.specs.declared.error.Reason.TheVariants.{NoMemory};
+
+use crate::fetch::{FetchTypes, NoFetch};
+use crate::listener::NoListener;
+use crate::pipe::{NoopPipe, Pipe};
+use crate::shared::{RawShard, Shared};
+use crate::shares::Shares;
+use crate::ticket::{Answer, Notifier};
+use foyer_core::{
+    AdmitAll, CacheCore, CacheProperties, Filter, HashTableIndexer, Indexer, RawCacheConfig,
+    UnitWeighter, Weighter,
+};
+use foyer_policy::{
+    DefaultHasher, Error, EventListener, Eviction, HashBuilder, Key, Properties, Reason, Result,
+    Value,
+};
+use std::alloc::Global;
+use std::sync::{Arc, Mutex, Wait};
+
+mod bulk;
+mod fetching;
+mod insertion;
+mod keys;
+
+/// A cache that many threads share. Each shard stands under a lock of its own, and each call makes one step of a shard,
+/// or one of each in turn. What left is told after the lock is released.
+#[derive(Drop)]
+pub struct RawCache<
+    H,
+    E,
+    K,
+    V,
+    S = DefaultHasher,
+    P = CacheProperties,
+    W = UnitWeighter,
+    A = AdmitAll,
+    L = NoListener<K, V>,
+    Q = NoopPipe<K, V, P>,
+    T = NoFetch,
+    I = HashTableIndexer<K>,
+>
+where
+    H: Wait + Drop,
+    E: Eviction,
+    K: Key,
+    V: Value,
+    S: HashBuilder,
+    P: Properties,
+    W: Weighter<K, V>,
+    A: Filter<K, V>,
+    L: EventListener<Key = K, Value = V>,
+    I: Indexer<K>,
+    Q: Pipe<Key = K, Value = V, Properties = P>,
+    T: FetchTypes<K, V, P>,
+{
+    shares: Shares<H, E, K, V, S, P, W, A, L, Q, T::Required, I>,
+}
+
+impl<H, E, K, V, S, P, W, A, L, Q, T, I> RawCache<H, E, K, V, S, P, W, A, L, Q, T, I>
+where
+    H: Wait + Drop,
+    E: Eviction,
+    K: Key,
+    V: Value,
+    S: HashBuilder,
+    P: Properties,
+    W: Weighter<K, V>,
+    A: Filter<K, V>,
+    L: EventListener<Key = K, Value = V>,
+    I: Indexer<K>,
+    Q: Pipe<Key = K, Value = V, Properties = P>,
+    T: FetchTypes<K, V, P>,
+{
+    ghost use Rattle.foyer_core.specs.Core.{core_fault};
+
+    /// A cache that holds nothing and has no pipe, whose shards share the capacity. Refused where there is to be no
+    /// shard (F1), then with the policy configuration's first fault (F2 to F6), and else only for want of memory (F7).
+    pub fn new(
+        rt: H,
+        alloc: Global,
+        config: RawCacheConfig<E::Config, S, W, A>,
+        listener: L,
+    ) -> Result<Self>
+        ensures accepted { OnOk result (core_fault E.model config ≡ None) }
+        ensures refused { IfSome (core_fault E.model config) (λ reason. result ≡ Err reason) }
+        ensures memory { IfErr result (λ e. core_fault E.model config ≡ None → e ≡ NoMemory) }
+    {
+        if config.shards == 0 {
+            return Err(Error::new(Reason::NoShards));
+        }
+        let made = CacheCore::<
+            E,
+            K,
+            V,
+            P,
+            S,
+            W,
+            A,
+            Notifier<Answer<K, V, P>>,
+            T::Required,
+            I,
+        >::new_shards(alloc, &config)?;
+        let shards = locked(alloc, made)?;
+        let capacity = config.capacity;
+        let hash_builder = Arc::new(alloc, config.hash_builder)?;
+        let shared = Shared {
+            rt,
+            shards,
+            hash_builder,
+            weighter: config.weighter,
+            filter: config.filter,
+            listener,
+            resizing: Mutex::new(capacity),
+            alloc,
+        };
+        let shared = Arc::new(alloc, shared)?;
+        Ok(RawCache {
+            shares: Shares { shared, pipe: None },
+        })
+    }
+
+    /// The same cache again, with the same pipe. Refused where something can't be shared (F7).
+    pub fn try_clone(&self) -> Result<Self> {
+        let shares = self.shares.try_clone()?;
+        Ok(RawCache { shares })
+    }
+
+    /// The same cache with this pipe, which its entries, clones and tasks have from then on. Those that were made before
+    /// keep what they had.
+    pub fn with_pipe(self, pipe: Arc<Q>) -> Self {
+        let RawCache { shares } = self;
+        let Shares { shared, pipe: _ } = shares;
+        RawCache {
+            shares: Shares {
+                shared,
+                pipe: Some(pipe),
+            },
+        }
+    }
+
+    /// The weight that the records may have together: that of the last resize, or else the first one.
+    pub fn capacity(&self) -> usize {
+        *self.shares.shared.resizing.lock(&self.shares.shared.rt)
+    }
+
+    /// How many shards there are.
+    pub fn shards(&self) -> usize {
+        self.shares.shared.shards.len()
+    }
+
+    /// The sum of the weights of the records that a get finds, one shard after the other.
+    pub fn usage(&self) -> u128 {
+        let mut sum = 0u128;
+        for shard in self.shares.shared.shards.as_slice() {
+            let usage = shard.lock(&self.shares.shared.rt).usage();
+            sum = sum.saturating_add(usage as u128);
+        }
+        sum
+    }
+
+    /// How many records a get finds, one shard after the other.
+    pub fn entries(&self) -> u128 {
+        let mut sum = 0u128;
+        for shard in self.shares.shared.shards.as_slice() {
+            let entries = shard.lock(&self.shares.shared.rt).entries();
+            sum = sum.saturating_add(entries as u128);
+        }
+        sum
+    }
+
+    /// The hash of a key. Equal keys have equal ones.
+    pub fn hash(&self, key: &K) -> u64 {
+        self.shares.shared.hash(key)
+    }
+
+    /// What gives the keys their hashes.
+    pub fn hash_builder(&self) -> &Arc<S> {
+        &self.shares.shared.hash_builder
+    }
+}
+
+// Each shard under a lock of its own.
+fn locked<E: Eviction, K: Key, V: Value, P: Properties, R: Drop, I: Indexer<K>>(
+    alloc: Global,
+    made: Vec<RawShard<E, K, V, P, R, I>>,
+) -> Result<Vec<Mutex<RawShard<E, K, V, P, R, I>>>>
+    ensures len { IfOk result (λ all. vec_len all ≡ vec_len made) }
+    ensures memory { IfErr result (λ e. e ≡ NoMemory) }
+{
+    let mut all = Vec::new(alloc);
+    for shard in made {
+        all.push(Mutex::new(shard))?;
+    }
+    Ok(all)
+}

@@ -1,0 +1,131 @@
+//! Look-ups that fetch what is missing.
+
+ghost use Rattle.std.specs.Prelude.{◌≡◌, IfOk, IfSome, true};
+
+use super::RawCache;
+use crate::fetch::{
+    Begin, Direct, FetchTypes, Given, NoFetch, Pollable, RawFetch, RawGetOrFetch, RawWait,
+    RequiredFetch, Spawner,
+};
+use crate::pipe::Pipe;
+use foyer_core::{Filter, Indexer, Lookup, Weighter};
+use foyer_policy::{EventListener, Eviction, HashBuilder, Key, Properties, Result, Value};
+use futures::channel::oneshot;
+use std::sync::Wait;
+
+impl<H, E, K, V, S, P, W, A, L, Q, T, I> RawCache<H, E, K, V, S, P, W, A, L, Q, T, I>
+where
+    H: Wait + Drop,
+    E: Eviction,
+    K: Key,
+    V: Value,
+    S: HashBuilder,
+    P: Properties,
+    W: Weighter<K, V>,
+    A: Filter<K, V>,
+    L: EventListener<Key = K, Value = V>,
+    I: Indexer<K>,
+    Q: Pipe<Key = K, Value = V, Properties = P>,
+    T: FetchTypes<K, V, P>,
+{
+    ghost use Rattle.foyer_raw.specs.declared.fetch.wait.RawGetOrFetch.TheVariants.{Hit, Miss};
+
+    /// An entry of the key's record, where a get finds one. Else a wait for the fetch of the key: for the one that is open,
+    /// to which the required builder is lent where it has none, or for a new one, whose task the spawner gets. The required
+    /// builder is asked for once where the key is missing, and the optional one once where a new fetch begins.
+    ///
+    /// Room is made first (F7, also on a hit). Then it is refused on a hit as `get` is (F9, F7), and on a miss where a
+    /// number is missing (F10), and then for want of memory (F7).
+    pub fn get_or_fetch_inner<O, F, X>(
+        &self,
+        key: &K,
+        fo: O,
+        fr: F,
+        context: T::Context,
+        spawner: &mut X,
+    ) -> Result<RawGetOrFetch<H, E, K, V, S, P, W, A, L, Q, T::Required, I>>
+    where
+        O: FnOnce() -> Option<T::Optional>,
+        F: FnOnce() -> Option<T::Required>,
+        X: Spawner<RawFetch<H, E, K, V, S, P, W, A, L, Q, T, I>>,
+        requires clones { (k c : K) → K.is_clone k c → K.eq c k ≡ true }
+        requires optional { O.IsAlwaysCallable fo }
+        requires required { F.IsAlwaysCallable fr }
+        ensures { IfOk result (elim [ Hit entry ↦ IfSome entry (λ e. K.eq key.now e.kept.key ≡ true) | Miss _ ↦ Unit {0} ]) }
+    {
+        spawner.reserve()?;
+        let (notifier, waiter) = oneshot::channel(self.shares.shared.alloc)?;
+        let own = key.clone()?;
+        let task = self.shares.try_clone()?;
+        let shares = self.shares.try_clone()?;
+        let hash = self.hash(key);
+        if let Some(core) = self.shares.shared.get(hash, key)? {
+            return Ok(RawGetOrFetch::Hit(Some(shares.entry(core))));
+        }
+        let required = fr();
+        match self
+            .shares
+            .shared
+            .get_or_enqueue(hash, key, required, notifier)?
+        {
+            Lookup::Hit(core) => Ok(RawGetOrFetch::Hit(Some(shares.entry(core)))),
+            Lookup::Lead {
+                fetch,
+                token: _,
+                required,
+            } => {
+                let begin = Begin {
+                    id: fetch,
+                    hash,
+                    key: own,
+                    context,
+                    optional: fo(),
+                    required,
+                };
+                spawner.spawn(RawFetch::new(task, begin));
+                Ok(RawGetOrFetch::Miss(RawWait::new(shares, waiter)))
+            }
+            Lookup::Wait { token: _ } => { Ok(RawGetOrFetch::Miss(RawWait::new(shares, waiter))) }
+        }
+    }
+}
+
+impl<H, E, K, V, S, P, W, A, L, Q, R, I> RawCache<H, E, K, V, S, P, W, A, L, Q, Direct<R>, I>
+where
+    H: Wait + Drop,
+    E: Eviction,
+    K: Key,
+    V: Value,
+    S: HashBuilder,
+    P: Properties,
+    W: Weighter<K, V>,
+    A: Filter<K, V>,
+    L: EventListener<Key = K, Value = V>,
+    I: Indexer<K>,
+    Q: Pipe<Key = K, Value = V, Properties = P>,
+    R: RequiredFetch<K, V, P>,
+{
+    ghost use Rattle.foyer_raw.specs.declared.fetch.wait.RawGetOrFetch.TheVariants.{Hit, Miss};
+
+    /// An entry of the key's record, or a wait for its fetch, as `get_or_fetch_inner` answers. The closure is called on a
+    /// hit too; its future, which may be polled, is the required fetch.
+    pub fn get_or_fetch<F, X>(
+        &self,
+        key: &K,
+        fetch: F,
+        spawner: &mut X,
+    ) -> Result<RawGetOrFetch<H, E, K, V, S, P, W, A, L, Q, Given<R>, I>>
+    where
+        F: FnOnce() -> R,
+        X: Spawner<RawFetch<H, E, K, V, S, P, W, A, L, Q, Direct<R>, I>>,
+        requires clones { (k c : K) → K.is_clone k c → K.eq c k ≡ true }
+        requires callable { F.IsAlwaysCallable fetch }
+        requires futures { (r : _) → F.post fetch r → R.can_poll r }
+        ensures { IfOk result (elim [ Hit entry ↦ IfSome entry (λ e. K.eq key.now e.kept.key ≡ true) | Miss _ ↦ Unit {0} ]) }
+    {
+        let given = Given {
+            fetch: Pollable::new(fetch()),
+        };
+        self.get_or_fetch_inner(key, || None::<NoFetch>, || Some(given), (), spawner)
+    }
+}

@@ -1,0 +1,113 @@
+//! Records that come into a cache.
+
+ghost use Rattle.std.specs.Prelude.{◌≡◌, IfOk, true};
+
+use super::RawCache;
+use crate::entry::RawCacheEntry;
+use crate::fetch::FetchTypes;
+use crate::pipe::Pipe;
+use crate::shared::RawInserted;
+use crate::shares::Shares;
+use foyer_core::{Filter, Indexer, Inserted, Piece, Refused, Weighter};
+use foyer_policy::{
+    Error, EventListener, Eviction, HashBuilder, Key, Properties, Result, Source, Value,
+};
+use std::sync::Wait;
+
+impl<H, E, K, V, S, P, W, A, L, Q, T, I> RawCache<H, E, K, V, S, P, W, A, L, Q, T, I>
+where
+    H: Wait + Drop,
+    E: Eviction,
+    K: Key,
+    V: Value,
+    S: HashBuilder,
+    P: Properties,
+    W: Weighter<K, V>,
+    A: Filter<K, V>,
+    L: EventListener<Key = K, Value = V>,
+    I: Indexer<K>,
+    Q: Pipe<Key = K, Value = V, Properties = P>,
+    T: FetchTypes<K, V, P>,
+{
+    /// Puts a value in under a key, with default properties, as `insert_with_properties` does.
+    pub fn insert(
+        &self,
+        key: K,
+        value: V,
+    ) -> Result<RawCacheEntry<H, E, K, V, S, P, W, A, L, Q, T::Required, I>>
+        requires clones { (k c : K) → K.is_clone k c → K.eq c k ≡ true }
+        ensures { IfOk result (λ e. (e.kept.key ≡ key) × (e.kept.value ≡ value)) }
+    {
+        self.insert_with_properties(key, value, P::default())
+    }
+
+    /// Puts a record in, and answers an entry of it. The weighter is asked, and then the filter, before the lock. Those who
+    /// wait for the key are answered, and then what left is told. A clone of the key must equal it.
+    ///
+    /// Refused, in this order, where no id is left (F10), the handles would pass the limit (F9), the weight of a plain
+    /// record and the pinned weight of other keys pass a `usize` (F8), or for want of memory (F7); what left by then is
+    /// told all the same.
+    pub fn insert_with_properties(
+        &self,
+        key: K,
+        value: V,
+        properties: P,
+    ) -> Result<RawCacheEntry<H, E, K, V, S, P, W, A, L, Q, T::Required, I>>
+        requires clones { (k c : K) → K.is_clone k c → K.eq c k ≡ true }
+        ensures { IfOk result (λ e. (e.kept.key ≡ key) × (e.kept.value ≡ value)) }
+    {
+        let shares = self.shares.try_clone()?;
+        let hash = self.hash(&key);
+        let kept = self.shares.shared.kept(hash, key, value, properties);
+        match self.shares.shared.emplace(kept, Source::Outer) {
+            Ok(made) => Ok(self.came_in(shares, made)),
+            Err(refused) => Err(self.refused(refused)),
+        }
+    }
+
+    /// Puts a piece's record in, and answers an entry of it, with the source `Memory`. A piece of this cache stands for its
+    /// record; any other makes a new one, of the weight that the weighter gives it. Refused as an insert is.
+    pub fn insert_piece(
+        &self,
+        piece: Piece<K, V, P>,
+    ) -> Result<RawCacheEntry<H, E, K, V, S, P, W, A, L, Q, T::Required, I>>
+        requires clones { (k c : K) → K.is_clone k c → K.eq c k ≡ true }
+    {
+        let shares = self.shares.try_clone()?;
+        let hash = self.hash(piece.key());
+        let weight = self
+            .shares
+            .shared
+            .weighter
+            .weigh(piece.key(), piece.value());
+        match self.shares.shared.take(hash, weight, piece) {
+            Ok(made) => Ok(self.came_in(shares, made)),
+            Err(refused) => Err(self.refused(refused)),
+        }
+    }
+
+    // The entry of what came in, once those who waited are answered and what left is told.
+    fn came_in(
+        &self,
+        shares: Shares<H, E, K, V, S, P, W, A, L, Q, T::Required, I>,
+        made: RawInserted<K, V, P>,
+    ) -> RawCacheEntry<H, E, K, V, S, P, W, A, L, Q, T::Required, I>
+        ensures { result ≡ made.entry }
+    {
+        let Inserted {
+            entry,
+            answers,
+            leaves,
+        } = made;
+        self.shares.answer(answers);
+        self.shares.tell_all(leaves);
+        shares.entry(entry)
+    }
+
+    // Why nothing came in, once what left all the same is told.
+    fn refused(&self, refused: Refused<K, V, P>) -> Error {
+        let Refused { error, leaves } = refused;
+        self.shares.tell_all(leaves);
+        error
+    }
+}

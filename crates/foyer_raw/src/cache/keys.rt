@@ -1,0 +1,75 @@
+//! Look-ups by a key.
+
+ghost use Rattle.std.specs.Prelude.{◌≡◌, IfOk, IfSome, true};
+
+use super::RawCache;
+use crate::entry::RawCacheEntry;
+use crate::fetch::FetchTypes;
+use crate::pipe::Pipe;
+use foyer_core::{Filter, Indexer, Weighter};
+use foyer_policy::{Event, EventListener, Eviction, HashBuilder, Key, Properties, Result, Value};
+use std::sync::Wait;
+
+impl<H, E, K, V, S, P, W, A, L, Q, T, I> RawCache<H, E, K, V, S, P, W, A, L, Q, T, I>
+where
+    H: Wait + Drop,
+    E: Eviction,
+    K: Key,
+    V: Value,
+    S: HashBuilder,
+    P: Properties,
+    W: Weighter<K, V>,
+    A: Filter<K, V>,
+    L: EventListener<Key = K, Value = V>,
+    I: Indexer<K>,
+    Q: Pipe<Key = K, Value = V, Properties = P>,
+    T: FetchTypes<K, V, P>,
+{
+    /// An entry of the key's record, where a get finds one, which counts as a handle and as a use. Refused at the limit
+    /// of handles (F9), or where something can't be shared (F7). It allocates nothing.
+    pub fn get(
+        &self,
+        key: &K,
+    ) -> Result<Option<RawCacheEntry<H, E, K, V, S, P, W, A, L, Q, T::Required, I>>>
+        ensures { IfOk result (λ found. IfSome found (λ e. K.eq key.now e.kept.key ≡ true)) }
+    {
+        let hash = self.hash(key);
+        let shares = self.shares.try_clone()?;
+        match self.shares.shared.get(hash, key)? {
+            Some(core) => Ok(Some(shares.entry(core))),
+            None => Ok(None),
+        }
+    }
+
+    /// Takes the key's record out, where a get finds one, and answers an entry of it. It is told as `Remove`. Refused as
+    /// `get` is.
+    pub fn remove(
+        &self,
+        key: &K,
+    ) -> Result<Option<RawCacheEntry<H, E, K, V, S, P, W, A, L, Q, T::Required, I>>>
+        ensures { IfOk result (λ found. IfSome found (λ e. K.eq key.now e.kept.key ≡ true)) }
+    {
+        let hash = self.hash(key);
+        let shares = self.shares.try_clone()?;
+        match self.shares.shared.remove(hash, key)? {
+            Some((core, left)) => {
+                self.shares.tell((Event::Remove, left));
+                Ok(Some(shares.entry(core)))
+            }
+            None => Ok(None),
+        }
+    }
+
+    /// Whether a get finds the key; where it does, that counts as a use. Refused at the limit of handles alone (F9). It
+    /// takes no memory.
+    pub fn touch(&self, key: &K) -> Result<bool> {
+        let hash = self.hash(key);
+        self.shares.shared.touch(hash, key)
+    }
+
+    /// Whether a get finds the key. It takes no memory.
+    pub fn contains(&self, key: &K) -> bool {
+        let hash = self.hash(key);
+        self.shares.shared.contains(hash, key)
+    }
+}

@@ -1,0 +1,81 @@
+//! Fetch types of no fetch, and of one required future.
+
+use super::pollable::Pollable;
+use super::types::{FetchTypes, OptionalFetchBuilder, RequiredFetch, RequiredFetchBuilder};
+use foyer_core::FetchTarget;
+use foyer_policy::Fault;
+use futures::Future;
+use futures::task::{Context, Poll};
+use std::marker::PhantomData;
+
+/// Stands for fetch types, and for a builder, where nothing is fetched.
+#[derive(Clone, Copy, Debug)]
+pub struct NoFetch;
+
+/// The future of `NoFetch`, which is never ready.
+pub struct Never<O>(PhantomData<O>);
+
+impl<O> Drop for Never<O> {
+    fn drop(self) {
+        let Never(_) = self;
+    }
+}
+
+impl<O> Future for Never<O> {
+    type Output = O;
+
+    fn poll(&mut self, cx: &mut Context<'_>) -> Poll<O> {
+        cx.yield_now()
+    }
+}
+
+impl<K, V, P, C> OptionalFetchBuilder<K, V, P, C> for NoFetch {
+    type Fetch = Never<Result<Option<FetchTarget<K, V, P>>, Fault>>;
+
+    fn build(self, _context: &mut C) -> Self::Fetch {
+        Never(PhantomData)
+    }
+}
+
+impl<K, V, P, C> RequiredFetchBuilder<K, V, P, C> for NoFetch {
+    type Fetch = Never<Result<FetchTarget<K, V, P>, Fault>>;
+
+    fn build(self, _context: &mut C) -> Self::Fetch {
+        Never(PhantomData)
+    }
+}
+
+impl<K, V, P> FetchTypes<K, V, P> for NoFetch {
+    type Context = ();
+
+    type Optional = NoFetch;
+
+    type Required = NoFetch;
+}
+
+/// Gives the future that it holds.
+#[derive(Drop)]
+pub struct Given<R: Future> {
+    /// The future.
+    pub fetch: Pollable<R>,
+}
+
+impl<K, V, P, C, R: RequiredFetch<K, V, P>> RequiredFetchBuilder<K, V, P, C> for Given<R> {
+    type Fetch = R;
+
+    fn build(self, _context: &mut C) -> R {
+        let Given { fetch } = self;
+        fetch.into_inner()
+    }
+}
+
+/// Fetch types of a required future that the caller brings, with no context and no optional fetch.
+pub struct Direct<R>(PhantomData<R>);
+
+impl<K, V, P, R: RequiredFetch<K, V, P>> FetchTypes<K, V, P> for Direct<R> {
+    type Context = ();
+
+    type Optional = NoFetch;
+
+    type Required = Given<R>;
+}

@@ -1,0 +1,70 @@
+//! What runs the tasks of fetches.
+
+ghost use Rattle.std.specs.Prelude.{◌≡◌, ◌<◌, ◌-◌, ℕ, OnOk, vec_len, vec_capacity};
+ghost use Rattle.futures.specs.Task.{Keeps};
+
+use foyer_policy::Result;
+use futures::Future;
+use futures::future::{Spawned, Task};
+use futures::task::{Context, Poll};
+use std::alloc::Global;
+
+/// Takes tasks, and has them polled.
+pub trait Spawner<X: Future<Output = ()>> {
+    // For how many tasks there is room.
+    ghost room: { Self → ℕ };
+
+    /// Makes room for a task. Only memory can be missing (F7).
+    fn reserve(&mut self) -> Result<()>
+        ensures { OnOk result (0 < room self.new) };
+
+    /// Takes a task, which may be polled. It asks for room.
+    fn spawn(&mut self, task: X)
+        requires room { 0 < room self.old }
+        requires can_poll { X.can_poll task };
+}
+
+/// Tasks in a list, which the caller polls.
+#[derive(Drop)]
+pub struct ListSpawner<X: Future<Output = ()>> {
+    tasks: Vec<Spawned<X>>,
+}
+
+impl<X: Future<Output = ()>> ListSpawner<X> {
+    /// A list of no tasks.
+    pub fn new(alloc: Global) -> Self {
+        ListSpawner {
+            tasks: Vec::new(alloc),
+        }
+    }
+
+    /// Polls each task once, drops those that have ended, and answers how many remain.
+    pub fn poll_all(&mut self, cx: &mut Context<'_>) -> usize
+        ensures remain { result ≡ vec_len self.new.tasks }
+        ensures kept { Keeps cx.old cx.new }
+    {
+        let mut place = 0;
+        while place < self.tasks.len() {
+            match self.tasks[place].poll_task(cx) {
+                Poll::Ready(()) => drop(self.tasks.remove(place)),
+                Poll::Pending => place += 1,
+            }
+        }
+        self.tasks.len()
+    }
+}
+
+impl<X: Future<Output = ()>> Spawner<X> for ListSpawner<X> {
+    ghost room = { λ s. vec_capacity s.tasks - vec_len s.tasks };
+
+    fn reserve(&mut self) -> Result<()> {
+        self.tasks.reserve(1)?;
+        Ok(())
+    }
+
+    fn spawn(&mut self, task: X) {
+        if self.tasks.push(Spawned::new(task)).is_err() {
+            unreachable!()
+        }
+    }
+}

@@ -1,0 +1,69 @@
+//! The states of a fetch task, and how events change them.
+
+ghost use Rattle.std.specs.Prelude.{◌≡◌};
+ghost use Rattle.foyer_raw.specs.Steps.{next_state};
+
+use std::fmt::{self, Debug};
+
+/// What a fetch task is doing.
+#[derive(Clone, Copy, PartialEq, Eq)]
+pub enum RawFetchState {
+    /// It was not polled yet.
+    Init,
+    /// It polls the optional fetch.
+    FetchOptional,
+    /// It polls the required fetch.
+    FetchRequired,
+    /// It answers those who wait.
+    Notify,
+    /// It has ended.
+    Ready,
+}
+
+/// What happens to a fetch task.
+#[derive(Clone, Copy, Debug, PartialEq, Eq)]
+pub enum TaskEvent {
+    /// It is polled for the first time; the flag says whether there is an optional builder.
+    Start(bool),
+    /// An optional fetch gave a value, or a required one a value or a fault.
+    Given,
+    /// An optional fetch gave none, or a fault.
+    Missing,
+    /// A builder was taken that one who waits had brought.
+    Taken,
+    /// Those who wait were answered.
+    Told,
+    /// The fetch is not open any more.
+    Closed,
+}
+
+impl RawFetchState {
+    /// The state after an event. `required` says whether the leader's own required builder is still there.
+    pub fn next(self, required: bool, event: TaskEvent) -> Self
+        ensures { result ≡ next_state self required event }
+    {
+        use RawFetchState::{FetchOptional, FetchRequired, Init, Notify, Ready};
+        match (self, event) {
+            (_, TaskEvent::Closed) | (Notify, TaskEvent::Told) => Ready,
+            (Init, TaskEvent::Start(true)) => FetchOptional,
+            (Init, TaskEvent::Start(false)) | (FetchOptional, TaskEvent::Missing) => {
+                if required { FetchRequired } else { Notify }
+            }
+            (FetchOptional | FetchRequired, TaskEvent::Given) => Notify,
+            (Notify, TaskEvent::Taken) => FetchRequired,
+            (state, _) => state,
+        }
+    }
+}
+
+impl Debug for RawFetchState {
+    fn fmt<W: fmt::Write>(&self, f: &mut fmt::Formatter<W>) -> fmt::Result {
+        f.write_str(match self {
+            RawFetchState::Init => "Init",
+            RawFetchState::FetchOptional => "Optional",
+            RawFetchState::FetchRequired => "Required",
+            RawFetchState::Notify => "Notify",
+            RawFetchState::Ready => "Ready",
+        })
+    }
+}

@@ -1,0 +1,260 @@
+//! What one poll of a task does.
+
+ghost use Rattle.std.specs.Prelude.{◌≡◌, ◌≢◌, ◌⊎◌, ⊤, IfSome, IsNone};
+ghost use Rattle.futures.specs.Task.{Covers, Keeps};
+ghost use Rattle.futures.specs.Poll.{IfReady, OnPending};
+ghost use Rattle.foyer_raw.specs.Steps.{Leads};
+
+use super::RawFetch;
+use crate::fetch::{
+    FetchTypes, OptionalFetchBuilder, RawFetchState, RequiredFetchBuilder, RequiredFuture,
+    TaskEvent,
+};
+use crate::pipe::Pipe;
+use foyer_core::{FetchOrTake, Filter, Indexer, Weighter};
+use foyer_policy::{EventListener, Eviction, HashBuilder, Key, Properties, Source, Value};
+use futures::Future;
+use futures::task::{Context, Poll};
+use std::sync::Wait;
+
+impl<H, E, K, V, S, P, W, A, L, Q, T, I> Future for RawFetch<H, E, K, V, S, P, W, A, L, Q, T, I>
+where
+    H: Wait + Drop,
+    E: Eviction,
+    K: Key,
+    V: Value,
+    S: HashBuilder,
+    P: Properties,
+    W: Weighter<K, V>,
+    A: Filter<K, V>,
+    L: EventListener<Key = K, Value = V>,
+    I: Indexer<K>,
+    Q: Pipe<Key = K, Value = V, Properties = P>,
+    T: FetchTypes<K, V, P>,
+{
+    type Output = ();
+
+    ghost can_poll = { λ t. IfSome t.optional_fetch T.Optional.Fetch.can_poll × IfSome t.required_fetch T.Required.Fetch.can_poll };
+
+    /// Goes on until a fetch is pending or the task ends. It goes through at most five events. Where it has ended it
+    /// changes nothing.
+    fn poll(&mut self, cx: &mut Context<'_>) -> Poll<()>
+        requires { IfSome self.old.optional_fetch T.Optional.Fetch.can_poll × IfSome self.old.required_fetch T.Required.Fetch.can_poll }
+        ensures value { IfReady result (λ _. ⊤) }
+        ensures same { OnPending result ((x : _) → ⊤ → ⊤) }
+        ensures again { OnPending result (IfSome self.new.optional_fetch T.Optional.Fetch.can_poll × IfSome self.new.required_fetch T.Required.Fetch.can_poll) }
+        ensures registered { OnPending result (Covers cx.new (λ _. ⊥)) }
+        ensures kept { Keeps cx.old cx.new }
+        ensures leads { Leads 5 self.old.state self.new.state }
+        ensures over { self.old.state ≡ RawFetchState.Ready → self.new ≡ self.old }
+        ensures ended { IfReady result (λ _. self.new.state ≡ RawFetchState.Ready) }
+    {
+        if self.state == RawFetchState::Ready {
+            return Poll::Ready(());
+        }
+        if self.state == RawFetchState::Init {
+            self.start();
+            return self.go_on(cx);
+        }
+        self.go_on(cx)
+    }
+}
+
+impl<H, E, K, V, S, P, W, A, L, Q, T, I> RawFetch<H, E, K, V, S, P, W, A, L, Q, T, I>
+where
+    H: Wait + Drop,
+    E: Eviction,
+    K: Key,
+    V: Value,
+    S: HashBuilder,
+    P: Properties,
+    W: Weighter<K, V>,
+    A: Filter<K, V>,
+    L: EventListener<Key = K, Value = V>,
+    I: Indexer<K>,
+    Q: Pipe<Key = K, Value = V, Properties = P>,
+    T: FetchTypes<K, V, P>,
+{
+    // Builds the optional fetch, where there is a builder.
+    fn start(&mut self)
+        requires new { self.old.state ≡ RawFetchState.Init }
+        requires can { IfSome self.old.optional_fetch T.Optional.Fetch.can_poll × IfSome self.old.required_fetch T.Required.Fetch.can_poll }
+        ensures leads { Leads 1 self.old.state self.new.state }
+        ensures begun { self.new.state ≢ RawFetchState.Init }
+        ensures can { IfSome self.new.optional_fetch T.Optional.Fetch.can_poll × IfSome self.new.required_fetch T.Required.Fetch.can_poll }
+    {
+        match self.optional.take() {
+            Some(builder) => {
+                self.optional_fetch = Some(builder.build(&mut self.context));
+                self.step(TaskEvent::Start(true));
+            }
+            None => self.step(TaskEvent::Start(false)),
+        }
+    }
+
+    // From the optional fetch on.
+    fn go_on(&mut self, cx: &mut Context<'_>) -> Poll<()>
+        requires begun { self.old.state ≢ RawFetchState.Init }
+        requires can { IfSome self.old.optional_fetch T.Optional.Fetch.can_poll × IfSome self.old.required_fetch T.Required.Fetch.can_poll }
+        ensures leads { Leads 4 self.old.state self.new.state }
+        ensures ended { IfReady result (λ _. self.new.state ≡ RawFetchState.Ready) }
+        ensures can { IfSome self.new.optional_fetch T.Optional.Fetch.can_poll × IfSome self.new.required_fetch T.Required.Fetch.can_poll }
+        ensures armed { OnPending result (Covers cx.new (λ _. ⊥)) }
+        ensures kept { Keeps cx.old cx.new }
+    {
+        if self.state != RawFetchState::FetchOptional {
+            return self.settle(cx);
+        }
+        if let Poll::Pending = self.poll_optional(cx) {
+            return Poll::Pending;
+        }
+        if self.state == RawFetchState::Ready {
+            return Poll::Ready(());
+        }
+        self.settle(cx)
+    }
+
+    // From the answering on, or the required fetch.
+    fn settle(&mut self, cx: &mut Context<'_>) -> Poll<()>
+        requires begun { self.old.state ≢ RawFetchState.Init }
+        requires past { self.old.state ≢ RawFetchState.FetchOptional }
+        requires can { IfSome self.old.optional_fetch T.Optional.Fetch.can_poll × IfSome self.old.required_fetch T.Required.Fetch.can_poll }
+        ensures leads { Leads 3 self.old.state self.new.state }
+        ensures ended { IfReady result (λ _. self.new.state ≡ RawFetchState.Ready) }
+        ensures can { IfSome self.new.optional_fetch T.Optional.Fetch.can_poll × IfSome self.new.required_fetch T.Required.Fetch.can_poll }
+        ensures armed { OnPending result (Covers cx.new (λ _. ⊥)) }
+        ensures kept { Keeps cx.old cx.new }
+    {
+        match self.state {
+            RawFetchState::Notify => self.take_or_tell(),
+            RawFetchState::FetchRequired => return self.poll_required(cx),
+            _ => return Poll::Ready(()),
+        }
+        if self.state == RawFetchState::Ready {
+            return Poll::Ready(());
+        }
+        self.poll_required(cx)
+    }
+
+    // Polls the optional fetch. A value ends the task.
+    fn poll_optional(&mut self, cx: &mut Context<'_>) -> Poll<()>
+        requires at { self.old.state ≡ RawFetchState.FetchOptional }
+        requires can { IfSome self.old.optional_fetch T.Optional.Fetch.can_poll × IfSome self.old.required_fetch T.Required.Fetch.can_poll }
+        ensures ended { IfReady result (λ _. Leads 2 self.old.state self.new.state) }
+        ensures going { IfReady result (λ _. self.new.state ≢ RawFetchState.Ready → Leads 1 self.old.state self.new.state) }
+        ensures past { IfReady result (λ _. self.new.state ≢ RawFetchState.FetchOptional) }
+        ensures pending { OnPending result (self.new.state ≡ self.old.state) }
+        ensures begun { self.new.state ≢ RawFetchState.Init }
+        ensures can { IfSome self.new.optional_fetch T.Optional.Fetch.can_poll × IfSome self.new.required_fetch T.Required.Fetch.can_poll }
+        ensures armed { OnPending result (Covers cx.new (λ _. ⊥)) }
+        ensures kept { Keeps cx.old cx.new }
+    {
+        let Some(mut fetch) = self.optional_fetch.take() else {
+            self.step(TaskEvent::Missing);
+            return Poll::Ready(());
+        };
+        if !self.is_open() {
+            self.step(TaskEvent::Closed);
+            return Poll::Ready(());
+        }
+        match fetch.poll(cx) {
+            Poll::Pending => {
+                self.optional_fetch = Some(fetch);
+                Poll::Pending
+            }
+            Poll::Ready(Ok(Some(target))) => {
+                self.step(TaskEvent::Given);
+                let key = self.key.take();
+                self.complete(key, target, Source::Disk);
+                self.step(TaskEvent::Told);
+                Poll::Ready(())
+            }
+            Poll::Ready(Ok(None)) => {
+                self.step(TaskEvent::Missing);
+                Poll::Ready(())
+            }
+            Poll::Ready(Err(fault)) => {
+                self.fault = Some(fault);
+                self.step(TaskEvent::Missing);
+                Poll::Ready(())
+            }
+        }
+    }
+
+    // The required fetch, which is built here where it was not yet.
+    fn take_required(&mut self) -> Option<RequiredFuture<K, V, P, T>>
+        requires { IfSome self.old.required_fetch T.Required.Fetch.can_poll }
+        ensures can { IfSome result T.Required.Fetch.can_poll }
+        ensures state { self.new.state ≡ self.old.state }
+        ensures optional { self.new.optional_fetch ≡ self.old.optional_fetch }
+        ensures taken { IsNone self.new.required_fetch }
+    {
+        if let Some(fetch) = self.required_fetch.take() {
+            return Some(fetch);
+        }
+        let builder = self.required.take()?;
+        Some(builder.build(&mut self.context))
+    }
+
+    // Polls the required fetch. A value or a fault ends the task.
+    fn poll_required(&mut self, cx: &mut Context<'_>) -> Poll<()>
+        requires at { self.old.state ≡ RawFetchState.FetchRequired }
+        requires can { IfSome self.old.optional_fetch T.Optional.Fetch.can_poll × IfSome self.old.required_fetch T.Required.Fetch.can_poll }
+        ensures leads { Leads 2 self.old.state self.new.state }
+        ensures ended { IfReady result (λ _. self.new.state ≡ RawFetchState.Ready) }
+        ensures pending { OnPending result (self.new.state ≡ self.old.state) }
+        ensures can { IfSome self.new.optional_fetch T.Optional.Fetch.can_poll × IfSome self.new.required_fetch T.Required.Fetch.can_poll }
+        ensures armed { OnPending result (Covers cx.new (λ _. ⊥)) }
+        ensures kept { Keeps cx.old cx.new }
+    {
+        if !self.is_open() {
+            self.step(TaskEvent::Closed);
+            return Poll::Ready(());
+        }
+        let Some(mut fetch) = self.take_required() else {
+            self.step(TaskEvent::Closed);
+            return Poll::Ready(());
+        };
+        match fetch.poll(cx) {
+            Poll::Pending => {
+                self.required_fetch = Some(fetch);
+                Poll::Pending
+            }
+            Poll::Ready(Ok(target)) => {
+                self.step(TaskEvent::Given);
+                let key = self.key.take();
+                self.complete(key, target, Source::Outer);
+                self.step(TaskEvent::Told);
+                Poll::Ready(())
+            }
+            Poll::Ready(Err(fault)) => {
+                self.step(TaskEvent::Given);
+                self.fail(fault);
+                self.step(TaskEvent::Told);
+                Poll::Ready(())
+            }
+        }
+    }
+
+    // Takes a builder that one who waits brought, or answers those who wait with none, or the fault.
+    fn take_or_tell(&mut self)
+        requires at { self.old.state ≡ RawFetchState.Notify }
+        requires can { IfSome self.old.optional_fetch T.Optional.Fetch.can_poll × IfSome self.old.required_fetch T.Required.Fetch.can_poll }
+        ensures leads { Leads 1 self.old.state self.new.state }
+        ensures to { (self.new.state ≡ RawFetchState.FetchRequired) ⊎ (self.new.state ≡ RawFetchState.Ready) }
+        ensures can { IfSome self.new.optional_fetch T.Optional.Fetch.can_poll × IfSome self.new.required_fetch T.Required.Fetch.can_poll }
+    {
+        match self.later() {
+            Some(FetchOrTake::Fetch(builder)) => {
+                self.required = Some(builder);
+                self.step(TaskEvent::Taken);
+            }
+            Some(FetchOrTake::Notifiers(waiters)) => {
+                let fault = self.fault.take();
+                self.tell_nothing(waiters, fault);
+                self.step(TaskEvent::Told);
+            }
+            None => self.step(TaskEvent::Closed),
+        }
+    }
+}

@@ -1,0 +1,271 @@
+//! What a caller waits with.
+
+ghost use Rattle.std.specs.Prelude.{◌≡◌, IsErr, IsOk, IfErr, MatchOption, IfOk, IfSome, Ok, true, false};
+
+use crate::entry::RawCacheEntry;
+use crate::pipe::Pipe;
+use crate::shares::Shares;
+use crate::ticket::{Answer, Waiter};
+use foyer_core::{Filter, HashTableIndexer, Indexer, Weighter};
+use foyer_policy::{
+    Error, EventListener, Eviction, HashBuilder, Key, Properties, Reason, Result, Value,
+};
+use futures::Future;
+use futures::task::{Context, Poll};
+use std::fmt::{self, Debug};
+use std::sync::Wait;
+
+/// A future of an entry, or of none. One that is dropped gives a handle back that came meanwhile.
+pub struct RawWait<H, E, K, V, S, P, W, A, L, Q, R, I = HashTableIndexer<K>>
+where
+    H: Wait + Drop,
+    E: Eviction,
+    K: Key,
+    V: Value,
+    S: HashBuilder,
+    P: Properties,
+    W: Weighter<K, V>,
+    A: Filter<K, V>,
+    L: EventListener<Key = K, Value = V>,
+    I: Indexer<K>,
+    Q: Pipe<Key = K, Value = V, Properties = P>,
+    R: Drop,
+{
+    // Until the answer came.
+    open: Option<
+        (
+            Shares<H, E, K, V, S, P, W, A, L, Q, R, I>,
+            Waiter<Answer<K, V, P>>,
+        ),
+    >,
+}
+
+impl<H, E, K, V, S, P, W, A, L, Q, R, I> RawWait<H, E, K, V, S, P, W, A, L, Q, R, I>
+where
+    H: Wait + Drop,
+    E: Eviction,
+    K: Key,
+    V: Value,
+    S: HashBuilder,
+    P: Properties,
+    W: Weighter<K, V>,
+    A: Filter<K, V>,
+    L: EventListener<Key = K, Value = V>,
+    I: Indexer<K>,
+    Q: Pipe<Key = K, Value = V, Properties = P>,
+    R: Drop,
+{
+    // Waits for this answer.
+    pub(crate) fn new(
+        shares: Shares<H, E, K, V, S, P, W, A, L, Q, R, I>,
+        waiter: Waiter<Answer<K, V, P>>,
+    ) -> Self {
+        RawWait {
+            open: Some((shares, waiter)),
+        }
+    }
+}
+
+impl<H, E, K, V, S, P, W, A, L, Q, R, I> Drop for RawWait<H, E, K, V, S, P, W, A, L, Q, R, I>
+where
+    H: Wait + Drop,
+    E: Eviction,
+    K: Key,
+    V: Value,
+    S: HashBuilder,
+    P: Properties,
+    W: Weighter<K, V>,
+    A: Filter<K, V>,
+    L: EventListener<Key = K, Value = V>,
+    I: Indexer<K>,
+    Q: Pipe<Key = K, Value = V, Properties = P>,
+    R: Drop,
+{
+    fn drop(self) {
+        let RawWait { open } = self;
+        let Some((shares, mut waiter)) = open else {
+            return;
+        };
+        // From here on a sender has its answer back.
+        waiter.close();
+        if let Ok(Some(Ok(Some(ticket)))) = waiter.try_recv() {
+            if let Some(core) = ticket.into_core() {
+                shares.give_back(core);
+            }
+        }
+    }
+}
+
+impl<H, E, K, V, S, P, W, A, L, Q, R, I> Future for RawWait<H, E, K, V, S, P, W, A, L, Q, R, I>
+where
+    H: Wait + Drop,
+    E: Eviction,
+    K: Key,
+    V: Value,
+    S: HashBuilder,
+    P: Properties,
+    W: Weighter<K, V>,
+    A: Filter<K, V>,
+    L: EventListener<Key = K, Value = V>,
+    I: Indexer<K>,
+    Q: Pipe<Key = K, Value = V, Properties = P>,
+    R: Drop,
+{
+    type Output = Result<Option<RawCacheEntry<H, E, K, V, S, P, W, A, L, Q, R, I>>>;
+
+    fn poll(&mut self, cx: &mut Context<'_>) -> Poll<Self::Output> {
+        let Some((shares, mut waiter)) = self.open.take() else {
+            return Poll::Ready(Err(Error::new(Reason::Spent)));
+        };
+        let Poll::Ready(received) = waiter.poll(cx) else {
+            self.open = Some((shares, waiter));
+            return Poll::Pending;
+        };
+        let answer = match received {
+            Ok(Ok(Some(ticket))) => match ticket.into_core() {
+                Some(core) => Ok(Some(shares.entry(core))),
+                None => Ok(None),
+            },
+            Ok(Ok(None)) => Ok(None),
+            Ok(Err(error)) => Err(error),
+            Err(_) => Err(Error::new(Reason::ChannelClosed)),
+        };
+        Poll::Ready(answer)
+    }
+}
+
+impl<H, E, K, V, S, P, W, A, L, Q, R, I> Debug for RawWait<H, E, K, V, S, P, W, A, L, Q, R, I>
+where
+    H: Wait + Drop,
+    E: Eviction,
+    K: Key,
+    V: Value,
+    S: HashBuilder,
+    P: Properties,
+    W: Weighter<K, V>,
+    A: Filter<K, V>,
+    L: EventListener<Key = K, Value = V>,
+    I: Indexer<K>,
+    Q: Pipe<Key = K, Value = V, Properties = P>,
+    R: Drop,
+{
+    fn fmt<X: fmt::Write>(&self, f: &mut fmt::Formatter<X>) -> fmt::Result {
+        f.debug_struct("RawWait").finish()
+    }
+}
+
+/// What a look-up answers that fetches what is missing: an entry at once, or a wait.
+#[derive(Drop)]
+pub enum RawGetOrFetch<H, E, K, V, S, P, W, A, L, Q, R, I = HashTableIndexer<K>>
+where
+    H: Wait + Drop,
+    E: Eviction,
+    K: Key,
+    V: Value,
+    S: HashBuilder,
+    P: Properties,
+    W: Weighter<K, V>,
+    A: Filter<K, V>,
+    L: EventListener<Key = K, Value = V>,
+    I: Indexer<K>,
+    Q: Pipe<Key = K, Value = V, Properties = P>,
+    R: Drop,
+{
+    /// The entry, until it is taken.
+    Hit(Option<RawCacheEntry<H, E, K, V, S, P, W, A, L, Q, R, I>>),
+    /// A wait for the one that is fetched.
+    Miss(RawWait<H, E, K, V, S, P, W, A, L, Q, R, I>),
+}
+
+impl<H, E, K, V, S, P, W, A, L, Q, R, I> RawGetOrFetch<H, E, K, V, S, P, W, A, L, Q, R, I>
+where
+    H: Wait + Drop,
+    E: Eviction,
+    K: Key,
+    V: Value,
+    S: HashBuilder,
+    P: Properties,
+    W: Weighter<K, V>,
+    A: Filter<K, V>,
+    L: EventListener<Key = K, Value = V>,
+    I: Indexer<K>,
+    Q: Pipe<Key = K, Value = V, Properties = P>,
+    R: Drop,
+{
+    ghost use Rattle.foyer_raw.specs.declared.fetch.wait.RawGetOrFetch.TheVariants.{Hit, Miss};
+
+    /// Whether the entry is still to come.
+    pub fn need_await(&self) -> bool
+        ensures { elim self.now as (λ _. Type 0) [ Hit _ ↦ result ≡ false | Miss _ ↦ result ≡ true ] }
+    {
+        matches!(self, RawGetOrFetch::Miss(_))
+    }
+
+    /// The entry of a hit, or F16 where it was taken before; or a miss, as it was.
+    pub fn try_unwrap(
+        self,
+    ) -> std::result::Result<Result<RawCacheEntry<H, E, K, V, S, P, W, A, L, Q, R, I>>, Self>
+        ensures { elim self as (λ _. Type 0) [
+          | Hit entry ↦ IfOk result (λ answer. MatchOption entry (IsErr answer) (λ e. answer ≡ Ok e)) × IsOk result
+          | Miss _ ↦ IfErr result (λ back. back ≡ self) × IsErr result
+        ] }
+    {
+        match self {
+            RawGetOrFetch::Hit(Some(entry)) => Ok(Ok(entry)),
+            RawGetOrFetch::Hit(None) => Ok(Err(Error::new(Reason::Spent))),
+            RawGetOrFetch::Miss(wait) => Err(RawGetOrFetch::Miss(wait)),
+        }
+    }
+}
+
+impl<H, E, K, V, S, P, W, A, L, Q, R, I> Future
+    for RawGetOrFetch<H, E, K, V, S, P, W, A, L, Q, R, I>
+where
+    H: Wait + Drop,
+    E: Eviction,
+    K: Key,
+    V: Value,
+    S: HashBuilder,
+    P: Properties,
+    W: Weighter<K, V>,
+    A: Filter<K, V>,
+    L: EventListener<Key = K, Value = V>,
+    I: Indexer<K>,
+    Q: Pipe<Key = K, Value = V, Properties = P>,
+    R: Drop,
+{
+    type Output = Result<Option<RawCacheEntry<H, E, K, V, S, P, W, A, L, Q, R, I>>>;
+
+    fn poll(&mut self, cx: &mut Context<'_>) -> Poll<Self::Output> {
+        match self {
+            RawGetOrFetch::Hit(entry) => match entry.take() {
+                Some(entry) => Poll::Ready(Ok(Some(entry))),
+                None => Poll::Ready(Err(Error::new(Reason::Spent))),
+            },
+            RawGetOrFetch::Miss(wait) => wait.poll(cx),
+        }
+    }
+}
+
+impl<H, E, K, V, S, P, W, A, L, Q, R, I> Debug for RawGetOrFetch<H, E, K, V, S, P, W, A, L, Q, R, I>
+where
+    H: Wait + Drop,
+    E: Eviction,
+    K: Key,
+    V: Value,
+    S: HashBuilder,
+    P: Properties,
+    W: Weighter<K, V>,
+    A: Filter<K, V>,
+    L: EventListener<Key = K, Value = V>,
+    I: Indexer<K>,
+    Q: Pipe<Key = K, Value = V, Properties = P>,
+    R: Drop,
+{
+    fn fmt<X: fmt::Write>(&self, f: &mut fmt::Formatter<X>) -> fmt::Result {
+        f.write_str(match self {
+            RawGetOrFetch::Hit(_) => "Hit",
+            RawGetOrFetch::Miss(_) => "Miss",
+        })
+    }
+}

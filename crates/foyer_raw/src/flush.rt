@@ -1,0 +1,54 @@
+//! The futures of flushes.
+
+ghost use Rattle.std.specs.Prelude.{◌≡◌, IfSome, IsSomeAnd, MatchOption, Ok, Err};
+
+use foyer_policy::{Error, Result};
+use futures::Future;
+use futures::task::{Context, Poll};
+
+/// The future of a flush, which has happened when it is made. It ends once the pipe has taken what left: with `Ok`, or
+/// where the flush was refused with that refusal.
+#[derive(Drop)]
+pub struct Flush<F: Future<Output = ()>> {
+    inner: Option<F>,
+    refused: Option<Error>,
+}
+
+/// The future of a flush by a predicate.
+pub type FlushIf<F> = Flush<F>;
+
+impl<F: Future<Output = ()>> Flush<F> {
+    // A flush that waits for this future, which may be polled, and was refused or not.
+    pub(crate) fn new(inner: Option<F>, done: Result<()>) -> Self
+        requires { IfSome inner F.can_poll }
+        ensures inner { result.inner ≡ inner }
+    {
+        Flush {
+            inner,
+            refused: done.err(),
+        }
+    }
+}
+
+impl<F: Future<Output = ()>> Future for Flush<F> {
+    type Output = Result<()>;
+
+    ghost can_poll = { λ flush. IfSome flush.inner F.can_poll };
+
+    ghost needs = { λ flush source. IsSomeAnd flush.inner (λ f. F.needs f source) };
+
+    ghost gives = { λ flush answer. MatchOption flush.refused (answer ≡ Ok tt) (λ e. answer ≡ Err e) };
+
+    fn poll(&mut self, cx: &mut Context<'_>) -> Poll<Result<()>> {
+        if let Some(mut inner) = self.inner.take() {
+            if let Poll::Pending = inner.poll(cx) {
+                self.inner = Some(inner);
+                return Poll::Pending;
+            }
+        }
+        match self.refused.take() {
+            Some(error) => Poll::Ready(Err(error)),
+            None => Poll::Ready(Ok(())),
+        }
+    }
+}

@@ -1,0 +1,25 @@
+//! The cache that many threads share: shards behind locks, entries that give their handle back as they are dropped, and
+//! the task that fetches for all who wait for a key.
+#![tactic(auto)]
+
+pub mod cache;
+pub mod entry;
+pub mod fetch;
+pub mod flush;
+pub mod listener;
+pub mod pipe;
+mod shared;
+mod shares;
+pub mod ticket;
+
+pub use cache::RawCache;
+pub use entry::RawCacheEntry;
+pub use fetch::{
+    Direct, FetchTypes, Given, ListSpawner, NoFetch, OptionalFetch, OptionalFetchBuilder, Pollable,
+    RawFetch, RawFetchState, RawGetOrFetch, RawWait, RequiredFetch, RequiredFetchBuilder, Spawner,
+    TaskEvent,
+};
+pub use flush::{Flush, FlushIf};
+pub use listener::{NoListener, tell};
+pub use pipe::{NoopPipe, Pipe};
+pub use ticket::{Answer, Notifier, Ticket, Waiter};

@@ -1,0 +1,166 @@
+//! A share of a cache, with the pipe that goes with it.
+
+ghost use Rattle.std.specs.Prelude.{◌≡◌, IfSome};
+
+use crate::entry::RawCacheEntry;
+use crate::flush::Flush;
+use crate::listener::tell;
+use crate::pipe::Pipe;
+use crate::shared::{RawEnded, Shared};
+use crate::ticket::{Answer, Notifier, Ticket, Waiters, refuse};
+use foyer_core::{Answers, CoreEntry, Ended, Filter, Indexer, Leave, Left, Piece, Weighter};
+use foyer_policy::{EventListener, Eviction, HashBuilder, Key, Properties, Result, Value};
+use std::sync::{Arc, Wait};
+
+/// What a cache, an entry, a wait and a task each have: a share of what they have in common, and the pipe.
+#[derive(Drop)]
+pub(crate) struct Shares<H, E, K, V, S, P, W, A, L, Q, R, I>
+where
+    H: Wait + Drop,
+    E: Eviction,
+    K: Key,
+    V: Value,
+    S: HashBuilder,
+    P: Properties,
+    W: Weighter<K, V>,
+    A: Filter<K, V>,
+    L: EventListener<Key = K, Value = V>,
+    I: Indexer<K>,
+    Q: Pipe<Key = K, Value = V, Properties = P>,
+    R: Drop,
+{
+    pub(crate) shared: Arc<Shared<H, E, K, V, S, P, W, A, L, R, I>>,
+    pub(crate) pipe: Option<Arc<Q>>,
+}
+
+impl<H, E, K, V, S, P, W, A, L, Q, R, I> Shares<H, E, K, V, S, P, W, A, L, Q, R, I>
+where
+    H: Wait + Drop,
+    E: Eviction,
+    K: Key,
+    V: Value,
+    S: HashBuilder,
+    P: Properties,
+    W: Weighter<K, V>,
+    A: Filter<K, V>,
+    L: EventListener<Key = K, Value = V>,
+    I: Indexer<K>,
+    Q: Pipe<Key = K, Value = V, Properties = P>,
+    R: Drop,
+{
+    // The same shares again.
+    pub(crate) fn try_clone(&self) -> Result<Self> {
+        let pipe = match &self.pipe {
+            Some(pipe) => Some(Arc::try_clone(pipe)?),
+            None => None,
+        };
+        let shared = Arc::try_clone(&self.shared)?;
+        Ok(Shares { shared, pipe })
+    }
+
+    // The entry of a handle.
+    pub(crate) fn entry(
+        self,
+        core: CoreEntry<K, V, P>,
+    ) -> RawCacheEntry<H, E, K, V, S, P, W, A, L, Q, R, I>
+        ensures { result ≡ core }
+    {
+        RawCacheEntry::new(self, core)
+    }
+
+    // Tells one leave. No lock is held.
+    pub(crate) fn tell(&self, leave: Leave<K, V, P>) {
+        let (event, left) = leave;
+        tell(&self.shared.listener, self.pipe.as_deref(), event, left);
+    }
+
+    // Tells leaves, in order.
+    pub(crate) fn tell_all(&self, leaves: Vec<Leave<K, V, P>>) {
+        for leave in leaves {
+            self.tell(leave);
+        }
+    }
+
+    // Takes a handle back under its shard's lock, and then tells what left with it.
+    pub(crate) fn give_back(&self, core: CoreEntry<K, V, P>) {
+        if let Some(leave) = self.shared.give_back(core) {
+            self.tell(leave);
+        }
+    }
+
+    // Answers those who waited: each gets a handle, or none, or all get the one refusal. A handle that nobody wants is
+    // given back.
+    pub(crate) fn answer(&self, answers: Answers<K, V, P, Notifier<Answer<K, V, P>>>) {
+        let (waiters, got) = answers.into_parts();
+        match got {
+            Ok(entries) => self.hand_out(waiters, entries),
+            Err(error) => refuse(waiters, error),
+        }
+    }
+
+    // Answers those who waited for a fetch that has ended, and then tells what left.
+    pub(crate) fn ended(&self, ended: RawEnded<K, V, P>) {
+        let Ended {
+            found: _,
+            answers,
+            leaves,
+        } = ended;
+        self.answer(answers);
+        self.tell_all(leaves);
+    }
+
+    // Hands handles of one record out, one to each who waited, and none where there is none left.
+    fn hand_out(&self, waiters: Waiters<K, V, P>, mut entries: Vec<CoreEntry<K, V, P>>) {
+        for waiting in waiters {
+            let ticket = entries.pop().map(Ticket::new);
+            self.send(waiting.waiter, ticket);
+        }
+        while let Some(core) = entries.pop() {
+            self.give_back(core);
+        }
+        entries.destroy_empty();
+    }
+
+    // Sends an answer. A handle that comes back is given back.
+    fn send(&self, waiter: Notifier<Answer<K, V, P>>, answer: Answer<K, V, P>) {
+        let Err(Ok(Some(ticket))) = waiter.send(Ok(answer)) else {
+            return;
+        };
+        if let Some(core) = ticket.into_core() {
+            self.give_back(core);
+        }
+    }
+
+    // Tells the listener all leaves, and then hands all their pieces to the pipe, if there is one that is enabled.
+    pub(crate) fn flush(
+        &self,
+        leaves: Vec<Leave<K, V, P>>,
+        mut pieces: Vec<Piece<K, V, P>>,
+        done: Result<()>,
+    ) -> Flush<Q::Flush>
+        ensures { IfSome result.inner Q.Flush.can_poll }
+    {
+        for (event, left) in leaves {
+            self.shared
+                .listener
+                .on_leave(event, left.key(), left.value());
+            self.collect(&mut pieces, left);
+        }
+        match self.pipe.as_deref() {
+            Some(pipe) if pipe.is_enabled() => Flush::new(Some(pipe.flush(pieces)), done),
+            _ => Flush::new(None, done),
+        }
+    }
+
+    // Appends the piece of what left. Where the room that was made for it does not suffice, the pipe gets it alone.
+    fn collect(&self, pieces: &mut Vec<Piece<K, V, P>>, left: Left<K, V, P>) {
+        let Err(refused) = pieces.push(left.piece()) else {
+            return;
+        };
+        if let Some(pipe) = self.pipe.as_deref() {
+            if pipe.is_enabled() {
+                pipe.send(refused.value);
+            }
+        }
+    }
+}

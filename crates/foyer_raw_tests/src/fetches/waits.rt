@@ -1,0 +1,148 @@
+//! What those get who wait.
+
+use super::*;
+
+type Plain<H> = RawCache<
+    H,
+    Fifo,
+    u64,
+    u64,
+    ModHasher,
+    CacheProperties,
+    UnitWeighter,
+    AdmitAll,
+    NoListener<u64, u64>,
+    NoopPipe<u64, u64>,
+    Direct<Later<Surely>>,
+>;
+
+#[test]
+fn a_fetch_is_overtaken(rt: HostRuntime) -> std::result::Result<(), Fail> {
+    let alloc = rt.alloc();
+    let cache: Plain<HostRuntime> = RawCache::new(rt, alloc, fifo(4, 1), NoListener::new())?;
+    let mut spawner = ListSpawner::new(alloc);
+    let first = cache.get_or_fetch(&7, || after_polls(0, Ok(value(69))), &mut spawner)?;
+    let second = cache.get_or_fetch(&7, || after_polls(0, Ok(value(68))), &mut spawner)?;
+    assert!(rt; first.need_await() && second.need_await());
+    let held = cache.insert(7, 70)?;
+    assert_eq!(rt; held.refs(), 3);
+    assert_eq!(rt; block_on(&rt, to_the_end(spawner))?, 0);
+    let first = block_on(&rt, first)??.ok_or("none")?;
+    let second = block_on(&rt, second)??.ok_or("none")?;
+    assert_eq!(rt; (*first, *second), (70, 70));
+    assert_eq!(rt;
+        (first.source(), second.source()),
+        (Source::Outer, Source::Outer)
+    );
+    assert_eq!(rt; held.refs(), 3);
+    assert_eq!(rt; *cache.get(&7)?.ok_or("none")?, 70);
+    Ok(())
+}
+
+#[test]
+fn a_fetch_answers_two(rt: HostRuntime) -> std::result::Result<(), Fail> {
+    let alloc = rt.alloc();
+    let cache: Plain<HostRuntime> = RawCache::new(rt, alloc, fifo(4, 1), NoListener::new())?;
+    let mut spawner = ListSpawner::new(alloc);
+    let first = cache.get_or_fetch(&7, || after_polls(3, Ok(value(69))), &mut spawner)?;
+    let second = cache.get_or_fetch(&7, || after_polls(0, Ok(value(68))), &mut spawner)?;
+    assert_eq!(rt; block_on(&rt, to_the_end(spawner))?, 0);
+    let first = block_on(&rt, first)??.ok_or("none")?;
+    assert_eq!(rt;
+        (*first, first.source(), first.refs()),
+        (69, Source::Outer, 2)
+    );
+    drop(second);
+    assert_eq!(rt; first.refs(), 1);
+    let mut spawner = ListSpawner::new(alloc);
+    let hit = cache.get_or_fetch(&7, || after_polls(0, Ok(value(1))), &mut spawner)?;
+    assert!(rt; !hit.need_await());
+    let hit = hit.try_unwrap().ok().ok_or("a miss")??;
+    assert_eq!(rt; (*hit, hit.source()), (69, Source::Memory));
+    Ok(())
+}
+
+#[test]
+fn an_answer_is_given_once(rt: HostRuntime) -> std::result::Result<(), Fail> {
+    let alloc = rt.alloc();
+    let notes = Notes::new(alloc)?;
+    let cache = cache(rt, alloc, &notes)?;
+    let mut spawner = ListSpawner::new(alloc);
+    let mut wait = look(&cache, &mut spawner, None, must(0, Ok(value(5))))?;
+    assert_eq!(rt; block_on(&rt, to_the_end(spawner))?, 0);
+    assert_eq!(rt; format!(in alloc; "{wait:?}")?.as_str(), "Miss");
+    let twice = block_on(&rt, Twice { wait: &mut wait })?;
+    assert_eq!(rt; twice, (5, 16));
+    let mut spawner = ListSpawner::new(alloc);
+    let mut hit = look(&cache, &mut spawner, None, None)?;
+    assert_eq!(rt; format!(in alloc; "{hit:?}")?.as_str(), "Hit");
+    let twice = block_on(&rt, Twice { wait: &mut hit })?;
+    assert_eq!(rt; twice, (5, 16));
+    let spent = hit.try_unwrap().ok().ok_or("a miss")?;
+    assert_eq!(rt; spent.err().ok_or("an entry")?.number(), 16);
+    Ok(())
+}
+
+/// Polls a look-up twice: the value of the first answer, and the number of the second one's refusal.
+struct Twice<'a, H: Wait + Drop> {
+    wait: &'a mut Look<H>,
+}
+
+impl<H: Wait + Drop> Drop for Twice<'_, H> {
+    fn drop(self) {
+        let Twice { wait: _ } = self;
+    }
+}
+
+impl<H: Wait + Drop> Future for Twice<'_, H> {
+    type Output = (u64, u8);
+
+    fn poll(&mut self, cx: &mut Context<'_>) -> Poll<(u64, u8)> {
+        let Poll::Ready(first) = self.wait.poll(cx) else {
+            return cx.yield_now();
+        };
+        let Poll::Ready(second) = self.wait.poll(cx) else {
+            return cx.yield_now();
+        };
+        let value = match first {
+            Ok(Some(entry)) => *entry,
+            _ => 0,
+        };
+        let number = match second {
+            Err(error) => error.number(),
+            Ok(_) => 0,
+        };
+        Poll::Ready((value, number))
+    }
+}
+
+#[test]
+fn no_builder_at_all(rt: HostRuntime) -> std::result::Result<(), Fail> {
+    let alloc = rt.alloc();
+    let notes = Notes::new(alloc)?;
+    let cache = cache(rt, alloc, &notes)?;
+    let mut spawner = ListSpawner::new(alloc);
+    let wait = look(&cache, &mut spawner, None, None)?;
+    assert_eq!(rt; block_on(&rt, to_the_end(spawner))?, 0);
+    assert!(rt; block_on(&rt, wait)??.is_none());
+    assert!(rt; cache.get(&7)?.is_none());
+    Ok(())
+}
+
+#[test]
+fn a_wait_is_dropped(rt: HostRuntime) -> std::result::Result<(), Fail> {
+    let alloc = rt.alloc();
+    let notes = Notes::new(alloc)?;
+    let cache = cache(rt, alloc, &notes)?;
+    let mut spawner = ListSpawner::new(alloc);
+    let before = look(&cache, &mut spawner, None, must(0, Ok(value(5))))?;
+    let after = look(&cache, &mut spawner, None, None)?;
+    let kept = look(&cache, &mut spawner, None, None)?;
+    drop(before);
+    assert_eq!(rt; block_on(&rt, to_the_end(spawner))?, 0);
+    let entry = block_on(&rt, kept)??.ok_or("none")?;
+    assert_eq!(rt; entry.refs(), 2);
+    drop(after);
+    assert_eq!(rt; entry.refs(), 1);
+    Ok(())
+}

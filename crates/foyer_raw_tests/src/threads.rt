@@ -1,0 +1,89 @@
+//! Many threads at one cache.
+
+use crate::testing::fifo;
+use foyer_policy::{Fifo, ModHasher};
+use foyer_raw::{NoListener, RawCache};
+use std::sync::atomic::{AtomicU64, Ordering};
+use std::test::Fail;
+use std::thread;
+use std::time::{Clock, Duration};
+
+type Cache<H> = RawCache<H, Fifo, u64, u64, ModHasher>;
+
+#[test]
+fn two_threads_insert_and_drop(rt: HostRuntime) -> std::result::Result<(), Fail> {
+    let alloc = rt.alloc();
+    let cache: Cache<HostRuntime> = RawCache::new(rt, alloc, fifo(64, 4), NoListener::new())?;
+    let (a, b) = thread::join(
+        &rt,
+        || {
+            let mut done = 0u64;
+            for key in 0..1000u64 {
+                if cache.insert(key, 1).is_ok() {
+                    done = done.saturating_add(1);
+                }
+            }
+            done
+        },
+        || {
+            let mut done = 0u64;
+            for key in 0..1000u64 {
+                if cache.insert(key, 2).is_ok() {
+                    done = done.saturating_add(1);
+                }
+            }
+            done
+        },
+    );
+    assert_eq!(rt; a, 1000);
+    assert_eq!(rt; b, 1000);
+    assert!(rt; cache.usage() <= 64);
+    assert_eq!(rt; cache.entries(), cache.usage());
+    Ok(())
+}
+
+// Waits until a flag is up, ten seconds at most. Whether it is.
+fn is_up(rt: &impl Clock, flag: &AtomicU64) -> bool {
+    for _ in 0..10_000u64 {
+        if flag.load(Ordering::SeqCst) == 1 {
+            return true;
+        }
+        thread::sleep(rt, Duration::from_millis(1));
+    }
+    false
+}
+
+// While a predicate runs under the lock of the first shard, another thread looks into the second one.
+#[test]
+fn each_shard_has_a_lock_of_its_own(rt: HostRuntime) -> std::result::Result<(), Fail> {
+    let alloc = rt.alloc();
+    let cache: Cache<HostRuntime> = RawCache::new(rt, alloc, fifo(64, 2), NoListener::new())?;
+    drop(cache.insert(0, 10)?);
+    drop(cache.insert(1, 11)?);
+    let inside = AtomicU64::new(0);
+    let looked = AtomicU64::new(0);
+    let seen = AtomicU64::new(0);
+    thread::join(
+        &rt,
+        || {
+            let flush = cache.flush_if(|key, _| {
+                if *key == 0 {
+                    inside.store(1, Ordering::SeqCst);
+                    if is_up(&rt, &looked) {
+                        seen.store(1, Ordering::SeqCst);
+                    }
+                }
+                false
+            });
+            drop(flush);
+        },
+        || {
+            if is_up(&rt, &inside) && cache.contains(&1) {
+                looked.store(1, Ordering::SeqCst);
+            }
+        },
+    );
+    assert_eq!(rt; seen.load(Ordering::SeqCst), 1);
+    assert_eq!(rt; cache.entries(), 2);
+    Ok(())
+}
