@@ -41,7 +41,7 @@ where
     fn poll(&mut self, cx: &mut Context<'_>) -> Poll<()>
         requires { IfSome self.old.optional_fetch T.Optional.Fetch.can_poll × IfSome self.old.required_fetch T.Required.Fetch.can_poll }
         ensures value { IfReady result (λ _. ⊤) }
-        ensures same { OnPending result ((x : _) → ⊤ → ⊤) }
+        ensures same { OnPending result (Unit {0} → ⊤ → ⊤) }
         ensures again { OnPending result (IfSome self.new.optional_fetch T.Optional.Fetch.can_poll × IfSome self.new.required_fetch T.Required.Fetch.can_poll) }
         ensures registered { OnPending result (Covers cx.new (λ _. ⊥)) }
         ensures kept { Keeps cx.old cx.new }
