@@ -49,14 +49,14 @@ where
         ensures over { self.old.state ≡ RawFetchState.Ready → self.new ≡ self.old }
         ensures ended { IfReady result (λ _. self.new.state ≡ RawFetchState.Ready) }
     {
-        if self.state == RawFetchState::Ready {
-            return Poll::Ready(());
+        match self.state {
+            RawFetchState::Ready => Poll::Ready(()),
+            RawFetchState::Init => {
+                self.start();
+                self.go_on(cx)
+            }
+            _ => self.go_on(cx),
         }
-        if self.state == RawFetchState::Init {
-            self.start();
-            return self.go_on(cx);
-        }
-        self.go_on(cx)
     }
 }
 
