@@ -173,6 +173,7 @@ impl<
     }
 
     /// The hash of a key. Equal keys have equal ones.
+    #[inline(always)]
     pub fn hash(&self, key: &K) -> u64
         ensures hash { result ≡ S.hash_of (core_of self.now).hash_builder (K.hash_input key.now) }
         ensures equal_keys { (other : K) → IsTrue (K.eq key.now other)
@@ -201,6 +202,7 @@ impl<
     /// An entry of the key's record, where there is one, which counts as a handle and as a use. Refused at
     /// the limit of handles (F9), or where the record could not be shared (F7); then nothing has changed.
     /// It allocates nothing.
+    #[inline(always)]
     pub fn get(&mut self, key: &K) -> Result<Option<CoreEntry<K, V, P>>>
         ensures gets { let hash = S.hash_of (core_of self.old).hash_builder (K.hash_input key.now) in
             AtShard (λ s t. Gets (meaning_of_core self.old) s (hash, key.now) result t)
@@ -319,6 +321,7 @@ impl<
     /// Takes an entry back: its record has one handle less. With its last handle a record that a get finds is
     /// released, a phantom one leaves, and any other is forgotten. An entry that the core does not own comes
     /// back, and nothing has changed. It takes no memory.
+    #[inline(always)]
     pub fn give_back(
         &mut self,
         entry: CoreEntry<K, V, P>,

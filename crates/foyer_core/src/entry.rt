@@ -29,6 +29,7 @@ impl<K, V, P> Model for Left<K, V, P> {
 }
 
 impl<K, V, P> Left<K, V, P> {
+    #[inline(always)]
     pub(crate) fn new(number: u64, id: u64, kept: Share<K, V, P>) -> Self
         ensures { result ≡ record { number = number; id = id; kept = kept } }
     {
@@ -36,6 +37,7 @@ impl<K, V, P> Left<K, V, P> {
     }
 
     /// The record's number, which its shard gave once.
+    #[inline(always)]
     pub fn id(&self) -> u64
         ensures { result ≡ self.now.id }
     {
@@ -43,6 +45,7 @@ impl<K, V, P> Left<K, V, P> {
     }
 
     /// The key.
+    #[inline(always)]
     pub fn key(&self) -> &K
         ensures { result.now ≡ self.now.kept.key }
     {
@@ -50,6 +53,7 @@ impl<K, V, P> Left<K, V, P> {
     }
 
     /// The value.
+    #[inline(always)]
     pub fn value(&self) -> &V
         ensures { result.now ≡ self.now.kept.value }
     {
@@ -57,6 +61,7 @@ impl<K, V, P> Left<K, V, P> {
     }
 
     /// What came with them.
+    #[inline(always)]
     pub fn properties(&self) -> &P
         ensures { result.now ≡ self.now.kept.properties }
     {
@@ -64,6 +69,7 @@ impl<K, V, P> Left<K, V, P> {
     }
 
     /// The key's hash.
+    #[inline(always)]
     pub fn hash(&self) -> u64
         ensures { result ≡ self.now.kept.hash }
     {
@@ -71,6 +77,7 @@ impl<K, V, P> Left<K, V, P> {
     }
 
     /// What the record counted against the capacity.
+    #[inline(always)]
     pub fn weight(&self) -> usize
         ensures { result ≡ self.now.kept.weight }
     {
@@ -116,6 +123,7 @@ impl<K, V, P> Model for CoreEntry<K, V, P> {
 }
 
 impl<K: Drop, V: Drop, P: Drop> CoreEntry<K, V, P> {
+    #[inline(always)]
     pub(crate) fn new(
         number: u64,
         id: u64,
@@ -138,6 +146,7 @@ impl<K: Drop, V: Drop, P: Drop> CoreEntry<K, V, P> {
     }
 
     // The number of the core that made the entry.
+    #[inline(always)]
     pub(crate) fn number(&self) -> u64
         ensures { result ≡ self.now.number }
     {
@@ -145,6 +154,7 @@ impl<K: Drop, V: Drop, P: Drop> CoreEntry<K, V, P> {
     }
 
     /// The record's number, which its shard gave once.
+    #[inline(always)]
     pub fn id(&self) -> u64
         ensures { result ≡ self.now.id }
     {
@@ -152,6 +162,7 @@ impl<K: Drop, V: Drop, P: Drop> CoreEntry<K, V, P> {
     }
 
     // The record stands in this slot.
+    #[inline(always)]
     pub(crate) fn set_slot(&mut self, slot: usize)
         ensures { self.new ≡ self.old }
     {
@@ -159,11 +170,13 @@ impl<K: Drop, V: Drop, P: Drop> CoreEntry<K, V, P> {
     }
 
     // Where the record may stand.
+    #[inline(always)]
     pub(crate) fn slot(&self) -> usize {
         self.slot
     }
 
     /// The key's hash.
+    #[inline(always)]
     pub fn hash(&self) -> u64
         ensures { result ≡ self.now.kept.hash }
     {
@@ -171,6 +184,7 @@ impl<K: Drop, V: Drop, P: Drop> CoreEntry<K, V, P> {
     }
 
     /// The key.
+    #[inline(always)]
     pub fn key(&self) -> &K
         ensures { result.now ≡ self.now.kept.key }
     {
@@ -178,6 +192,7 @@ impl<K: Drop, V: Drop, P: Drop> CoreEntry<K, V, P> {
     }
 
     /// The value.
+    #[inline(always)]
     pub fn value(&self) -> &V
         ensures { result.now ≡ self.now.kept.value }
     {
@@ -185,6 +200,7 @@ impl<K: Drop, V: Drop, P: Drop> CoreEntry<K, V, P> {
     }
 
     /// What came with them.
+    #[inline(always)]
     pub fn properties(&self) -> &P
         ensures { result.now ≡ self.now.kept.properties }
     {
@@ -192,6 +208,7 @@ impl<K: Drop, V: Drop, P: Drop> CoreEntry<K, V, P> {
     }
 
     /// What the record counts against the capacity.
+    #[inline(always)]
     pub fn weight(&self) -> usize
         ensures { result ≡ self.now.kept.weight }
     {
@@ -199,6 +216,7 @@ impl<K: Drop, V: Drop, P: Drop> CoreEntry<K, V, P> {
     }
 
     /// Where the entry came from.
+    #[inline(always)]
     pub fn source(&self) -> Source
         ensures { result ≡ self.now.source }
     {
@@ -242,6 +260,7 @@ impl<K: Drop, V: Drop, P: Drop> CoreEntry<K, V, P> {
     }
 
     /// Ends an entry whose core is gone. No core changes.
+    #[inline(always)]
     pub fn discard(self) {
         let CoreEntry {
             number: _,

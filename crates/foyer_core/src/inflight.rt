@@ -235,6 +235,7 @@ impl<K: Key, N: Drop, R: Drop> InflightManager<K, N, R> {
     }
 
     // Who waits for a key's fetch, if one is open, whose place is closed. It takes no memory.
+    #[inline(always)]
     fn close(&mut self, hash: u64, key: &K) -> Vec<Waiting<N>>
         ensures waiters { result.items ≡ waiters_of ((opens_of self.old).places (hash, key.now)) }
         ensures closed { opens_of self.new ≡ closed K.eq (opens_of self.old) (hash, key.now) }
@@ -250,6 +251,7 @@ impl<K: Key, N: Drop, R: Drop> InflightManager<K, N, R> {
 
     // What an insert answers whose record came in so: those who wait for its key get the further entries, and the key's
     // place is closed. It takes no memory.
+    #[inline(always)]
     pub(crate) fn answer<V: Drop, P: Drop>(
         &mut self,
         made: Arrival<K, V, P>,
@@ -320,6 +322,7 @@ impl<K: Key, N: Drop, R: Drop> InflightManager<K, N, R> {
     }
 
     /// How many wait for a key's fetch: 0 where none is open. It takes no memory.
+    #[inline(always)]
     pub fn waiters(&self, hash: u64, key: &K) -> usize
         ensures { result ≡ length (waiters_of ((opens_of self.now).places (hash, key.now))) }
     {
@@ -330,6 +333,7 @@ impl<K: Key, N: Drop, R: Drop> InflightManager<K, N, R> {
     }
 
     /// Whether no fetch is open. It takes no memory.
+    #[inline(always)]
     pub fn is_empty(&self) -> bool
         ensures { IsTrue result ↔ ((q : ℕ × K) → (opens_of self.now).places q ≡ None) }
     {

@@ -78,6 +78,7 @@ pub struct Answers<K, V, P, N> {
 
 impl<K: Drop, V: Drop, P: Drop> Arrival<K, V, P> {
     // What an insert answers, where these waited for the record's key.
+    #[inline(always)]
     pub(crate) fn answering<N>(self, waiters: Vec<Waiting<N>>) -> Inserted<K, V, P, N>
         ensures entry { result.entry ≡ self.entry }
         ensures leaves { result.leaves ≡ self.leaves }

@@ -95,6 +95,7 @@ impl<K: Drop, V: Drop, P: Drop> Record<K, V, P> {
     }
 
     // A record with this share of its data and so many handles, which is in nothing.
+    #[inline(always)]
     pub(crate) fn of_share(kept: Share<K, V, P>, refs: usize) -> Self
         ensures { (result.kept ≡ kept) × (result.place ≡ None) × (result.handles ≡ refs) × (bits_of result.flags ≡ 0) }
     {
@@ -110,6 +111,7 @@ impl<K: Drop, V: Drop, P: Drop> Record<K, V, P> {
     }
 
     /// The key.
+    #[inline(always)]
     pub fn key(&self) -> &K
         ensures { result.now ≡ self.now.kept.key }
     {
@@ -117,6 +119,7 @@ impl<K: Drop, V: Drop, P: Drop> Record<K, V, P> {
     }
 
     /// The value.
+    #[inline(always)]
     pub fn value(&self) -> &V
         ensures { result.now ≡ self.now.kept.value }
     {
@@ -124,6 +127,7 @@ impl<K: Drop, V: Drop, P: Drop> Record<K, V, P> {
     }
 
     /// What came with them.
+    #[inline(always)]
     pub fn properties(&self) -> &P
         ensures { result.now ≡ self.now.kept.properties }
     {
@@ -131,6 +135,7 @@ impl<K: Drop, V: Drop, P: Drop> Record<K, V, P> {
     }
 
     /// The key's hash.
+    #[inline(always)]
     pub fn hash(&self) -> u64
         ensures { result ≡ self.now.kept.hash }
     {
@@ -138,6 +143,7 @@ impl<K: Drop, V: Drop, P: Drop> Record<K, V, P> {
     }
 
     /// What the record counts against the capacity.
+    #[inline(always)]
     pub fn weight(&self) -> usize
         ensures { result ≡ self.now.kept.weight }
     {
@@ -145,6 +151,7 @@ impl<K: Drop, V: Drop, P: Drop> Record<K, V, P> {
     }
 
     /// The record's place in the policy, while it is in.
+    #[inline(always)]
     pub fn state(&self) -> Option<Place>
         ensures { result ≡ self.now.place }
     {
@@ -152,6 +159,7 @@ impl<K: Drop, V: Drop, P: Drop> Record<K, V, P> {
     }
 
     /// How many handles the record has.
+    #[inline(always)]
     pub fn refs(&self) -> usize
         ensures { result ≡ self.now.handles }
     {
@@ -160,6 +168,7 @@ impl<K: Drop, V: Drop, P: Drop> Record<K, V, P> {
 
     /// Adds handles and answers their count, or is refused (F9) where the count would pass `limit`, and
     /// changes nothing.
+    #[inline(always)]
     pub fn inc_refs(&mut self, n: usize, limit: usize) -> Result<usize>
         ensures added { IfOk result (λ refs. (refs ≡ self.old.handles + n) × (refs ≤ limit) × (self.new ≡ record self.old { handles = self.old.handles + n })) }
         ensures refused { IfErr result (λ e. (e ≡ Handles) × (limit < self.old.handles + n) × (self.new ≡ self.old)) }
@@ -172,6 +181,7 @@ impl<K: Drop, V: Drop, P: Drop> Record<K, V, P> {
     }
 
     /// Takes handles away, at most as many as there are, and answers how many are left.
+    #[inline(always)]
     pub fn dec_refs(&mut self, n: usize) -> usize
         requires { n ≤ self.old.handles }
         ensures left { result ≡ self.old.handles - n }
@@ -182,6 +192,7 @@ impl<K: Drop, V: Drop, P: Drop> Record<K, V, P> {
     }
 
     /// Whether all these flags are set.
+    #[inline(always)]
     pub fn get_flags(&self, flags: Flags) -> bool
         ensures { IsTrue result ↔ Includes self.now.flags flags }
     {
@@ -190,6 +201,7 @@ impl<K: Drop, V: Drop, P: Drop> Record<K, V, P> {
     }
 
     /// Sets these flags, or takes them off.
+    #[inline(always)]
     pub fn set_flags(&mut self, flags: Flags, on: bool)
         ensures { self.new ≡ record self.old { flags = with_flags self.old.flags flags on } }
     {
@@ -202,6 +214,7 @@ impl<K: Drop, V: Drop, P: Drop> Record<K, V, P> {
     }
 
     /// Says whether the record is in the index.
+    #[inline(always)]
     pub fn set_in_indexer(&mut self, on: bool)
         ensures { self.new ≡ record self.old { flags = record self.old.flags { in_indexer = on } } }
     {
@@ -209,6 +222,7 @@ impl<K: Drop, V: Drop, P: Drop> Record<K, V, P> {
     }
 
     /// Whether the record is in the index.
+    #[inline(always)]
     pub fn is_in_indexer(&self) -> bool
         ensures { result ≡ self.now.flags.in_indexer }
     {
@@ -216,6 +230,7 @@ impl<K: Drop, V: Drop, P: Drop> Record<K, V, P> {
     }
 
     /// Says whether the record is in the policy.
+    #[inline(always)]
     pub fn set_in_eviction(&mut self, on: bool)
         ensures { self.new ≡ record self.old { flags = record self.old.flags { in_eviction = on } } }
     {
@@ -223,6 +238,7 @@ impl<K: Drop, V: Drop, P: Drop> Record<K, V, P> {
     }
 
     /// Whether the record is in the policy.
+    #[inline(always)]
     pub fn is_in_eviction(&self) -> bool
         ensures { result ≡ self.now.flags.in_eviction }
     {
@@ -230,6 +246,7 @@ impl<K: Drop, V: Drop, P: Drop> Record<K, V, P> {
     }
 
     // The place that the policy gave, or none once the record is out.
+    #[inline(always)]
     pub(crate) fn set_state(&mut self, state: Option<Place>)
         ensures { self.new ≡ record self.old { place = state } }
     {
@@ -237,6 +254,7 @@ impl<K: Drop, V: Drop, P: Drop> Record<K, V, P> {
     }
 
     // One more share of the data. Only memory can be missing.
+    #[inline(always)]
     pub(crate) fn share(&self) -> Result<Share<K, V, P>>
         ensures kept { IfOk result (λ share. share ≡ self.now.kept) }
         ensures refused { IfErr result (λ e. e ≡ NoMemory) }
@@ -245,6 +263,7 @@ impl<K: Drop, V: Drop, P: Drop> Record<K, V, P> {
     }
 
     // One more share of the data but for the hash and the weight. Only memory can be missing.
+    #[inline(always)]
     pub(crate) fn body(&self) -> Result<Arc<Body<K, V, P>, Global>>
         ensures body { IfOk result (λ body. arc_value body ≡ body_of self.now.kept) }
         ensures refused { IfErr result (λ e. e ≡ NoMemory) }
@@ -253,6 +272,7 @@ impl<K: Drop, V: Drop, P: Drop> Record<K, V, P> {
     }
 
     // The data of a record that is let go.
+    #[inline(always)]
     pub(crate) fn into_share(self) -> Share<K, V, P>
         ensures { result ≡ self.kept }
     {

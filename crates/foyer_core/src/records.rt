@@ -42,6 +42,7 @@ impl<K: Drop, V: Drop, P: Drop> Records<K, V, P> {
     }
 
     /// Makes room for one record. Only memory can be missing.
+    #[inline(always)]
     pub fn reserve(&mut self) -> Result<()>
         ensures room { OnOk result (HasRoom self.new) }
         ensures refused { IfErr result (λ e. e ≡ NoMemory) }
@@ -58,7 +59,7 @@ impl<K: Drop, V: Drop, P: Drop> Records<K, V, P> {
     }
 
     /// What is in a slot.
-    #[inline]
+    #[inline(always)]
     pub fn get(&self, slot: usize) -> Option<&Slot<K, V, P>>
         ensures { option_copied result ≡ slot_in self.now slot }
     {
@@ -66,7 +67,7 @@ impl<K: Drop, V: Drop, P: Drop> Records<K, V, P> {
     }
 
     /// The slot of an id, which may be the one that is hinted.
-    #[inline]
+    #[inline(always)]
     pub fn find(&self, id: u64, hint: usize) -> Option<usize>
         ensures { result ≡ number_of self.now id }
     {
@@ -80,6 +81,7 @@ impl<K: Drop, V: Drop, P: Drop> Records<K, V, P> {
 
     /// Puts a record in where its id stands, or in a new slot where it does not, and answers the slot and what
     /// stood there. It asks for room.
+    #[inline(always)]
     pub fn put(
         &mut self,
         slot: Slot<K, V, P>,
@@ -103,6 +105,7 @@ impl<K: Drop, V: Drop, P: Drop> Records<K, V, P> {
     }
 
     // Puts a record with a new id in, and answers its slot.
+    #[inline(always)]
     fn put_new(&mut self, slot: Slot<K, V, P>) -> usize
         requires room { HasRoom self.old }
         requires new { number_of self.old slot.id ≡ None }
@@ -117,6 +120,7 @@ impl<K: Drop, V: Drop, P: Drop> Records<K, V, P> {
     }
 
     // Puts a record in a slot of its id, and answers what stood there.
+    #[inline(always)]
     fn replace(&mut self, place: usize, slot: Slot<K, V, P>) -> Slot<K, V, P>
         requires { IsSomeAnd (slot_in self.old place) (λ s. s.id ≡ slot.id) }
         ensures stood { slot_in self.old place ≡ Some result }
@@ -147,6 +151,7 @@ impl<K: Drop, V: Drop, P: Drop> Records<K, V, P> {
     }
 
     /// Counts so many handles more.
+    #[inline(always)]
     pub fn add_handles(&mut self, slot: usize, more: usize)
         requires { IsSomeAnd (slot_in self.old slot) (λ s. s.handles + more < 2 ^ 64) }
         ensures slots { (s : Kept K V P) → slot_in self.old slot ≡ Some s → (n : ℕ) → slot_in self.new n ≡ update nat_eq (slot_in self.old) slot (Some (record s { handles = s.handles + more })) n }
@@ -161,6 +166,7 @@ impl<K: Drop, V: Drop, P: Drop> Records<K, V, P> {
     }
 
     /// Counts one handle more.
+    #[inline(always)]
     pub fn add_handle(&mut self, slot: usize)
         requires { IsSomeAnd (slot_in self.old slot) (λ s. s.handles + 1 < 2 ^ 64) }
         ensures slots { (s : Kept K V P) → slot_in self.old slot ≡ Some s → (n : ℕ) → slot_in self.new n ≡ update nat_eq (slot_in self.old) slot (Some (record s { handles = s.handles + 1 })) n }
@@ -172,6 +178,7 @@ impl<K: Drop, V: Drop, P: Drop> Records<K, V, P> {
     }
 
     /// Counts one handle less.
+    #[inline(always)]
     pub fn take_handle(&mut self, slot: usize)
         requires { IsSomeAnd (slot_in self.old slot) (λ s. 0 < s.handles) }
         ensures slots { (s : Kept K V P) → slot_in self.old slot ≡ Some s → (n : ℕ) → slot_in self.new n ≡ update nat_eq (slot_in self.old) slot (Some (record s { handles = s.handles - 1 })) n }
@@ -185,6 +192,7 @@ impl<K: Drop, V: Drop, P: Drop> Records<K, V, P> {
     }
 
     /// The policy took a slot's record in, at this place.
+    #[inline(always)]
     pub fn set_place(&mut self, slot: usize, place: Place)
         requires { IsSome (slot_in self.old slot) }
         ensures slots { (s : Kept K V P) → slot_in self.old slot ≡ Some s → (n : ℕ) → slot_in self.new n ≡ update nat_eq (slot_in self.old) slot (Some (record s { place = Some place })) n }
@@ -198,6 +206,7 @@ impl<K: Drop, V: Drop, P: Drop> Records<K, V, P> {
     }
 
     /// Lets a slot's record go.
+    #[inline(always)]
     pub fn forget(&mut self, slot: usize) -> Slot<K, V, P>
         requires { IsSome (slot_in self.old slot) }
         ensures slot { slot_in self.old slot ≡ Some result }
@@ -213,6 +222,7 @@ impl<K: Drop, V: Drop, P: Drop> Records<K, V, P> {
 
     /// A slot's record is out of the index and the policy: what leaves with it, in the core of this number. It
     /// stays only while it has a handle.
+    #[inline(always)]
     pub fn leave(&mut self, slot: usize, number: u64) -> Left<K, V, P>
         requires { IsSomeAnd (slot_in self.old slot) (λ s. s.resident ≡ true) }
         ensures left { (s : Kept K V P) → slot_in self.old slot ≡ Some s → result ≡ record { number = number; id = s.id; kept = s.kept } }

@@ -76,6 +76,7 @@ impl<E: Eviction, K: Key, V: Value, P: Properties, N: Drop, R: Drop, I: Indexer<
     }
 
     /// The sum of the weights of the records in the index.
+    #[inline(always)]
     pub fn usage(&self) -> usize
         ensures { result ≡ usage_of (meaning_of self.now) (state_of self.now) }
     {
@@ -83,6 +84,7 @@ impl<E: Eviction, K: Key, V: Value, P: Properties, N: Drop, R: Drop, I: Indexer<
     }
 
     /// How many records are in the index.
+    #[inline(always)]
     pub fn entries(&self) -> u64
         ensures { result ≡ length (E.model.order (state_of self.now).view) }
     {

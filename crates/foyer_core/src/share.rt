@@ -40,6 +40,7 @@ impl<K, V, P> Model for Share<K, V, P> {
 
 impl<K, V, P> Share<K, V, P> {
     /// The first share of these data. Only memory can be missing.
+    #[inline(always)]
     pub fn new(alloc: Global, kept: Data<K, V, P>) -> Result<Self>
     where
         K: Drop,
@@ -69,6 +70,7 @@ impl<K, V, P> Share<K, V, P> {
     }
 
     /// A share of this body, with this hash and weight.
+    #[inline(always)]
     pub fn of_body(body: Arc<Body<K, V, P>, Global>, hash: u64, weight: usize) -> Self
         ensures { result ≡ kept_of (arc_value body) hash weight }
     {
@@ -84,6 +86,7 @@ impl<K, V, P> Share<K, V, P> {
     }
 
     /// One more share of the body alone. Only memory can be missing.
+    #[inline(always)]
     pub fn body(&self) -> Result<Arc<Body<K, V, P>, Global>>
         ensures body { IfOk result (λ body. arc_value body ≡ body_of self.now) }
         ensures refused { IfErr result (λ e. e ≡ NoMemory) }
@@ -95,6 +98,7 @@ impl<K, V, P> Share<K, V, P> {
     }
 
     /// One more share. Only memory can be missing.
+    #[inline(always)]
     pub fn try_clone(&self) -> Result<Self>
         ensures share { IfOk result (λ s. s ≡ self.now) }
         ensures refused { IfErr result (λ e. e ≡ NoMemory) }
@@ -106,30 +110,35 @@ impl<K, V, P> Share<K, V, P> {
         })
     }
 
+    #[inline(always)]
     pub fn key(&self) -> &K
         ensures { result.now ≡ self.now.key }
     {
         &self.body.key
     }
 
+    #[inline(always)]
     pub fn value(&self) -> &V
         ensures { result.now ≡ self.now.value }
     {
         &self.body.value
     }
 
+    #[inline(always)]
     pub fn properties(&self) -> &P
         ensures { result.now ≡ self.now.properties }
     {
         &self.body.properties
     }
 
+    #[inline(always)]
     pub fn hash(&self) -> u64
         ensures { result ≡ self.now.hash }
     {
         self.hash
     }
 
+    #[inline(always)]
     pub fn weight(&self) -> usize
         ensures { result ≡ self.now.weight }
     {

@@ -36,6 +36,7 @@ impl<K, V, P> Model for Slot<K, V, P> {
 
 impl<K: Drop, V: Drop, P: Drop> Slot<K, V, P> {
     /// A record with this share of its data and so many handles, which is in nothing.
+    #[inline(always)]
     pub fn outside(kept: Share<K, V, P>, id: u64, handles: usize) -> Self
         ensures { result ≡ record { id = id; kept = kept; handles = handles; resident = false; place = None } }
     {
@@ -47,6 +48,7 @@ impl<K: Drop, V: Drop, P: Drop> Slot<K, V, P> {
     }
 
     /// The record is to come in: it gets the share with which it leaves. Only memory can be missing.
+    #[inline(always)]
     pub fn come_in(self) -> Result<Self>
         ensures came { IfOk result (λ s. s ≡ record self { resident = true }) }
         ensures refused { IfErr result (λ e. e ≡ NoMemory) }
@@ -58,6 +60,7 @@ impl<K: Drop, V: Drop, P: Drop> Slot<K, V, P> {
     }
 
     /// One more share of what the record keeps. Only memory can be missing.
+    #[inline(always)]
     pub fn share(&self) -> Result<Share<K, V, P>>
         ensures share { IfOk result (λ share. share ≡ self.now.kept) }
         ensures refused { IfErr result (λ e. e ≡ NoMemory) }
@@ -66,6 +69,7 @@ impl<K: Drop, V: Drop, P: Drop> Slot<K, V, P> {
     }
 
     /// What a leave of the record shows, in the core of this number. Only memory can be missing.
+    #[inline(always)]
     pub fn left(&self, number: u64) -> Result<Left<K, V, P>>
         ensures left { IfOk result (λ l. l ≡ record { number = number; id = self.now.id; kept = self.now.kept }) }
         ensures refused { IfErr result (λ e. e ≡ NoMemory) }
@@ -74,54 +78,63 @@ impl<K: Drop, V: Drop, P: Drop> Slot<K, V, P> {
         Ok(Left::new(number, self.id, share))
     }
 
+    #[inline(always)]
     pub fn id(&self) -> u64
         ensures { result ≡ self.now.id }
     {
         self.id
     }
 
+    #[inline(always)]
     pub fn hash(&self) -> u64
         ensures { result ≡ self.now.kept.hash }
     {
         self.record.hash()
     }
 
+    #[inline(always)]
     pub fn key(&self) -> &K
         ensures { result.now ≡ self.now.kept.key }
     {
         self.record.key()
     }
 
+    #[inline(always)]
     pub fn value(&self) -> &V
         ensures { result.now ≡ self.now.kept.value }
     {
         self.record.value()
     }
 
+    #[inline(always)]
     pub fn properties(&self) -> &P
         ensures { result.now ≡ self.now.kept.properties }
     {
         self.record.properties()
     }
 
+    #[inline(always)]
     pub fn weight(&self) -> usize
         ensures { result ≡ self.now.kept.weight }
     {
         self.record.weight()
     }
 
+    #[inline(always)]
     pub fn handles(&self) -> usize
         ensures { result ≡ self.now.handles }
     {
         self.record.refs()
     }
 
+    #[inline(always)]
     pub fn is_resident(&self) -> bool
         ensures { result ≡ self.now.resident }
     {
         self.record.is_in_indexer()
     }
 
+    #[inline(always)]
     pub fn place(&self) -> Option<Place>
         ensures { result ≡ self.now.place }
     {
@@ -129,6 +142,7 @@ impl<K: Drop, V: Drop, P: Drop> Slot<K, V, P> {
     }
 
     /// The policy took the record in, at this place.
+    #[inline(always)]
     pub fn set_place(&mut self, place: Place)
         ensures { self.new ≡ record self.old { place = Some place } }
     {
@@ -137,6 +151,7 @@ impl<K: Drop, V: Drop, P: Drop> Slot<K, V, P> {
     }
 
     /// An entry of the record, not yet counted. Only memory can be missing.
+    #[inline(always)]
     pub fn entry(&self, number: u64, slot: usize, source: Source) -> Result<CoreEntry<K, V, P>>
         ensures entry { IfOk result (λ e. e ≡ record { number = number; id = self.now.id; kept = self.now.kept; source = source; left = true }) }
         ensures refused { IfErr result (λ e. e ≡ NoMemory) }
@@ -148,6 +163,7 @@ impl<K: Drop, V: Drop, P: Drop> Slot<K, V, P> {
 
     /// Entries of the record, not yet counted, as many as are said, in a list with the room that is said. Only
     /// memory can be missing.
+    #[inline(always)]
     pub fn entries(
         &self,
         alloc: Global,
@@ -176,6 +192,7 @@ impl<K: Drop, V: Drop, P: Drop> Slot<K, V, P> {
     }
 
     /// Counts so many handles more.
+    #[inline(always)]
     pub fn add_handles(&mut self, more: usize)
         requires { self.old.handles + more < 2 ^ 64 }
         ensures { self.new ≡ record self.old { handles = self.old.handles + more } }
@@ -185,6 +202,7 @@ impl<K: Drop, V: Drop, P: Drop> Slot<K, V, P> {
     }
 
     /// Counts one handle less, and answers how many are left.
+    #[inline(always)]
     pub fn take_handle(&mut self) -> usize
         requires { 0 < self.old.handles }
         ensures left { result ≡ self.old.handles - 1 }
@@ -194,6 +212,7 @@ impl<K: Drop, V: Drop, P: Drop> Slot<K, V, P> {
     }
 
     /// The record is out of the index and the policy: what leaves with it, in the core of this number.
+    #[inline(always)]
     pub fn leave(&mut self, number: u64) -> Left<K, V, P>
         requires { IsTrue self.old.resident }
         ensures left { result ≡ record { number = number; id = self.old.id; kept = self.old.kept } }
@@ -213,6 +232,7 @@ impl<K: Drop, V: Drop, P: Drop> Slot<K, V, P> {
     }
 
     /// What a record that is let go shows, in the core of this number.
+    #[inline(always)]
     pub fn into_left(self, number: u64) -> Left<K, V, P>
         ensures { result ≡ record { number = number; id = self.id; kept = self.kept } }
     {

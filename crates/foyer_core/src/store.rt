@@ -84,6 +84,7 @@ impl<E: Eviction, K: Key, V: Value, P: Properties, I: Indexer<K>> Store<E, K, V,
     }
 
     /// The sum of the weights of the records in the index.
+    #[inline(always)]
     pub fn usage(&self) -> usize
         ensures { result ≡ usage_of (meaning_of self.now) (state_of self.now) }
     {
@@ -91,6 +92,7 @@ impl<E: Eviction, K: Key, V: Value, P: Properties, I: Indexer<K>> Store<E, K, V,
     }
 
     /// How many records are in the index.
+    #[inline(always)]
     pub fn entries(&self) -> u64
         ensures { result ≡ length (E.model.order (state_of self.now).view) }
     {

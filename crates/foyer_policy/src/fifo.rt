@@ -90,6 +90,7 @@ impl Eviction for Fifo {
         }
     }
 
+    #[inline(always)]
     fn reserve(&mut self) -> Result<()> {
         match self.queue.reserve(1) {
             Ok(()) => Ok(()),
@@ -97,14 +98,17 @@ impl Eviction for Fifo {
         }
     }
 
+    #[inline(always)]
     fn push(&mut self, item: Item) -> Place {
         self.queue.push_back(0, item)
     }
 
+    #[inline(always)]
     fn pop(&mut self) -> Result<Option<Item>> {
         Ok(self.queue.pop_front(0))
     }
 
+    #[inline(always)]
     fn remove(&mut self, place: Place) -> Item {
         self.queue.remove(place)
     }
@@ -117,8 +121,10 @@ impl Eviction for Fifo {
         while self.queue.pop_front(0).is_some() {}
     }
 
+    #[inline(always)]
     fn acquire(&mut self, _place: Place) {}
 
+    #[inline(always)]
     fn release(&mut self, _place: Place) {}
 
     fn order(&self) -> Result<Vec<Item>> {
@@ -127,10 +133,12 @@ impl Eviction for Fifo {
         Ok(items)
     }
 
+    #[inline(always)]
     fn pinned_weight(&self) -> usize {
         0
     }
 
+    #[inline(always)]
     fn is_pinned(&self, _place: Place) -> bool {
         false
     }

@@ -196,6 +196,7 @@ impl Eviction for Lfu {
         Ok(())
     }
 
+    #[inline(always)]
     fn reserve(&mut self) -> Result<()> {
         self.lists.reserve(1)
     }
@@ -218,6 +219,7 @@ impl Eviction for Lfu {
         Ok(Some(item))
     }
 
+    #[inline(always)]
     fn remove(&mut self, place: Place) -> Item {
         let list = self.lists.list_of(place);
         let item = self.lists.remove(place);
@@ -238,6 +240,7 @@ impl Eviction for Lfu {
         self.protected_weight = 0;
     }
 
+    #[inline(always)]
     fn acquire(&mut self, place: Place) {
         let item = *self.lists.get(place);
         self.sketch.update(item.hash);
@@ -251,6 +254,7 @@ impl Eviction for Lfu {
         self.protected_weight = settle(&mut self.lists, PROTECTED, weight, self.protected_limit);
     }
 
+    #[inline(always)]
     fn release(&mut self, _place: Place) {}
 
     fn order(&self) -> Result<Vec<Item>> {
@@ -261,10 +265,12 @@ impl Eviction for Lfu {
         Ok(items)
     }
 
+    #[inline(always)]
     fn pinned_weight(&self) -> usize {
         0
     }
 
+    #[inline(always)]
     fn is_pinned(&self, _place: Place) -> bool {
         false
     }

@@ -28,7 +28,7 @@ impl Model for Link {
 
 impl Link {
     /// The end of a chain.
-    #[inline]
+    #[inline(always)]
     pub fn end() -> Self
         ensures { result ≡ None }
     {
@@ -36,7 +36,7 @@ impl Link {
     }
 
     /// The link to a place, which is below the greatest number.
-    #[inline]
+    #[inline(always)]
     pub fn to(place: usize) -> Self
         requires { place < 2 ^ 64 - 1 }
         ensures { result ≡ Some place }
@@ -45,7 +45,7 @@ impl Link {
     }
 
     /// The place that it leads to, or `None` at the end.
-    #[inline]
+    #[inline(always)]
     pub fn place(self) -> Option<usize>
         ensures { result ≡ self }
     {

@@ -70,6 +70,7 @@ impl<T, const N: usize> Model for Lists<T, N> {
 }
 
 // Sets what comes after the node `at`, or the list's head where there is no such node.
+#[inline(always)]
 fn set_after<T>(nodes: &mut Slab<Node<T>>, heads: &mut [Link], list: usize, at: Link, to: Link)
     requires there { ForSome at (ContainsKey nodes.old) }
     requires list { list < length heads.old }
@@ -87,6 +88,7 @@ fn set_after<T>(nodes: &mut Slab<Node<T>>, heads: &mut [Link], list: usize, at: 
 }
 
 // Sets what comes before the node `at`, or the list's tail where there is no such node.
+#[inline(always)]
 fn set_before<T>(nodes: &mut Slab<Node<T>>, tails: &mut [Link], list: usize, at: Link, to: Link)
     requires there { ForSome at (ContainsKey nodes.old) }
     requires list { list < length tails.old }
@@ -104,6 +106,7 @@ fn set_before<T>(nodes: &mut Slab<Node<T>>, tails: &mut [Link], list: usize, at:
 }
 
 // Puts a value at the end of a list, and answers its node.
+#[inline(always)]
 fn link_back<T>(
     nodes: &mut Slab<Node<T>>,
     heads: &mut [Link],
@@ -136,6 +139,7 @@ fn link_back<T>(
 }
 
 // Takes the value of a node out of its list.
+#[inline(always)]
 fn take_out<T>(nodes: &mut Slab<Node<T>>, heads: &mut [Link], tails: &mut [Link], place: usize) -> T
     requires sound { IsSound nodes.old heads.old tails.old }
     requires there { IsSome (find place (lists_of nodes.old heads.old)) }
@@ -182,6 +186,7 @@ impl<T, const N: usize> Lists<T, N> {
     ///
     /// [`Reason::NoMemory`] where the room is still less than `more`. The lists are as they were,
     /// and the room is not less.
+    #[inline(always)]
     pub fn reserve(&mut self, more: usize) -> Result<()>
         ensures room { OnOk result (more ≤ self.new.room) }
         ensures lists { self.new.lists ≡ self.old.lists }
@@ -205,6 +210,7 @@ impl<T, const N: usize> Lists<T, N> {
 
     /// Puts a value at the end of a list, and answers its place. `list` is below `N`, and a room
     /// must be reserved, which the value takes.
+    #[inline(always)]
     pub fn push_back(&mut self, list: usize, value: T) -> Place
         requires list { list < N }
         requires room { 0 < self.old.room }
@@ -229,6 +235,7 @@ impl<T, const N: usize> Lists<T, N> {
 
     /// Takes the first value of a list out, where there is one, and gives its room back. `list` is
     /// below `N`.
+    #[inline(always)]
     pub fn pop_front(&mut self, list: usize) -> Option<T>
         requires { list < N }
         ensures value { result ≡ first_value (list_at self.old.lists list) }
@@ -248,6 +255,7 @@ impl<T, const N: usize> Lists<T, N> {
 
     /// Takes the value at a place out of its list, and gives its room back. The place must hold a
     /// value.
+    #[inline(always)]
     pub fn remove(&mut self, place: Place) -> T
         requires { IsSome (find place self.old.lists) }
         ensures value { find place self.old.lists ≡ Some result }
@@ -268,6 +276,7 @@ impl<T, const N: usize> Lists<T, N> {
 
     /// Moves the value at a place to the end of a list, which may be its own. It keeps its place.
     /// The place must hold a value, and `list` is below `N`.
+    #[inline(always)]
     pub fn move_back(&mut self, place: Place, list: usize)
         requires list { list < N }
         requires there { IsSome (find place self.old.lists) }
@@ -293,6 +302,7 @@ impl<T, const N: usize> Lists<T, N> {
     }
 
     /// The place of a list's first value, or `None` where the list is empty. `list` is below `N`.
+    #[inline(always)]
     pub fn front(&self, list: usize) -> Option<Place>
         requires { list < N }
         ensures place { result ≡ first_or (list_at self.now.lists list) None }
@@ -306,6 +316,7 @@ impl<T, const N: usize> Lists<T, N> {
 
     /// The place of the value behind the one at `place` in its list, or `None` at the list's end.
     /// The place must hold a value.
+    #[inline(always)]
     pub fn next(&self, place: Place) -> Option<Place>
         requires { IsSome (find place self.now.lists) }
         ensures place { (k : ℕ) (xs ys : _) (v : _)
@@ -319,6 +330,7 @@ impl<T, const N: usize> Lists<T, N> {
     }
 
     /// The number of the list in which the value at a place stands. The place must hold a value.
+    #[inline(always)]
     pub fn list_of(&self, place: Place) -> usize
         requires { IsSome (find place self.now.lists) }
         ensures within { result < N }
@@ -329,6 +341,7 @@ impl<T, const N: usize> Lists<T, N> {
     }
 
     /// The value at a place, which must hold one.
+    #[inline(always)]
     pub fn get(&self, place: Place) -> &T
         requires { IsSome (find place self.now.lists) }
         ensures value { find place self.now.lists ≡ Some result.now }
@@ -340,6 +353,7 @@ impl<T, const N: usize> Lists<T, N> {
 
     /// The value at a place for writing. The place must hold a value, and ends with the one that
     /// was written last.
+    #[inline(always)]
     pub fn get_mut(&mut self, place: Place) -> &mut T
         requires { IsSome (find place self.old.lists) }
         ensures* writes_back { sem 𝓛 (lends_value T.row N.row self.entry place result) }

@@ -158,10 +158,12 @@ impl Eviction for Lru {
         Ok(())
     }
 
+    #[inline(always)]
     fn reserve(&mut self) -> Result<()> {
         self.lists.reserve(1)
     }
 
+    #[inline(always)]
     fn push(&mut self, item: Item) -> Place {
         // A push pins nothing.
         let pinned = false;
@@ -185,6 +187,7 @@ impl Eviction for Lru {
 
     /// Takes the first item of low priority out, or else the first of the pool, or answers none where
     /// every item is pinned. It gives no pinned item, and is never refused.
+    #[inline(always)]
     fn pop(&mut self) -> Result<Option<Item>>
         ensures ok { IsOk result }
         ensures unpinned { IfOk result (λ found. IfSome found (λ i. IsNewIn i.id (lru.pinned (lru_view self.old)))) }
@@ -206,6 +209,7 @@ impl Eviction for Lru {
         Ok(Some(node.item))
     }
 
+    #[inline(always)]
     fn remove(&mut self, place: Place) -> Item {
         let Held { item, state } = self.lists.remove(place);
         if state.pinned {
@@ -228,6 +232,7 @@ impl Eviction for Lru {
         self.pinned_weight = 0;
     }
 
+    #[inline(always)]
     fn acquire(&mut self, place: Place) {
         let Held { item, state } = *self.lists.get(place);
         if state.pinned {
@@ -244,6 +249,7 @@ impl Eviction for Lru {
         }
     }
 
+    #[inline(always)]
     fn release(&mut self, place: Place) {
         let Held { item, state } = *self.lists.get(place);
         if !state.pinned {
@@ -271,10 +277,12 @@ impl Eviction for Lru {
         Ok(items)
     }
 
+    #[inline(always)]
     fn pinned_weight(&self) -> usize {
         self.pinned_weight
     }
 
+    #[inline(always)]
     fn is_pinned(&self, place: Place) -> bool {
         self.lists.get(place).state.pinned
     }

@@ -198,10 +198,12 @@ impl Eviction for S3Fifo {
         Ok(())
     }
 
+    #[inline(always)]
     fn reserve(&mut self) -> Result<()> {
         self.queues.reserve(1)
     }
 
+    #[inline(always)]
     fn push(&mut self, item: Item) -> Place {
         let is_main = self.ghost_queue.contains(item.hash);
         let state = S3FifoState {
@@ -235,6 +237,7 @@ impl Eviction for S3Fifo {
         Ok(self.pop_reserved())
     }
 
+    #[inline(always)]
     fn remove(&mut self, place: Place) -> Item {
         let Held { item, state } = self.queues.remove(place);
         if !state.is_main {
@@ -256,11 +259,13 @@ impl Eviction for S3Fifo {
         while self.pop_reserved().is_some() {}
     }
 
+    #[inline(always)]
     fn acquire(&mut self, place: Place) {
         let node = self.queues.get_mut(place);
         node.state.frequency = node.state.frequency.saturating_add(1).min(MOST);
     }
 
+    #[inline(always)]
     fn release(&mut self, _place: Place) {}
 
     fn order(&self) -> Result<Vec<Item>> {
@@ -270,10 +275,12 @@ impl Eviction for S3Fifo {
         Ok(items)
     }
 
+    #[inline(always)]
     fn pinned_weight(&self) -> usize {
         0
     }
 
+    #[inline(always)]
     fn is_pinned(&self, _place: Place) -> bool {
         false
     }

@@ -177,6 +177,7 @@ impl Eviction for Sieve {
         }
     }
 
+    #[inline(always)]
     fn reserve(&mut self) -> Result<()> {
         match self.queue.reserve(1) {
             Ok(()) => Ok(()),
@@ -184,6 +185,7 @@ impl Eviction for Sieve {
         }
     }
 
+    #[inline(always)]
     fn push(&mut self, item: Item) -> Place {
         self.queue.push_back(
             0,
@@ -220,6 +222,7 @@ impl Eviction for Sieve {
         Ok(Some(item))
     }
 
+    #[inline(always)]
     fn remove(&mut self, place: Place) -> Item {
         self.hand = hand_beside(self.hand, place);
         self.queue.remove(place).item
@@ -235,10 +238,12 @@ impl Eviction for Sieve {
         self.looks = 0;
     }
 
+    #[inline(always)]
     fn acquire(&mut self, place: Place) {
         self.queue.get_mut(place).state.visited = true;
     }
 
+    #[inline(always)]
     fn release(&mut self, _place: Place) {}
 
     fn order(&self) -> Result<Vec<Item>> {
@@ -247,10 +252,12 @@ impl Eviction for Sieve {
         Ok(items)
     }
 
+    #[inline(always)]
     fn pinned_weight(&self) -> usize {
         0
     }
 
+    #[inline(always)]
     fn is_pinned(&self, _place: Place) -> bool {
         false
     }

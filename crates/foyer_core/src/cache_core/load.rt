@@ -21,7 +21,7 @@ pub(super) struct Load {
 
 impl Load {
     // The load of a shard.
-    #[inline]
+    #[inline(always)]
     pub(super) fn of<E: Eviction, K: Key, V: Value, P: Properties, N: Drop, R: Drop, I: Indexer<K>>(
         shard: &Shard<E, K, V, P, N, R, I>,
     ) -> Self
@@ -60,7 +60,7 @@ impl Load {
     }
 
     // A part of the load gives way to another.
-    #[inline]
+    #[inline(always)]
     pub(super) fn replace(&mut self, before: Load, after: Load)
         requires usage { (before.usage ≤ self.old.usage) × (self.old.usage - before.usage + after.usage < 2 ^ 128) }
         requires entries { (before.entries ≤ self.old.entries) × (self.old.entries - before.entries + after.entries < 2 ^ 128) }

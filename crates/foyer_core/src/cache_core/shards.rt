@@ -69,7 +69,7 @@ impl<
     }
 
     // The place of the shard of a hash.
-    #[inline]
+    #[inline(always)]
     pub(super) fn place(&self, hash: u64) -> usize
         ensures within { result < vec_len self.now.shards }
         ensures place { result ≡ hash % vec_len self.now.shards }

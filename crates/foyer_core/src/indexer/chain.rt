@@ -25,7 +25,7 @@ pub(crate) struct Pair<K> {
 }
 
 // The number of the chain of a hash.
-#[inline]
+#[inline(always)]
 fn home_of(hash: u64, shift: u32) -> usize
     requires { shift < 64 }
     ensures value { result ≡ home shift hash }
@@ -35,7 +35,7 @@ fn home_of(hash: u64, shift: u32) -> usize
 }
 
 // The link to the first pair of the chain of a hash.
-#[inline]
+#[inline(always)]
 fn head_of(heads: &[Link], shift: u32, hash: u64) -> Link
     requires { shift < 64 }
     ensures { result ≡ slice_index_or heads.now (home shift hash) None }

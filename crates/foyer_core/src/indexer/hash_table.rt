@@ -47,6 +47,7 @@ impl<K: Key> HashTableIndexer<K> {
     }
 
     /// Whether there is no key. It takes no memory.
+    #[inline(always)]
     pub fn is_empty(&self) -> bool
         ensures { IsTrue result ↔ ((q : ℕ × K) → ⟦<HashTableIndexer<K> as Indexer<K>>⟧.view self.now q ≡ None) }
     {
@@ -98,7 +99,7 @@ impl<K: Key> Indexer<K> for HashTableIndexer<K> {
         Ok(None)
     }
 
-    #[inline]
+    #[inline(always)]
     fn get(&self, hash: u64, key: &K) -> Option<u64> {
         let place = find(&self.heads, self.shift, &self.pairs, hash, key)?;
         Some(self.pairs[place].number)

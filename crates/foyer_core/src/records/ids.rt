@@ -88,7 +88,7 @@ impl Ids {
     }
 
     /// The slot of an id.
-    #[inline]
+    #[inline(always)]
     pub(crate) fn get(&self, id: u64) -> Option<usize>
         ensures { result ≡ slot_of self.now id }
     {
@@ -99,6 +99,7 @@ impl Ids {
     }
 
     /// An id that has no slot names this one. There is room for it.
+    #[inline(always)]
     pub(crate) fn name(&mut self, id: u64, slot: usize)
         requires room { HasRoomForId self.old }
         requires new { slot_of self.old id ≡ None }
@@ -118,6 +119,7 @@ impl Ids {
     }
 
     /// An id has no slot any more.
+    #[inline(always)]
     pub(crate) fn remove(&mut self, id: u64)
         ensures room { HasRoomForId self.old → HasRoomForId self.new }
         ensures ids { (q : ℕ) → slot_of self.new q ≡ update nat_eq (slot_of self.old) id None q }
@@ -133,7 +135,7 @@ impl Ids {
 }
 
 // How many places there are for numbers of so many bits.
-#[inline]
+#[inline(always)]
 fn places_of(bits: u32) -> usize
     requires { bits < 64 }
     ensures value { result ≡ 2 ^ bits }
@@ -143,7 +145,7 @@ fn places_of(bits: u32) -> usize
 }
 
 // The place of an id: its low bits.
-#[inline]
+#[inline(always)]
 fn place_of(id: u64, bits: u32) -> usize
     requires { bits < 64 }
     ensures { result ≡ id % 2 ^ bits }
@@ -152,7 +154,7 @@ fn place_of(id: u64, bits: u32) -> usize
 }
 
 // What a place names.
-#[inline]
+#[inline(always)]
 fn named_at(near: &[Named], place: usize) -> Option<Named>
     ensures { result ≡ slice_get near.now place }
 {
@@ -160,7 +162,7 @@ fn named_at(near: &[Named], place: usize) -> Option<Named>
 }
 
 // The slot that an id's place names for it.
-#[inline]
+#[inline(always)]
 fn find_near(near: &[Named], bits: u32, id: u64) -> Option<usize>
     requires { bits < 64 }
     ensures { result ≡ slot_near bits near.now id }

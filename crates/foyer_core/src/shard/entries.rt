@@ -23,6 +23,7 @@ impl<E: Eviction, K: Key, V: Value, P: Properties, N: Drop, R: Drop, I: Indexer<
     /// An entry of the key's record, where it is in the index, which counts as a handle and as a use.
     /// Refused at the limit of handles (F9), or where the record could not be shared (F7); then nothing
     /// has changed. It allocates nothing.
+    #[inline(always)]
     pub fn get(&mut self, hash: u64, key: &K) -> Result<Option<CoreEntry<K, V, P>>>
         ensures gets { Gets (meaning_of self.old) (state_of self.old) (hash, key.now) result (state_of self.new) }
         ensures asked { IfOk result (λ found. IfSome found (λ entry. K.eq key.now entry.kept.key ≡ true)) }
@@ -34,6 +35,7 @@ impl<E: Eviction, K: Key, V: Value, P: Properties, N: Drop, R: Drop, I: Indexer<
     /// Takes an entry back: its record has one handle less. With its last handle a record in the index is
     /// released, a phantom one leaves, and any other is forgotten. An entry of another core's number, or of
     /// whose id there is no handle here, comes back, and nothing has changed. It takes no memory.
+    #[inline(always)]
     pub fn give_back(
         &mut self,
         entry: CoreEntry<K, V, P>,

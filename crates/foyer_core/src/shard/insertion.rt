@@ -139,6 +139,7 @@ impl<E: Eviction, K: Key, V: Value, P: Properties, N: Drop, R: Drop, I: Indexer<
     }
 
     // An entry for each who waits for a key.
+    #[inline(always)]
     fn further(&self, hash: u64, key: &K) -> Further
         ensures count { result.count ≡ waiting_for (opens_of self.now) (hash, key.now) }
         ensures room { result.room ≡ 0 }

@@ -16,6 +16,7 @@ impl<E: Eviction, K: Key, V: Value, P: Properties, I: Indexer<K>> Store<E, K, V,
     ghost use Rattle.foyer_core.specs.Bulk.{GoesOn};
 
     // One eviction.
+    #[inline(always)]
     pub(super) fn evict_one(&mut self) -> Result<Option<Left<K, V, P>>>
         ensures some { IfOk result (λ found. IfSome found (λ left. EvictsOne (meaning_of self.old) (state_of self.old) left (state_of self.new))) }
         ensures none { IfOk result (λ found. IfNone found ((E.model.pop (E.view self.old.eviction) ≡ None) × (state_of self.new ≡ state_of self.old))) }
@@ -41,6 +42,7 @@ impl<E: Eviction, K: Key, V: Value, P: Properties, I: Indexer<K>> Store<E, K, V,
     /// Evicts until the usage is at most the target, or nothing more leaves, and answers what left. Refused for
     /// want of memory alone (F7); then some beginning of the evictions has left, which is handed out. There is
     /// room for one leave more, where it is not refused.
+    #[inline(always)]
     pub fn evict_to(
         &mut self,
         alloc: Global,
@@ -64,6 +66,7 @@ impl<E: Eviction, K: Key, V: Value, P: Properties, I: Indexer<K>> Store<E, K, V,
 
     /// Evicts until the usage is at most the target, or nothing more leaves, and appends what leaves. Refused
     /// for want of memory alone (F7); then some beginning of the evictions has left, and stands in the list.
+    #[inline(always)]
     pub fn evict_onto(&mut self, leaves: &mut Vec<Leave<K, V, P>>, target: usize) -> Result<()>
         ensures done { OnOk result (GoesOn leaves.old.items leaves.new.items (λ ls. Evicts (meaning_of self.old) target (state_of self.old) ls (state_of self.new))) }
         ensures refused { OnErr result (GoesOn leaves.old.items leaves.new.items (λ ls. Evicting (meaning_of self.old) target (state_of self.old) ls (state_of self.new))) }

@@ -38,6 +38,7 @@ impl<E: Eviction, K: Key, V: Value, P: Properties, I: Indexer<K>> Store<E, K, V,
     /// Refused, in this order, where no id is left (F10), the handles would pass the limit (F9), the weight of a
     /// plain record and the pinned weight of other keys pass a `usize` (F8), and then nothing has changed; or
     /// for want of memory (F7): then some beginning of the evictions has left, which the refusal hands out.
+    #[inline(always)]
     pub(crate) fn emplace(
         &mut self,
         alloc: Global,
@@ -66,6 +67,7 @@ impl<E: Eviction, K: Key, V: Value, P: Properties, I: Indexer<K>> Store<E, K, V,
 
     // A record comes in that is not refused but for want of memory, and as many entries as are said are made beside
     // the first.
+    #[inline(always)]
     pub(super) fn come_by(
         &mut self,
         alloc: Global,
@@ -103,6 +105,7 @@ impl<E: Eviction, K: Key, V: Value, P: Properties, I: Indexer<K>> Store<E, K, V,
     }
 
     // A record comes in that is not refused but for want of memory.
+    #[inline(always)]
     fn arrive(
         &mut self,
         alloc: Global,
@@ -127,6 +130,7 @@ impl<E: Eviction, K: Key, V: Value, P: Properties, I: Indexer<K>> Store<E, K, V,
 
     // Brings a plain record in, which is not refused but for want of memory: one with a new id, or one that
     // comes back under its own.
+    #[inline(always)]
     fn bring_in(
         &mut self,
         alloc: Global,
@@ -170,6 +174,7 @@ impl<E: Eviction, K: Key, V: Value, P: Properties, I: Indexer<K>> Store<E, K, V,
     }
 
     // Makes room for one record, and makes a clone of its key and an entry of it.
+    #[inline(always)]
     fn prepare(
         &mut self,
         slot: Slot<K, V, P>,
@@ -192,6 +197,7 @@ impl<E: Eviction, K: Key, V: Value, P: Properties, I: Indexer<K>> Store<E, K, V,
 
     // Puts a record in, where there is room, in place of what is held under its id, and takes its key's record
     // out. Refused where the index has no room, and then nothing has changed.
+    #[inline(always)]
     fn admit(&mut self, key: K, slot: Slot<K, V, P>) -> Result<(usize, Option<Left<K, V, P>>)>
         requires room { HasRoom self.old.records }
         requires policy_room { 0 < E.room self.old.eviction }
@@ -236,6 +242,7 @@ impl<E: Eviction, K: Key, V: Value, P: Properties, I: Indexer<K>> Store<E, K, V,
     }
 
     // The slot where an id stands. What was not given stands nowhere.
+    #[inline(always)]
     pub(super) fn stands(&self, id: u64) -> Option<usize>
         ensures { result ≡ number_of self.now.records id }
     {
@@ -247,6 +254,7 @@ impl<E: Eviction, K: Key, V: Value, P: Properties, I: Indexer<K>> Store<E, K, V,
 }
 
 // The next number once this id is in.
+#[inline(always)]
 pub(super) fn above(next: u64, id: u64) -> u64
     requires { id + 1 < 2 ^ 64 }
     ensures { result ≡ max next (id + 1) }
@@ -256,6 +264,7 @@ pub(super) fn above(next: u64, id: u64) -> u64
 
 // The record that a key had gives way, where it had one: the weight that is gone, and what leaves, in the
 // core of this number.
+#[inline(always)]
 fn give_way<E: Eviction, K: Drop, V: Drop, P: Drop>(
     eviction: &mut E,
     records: &mut Records<K, V, P>,

@@ -18,6 +18,7 @@ impl<E: Eviction, K: Key, V: Value, P: Properties, I: Indexer<K>> Store<E, K, V,
     ghost use Rattle.foyer_core.specs.Steps.{HasId, LacksId, MayBy, RefusesInsert, newcomer};
 
     // Why a new record cannot come in, with so many handles beside the first, whatever memory there is.
+    #[inline(always)]
     pub(super) fn data_refusal(&self, kept: &Data<K, V, P>, further: usize) -> Option<Reason>
         ensures some { IfSome result (λ reason. RefusesInsert (meaning_of self.now) (state_of self.now) (newcomer (state_of self.now) kept.now (1 + further)) reason [] (state_of self.now)) }
         ensures none { IfNone result (MayBy (meaning_of self.now) (is_phantom_record (meaning_of self.now) kept.now) (state_of self.now) (newcomer (state_of self.now) kept.now (1 + further))) }
@@ -28,6 +29,7 @@ impl<E: Eviction, K: Key, V: Value, P: Properties, I: Indexer<K>> Store<E, K, V,
     }
 
     // The same of a new record by its parts, whatever its value is.
+    #[inline(always)]
     pub(crate) fn new_refusal(
         &self,
         hash: u64,
@@ -78,6 +80,7 @@ impl<E: Eviction, K: Key, V: Value, P: Properties, I: Indexer<K>> Store<E, K, V,
     }
 
     // Why a record cannot come in whatever memory there is.
+    #[inline(always)]
     fn refusal(
         &self,
         id: u64,
@@ -104,6 +107,7 @@ impl<E: Eviction, K: Key, V: Value, P: Properties, I: Indexer<K>> Store<E, K, V,
     }
 
     // Why a record cannot be held whatever memory there is.
+    #[inline(always)]
     fn hold_refusal(&self, id: u64, held: usize, further: usize) -> Option<Reason>
         ensures ids { result ≡ Some Ids ↔ LacksId (state_of self.now) id }
         ensures handles { result ≡ Some Handles ↔ (HasId (state_of self.now) id × (self.now.limits.handles < held + 1 + further)) }
@@ -122,6 +126,7 @@ impl<E: Eviction, K: Key, V: Value, P: Properties, I: Indexer<K>> Store<E, K, V,
 
     // Whether one handle more than these, and so many further ones, pass the limit. Their number may pass a
     // `usize`, which the limit does not.
+    #[inline(always)]
     pub(super) fn passes_limit(&self, held: usize, further: usize) -> bool
         ensures passes { IsTrue result ↔ (self.now.limits.handles < held + 1 + further) }
         ensures within { result ≡ false → held + 1 + further ≤ self.now.limits.handles }
@@ -135,6 +140,7 @@ impl<E: Eviction, K: Key, V: Value, P: Properties, I: Indexer<K>> Store<E, K, V,
     }
 
     // Whether a weight and the pinned weight of other keys fit a `usize` together.
+    #[inline(always)]
     fn fits_beside_pinned(&self, hash: u64, key: &K, weight: usize) -> bool
         ensures { IsTrue result ↔ (weight + pinned_beside (meaning_of self.now) (state_of self.now) (hash, key.now) < 2 ^ 64) }
     {

@@ -23,6 +23,7 @@ pub(super) type Node = Held<LruState>;
 
 /// Moves the first node of the pool to the end of the low list, without its high bit, and answers its
 /// weight. The pool must not be empty.
+#[inline(always)]
 fn lower(lists: &mut Lists<Node, 3>) -> usize
     requires { 0 < length (list_at lists.old.lists 1) }
     ensures weight { (e : _) (es : _) → list_at lists.old.lists 1 ≡ e ∷ es → result ≡ weight_at e }
@@ -44,6 +45,7 @@ fn lower(lists: &mut Lists<Node, 3>) -> usize
 }
 
 /// Lowers nodes of the pool, which weighs `weight`, until it is within a limit, and answers its weight.
+#[inline(always)]
 pub(super) fn settle(lists: &mut Lists<Node, 3>, weight: usize, limit: usize) -> usize
     requires { weight ≡ sum_by weight_at (list_at lists.old.lists 1) }
     ensures low { list_at lists.new.lists 0
@@ -62,6 +64,7 @@ pub(super) fn settle(lists: &mut Lists<Node, 3>, weight: usize, limit: usize) ->
 }
 
 /// Gives a node another state, and moves it to the end of a list. The place must hold a node.
+#[inline(always)]
 pub(super) fn relist(lists: &mut Lists<Node, 3>, place: Place, state: LruState, list: usize)
     requires list { list < 3 }
     requires there { IsSome (find place lists.old.lists) }
