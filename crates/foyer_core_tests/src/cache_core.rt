@@ -13,15 +13,18 @@ use std::test::Fail;
 mod answers;
 mod asked;
 mod bulk;
+mod collisions;
 mod entries;
 mod fetches;
 mod filter;
 mod generic;
+mod limits;
 mod location;
 mod memory;
 mod phantom;
 mod pieces;
 mod reconfigure;
+mod refused;
 mod shards;
 mod weights;
 
@@ -193,8 +196,22 @@ fn a_core_owns_its_entries_alone(rt: HostRuntime) -> std::result::Result<(), Fai
     let (other, _) = put(&rt, &mut two, 1, 20);
     assert!(rt; one.owns(&entry) && !two.owns(&entry) && two.owns(&other) && !one.owns(&other));
     let entry = returned(&rt, &mut two, entry);
+    assert!(rt; two.contains(&1) && two.usage() == 1);
     release(&rt, &mut one, entry);
     release(&rt, &mut two, other);
+    Ok(())
+}
+
+// Where both cores have one number, an entry comes back whose id this one has not.
+#[test]
+fn an_entry_of_no_record_comes_back(rt: HostRuntime) -> std::result::Result<(), Fail> {
+    let mut one = core(rt.alloc(), 2, 1, Limits::default())?;
+    let mut two = core(rt.alloc(), 2, 1, Limits::default())?;
+    let (entry, _) = put(&rt, &mut one, 1, 10);
+    assert!(rt; !two.owns(&entry));
+    let entry = returned(&rt, &mut two, entry);
+    assert_eq!(rt; (two.usage(), two.entries()), (0, 0));
+    release(&rt, &mut one, entry);
     Ok(())
 }
 

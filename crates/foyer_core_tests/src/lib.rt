@@ -11,4 +11,6 @@ mod inflight;
 #[cfg(test)]
 mod record;
 #[cfg(test)]
+mod refusing;
+#[cfg(test)]
 mod shard;

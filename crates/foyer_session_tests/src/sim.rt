@@ -329,13 +329,14 @@ h0 | - | usage 1 entries 1
 #[test]
 fn a_line_of_megabytes_is_one_line(rt: HostRuntime) -> Result<(), Fail> {
     let mut script = vec![in rt.alloc(); b'7'; 3 << 20]?;
-    script.extend_from_slice(b"\ninsert 1 2\n")?;
+    script.extend_from_slice(b"\n\r\ninsert 1 2\n")?;
     for _i in 0..3 << 20 {
         script.push(b' ')?;
     }
     script.extend_from_slice(b"get 1")?;
     let written = printed(rt.alloc(), 2, &mut script.as_slice())?;
     let wanted: &[u8] = b"bad line | - | usage 0 entries 0
+bad line | - | usage 0 entries 0
 h0 | - | usage 1 entries 1
 h1 2 | - | usage 1 entries 1
 ";
@@ -374,35 +375,82 @@ h2 10 | - | usage 1 entries 1
     Ok(())
 }
 
-#[test]
-fn a_failed_reader_leaves_whole_lines(rt: HostRuntime) -> Result<(), Fail> {
-    let mut session = session::<Fifo>(rt.alloc(), 2, Limits::default())?;
-    let mut reader = Parts::new(SCRIPT, 12);
-    reader.fails_at = 3;
-    let mut written = Vec::new(rt.alloc());
-    let ended = simulate(&mut reader, &mut written, &mut session, &NoHighRatio).map_err(
-        |e| e.kind(),
-    );
-    assert_eq!(rt; ended, Err(ErrorKind::Other));
-    assert_eq!(rt; written.as_slice(), &PRINTED[..54]);
-    Ok(())
-}
+// The calls of `fill_buf`, `write` and `flush` may each fail. What was written then is a beginning of the text.
+const REQUESTS: &[u8] = b"insert 1 1\nphantom 1 100\ndrop 1\ndrop 1\nsteal 1\n";
+
+const REPLIES: &[u8] = b"h0 | - | usage 1 entries 1
+h1 | replace 1=1, remove 1=100 | usage 0 entries 0
+ok | evict 1=100 | usage 0 entries 0
+not held | - | usage 0 entries 0
+bad line | - | usage 0 entries 0
+";
 
 #[test]
-fn a_failed_writer_has_a_beginning(rt: HostRuntime) -> Result<(), Fail> {
-    for fails_at in 1..40 {
+fn a_read_that_fails_leaves_whole_lines(rt: HostRuntime) -> Result<(), Fail> {
+    for fails_at in 1..100 {
         let mut session = session::<Fifo>(rt.alloc(), 2, Limits::default())?;
-        let mut writer = Slow::new(rt.alloc(), 2);
-        writer.fails_at = fails_at;
-        let mut script = SCRIPT;
-        let ended = simulate(&mut script, &mut writer, &mut session, &NoHighRatio).map_err(
-            |e| e.kind(),
-        );
-        assert_eq!(rt; ended, Err(ErrorKind::Other), "at call {fails_at}");
+        let mut reader = Parts::new(REQUESTS, 7);
+        reader.fails_at = fails_at;
+        let mut written = Vec::new(rt.alloc());
+        let ended = simulate(&mut reader, &mut written, &mut session, &NoHighRatio);
+        if ended.is_ok() {
+            assert_eq!(rt; written.as_slice(), REPLIES);
+            assert!(rt; fails_at > 7);
+            return Ok(());
+        }
+        assert!(rt; ended.map_err(|e| e.kind()) == Err(ErrorKind::Other));
         assert!(rt;
-            PRINTED.starts_with(writer.taken.as_slice()),
+            REPLIES.starts_with(written.as_slice()),
+            "at call {fails_at}"
+        );
+        assert!(rt;
+            written.is_empty() || written.ends_with(b"\n"),
             "at call {fails_at}"
         );
     }
+    panic!(rt; "each read fails")
+}
+
+#[test]
+fn a_write_that_fails_has_written_a_beginning(rt: HostRuntime) -> Result<(), Fail> {
+    for fails_at in 1..400 {
+        let mut session = session::<Fifo>(rt.alloc(), 2, Limits::default())?;
+        let mut writer = Slow::new(rt.alloc(), 3);
+        writer.fails_at = fails_at;
+        let mut script = REQUESTS;
+        let ended = simulate(&mut script, &mut writer, &mut session, &NoHighRatio);
+        if ended.is_ok() {
+            assert_eq!(rt; writer.taken.as_slice(), REPLIES);
+            assert!(rt; fails_at > 60);
+            return Ok(());
+        }
+        assert!(rt; ended.map_err(|e| e.kind()) == Err(ErrorKind::Other));
+        assert!(rt;
+            REPLIES.starts_with(writer.taken.as_slice()),
+            "at call {fails_at}"
+        );
+    }
+    panic!(rt; "each write fails")
+}
+
+// The greatest number is a key, a value, a weight and a capacity like others.
+#[test]
+fn the_greatest_number_is_a_number(rt: HostRuntime) -> Result<(), Fail> {
+    let mut script: &[u8] = b"insert 18446744073709551615 18446744073709551615 18446744073709551615
+get 18446744073709551615
+drop 18446744073709551615
+resize 18446744073709551615
+fetch 18446744073709551615
+done 18446744073709551615 18446744073709551615 1
+";
+    let wanted: &[u8] = b"h0 | - | usage 18446744073709551615 entries 1
+h1 18446744073709551615 | - | usage 18446744073709551615 entries 1
+not held | - | usage 18446744073709551615 entries 1
+ok | - | usage 18446744073709551615 entries 1
+h2 18446744073709551615 | - | usage 18446744073709551615 entries 1
+lost | - | usage 18446744073709551615 entries 1
+";
+    let written = printed(rt.alloc(), usize::MAX, &mut script)?;
+    assert_eq!(rt; written.as_slice(), wanted);
     Ok(())
 }

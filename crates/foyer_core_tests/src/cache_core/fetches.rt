@@ -317,7 +317,7 @@ fn numbers_are_given_once(rt: HostRuntime) -> std::result::Result<(), Fail> {
 
 // Gives all keys the number 0.
 #[derive(Clone, Copy)]
-struct Zeros;
+pub(super) struct Zeros;
 
 impl Model for Zeros {
     ghost use Rattle.std.specs.Prelude.{⊤};

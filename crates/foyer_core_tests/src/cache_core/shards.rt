@@ -157,3 +157,32 @@ fn shards_have_capacities(rt: HostRuntime) -> std::result::Result<(), Fail> {
     assert_eq!(rt; shard_capacity(2, 3, 2), 0);
     Ok(())
 }
+
+// The shares of the greatest capacity add up to it.
+#[test]
+fn shares_end_at_the_ends_of_a_number(rt: HostRuntime) -> std::result::Result<(), Fail> {
+    let mut sum = 0u128;
+    for number in 0..3 {
+        sum = sum.saturating_add(shard_capacity(usize::MAX, 3, number) as u128);
+    }
+    assert_eq!(rt; sum, 18446744073709551615);
+    let core = sharded(rt.alloc(), usize::MAX, 3, 0, Limits::default())?;
+    assert_eq!(rt; core.capacity(), 18446744073709551615);
+    Ok(())
+}
+
+// A shard without capacity holds the last record that came in.
+#[test]
+fn more_shards_than_capacity_hold_a_record_each(rt: HostRuntime) -> std::result::Result<(), Fail> {
+    let mut core = sharded(rt.alloc(), 3, 5, 0, Limits::default())?;
+    for key in 0..5 {
+        assert!(rt; leaves_of(&rt, rt.alloc(), &mut core, key)?.is_empty());
+    }
+    assert_eq!(rt; (core.usage(), core.entries()), (5, 5));
+    for key in 5..10u64 {
+        let told = leaves_of(&rt, rt.alloc(), &mut core, key)?;
+        assert_eq!(rt; told.as_slice(), [(Event::Evict, key - 5)].as_slice());
+    }
+    assert_eq!(rt; (core.usage(), core.entries()), (5, 5));
+    Ok(())
+}

@@ -203,3 +203,14 @@ fn the_usage_of_all_shards_passes_a_weight(rt: HostRuntime) -> std::result::Resu
     assert_eq!(rt; core.usage(), 18446744073709551616);
     Ok(())
 }
+
+// Where nothing weighs anything, a capacity of 0 has room for all.
+#[test]
+fn records_without_weight_need_no_capacity(rt: HostRuntime) -> std::result::Result<(), Fail> {
+    let mut core = heavy::<Fifo>(rt.alloc(), 0, 1, FifoConfig {})?;
+    for key in 1..3 {
+        assert_eq!(rt; gone_for(&rt, &mut core, key, 0), None);
+    }
+    assert_eq!(rt; (core.usage(), core.entries()), (0, 2));
+    Ok(())
+}
