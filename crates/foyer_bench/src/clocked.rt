@@ -10,6 +10,7 @@ use crate::drive::{Core, drive};
 use crate::failure::Failure;
 use crate::progress::Progress;
 use foyer_policy::{Eviction, HashBuilder};
+use std::alloc::Global;
 use std::rt::Clock;
 use std::time::{Duration, Instant};
 
@@ -29,6 +30,7 @@ pub struct Timed {
 /// that no fetch is open.
 pub fn run_clocked<R: Clock + Eprint, E: Eviction, S: HashBuilder>(
     rt: &R,
+    alloc: Global,
     core: &mut Core<E, S>,
     keys: &[u64],
     progress: &mut Progress,
@@ -46,7 +48,7 @@ pub fn run_clocked<R: Clock + Eprint, E: Eviction, S: HashBuilder>(
         let Ok(start) = Instant::now(rt) else {
             return Err(Failure::InputOrOutput);
         };
-        let Ok(found) = drive(core, &keys[done..end]) else {
+        let Ok(found) = drive(alloc, core, &keys[done..end]) else {
             return Err(Failure::Memory);
         };
         let Ok(taken) = start.elapsed(rt) else {

@@ -8,8 +8,11 @@ ghost use Rattle.foyer_core.specs.Idle.{NoneOpen};
 ghost use Rattle.foyer_core.specs.Steps.{GivesBack, RefusesInsert, newcomer};
 ghost use Rattle.foyer_bench.specs.Drive.{LooksUp, NoMoreHandles, PutsIn, RefusesLookUp, Runs, Stops, data_of};
 
-use foyer_core::{AdmitAll, CacheCore, CacheProperties, CoreEntry, Inserted, UnitWeighter};
+use foyer_core::{
+    AdmitAll, CacheCore, CacheProperties, CoreEntry, InsertedOnto, Leave, UnitWeighter,
+};
 use foyer_policy::{Eviction, HashBuilder, Result};
+use std::alloc::Global;
 
 /// A core of `u64` keys and values that weigh 1 each.
 pub type Core<E, S> = CacheCore<E, u64, u64, CacheProperties, S, UnitWeighter, AdmitAll>;
@@ -17,7 +20,11 @@ pub type Core<E, S> = CacheCore<E, u64, u64, CacheProperties, S, UnitWeighter, A
 /// Looks each key up, and puts in each that is not found, as its own value. Each entry is given back at once.
 /// Answers how many keys were found. Refused where a key is: it and the keys after it are left out. It asks that no
 /// fetch is open, as in a new core, and opens none.
-pub fn drive<E: Eviction, S: HashBuilder>(core: &mut Core<E, S>, keys: &[u64]) -> Result<usize>
+pub fn drive<E: Eviction, S: HashBuilder>(
+    alloc: Global,
+    core: &mut Core<E, S>,
+    keys: &[u64],
+) -> Result<usize>
     requires idle { NoneOpen (fetches_of core.old) }
     ensures runs { IfOk result (λ hits. Runs (meaning_of_core core.old) (λ builder key. S.hash_of builder (u64_input key))
         (core_of core.old) keys.now hits (core_of core.new)) }
@@ -28,8 +35,10 @@ pub fn drive<E: Eviction, S: HashBuilder>(core: &mut Core<E, S>, keys: &[u64]) -
     ensures idle { NoneOpen (fetches_of core.new) }
 {
     let mut hits = 0;
+    // One list of what leaves serves all inserts.
+    let mut leaves = Vec::new(alloc);
     for key in keys {
-        let found = match look_up(core, *key) {
+        let found = match look_up(core, *key, &mut leaves) {
             Ok(found) => found,
             Err(error) => return Err(error),
         };
@@ -42,7 +51,11 @@ pub fn drive<E: Eviction, S: HashBuilder>(core: &mut Core<E, S>, keys: &[u64]) -
 
 // Looks a key up, and puts it in where it is not found. Answers whether it was.
 #[inline]
-fn look_up<E: Eviction, S: HashBuilder>(core: &mut Core<E, S>, key: u64) -> Result<bool>
+fn look_up<E: Eviction, S: HashBuilder>(
+    core: &mut Core<E, S>,
+    key: u64,
+    leaves: &mut Vec<Leave<u64, u64, CacheProperties>>,
+) -> Result<bool>
     requires idle { NoneOpen (fetches_of core.old) }
     ensures looks_up { IfOk result (λ found. LooksUp (meaning_of_core core.old) (λ builder key. S.hash_of builder (u64_input key))
         (core_of core.old) key found (core_of core.new)) }
@@ -56,7 +69,7 @@ fn look_up<E: Eviction, S: HashBuilder>(core: &mut Core<E, S>, key: u64) -> Resu
             end(core, entry);
             Ok(true)
         }
-        Ok(None) => match put_in(core, key) {
+        Ok(None) => match put_in(core, key, leaves) {
             Ok(()) => Ok(false),
             Err(error) => Err(error),
         },
@@ -66,7 +79,11 @@ fn look_up<E: Eviction, S: HashBuilder>(core: &mut Core<E, S>, key: u64) -> Resu
 
 // Puts a key in, as its own value.
 #[inline]
-fn put_in<E: Eviction, S: HashBuilder>(core: &mut Core<E, S>, key: u64) -> Result<()>
+fn put_in<E: Eviction, S: HashBuilder>(
+    core: &mut Core<E, S>,
+    key: u64,
+    leaves: &mut Vec<Leave<u64, u64, CacheProperties>>,
+) -> Result<()>
     requires idle { NoneOpen (fetches_of core.old) }
     ensures put { let hash = S.hash_of (core_of core.old).hash_builder (u64_input key) in
         IfOk result (λ _. AtShard (λ s t. PutsIn (meaning_of_core core.old) s (hash, key) t) hash (core_of core.old) (core_of core.new)) }
@@ -75,18 +92,15 @@ fn put_in<E: Eviction, S: HashBuilder>(core: &mut Core<E, S>, key: u64) -> Resul
         hash (core_of core.old) (core_of core.new)) }
     ensures idle { NoneOpen (fetches_of core.new) }
 {
-    match core.insert(key, key) {
+    match core.insert_onto(key, key, leaves) {
         Ok(made) => {
-            let Inserted {
-                entry,
-                answers,
-                leaves: _,
-            } = made;
+            let InsertedOnto { entry, answers } = made;
             core.drop_answers(answers);
             end(core, entry);
+            leaves.clear();
             Ok(())
         }
-        Err(refused) => Err(refused.error),
+        Err(error) => Err(error),
     }
 }
 

@@ -149,7 +149,7 @@ fn run_once<E: Eviction, S: HashBuilder + Default>(
     let Ok(mut core) = Core::<E, S>::new(rt.alloc(), config) else {
         return Err(Failure::Memory);
     };
-    let run = run_clocked(rt, &mut core, keys, progress)?;
+    let run = run_clocked(rt, rt.alloc(), &mut core, keys, progress)?;
     Ok(Report {
         usage: core.usage(),
         ops: keys.len(),

@@ -1,5 +1,6 @@
 pub mod AdmitLemmas
 pub mod Answered
+pub mod AnsweredOnto
 pub mod AnsweredPieces
 pub mod ApartLemmas
 pub mod Arriving
@@ -46,6 +47,7 @@ pub mod Leaving
 pub mod LeftLemmas
 pub mod Loads
 pub mod Looking
+pub mod Masks
 pub mod NearLemmas
 pub mod Observing
 pub mod Opening
@@ -66,6 +68,7 @@ pub mod Pushing
 pub mod RefusalLemmas
 pub mod Removed
 pub mod Reserving
+pub mod Residents
 pub mod Returning
 pub mod RoomLemmas
 pub mod ShardLemmas

@@ -24,6 +24,8 @@ pub mod Stores
 pub mod Steps
 pub mod Laws
 pub mod Observed
+pub mod Onto
 pub mod Bulk
 pub mod CoreBulk
 pub mod Pieces
+pub mod Questions

@@ -17,13 +17,12 @@ use crate::config::RawCacheConfig;
 use crate::entry::{CoreEntry, Leave};
 use crate::filter::{AdmitAll, Filter};
 use crate::indexer::{HashTableIndexer, Indexer};
-use crate::outcome::{Inserted, Refused};
-use crate::properties::{CacheProperties, marked};
-use crate::record::Data;
+use crate::outcome::{Inserted, InsertedOnto, Refused};
+use crate::properties::CacheProperties;
 use crate::shard::Shard;
 use crate::weighter::{UnitWeighter, Weighter};
 use foyer_policy::{
-    DefaultHasher, Error, Eviction, HashBuilder, Key, Properties, Reason, Result, Source, Value,
+    DefaultHasher, Error, Eviction, HashBuilder, Key, Properties, Reason, Result, Value,
 };
 use load::Load;
 use std::alloc::Global;
@@ -35,6 +34,7 @@ mod entries;
 mod fetches;
 mod in_turn;
 mod load;
+mod onto;
 mod pieces;
 mod shards;
 
@@ -290,23 +290,18 @@ impl<
             (λ made. IsToldWith K.eq (hashes_of self.old) P.phantom_of (core_of self.old) made.leaves.items made.entry.id made.entry.kept (core_of self.new))
             (λ refused. IsTold K.eq (hashes_of self.old) (core_of self.old) refused.leaves.items (core_of self.new)) }
     {
-        let hash = self.hash(&key);
-        let weight = self.weighter.weigh(&key, &value);
-        let admitted = self.filter.admit(&key, &value);
-        let properties = marked(properties, admitted);
-        let kept = Data {
-            key,
-            value,
-            properties,
-            hash,
-            weight,
-        };
-        let place = self.place(hash);
-        let before = Load::of(&self.shards[place]);
-        let emplaced = self.shards[place].emplace(self.alloc, kept, Source::Outer);
-        let after = Load::of(&self.shards[place]);
-        self.load.replace(before, after);
-        emplaced
+        let mut leaves = Vec::new(self.alloc);
+        match self.insert_with_properties_onto(key, value, properties, &mut leaves) {
+            Ok(made) => {
+                let InsertedOnto { entry, answers } = made;
+                Ok(Inserted {
+                    entry,
+                    answers,
+                    leaves,
+                })
+            }
+            Err(error) => Err(Refused { error, leaves }),
+        }
     }
 
     /// Whether the entry has the core's number and its record has a handle, as each entry has that the core

@@ -5,15 +5,15 @@ ghost use Rattle.slab.specs.Slab.{get};
 ghost use Rattle.foyer_policy.specs.declared.error.Reason.TheVariants.{NoMemory};
 ghost use Rattle.foyer_core.specs.Indexer.{same_key};
 ghost use Rattle.foyer_core.specs.Inflight.{AreLinked, AreOpen, AreOpen-prop, HasNumbers, IsFetchOrTake, IsOpen, LacksNumber, Place, RefusesEnqueue, after_enqueue, after_nothing, asked, closed, enqueued, joined, no_opens, numbers_in, opens_by, waiters_of, with_place};
-ghost use Rattle.foyer_core.specs.State.{key_of};
-ghost use Rattle.foyer_core.specs.Waited.{entries_in};
 
 use crate::indexer::{HashTableIndexer, Indexer};
-use crate::outcome::{Arrival, Inserted, Waiting};
+use crate::outcome::Waiting;
 use foyer_policy::{Error, Key, Reason, Result};
 use slab::Slab;
 use std::alloc::Global;
 use std::marker::Model;
+
+mod answering;
 
 /// The place of a fetch that is open.
 #[derive(Drop)]
@@ -247,23 +247,6 @@ impl<K: Key, N: Drop, R: Drop> InflightManager<K, N, R> {
             Some(waiters) => waiters,
             None => Vec::new(self.alloc),
         }
-    }
-
-    // What an insert answers whose record came in so: those who wait for its key get the further entries, and the key's
-    // place is closed. It takes no memory.
-    #[inline(always)]
-    pub(crate) fn answer<V: Drop, P: Drop>(
-        &mut self,
-        made: Arrival<K, V, P>,
-    ) -> Inserted<K, V, P, N>
-        ensures entry { result.entry ≡ made.entry }
-        ensures leaves { result.leaves ≡ made.leaves }
-        ensures waiters { result.answers.waiters.items ≡ waiters_of ((opens_of self.old).places (key_of made.entry.kept)) }
-        ensures entries { entries_in result.answers.outcome ≡ Some made.others.items }
-        ensures closed { opens_of self.new ≡ closed K.eq (opens_of self.old) (key_of made.entry.kept) }
-    {
-        let waiters = self.close(made.entry.hash(), made.entry.key());
-        made.answering(waiters)
     }
 
     /// A fetch of a key found nothing: the builder that is kept, to fetch with. Without one it is not open any more,

@@ -24,7 +24,9 @@ pub use entry::{CoreEntry, Leave, Left};
 pub use filter::{AdmitAll, Filter};
 pub use indexer::{HashTableIndexer, Indexer, Sentry};
 pub use inflight::{Enqueue, FetchOrTake, InflightManager};
-pub use outcome::{Answers, Ended, FetchTarget, Inserted, Lookup, Outcome, Refused, Waiting};
+pub use outcome::{
+    Answers, Ended, FetchTarget, Inserted, InsertedOnto, Lookup, Outcome, Refused, Waiting,
+};
 pub use piece::Piece;
 pub use properties::{CacheProperties, marked};
 pub use record::{Data, Flags, Limits, Record};

@@ -77,31 +77,6 @@ pub struct Answers<K, V, P, N> {
 }
 
 impl<K: Drop, V: Drop, P: Drop> Arrival<K, V, P> {
-    // What an insert answers, where these waited for the record's key.
-    #[inline(always)]
-    pub(crate) fn answering<N>(self, waiters: Vec<Waiting<N>>) -> Inserted<K, V, P, N>
-        ensures entry { result.entry ≡ self.entry }
-        ensures leaves { result.leaves ≡ self.leaves }
-        ensures waiters { result.answers.waiters ≡ waiters }
-        ensures entries { entries_in result.answers.outcome ≡ Some self.others.items }
-    {
-        let Arrival {
-            entry,
-            others,
-            leaves,
-        } = self;
-        Inserted {
-            entry,
-            answers: Answers {
-                waiters,
-                outcome: Outcome::Entries(others),
-            },
-            leaves,
-        }
-    }
-}
-
-impl<K: Drop, V: Drop, P: Drop> Arrival<K, V, P> {
     // What a fetch's end answers, where these waited, of whom each gets one of the handles.
     pub(crate) fn ending<N>(self, waiters: Vec<Waiting<N>>) -> Ended<K, V, P, N>
         requires room { vec_len self.others + 1 ≤ vec_capacity self.others }
@@ -134,7 +109,27 @@ pub struct Inserted<K: Drop, V: Drop, P: Drop, N> {
     pub leaves: Vec<Leave<K, V, P>>,
 }
 
+/// What an insert answers that appends what leaves to a list, and that is not refused.
+pub struct InsertedOnto<K, V, P, N> {
+    /// A handle of the record.
+    pub entry: CoreEntry<K, V, P>,
+    /// What the key's waiters get.
+    pub answers: Answers<K, V, P, N>,
+}
+
 impl<K, V, P, N> Answers<K, V, P, N> {
+    // Nobody waited.
+    #[inline(always)]
+    pub(crate) fn nobody(alloc: Global) -> Self
+        ensures waiters { result.waiters.items ≡ [] }
+        ensures entries { entries_in result.outcome ≡ Some [] }
+    {
+        Answers {
+            waiters: Vec::new(alloc),
+            outcome: Outcome::Entries(Vec::new(alloc)),
+        }
+    }
+
     /// Who waited, in order, and what they get: the entries, one for each in the same order, no entry where they get
     /// nothing, or the one refusal.
     pub fn into_parts(self) -> (Vec<Waiting<N>>, Result<Vec<CoreEntry<K, V, P>>, Error>)

@@ -2,7 +2,7 @@
 
 ghost use Rattle.std.specs.Prelude.{◌≡◌, ℕ, ◌+◌, ◌-◌, ◌<◌, ◌^◌, Option, Some, None, IfErr, IfOk, OnOk, OnErr, IsSomeAnd, IsSome, IsTrue, nat_eq, option_copied, option_map, true};
 ghost use Rattle.std.specs.Map.{update};
-ghost use Rattle.slab.specs.Slab.{get};
+ghost use Rattle.slab.specs.Slab.{entries, get};
 ghost use Rattle.foyer_policy.specs.declared.error.Reason.TheVariants.{NoMemory};
 ghost use Rattle.foyer_core.specs.Values.{Kept};
 ghost use Rattle.foyer_core.specs.Ids.{slot_of};
@@ -15,7 +15,7 @@ use crate::entry::Left;
 use crate::slot::Slot;
 use foyer_policy::{Error, Place, Reason, Result};
 use ids::Ids;
-use slab::Slab;
+use slab::{Iter, Slab};
 use std::alloc::Global;
 use std::mem;
 
@@ -64,6 +64,13 @@ impl<K: Drop, V: Drop, P: Drop> Records<K, V, P> {
         ensures { option_copied result ≡ slot_in self.now slot }
     {
         self.slots.get(slot)
+    }
+
+    /// The slots with a record, by rising number.
+    pub fn iter(&self) -> Iter<'_, Slot<K, V, P>>
+        ensures { result ≡ entries self.now.slots }
+    {
+        self.slots.iter()
     }
 
     /// The slot of an id, which may be the one that is hinted.

@@ -16,10 +16,12 @@ use std::alloc::Global;
 
 mod bulk;
 mod clearing;
+mod ending;
 mod entries;
 mod fetches;
 mod insertion;
 mod keys;
+mod questions;
 
 /// One shard of a cache. Contracts see its `State`: maps from hashed keys to ids and from ids to records; and its
 /// `Opens`: the places of open fetches. `N` is what waits for an answer, and `R` what builds a fetch.

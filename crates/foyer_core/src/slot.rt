@@ -1,6 +1,6 @@
 //! Slots: where a shard keeps its records.
 
-ghost use Rattle.std.specs.Prelude.{◌≡◌, ◌+◌, ◌-◌, ◌<◌, ◌≤◌, ◌^◌, IfOk, IfErr, OnErr, true, false, IsTrue, Some, None, replicate, vec_len, vec_capacity};
+ghost use Rattle.std.specs.Prelude.{◌≡◌, ◌+◌, ◌-◌, ◌<◌, ◌≤◌, ◌^◌, IfOk, IfErr, OnErr, OnOk, true, false, IsTrue, Some, None, replicate, vec_len, vec_capacity};
 ghost use Rattle.foyer_policy.specs.declared.error.Reason.TheVariants.{NoMemory};
 
 use crate::entry::{CoreEntry, Left, discard_all};
@@ -49,14 +49,14 @@ impl<K: Drop, V: Drop, P: Drop> Slot<K, V, P> {
 
     /// The record is to come in: it gets the share with which it leaves. Only memory can be missing.
     #[inline(always)]
-    pub fn come_in(self) -> Result<Self>
-        ensures came { IfOk result (λ s. s ≡ record self { resident = true }) }
+    pub fn come_in(&mut self) -> Result<()>
+        ensures came { OnOk result (self.new ≡ record self.old { resident = true }) }
         ensures refused { IfErr result (λ e. e ≡ NoMemory) }
     {
-        let Slot { id, mut record, .. } = self;
-        let leave = Some(record.body()?);
-        record.set_in_indexer(true);
-        Ok(Slot { id, record, leave })
+        let body = self.record.body()?;
+        self.record.set_in_indexer(true);
+        self.leave = Some(body);
+        Ok(())
     }
 
     /// One more share of what the record keeps. Only memory can be missing.

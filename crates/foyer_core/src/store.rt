@@ -12,8 +12,10 @@ use crate::records::Records;
 use foyer_policy::{Eviction, Key, Properties, Result, Value};
 use std::alloc::Global;
 
+mod admission;
 mod bulk;
 mod clearing;
+mod ending;
 mod entries;
 mod evictions;
 mod handles;
@@ -22,6 +24,7 @@ mod keys;
 mod phantoms;
 mod picking;
 mod pieces;
+mod questions;
 mod refusals;
 
 /// What a shard holds. Contracts see its `State`: maps from hashed keys to ids and from ids to records.

@@ -10,7 +10,6 @@ mod indexer;
 mod inflight;
 #[cfg(test)]
 mod record;
-#[cfg(test)]
-mod refusing;
+pub mod refusing;
 #[cfg(test)]
 mod shard;

@@ -216,6 +216,8 @@ impl Eq for RefusingKey {
 }
 
 impl Hash for RefusingKey {
+    ghost use Rattle.std.proofs.Common.{rules};
+
     ghost hash_input = { ⟦<u64 as Hash>⟧.hash_input };
 
     ghost respects_eq = { Prim.search rules };

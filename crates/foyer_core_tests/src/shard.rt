@@ -3,12 +3,17 @@ ghost use Rattle.std.specs.Prelude.{◌≡◌};
 use foyer_core::{
     CacheProperties, CoreEntry, Data, HashTableIndexer, Inserted, Left, Limits, Shard,
 };
-use foyer_policy::{Event, Lru, LruConfig, Ratio, Result, Source};
+use foyer_policy::{Event, Eviction, Lru, LruConfig, Ratio, Result, Source};
 use std::alloc::Global;
 use std::process::Abort;
 use std::test::Fail;
 
-type Plain = Shard<Lru, u64, u64, CacheProperties, (), (), HashTableIndexer<u64>>;
+mod ending;
+mod questions;
+
+type Over<E> = Shard<E, u64, u64, CacheProperties, (), (), HashTableIndexer<u64>>;
+
+type Plain = Over<Lru>;
 
 type Entry = CoreEntry<u64, u64, CacheProperties>;
 
@@ -16,19 +21,17 @@ type Leaves = Vec<(Event, Left<u64, u64, CacheProperties>)>;
 
 // A shard that holds nothing.
 fn shard(alloc: Global, capacity: usize) -> Result<Plain> {
+    limited(alloc, capacity, Limits::default())
+}
+
+// A shard with these limits that holds nothing.
+fn limited(alloc: Global, capacity: usize, limits: Limits) -> Result<Plain> {
     let index = HashTableIndexer::new(alloc);
-    Shard::new(
-        alloc,
-        0,
-        capacity,
-        Limits::default(),
-        &LruConfig::default(),
-        index,
-    )
+    Shard::new(alloc, 0, capacity, limits, &LruConfig::default(), index)
 }
 
 // Puts a record in, lets its entry go, and sees that nothing left.
-fn put(rt: &impl Abort, alloc: Global, shard: &mut Plain, key: u64, weight: usize) {
+fn put<E: Eviction>(rt: &impl Abort, alloc: Global, shard: &mut Over<E>, key: u64, weight: usize) {
     let made = shard.emplace(
         alloc,
         Data {
@@ -61,7 +64,7 @@ fn put(rt: &impl Abort, alloc: Global, shard: &mut Plain, key: u64, weight: usiz
 }
 
 // An entry of a key that is in, which pins its record.
-fn hold(rt: &impl Abort, shard: &mut Plain, key: u64) -> Entry {
+fn hold<E: Eviction>(rt: &impl Abort, shard: &mut Over<E>, key: u64) -> Entry {
     match shard.get(key, &key) {
         Ok(Some(entry)) => entry,
         Ok(None) => panic!(rt; "nothing is found under {key}"),
@@ -70,7 +73,7 @@ fn hold(rt: &impl Abort, shard: &mut Plain, key: u64) -> Entry {
 }
 
 // An entry of the shard goes back, and nothing leaves with it.
-fn release(rt: &impl Abort, shard: &mut Plain, entry: Entry) {
+fn release<E: Eviction>(rt: &impl Abort, shard: &mut Over<E>, entry: Entry) {
     match shard.give_back(entry) {
         Ok(leave) => assert!(rt; leave.is_none()),
         Err(entry) => {

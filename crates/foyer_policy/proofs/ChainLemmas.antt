@@ -4,7 +4,8 @@ use Rattle.std.proofs.lemmas.Bool.Decides.{nat_tests}
 use Rattle.foyer_policy.specs.declared.lists.Node.{Node}
 use Rattle.foyer_policy.specs.Lists.{first_or, last_or, IsFree, IsDistinct}
 use Rattle.foyer_policy.proofs.PlaceLemmas.{IsFree-append_left, IsFree-append_right}
-use Rattle.foyer_policy.specs.Chain.{walk, IsChain, is_at, after_set, before_set}
+use Rattle.foyer_policy.specs.Chain.{walk, IsChain, is_at, after_set, before_set, all_but}
+use Rattle.foyer_policy.proofs.PlaceLemmas.{same_place, other_place}
 
 pub is_at-same : (p : ℕ) → is_at (Some p) p ≡ true
 is_at-same p = grind (arith, nat_tests)
@@ -19,6 +20,13 @@ module _ {T : Type 0} where
   walk-chain f k (suc n) b [] c h = refl
   walk-chain f k zero b (e ∷ es) c h = absurd (omega arith)
   walk-chain f k (suc n) b (e ∷ es) c h = rw c.0 (ap (λ r. e ∷ r) (walk-chain f k n (Some e.0) es c.1 (omega arith)))
+
+  -- the nodes but one
+  pub all_but-same : (p : ℕ) (f : ℕ → Option (Node T)) → all_but p f p ≡ None
+  all_but-same p f = rw (same_place p) refl
+
+  pub all_but-other : (p q : ℕ) (f : ℕ → Option (Node T)) → q ≢ p → all_but p f q ≡ f q
+  all_but-other p q f ne = rw (other_place q p ne) refl
 
   -- the list of a node
   abbrev pub owner : Option (Node T) → Option ℕ

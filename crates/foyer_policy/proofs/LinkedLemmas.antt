@@ -1,14 +1,14 @@
 -- Linked nodes as lists: what relinking one of them leaves.
-use Rattle.std.proofs.Common.{◌≡◌, ◌≢◌, ℕ, ◌+◌, ◌<◌, Bool, true, false, cond, List, [], ◌∷◌, ◌++◌, Option, Some, None, length, map, get_or, set, refl, sym, ◌∙◌, ap, arith, ◌⊎◌, inl, inr, length-set, length-append, append_assoc, sum_by, IsSome, rules}
+use Rattle.std.proofs.Common.{◌≡◌, ◌≢◌, ℕ, ◌+◌, ◌<◌, Bool, true, false, cond, List, [], ◌∷◌, ◌++◌, Option, Some, None, length, map, get_or, set, refl, sym, ◌∙◌, ap, arith, subst, ◌⊎◌, inl, inr, length-set, length-append, append_assoc, sum_by, IsSome, rules}
 use Rattle.std.specs.Prelude.{◌==◌}
 use Rattle.std.proofs.lemmas.List.{get_or-set_same, get_or-set_other, set-get_or}
 use Rattle.std.proofs.lemmas.List.Sums.{sum_by-set}
 use Rattle.foyer_policy.specs.declared.lists.Node.{Node}
 use Rattle.foyer_policy.specs.Lists.{list_at, first_or, last_or, find_in, find, first_value, rest, drop_place, IsFree, IsDistinct, AreLists}
-use Rattle.foyer_policy.specs.Chain.{IsChain, IsList, Linked, is_at, after_set, before_set, end_set}
-use Rattle.foyer_policy.proofs.PlaceLemmas.{place_is, IsDistinct-snoc, IsDistinct-mid, IsDistinct-without}
+use Rattle.foyer_policy.specs.Chain.{IsChain, IsList, Linked, is_at, after_set, before_set, end_set, all_but, value_of}
+use Rattle.foyer_policy.proofs.PlaceLemmas.{place_is, place_differs, IsDistinct-snoc, IsDistinct-mid, IsDistinct-without}
 use Rattle.foyer_policy.proofs.ListsLemmas.{same_or_not, Stands, stands, find-mid, within_if_found, first_found, drop-all, pop-some}
-use Rattle.foyer_policy.proofs.ChainLemmas.{is_at-last, is_at-first, is_at-same, owner, Owned, Owned-is_at, Owned-last, Owned-first, Keeps, chain-frame, Relinks, LinksBack, chain-unlink, chain-link, last_or-append}
+use Rattle.foyer_policy.proofs.ChainLemmas.{is_at-last, is_at-first, is_at-same, owner, Owned, Owned-is_at, Owned-last, Owned-first, Keeps, chain-frame, Relinks, LinksBack, chain-unlink, chain-link, last_or-append, all_but-same, all_but-other}
 
 pub not_true : (b : Bool) → (b ≡ true → ⊥) → b ≡ false
 not_true true h = absurd (h refl)
@@ -158,6 +158,27 @@ module _ {T : Type 0} where
       record { head = refl; tail = sym (last_or-append l ((p, v) ∷ []) None); chain = chain-link f g k p v None l r' n' d h o.chain }
       (IsDistinct-snoc p v l d h))
 
+  -- a node that stood in no list is put at the end of one
+  pub Linked-back : (f g : ℕ → Option (Node T)) (heads tails : List (Option ℕ)) (ls : List (List (ℕ × T))) (k p : ℕ) (v : T) → Linked (all_but p f) heads tails ls → k < length ls
+      → ((q : ℕ) → q ≢ p → g q ≡ cond (is_at (get_or tails k None) q) (after_set (Some p) (f q)) (f q)) → g p ≡ Some (record { value = v; list = k; before = get_or tails k None; after = None })
+      → Linked g (end_set (get_or tails k None) k (Some p) heads) (set tails k (Some p)) (set ls k (list_at ls k ++ (p, v) ∷ []))
+  Linked-back f g heads tails ls k p v old lt others n = Linked-link (all_but p f) g heads tails ls k p v old lt (all_but-same p f)
+      record {
+        others = λ q ne is. others q ne ∙ rw is (sym (all_but-other p q f ne));
+        at_before = λ q ne is. others q ne ∙ rw is (ap (after_set (Some p)) (sym (all_but-other p q f ne)));
+      } n
+
+  -- the nodes alone count
+  pub Linked-alike : (f g : ℕ → Option (Node T)) (heads tails : List (Option ℕ)) (ls : List (List (ℕ × T))) → ((q : ℕ) → g q ≡ f q) → Linked f heads tails ls → Linked g heads tails ls
+  Linked-alike f g heads tails ls e l = let same : f ≡ g = λ i q. sym (e q) i in subst (λ (x : ℕ → Option (Node T)). Linked x heads tails ls) same l
+
+  -- a node went
+  pub all_but-gone : (f g : ℕ → Option (Node T)) (p : ℕ) → g p ≡ None → ((q : ℕ) → q ≢ p → g q ≡ f q) → (q : ℕ) → g q ≡ all_but p f q
+  all_but-gone f g p is others q = go (q == p) refl where
+    go : (b : Bool) → (q == p) ≡ b → g q ≡ cond b None (f q)
+    go true e = ap g (place_is q p e) ∙ is
+    go false e = others q (place_differs q p e)
+
   pub some_owner : (o : Option (Node T)) (k : ℕ) → owner o ≡ Some k → IsSome o
   some_owner None k h = absurd cc
   some_owner (Some n) k h = search rules
@@ -282,6 +303,12 @@ module _ {T : Type 0} where
     off-after : is_at (first_or s.at.back None) p ≡ false
     off-after = is_at-first p s.at.back None (IsDistinct-mid p node.value s.at.front s.at.back entry-distinct).1 refl
 
+    pub off_before : is_at node.before p ≡ false
+    off_before = rw s.before_is off-before
+
+    pub off_after : is_at node.after p ≡ false
+    off_after = rw s.after_is off-after
+
     stays : (x : ℕ) (o : Option ℕ) → Owned f0 s.at.list o → is_at o p ≡ false → o ≡ Some x → IsSome (f1 x)
     stays x o own off e =
         let own' : owner (f0 x) ≡ Some s.at.list = rw e at own in
@@ -316,5 +343,34 @@ module _ {T : Type 0} where
         let r' : Relinks f0 f3 p (last_or s.at.front None) (first_or s.at.back None) = Relinks-at f0 f3 p node.before (last_or s.at.front None) node.after (first_or s.at.back None) s.before_is s.after_is r in
         Linked-at f3 heads tails node.before (last_or s.at.front None) node.after (first_or s.at.back None) node.list s.at.list (map (drop_place p) ls) s.before_is s.after_is s.list_is (Linked-unlink f0 f3 heads tails ls p node.value old s.at (ap owner is ∙ ap Some s.list_is) r')
 
-    pub count-without : sum_by length (map (drop_place p) ls) + 1 ≡ sum_by length ls
-    count-without = count-unlink (length heads) ls (AreLists-Linked f0 heads tails ls (length heads) old refl) p node.value s.at
+  -- the value at a place is its node's
+  pub find-value : (f : ℕ → Option (Node T)) (heads tails : List (Option ℕ)) (ls : List (List (ℕ × T))) (p : ℕ) → Linked f heads tails ls → IsSome (find p ls) → value_of (f p) ≡ find p ls
+  find-value f heads tails ls p old h = go (find p ls) refl h where
+    go : (o : Option T) → find p ls ≡ o → IsSome o → value_of (f p) ≡ find p ls
+    go None e h = absurd (search rules)
+    go (Some v) e h = let s : Found f p v ls = found f heads tails ls p v old e in ap value_of s.node ∙ sym e
+
+  value_of-after : (b : Bool) (to : Option ℕ) (o : Option (Node T)) → value_of (cond b (after_set to o) o) ≡ value_of o
+  value_of-after true to None = refl
+  value_of-after true to (Some n) = refl
+  value_of-after false to o = refl
+
+  -- the node p is put at the end of list k: first the one before it is linked to it, then it is written
+  pub Linked-relinked : (f0 f1 f2 : ℕ → Option (Node T)) (heads heads1 tails : List (Option ℕ)) (ls : List (List (ℕ × T))) (k p : ℕ) (v : T) (last to : Option ℕ) (now : Node T)
+      → Linked (all_but p f0) heads tails ls → k < length ls → value_of (f0 p) ≡ Some v → last ≡ get_or tails k None → to ≡ Some p
+      → ((q : ℕ) → f1 q ≡ cond (is_at last q) (after_set to (f0 q)) (f0 q)) → f1 p ≡ Some now → f2 p ≡ Some (record { value = now.value; list = k; before = last; after = None })
+      → ((q : ℕ) → q ≢ p → f2 q ≡ f1 q) → heads1 ≡ end_set last k to heads → Linked f2 heads1 (set tails k (Some p)) (set ls k (list_at ls k ++ (p, v) ∷ []))
+  Linked-relinked f0 f1 f2 heads heads1 tails ls k p v last to now old lt here is_last is_to links is written others ends =
+      let some : Some now.value ≡ Some v = ap value_of (sym is ∙ links p) ∙ value_of-after (is_at last p) to (f0 p) ∙ here in
+      let same : now.value ≡ v = cc in
+      rw (ends, is_last, is_to)
+      (Linked-back f0 f2 heads tails ls k p v old lt (λ q ne. others q ne ∙ (rw (is_last, is_to) at (links q))) (written ∙ (λ i. Some (record { value = same i; list = k; before = is_last i; after = None }))))
+
+  -- the last node of a list that does not have p
+  pub tail_in : (f : ℕ → Option (Node T)) (heads tails : List (Option ℕ)) (ls : List (List (ℕ × T))) (k p x : ℕ) → Linked (all_but p f) heads tails ls → k < length ls → get_or tails k None ≡ Some x → IsSome (f x)
+  tail_in f heads tails ls k p x old lt e =
+      let own : Owned (all_but p f) k (get_or tails k None) = Owned-tail (all_but p f) heads tails ls k old lt in
+      let own' : owner (all_but p f x) ≡ Some k = rw e at own in go (x == p) (some_owner (all_but p f x) k own') where
+        go : (b : Bool) → IsSome (cond b None (f x)) → IsSome (f x)
+        go true h = absurd (search rules)
+        go false h = h

@@ -1,8 +1,8 @@
 -- How the nodes of a slab are linked.
-use Rattle.std.specs.Prelude.{◌≡◌, ◌==◌, ℕ, zero, suc, ◌^◌, ◌<◌, ◌≤◌, List, [], ◌∷◌, Option, Some, None, length, map, sum_by, slice_index_or, slice_set, Bool, false}
+use Rattle.std.specs.Prelude.{◌≡◌, ◌==◌, ℕ, zero, suc, ◌^◌, ◌<◌, ◌≤◌, List, [], ◌∷◌, Option, Some, None, length, map, sum_by, slice_index_or, slice_set, Bool, false, if◌then◌else◌, IsSome}
 use Rattle.foyer_policy.specs.declared.lists.Node.{Node}
 use Rattle.slab.specs.Slab.{Slab, get, slab_len}
-use Rattle.foyer_policy.specs.Lists.{list_at, first_or, last_or, IsDistinct}
+use Rattle.foyer_policy.specs.Lists.{list_at, first_or, last_or, find, IsDistinct}
 
 -- whether an optional number is this one
 abbrev pub is_at : Option ℕ → ℕ → Bool
@@ -49,6 +49,7 @@ module _ {T : Type 0} where
     pub linked : Linked (get nodes) heads tails ls
     pub count : sum_by length ls ≡ slab_len nodes
     pub room : slab_len nodes ≤ nodes.capacity
+    pub below : (p : ℕ) → IsSome (find p ls) → p < nodes.capacity
     pub small : nodes.capacity < 2 ^ 64
 
   abbrev pub lists_of : Slab (Node T) → List (Option ℕ) → List (List (ℕ × T))
@@ -61,6 +62,15 @@ module _ {T : Type 0} where
   abbrev pub before_set : Option ℕ → Option (Node T) → Option (Node T)
   before_set to None = None
   before_set to (Some node) = Some (record { value = node.value; list = node.list; before = to; after = node.after })
+
+  -- the nodes but the one at a place
+  abbrev pub all_but : ℕ → (ℕ → Option (Node T)) → ℕ → Option (Node T)
+  all_but p f q = if q == p then None else f q
+
+  -- the value of a node
+  abbrev pub value_of : Option (Node T) → Option T
+  value_of None = None
+  value_of (Some node) = Some node.value
 
   -- the nodes, the heads and the tails are lists
   abbrev pub IsSound : Slab (Node T) → List (Option ℕ) → List (Option ℕ) → Type 0

@@ -1,10 +1,10 @@
 //! Linked lists of values over one block of nodes.
 
-ghost use Rattle.std.specs.Prelude.{◌≡◌, ◌≢◌, ℕ, ◌+◌, ◌^◌, ◌<◌, ◌≤◌, ◌∷◌, ◌++◌, [], Some, None, OnOk, OnErr, IfErr, IfSome, IsOk, IsSome, length, map, sum_by, slice_set, if◌then◌else◌, replicate, is_some};
+ghost use Rattle.std.specs.Prelude.{◌≡◌, ◌≢◌, ℕ, ◌+◌, ◌-◌, ◌^◌, ◌<◌, ◌≤◌, ◌∷◌, ◌++◌, [], Some, None, OnOk, OnErr, IfErr, IfSome, IsOk, IsSome, length, map, sum_by, slice_index_or, slice_set, if◌then◌else◌, replicate, is_some};
 ghost use Rattle.std.specs.Option.{ForSome};
 ghost use Rattle.slab.specs.Slab.{get, slab_len, ContainsKey, HasRoomFor};
 ghost use Rattle.foyer_policy.specs.Lists.{list_at, first_or, find, find_in, first_value, rest, drop_place, moved, AreLists};
-ghost use Rattle.foyer_policy.specs.Chain.{is_at, after_set, before_set, end_set, lists_of, IsSound};
+ghost use Rattle.foyer_policy.specs.Chain.{is_at, after_set, before_set, end_set, all_but, value_of, lists_of, Linked, IsSound};
 
 use crate::error::{Error, Reason, Result};
 use crate::link::Link;
@@ -138,7 +138,54 @@ fn link_back<T>(
     node
 }
 
-// Takes the value of a node out of its list.
+// Takes a node out of its list. It stays in the slab, and in no list.
+#[inline(always)]
+fn unlink<T>(nodes: &mut Slab<Node<T>>, heads: &mut [Link], tails: &mut [Link], place: usize)
+    requires sound { IsSound nodes.old heads.old tails.old }
+    requires there { IsSome (find place (lists_of nodes.old heads.old)) }
+    ensures linked { Linked (all_but place (get nodes.new)) heads.new tails.new
+        (map (drop_place place) (lists_of nodes.old heads.old)) }
+    ensures node { get nodes.new place ≡ get nodes.old place }
+    ensures len { slab_len nodes.new ≡ slab_len nodes.old }
+    ensures capacity { nodes.new.capacity ≡ nodes.old.capacity }
+{
+    let node = &nodes[place];
+    let (list, before, after) = (node.list, node.before, node.after);
+    set_after(nodes, heads, list, before, after);
+    set_before(nodes, tails, list, after, before);
+}
+
+// Puts a node that is in no list at the end of one.
+#[inline(always)]
+fn relink<T>(
+    nodes: &mut Slab<Node<T>>,
+    heads: &mut [Link],
+    tails: &mut [Link],
+    list: usize,
+    place: usize,
+)
+    requires list { list < length heads.old }
+    requires tails { length tails.old ≡ length heads.old }
+    requires there { ContainsKey nodes.old place }
+    requires last { ForSome (slice_index_or tails.old list None) (ContainsKey nodes.old) }
+    requires small { place < 2 ^ 64 - 1 }
+    ensures linked { (ls : _) (v : _) → value_of (get nodes.old place) ≡ Some v
+        → Linked (all_but place (get nodes.old)) heads.old tails.old ls
+        → Linked (get nodes.new) heads.new tails.new
+        (slice_set ls list (list_at ls list ++ (place, v) ∷ [])) }
+    ensures len { slab_len nodes.new ≡ slab_len nodes.old }
+    ensures capacity { nodes.new.capacity ≡ nodes.old.capacity }
+{
+    let before = tails[list];
+    set_after(nodes, heads, list, before, Link::to(place));
+    tails[list] = Link::to(place);
+    let node = &mut nodes[place];
+    node.list = list;
+    node.before = before;
+    node.after = Link::end();
+}
+
+// Takes the value of a node out of its list, and its node out of the slab.
 #[inline(always)]
 fn take_out<T>(nodes: &mut Slab<Node<T>>, heads: &mut [Link], tails: &mut [Link], place: usize) -> T
     requires sound { IsSound nodes.old heads.old tails.old }
@@ -149,18 +196,10 @@ fn take_out<T>(nodes: &mut Slab<Node<T>>, heads: &mut [Link], tails: &mut [Link]
         ≡ map (drop_place place) (lists_of nodes.old heads.old) }
     ensures len { slab_len nodes.new + 1 ≡ slab_len nodes.old }
     ensures room { HasRoomFor nodes.new 1 }
-    ensures next { nodes.new.vacant_key ≡ place }
     ensures capacity { nodes.new.capacity ≡ nodes.old.capacity }
 {
-    let Node {
-        value,
-        list,
-        before,
-        after,
-    } = nodes.remove(place);
-    set_after(nodes, heads, list, before, after);
-    set_before(nodes, tails, list, after, before);
-    value
+    unlink(nodes, heads, tails, place);
+    nodes.remove(place).value
 }
 
 impl<T, const N: usize> Lists<T, N> {
@@ -286,18 +325,18 @@ impl<T, const N: usize> Lists<T, N> {
         ensures small { sum_by length self.old.lists < 2 ^ 64 }
         ensures apart { AreLists N self.old.lists }
     {
-        let value = take_out(
+        unlink(
             &mut self.nodes,
             &mut self.heads,
             &mut self.tails,
             place.node,
         );
-        link_back(
+        relink(
             &mut self.nodes,
             &mut self.heads,
             &mut self.tails,
             list,
-            value,
+            place.node,
         );
     }
 

@@ -1,5 +1,5 @@
 -- What a fetch task goes through.
-use Rattle.std.specs.Prelude.{◌≡◌, ℕ, ◌≤◌, Bool, true, false, List, [], ◌∷◌, length}
+use Rattle.std.specs.Prelude.{◌≡◌, ℕ, ◌≤◌, Bool, true, false, List, [], ◌∷◌, length, Option, IsSomeAnd}
 use Rattle.foyer_raw.specs.declared.fetch.state.RawFetchState.{RawFetchState}
 use Rattle.foyer_raw.specs.declared.fetch.state.RawFetchState.TheVariants.{Init, FetchOptional, FetchRequired, Notify, Ready}
 use Rattle.foyer_raw.specs.declared.fetch.state.TaskEvent.{TaskEvent}
@@ -32,3 +32,9 @@ BeginsWithStart (e ∷ es) = (optional : Bool) × (e.1 ≡ Start optional)
 -- at most n events lead from one state to the other, and from Init the first of them is a start
 abbrev pub Leads : ℕ → RawFetchState → RawFetchState → Type 0
 Leads n s t = (events : List (Bool × TaskEvent)) × (length events ≤ n) × (s ≡ Init → BeginsWithStart events) × (t ≡ run s events)
+
+-- a task in this state waits for a source: the fetch that it polls there needs it
+abbrev pub Awaits : {F G : Type 0} → RawFetchState → (F → ℕ → Type 0) → (G → ℕ → Type 0) → Option F → Option G → ℕ → Type 0
+Awaits FetchOptional needs needs' optional required source = IsSomeAnd optional (λ f. needs f source)
+Awaits FetchRequired needs needs' optional required source = IsSomeAnd required (λ f. needs' f source)
+Awaits s needs needs' optional required source = ⊥

@@ -24,6 +24,8 @@ mod bulk;
 mod fetching;
 mod insertion;
 mod keys;
+#[cfg(test)]
+mod tests;
 
 /// A cache that many threads share. Each shard stands under a lock of its own, and each call makes one step of a shard,
 /// or one of each in turn. What left is told after the lock is released.
@@ -169,6 +171,20 @@ where
             sum = sum.saturating_add(entries as u128);
         }
         sum
+    }
+
+    /// Whether in each shard the usage is the sum of the weights of the records that a get finds, which are counted anew under
+    /// its lock, one shard after the other. It always is.
+    pub fn fits(&self) -> bool
+        ensures { result ≡ true }
+    {
+        for shard in self.shares.shared.shards.as_slice() {
+            let fits = shard.lock(&self.shares.shared.rt).fits();
+            if !fits {
+                return false;
+            }
+        }
+        true
     }
 
     /// The hash of a key. Equal keys have equal ones.

@@ -164,9 +164,14 @@ where
     pub fn try_clone(&self) -> Result<Self>
         ensures { IfOk result (λ e. e.kept ≡ self.now.kept) }
     {
-        let shares = self.shares.try_clone()?;
         let core = self.shares.shared.clone_handle(&self.core)?;
-        Ok(shares.entry(core))
+        match self.shares.try_clone() {
+            Ok(shares) => Ok(shares.entry(core)),
+            Err(refused) => {
+                self.shares.give_back(core);
+                Err(refused)
+            }
+        }
     }
 
     /// Gives the handle back, as the drop does.

@@ -17,8 +17,9 @@ pub(crate) use keys::RawInserted;
 /// A shard of a cache whose waiters hold senders, and whose later builders are of this type.
 pub(crate) type RawShard<E, K, V, P, R, I> = Shard<E, K, V, P, Notifier<Answer<K, V, P>>, R, I>;
 
-/// What the clones, the entries and the tasks of a cache share. The last owner's drop takes the residents out and
-/// tells the listener.
+/// What the clones, the entries and the tasks of a cache share. The last owner's drop tells the listener all records that
+/// are still in, as `Clear`: shard by shard, in each policy's order, or where there is no memory for that order, in the
+/// order of slots.
 pub(crate) struct Shared<H, E, K, V, S, P, W, A, L, R, I>
 where
     H: Wait + Drop,
@@ -68,14 +69,14 @@ where
             filter: _,
             listener,
             resizing: _,
-            alloc,
+            alloc: _,
         } = self;
         for shard in shards {
-            let mut leaves = Vec::new(alloc);
-            let _ended = shard.into_inner().clear_onto(&mut leaves);
-            for (event, left) in leaves {
-                listener.on_leave(event, left.key(), left.value());
-            }
+            shard.into_inner().finish(&|key: &K, value: &V| listener.on_leave(
+                Event::Clear,
+                key,
+                value,
+            ));
         }
     }
 }

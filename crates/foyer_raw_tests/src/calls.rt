@@ -148,7 +148,7 @@ where
     let piece = entry.piece()?;
     drop(cache.insert_piece(piece)?);
     let _builder = cache.hash_builder();
-    let sums = cache.usage() > 0 && cache.entries() > 0;
+    let sums = cache.usage() > 0 && cache.entries() > 0 && cache.fits();
     let other = cache.try_clone()?;
     let same = entry.hash() == hash && entry.weight() == 1 && *entry.key() == again;
     other.resize(cache.capacity())?;

@@ -3,7 +3,9 @@
 ghost use Rattle.std.specs.Prelude.{◌≡◌, IsSome, IfSome};
 
 use crate::testing::{Ear, Note, Notes, Tube, fifo};
-use foyer_core::{AdmitAll, CacheProperties, FetchTarget, Piece, UnitWeighter};
+use foyer_core::{
+    AdmitAll, CacheProperties, FetchTarget, Limits, Piece, RawCacheConfig, UnitWeighter,
+};
 use foyer_policy::{Event, Fault, Fifo, ModHasher, Result, Source};
 use foyer_raw::{
     Direct, FetchTypes, Given, ListSpawner, NoListener, NoopPipe, OptionalFetchBuilder, Pollable,

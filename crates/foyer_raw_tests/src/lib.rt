@@ -5,11 +5,17 @@
 #[cfg(test)]
 mod bulk;
 #[cfg(test)]
+mod caller;
+#[cfg(test)]
 mod calls;
+#[cfg(test)]
+mod collisions;
 #[cfg(test)]
 mod fetches;
 #[cfg(test)]
 mod leaves;
+#[cfg(test)]
+mod limits;
 #[cfg(test)]
 mod states;
 #[cfg(test)]

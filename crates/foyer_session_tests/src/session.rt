@@ -15,6 +15,7 @@ mod bulk;
 mod fetches;
 mod filter;
 mod index;
+mod memory;
 mod pieces;
 mod policies;
 mod reconfigure;

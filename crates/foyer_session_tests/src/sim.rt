@@ -1,11 +1,13 @@
-use crate::streams::{Parts, Slow};
+use crate::streams::Parts;
 use foyer_core::{AdmitAll, CacheCore, CacheProperties, Limits, RawCacheConfig};
 use foyer_policy::{Eviction, Fifo, Lfu, Lru, ModHasher, S3Fifo, Sieve};
 use foyer_session::sim::write_answer;
 use foyer_session::{Answer, NoHighRatio, Session, SimValue, SimWeighter, simulate};
 use std::alloc::Global;
-use std::io::{BufRead, ErrorKind};
+use std::io::BufRead;
 use std::test::Fail;
+
+mod failures;
 
 pub type SimSession<E> = Session<
     E,
@@ -373,64 +375,6 @@ h2 10 | - | usage 1 entries 1
 ";
     assert_eq!(rt; written.as_slice(), wanted);
     Ok(())
-}
-
-// The calls of `fill_buf`, `write` and `flush` may each fail. What was written then is a beginning of the text.
-const REQUESTS: &[u8] = b"insert 1 1\nphantom 1 100\ndrop 1\ndrop 1\nsteal 1\n";
-
-const REPLIES: &[u8] = b"h0 | - | usage 1 entries 1
-h1 | replace 1=1, remove 1=100 | usage 0 entries 0
-ok | evict 1=100 | usage 0 entries 0
-not held | - | usage 0 entries 0
-bad line | - | usage 0 entries 0
-";
-
-#[test]
-fn a_read_that_fails_leaves_whole_lines(rt: HostRuntime) -> Result<(), Fail> {
-    for fails_at in 1..100 {
-        let mut session = session::<Fifo>(rt.alloc(), 2, Limits::default())?;
-        let mut reader = Parts::new(REQUESTS, 7);
-        reader.fails_at = fails_at;
-        let mut written = Vec::new(rt.alloc());
-        let ended = simulate(&mut reader, &mut written, &mut session, &NoHighRatio);
-        if ended.is_ok() {
-            assert_eq!(rt; written.as_slice(), REPLIES);
-            assert!(rt; fails_at > 7);
-            return Ok(());
-        }
-        assert!(rt; ended.map_err(|e| e.kind()) == Err(ErrorKind::Other));
-        assert!(rt;
-            REPLIES.starts_with(written.as_slice()),
-            "at call {fails_at}"
-        );
-        assert!(rt;
-            written.is_empty() || written.ends_with(b"\n"),
-            "at call {fails_at}"
-        );
-    }
-    panic!(rt; "each read fails")
-}
-
-#[test]
-fn a_write_that_fails_has_written_a_beginning(rt: HostRuntime) -> Result<(), Fail> {
-    for fails_at in 1..400 {
-        let mut session = session::<Fifo>(rt.alloc(), 2, Limits::default())?;
-        let mut writer = Slow::new(rt.alloc(), 3);
-        writer.fails_at = fails_at;
-        let mut script = REQUESTS;
-        let ended = simulate(&mut script, &mut writer, &mut session, &NoHighRatio);
-        if ended.is_ok() {
-            assert_eq!(rt; writer.taken.as_slice(), REPLIES);
-            assert!(rt; fails_at > 60);
-            return Ok(());
-        }
-        assert!(rt; ended.map_err(|e| e.kind()) == Err(ErrorKind::Other));
-        assert!(rt;
-            REPLIES.starts_with(writer.taken.as_slice()),
-            "at call {fails_at}"
-        );
-    }
-    panic!(rt; "each write fails")
 }
 
 // The greatest number is a key, a value, a weight and a capacity like others.

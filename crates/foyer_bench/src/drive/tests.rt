@@ -30,7 +30,7 @@ fn hits<E: Eviction>(alloc: Global, shards: usize) -> std::result::Result<usize,
     let ranks = Ranks::new(alloc, 200, Skew { num: 9, den: 10 })?;
     let keys = keys_of(alloc, &ranks, 1, 2_000)?;
     let mut core = core::<E, ModHasher>(alloc, 20, shards)?;
-    Ok(drive(&mut core, keys.as_slice())?)
+    Ok(drive(alloc, &mut core, keys.as_slice())?)
 }
 
 // As upstream finds them.
@@ -57,8 +57,8 @@ fn three_shards(rt: HostRuntime) -> std::result::Result<(), Fail> {
 #[test]
 fn a_key_is_found_once_it_was_put_in(rt: HostRuntime) -> std::result::Result<(), Fail> {
     let mut core = core::<Fifo, DefaultHasher>(rt.alloc(), 2, 1)?;
-    assert_eq!(rt; drive(&mut core, &[1, 2, 1, 3, 1])?, 1);
+    assert_eq!(rt; drive(rt.alloc(), &mut core, &[1, 2, 1, 3, 1])?, 1);
     assert_eq!(rt; core.usage(), 2);
-    assert_eq!(rt; drive(&mut core, &[3, 1])?, 2);
+    assert_eq!(rt; drive(rt.alloc(), &mut core, &[3, 1])?, 2);
     Ok(())
 }

@@ -181,6 +181,8 @@ pub(crate) fn numbers<K>(alloc: Global, pairs: &[Pair<K>]) -> Result<Vec<u64>, A
 }
 
 // The heads of new chains, into which all pairs go. Where they are refused, nothing changes.
+#[cold]
+#[inline(never)]
 pub(crate) fn spread<K>(
     alloc: Global,
     shift: u32,

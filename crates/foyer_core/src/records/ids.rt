@@ -63,6 +63,7 @@ impl Ids {
     }
 
     /// Makes room for one more id beside those of so many records.
+    #[inline(always)]
     pub(crate) fn reserve(&mut self, records: usize) -> Result<(), AllocError>
         ensures room { OnOk result (HasRoomForId self.new) }
         ensures ids { (id : ℕ) → slot_of self.new id ≡ slot_of self.old id }
@@ -75,6 +76,8 @@ impl Ids {
     }
 
     // Twice as many places, or the first ones.
+    #[cold]
+    #[inline(never)]
     fn widen(&mut self) -> Result<(), AllocError>
         requires { self.old.bits < 63 }
         ensures room { HasRoomForId self.old → HasRoomForId self.new }

@@ -6,12 +6,13 @@ ghost use Rattle.foyer_core.specs.Waited.{AnswersEach, waiting_for};
 ghost use Rattle.foyer_policy.specs.declared.types.Source.TheVariants.{Memory};
 
 use super::Shard;
+use crate::entry::Leave;
 use crate::indexer::Indexer;
-use crate::outcome::{Further, Inserted, Refused};
+use crate::outcome::{Answers, Further, Inserted, InsertedOnto, Refused};
 use crate::piece::Piece;
 use crate::record::Data;
 use crate::share::Share;
-use foyer_policy::{Eviction, Key, Properties, Source, Value};
+use foyer_policy::{Eviction, Key, Properties, Result, Source, Value};
 use std::alloc::Global;
 
 impl<E: Eviction, K: Key, V: Value, P: Properties, N: Drop, R: Drop, I: Indexer<K>> Shard<
@@ -24,6 +25,7 @@ impl<E: Eviction, K: Key, V: Value, P: Properties, N: Drop, R: Drop, I: Indexer<
     I,
 > {
     ghost use Rattle.foyer_core.specs.Shards.{state_of, meaning_of, opens_of};
+    ghost use Rattle.foyer_core.specs.Bulk.{GoesOn};
     ghost use Rattle.foyer_core.specs.State.{key_of};
     ghost use Rattle.foyer_core.specs.Steps.{Inserts, RefusesInsert, newcomer};
     ghost use Rattle.foyer_core.specs.Pieces.{Returns, RefusesReturn, held_or, is_known};
@@ -55,10 +57,77 @@ impl<E: Eviction, K: Key, V: Value, P: Properties, N: Drop, R: Drop, I: Indexer<
         ensures closed { OnOk result (opens_of self.new ≡ closed K.eq (opens_of self.old) (key_of kept)) }
         ensures opens { OnErr result (opens_of self.new ≡ opens_of self.old) }
     {
+        let mut leaves = Vec::new(alloc);
+        match self.emplace_onto(alloc, kept, source, &mut leaves) {
+            Ok(made) => {
+                let InsertedOnto { entry, answers } = made;
+                Ok(Inserted {
+                    entry,
+                    answers,
+                    leaves,
+                })
+            }
+            Err(error) => Err(Refused { error, leaves }),
+        }
+    }
+
+    /// Takes a record in as `emplace` does, and appends what leaves to a list.
+    pub fn emplace_onto(
+        &mut self,
+        alloc: Global,
+        kept: Data<K, V, P>,
+        source: Source,
+        leaves: &mut Vec<Leave<K, V, P>>,
+    ) -> Result<InsertedOnto<K, V, P, N>>
+        requires clones { (k c : K) → K.is_clone k c → K.eq c k ≡ true }
+        ensures inserted { let handles = 1 + waiting_for (opens_of self.old) (key_of kept) in GoesOn leaves.old.items leaves.new.items (λ ls. MatchResult result
+            (λ made. Inserts (meaning_of self.old) source (state_of self.old) (newcomer (state_of self.old) kept handles) ls made.entry (state_of self.new))
+            (λ error. RefusesInsert (meaning_of self.old) (state_of self.old) (newcomer (state_of self.old) kept handles) error ls (state_of self.new))) }
+        ensures given { IfOk result (λ made. made.entry.kept ≡ kept) }
+        ensures answers { IfOk result (λ made. AnswersEach (waiters_of ((opens_of self.old).places (key_of kept))) made.entry made.answers) }
+        ensures closed { OnOk result (opens_of self.new ≡ closed K.eq (opens_of self.old) (key_of kept)) }
+        ensures opens { OnErr result (opens_of self.new ≡ opens_of self.old) }
+    {
+        if !self.inflights.is_empty() {
+            return self.emplace_answering(alloc, kept, source, leaves);
+        }
+        match self.store.emplace_one(alloc, kept, source, leaves) {
+            Ok(entry) => Ok(InsertedOnto {
+                entry,
+                answers: Answers::nobody(alloc),
+            }),
+            Err(error) => Err(error),
+        }
+    }
+
+    // The same where some may wait.
+    #[cold]
+    fn emplace_answering(
+        &mut self,
+        alloc: Global,
+        kept: Data<K, V, P>,
+        source: Source,
+        leaves: &mut Vec<Leave<K, V, P>>,
+    ) -> Result<InsertedOnto<K, V, P, N>>
+        requires clones { (k c : K) → K.is_clone k c → K.eq c k ≡ true }
+        ensures inserted { let handles = 1 + waiting_for (opens_of self.old) (key_of kept) in GoesOn leaves.old.items leaves.new.items (λ ls. MatchResult result
+            (λ made. Inserts (meaning_of self.old) source (state_of self.old) (newcomer (state_of self.old) kept handles) ls made.entry (state_of self.new))
+            (λ error. RefusesInsert (meaning_of self.old) (state_of self.old) (newcomer (state_of self.old) kept handles) error ls (state_of self.new))) }
+        ensures given { IfOk result (λ made. made.entry.kept ≡ kept) }
+        ensures answers { IfOk result (λ made. AnswersEach (waiters_of ((opens_of self.old).places (key_of kept))) made.entry made.answers) }
+        ensures closed { OnOk result (opens_of self.new ≡ closed K.eq (opens_of self.old) (key_of kept)) }
+        ensures opens { OnErr result (opens_of self.new ≡ opens_of self.old) }
+    {
         let further = self.further(kept.hash, &kept.key);
-        match self.store.emplace(alloc, kept, source, further) {
-            Ok(made) => Ok(self.inflights.answer(made)),
-            Err(refused) => Err(refused),
+        match self
+            .store
+            .emplace_onto(alloc, kept, source, further, leaves)
+        {
+            Ok((entry, others)) => {
+                let answers = self.inflights.answers(&entry, others);
+                Ok(InsertedOnto { entry, answers })
+            }
+            Err(error) => Err(error),
         }
     }
 
@@ -140,7 +209,7 @@ impl<E: Eviction, K: Key, V: Value, P: Properties, N: Drop, R: Drop, I: Indexer<
 
     // An entry for each who waits for a key.
     #[inline(always)]
-    fn further(&self, hash: u64, key: &K) -> Further
+    pub(super) fn further(&self, hash: u64, key: &K) -> Further
         ensures count { result.count ≡ waiting_for (opens_of self.now) (hash, key.now) }
         ensures room { result.room ≡ 0 }
         ensures listed { result.count + result.room < 2 ^ 64 }

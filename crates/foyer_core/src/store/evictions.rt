@@ -54,9 +54,9 @@ impl<E: Eviction, K: Key, V: Value, P: Properties, I: Indexer<K>> Store<E, K, V,
         ensures room { HasRoom self.old.records → HasRoom self.new.records }
         ensures policy_room { E.room self.old.eviction ≤ E.room self.new.eviction }
     {
-        let mut leaves = Vec::new(alloc);
-        let Ok(()) = leaves.reserve(1) else {
-            return Err(leaves);
+        // Mostly one leaves, and one more may be replaced: `evict_onto` finds room for both.
+        let Ok(mut leaves) = Vec::with_capacity(alloc, 2) else {
+            return Err(Vec::new(alloc));
         };
         match self.evict_onto(&mut leaves, target) {
             Ok(()) => Ok(leaves),

@@ -1,71 +1,68 @@
 //! Phantom records, which are held and never in the index.
 
-ghost use Rattle.std.specs.Prelude.{◌≡◌, [], ◌+◌, ◌<◌, ◌≤◌, ◌^◌, Some, None, OnOk, IfOk, MatchResult, false, vec_len, vec_capacity};
+ghost use Rattle.std.specs.Prelude.{◌≡◌, ◌+◌, ◌<◌, ◌≤◌, ◌^◌, Some, None, OnOk, IfOk, MatchResult, false, vec_len, vec_capacity};
 ghost use Rattle.foyer_core.specs.Records.{HasRoom};
 ghost use Rattle.foyer_core.specs.Values.{Rec, incoming_of};
 
 use super::Store;
-use super::insertion::above;
+use super::admission::above;
 use crate::entry::{CoreEntry, Leave, Left};
 use crate::indexer::Indexer;
-use crate::outcome::Refused;
 use crate::slot::Slot;
-use foyer_policy::{Event, Eviction, Key, Properties, Reason, Result, Source, Value};
-use std::alloc::Global;
+use foyer_policy::{Error, Event, Eviction, Key, Properties, Reason, Result, Source, Value};
 
 impl<E: Eviction, K: Key, V: Value, P: Properties, I: Indexer<K>> Store<E, K, V, P, I> {
     ghost use Rattle.foyer_core.specs.Stores.{state_of, meaning_of};
+    ghost use Rattle.foyer_core.specs.Bulk.{GoesOn};
     ghost use Rattle.foyer_core.specs.Steps.{InsertsPhantom, RefusesPhantom, GivesWay, MayHold, after_hold, entry_of, replaced_leaves};
 
     // Holds a phantom record, which is not refused but for want of memory: its key's record gives way, and it is
     // held by its entries alone. It has a new id, or comes back under its own.
     pub(super) fn hold_in(
         &mut self,
-        alloc: Global,
         slot: Slot<K, V, P>,
         source: Source,
-    ) -> std::result::Result<(CoreEntry<K, V, P>, Vec<Leave<K, V, P>>), Refused<K, V, P>>
+        leaves: &mut Vec<Leave<K, V, P>>,
+    ) -> Result<CoreEntry<K, V, P>>
         requires apart { slot ≡ record slot { resident = false; place = None } }
         requires out { (r : Rec K V P) → (state_of self.old).records slot.id ≡ Some r → r.resident ≡ false }
         requires number { slot.id + 1 < 2 ^ 64 }
         requires held { 0 < slot.handles }
         requires may { MayHold (meaning_of self.old) (state_of self.old) (incoming_of slot) }
-        ensures inserted { MatchResult result
-            (λ made. InsertsPhantom (meaning_of self.old) source (state_of self.old) (incoming_of slot) made.1.items made.0 (state_of self.new))
-            (λ refused. RefusesPhantom (meaning_of self.old) (state_of self.old) (incoming_of slot) refused.error refused.leaves.items (state_of self.new)) }
+        ensures inserted { GoesOn leaves.old.items leaves.new.items (λ ls. MatchResult result
+            (λ entry. InsertsPhantom (meaning_of self.old) source (state_of self.old) (incoming_of slot) ls entry (state_of self.new))
+            (λ error. RefusesPhantom (meaning_of self.old) (state_of self.old) (incoming_of slot) error ls (state_of self.new))) }
     {
-        let Ok((mut entry, gone, mut leaves)) = self.prepare_phantom(alloc, &slot, source) else {
-            return Err(Refused::new(Reason::NoMemory, Vec::new(alloc)));
+        let Ok((mut entry, gone)) = self.prepare_phantom(&slot, source, leaves) else {
+            return Err(Error::new(Reason::NoMemory));
         };
         if let Some(left) = self.make_way(slot.hash(), slot.key()) {
             leaves.push_reserved((Event::Replace, left));
         }
         leaves.push_reserved((Event::Remove, gone));
         entry.set_slot(self.hold(slot));
-        Ok((entry, leaves))
+        Ok(entry)
     }
 
-    // Makes room for one record that is not indexed, and makes an entry of it, what is told of it, and a list
-    // with room for two leaves.
+    // Makes room for one record that is not indexed and for two leaves, and makes an entry of it and what is told of it.
     fn prepare_phantom(
         &mut self,
-        alloc: Global,
         slot: &Slot<K, V, P>,
         source: Source,
-    ) -> Result<(CoreEntry<K, V, P>, Left<K, V, P>, Vec<Leave<K, V, P>>)>
+        leaves: &mut Vec<Leave<K, V, P>>,
+    ) -> Result<(CoreEntry<K, V, P>, Left<K, V, P>)>
         ensures same { state_of self.new ≡ state_of self.old }
         ensures entry { IfOk result (λ made. made.0 ≡ entry_of (state_of self.old) slot.now.id slot.now.kept source) }
         ensures gone { IfOk result (λ made. made.1 ≡ record { number = self.old.number; id = slot.now.id; kept = slot.now.kept }) }
-        ensures leaves { IfOk result (λ made. made.2.items ≡ []) }
-        ensures leaves_room { IfOk result (λ made. vec_len made.2 + 2 ≤ vec_capacity made.2) }
+        ensures leaves { leaves.new.items ≡ leaves.old.items }
+        ensures leaves_room { OnOk result (vec_len leaves.new + 2 ≤ vec_capacity leaves.new) }
         ensures room { OnOk result (HasRoom self.new.records) }
     {
-        let mut leaves = Vec::new(alloc);
         leaves.reserve(2)?;
         self.records.reserve()?;
         let gone = slot.left(self.number)?;
         let entry = slot.entry(self.number, 0, source)?;
-        Ok((entry, gone, leaves))
+        Ok((entry, gone))
     }
 
     // The key's record, where it has one, gives way.

@@ -42,6 +42,7 @@ impl<E: Eviction, K: Key, V: Value, P: Properties, I: Indexer<K>> Store<E, K, V,
             (newcomer (state_of self.now) (record { key = key.now; value = value; properties = properties.now; hash = hash; weight = weight }) (1 + further)) reason [] (state_of self.now)) }
         ensures none { IfNone result ((value : V) → MayBy (meaning_of self.now) (is_phantom (P.phantom_of properties.now)) (state_of self.now)
             (newcomer (state_of self.now) (record { key = key.now; value = value; properties = properties.now; hash = hash; weight = weight }) (1 + further))) }
+        ensures only { IfSome result (λ reason. (reason ≡ Ids) ⊎ ((reason ≡ Handles) ⊎ (reason ≡ Weight))) }
         ensures number { IfNone result (self.now.next + 1 < 2 ^ 64) }
         ensures count { IfNone result (1 + further < 2 ^ 64) }
     {

@@ -110,3 +110,19 @@ fn a_refused_insert_can_be_made_again(rt: HostRuntime) -> std::result::Result<()
     assert_eq!(rt; core.usage(), 1);
     Ok(())
 }
+
+// A clear that is refused where many records are in fails here.
+#[test]
+fn clear_of_many_is_refused(rt: HostRuntime) -> std::result::Result<(), Fail> {
+    let mut core = core(rt.alloc(), 2000, 0, Limits::default())?;
+    for key in 0..2000u64 {
+        let (entry, _) = put(&rt, &mut core, key, key);
+        release(&rt, &mut core, entry);
+    }
+    match core.clear() {
+        Ok(leaves) => assert_eq!(rt; leaves.len(), 2000),
+        Err(error) => panic!(&rt; "a clear is refused: {error}"),
+    }
+    assert_eq!(rt; (core.usage(), core.entries()), (0, 0));
+    Ok(())
+}

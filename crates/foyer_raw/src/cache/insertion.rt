@@ -10,7 +10,7 @@ use crate::shared::RawInserted;
 use crate::shares::Shares;
 use foyer_core::{Filter, Indexer, Inserted, Piece, Refused, Weighter};
 use foyer_policy::{
-    Error, EventListener, Eviction, HashBuilder, Key, Properties, Result, Source, Value,
+    Error, EventListener, Eviction, HashBuilder, Key, Properties, Reason, Result, Source, Value,
 };
 use std::sync::Wait;
 
@@ -56,9 +56,13 @@ where
         requires clones { (k c : K) → K.is_clone k c → K.eq c k ≡ true }
         ensures { IfOk result (λ e. (e.kept.key ≡ key) × (e.kept.value ≡ value)) }
     {
-        let shares = self.shares.try_clone()?;
+        let shares = self.shares.try_clone();
         let hash = self.hash(&key);
         let kept = self.shares.shared.kept(hash, key, value, properties);
+        let shares = match shares {
+            Ok(shares) => shares,
+            Err(refused) => return Err(first_of(self.shares.shared.refuses_insert(&kept), refused)),
+        };
         match self.shares.shared.emplace(kept, Source::Outer) {
             Ok(made) => Ok(self.came_in(shares, made)),
             Err(refused) => Err(self.refused(refused)),
@@ -73,13 +77,16 @@ where
     ) -> Result<RawCacheEntry<H, E, K, V, S, P, W, A, L, Q, T::Required, I>>
         requires clones { (k c : K) → K.is_clone k c → K.eq c k ≡ true }
     {
-        let shares = self.shares.try_clone()?;
+        let shares = self.shares.try_clone();
         let hash = self.hash(piece.key());
-        let weight = self
-            .shares
-            .shared
-            .weighter
-            .weigh(piece.key(), piece.value());
+        let shared = &self.shares.shared;
+        let weight = shared.weighter.weigh(piece.key(), piece.value());
+        let shares = match shares {
+            Ok(shares) => shares,
+            Err(refused) => {
+                return Err(first_of(shared.refuses_piece(hash, weight, &piece), refused));
+            }
+        };
         match self.shares.shared.take(hash, weight, piece) {
             Ok(made) => Ok(self.came_in(shares, made)),
             Err(refused) => Err(self.refused(refused)),
@@ -109,5 +116,13 @@ where
         let Refused { error, leaves } = refused;
         self.shares.tell_all(leaves);
         error
+    }
+}
+
+// The reason that goes first, where there is one, or else the refusal of memory.
+fn first_of(reason: Option<Reason>, refused: Error) -> Error {
+    match reason {
+        Some(reason) => Error::new(reason),
+        None => refused,
     }
 }

@@ -6,8 +6,11 @@ use super::RawCache;
 use crate::entry::RawCacheEntry;
 use crate::fetch::FetchTypes;
 use crate::pipe::Pipe;
+use crate::shares::Shares;
 use foyer_core::{Filter, Indexer, Weighter};
-use foyer_policy::{Event, EventListener, Eviction, HashBuilder, Key, Properties, Result, Value};
+use foyer_policy::{
+    Error, Event, EventListener, Eviction, HashBuilder, Key, Properties, Result, Value,
+};
 use std::sync::Wait;
 
 impl<H, E, K, V, S, P, W, A, L, Q, T, I> RawCache<H, E, K, V, S, P, W, A, L, Q, T, I>
@@ -34,7 +37,7 @@ where
         ensures { IfOk result (λ found. IfSome found (λ e. K.eq key.now e.kept.key ≡ true)) }
     {
         let hash = self.hash(key);
-        let shares = self.shares.try_clone()?;
+        let shares = self.shares_for(hash, key)?;
         match self.shares.shared.get(hash, key)? {
             Some(core) => Ok(Some(shares.entry(core))),
             None => Ok(None),
@@ -50,13 +53,29 @@ where
         ensures { IfOk result (λ found. IfSome found (λ e. K.eq key.now e.kept.key ≡ true)) }
     {
         let hash = self.hash(key);
-        let shares = self.shares.try_clone()?;
+        let shares = self.shares_for(hash, key)?;
         match self.shares.shared.remove(hash, key)? {
             Some((core, left)) => {
                 self.shares.tell((Event::Remove, left));
                 Ok(Some(shares.entry(core)))
             }
             None => Ok(None),
+        }
+    }
+
+    // Shares for an entry of the key's record. Where they can't be had (F7), F9 goes first, which the shard is asked for.
+    fn shares_for(
+        &self,
+        hash: u64,
+        key: &K,
+    ) -> Result<Shares<H, E, K, V, S, P, W, A, L, Q, T::Required, I>> {
+        let refused = match self.shares.try_clone() {
+            Ok(shares) => return Ok(shares),
+            Err(refused) => refused,
+        };
+        match self.shares.shared.refuses_get(hash, key) {
+            Some(reason) => Err(Error::new(reason)),
+            None => Err(refused),
         }
     }
 

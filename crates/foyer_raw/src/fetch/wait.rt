@@ -1,6 +1,10 @@
 //! What a caller waits with.
 
-ghost use Rattle.std.specs.Prelude.{◌≡◌, IsErr, IsOk, IfErr, MatchOption, IfOk, IfSome, Ok, true, false};
+ghost use Rattle.std.specs.Prelude.{◌≡◌, ⊤, IsErr, IsNone, IsOk, IfErr, MatchOption, IfOk, IfSome, Ok, Err, Some, None, true, false};
+ghost use Rattle.futures.specs.Task.{Covers, Keeps};
+ghost use Rattle.futures.specs.Poll.{IfReady, OnPending};
+ghost use Rattle.foyer_policy.specs.declared.error.Reason.TheVariants.{Spent};
+ghost use Rattle.foyer_raw.specs.Polls.{GivesAny};
 
 use crate::entry::RawCacheEntry;
 use crate::pipe::Pipe;
@@ -113,7 +117,17 @@ where
 {
     type Output = Result<Option<RawCacheEntry<H, E, K, V, S, P, W, A, L, Q, R, I>>>;
 
-    fn poll(&mut self, cx: &mut Context<'_>) -> Poll<Self::Output> {
+    /// The answer, once it came: an entry, none, or a refusal; F14 where who was to send it is gone. It is given once: a
+    /// later poll is refused (F16), and changes nothing.
+    fn poll(&mut self, cx: &mut Context<'_>) -> Poll<Self::Output>
+        ensures value { IfReady result (λ _. ⊤) }
+        ensures again { OnPending result ⊤ }
+        ensures same { GivesAny result }
+        ensures registered { OnPending result (Covers cx.new (λ _. ⊥)) }
+        ensures kept { Keeps cx.old cx.new }
+        ensures once { IfReady result (λ _. IsNone self.new.open) }
+        ensures spent { IsNone self.old.open → (result ≡ Poll.Ready (Err Spent)) × (self.new ≡ self.old) }
+    {
         let Some((shares, mut waiter)) = self.open.take() else {
             return Poll::Ready(Err(Error::new(Reason::Spent)));
         };
@@ -206,7 +220,7 @@ where
         self,
     ) -> std::result::Result<Result<RawCacheEntry<H, E, K, V, S, P, W, A, L, Q, R, I>>, Self>
         ensures { elim self as (λ _. Type 0) [
-          | Hit entry ↦ IfOk result (λ answer. MatchOption entry (IsErr answer) (λ e. answer ≡ Ok e)) × IsOk result
+          | Hit entry ↦ IfOk result (λ answer. MatchOption entry (answer ≡ Err Spent) (λ e. answer ≡ Ok e)) × IsOk result
           | Miss _ ↦ IfErr result (λ back. back ≡ self) × IsErr result
         ] }
     {
@@ -236,7 +250,20 @@ where
 {
     type Output = Result<Option<RawCacheEntry<H, E, K, V, S, P, W, A, L, Q, R, I>>>;
 
-    fn poll(&mut self, cx: &mut Context<'_>) -> Poll<Self::Output> {
+    ghost use Rattle.foyer_raw.specs.declared.fetch.wait.RawGetOrFetch.TheVariants.{Hit, Miss};
+
+    /// The entry of a hit, or what the wait gives. It is given once: a later poll is refused (F16), and changes nothing.
+    fn poll(&mut self, cx: &mut Context<'_>) -> Poll<Self::Output>
+        ensures value { IfReady result (λ _. ⊤) }
+        ensures again { OnPending result ⊤ }
+        ensures same { GivesAny result }
+        ensures registered { OnPending result (Covers cx.new (λ _. ⊥)) }
+        ensures kept { Keeps cx.old cx.new }
+        ensures hit { elim self.old as (λ _. Type 0) [
+          | Hit entry ↦ MatchOption entry (result ≡ Poll.Ready (Err Spent)) (λ e. result ≡ Poll.Ready (Ok (Some e))) × (self.new ≡ Hit None)
+          | Miss _ ↦ Unit {0}
+        ] }
+    {
         match self {
             RawGetOrFetch::Hit(entry) => match entry.take() {
                 Some(entry) => Poll::Ready(Ok(Some(entry))),

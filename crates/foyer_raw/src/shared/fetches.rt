@@ -1,14 +1,11 @@
 //! Steps of one shard that begin and end fetches, each under its lock.
 
-ghost use Rattle.std.specs.Prelude.{◌≡◌, ◌<◌, IfOk, true};
-ghost use Rattle.foyer_core.specs.Shards.{state_of};
+ghost use Rattle.std.specs.Prelude.{◌≡◌, IfOk, true};
 ghost use Rattle.foyer_core.specs.declared.outcome.Lookup.TheVariants.{Hit, Lead, Wait as Waits};
 
 use super::{RawShard, Shared};
 use crate::ticket::{Answer, Notifier};
-use foyer_core::{
-    Data, Ended, FetchOrTake, Filter, Indexer, Inserted, Lookup, Piece, Refused, Weighter,
-};
+use foyer_core::{Data, Ended, FetchOrTake, Filter, Indexer, Lookup, Piece, Weighter};
 use foyer_policy::{
     Error, EventListener, Eviction, HashBuilder, Key, Properties, Reason, Result, Source, Value,
 };
@@ -97,55 +94,14 @@ where
         requires clones { (k c : K) → K.is_clone k c → K.eq c k ≡ true }
     {
         let mut shard = self.lock(hash);
-        if own != hash || !shard.is_under(own, &piece, key) {
+        if shard.stands_for(own, &piece, hash, key) {
+            return shard.complete_back(self.alloc, hash, key, fetch, piece);
+        }
+        if own != hash || shard.knows(own, &piece) || *key != *piece.key() {
             let error = Error::new(Reason::WrongKey);
             return shard.end(self.alloc, hash, key, fetch, error);
         }
-        if !shard.knows(own, &piece) {
-            return shard.complete_new(self.alloc, fetch, piece, own, weight);
-        }
-        complete_known(&mut shard, self.alloc, hash, key, fetch, piece)
-    }
-}
-
-// Ends an open fetch of a key in a shard with the record for which a piece stands, which the shard knows. Beside those who
-// wait it has a handle for the time of this step, which counts at the limit of handles (F9).
-fn complete_known<E: Eviction, K: Key, V: Value, P: Properties, R: Drop, I: Indexer<K>>(
-    shard: &mut RawShard<E, K, V, P, R, I>,
-    alloc: Global,
-    hash: u64,
-    key: &K,
-    fetch: u64,
-    piece: Piece<K, V, P>,
-) -> RawEnded<K, V, P>
-    requires clones { (k c : K) → K.is_clone k c → K.eq c k ≡ true }
-    requires given { piece.id < (state_of shard.old).next }
-{
-    if !shard.is_open(hash, key, fetch) {
-        return shard.end(alloc, hash, key, fetch, Error::new(Reason::TaskCancelled));
-    }
-    match shard.take_back(alloc, piece) {
-        Ok(
-            Inserted {
-                entry,
-                answers,
-                leaves,
-            },
-        ) => {
-            if let Err(entry) = shard.give_back(entry) {
-                entry.discard();
-            }
-            Ended {
-                found: true,
-                answers,
-                leaves,
-            }
-        }
-        Err(Refused { error, leaves }) => {
-            let mut ended = shard.end(alloc, hash, key, fetch, error);
-            ended.leaves = leaves;
-            ended
-        }
+        shard.complete_new(self.alloc, fetch, piece, own, weight)
     }
 }
 

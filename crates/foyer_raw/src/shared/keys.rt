@@ -99,6 +99,32 @@ where
         shard.take_new(self.alloc, piece, hash, weight)
     }
 
+    // Why a handle of the key's record would be refused now, whatever memory there is.
+    pub(crate) fn refuses_get(&self, hash: u64, key: &K) -> Option<Reason> {
+        self.lock(hash).refuses_get(hash, key)
+    }
+
+    // Why this record would be refused now, whatever memory there is.
+    pub(crate) fn refuses_insert(&self, kept: &Data<K, V, P>) -> Option<Reason> {
+        self.lock(kept.hash)
+            .refuses_insert(kept.hash, &kept.key, &kept.properties, kept.weight)
+    }
+
+    // Why the record of a piece would be refused now, whatever memory there is, as `take` takes it. Of a piece that the
+    // shard knows this asks for a handle alone.
+    pub(crate) fn refuses_piece(
+        &self,
+        hash: u64,
+        weight: usize,
+        piece: &Piece<K, V, P>,
+    ) -> Option<Reason> {
+        let shard = self.lock(hash);
+        if shard.knows(hash, piece) {
+            return shard.refuses_get(hash, piece.key());
+        }
+        shard.refuses_insert(hash, piece.key(), piece.properties(), weight)
+    }
+
     // Takes a handle back, and answers what leaves with it. A handle that the shard does not know is discarded.
     pub(crate) fn give_back(&self, core: CoreEntry<K, V, P>) -> Option<Leave<K, V, P>> {
         let hash = core.hash();

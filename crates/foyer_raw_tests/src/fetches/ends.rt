@@ -133,6 +133,55 @@ fn a_piece_of_the_key(rt: HostRuntime) -> std::result::Result<(), Fail> {
     Ok(())
 }
 
+// A completion by a piece needs a handle for each who waits, and none beside.
+#[test]
+fn a_piece_comes_at_the_limit(rt: HostRuntime) -> std::result::Result<(), Fail> {
+    let alloc = rt.alloc();
+    let notes = Notes::new(alloc)?;
+    let config = RawCacheConfig {
+        limits: Limits {
+            handles: 2,
+            ..Limits::default()
+        },
+        ..fifo(4, 1)
+    };
+    let cache: Cache<HostRuntime> = RawCache::new(rt, alloc, config, Ear(notes.share()?))?;
+    let piece = FetchTarget::Piece(piece_of(&cache, 7, 70)?);
+    let mut spawner = ListSpawner::new(alloc);
+    let first = look(&cache, &mut spawner, None, must(0, Ok(piece)))?;
+    let second = look(&cache, &mut spawner, None, None)?;
+    assert_eq!(rt; block_on(&rt, to_the_end(spawner))?, 0);
+    let first = block_on(&rt, first)??.ok_or("none")?;
+    let second = block_on(&rt, second)??.ok_or("none")?;
+    assert_eq!(rt; (*first, *second, second.refs()), (70, 70, 2));
+    assert_eq!(rt; cache.get(&7).err().ok_or("an entry")?.number(), 9);
+    Ok(())
+}
+
+// Without a number for it no fetch begins, and none who leads one gets a task.
+#[test]
+fn a_fetch_without_a_number_is_refused(rt: HostRuntime) -> std::result::Result<(), Fail> {
+    let alloc = rt.alloc();
+    let notes = Notes::new(alloc)?;
+    let config = RawCacheConfig {
+        limits: Limits {
+            ids: 1,
+            ..Limits::default()
+        },
+        ..fifo(4, 1)
+    };
+    let cache: Cache<HostRuntime> = RawCache::new(rt, alloc, config, Ear(notes.share()?))?;
+    let mut spawner = ListSpawner::new(alloc);
+    let first = look(&cache, &mut spawner, None, must(0, Ok(value(5))))?;
+    let refused = look(&cache, &mut spawner, None, None)
+        .err()
+        .ok_or("a wait")?;
+    assert_eq!(rt; refused.number(), 10);
+    assert_eq!(rt; block_on(&rt, to_the_end(spawner))?, 0);
+    assert_eq!(rt; *block_on(&rt, first)??.ok_or("none")?, 5);
+    Ok(())
+}
+
 // A task with these builders is polled so many times and dropped: with which number its waiter is refused.
 fn dropped<H: Wait + Drop>(
     cache: &Cache<H>,

@@ -21,7 +21,7 @@ returns-clause-sound g c =
     let u = rw (b, c.end.ensures) at c.insert_reserved-node.ensures.updates in
     rw c.to-2.ensures (Holds-again _ _ _ _
     (Holds-link c.args.nodes.now c.insert_reserved-node.new.self c.set_after.new.nodes c.args.heads.now c.set_after.new.heads c.args.tails.now c.args.list c.insert_reserved-node.result c.args.value
-    c.requires.sound c.requires.list c.insert_reserved-node.ensures.was_vacant u
+    c.requires.sound c.requires.list c.insert_reserved-node.ensures.was_vacant u (omega (arith, c.insert_reserved-node.ensures.key_in_range, c.insert_reserved-node.ensures.capacity))
     (rw (b, c.to.ensures) at c.set_after.ensures.links) (c.set_after.ensures.len ∙ c.insert_reserved-node.ensures.len) c.requires.room (c.set_after.ensures.capacity ∙ c.insert_reserved-node.ensures.capacity) (rw (b, c.to.ensures) at c.set_after.ensures.heads)))
 
 pub returns-clause-lists : goal.returns-clause-lists
@@ -31,7 +31,7 @@ returns-clause-lists g c =
     let u = rw (b, c.end.ensures) at c.insert_reserved-node.ensures.updates in
     lists_of-Holds _ _ _ _
     (Holds-link c.args.nodes.now c.insert_reserved-node.new.self c.set_after.new.nodes c.args.heads.now c.set_after.new.heads c.args.tails.now c.args.list c.insert_reserved-node.result c.args.value
-    c.requires.sound c.requires.list c.insert_reserved-node.ensures.was_vacant u
+    c.requires.sound c.requires.list c.insert_reserved-node.ensures.was_vacant u (omega (arith, c.insert_reserved-node.ensures.key_in_range, c.insert_reserved-node.ensures.capacity))
     (rw (b, c.to.ensures) at c.set_after.ensures.links) (c.set_after.ensures.len ∙ c.insert_reserved-node.ensures.len) c.requires.room (c.set_after.ensures.capacity ∙ c.insert_reserved-node.ensures.capacity) (rw (b, c.to.ensures) at c.set_after.ensures.heads))
 
 pub returns-clause-free : goal.returns-clause-free

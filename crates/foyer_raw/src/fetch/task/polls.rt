@@ -3,7 +3,7 @@
 ghost use Rattle.std.specs.Prelude.{◌≡◌, ◌≢◌, ◌⊎◌, ⊤, IfSome, IsNone};
 ghost use Rattle.futures.specs.Task.{Covers, Keeps};
 ghost use Rattle.futures.specs.Poll.{IfReady, OnPending};
-ghost use Rattle.foyer_raw.specs.Steps.{Leads};
+ghost use Rattle.foyer_raw.specs.Steps.{Awaits, Leads};
 
 use super::RawFetch;
 use crate::fetch::{
@@ -36,6 +36,9 @@ where
 
     ghost can_poll = { λ t. IfSome t.optional_fetch T.Optional.Fetch.can_poll × IfSome t.required_fetch T.Required.Fetch.can_poll };
 
+    // the sources of the fetch that is polled
+    ghost needs = { λ t. Awaits t.state T.Optional.Fetch.needs T.Required.Fetch.needs t.optional_fetch t.required_fetch };
+
     /// Goes on until a fetch is pending or the task ends. It goes through at most five events. Where it has ended it
     /// changes nothing.
     fn poll(&mut self, cx: &mut Context<'_>) -> Poll<()>
@@ -43,7 +46,7 @@ where
         ensures value { IfReady result (λ _. ⊤) }
         ensures same { OnPending result (Unit {0} → ⊤ → ⊤) }
         ensures again { OnPending result (IfSome self.new.optional_fetch T.Optional.Fetch.can_poll × IfSome self.new.required_fetch T.Required.Fetch.can_poll) }
-        ensures registered { OnPending result (Covers cx.new (λ _. ⊥)) }
+        ensures registered { OnPending result (Covers cx.new (Awaits self.new.state T.Optional.Fetch.needs T.Required.Fetch.needs self.new.optional_fetch self.new.required_fetch)) }
         ensures kept { Keeps cx.old cx.new }
         ensures leads { Leads 5 self.old.state self.new.state }
         ensures over { self.old.state ≡ RawFetchState.Ready → self.new ≡ self.old }
@@ -99,7 +102,7 @@ where
         ensures leads { Leads 4 self.old.state self.new.state }
         ensures ended { IfReady result (λ _. self.new.state ≡ RawFetchState.Ready) }
         ensures can { IfSome self.new.optional_fetch T.Optional.Fetch.can_poll × IfSome self.new.required_fetch T.Required.Fetch.can_poll }
-        ensures armed { OnPending result (Covers cx.new (λ _. ⊥)) }
+        ensures armed { OnPending result (Covers cx.new (Awaits self.new.state T.Optional.Fetch.needs T.Required.Fetch.needs self.new.optional_fetch self.new.required_fetch)) }
         ensures kept { Keeps cx.old cx.new }
     {
         if self.state != RawFetchState::FetchOptional {
@@ -122,7 +125,7 @@ where
         ensures leads { Leads 3 self.old.state self.new.state }
         ensures ended { IfReady result (λ _. self.new.state ≡ RawFetchState.Ready) }
         ensures can { IfSome self.new.optional_fetch T.Optional.Fetch.can_poll × IfSome self.new.required_fetch T.Required.Fetch.can_poll }
-        ensures armed { OnPending result (Covers cx.new (λ _. ⊥)) }
+        ensures armed { OnPending result (Covers cx.new (Awaits self.new.state T.Optional.Fetch.needs T.Required.Fetch.needs self.new.optional_fetch self.new.required_fetch)) }
         ensures kept { Keeps cx.old cx.new }
     {
         match self.state {
@@ -146,7 +149,7 @@ where
         ensures pending { OnPending result (self.new.state ≡ self.old.state) }
         ensures begun { self.new.state ≢ RawFetchState.Init }
         ensures can { IfSome self.new.optional_fetch T.Optional.Fetch.can_poll × IfSome self.new.required_fetch T.Required.Fetch.can_poll }
-        ensures armed { OnPending result (Covers cx.new (λ _. ⊥)) }
+        ensures armed { OnPending result (Covers cx.new (Awaits self.new.state T.Optional.Fetch.needs T.Required.Fetch.needs self.new.optional_fetch self.new.required_fetch)) }
         ensures kept { Keeps cx.old cx.new }
     {
         let Some(mut fetch) = self.optional_fetch.take() else {
@@ -204,7 +207,7 @@ where
         ensures ended { IfReady result (λ _. self.new.state ≡ RawFetchState.Ready) }
         ensures pending { OnPending result (self.new.state ≡ self.old.state) }
         ensures can { IfSome self.new.optional_fetch T.Optional.Fetch.can_poll × IfSome self.new.required_fetch T.Required.Fetch.can_poll }
-        ensures armed { OnPending result (Covers cx.new (λ _. ⊥)) }
+        ensures armed { OnPending result (Covers cx.new (Awaits self.new.state T.Optional.Fetch.needs T.Required.Fetch.needs self.new.optional_fetch self.new.required_fetch)) }
         ensures kept { Keeps cx.old cx.new }
     {
         if !self.is_open() {

@@ -1,196 +1,43 @@
-use Rattle.std.proofs.Common.{refl, ap, ◌∙◌, ℕ, ◌+◌, ◌%◌, vec_len, ◌≡◌, true, arith, length}
-use Rattle.std.specs.Prelude.{slice_set}
+use Rattle.std.proofs.Common.{◌+◌, length}
+use Rattle.std.specs.Prelude.{IfOk}
 use Rattle.foyer_policy.specs.declared.types.Source.TheVariants.{Outer}
-use Rattle.foyer_core.specs.declared.record.Data.{Data}
+use Rattle.foyer_core.specs.Core.{InsertsWeighed}
 use Rattle.foyer_core.specs.CoreFetches.{place_in}
 use Rattle.foyer_core.specs.Cores.{core_of, fetches_of, hashes_of, meaning_of_core}
 use Rattle.foyer_core.specs.Inflight.{waiters_of}
-use Rattle.foyer_core.specs.Shards.{meaning_of, opens_of, state_of}
-use Rattle.foyer_core.specs.State.{coming_in, key_of}
-use Rattle.foyer_core.specs.Waited.{waiting_for}
-use Rattle.foyer_core.proofs.Answered.{answers_over, closes_over, comes_bounded, comes_found, comes_over, comes_plain, comes_stay, comes_told, opens_stay}
-use Rattle.foyer_core.proofs.CoreLemmas.{core_over}
-use Rattle.foyer_core.proofs.Hashing.{IsHashed, hashed_over}
-use Rattle.foyer_core.proofs.Loads.{sums_set, usage_fits, entries_fit}
-use Rattle.foyer_core.proofs.Origins.{belongs_over, emplaced_from}
-use Rattle.foyer_core.proofs.Sound.{core_sound}
+use Rattle.foyer_core.specs.Observed.{IsTold, IsToldWith}
+use Rattle.foyer_core.specs.State.{coming_in}
+use Rattle.foyer_core.specs.Values.{Denied, Made}
+use Rattle.std.proofs.Common.{Ok, Err}
+use Rattle.foyer_core.proofs.Told.{goes_all}
 use Rattle.foyer_core.proofs.cache_core.CacheCore.insert_with_properties.Goals as goal
 
-pub invariant_of-self-clause-belong : goal.invariant_of-self-clause-belong
-invariant_of-self-clause-belong g c =
+pub returns-in-Ok-clause-inserted : goal.returns-in-Ok-clause-inserted
+returns-in-Ok-clause-inserted g c =
     let s = c.args.self.now in
-    let x = c.index_mut.result.now in
-    let y = c.emplace-emplaced.new.self in
-    let d : Data g.row.K.Denot g.row.V.Denot g.row.P.Denot = record { key = c.args.key; value = c.args.value; properties = c.marked-properties.result; hash = c.hash-hash.result; weight = c.weigh-weight.result } in
-    belongs_over state_of s.shards.items c.hash-hash.result (vec_len s.shards) c.place-place.result x s.shards.ok.0 c.place-place.ensures.within c.place-place.ensures.place c.index_mut.ensures.value
-    y (emplaced_from (λ e. e.hash ≡ c.hash-hash.result) (meaning_of x) c.emplace-emplaced.result (λ made. made.leaves.items) (λ made. made.entry) (λ refused. refused.error) (λ refused. refused.leaves.items)
-    Outer (state_of x) d (1 + waiting_for (opens_of x) (key_of d)) (state_of y) c.emplace-emplaced.ensures.inserted refl) s.belong
-
-pub invariant_of-self-clause-hashed : goal.invariant_of-self-clause-hashed
-invariant_of-self-clause-hashed g c =
-    let s = c.args.self.now in
-    let x = c.index_mut.result.now in
-    let y = c.emplace-emplaced.new.self in
-    let d : Data g.row.K.Denot g.row.V.Denot g.row.P.Denot = record { key = c.args.key; value = c.args.value; properties = c.marked-properties.result; hash = c.hash-hash.result; weight = c.weigh-weight.result } in
-    hashed_over (λ k. g.S.HashBuilder.hash_of s.hash_builder (g.K.Hash.hash_input k)) state_of s.shards.items (vec_len s.shards) c.place-place.result x s.shards.ok.0 c.place-place.ensures.within c.index_mut.ensures.value
-    y (emplaced_from (IsHashed (λ k. g.S.HashBuilder.hash_of s.hash_builder (g.K.Hash.hash_input k))) (meaning_of x) c.emplace-emplaced.result (λ made. made.leaves.items) (λ made. made.entry) (λ refused. refused.error) (λ refused. refused.leaves.items)
-    Outer (state_of x) d (1 + waiting_for (opens_of x) (key_of d)) (state_of y) c.emplace-emplaced.ensures.inserted c.hash-hash.ensures.hash) s.hashed
-
-pub invariant_of-self-clause-summed : goal.invariant_of-self-clause-summed
-invariant_of-self-clause-summed g c =
-    let s = c.args.self.now in
-    let before = c.of-before in
-    let after = c.of-after in
-    sums_set (meaning_of_core s) state_of s.shards.items (vec_len s.shards) c.place-place.result c.index.result.now s.load.usage s.load.entries
-    s.shards.ok.0 (omega (arith, s.shards.ok.1, s.shards.small)) c.place-place.ensures.within c.index.ensures s.summed
-    before.result.usage before.result.entries before.ensures.usage before.ensures.entries
-    c.emplace-emplaced.new.self c.index-2.result.now c.index-2.ensures after.result.usage after.result.entries after.ensures.usage after.ensures.entries after.ensures.small
-    c.replace.new.self.usage c.replace.new.self.entries c.replace.ensures.usage c.replace.ensures.entries
-
-pub replace-requires-clause-usage : goal.replace-requires-clause-usage
-replace-requires-clause-usage g c =
-    let s = c.args.self.now in
-    let before = c.of-before in
-    let after = c.of-after in
-    usage_fits (meaning_of_core s) state_of s.shards.items (vec_len s.shards) c.place-place.result c.index.result.now s.load.usage s.load.entries
-    s.shards.ok.0 (omega (arith, s.shards.ok.1, s.shards.small)) c.place-place.ensures.within c.index.ensures s.summed
-    before.result.usage before.result.entries before.ensures.usage before.ensures.entries
-    c.emplace-emplaced.new.self c.index-2.result.now c.index-2.ensures after.result.usage after.result.entries after.ensures.usage after.ensures.entries after.ensures.small
-
-pub replace-requires-clause-entries : goal.replace-requires-clause-entries
-replace-requires-clause-entries g c =
-    let s = c.args.self.now in
-    let before = c.of-before in
-    let after = c.of-after in
-    entries_fit (meaning_of_core s) state_of s.shards.items (vec_len s.shards) c.place-place.result c.index.result.now s.load.usage s.load.entries
-    s.shards.ok.0 (omega (arith, s.shards.ok.1, s.shards.small)) c.place-place.ensures.within c.index.ensures s.summed
-    before.result.usage before.result.entries before.ensures.usage before.ensures.entries
-    c.emplace-emplaced.new.self c.index-2.result.now c.index-2.ensures after.result.usage after.result.entries after.ensures.usage after.ensures.entries after.ensures.small
-
-pub returns-clause-inserted : goal.returns-clause-inserted
-returns-clause-inserted g c =
-    let s = c.args.self.now in
-    let x = c.index_mut.result.now in
-    let y = c.emplace-emplaced.new.self in
     let hash = hashes_of s c.args.key in
-    let d : Data g.row.K.Denot g.row.V.Denot g.row.P.Denot = record { key = c.args.key; value = c.args.value; properties = coming_in g.P.Properties.location_of g.P.Properties.with_phantom_of c.admit-admitted.result c.args.properties; hash = hash; weight = c.weigh-weight.result } in
-    let at = c.place-place.ensures.place ∙ ap (λ (n : ℕ). n % vec_len s.shards) c.hash-hash.ensures.hash in
-    let did = rw (c.hash-hash.ensures.hash, c.marked-properties.ensures) at c.emplace-emplaced.ensures.inserted in
-    let step = comes_over (meaning_of_core s) state_of opens_of s.capacity s.hash_builder s.weighter s.filter s.shards.items (vec_len s.shards) c.place-place.result x y Outer d s.shards.ok.0 c.place-place.ensures.within at c.index_mut.ensures.value c.emplace-emplaced.result did in
-    record {
-      weight = c.weigh-weight.result;
-      weighed = c.weigh-weight.ensures;
-      admitted = c.admit-admitted.result;
-      answered = c.admit-admitted.ensures;
-      inserts = step;
-    }
+    goes_all c.insert_with_properties_onto.new.leaves.items (λ ls. InsertsWeighed (meaning_of_core s) Outer (g.W.Weighter.weighs (core_of s).weighter c.args.key c.args.value) (g.A.Filter.admits (core_of s).filter c.args.key c.args.value)
+    hash c.args.key c.args.value (λ admitted. coming_in g.P.Properties.location_of g.P.Properties.with_phantom_of admitted c.args.properties)
+    (1 + length (waiters_of (place_in (fetches_of s) (hash, c.args.key)))) (Ok record { entry = c.in-Ok.made.entry; leaves = ls }) (core_of s) (core_of c.insert_with_properties_onto.new.self))
+    (rw c.new-leaves.ensures.items at c.in-Ok.ensures.inserted)
 
-pub returns-clause-answers : goal.returns-clause-answers
-returns-clause-answers g c =
+pub returns-in-Ok-clause-told : goal.returns-in-Ok-clause-told
+returns-in-Ok-clause-told g c =
     let s = c.args.self.now in
-    let x = c.index_mut.result.now in
-    let y = c.emplace-emplaced.new.self in
-    let hash = hashes_of s c.args.key in
-    let d : Data g.row.K.Denot g.row.V.Denot g.row.P.Denot = record { key = c.args.key; value = c.args.value; properties = coming_in g.P.Properties.location_of g.P.Properties.with_phantom_of c.admit-admitted.result c.args.properties; hash = hash; weight = c.weigh-weight.result } in
-    let at = c.place-place.ensures.place ∙ ap (λ (n : ℕ). n % vec_len s.shards) c.hash-hash.ensures.hash in
-    answers_over (meaning_of_core s) state_of opens_of s.capacity s.hash_builder s.weighter s.filter s.shards.items (vec_len s.shards) c.place-place.result x y Outer d s.shards.ok.0 c.place-place.ensures.within at c.index_mut.ensures.value c.emplace-emplaced.result (rw c.hash-hash.ensures.hash at c.emplace-emplaced.ensures.answers)
+    goes_all c.insert_with_properties_onto.new.leaves.items (λ ls. IsToldWith g.K.PartialEq.eq (hashes_of s) g.P.Properties.phantom_of (core_of s) ls c.in-Ok.made.entry.id c.in-Ok.made.entry.kept (core_of c.insert_with_properties_onto.new.self))
+    (rw c.new-leaves.ensures.items at c.in-Ok.ensures.told)
 
-pub returns-clause-closed : goal.returns-clause-closed
-returns-clause-closed g c =
+pub returns-in-Err-clause-inserted : goal.returns-in-Err-clause-inserted
+returns-in-Err-clause-inserted g c =
     let s = c.args.self.now in
-    let x = c.index_mut.result.now in
-    let y = c.emplace-emplaced.new.self in
     let hash = hashes_of s c.args.key in
-    let d : Data g.row.K.Denot g.row.V.Denot g.row.P.Denot = record { key = c.args.key; value = c.args.value; properties = coming_in g.P.Properties.location_of g.P.Properties.with_phantom_of c.admit-admitted.result c.args.properties; hash = hash; weight = c.weigh-weight.result } in
-    let at = c.place-place.ensures.place ∙ ap (λ (n : ℕ). n % vec_len s.shards) c.hash-hash.ensures.hash in
-    closes_over (meaning_of_core s) state_of opens_of s.capacity s.hash_builder s.weighter s.filter s.shards.items (vec_len s.shards) c.place-place.result x y Outer d s.shards.ok.0 c.place-place.ensures.within at c.index_mut.ensures.value c.emplace-emplaced.result (rw c.hash-hash.ensures.hash at c.emplace-emplaced.ensures.closed)
+    goes_all c.insert_with_properties_onto.new.leaves.items (λ ls. InsertsWeighed (meaning_of_core s) Outer (g.W.Weighter.weighs (core_of s).weighter c.args.key c.args.value) (g.A.Filter.admits (core_of s).filter c.args.key c.args.value)
+    hash c.args.key c.args.value (λ admitted. coming_in g.P.Properties.location_of g.P.Properties.with_phantom_of admitted c.args.properties)
+    (1 + length (waiters_of (place_in (fetches_of s) (hash, c.args.key)))) (Err record { reason = c.in-Err.error; leaves = ls }) (core_of s) (core_of c.insert_with_properties_onto.new.self))
+    (rw c.new-leaves.ensures.items at c.in-Err.ensures.inserted)
 
-pub returns-clause-fetches : goal.returns-clause-fetches
-returns-clause-fetches g c =
+pub returns-in-Err-clause-told : goal.returns-in-Err-clause-told
+returns-in-Err-clause-told g c =
     let s = c.args.self.now in
-    let x = c.index_mut.result.now in
-    let y = c.emplace-emplaced.new.self in
-    let hash = hashes_of s c.args.key in
-    let d : Data g.row.K.Denot g.row.V.Denot g.row.P.Denot = record { key = c.args.key; value = c.args.value; properties = coming_in g.P.Properties.location_of g.P.Properties.with_phantom_of c.admit-admitted.result c.args.properties; hash = hash; weight = c.weigh-weight.result } in
-    let at = c.place-place.ensures.place ∙ ap (λ (n : ℕ). n % vec_len s.shards) c.hash-hash.ensures.hash in
-    opens_stay (meaning_of_core s) state_of opens_of s.capacity s.hash_builder s.weighter s.filter s.shards.items (vec_len s.shards) c.place-place.result x y Outer d s.shards.ok.0 c.place-place.ensures.within at c.index_mut.ensures.value c.emplace-emplaced.result c.emplace-emplaced.ensures.opens
-
-pub returns-clause-plain : goal.returns-clause-plain
-returns-clause-plain g c plain sure =
-    let s = c.args.self.now in
-    let x = c.index_mut.result.now in
-    let y = c.emplace-emplaced.new.self in
-    let hash = hashes_of s c.args.key in
-    let d : Data g.row.K.Denot g.row.V.Denot g.row.P.Denot = record { key = c.args.key; value = c.args.value; properties = coming_in g.P.Properties.location_of g.P.Properties.with_phantom_of c.admit-admitted.result c.args.properties; hash = hash; weight = c.weigh-weight.result } in
-    let at = c.place-place.ensures.place ∙ ap (λ (n : ℕ). n % vec_len s.shards) c.hash-hash.ensures.hash in
-    let m = meaning_of_core s in
-    let equal : (a b : g.row.K.Denot) → g.K.PartialEq.eq a b ≡ true → hashes_of s a ≡ hashes_of s b = λ a b same. ap (g.S.HashBuilder.hash_of s.hash_builder) (g.met.K.Hash.respects_eq a b same) in
-    let sound = core_sound s g.met.K.Eq.laws g.met.E.Eviction.lawful equal in
-    let new = core_over state_of s.capacity s.hash_builder s.weighter s.filter (slice_set s.shards.items c.place-place.result y) in
-    let did = rw (c.hash-hash.ensures.hash, c.marked-properties.ensures) at c.emplace-emplaced.ensures.inserted in
-    let step = comes_over (meaning_of_core s) state_of opens_of s.capacity s.hash_builder s.weighter s.filter s.shards.items (vec_len s.shards) c.place-place.result x y Outer d s.shards.ok.0 c.place-place.ensures.within at c.index_mut.ensures.value c.emplace-emplaced.result did in
-    comes_plain m g.met.K.Eq.laws g.met.E.Eviction.lawful (hashes_of s) equal (core_of s) new sound Outer d refl (1 + length (waiters_of (place_in (fetches_of s) (hash, c.args.key)))) g.P.Properties.location_of g.P.Properties.with_phantom_of c.admit-admitted.result c.args.properties plain (sure c.admit-admitted.result c.admit-admitted.ensures) refl c.emplace-emplaced.result step
-
-pub returns-clause-found : goal.returns-clause-found
-returns-clause-found g c =
-    let s = c.args.self.now in
-    let x = c.index_mut.result.now in
-    let y = c.emplace-emplaced.new.self in
-    let hash = hashes_of s c.args.key in
-    let d : Data g.row.K.Denot g.row.V.Denot g.row.P.Denot = record { key = c.args.key; value = c.args.value; properties = coming_in g.P.Properties.location_of g.P.Properties.with_phantom_of c.admit-admitted.result c.args.properties; hash = hash; weight = c.weigh-weight.result } in
-    let at = c.place-place.ensures.place ∙ ap (λ (n : ℕ). n % vec_len s.shards) c.hash-hash.ensures.hash in
-    let m = meaning_of_core s in
-    let equal : (a b : g.row.K.Denot) → g.K.PartialEq.eq a b ≡ true → hashes_of s a ≡ hashes_of s b = λ a b same. ap (g.S.HashBuilder.hash_of s.hash_builder) (g.met.K.Hash.respects_eq a b same) in
-    let sound = core_sound s g.met.K.Eq.laws g.met.E.Eviction.lawful equal in
-    let new = core_over state_of s.capacity s.hash_builder s.weighter s.filter (slice_set s.shards.items c.place-place.result y) in
-    let did = rw (c.hash-hash.ensures.hash, c.marked-properties.ensures) at c.emplace-emplaced.ensures.inserted in
-    let step = comes_over (meaning_of_core s) state_of opens_of s.capacity s.hash_builder s.weighter s.filter s.shards.items (vec_len s.shards) c.place-place.result x y Outer d s.shards.ok.0 c.place-place.ensures.within at c.index_mut.ensures.value c.emplace-emplaced.result did in
-    comes_found m g.met.K.Eq.laws g.met.E.Eviction.lawful (hashes_of s) equal (core_of s) new sound Outer d refl (1 + length (waiters_of (place_in (fetches_of s) (hash, c.args.key)))) c.emplace-emplaced.result step
-
-pub returns-clause-bounded : goal.returns-clause-bounded
-returns-clause-bounded g c =
-    let s = c.args.self.now in
-    let x = c.index_mut.result.now in
-    let y = c.emplace-emplaced.new.self in
-    let hash = hashes_of s c.args.key in
-    let d : Data g.row.K.Denot g.row.V.Denot g.row.P.Denot = record { key = c.args.key; value = c.args.value; properties = coming_in g.P.Properties.location_of g.P.Properties.with_phantom_of c.admit-admitted.result c.args.properties; hash = hash; weight = c.weigh-weight.result } in
-    let at = c.place-place.ensures.place ∙ ap (λ (n : ℕ). n % vec_len s.shards) c.hash-hash.ensures.hash in
-    let m = meaning_of_core s in
-    let equal : (a b : g.row.K.Denot) → g.K.PartialEq.eq a b ≡ true → hashes_of s a ≡ hashes_of s b = λ a b same. ap (g.S.HashBuilder.hash_of s.hash_builder) (g.met.K.Hash.respects_eq a b same) in
-    let sound = core_sound s g.met.K.Eq.laws g.met.E.Eviction.lawful equal in
-    let new = core_over state_of s.capacity s.hash_builder s.weighter s.filter (slice_set s.shards.items c.place-place.result y) in
-    let did = rw (c.hash-hash.ensures.hash, c.marked-properties.ensures) at c.emplace-emplaced.ensures.inserted in
-    let step = comes_over (meaning_of_core s) state_of opens_of s.capacity s.hash_builder s.weighter s.filter s.shards.items (vec_len s.shards) c.place-place.result x y Outer d s.shards.ok.0 c.place-place.ensures.within at c.index_mut.ensures.value c.emplace-emplaced.result did in
-    comes_bounded m g.met.K.Eq.laws g.met.E.Eviction.lawful (hashes_of s) equal (core_of s) new sound Outer d refl (1 + length (waiters_of (place_in (fetches_of s) (hash, c.args.key)))) c.emplace-emplaced.result step
-
-pub returns-clause-stay : goal.returns-clause-stay
-returns-clause-stay g c =
-    let s = c.args.self.now in
-    let x = c.index_mut.result.now in
-    let y = c.emplace-emplaced.new.self in
-    let hash = hashes_of s c.args.key in
-    let d : Data g.row.K.Denot g.row.V.Denot g.row.P.Denot = record { key = c.args.key; value = c.args.value; properties = coming_in g.P.Properties.location_of g.P.Properties.with_phantom_of c.admit-admitted.result c.args.properties; hash = hash; weight = c.weigh-weight.result } in
-    let at = c.place-place.ensures.place ∙ ap (λ (n : ℕ). n % vec_len s.shards) c.hash-hash.ensures.hash in
-    let m = meaning_of_core s in
-    let equal : (a b : g.row.K.Denot) → g.K.PartialEq.eq a b ≡ true → hashes_of s a ≡ hashes_of s b = λ a b same. ap (g.S.HashBuilder.hash_of s.hash_builder) (g.met.K.Hash.respects_eq a b same) in
-    let sound = core_sound s g.met.K.Eq.laws g.met.E.Eviction.lawful equal in
-    let new = core_over state_of s.capacity s.hash_builder s.weighter s.filter (slice_set s.shards.items c.place-place.result y) in
-    let did = rw (c.hash-hash.ensures.hash, c.marked-properties.ensures) at c.emplace-emplaced.ensures.inserted in
-    let step = comes_over (meaning_of_core s) state_of opens_of s.capacity s.hash_builder s.weighter s.filter s.shards.items (vec_len s.shards) c.place-place.result x y Outer d s.shards.ok.0 c.place-place.ensures.within at c.index_mut.ensures.value c.emplace-emplaced.result did in
-    comes_stay m g.met.K.Eq.laws g.met.E.Eviction.lawful (hashes_of s) equal (core_of s) new sound Outer d refl (1 + length (waiters_of (place_in (fetches_of s) (hash, c.args.key)))) c.emplace-emplaced.result step
-
-pub returns-clause-told : goal.returns-clause-told
-returns-clause-told g c =
-    let s = c.args.self.now in
-    let x = c.index_mut.result.now in
-    let y = c.emplace-emplaced.new.self in
-    let hash = hashes_of s c.args.key in
-    let d : Data g.row.K.Denot g.row.V.Denot g.row.P.Denot = record { key = c.args.key; value = c.args.value; properties = coming_in g.P.Properties.location_of g.P.Properties.with_phantom_of c.admit-admitted.result c.args.properties; hash = hash; weight = c.weigh-weight.result } in
-    let at = c.place-place.ensures.place ∙ ap (λ (n : ℕ). n % vec_len s.shards) c.hash-hash.ensures.hash in
-    let m = meaning_of_core s in
-    let equal : (a b : g.row.K.Denot) → g.K.PartialEq.eq a b ≡ true → hashes_of s a ≡ hashes_of s b = λ a b same. ap (g.S.HashBuilder.hash_of s.hash_builder) (g.met.K.Hash.respects_eq a b same) in
-    let sound = core_sound s g.met.K.Eq.laws g.met.E.Eviction.lawful equal in
-    let new = core_over state_of s.capacity s.hash_builder s.weighter s.filter (slice_set s.shards.items c.place-place.result y) in
-    let did = rw (c.hash-hash.ensures.hash, c.marked-properties.ensures) at c.emplace-emplaced.ensures.inserted in
-    let step = comes_over (meaning_of_core s) state_of opens_of s.capacity s.hash_builder s.weighter s.filter s.shards.items (vec_len s.shards) c.place-place.result x y Outer d s.shards.ok.0 c.place-place.ensures.within at c.index_mut.ensures.value c.emplace-emplaced.result did in
-    comes_told m g.met.K.Eq.laws g.met.E.Eviction.lawful (hashes_of s) equal (core_of s) new sound Outer d refl (1 + length (waiters_of (place_in (fetches_of s) (hash, c.args.key)))) c.emplace-emplaced.result step
+    goes_all c.insert_with_properties_onto.new.leaves.items (λ ls. IsTold g.K.PartialEq.eq (hashes_of s) (core_of s) ls (core_of c.insert_with_properties_onto.new.self))
+    (rw c.new-leaves.ensures.items at c.in-Err.ensures.told)

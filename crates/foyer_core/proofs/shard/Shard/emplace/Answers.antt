@@ -1,25 +1,19 @@
-use Rattle.std.proofs.Common.{◌+◌, refl}
-use Rattle.foyer_core.specs.Inflights.{opens_of}
-use Rattle.foyer_core.specs.Steps.{newcomer}
-use Rattle.foyer_core.specs.Stores.{meaning_of, state_of}
-use Rattle.foyer_core.proofs.ApartLemmas.{arrived_apart, refuses_apart}
+use Rattle.std.proofs.Common.{◌+◌}
+use Rattle.foyer_core.specs.Shards.{meaning_of, opens_of, state_of}
+use Rattle.foyer_core.specs.State.{key_of}
+use Rattle.foyer_core.specs.Steps.{Inserts, RefusesInsert, newcomer}
+use Rattle.foyer_core.specs.Waited.{waiting_for}
+use Rattle.foyer_core.proofs.Told.{goes_all}
 use Rattle.foyer_core.proofs.shard.Shard.emplace.Goals as goal
 
-pub invariant_of-self : goal.invariant_of-self
-invariant_of-self g c =
+pub returns-in-Ok-clause-inserted : goal.returns-in-Ok-clause-inserted
+returns-in-Ok-clause-inserted g c =
     let s = c.args.self.now in
-    let old = state_of s.store in
-    let i = newcomer old c.args.kept (1 + c.further-further.result.count) in
-    let made = c.in-Ok.made in
-    record {
-      apart = arrived_apart (meaning_of s.store) (opens_of s.inflights) c.args.source old i made.leaves.items made.entry (state_of c.emplace.new.self) c.in-Ok.ensures.inserted
-          made.entry.kept.hash made.entry.kept.key refl refl (opens_of c.answer.new.self) c.answer.ensures.closed s.apart;
-    }
+    let i = newcomer (state_of s) c.args.kept (1 + waiting_for (opens_of s) (key_of c.args.kept)) in
+    goes_all c.emplace_onto.new.leaves.items (λ ls. Inserts (meaning_of s) c.args.source (state_of s) i ls c.in-Ok.made.entry (state_of c.emplace_onto.new.self)) (rw c.new-leaves.ensures.items at c.in-Ok.ensures.inserted)
 
-pub invariant_of-self-in-Err-1 : goal.invariant_of-self-in-Err-1
-invariant_of-self-in-Err-1 g c =
+pub returns-in-Err-clause-inserted : goal.returns-in-Err-clause-inserted
+returns-in-Err-clause-inserted g c =
     let s = c.args.self.now in
-    let old = state_of s.store in
-    let i = newcomer old c.args.kept (1 + c.further-further.result.count) in
-    let refused = c.in-Err.refused in
-    record { apart = refuses_apart (meaning_of s.store) (opens_of s.inflights) old i refused.error refused.leaves.items (state_of c.emplace.new.self) c.in-Err.ensures.inserted s.apart }
+    let i = newcomer (state_of s) c.args.kept (1 + waiting_for (opens_of s) (key_of c.args.kept)) in
+    goes_all c.emplace_onto.new.leaves.items (λ ls. RefusesInsert (meaning_of s) (state_of s) i c.in-Err.error ls (state_of c.emplace_onto.new.self)) (rw c.new-leaves.ensures.items at c.in-Err.ensures.inserted)

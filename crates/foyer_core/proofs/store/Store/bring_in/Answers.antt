@@ -1,13 +1,16 @@
 use Rattle.std.proofs.Common.{◌≡◌, ◌-◌, ℕ, ◌++◌, Some, None, true, refl, sym, ◌∙◌, ap, subst, arith, append-nil}
 use Rattle.std.proofs.Math.Logic.{∥∥₁_elim}
 use Rattle.std.proofs.Props.{props}
+use Rattle.foyer_policy.specs.declared.error.Reason.TheVariants.{NoMemory}
 use Rattle.foyer_core.specs.declared.record.Data.{Data}
 use Rattle.foyer_core.specs.Values.{Kept, Incoming, incoming_of}
 use Rattle.foyer_core.specs.State.{key_of}
-use Rattle.foyer_core.specs.Steps.{replaced_leaves, Evicts, GivesWay}
+use Rattle.foyer_core.specs.Bulk.{GoesOn}
+use Rattle.foyer_core.specs.Steps.{entry_of, replaced_leaves, Evicting, Evicts, GivesWay, InsertsPlain, RefusesPlain}
 use Rattle.foyer_core.specs.Stores.{meaning_of, state_of}
 use Rattle.foyer_core.proofs.InsertLemmas.{fits_after}
 use Rattle.foyer_core.proofs.Emplaced.{evicts_rests, evicts_out, evicts_begin, emplaced, wants_memory, wants_memory_first}
+use Rattle.foyer_core.proofs.Told.{goes_start, goes_so, goes_on}
 use Rattle.foyer_core.proofs.store.Store.bring_in.Goals as goal
 use Rattle.foyer_core.proofs.store.Store.bring_in.Goals.{in-Some, in_default-replaced}
 
@@ -16,14 +19,27 @@ returns-in_default g c =
     let s = c.args.self.now in
     let m = meaning_of s in
     let inc : Incoming g.row.K.Denot g.row.V.Denot g.row.P.Denot = incoming_of c.args.slot in
-    record { inserted = rw (c.new-in_default.ensures.error, c.new-in_default.ensures.leaves, c.new.ensures.items, c.in_default.ensures.same) (wants_memory_first m (state_of s) inc c.requires.may) }
+    record { inserted = rw (c.new.ensures, c.in_default.ensures.leaves, c.in_default.ensures.same) (goes_start c.args.leaves.now.items (λ ls. RefusesPlain m (state_of s) inc NoMemory ls (state_of s)) (wants_memory_first m (state_of s) inc c.requires.may)) }
+
+pub returns-in_default-evict_onto : goal.returns-in_default-evict_onto
+returns-in_default-evict_onto g c =
+    let s = c.args.self.now in
+    let m = meaning_of s in
+    let inc : Incoming g.row.K.Denot g.row.V.Denot g.row.P.Denot = incoming_of c.args.slot in
+    let went : GoesOn c.prepare.new.leaves.items c.evict_onto.new.leaves.items (λ ls. Evicting m (s.capacity - inc.kept.weight) (state_of s) ls (state_of c.evict_onto.new.self)) =
+    subst (λ (n : ℕ). GoesOn c.prepare.new.leaves.items c.evict_onto.new.leaves.items (λ ls. Evicting m n (state_of s) ls (state_of c.evict_onto.new.self))) (c.saturating_sub-target.ensures ∙ ap (λ (w : ℕ). s.capacity - w) c.weight.ensures)
+    (subst (λ st. GoesOn c.prepare.new.leaves.items c.evict_onto.new.leaves.items (λ ls. Evicting m c.saturating_sub-target.result st ls (state_of c.evict_onto.new.self))) c.in-Ok.ensures.same c.in_default-evict_onto.ensures.refused) in
+    record {
+      inserted = rw (c.new-in_default-evict_onto.ensures, sym c.in-Ok.ensures.leaves) (goes_so c.prepare.new.leaves.items c.evict_onto.new.leaves.items (λ ls. Evicting m (s.capacity - inc.kept.weight) (state_of s) ls (state_of c.evict_onto.new.self))
+          (λ ls. RefusesPlain m (state_of s) inc NoMemory ls (state_of c.evict_onto.new.self)) (λ ls h. wants_memory m (state_of s) inc c.requires.may ls (state_of c.evict_onto.new.self) h) went);
+    }
 
 pub admit-requires-clause-plain : goal.admit-requires-clause-plain
 admit-requires-clause-plain g c κs within =
     let s = c.args.self.now in
     let m = meaning_of s in
     let inc : Incoming g.row.K.Denot g.row.V.Denot g.row.P.Denot = incoming_of c.args.slot in
-    let kept : c.in-Ok.slot.kept ≡ inc.kept = ap (λ (x : Kept g.row.K.Denot g.row.V.Denot g.row.P.Denot). x.kept) c.in-Ok.ensures.slot in
+    let kept : c.prepare.new.slot.kept ≡ inc.kept = ap (λ (x : Kept g.row.K.Denot g.row.V.Denot g.row.P.Denot). x.kept) c.in-Ok.ensures.slot in
     rw kept c.requires.plain
 
 pub admit-requires-clause-coming : goal.admit-requires-clause-coming
@@ -34,20 +50,20 @@ admit-requires-clause-out g c κs within r there =
     let s = c.args.self.now in
     let m = meaning_of s in
     let inc : Incoming g.row.K.Denot g.row.V.Denot g.row.P.Denot = incoming_of c.args.slot in
-    let evicts : Evicts m c.saturating_sub-target.result (state_of s) c.in-Ok-evict_to.leaves.items (state_of c.evict_to.new.self) =
-    subst (λ st. Evicts m c.saturating_sub-target.result st c.in-Ok-evict_to.leaves.items (state_of c.evict_to.new.self)) c.in-Ok.ensures.same c.in-Ok-evict_to.ensures.done in
-    let id : c.in-Ok.slot.id ≡ inc.id = ap (λ (x : Kept g.row.K.Denot g.row.V.Denot g.row.P.Denot). x.id) c.in-Ok.ensures.slot in
-    evicts_out m (state_of s) inc c.saturating_sub-target.result c.in-Ok-evict_to.leaves.items (state_of c.evict_to.new.self) evicts inc.id c.requires.out r (subst (λ (a : ℕ). (state_of c.evict_to.new.self).records a ≡ Some r) id there)
+    let went : GoesOn c.prepare.new.leaves.items c.evict_onto.new.leaves.items (λ ls. Evicts m c.saturating_sub-target.result (state_of s) ls (state_of c.evict_onto.new.self)) =
+    subst (λ st. GoesOn c.prepare.new.leaves.items c.evict_onto.new.leaves.items (λ ls. Evicts m c.saturating_sub-target.result st ls (state_of c.evict_onto.new.self))) c.in-Ok.ensures.same c.in-Ok-evict_onto.ensures.done in
+    let id : c.prepare.new.slot.id ≡ inc.id = ap (λ (x : Kept g.row.K.Denot g.row.V.Denot g.row.P.Denot). x.id) c.in-Ok.ensures.slot in
+    evicts_out m (state_of s) inc c.saturating_sub-target.result went.more (state_of c.evict_onto.new.self) went.so inc.id c.requires.out r (subst (λ (a : ℕ). (state_of c.evict_onto.new.self).records a ≡ Some r) id there)
 
 pub admit-requires-clause-number : goal.admit-requires-clause-number
 admit-requires-clause-number g c κs within =
     let s = c.args.self.now in
     let m = meaning_of s in
     let inc : Incoming g.row.K.Denot g.row.V.Denot g.row.P.Denot = incoming_of c.args.slot in
-    let evicts : Evicts m c.saturating_sub-target.result (state_of s) c.in-Ok-evict_to.leaves.items (state_of c.evict_to.new.self) =
-    subst (λ st. Evicts m c.saturating_sub-target.result st c.in-Ok-evict_to.leaves.items (state_of c.evict_to.new.self)) c.in-Ok.ensures.same c.in-Ok-evict_to.ensures.done in
-    let rests = evicts_rests m (state_of s) inc c.saturating_sub-target.result c.in-Ok-evict_to.leaves.items (state_of c.evict_to.new.self) evicts in
-    let id : c.in-Ok.slot.id ≡ inc.id = ap (λ (x : Kept g.row.K.Denot g.row.V.Denot g.row.P.Denot). x.id) c.in-Ok.ensures.slot in
+    let went : GoesOn c.prepare.new.leaves.items c.evict_onto.new.leaves.items (λ ls. Evicts m c.saturating_sub-target.result (state_of s) ls (state_of c.evict_onto.new.self)) =
+    subst (λ st. GoesOn c.prepare.new.leaves.items c.evict_onto.new.leaves.items (λ ls. Evicts m c.saturating_sub-target.result st ls (state_of c.evict_onto.new.self))) c.in-Ok.ensures.same c.in-Ok-evict_onto.ensures.done in
+    let rests = evicts_rests m (state_of s) inc c.saturating_sub-target.result went.more (state_of c.evict_onto.new.self) went.so in
+    let id : c.prepare.new.slot.id ≡ inc.id = ap (λ (x : Kept g.row.K.Denot g.row.V.Denot g.row.P.Denot). x.id) c.in-Ok.ensures.slot in
     rw (id, rests.next, rests.limits) c.requires.may.0
 
 pub admit-requires-clause-held : goal.admit-requires-clause-held
@@ -55,7 +71,7 @@ admit-requires-clause-held g c κs within =
     let s = c.args.self.now in
     let m = meaning_of s in
     let inc : Incoming g.row.K.Denot g.row.V.Denot g.row.P.Denot = incoming_of c.args.slot in
-    let handles : c.in-Ok.slot.handles ≡ inc.handles = ap (λ (x : Kept g.row.K.Denot g.row.V.Denot g.row.P.Denot). x.handles) c.in-Ok.ensures.slot in
+    let handles : c.prepare.new.slot.handles ≡ inc.handles = ap (λ (x : Kept g.row.K.Denot g.row.V.Denot g.row.P.Denot). x.handles) c.in-Ok.ensures.slot in
     rw handles c.requires.held
 
 pub admit-requires-clause-handles : goal.admit-requires-clause-handles
@@ -63,10 +79,10 @@ admit-requires-clause-handles g c κs within =
     let s = c.args.self.now in
     let m = meaning_of s in
     let inc : Incoming g.row.K.Denot g.row.V.Denot g.row.P.Denot = incoming_of c.args.slot in
-    let evicts : Evicts m c.saturating_sub-target.result (state_of s) c.in-Ok-evict_to.leaves.items (state_of c.evict_to.new.self) =
-    subst (λ st. Evicts m c.saturating_sub-target.result st c.in-Ok-evict_to.leaves.items (state_of c.evict_to.new.self)) c.in-Ok.ensures.same c.in-Ok-evict_to.ensures.done in
-    let rests = evicts_rests m (state_of s) inc c.saturating_sub-target.result c.in-Ok-evict_to.leaves.items (state_of c.evict_to.new.self) evicts in
-    let handles : c.in-Ok.slot.handles ≡ inc.handles = ap (λ (x : Kept g.row.K.Denot g.row.V.Denot g.row.P.Denot). x.handles) c.in-Ok.ensures.slot in
+    let went : GoesOn c.prepare.new.leaves.items c.evict_onto.new.leaves.items (λ ls. Evicts m c.saturating_sub-target.result (state_of s) ls (state_of c.evict_onto.new.self)) =
+    subst (λ st. GoesOn c.prepare.new.leaves.items c.evict_onto.new.leaves.items (λ ls. Evicts m c.saturating_sub-target.result st ls (state_of c.evict_onto.new.self))) c.in-Ok.ensures.same c.in-Ok-evict_onto.ensures.done in
+    let rests = evicts_rests m (state_of s) inc c.saturating_sub-target.result went.more (state_of c.evict_onto.new.self) went.so in
+    let handles : c.prepare.new.slot.handles ≡ inc.handles = ap (λ (x : Kept g.row.K.Denot g.row.V.Denot g.row.P.Denot). x.handles) c.in-Ok.ensures.slot in
     rw (handles, rests.limits) c.requires.may.1
 
 pub admit-requires-clause-fits : goal.admit-requires-clause-fits
@@ -74,32 +90,44 @@ admit-requires-clause-fits g c κs within b last h =
     let s = c.args.self.now in
     let m = meaning_of s in
     let inc : Incoming g.row.K.Denot g.row.V.Denot g.row.P.Denot = incoming_of c.args.slot in
-    let evicts : Evicts m (s.capacity - inc.kept.weight) (state_of s) c.in-Ok-evict_to.leaves.items (state_of c.evict_to.new.self) =
-    subst (λ (n : ℕ). Evicts m n (state_of s) c.in-Ok-evict_to.leaves.items (state_of c.evict_to.new.self)) (c.saturating_sub-target.ensures ∙ ap (λ (w : ℕ). s.capacity - w) c.weight.ensures) (subst (λ st. Evicts m c.saturating_sub-target.result st c.in-Ok-evict_to.leaves.items (state_of c.evict_to.new.self)) c.in-Ok.ensures.same c.in-Ok-evict_to.ensures.done) in
-    let kept : c.in-Ok.slot.kept ≡ inc.kept = ap (λ (x : Kept g.row.K.Denot g.row.V.Denot g.row.P.Denot). x.kept) c.in-Ok.ensures.slot in
-    let way : GivesWay m ((state_of c.evict_to.new.self).index (key_of inc.kept)) (state_of c.evict_to.new.self) b last = subst (λ (d : Data g.row.K.Denot g.row.V.Denot g.row.P.Denot). GivesWay m ((state_of c.evict_to.new.self).index (key_of d)) (state_of c.evict_to.new.self) b last) kept h in
-    rw kept (∥∥₁_elim s.kept (hlevel props) (λ k. fits_after m g.met.K.Eq.laws g.met.E.Eviction.lawful (state_of s) k inc.kept c.in-Ok-evict_to.leaves.items (state_of c.evict_to.new.self) evicts b last way c.requires.may.2 (omega arith) (omega arith)))
+    let went : GoesOn c.prepare.new.leaves.items c.evict_onto.new.leaves.items (λ ls. Evicts m (s.capacity - inc.kept.weight) (state_of s) ls (state_of c.evict_onto.new.self)) =
+    subst (λ (n : ℕ). GoesOn c.prepare.new.leaves.items c.evict_onto.new.leaves.items (λ ls. Evicts m n (state_of s) ls (state_of c.evict_onto.new.self))) (c.saturating_sub-target.ensures ∙ ap (λ (w : ℕ). s.capacity - w) c.weight.ensures)
+    (subst (λ st. GoesOn c.prepare.new.leaves.items c.evict_onto.new.leaves.items (λ ls. Evicts m c.saturating_sub-target.result st ls (state_of c.evict_onto.new.self))) c.in-Ok.ensures.same c.in-Ok-evict_onto.ensures.done) in
+    let kept : c.prepare.new.slot.kept ≡ inc.kept = ap (λ (x : Kept g.row.K.Denot g.row.V.Denot g.row.P.Denot). x.kept) c.in-Ok.ensures.slot in
+    let way : GivesWay m ((state_of c.evict_onto.new.self).index (key_of inc.kept)) (state_of c.evict_onto.new.self) b last = subst (λ (d : Data g.row.K.Denot g.row.V.Denot g.row.P.Denot). GivesWay m ((state_of c.evict_onto.new.self).index (key_of d)) (state_of c.evict_onto.new.self) b last) kept h in
+    rw kept (∥∥₁_elim s.kept (hlevel props) (λ k. fits_after m g.met.K.Eq.laws g.met.E.Eviction.lawful (state_of s) k inc.kept went.more (state_of c.evict_onto.new.self) went.so b last way c.requires.may.2 (omega arith) (omega arith)))
 
 pub returns-in-Ok-admit : goal.returns-in-Ok-admit
 returns-in-Ok-admit g c =
     let s = c.args.self.now in
     let m = meaning_of s in
     let inc : Incoming g.row.K.Denot g.row.V.Denot g.row.P.Denot = incoming_of c.args.slot in
-    let evicts : Evicts m (s.capacity - inc.kept.weight) (state_of s) c.in-Ok-evict_to.leaves.items (state_of c.evict_to.new.self) =
-    subst (λ (n : ℕ). Evicts m n (state_of s) c.in-Ok-evict_to.leaves.items (state_of c.evict_to.new.self)) (c.saturating_sub-target.ensures ∙ ap (λ (w : ℕ). s.capacity - w) c.weight.ensures) (subst (λ st. Evicts m c.saturating_sub-target.result st c.in-Ok-evict_to.leaves.items (state_of c.evict_to.new.self)) c.in-Ok.ensures.same c.in-Ok-evict_to.ensures.done) in
-    let came : incoming_of c.in-Ok.slot ≡ inc = ap (λ (x : Kept g.row.K.Denot g.row.V.Denot g.row.P.Denot). incoming_of x) c.in-Ok.ensures.slot in
-    let done = emplaced m (state_of s) inc c.requires.may c.args.source c.in-Ok-evict_to.leaves.items (state_of c.evict_to.new.self) evicts c.in-Ok-admit.replaced (state_of c.admit.new.self) (rw came at c.in-Ok-admit.ensures.admitted) in
-    let leaves : c.match-replaced.leaves.items ≡ c.in-Ok-evict_to.leaves.items ++ replaced_leaves c.in-Ok-admit.replaced = elim c.match-replaced.branch [
+    let mid = c.evict_onto.new.leaves.items in
+    let gone = replaced_leaves c.in-Ok-admit.replaced in
+    let went : GoesOn c.prepare.new.leaves.items c.evict_onto.new.leaves.items (λ ls. Evicts m (s.capacity - inc.kept.weight) (state_of s) ls (state_of c.evict_onto.new.self)) =
+    subst (λ (n : ℕ). GoesOn c.prepare.new.leaves.items c.evict_onto.new.leaves.items (λ ls. Evicts m n (state_of s) ls (state_of c.evict_onto.new.self))) (c.saturating_sub-target.ensures ∙ ap (λ (w : ℕ). s.capacity - w) c.weight.ensures)
+    (subst (λ st. GoesOn c.prepare.new.leaves.items c.evict_onto.new.leaves.items (λ ls. Evicts m c.saturating_sub-target.result st ls (state_of c.evict_onto.new.self))) c.in-Ok.ensures.same c.in-Ok-evict_onto.ensures.done) in
+    let came : incoming_of c.prepare.new.slot ≡ inc = ap (λ (x : Kept g.row.K.Denot g.row.V.Denot g.row.P.Denot). incoming_of x) c.in-Ok.ensures.slot in
+    let leaves : c.match-replaced.leaves.items ≡ mid ++ gone = elim c.match-replaced.branch [
       | in-Some w ↦ rw (w.leaves-is, w.push_reserved.ensures.items, w.in-Some.is) refl
-      | in_default-replaced w ↦ rw (w.leaves-is, w.in_default-replaced.is) (sym (append-nil c.in-Ok-evict_to.leaves.items))
+      | in_default-replaced w ↦ rw (w.leaves-is, w.in_default-replaced.is) (sym (append-nil mid))
     ] in
-    record { inserted = rw (leaves, c.set_slot.ensures, c.in-Ok.ensures.entry) done }
+    let done = goes_on c.prepare.new.leaves.items mid c.match-replaced.leaves.items (λ ls. Evicts m (s.capacity - inc.kept.weight) (state_of s) ls (state_of c.evict_onto.new.self)) (λ more. more ≡ gone)
+    (λ ls. InsertsPlain m c.args.source (state_of s) inc ls (entry_of (state_of s) inc.id inc.kept c.args.source) (state_of c.admit.new.self))
+    (λ ls more evicts is. rw is (emplaced m (state_of s) inc c.requires.may c.args.source ls (state_of c.evict_onto.new.self) evicts c.in-Ok-admit.replaced (state_of c.admit.new.self) (rw came at c.in-Ok-admit.ensures.admitted)))
+    went (record { more = gone; told = leaves; so = refl }) in
+    record { inserted = rw (sym c.in-Ok.ensures.leaves, c.set_slot.ensures, c.in-Ok.ensures.entry) done }
 
 pub returns : goal.returns
 returns g c =
     let s = c.args.self.now in
     let m = meaning_of s in
     let inc : Incoming g.row.K.Denot g.row.V.Denot g.row.P.Denot = incoming_of c.args.slot in
-    let evicts : Evicts m (s.capacity - inc.kept.weight) (state_of s) c.in-Ok-evict_to.leaves.items (state_of c.evict_to.new.self) =
-    subst (λ (n : ℕ). Evicts m n (state_of s) c.in-Ok-evict_to.leaves.items (state_of c.evict_to.new.self)) (c.saturating_sub-target.ensures ∙ ap (λ (w : ℕ). s.capacity - w) c.weight.ensures) (subst (λ st. Evicts m c.saturating_sub-target.result st c.in-Ok-evict_to.leaves.items (state_of c.evict_to.new.self)) c.in-Ok.ensures.same c.in-Ok-evict_to.ensures.done) in
-    record { inserted = rw (c.new-in-Err-admit.ensures.error, c.new-in-Err-admit.ensures.leaves, c.in-Err-admit.ensures.err) (wants_memory m (state_of s) inc c.requires.may c.in-Ok-evict_to.leaves.items (state_of c.evict_to.new.self) (evicts_begin m (state_of s) inc (s.capacity - inc.kept.weight) c.in-Ok-evict_to.leaves.items (state_of c.evict_to.new.self) evicts)) }
+    let went : GoesOn c.prepare.new.leaves.items c.evict_onto.new.leaves.items (λ ls. Evicts m (s.capacity - inc.kept.weight) (state_of s) ls (state_of c.evict_onto.new.self)) =
+    subst (λ (n : ℕ). GoesOn c.prepare.new.leaves.items c.evict_onto.new.leaves.items (λ ls. Evicts m n (state_of s) ls (state_of c.evict_onto.new.self))) (c.saturating_sub-target.ensures ∙ ap (λ (w : ℕ). s.capacity - w) c.weight.ensures)
+    (subst (λ st. GoesOn c.prepare.new.leaves.items c.evict_onto.new.leaves.items (λ ls. Evicts m c.saturating_sub-target.result st ls (state_of c.evict_onto.new.self))) c.in-Ok.ensures.same c.in-Ok-evict_onto.ensures.done) in
+    record {
+      inserted = rw (c.new-in-Err.ensures, c.in-Err.ensures.err, sym c.in-Ok.ensures.leaves) (goes_so c.prepare.new.leaves.items c.evict_onto.new.leaves.items (λ ls. Evicts m (s.capacity - inc.kept.weight) (state_of s) ls (state_of c.evict_onto.new.self))
+          (λ ls. RefusesPlain m (state_of s) inc NoMemory ls (state_of c.evict_onto.new.self))
+          (λ ls evicts. wants_memory m (state_of s) inc c.requires.may ls (state_of c.evict_onto.new.self) (evicts_begin m (state_of s) inc (s.capacity - inc.kept.weight) ls (state_of c.evict_onto.new.self) evicts)) went);
+    }

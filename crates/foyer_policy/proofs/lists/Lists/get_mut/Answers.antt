@@ -27,7 +27,7 @@ invariant_of-self-lent g c = λ w.
     let m : Node g.row.T.Denot = record { value = w; list = n.list; before = n.before; after = n.after } in
     let there : IsSome (find p (lists_of i.nodes i.heads)) = search rules in
     Holds-again (slab_with i.nodes p m) i.heads i.tails _
-    (Holds-write i.nodes (slab_with i.nodes p m) i.heads i.tails p w n c.self.invariant c.index_mut-node.ensures.value
+    (Holds-write i.nodes (slab_with i.nodes p m) i.heads i.tails p w n c.self.invariant there c.index_mut-node.ensures.value
     (Updates-with_value i.nodes p m (contains_found i.nodes i.heads i.tails (lists_of i.nodes i.heads) p c.self.invariant.linked there)) (slab_len-write i.nodes p n m c.index_mut-node.ensures.value) refl)
 
 same_lists : {T : Type 0} (a b : List (List (ℕ × T))) (x y : ℕ) → a ≡ b → x ≡ y → ◌≡◌ {A = Lists T} (record { lists = a; room = x }) (record { lists = b; room = y })
@@ -46,7 +46,7 @@ returns g c =
             let m : Node g.row.T.Denot = record { value = w; list = n.list; before = n.before; after = n.after } in
             let len = slab_len-write i.nodes p n m c.index_mut-node.ensures.value in
             rw (← c.self.view_is, ← c.place.view_is) (same_lists _ _ _ _
-            (lists_of-Holds (slab_with i.nodes p m) i.heads i.tails _ (Holds-write i.nodes (slab_with i.nodes p m) i.heads i.tails p w n c.self.invariant c.index_mut-node.ensures.value
+            (lists_of-Holds (slab_with i.nodes p m) i.heads i.tails _ (Holds-write i.nodes (slab_with i.nodes p m) i.heads i.tails p w n c.self.invariant there c.index_mut-node.ensures.value
             (Updates-with_value i.nodes p m (contains_found i.nodes i.heads i.tails (lists_of i.nodes i.heads) p c.self.invariant.linked there)) len refl))
             (ap (λ l. i.nodes.capacity - l) len))),
       ),

@@ -1,0 +1,74 @@
+//! What a shard is asked that changes nothing: why a step would be refused, what a piece stands for, and whether its
+//! usage is the sum of its records' weights. No question takes memory.
+
+ghost use Rattle.std.specs.Prelude.{◌≡◌, ◌≢◌, ◌+◌, ◌<◌, [], Err, IfSome, IfNone, IsTrue, true};
+ghost use Rattle.foyer_policy.specs.Properties.{is_phantom};
+ghost use Rattle.foyer_policy.specs.declared.error.Reason.TheVariants.{Handles, NoMemory};
+
+use super::Shard;
+use crate::indexer::Indexer;
+use crate::piece::Piece;
+use foyer_policy::{Eviction, Key, Properties, Reason, Value};
+
+impl<E: Eviction, K: Key, V: Value, P: Properties, N: Drop, R: Drop, I: Indexer<K>> Shard<
+    E,
+    K,
+    V,
+    P,
+    N,
+    R,
+    I,
+> {
+    ghost use Rattle.foyer_core.specs.Shards.{state_of, meaning_of, opens_of};
+    ghost use Rattle.foyer_core.specs.Pieces.{held_or};
+    ghost use Rattle.foyer_core.specs.Questions.{MayGet, stands_under};
+    ghost use Rattle.foyer_core.specs.Steps.{Gets, MayBy, RefusesInsert, newcomer};
+    ghost use Rattle.foyer_core.specs.Waited.{waiting_for};
+
+    /// Why a `get` of a key would be refused now, whatever memory there is: where its record has as many handles as one
+    /// may have (F9). Else none, also where the key has no record in the index.
+    pub fn refuses_get(&self, hash: u64, key: &K) -> Option<Reason>
+        ensures some { IfSome result (λ reason. (reason ≡ Handles) × Gets (meaning_of self.now) (state_of self.now) (hash, key.now) (Err Handles) (state_of self.now)) }
+        ensures none { IfNone result (MayGet (state_of self.now) (hash, key.now)) }
+    {
+        self.store.get_refusal(hash, key)
+    }
+
+    /// Why an `emplace` of a record with this key, these properties and this weight would be refused now, whatever its
+    /// value is and whatever memory there is: F10, F9 or F8, with a handle for each who waits for the key. Else none.
+    pub fn refuses_insert(
+        &self,
+        hash: u64,
+        key: &K,
+        properties: &P,
+        weight: usize,
+    ) -> Option<Reason>
+        ensures some { IfSome result (λ reason. (value : V) → RefusesInsert (meaning_of self.now) (state_of self.now)
+            (newcomer (state_of self.now) (record { key = key.now; value = value; properties = properties.now; hash = hash; weight = weight }) (1 + waiting_for (opens_of self.now) (hash, key.now))) reason [] (state_of self.now)) }
+        ensures none { IfNone result ((value : V) → MayBy (meaning_of self.now) (is_phantom (P.phantom_of properties.now)) (state_of self.now)
+            (newcomer (state_of self.now) (record { key = key.now; value = value; properties = properties.now; hash = hash; weight = weight }) (1 + waiting_for (opens_of self.now) (hash, key.now)))) }
+        ensures memory { IfSome result (λ reason. reason ≢ NoMemory) }
+    {
+        let further = self.further(hash, key);
+        self.store
+            .new_refusal(hash, key, properties, weight, further.count)
+    }
+
+    /// Whether a piece, whose key has the hash `own`, stands for a record of this shard whose key has this hash and
+    /// equals this one. Then `complete_back` may be called with that piece, hash and key.
+    pub fn stands_for(&self, own: u64, piece: &Piece<K, V, P>, hash: u64, key: &K) -> bool
+        ensures stands { result ≡ stands_under K.eq (state_of self.now) own piece.now (hash, key.now) }
+        ensures given { IsTrue result → piece.now.id < (state_of self.now).next }
+        ensures hashed { IsTrue result → hash ≡ (held_or piece.now.kept ((state_of self.now).records piece.now.id)).hash }
+        ensures same { IsTrue result → K.eq key.now (held_or piece.now.kept ((state_of self.now).records piece.now.id)).key ≡ true }
+    {
+        self.store.stands_for(own, piece, hash, key)
+    }
+
+    /// Whether the usage is the sum of the weights of the records in the index, which is counted anew. It always is.
+    pub fn fits(&self) -> bool
+        ensures { result ≡ true }
+    {
+        self.store.fits()
+    }
+}

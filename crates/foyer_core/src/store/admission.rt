@@ -1,0 +1,129 @@
+//! How a record comes into the index and the policy, where there is room.
+
+ghost use Rattle.std.specs.Prelude.{◌≡◌, ℕ, ◌+◌, ◌<◌, ◌≤◌, ◌^◌, Some, None, OnErr, IfOk, IsSome, IsSomeAnd, option_and_then, max, nat_eq, true, false};
+ghost use Rattle.std.specs.Option.{ForSome};
+ghost use Rattle.std.specs.Map.{update};
+ghost use Rattle.foyer_policy.specs.Policy.{without};
+ghost use Rattle.foyer_policy.specs.Properties.{is_phantom};
+ghost use Rattle.foyer_policy.specs.declared.types.Item.{Item};
+ghost use Rattle.foyer_core.specs.Values.{Kept, Rec, incoming_of};
+ghost use Rattle.foyer_core.specs.Steps.{outside};
+ghost use Rattle.foyer_core.specs.Table.{rec_of, slot_outside};
+ghost use Rattle.foyer_core.specs.Records.{slot_in, record_in, number_of, HasRoom};
+
+use super::Store;
+use crate::entry::Left;
+use crate::indexer::Indexer;
+use crate::records::Records;
+use crate::slot::Slot;
+use foyer_policy::{Eviction, Hint, Item, Key, Properties, Result, Value};
+
+impl<E: Eviction, K: Key, V: Value, P: Properties, I: Indexer<K>> Store<E, K, V, P, I> {
+    ghost use Rattle.foyer_core.specs.Stores.{state_of, meaning_of};
+    ghost use Rattle.foyer_core.specs.State.{key_of, usage_of};
+    ghost use Rattle.foyer_core.specs.Steps.{GivesWay, Admits, HasId};
+
+    // Puts a record in, where there is room, in place of what is held under its id, and takes its key's record
+    // out. Refused where the index has no room, and then nothing has changed.
+    #[inline(always)]
+    pub(super) fn admit(
+        &mut self,
+        key: K,
+        slot: Slot<K, V, P>,
+    ) -> Result<(usize, Option<Left<K, V, P>>)>
+        requires room { HasRoom self.old.records }
+        requires policy_room { 0 < E.room self.old.eviction }
+        requires same { K.eq key slot.kept.key ≡ true }
+        requires plain { is_phantom (P.phantom_of slot.kept.properties) ≡ false }
+        requires coming { slot ≡ record slot { resident = true; place = None } }
+        requires out { (r : Rec K V P) → (state_of self.old).records slot.id ≡ Some r → r.resident ≡ false }
+        requires number { HasId (state_of self.old) slot.id }
+        requires held { 0 < slot.handles }
+        requires handles { slot.handles ≤ self.old.limits.handles }
+        requires fits { (b : _) (last : _) → GivesWay (meaning_of self.old) ((state_of self.old).index (key_of slot.kept)) (state_of self.old) b last → usage_of (meaning_of self.old) last + slot.kept.weight < 2 ^ 64 }
+        ensures admitted { IfOk result (λ made. Admits (meaning_of self.old) (state_of self.old) (incoming_of slot) made.1 (state_of self.new)) }
+        ensures err { OnErr result (state_of self.new ≡ state_of self.old) }
+    {
+        let hash = slot.hash();
+        let weight = slot.weight();
+        let hint = slot.properties().hint().unwrap_or(Hint::Normal);
+        let id = slot.id();
+        let stands = self.stands(id);
+        let (number, stood) = self.records.put(slot, stands);
+        let was = match self.index.insert(hash, key, number as u64) {
+            Ok(was) => was,
+            Err(error) => {
+                self.records.put_back(number, stood);
+                return Err(error);
+            }
+        };
+        let (gone, replaced) = give_way(&mut self.eviction, &mut self.records, self.number, was);
+        self.usage -= gone;
+        self.entries -= replaced.is_some() as u64;
+        let place = self.eviction.push(Item {
+            id,
+            hash,
+            weight,
+            hint,
+        });
+        self.records.set_place(number, place);
+        self.usage += weight;
+        self.entries += 1;
+        self.next = above(self.next, id);
+        Ok((number, replaced))
+    }
+
+    // The slot where an id stands. What was not given stands nowhere.
+    #[inline(always)]
+    pub(super) fn stands(&self, id: u64) -> Option<usize>
+        ensures { result ≡ number_of self.now.records id }
+    {
+        if id >= self.next {
+            return None;
+        }
+        self.records.find(id, 0)
+    }
+}
+
+// The next number once this id is in.
+#[inline(always)]
+pub(super) fn above(next: u64, id: u64) -> u64
+    requires { id + 1 < 2 ^ 64 }
+    ensures { result ≡ max next (id + 1) }
+{
+    if id < next { next } else { id + 1 }
+}
+
+// The record that a key had gives way, where it had one: the weight that is gone, and what leaves, in the
+// core of this number.
+#[inline(always)]
+fn give_way<E: Eviction, K: Drop, V: Drop, P: Drop>(
+    eviction: &mut E,
+    records: &mut Records<K, V, P>,
+    number: u64,
+    was: Option<u64>,
+) -> (usize, Option<Left<K, V, P>>)
+    requires { ForSome was (λ n. IsSomeAnd (slot_in records.old n) (λ s. (s.resident ≡ true) × IsSome (option_and_then (E.at eviction.old) s.place))) }
+    ensures none { was ≡ None → (result ≡ (0, None)) × (E.view eviction.new ≡ E.view eviction.old) }
+    ensures none_slots { was ≡ None → (n : ℕ) → slot_in records.new n ≡ slot_in records.old n }
+    ensures none_records { was ≡ None → (id : ℕ) → record_in records.new id ≡ record_in records.old id }
+    ensures none_places { was ≡ None → (p : ℕ) → E.at eviction.new p ≡ E.at eviction.old p }
+    ensures some { (n : ℕ) (s : Kept K V P) (i : Item) → was ≡ Some n → slot_in records.old n ≡ Some s → option_and_then (E.at eviction.old) s.place ≡ Some i → (result ≡ (i.weight, Some record { number = number; id = s.id; kept = s.kept })) × (E.view eviction.new ≡ E.model.remove (E.view eviction.old) i.id) }
+    ensures some_slots { (n : ℕ) (s : Kept K V P) → was ≡ Some n → slot_in records.old n ≡ Some s → (q : ℕ) → slot_in records.new q ≡ update nat_eq (slot_in records.old) n (slot_outside s) q }
+    ensures some_records { (n : ℕ) (s : Kept K V P) → was ≡ Some n → slot_in records.old n ≡ Some s → (id : ℕ) → record_in records.new id ≡ update nat_eq (record_in records.old) s.id (outside (rec_of s)) id }
+    ensures some_places { (n : ℕ) (s : Kept K V P) (i : Item) → was ≡ Some n → slot_in records.old n ≡ Some s → option_and_then (E.at eviction.old) s.place ≡ Some i → (p : ℕ) → E.at eviction.new p ≡ without i.id (E.at eviction.old p) }
+    ensures room { E.room eviction.old ≤ E.room eviction.new }
+{
+    let Some(old) = was else {
+        return (0, None);
+    };
+    let slot = old as usize;
+    let Some(found) = records.get(slot) else {
+        unreachable!();
+    };
+    let Some(place) = found.place() else {
+        unreachable!();
+    };
+    let item = eviction.remove(place);
+    (item.weight, Some(records.leave(slot, number)))
+}

@@ -1,0 +1,65 @@
+//! The end of a shard's store: what is still in is told.
+
+ghost use Rattle.std.specs.Prelude.{◌≡◌, ℕ, ◌<◌, Some, true};
+ghost use Rattle.foyer_policy.specs.Items.{count_of};
+ghost use Rattle.foyer_core.specs.Records.{slot_in};
+ghost use Rattle.foyer_core.specs.Values.{Kept, Rec};
+
+use super::Store;
+use crate::indexer::Indexer;
+use foyer_policy::{Eviction, Item, Key, Properties, Value};
+
+impl<E: Eviction, K: Key, V: Value, P: Properties, I: Indexer<K>> Store<E, K, V, P, I> {
+    ghost use Rattle.foyer_core.specs.Stores.{state_of};
+    ghost use Rattle.foyer_core.specs.Questions.{IsTold, TellsResidents};
+
+    // Tells each record that is in the index, in the policy's order, or where there is no memory for that order, in
+    // the order of slots.
+    pub(crate) fn tell_residents<F: Fn(&K, &V)>(&self, tell: &F)
+        requires { F.IsAlwaysCallable tell.now }
+        ensures { TellsResidents F.Fn tell.now (state_of self.now) }
+    {
+        match self.eviction.order() {
+            Ok(items) => self.tell_in_order(&items, tell),
+            Err(_) => self.tell_by_slot(tell),
+        }
+    }
+
+    // Tells the records of these items, which are all that are in.
+    fn tell_in_order<F: Fn(&K, &V)>(&self, items: &[Item], tell: &F)
+        requires callable { F.IsAlwaysCallable tell.now }
+        requires all { items.now ≡ E.model.order (E.view self.now.eviction) }
+        ensures { TellsResidents F.Fn tell.now (state_of self.now) }
+    {
+        for item in items {
+            self.tell(item.id, tell);
+        }
+    }
+
+    // Tells an id's record.
+    fn tell<F: Fn(&K, &V)>(&self, id: u64, tell: &F)
+        requires callable { F.IsAlwaysCallable tell.now }
+        requires there { 0 < count_of id (E.model.order (E.view self.now.eviction)) }
+        ensures { (r : Rec K V P) → (state_of self.now).records id ≡ Some r → IsTold F.Fn tell.now r.kept.key r.kept.value }
+    {
+        let Some(slot) = self.records.find(id, 0) else {
+            unreachable!();
+        };
+        let Some(found) = self.records.get(slot) else {
+            unreachable!();
+        };
+        tell(found.key(), found.value());
+    }
+
+    // Tells the records of the slots that are in the index. It takes no memory.
+    fn tell_by_slot<F: Fn(&K, &V)>(&self, tell: &F)
+        requires callable { F.IsAlwaysCallable tell.now }
+        ensures { (n : ℕ) (x : Kept K V P) → slot_in self.now.records n ≡ Some x → x.resident ≡ true → IsTold F.Fn tell.now x.kept.key x.kept.value }
+    {
+        for (_, slot) in self.records.iter() {
+            if slot.is_resident() {
+                tell(slot.key(), slot.value());
+            }
+        }
+    }
+}

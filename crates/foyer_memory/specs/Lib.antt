@@ -1,0 +1,4 @@
+pub mod Caches
+pub mod Entries
+pub mod Faults
+pub mod Kind

@@ -1,0 +1,91 @@
+//! What a cache does with all of its records.
+
+ghost use Rattle.std.specs.Prelude.{◌≡◌, IfSome};
+
+use super::Cache;
+use foyer_core::{Filter, Indexer, Weighter};
+use foyer_policy::{EventListener, HashBuilder, Key, Properties, Result, Value};
+use foyer_raw::{FetchTypes, Flush, FlushIf, Pipe};
+use std::sync::Wait;
+
+impl<H, K, V, S, P, W, A, L, Q, T, I> Cache<H, K, V, S, P, W, A, L, Q, T, I>
+where
+    H: Wait + Drop,
+    K: Key,
+    V: Value,
+    S: HashBuilder,
+    P: Properties,
+    W: Weighter<K, V>,
+    A: Filter<K, V>,
+    L: EventListener<Key = K, Value = V>,
+    I: Indexer<K>,
+    Q: Pipe<Key = K, Value = V, Properties = P>,
+    T: FetchTypes<K, V, P>,
+{
+    /// Takes everything out, as `Clear`, shard by shard, in the policy's order. Refused for want of memory alone (F7); then
+    /// the shards before are done, and what left is told.
+    pub fn clear(&self) -> Result<()> {
+        match self {
+            Cache::FifoCache(cache) => cache.clear(),
+            Cache::S3FifoCache(cache) => cache.clear(),
+            Cache::LruCache(cache) => cache.clear(),
+            Cache::LfuCache(cache) => cache.clear(),
+            Cache::SieveCache(cache) => cache.clear(),
+        }
+    }
+
+    /// Evicts all that is not pinned, shard by shard, in the order in which the policy gives it. Refused for want of memory
+    /// alone (F7); then the shards before are done and some of the next one's records may have left, and what left is told.
+    pub fn evict_all(&self) -> Result<()> {
+        match self {
+            Cache::FifoCache(cache) => cache.evict_all(),
+            Cache::S3FifoCache(cache) => cache.evict_all(),
+            Cache::LruCache(cache) => cache.evict_all(),
+            Cache::LfuCache(cache) => cache.evict_all(),
+            Cache::SieveCache(cache) => cache.evict_all(),
+        }
+    }
+
+    /// Sets the weight that the records may have together, of which each shard gets its part, and then evicts from each shard
+    /// what is over. Resizes take turns. Refused for want of memory alone (F7); then the capacities are set all the same, the
+    /// shards before are done, and what left is told.
+    pub fn resize(&self, capacity: usize) -> Result<()> {
+        match self {
+            Cache::FifoCache(cache) => cache.resize(capacity),
+            Cache::S3FifoCache(cache) => cache.resize(capacity),
+            Cache::LruCache(cache) => cache.resize(capacity),
+            Cache::LfuCache(cache) => cache.resize(capacity),
+            Cache::SieveCache(cache) => cache.resize(capacity),
+        }
+    }
+
+    /// Evicts all that is not pinned, as `evict_all` does, tells the listener all of it, and hands all its pieces to the pipe,
+    /// if there is one that is enabled. All of that happens here; the future waits for the pipe. It ends with `Ok`, or where
+    /// memory was missing with F7.
+    pub fn flush(&self) -> Flush<Q::Flush>
+        ensures { IfSome result.inner Q.Flush.can_poll }
+    {
+        match self {
+            Cache::FifoCache(cache) => cache.flush(),
+            Cache::S3FifoCache(cache) => cache.flush(),
+            Cache::LruCache(cache) => cache.flush(),
+            Cache::LfuCache(cache) => cache.flush(),
+            Cache::SieveCache(cache) => cache.flush(),
+        }
+    }
+
+    /// Takes the records out of which the predicate says yes, pinned or not, as `Evict`, and tells them as `flush` does. The
+    /// predicate is asked once of each record, under its shard's lock: it must not call this cache.
+    pub fn flush_if<F: Fn(&K, &V) -> bool>(&self, predicate: F) -> FlushIf<Q::Flush>
+        requires { F.IsAlwaysCallable predicate }
+        ensures { IfSome result.inner Q.Flush.can_poll }
+    {
+        match self {
+            Cache::FifoCache(cache) => cache.flush_if(predicate),
+            Cache::S3FifoCache(cache) => cache.flush_if(predicate),
+            Cache::LruCache(cache) => cache.flush_if(predicate),
+            Cache::LfuCache(cache) => cache.flush_if(predicate),
+            Cache::SieveCache(cache) => cache.flush_if(predicate),
+        }
+    }
+}

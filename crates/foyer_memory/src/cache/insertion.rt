@@ -1,0 +1,89 @@
+//! Records that come into a cache.
+
+ghost use Rattle.std.specs.Prelude.{◌≡◌, IfOk, true};
+ghost use Rattle.foyer_memory.specs.Caches.{kind_of};
+ghost use Rattle.foyer_memory.specs.Entries.{held, kind_of_entry};
+
+use super::Cache;
+use crate::entry::CacheEntry;
+use foyer_core::{Filter, Indexer, Piece, Weighter};
+use foyer_policy::{EventListener, HashBuilder, Key, Properties, Result, Value};
+use foyer_raw::{FetchTypes, Pipe};
+use std::sync::Wait;
+
+impl<H, K, V, S, P, W, A, L, Q, T, I> Cache<H, K, V, S, P, W, A, L, Q, T, I>
+where
+    H: Wait + Drop,
+    K: Key,
+    V: Value,
+    S: HashBuilder,
+    P: Properties,
+    W: Weighter<K, V>,
+    A: Filter<K, V>,
+    L: EventListener<Key = K, Value = V>,
+    I: Indexer<K>,
+    Q: Pipe<Key = K, Value = V, Properties = P>,
+    T: FetchTypes<K, V, P>,
+{
+    /// Puts a value in under a key, with default properties, as `insert_with_properties` does.
+    pub fn insert(&self, key: K, value: V) -> Result<CacheEntry<H, K, V, S, P, W, A, L, Q, T, I>>
+        requires clones { (k c : K) → K.is_clone k c → K.eq c k ≡ true }
+        ensures entry { IfOk result (λ e. ((held e).kept.key ≡ key) × ((held e).kept.value ≡ value)) }
+        ensures kind { IfOk result (λ e. kind_of_entry e ≡ kind_of self.now) }
+    {
+        self.insert_with_properties(key, value, P::default())
+    }
+
+    /// Puts a record in, and answers an entry of it. The weighter is asked, and then the filter, before the lock. Those who
+    /// wait for the key are answered, and then what left is told. A clone of the key must equal it.
+    ///
+    /// Refused, in this order, where no id is left (F10), the handles would pass the limit (F9), the weight of a plain
+    /// record and the pinned weight of other keys pass a `usize` (F8), or for want of memory (F7); what left by then is
+    /// told all the same.
+    pub fn insert_with_properties(
+        &self,
+        key: K,
+        value: V,
+        properties: P,
+    ) -> Result<CacheEntry<H, K, V, S, P, W, A, L, Q, T, I>>
+        requires clones { (k c : K) → K.is_clone k c → K.eq c k ≡ true }
+        ensures entry { IfOk result (λ e. ((held e).kept.key ≡ key) × ((held e).kept.value ≡ value)) }
+        ensures kind { IfOk result (λ e. kind_of_entry e ≡ kind_of self.now) }
+    {
+        Ok(match self {
+            Cache::FifoCache(cache) => CacheEntry::Fifo(cache.insert_with_properties(
+                key, value, properties,
+            )?),
+            Cache::S3FifoCache(cache) => CacheEntry::S3Fifo(cache.insert_with_properties(
+                key, value, properties,
+            )?),
+            Cache::LruCache(cache) => CacheEntry::Lru(cache.insert_with_properties(
+                key, value, properties,
+            )?),
+            Cache::LfuCache(cache) => CacheEntry::Lfu(cache.insert_with_properties(
+                key, value, properties,
+            )?),
+            Cache::SieveCache(cache) => CacheEntry::Sieve(cache.insert_with_properties(
+                key, value, properties,
+            )?),
+        })
+    }
+
+    /// Puts a piece's record in, and answers an entry of it, with the source `Memory`. A piece of this cache stands for its
+    /// record; any other makes a new one, of the weight that the weighter gives it. Refused as an insert is.
+    pub fn insert_piece(
+        &self,
+        piece: Piece<K, V, P>,
+    ) -> Result<CacheEntry<H, K, V, S, P, W, A, L, Q, T, I>>
+        requires clones { (k c : K) → K.is_clone k c → K.eq c k ≡ true }
+        ensures kind { IfOk result (λ e. kind_of_entry e ≡ kind_of self.now) }
+    {
+        Ok(match self {
+            Cache::FifoCache(cache) => CacheEntry::Fifo(cache.insert_piece(piece)?),
+            Cache::S3FifoCache(cache) => CacheEntry::S3Fifo(cache.insert_piece(piece)?),
+            Cache::LruCache(cache) => CacheEntry::Lru(cache.insert_piece(piece)?),
+            Cache::LfuCache(cache) => CacheEntry::Lfu(cache.insert_piece(piece)?),
+            Cache::SieveCache(cache) => CacheEntry::Sieve(cache.insert_piece(piece)?),
+        })
+    }
+}

@@ -1,0 +1,171 @@
+//! What the tests have in common.
+
+ghost use Rattle.std.specs.Prelude.{◌≡◌};
+
+use foyer_core::{AdmitAll, UnitWeighter};
+use foyer_memory::{
+    Cache, CacheBuilder, CacheProperties, EvictionConfig, LruConfig, Piece, Pipe, Weighter,
+};
+use foyer_policy::{Event, EventListener, ModHasher, Ratio};
+use futures::future::{Ready, ready};
+use log::Log;
+use std::alloc::{AllocError, Global};
+use std::cell::RefCell;
+use std::rc::Rc;
+use std::sync::{Arc, Wait};
+use std::test::Fail;
+
+/// What was heard.
+#[derive(Clone, Copy, Debug, PartialEq, Eq)]
+pub(crate) enum Note {
+    /// A leave of a key and a value.
+    Leave(Event, u64, u64),
+    /// A piece of a key and a value.
+    Piece(u64, u64),
+    /// A flush of so many pieces.
+    Flush(usize),
+}
+
+/// What was heard, in order, by all who have a share of it.
+#[derive(Drop)]
+pub(crate) struct Notes(Rc<RefCell<Vec<Note>>>);
+
+impl Notes {
+    /// Nothing was heard yet.
+    pub(crate) fn new(alloc: Global) -> Result<Self, AllocError> {
+        match Rc::new(alloc, RefCell::new(Vec::new(alloc))) {
+            Ok(notes) => Ok(Notes(notes)),
+            Err(_) => Err(AllocError),
+        }
+    }
+
+    /// The same notes again.
+    pub(crate) fn share(&self) -> Result<Self, AllocError> {
+        Ok(Notes(self.0.clone()?))
+    }
+
+    /// Writes one more. A note for which there is no memory is lost.
+    pub(crate) fn write(&self, note: Note) {
+        if let Ok(mut notes) = self.0.try_borrow_mut() {
+            let _ = notes.push(note);
+        }
+    }
+
+    /// Whether just these were heard, in this order.
+    pub(crate) fn are(&self, wanted: &[Note]) -> bool {
+        match self.0.try_borrow_mut() {
+            Ok(notes) => notes.as_slice() == wanted,
+            Err(_) => false,
+        }
+    }
+
+    /// How many were heard.
+    pub(crate) fn count(&self) -> usize {
+        match self.0.try_borrow_mut() {
+            Ok(notes) => notes.len(),
+            Err(_) => 0,
+        }
+    }
+
+    /// The first that was heard.
+    pub(crate) fn first(&self) -> Option<Note> {
+        match self.0.try_borrow_mut() {
+            Ok(notes) => notes.first().copied(),
+            Err(_) => None,
+        }
+    }
+}
+
+/// A listener that writes leaves down.
+#[derive(Drop)]
+pub(crate) struct Ear(pub(crate) Notes);
+
+impl EventListener for Ear {
+    type Key = u64;
+
+    type Value = u64;
+
+    fn on_leave(&self, event: Event, key: &u64, value: &u64) {
+        self.0.write(Note::Leave(event, *key, *value));
+    }
+}
+
+/// A pipe that writes pieces down.
+#[derive(Drop)]
+pub(crate) struct Tube(pub(crate) Notes);
+
+impl Pipe for Tube {
+    type Key = u64;
+
+    type Value = u64;
+
+    type Properties = CacheProperties;
+
+    type Flush = Ready<()>;
+
+    fn is_enabled(&self) -> bool {
+        true
+    }
+
+    fn send(&self, piece: Piece<u64, u64, CacheProperties>) {
+        self.0.write(Note::Piece(*piece.key(), *piece.value()));
+    }
+
+    fn flush(&self, pieces: Vec<Piece<u64, u64, CacheProperties>>) -> Ready<()> {
+        for piece in pieces.as_slice() {
+            self.0.write(Note::Piece(*piece.key(), *piece.value()));
+        }
+        self.0.write(Note::Flush(pieces.len()));
+        ready(())
+    }
+}
+
+/// A weight that is the value.
+#[derive(Clone, Copy)]
+pub(crate) struct ValueWeighter;
+
+impl Weighter<u64, u64> for ValueWeighter {
+    ghost weighs = { λ _ _ value weight. weight ≡ value };
+
+    fn weigh(&self, _key: &u64, value: &u64) -> usize {
+        *value as usize
+    }
+}
+
+/// A cache of numbers with keys as their own hashes, which tells a listener and a pipe that write down.
+pub(crate) type Heard<H, W = UnitWeighter> = Cache<
+    H,
+    u64,
+    u64,
+    ModHasher,
+    CacheProperties,
+    W,
+    AdmitAll,
+    Ear,
+    Tube,
+>;
+
+/// Such a cache of this policy.
+pub(crate) fn heard<H: Wait + Log + Copy + Drop>(
+    rt: H,
+    alloc: Global,
+    config: EvictionConfig,
+    capacity: usize,
+    shards: usize,
+    notes: &Notes,
+) -> std::result::Result<Heard<H>, Fail> {
+    let builder = CacheBuilder::new(capacity)
+        .with_shards(shards)
+        .with_eviction_config(config)
+        .with_hash_builder(ModHasher::default())
+        .with_event_listener(Ear(notes.share()?));
+    let cache: Heard<H> = builder.build(rt, alloc, &rt)?;
+    Ok(cache.with_pipe(Arc::new(alloc, Tube(notes.share()?))?))
+}
+
+/// An LRU policy all of whose capacity is its pool of high priority.
+pub(crate) fn whole_pool() -> EvictionConfig {
+    EvictionConfig::Lru(LruConfig {
+        high_priority_pool_ratio: Ratio { num: 1, den: 1 },
+    })
+}
