@@ -15,8 +15,9 @@ SHOWN = 12  # lines of a log, where its part failed
 
 
 class Gate:
-    def __init__(self, root, progress, place):
+    def __init__(self, root, progress, place, over_kept_work=False):
         self.root, self.progress, self.crates = root, progress, Crates(root)
+        self.over_kept_work = over_kept_work
         self.logs = f"{root}/out/{place}"
         self.passed = self.failed = 0
         self.counted = {}
@@ -113,7 +114,7 @@ class Gate:
 
     def prove(self, name, jobs):
         began = self.progress.minutes()
-        proof = Proof(self.crates, name, jobs, self.log(f"{name}-proof"))
+        proof = Proof(self.crates, name, jobs, self.log(f"{name}-proof"), self.over_kept_work)
         self.progress.at(name, "begun")
         is_well = proof.run(lambda where: self.progress.at(name, where))
         self.progress.at(name, "")

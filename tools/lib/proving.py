@@ -1,4 +1,4 @@
-"""Proves a crate from nothing, in a room of its own, and judges what the check says."""
+"""Proves a crate in a room of its own, and judges what the check says."""
 import os
 import re
 import shutil
@@ -54,16 +54,17 @@ def handles_of(root):
 
 
 class Proof:
-    """The proof of one crate, from nothing."""
+    """The proof of one crate, from nothing or over the work that its out/ keeps."""
 
-    def __init__(self, crates, name, jobs, log):
+    def __init__(self, crates, name, jobs, log, over_kept_work=False):
         self.crates, self.name, self.jobs, self.log = crates, name, jobs, log
+        self.over_kept_work = over_kept_work
         self.functions, self.why = 0, None
 
     def run(self, at):
         """Proves the crate, builds what stands above it or runs, and puts the work in its out/. Returns whether all is
         well."""
-        with Room(self.crates, self.name, is_empty=True) as room, open(self.log, "w", encoding="utf-8") as log:
+        with Room(self.crates, self.name, is_empty=not self.over_kept_work) as room, open(self.log, "w", encoding="utf-8") as log:
             folder = f"{room.folder}/crates/{self.name}"
             said, status = self.tell(folder, log, at, "check", "--jobs", str(self.jobs), "--empty-contracts")
             self.why = why_refused(said, status, handles_of(self.crates.root), self.crates.uses)
