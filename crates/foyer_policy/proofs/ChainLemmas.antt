@@ -1,7 +1,7 @@
 -- Chains of nodes: what relinking leaves.
 use Rattle.std.proofs.Common.{◌≡◌, ◌≢◌, ℕ, zero, suc, ◌≤◌, true, false, List, [], ◌∷◌, ◌++◌, Option, Some, None, length, refl, sym, ◌∙◌, ap, arith}
 use Rattle.std.proofs.lemmas.Bool.Decides.{nat_tests}
-use Rattle.foyer_policy.specs.declared.lists.Node.{Node}
+use Rattle.foyer_policy.specs.Arena.{Node}
 use Rattle.foyer_policy.specs.Lists.{first_or, last_or, IsFree, IsDistinct}
 use Rattle.foyer_policy.proofs.PlaceLemmas.{IsFree-append_left, IsFree-append_right}
 use Rattle.foyer_policy.specs.Chain.{walk, IsChain, is_at, after_set, before_set, all_but}

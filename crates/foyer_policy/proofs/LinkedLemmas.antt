@@ -3,9 +3,9 @@ use Rattle.std.proofs.Common.{◌≡◌, ◌≢◌, ℕ, ◌+◌, ◌<◌, Bool,
 use Rattle.std.specs.Prelude.{◌==◌}
 use Rattle.std.proofs.lemmas.List.{get_or-set_same, get_or-set_other, set-get_or}
 use Rattle.std.proofs.lemmas.List.Sums.{sum_by-set}
-use Rattle.foyer_policy.specs.declared.lists.Node.{Node}
+use Rattle.foyer_policy.specs.Arena.{Node, value_of}
 use Rattle.foyer_policy.specs.Lists.{list_at, first_or, last_or, find_in, find, first_value, rest, drop_place, IsFree, IsDistinct, AreLists}
-use Rattle.foyer_policy.specs.Chain.{IsChain, IsList, Linked, is_at, after_set, before_set, end_set, all_but, value_of}
+use Rattle.foyer_policy.specs.Chain.{IsChain, IsList, Linked, is_at, after_set, before_set, end_set, all_but}
 use Rattle.foyer_policy.proofs.PlaceLemmas.{place_is, place_differs, IsDistinct-snoc, IsDistinct-mid, IsDistinct-without}
 use Rattle.foyer_policy.proofs.ListsLemmas.{same_or_not, Stands, stands, find-mid, within_if_found, first_found, drop-all, pop-some}
 use Rattle.foyer_policy.proofs.ChainLemmas.{is_at-last, is_at-first, is_at-same, owner, Owned, Owned-is_at, Owned-last, Owned-first, Keeps, chain-frame, Relinks, LinksBack, chain-unlink, chain-link, last_or-append, all_but-same, all_but-other}

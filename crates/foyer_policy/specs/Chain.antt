@@ -1,8 +1,8 @@
--- How the nodes of a slab are linked.
-use Rattle.std.specs.Prelude.{◌≡◌, ◌==◌, ℕ, zero, suc, ◌^◌, ◌<◌, ◌≤◌, List, [], ◌∷◌, Option, Some, None, length, map, sum_by, slice_index_or, slice_set, Bool, false, if◌then◌else◌, IsSome}
-use Rattle.foyer_policy.specs.declared.lists.Node.{Node}
-use Rattle.slab.specs.Slab.{Slab, get, slab_len}
-use Rattle.foyer_policy.specs.Lists.{list_at, first_or, last_or, find, IsDistinct}
+-- How the nodes of an arena are linked.
+use Rattle.std.specs.Prelude.{◌≡◌, ◌==◌, ℕ, zero, suc, ◌<◌, List, [], ◌∷◌, Option, Some, None, length, map, sum_by, slice_index_or, slice_set, Bool, false, if◌then◌else◌}
+use Rattle.foyer_policy.specs.declared.lists.arena.Arena.{Arena}
+use Rattle.foyer_policy.specs.Arena.{Node, get, IsArena}
+use Rattle.foyer_policy.specs.Lists.{list_at, first_or, last_or, IsDistinct}
 
 -- whether an optional number is this one
 abbrev pub is_at : Option ℕ → ℕ → Bool
@@ -44,16 +44,14 @@ module _ {T : Type 0} where
     pub each : (k : ℕ) → k < length ls → IsList f k (slice_index_or heads k None) (slice_index_or tails k None) (list_at ls k)
     pub distinct : (k : ℕ) → k < length ls → IsDistinct (list_at ls k)
 
-  -- and there are no other nodes, and the slab has slots for them
-  pub record Holds (nodes : Slab (Node T)) (heads tails : List (Option ℕ)) (ls : List (List (ℕ × T))) : Type 0 where
+  -- and there are no other nodes
+  pub record Holds {n : ℕ} (nodes : Arena T n) (heads tails : List (Option ℕ)) (ls : List (List (ℕ × T))) : Type 0 where
+    pub arena : IsArena nodes
     pub linked : Linked (get nodes) heads tails ls
-    pub count : sum_by length ls ≡ slab_len nodes
-    pub room : slab_len nodes ≤ nodes.capacity
-    pub below : (p : ℕ) → IsSome (find p ls) → p < nodes.capacity
-    pub small : nodes.capacity < 2 ^ 64
+    pub count : sum_by length ls ≡ nodes.used
 
-  abbrev pub lists_of : Slab (Node T) → List (Option ℕ) → List (List (ℕ × T))
-  lists_of nodes heads = map (walk (get nodes) (slab_len nodes)) heads
+  abbrev pub lists_of : {n : ℕ} → Arena T n → List (Option ℕ) → List (List (ℕ × T))
+  lists_of nodes heads = map (walk (get nodes) nodes.used) heads
 
   abbrev pub after_set : Option ℕ → Option (Node T) → Option (Node T)
   after_set to None = None
@@ -67,11 +65,6 @@ module _ {T : Type 0} where
   abbrev pub all_but : ℕ → (ℕ → Option (Node T)) → ℕ → Option (Node T)
   all_but p f q = if q == p then None else f q
 
-  -- the value of a node
-  abbrev pub value_of : Option (Node T) → Option T
-  value_of None = None
-  value_of (Some node) = Some node.value
-
   -- the nodes, the heads and the tails are lists
-  abbrev pub IsSound : Slab (Node T) → List (Option ℕ) → List (Option ℕ) → Type 0
+  abbrev pub IsSound : {n : ℕ} → Arena T n → List (Option ℕ) → List (Option ℕ) → Type 0
   IsSound nodes heads tails = Holds nodes heads tails (lists_of nodes heads)

@@ -1,3 +1,6 @@
+pub mod Arena
+pub mod Block
+pub mod BlockLends
 pub mod Chain
 pub mod Errors
 pub mod Fifo

@@ -1,17 +1,18 @@
 //! Linked lists of values over one block of nodes.
 
-ghost use Rattle.std.specs.Prelude.{◌≡◌, ◌≢◌, ℕ, ◌+◌, ◌-◌, ◌^◌, ◌<◌, ◌≤◌, ◌∷◌, ◌++◌, [], Some, None, OnOk, OnErr, IfErr, IfSome, IsOk, IsSome, length, map, sum_by, slice_index_or, slice_set, if◌then◌else◌, replicate, is_some};
-ghost use Rattle.std.specs.Option.{ForSome};
-ghost use Rattle.slab.specs.Slab.{get, slab_len, ContainsKey, HasRoomFor};
+ghost use Rattle.std.specs.Prelude.{◌≡◌, ◌≢◌, ℕ, ◌+◌, ◌^◌, ◌<◌, ◌≤◌, ◌∷◌, ◌++◌, [], Some, None, OnOk, OnErr, IfErr, IfSome, IsOk, IsSome, length, map, sum_by, slice_set, if◌then◌else◌, replicate, is_some};
 ghost use Rattle.foyer_policy.specs.Lists.{list_at, first_or, find, find_in, first_value, rest, drop_place, moved, AreLists};
-ghost use Rattle.foyer_policy.specs.Chain.{is_at, after_set, before_set, end_set, all_but, value_of, lists_of, Linked, IsSound};
 
 use crate::error::{Error, Reason, Result};
 use crate::link::Link;
-use slab::Slab;
+use crate::lists::arena::Arena;
+use crate::lists::linking::{link_back, relink, take_out, unlink};
 use std::alloc::Global;
 use std::marker::Model;
 
+pub(crate) mod arena;
+pub(crate) mod block;
+pub(crate) mod linking;
 #[cfg(test)]
 mod tests;
 
@@ -31,23 +32,14 @@ impl Model for Place {
     ghost inverse = { λ n. record { node = n } };
 }
 
-#[derive(Drop)]
-struct Node<T> {
-    value: T,
-    list: usize,
-    before: Link,
-    after: Link,
-}
-
 /// `N` lists of values, numbered from 0.
 ///
 /// Each value has a place, by which it is read, moved and taken out in constant time. It keeps its
 /// place while it is in, also where it moves to another list; the place may be given again once the
 /// value is out. Only `reserve` takes memory: a value that comes in takes a room that was reserved,
 /// and gives it back when it leaves.
-#[derive(Drop)]
 pub struct Lists<T, const N: usize> {
-    nodes: Slab<Node<T>>,
+    nodes: Arena<T, N>,
     heads: [Link; N],
     tails: [Link; N],
 }
@@ -58,148 +50,14 @@ impl<T, const N: usize> Model for Lists<T, N> {
     ghost Value = { State T };
 
     ghost use Rattle.std.specs.Prelude.{◌-◌};
-    ghost use Rattle.slab.specs.Slab.{slab_len};
     ghost use Rattle.foyer_policy.specs.Chain.{lists_of, IsSound};
 
     ghost view = { λ l. record {
       lists = lists_of l.nodes l.heads;
-      room = l.nodes.capacity - slab_len l.nodes;
+      room = l.nodes.len - l.nodes.used;
     } };
 
     ghost invariant = { λ l. IsSound l.nodes l.heads l.tails };
-}
-
-// Sets what comes after the node `at`, or the list's head where there is no such node.
-#[inline(always)]
-fn set_after<T>(nodes: &mut Slab<Node<T>>, heads: &mut [Link], list: usize, at: Link, to: Link)
-    requires there { ForSome at (ContainsKey nodes.old) }
-    requires list { list < length heads.old }
-    ensures links { (q : ℕ) → get nodes.new q
-        ≡ (if is_at at q then after_set to (get nodes.old q) else get nodes.old q) }
-    ensures len { slab_len nodes.new ≡ slab_len nodes.old }
-    ensures vacant { nodes.new.vacant_key ≡ nodes.old.vacant_key }
-    ensures capacity { nodes.new.capacity ≡ nodes.old.capacity }
-    ensures heads { heads.new ≡ end_set at list to heads.old }
-{
-    match at.place() {
-        Some(at) => nodes[at].after = to,
-        None => heads[list] = to,
-    }
-}
-
-// Sets what comes before the node `at`, or the list's tail where there is no such node.
-#[inline(always)]
-fn set_before<T>(nodes: &mut Slab<Node<T>>, tails: &mut [Link], list: usize, at: Link, to: Link)
-    requires there { ForSome at (ContainsKey nodes.old) }
-    requires list { list < length tails.old }
-    ensures links { (q : ℕ) → get nodes.new q
-        ≡ (if is_at at q then before_set to (get nodes.old q) else get nodes.old q) }
-    ensures len { slab_len nodes.new ≡ slab_len nodes.old }
-    ensures vacant { nodes.new.vacant_key ≡ nodes.old.vacant_key }
-    ensures capacity { nodes.new.capacity ≡ nodes.old.capacity }
-    ensures tails { tails.new ≡ end_set at list to tails.old }
-{
-    match at.place() {
-        Some(at) => nodes[at].before = to,
-        None => tails[list] = to,
-    }
-}
-
-// Puts a value at the end of a list, and answers its node.
-#[inline(always)]
-fn link_back<T>(
-    nodes: &mut Slab<Node<T>>,
-    heads: &mut [Link],
-    tails: &mut [Link],
-    list: usize,
-    value: T,
-) -> usize
-    requires sound { IsSound nodes.old heads.old tails.old }
-    requires list { list < length heads.old }
-    requires room { HasRoomFor nodes.old 1 }
-    ensures sound { IsSound nodes.new heads.new tails.new }
-    ensures lists { lists_of nodes.new heads.new
-        ≡ (let ls = lists_of nodes.old heads.old in
-        slice_set ls list (list_at ls list ++ (result, value) ∷ [])) }
-    ensures next { result ≡ nodes.old.vacant_key }
-    ensures free { find result (lists_of nodes.old heads.old) ≡ None }
-    ensures len { slab_len nodes.new ≡ slab_len nodes.old + 1 }
-    ensures capacity { nodes.new.capacity ≡ nodes.old.capacity }
-{
-    let before = tails[list];
-    let node = nodes.insert_reserved(Node {
-        value,
-        list,
-        before,
-        after: Link::end(),
-    });
-    set_after(nodes, heads, list, before, Link::to(node));
-    tails[list] = Link::to(node);
-    node
-}
-
-// Takes a node out of its list. It stays in the slab, and in no list.
-#[inline(always)]
-fn unlink<T>(nodes: &mut Slab<Node<T>>, heads: &mut [Link], tails: &mut [Link], place: usize)
-    requires sound { IsSound nodes.old heads.old tails.old }
-    requires there { IsSome (find place (lists_of nodes.old heads.old)) }
-    ensures linked { Linked (all_but place (get nodes.new)) heads.new tails.new
-        (map (drop_place place) (lists_of nodes.old heads.old)) }
-    ensures node { get nodes.new place ≡ get nodes.old place }
-    ensures len { slab_len nodes.new ≡ slab_len nodes.old }
-    ensures capacity { nodes.new.capacity ≡ nodes.old.capacity }
-{
-    let node = &nodes[place];
-    let (list, before, after) = (node.list, node.before, node.after);
-    set_after(nodes, heads, list, before, after);
-    set_before(nodes, tails, list, after, before);
-}
-
-// Puts a node that is in no list at the end of one.
-#[inline(always)]
-fn relink<T>(
-    nodes: &mut Slab<Node<T>>,
-    heads: &mut [Link],
-    tails: &mut [Link],
-    list: usize,
-    place: usize,
-)
-    requires list { list < length heads.old }
-    requires tails { length tails.old ≡ length heads.old }
-    requires there { ContainsKey nodes.old place }
-    requires last { ForSome (slice_index_or tails.old list None) (ContainsKey nodes.old) }
-    requires small { place < 2 ^ 64 - 1 }
-    ensures linked { (ls : _) (v : _) → value_of (get nodes.old place) ≡ Some v
-        → Linked (all_but place (get nodes.old)) heads.old tails.old ls
-        → Linked (get nodes.new) heads.new tails.new
-        (slice_set ls list (list_at ls list ++ (place, v) ∷ [])) }
-    ensures len { slab_len nodes.new ≡ slab_len nodes.old }
-    ensures capacity { nodes.new.capacity ≡ nodes.old.capacity }
-{
-    let before = tails[list];
-    set_after(nodes, heads, list, before, Link::to(place));
-    tails[list] = Link::to(place);
-    let node = &mut nodes[place];
-    node.list = list;
-    node.before = before;
-    node.after = Link::end();
-}
-
-// Takes the value of a node out of its list, and its node out of the slab.
-#[inline(always)]
-fn take_out<T>(nodes: &mut Slab<Node<T>>, heads: &mut [Link], tails: &mut [Link], place: usize) -> T
-    requires sound { IsSound nodes.old heads.old tails.old }
-    requires there { IsSome (find place (lists_of nodes.old heads.old)) }
-    ensures sound { IsSound nodes.new heads.new tails.new }
-    ensures value { find place (lists_of nodes.old heads.old) ≡ Some result }
-    ensures lists { lists_of nodes.new heads.new
-        ≡ map (drop_place place) (lists_of nodes.old heads.old) }
-    ensures len { slab_len nodes.new + 1 ≡ slab_len nodes.old }
-    ensures room { HasRoomFor nodes.new 1 }
-    ensures capacity { nodes.new.capacity ≡ nodes.old.capacity }
-{
-    unlink(nodes, heads, tails, place);
-    nodes.remove(place).value
 }
 
 impl<T, const N: usize> Lists<T, N> {
@@ -213,7 +71,7 @@ impl<T, const N: usize> Lists<T, N> {
         ensures apart { AreLists N result.lists }
     {
         Lists {
-            nodes: Slab::new(alloc),
+            nodes: Arena::new(alloc),
             heads: [Link::end(); N],
             tails: [Link::end(); N],
         }
@@ -239,12 +97,10 @@ impl<T, const N: usize> Lists<T, N> {
         ensures small { sum_by length self.old.lists < 2 ^ 64 }
         ensures apart { AreLists N self.old.lists }
     {
-        // Whether memory came shows in the room.
-        let _ = self.nodes.reserve(more);
-        if self.nodes.capacity() - self.nodes.len() < more {
-            return Err(Error::new(Reason::NoMemory));
+        match self.nodes.reserve(more) {
+            Ok(()) => Ok(()),
+            Err(_) => Err(Error::new(Reason::NoMemory)),
         }
-        Ok(())
     }
 
     /// Puts a value at the end of a list, and answers its place. `list` is below `N`, and a room
@@ -364,7 +220,7 @@ impl<T, const N: usize> Lists<T, N> {
         ensures small { sum_by length self.now.lists < 2 ^ 64 }
         ensures apart { AreLists N self.now.lists }
     {
-        let node = self.nodes[place.node].after.place()?;
+        let node = self.nodes.links(place.node).after.place()?;
         Some(Place { node })
     }
 
@@ -376,7 +232,7 @@ impl<T, const N: usize> Lists<T, N> {
         ensures stands { find_in place (list_at self.now.lists result) ≡ find place self.now.lists }
         ensures apart { AreLists N self.now.lists }
     {
-        self.nodes[place.node].list
+        self.nodes.links(place.node).list
     }
 
     /// The value at a place, which must hold one.
@@ -387,7 +243,7 @@ impl<T, const N: usize> Lists<T, N> {
         ensures small { sum_by length self.now.lists < 2 ^ 64 }
         ensures apart { AreLists N self.now.lists }
     {
-        &self.nodes[place.node].value
+        self.nodes.get(place.node)
     }
 
     /// The value at a place for writing. The place must hold a value, and ends with the one that
@@ -400,7 +256,43 @@ impl<T, const N: usize> Lists<T, N> {
         ensures small { sum_by length self.old.lists < 2 ^ 64 }
         ensures apart { AreLists N self.old.lists }
     {
-        let node = &mut self.nodes[place.node];
-        &mut node.value
+        let base = self.nodes.base;
+        self.nodes.nodes.get_mut(base, place.node)
+    }
+
+    // The number of lists.
+    fn count(&self) -> usize
+        ensures count { result ≡ N }
+        ensures apart { AreLists N self.now.lists }
+    {
+        let heads: &[Link] = &self.heads;
+        heads.len()
+    }
+
+    // Takes the values of a list out, and drops them.
+    fn clear(&mut self, list: usize)
+    where
+        T: Drop,
+        requires { list < N }
+        ensures empty { list_at self.new.lists list ≡ [] }
+        ensures others { (k : ℕ) → k ≢ list → list_at self.new.lists k ≡ list_at self.old.lists k }
+        ensures count { length self.new.lists ≡ length self.old.lists }
+    {
+        while self.pop_front(list).is_some() {}
+    }
+}
+
+/// Each value is dropped, list by list, and the block is given back.
+impl<T: Drop, const N: usize> Drop for Lists<T, N> {
+    fn drop(mut self) {
+        for list in 0..self.count() {
+            self.clear(list);
+        }
+        let Lists {
+            nodes,
+            heads: _,
+            tails: _,
+        } = self;
+        nodes.destroy_empty();
     }
 }

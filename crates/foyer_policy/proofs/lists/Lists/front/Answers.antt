@@ -1,6 +1,6 @@
 use Rattle.std.proofs.Common.{◌<◌, None, length, rules, arith, sym, ◌∙◌}
 use Rattle.std.proofs.lemmas.List.{get_or_default}
-use Rattle.slab.specs.Slab.{get}
+use Rattle.foyer_policy.specs.Arena.{get}
 use Rattle.foyer_policy.specs.Chain.{lists_of}
 use Rattle.foyer_policy.proofs.LinkedLemmas.{front_found}
 use Rattle.foyer_policy.proofs.HoldsLemmas.{AreLists-told}

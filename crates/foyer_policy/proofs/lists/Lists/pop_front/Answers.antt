@@ -1,21 +1,21 @@
 use Rattle.foyer_policy.proofs.HoldsLemmas.{AreLists-told}
 use Rattle.std.proofs.Common.{◌≡◌, ◌≢◌, Some, None, rules, arith, length, sym, ap, ◌∙◌, ◌<◌}
 use Rattle.std.proofs.lemmas.List.{get_or_default}
-use Rattle.slab.specs.Slab.{get}
+use Rattle.foyer_policy.specs.Arena.{get}
 use Rattle.foyer_policy.specs.Chain.{lists_of}
 use Rattle.foyer_policy.specs.Lists.{list_at, first_or}
 use Rattle.foyer_policy.proofs.FoundLemmas.{find-drop_other}
 use Rattle.foyer_policy.proofs.LinkedLemmas.{front_found}
 use Rattle.foyer_policy.proofs.lists.Lists.pop_front.Goals as goal
 
-pub take_out-requires-clause-there : goal.take_out-requires-clause-there
-take_out-requires-clause-there g c =
+pub take_out-requires : goal.take_out-requires
+take_out-requires g c =
     let i = c.self.inside in
     let lt : c.args.list < length (lists_of i.nodes i.heads) = omega (arith, c.self.invariant.linked.heads_len) in
     let lh : c.args.list < length i.heads = omega (arith, c.self.invariant.linked.heads_len) in
     let at_head = get_or_default i.heads c.args.list None c.index-self-list.result lh ∙ sym c.place.ensures in
     let f = front_found (get i.nodes) i.heads i.tails (lists_of i.nodes i.heads) c.args.list c.in-Some.node c.self.invariant.linked lt (at_head ∙ c.in-Some.is) in
-    rw f.there (search rules)
+    (omega arith, (c.self.invariant, rw f.there (search rules)))
 
 pub returns-in-Some-clause-value : goal.returns-in-Some-clause-value
 returns-in-Some-clause-value g c =
