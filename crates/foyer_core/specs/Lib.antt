@@ -1,3 +1,4 @@
+pub mod Alike
 pub mod Core
 pub mod CoreFetches
 pub mod Cores

@@ -12,6 +12,8 @@ use std::alloc::Global;
 use std::marker::Model;
 use std::sync::Arc;
 
+mod alike;
+
 /// A record that left. It stays readable.
 #[derive(Drop)]
 pub struct Left<K, V, P> {

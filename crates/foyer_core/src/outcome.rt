@@ -31,7 +31,7 @@ impl<K: Drop, V: Drop, P: Drop> Refused<K, V, P> {
 }
 
 /// Who waits for an answer, with the token that it was given.
-#[derive(Drop)]
+#[derive(Clone, Drop, PartialEq, Eq)]
 pub struct Waiting<N> {
     /// The token's number.
     pub token: u64,

@@ -7,7 +7,7 @@ use foyer_policy::{Age, Hint, Location, Properties};
 use std::marker::Model;
 
 /// Whether a record is a phantom, and its hint. Of location and age nothing is kept.
-#[derive(Clone, Debug, Drop)]
+#[derive(Clone, Debug, Drop, PartialEq, Eq)]
 pub struct CacheProperties {
     phantom: Option<bool>,
     hint: Hint,
@@ -19,6 +19,8 @@ impl Model for CacheProperties {
     ghost Value = { Answered };
 
     ghost view = { λ p. record { phantom = p.phantom; hint = p.hint } };
+
+    ghost inverse = { λ a. record { phantom = a.phantom; hint = a.hint } };
 }
 
 impl Default for CacheProperties {

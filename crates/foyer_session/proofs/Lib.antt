@@ -1,3 +1,4 @@
+pub mod AlikeLemmas
 pub mod AnswerLemmas
 pub mod BulkLemmas
 pub mod CoreLemmas

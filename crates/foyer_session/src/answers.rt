@@ -7,6 +7,8 @@ use foyer_core::Waiting;
 use foyer_policy::Error;
 use std::marker::Model;
 
+mod alike;
+
 /// What each of those gets who waited.
 #[derive(Drop)]
 pub(crate) enum Gets {

@@ -1,6 +1,6 @@
 //! What a session is asked, and what it answers.
 
-ghost use Rattle.std.specs.Prelude.{◌≡◌};
+ghost use Rattle.std.specs.Prelude.{◌≡◌, []};
 
 use crate::answers::Answers;
 use foyer_core::Left;
@@ -9,10 +9,12 @@ use std::alloc::Global;
 use std::marker::Model;
 use std::sync::Arc;
 
+mod alike;
+
 /// What a session is asked. It names a handle by its number: handles are numbered from 0 in the order in
 /// which they were handed out, and so are pieces. `Q` is the predicate of a `FlushIf`, and `C` the configuration of
 /// the cache's policy.
-#[derive(Debug, Drop)]
+#[derive(Clone, Debug, Drop, PartialEq, Eq)]
 pub enum Command<K, V, P, Q, C> {
     /// Takes a record of this key, value and properties in.
     Insert(K, V, P),
@@ -69,7 +71,7 @@ pub enum Command<K, V, P, Q, C> {
 }
 
 /// With what a fetch ends that found a record.
-#[derive(Debug, Drop)]
+#[derive(Clone, Debug, Drop, PartialEq, Eq)]
 pub enum End<V, P> {
     /// A value of the key, with its properties, and where it came from.
     Value(V, P, Source),
@@ -100,6 +102,13 @@ impl<K, V, P> Leaves<K, V, P> {
         Leaves { items }
     }
 
+    /// Nothing left.
+    pub fn none(alloc: Global) -> Self
+        ensures { result ≡ [] }
+    {
+        Leaves::new(Vec::new(alloc))
+    }
+
     /// The records that left, each with the reason why.
     pub fn as_slice(&self) -> &[(Event, Left<K, V, P>)]
         ensures { result.now ≡ self.now }
@@ -109,7 +118,7 @@ impl<K, V, P> Leaves<K, V, P> {
 }
 
 /// What a session answers to a command, beside what left.
-#[derive(Drop)]
+#[derive(Clone, Drop, PartialEq)]
 pub enum Answer<K, V, P> {
     /// To `Insert` or `InsertPiece`: the record came in.
     Entry {
@@ -174,7 +183,7 @@ pub enum Answer<K, V, P> {
 }
 
 /// What a session answers to a command.
-#[derive(Drop)]
+#[derive(Clone, Drop, PartialEq)]
 pub struct Reply<K, V, P> {
     /// The answer.
     pub answer: Answer<K, V, P>,

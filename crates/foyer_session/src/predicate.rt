@@ -15,7 +15,7 @@ pub trait Predicate<K, V>: Drop {
 }
 
 /// Takes no record out.
-#[derive(Clone, Copy, Debug, Default)]
+#[derive(Clone, Copy, Debug, Default, PartialEq, Eq)]
 pub struct NoPredicate;
 
 impl<K, V> Predicate<K, V> for NoPredicate {

@@ -156,6 +156,13 @@ impl<
         self.core.entries()
     }
 
+    /// The hash of a key. A key's shard is this number, modulo how many shards there are.
+    pub fn hash(&self, key: &K) -> u64
+        ensures { result ≡ (terms_of self.now).hash (session_of self.now).core.hash_builder key.now }
+    {
+        self.core.hash(key)
+    }
+
     // Makes room for what so many commands may hand out, two handles and one piece each, beside a handle for each who
     // waits. Only memory can be missing (F7).
     fn make_room(&mut self, commands: usize) -> Result<()>

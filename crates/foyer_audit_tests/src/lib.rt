@@ -1,0 +1,5 @@
+//! Tests of `foyer_audit` through its public calls alone.
+#![tactic(auto)]
+
+#[cfg(test)]
+mod book;
