@@ -157,6 +157,10 @@ class Gate:
         self.script("first runs", "tests/first-run/run", program)
         self.script("bad arguments", "tests/first-run/arguments")
 
+    def refusals(self):
+        """Each request for memory of many calls, refused in turn, by the program that was built."""
+        self.script("refused calls", "tools/refuse-memory", f"{self.crates.folder('foyer_refused')}/out/foyer_refused")
+
     def documents(self):
         """Whether what the documents print is what stands in the crates that they name."""
         self.script("printed programs", "tools/readme-runs")

@@ -1,0 +1,143 @@
+//! Cores, and how they look.
+
+use foyer_core::{AdmitAll, CacheCore, CacheProperties, Inserted, Leave, Limits, RawCacheConfig};
+use foyer_policy::{Eviction, ModHasher, Result};
+use foyer_session::{SimValue, SimWeighter};
+use std::alloc::Global;
+
+/// A core whose records weigh what their values say.
+pub type Core<E> = CacheCore<
+    E,
+    u64,
+    SimValue,
+    CacheProperties,
+    ModHasher,
+    SimWeighter,
+    AdmitAll,
+    u64,
+    u64,
+>;
+
+/// What left a core.
+pub type Leaves = Vec<Leave<u64, SimValue, CacheProperties>>;
+
+/// A value of this weight.
+pub fn weighing(weight: usize) -> SimValue {
+    SimValue { value: 7, weight }
+}
+
+/// A core of the default configuration that holds nothing.
+pub fn empty<E: Eviction>(
+    alloc: Global,
+    capacity: usize,
+    shards: usize,
+    number: u64,
+) -> Result<Core<E>> {
+    CacheCore::new(
+        alloc,
+        RawCacheConfig {
+            capacity,
+            shards,
+            eviction_config: E::Config::default(),
+            hash_builder: ModHasher::default(),
+            weighter: SimWeighter,
+            filter: AdmitAll,
+            number,
+            limits: Limits::default(),
+        },
+    )
+}
+
+/// Puts records of the keys below `end` in, each of weight 1, and lets their entries go.
+pub fn fill<E: Eviction>(core: &mut Core<E>, end: u64) -> Result<()> {
+    for key in 0..end {
+        let made = core.insert(key, weighing(1))?;
+        drop(ended(core, made));
+    }
+    Ok(())
+}
+
+/// Ends what came in: the record's id, and what left.
+pub fn ended<E: Eviction>(
+    core: &mut Core<E>,
+    made: Inserted<u64, SimValue, CacheProperties, u64>,
+) -> (u64, Leaves) {
+    let Inserted {
+        entry,
+        answers,
+        leaves,
+    } = made;
+    let id = entry.id();
+    core.drop_answers(answers);
+    drop(core.drop_entry(entry));
+    (id, leaves)
+}
+
+/// The key of which a fetch may be open.
+pub const FETCHED: u64 = 40;
+
+/// How a core looks from outside: its sums, which of the keys below 64 are in, and whether the first fetch of `FETCHED`
+/// is open.
+#[derive(Clone, Copy, PartialEq, Eq)]
+pub struct Look {
+    pub usage: u128,
+    pub entries: u128,
+    pub capacity: usize,
+    pub is_open: bool,
+    keys: u64,
+}
+
+impl Look {
+    pub fn of<E: Eviction>(core: &Core<E>) -> Look {
+        let mut keys = 0;
+        for key in 0..64u64 {
+            if core.contains(&key) {
+                keys |= bit(key);
+            }
+        }
+        Look {
+            usage: core.usage(),
+            entries: core.entries(),
+            capacity: core.capacity(),
+            is_open: core.is_open(&FETCHED, 0),
+            keys,
+        }
+    }
+
+    /// The look once these have left, each of weight 1.
+    pub fn without(self, leaves: &Leaves) -> Look {
+        let mut look = self;
+        for (_, left) in leaves {
+            look = look.without_key(*left.key());
+        }
+        look
+    }
+
+    /// The look once a key's record has left, of weight 1, where it is in.
+    pub fn without_key(self, key: u64) -> Look {
+        if self.keys & bit(key) == 0 {
+            return self;
+        }
+        Look {
+            usage: self.usage.saturating_sub(1),
+            entries: self.entries.saturating_sub(1),
+            keys: self.keys & !bit(key),
+            ..self
+        }
+    }
+
+    /// The look once a key's record has come in.
+    pub fn with(self, key: u64, weight: usize) -> Look {
+        Look {
+            usage: self.usage.saturating_add(weight as u128),
+            entries: self.entries.saturating_add(1),
+            keys: self.keys | bit(key),
+            ..self
+        }
+    }
+}
+
+// The bit of a key below 64.
+fn bit(key: u64) -> u64 {
+    1 << (key % 64)
+}

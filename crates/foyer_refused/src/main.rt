@@ -1,0 +1,98 @@
+//! `foyer-refused POLICY CALL` prepares what the call needs, makes the call until it is not refused, and prints one
+//! word. `early`: memory was refused before the call. `kept`: the call was refused, what was left is as it should be,
+//! and the same call then succeeded. `behind`: the call took all the memory that it asked for, and one more box was
+//! refused. `done`: nothing was refused. `wrong`, with what differs. `tools/refuse-memory` runs it with one allocation
+//! refused.
+#![tactic(auto)]
+
+mod call;
+mod calls;
+mod cores;
+mod kept;
+mod others;
+mod parts;
+mod policies;
+mod sessions;
+mod told;
+mod word;
+
+use foyer_policy::{Eviction, Fifo, Lfu, Lru, S3Fifo, Sieve};
+use std::alloc::Global;
+use std::env;
+use std::io::{self, Write};
+use word::Shown;
+
+fn main(rt: HostRuntime) -> io::Result<()> {
+    let shown = match words(&rt) {
+        Some(words) => asked(rt.alloc(), words.as_slice()),
+        None => Shown::Early,
+    };
+    let [word, differs] = shown.words();
+    let mut out = rt.stdout();
+    for text in [word, differs, "\n"] {
+        out.write_all(text.as_bytes())?;
+    }
+    Ok(())
+}
+
+// The arguments, where there is memory for them.
+fn words(rt: &HostRuntime) -> Option<Vec<String>> {
+    let mut words = Vec::new(rt.alloc());
+    for word in env::args(rt).ok()?.skip(1) {
+        words.push(word).ok()?;
+    }
+    Some(words)
+}
+
+fn asked(alloc: Global, words: &[String]) -> Shown {
+    match words {
+        [policy, call] => of_name(alloc, policy.as_str(), call.as_str()),
+        _ => Shown::Wrong("the arguments"),
+    }
+}
+
+// The first ten that leave a core of twelve records, of which the sixth was used.
+const IN_ORDER: [u64; 10] = [0, 1, 2, 3, 4, 5, 6, 7, 8, 9];
+
+const BUT_USED: [u64; 10] = [0, 1, 2, 3, 4, 6, 7, 8, 9, 10];
+
+fn of_name(alloc: Global, policy: &str, call: &str) -> Shown {
+    match policy {
+        "fifo" => of_policy::<Fifo>(alloc, call, &IN_ORDER),
+        "lru" => of_policy::<Lru>(alloc, call, &BUT_USED),
+        "lfu" => of_policy::<Lfu>(alloc, call, &BUT_USED),
+        "s3fifo" => of_policy::<S3Fifo>(alloc, call, &BUT_USED),
+        "sieve" => of_policy::<Sieve>(alloc, call, &BUT_USED),
+        _ => Shown::Wrong("the policy"),
+    }
+}
+
+// Shows a call over a policy, and then asks for one more box.
+fn of_policy<E: Eviction>(alloc: Global, call: &str, victims: &'static [u64; 10]) -> Shown {
+    let Some(shown) = of_call::<E>(alloc, call, victims) else {
+        return Shown::Wrong("the call");
+    };
+    match shown {
+        Shown::Done if Box::new(alloc, 0u8).is_err() => Shown::Behind,
+        shown => shown,
+    }
+}
+
+fn of_call<E: Eviction>(alloc: Global, call: &str, victims: &'static [u64; 10]) -> Option<Shown> {
+    if let Some(shown) = calls::shown::<E>(alloc, call, victims) {
+        return Some(shown);
+    }
+    if let Some(shown) = others::shown::<E>(alloc, call, victims) {
+        return Some(shown);
+    }
+    if let Some(shown) = parts::shown(alloc, call) {
+        return Some(shown);
+    }
+    if let Some(shown) = policies::shown::<E>(alloc, call) {
+        return Some(shown);
+    }
+    if let Some(shown) = sessions::shown::<E>(alloc, call) {
+        return Some(shown);
+    }
+    told::shown::<E>(alloc, call)
+}

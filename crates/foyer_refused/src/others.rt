@@ -1,0 +1,343 @@
+//! The calls of a core that hand out more than leaves: a new core, the end of a fetch, and calls on an entry.
+
+ghost use Rattle.std.specs.Prelude.{◌≡◌, ◌↔◌, IsTrue};
+ghost use Rattle.foyer_core.specs.Core.{Owns};
+ghost use Rattle.foyer_core.specs.Cores.{core_of};
+
+use crate::call::{Op, make};
+use crate::cores::{Core, FETCHED, Leaves, Look, empty, weighing};
+use crate::kept::{Filled, Wanted, ask_for, begin, prepared};
+use crate::word::Shown;
+use foyer_core::{CacheProperties, CoreEntry, Ended, FetchTarget, InsertedOnto, Outcome};
+use foyer_policy::{Event, Eviction, Result, Source};
+use foyer_session::SimValue;
+use std::alloc::Global;
+
+/// Shows the call of this name, where it is one of these. The first ten victims of the policy are these.
+pub fn shown<E: Eviction>(alloc: Global, name: &str, victims: &'static [u64; 10]) -> Option<Shown> {
+    match name {
+        "new_1" => Some(opened::<E>(alloc, 1)),
+        "new_4" => Some(opened::<E>(alloc, 4)),
+        "complete" | "resize_then_insert" | "insert_onto_evicts_10" | "cancel" => {
+            Some(changed::<E>(alloc, name, victims))
+        }
+        "clone_handle" | "piece" | "owns" | "refs" | "is_outdated" | "sums" => {
+            Some(asked::<E>(alloc, name))
+        }
+        _ => None,
+    }
+}
+
+// A core of twelve records, with one who waits.
+fn waited<E: Eviction>(alloc: Global) -> Result<Core<E>> {
+    let filled = Filled {
+        shards: 1,
+        capacity: 12,
+        records: 12,
+        waits: true,
+    };
+    Ok(prepared::<E>(alloc, filled, Op::Clear, 12)?.0)
+}
+
+fn changed<E: Eviction>(alloc: Global, name: &str, victims: &'static [u64; 10]) -> Shown {
+    let Ok(mut core) = waited::<E>(alloc) else {
+        return Shown::Early;
+    };
+    match name {
+        "complete" => completed(&mut core, victims),
+        "cancel" => cancelled(&mut core),
+        "insert_onto_evicts_10" => lent(alloc, &mut core, victims),
+        _ => resized(alloc, &mut core, victims),
+    }
+}
+
+// A new core. Nothing is left of one that was refused.
+fn opened<E: Eviction>(alloc: Global, shards: usize) -> Shown {
+    match empty::<E>(alloc, 10, shards, 0) {
+        Ok(core) => is_new(&core, shards, Shown::Done),
+        Err(error) if error.number() == 7 => match empty::<E>(alloc, 10, shards, 0) {
+            Ok(core) => is_new(&core, shards, Shown::Kept),
+            Err(_) => Shown::Wrong("refused twice"),
+        },
+        Err(_) => Shown::Wrong("another refusal"),
+    }
+}
+
+fn is_new<E: Eviction>(core: &Core<E>, shards: usize, shown: Shown) -> Shown {
+    if core.shards() == shards && core.capacity() == 10 && core.entries() == 0 {
+        return shown;
+    }
+    Shown::Wrong("the new core")
+}
+
+// What the end of a fetch told: whether it was open, whom it answered, with what refusal, and what left.
+#[derive(Drop)]
+struct Ending {
+    found: bool,
+    token: Option<u64>,
+    refused: Option<u8>,
+    leaves: Leaves,
+}
+
+fn complete<E: Eviction>(core: &mut Core<E>, fetch: u64) -> Ending {
+    let target = FetchTarget::Entry {
+        value: weighing(4),
+        properties: CacheProperties::default(),
+    };
+    let Ended {
+        found,
+        answers,
+        leaves,
+    } = core.complete(&FETCHED, fetch, target, Source::Outer);
+    let token = answers.waiters.first().map(|waiting| waiting.token);
+    let refused = match &answers.outcome {
+        Outcome::Fault(error) => Some(error.number()),
+        _ => None,
+    };
+    core.drop_answers(answers);
+    Ending {
+        found,
+        token,
+        refused,
+        leaves,
+    }
+}
+
+// A fetch completes with a value, for which four records leave. Where that is refused its place is closed, who waits is
+// told so, and some of them have left; the next fetch then completes.
+fn completed<E: Eviction>(core: &mut Core<E>, victims: &'static [u64; 10]) -> Shown {
+    let before = Look::of(core);
+    let wanted = evicting(victims, 12);
+    let first = complete(core, 0);
+    if !first.found || first.token != Some(0) || !begin(&first.leaves, 0, &wanted) {
+        return Shown::Wrong("who is answered, or what left");
+    }
+    let mut look = before.without(&first.leaves);
+    look.is_open = false;
+    match first.refused {
+        None if first.leaves.len() == 4 && Look::of(core) == look.with(FETCHED, 4) => Shown::Done,
+        Some(7) if Look::of(core) == look => completed_again(
+            core,
+            look,
+            first.leaves.len(),
+            &wanted,
+        ),
+        _ => Shown::Wrong("the core after the completion"),
+    }
+}
+
+// The same of the next fetch, once so many have left.
+fn completed_again<E: Eviction>(
+    core: &mut Core<E>,
+    before: Look,
+    gone: usize,
+    wanted: &Wanted,
+) -> Shown {
+    if complete(core, 0).found {
+        return Shown::Wrong("a fetch ended twice");
+    }
+    if ask_for(core).is_err() {
+        return Shown::Wrong("the key is not fetched again");
+    }
+    let second = complete(core, 1);
+    let look = before.without(&second.leaves).with(FETCHED, 4);
+    let all = gone.saturating_add(second.leaves.len());
+    if second.token != Some(1) || second.refused.is_some() || Look::of(core) != look {
+        return Shown::Wrong("the next fetch");
+    }
+    if !begin(&second.leaves, gone, wanted) || all != 4 {
+        return Shown::Wrong("what left for the next fetch");
+    }
+    Shown::Kept
+}
+
+// A resize that is refused has set the capacity: an insert evicts the rest, and what gives way to it.
+fn resized<E: Eviction>(alloc: Global, core: &mut Core<E>, victims: &'static [u64; 10]) -> Shown {
+    let wanted = evicting(victims, 3);
+    let before = Look::of(core);
+    let first = make(alloc, core, Op::Resize(3), None);
+    if !begin(&first.leaves, 0, &wanted) {
+        return Shown::Wrong("what left for a lower capacity");
+    }
+    let mut look = before.without(&first.leaves);
+    look.capacity = 3;
+    if Look::of(core) != look {
+        return Shown::Wrong("the core after a resize");
+    }
+    match first.refused {
+        None if first.leaves.len() == 9 => Shown::Done,
+        Some(7) => inserted(alloc, core, first.leaves.len(), &wanted),
+        _ => Shown::Wrong("a resize"),
+    }
+}
+
+// The insert behind that, once so many have left.
+fn inserted<E: Eviction>(alloc: Global, core: &mut Core<E>, gone: usize, wanted: &Wanted) -> Shown {
+    let told = make(alloc, core, Op::Insert(50, 1), None);
+    let all = gone.saturating_add(told.leaves.len());
+    if told.refused.is_some() || all != 10 || !begin(&told.leaves, gone, wanted) {
+        return Shown::Wrong("what left for the insert behind a resize");
+    }
+    if core.usage() == 3 && core.entries() == 3 && core.contains(&50) {
+        return Shown::Kept;
+    }
+    Shown::Wrong("the core after the insert behind a resize")
+}
+
+// An insert that appends what leaves to a list with room for it. Where it is refused, the same insert goes on with the
+// list.
+fn lent<E: Eviction>(alloc: Global, core: &mut Core<E>, victims: &'static [u64; 10]) -> Shown {
+    let Ok(mut leaves) = Vec::with_capacity(alloc, 16) else {
+        return Shown::Early;
+    };
+    let wanted = evicting(victims, 12);
+    let before = Look::of(core);
+    match put_onto(core, &mut leaves) {
+        None => appended(core, before, &leaves, &wanted, Shown::Done),
+        Some(7) if begin(&leaves, 0, &wanted) && Look::of(core) == before.without(&leaves) => {
+            match put_onto(core, &mut leaves) {
+                None => appended(core, before, &leaves, &wanted, Shown::Kept),
+                Some(_) => Shown::Wrong("refused twice"),
+            }
+        }
+        Some(_) => Shown::Wrong("a refused insert onto a list"),
+    }
+}
+
+// Puts a record of weight 10 in. Answers the number of its refusal.
+fn put_onto<E: Eviction>(core: &mut Core<E>, leaves: &mut Leaves) -> Option<u8> {
+    match core.insert_onto(50, weighing(10), leaves) {
+        Ok(InsertedOnto { entry, answers }) => {
+            core.drop_answers(answers);
+            drop(core.drop_entry(entry));
+            None
+        }
+        Err(error) => Some(error.number()),
+    }
+}
+
+// What that record made of the core and of the list.
+fn appended<E: Eviction>(
+    core: &Core<E>,
+    before: Look,
+    leaves: &Leaves,
+    wanted: &Wanted,
+    shown: Shown,
+) -> Shown {
+    if leaves.len() != 10 || !begin(leaves, 0, wanted) {
+        return Shown::Wrong("what is in the list");
+    }
+    if Look::of(core) != before.without(leaves).with(50, 10) {
+        return Shown::Wrong("the core after the insert onto a list");
+    }
+    shown
+}
+
+// The first victims leave, in order.
+fn evicting(victims: &'static [u64; 10], capacity: usize) -> Wanted {
+    Wanted {
+        leaves: victims,
+        events: (Event::Evict, Event::Evict),
+        begins: true,
+        capacity,
+        enters: None,
+        removes: None,
+        is_open: false,
+        number: None,
+    }
+}
+
+type Entry = CoreEntry<u64, SimValue, CacheProperties>;
+
+// A call on an entry of the key 5, which changes nothing, and the end of the entry.
+fn asked<E: Eviction>(alloc: Global, name: &str) -> Shown {
+    let Ok(mut core) = waited::<E>(alloc) else {
+        return Shown::Early;
+    };
+    let Ok(Some(entry)) = core.get(&5) else {
+        return Shown::Wrong("a look-up");
+    };
+    let before = Look::of(&core);
+    let shown = match name {
+        "clone_handle" => cloned(&mut core, &entry),
+        "piece" => taken(&core, &entry),
+        "sums" => same_sums(&core),
+        _ => looked(&core, &entry),
+    };
+    drop(core.drop_entry(entry));
+    if Look::of(&core) != before {
+        return Shown::Wrong("the core after the call");
+    }
+    shown
+}
+
+// A clone of an entry, which never wants memory.
+fn cloned<E: Eviction>(core: &mut Core<E>, entry: &Entry) -> Shown {
+    if !core.owns(entry) {
+        return Shown::Wrong("the entry isn't owned");
+    }
+    match core.clone_handle(entry) {
+        Ok(clone) => {
+            let same = clone.id() == 5;
+            drop(core.drop_entry(clone));
+            if same {
+                Shown::Done
+            } else {
+                Shown::Wrong("the clone")
+            }
+        }
+        Err(_) => Shown::Wrong("a clone is refused"),
+    }
+}
+
+// A piece of an entry's record, and a clone of that.
+fn taken<E: Eviction>(core: &Core<E>, entry: &Entry) -> Shown {
+    let Ok(piece) = entry.piece() else {
+        return match entry.piece() {
+            Ok(_) if core.owns(entry) => Shown::Kept,
+            _ => Shown::Wrong("a piece is refused twice"),
+        };
+    };
+    match piece.clone() {
+        Ok(clone) if *clone.key() == 5 => Shown::Done,
+        Ok(_) => Shown::Wrong("the piece"),
+        Err(_) if piece.clone().is_ok() => Shown::Kept,
+        Err(_) => Shown::Wrong("a clone is refused twice"),
+    }
+}
+
+// What is asked of an entry that the core owns.
+fn looked<E: Eviction>(core: &Core<E>, entry: &Entry) -> Shown {
+    if !core.owns(entry) {
+        return Shown::Wrong("the entry isn't owned");
+    }
+    if core.refs(entry) == 1 && !core.is_outdated(entry) {
+        return Shown::Done;
+    }
+    Shown::Wrong("what is asked of an entry")
+}
+
+// The end of a fetch without a value, which takes no memory.
+fn cancelled<E: Eviction>(core: &mut Core<E>) -> Shown {
+    let Ended {
+        found,
+        answers,
+        leaves,
+    } = core.cancel(&FETCHED, 0);
+    let told = found && answers.waiters.len() == 1 && leaves.is_empty();
+    core.drop_answers(answers);
+    if told {
+        Shown::Done
+    } else {
+        Shown::Wrong("who is answered")
+    }
+}
+
+// The sums and the hash of a key.
+fn same_sums<E: Eviction>(core: &Core<E>) -> Shown {
+    let sums = core.usage() == 12 && core.entries() == 12 && core.capacity() == 12;
+    if sums && core.shards() == 1 && core.hash(&9) == 9 {
+        return Shown::Done;
+    }
+    Shown::Wrong("the sums")
+}
