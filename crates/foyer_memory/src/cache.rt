@@ -15,6 +15,7 @@ use std::fmt::{self, Debug};
 use std::sync::{Arc, Wait};
 
 mod bulk;
+mod fetching;
 mod insertion;
 mod keys;
 mod kinds;

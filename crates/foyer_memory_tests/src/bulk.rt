@@ -62,6 +62,8 @@ fn a_resize(rt: HostRuntime) -> std::result::Result<(), Fail> {
     let before = notes.count();
     cache.resize(128)?;
     assert_eq!(rt; notes.count() - before, 256);
+    let first = Note::Leave(Event::Evict, 256, 256);
+    assert_eq!(rt; notes.at(before).ok_or("none")?, first);
     assert_eq!(rt; (cache.usage(), cache.capacity()), (128, 128));
     assert!(rt; !cache.contains(&256) && cache.contains(&511));
     for key in 0..512u64 {

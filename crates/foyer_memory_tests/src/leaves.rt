@@ -16,10 +16,6 @@ fn first_in_first_out(rt: HostRuntime) -> std::result::Result<(), Fail> {
     assert!(rt;
         notes.are(&[
             Note::Leave(Event::Evict, 1, 10),
-            Note::Leave(Event::Replace, 2, 20),
-            Note::Piece(1, 10),
-        ]) || notes.are(&[
-            Note::Leave(Event::Evict, 1, 10),
             Note::Piece(1, 10),
             Note::Leave(Event::Replace, 2, 20),
         ])
@@ -114,6 +110,12 @@ fn a_phantom_leaves_with_its_entry(rt: HostRuntime) -> std::result::Result<(), F
     drop(cache.insert(1, 1)?);
     let phantom = CacheProperties::default().with_phantom(true);
     let held = cache.insert_with_properties(1, 100, phantom)?;
+    assert!(rt;
+        notes.are(&[
+            Note::Leave(Event::Replace, 1, 1),
+            Note::Leave(Event::Remove, 1, 100),
+        ])
+    );
     drop(held);
     assert!(rt;
         notes.are(&[

@@ -9,6 +9,10 @@ mod bulk;
 #[cfg(test)]
 mod calls;
 #[cfg(test)]
+mod compare;
+#[cfg(test)]
+mod fetches;
+#[cfg(test)]
 mod leaves;
 #[cfg(test)]
 mod testing;

@@ -59,6 +59,13 @@ impl Notes {
         }
     }
 
+    /// Forgets them.
+    pub(crate) fn forget(&self) {
+        if let Ok(mut notes) = self.0.try_borrow_mut() {
+            notes.clear();
+        }
+    }
+
     /// How many were heard.
     pub(crate) fn count(&self) -> usize {
         match self.0.try_borrow_mut() {
@@ -67,10 +74,10 @@ impl Notes {
         }
     }
 
-    /// The first that was heard.
-    pub(crate) fn first(&self) -> Option<Note> {
+    /// The one that was heard after so many others.
+    pub(crate) fn at(&self, place: usize) -> Option<Note> {
         match self.0.try_borrow_mut() {
-            Ok(notes) => notes.first().copied(),
+            Ok(notes) => notes.get(place).copied(),
             Err(_) => None,
         }
     }

@@ -3,16 +3,26 @@
 ghost use Rattle.std.specs.Prelude.{◌≡◌, true};
 
 use crate::testing::fifo;
-use foyer_core::{AdmitAll, CacheProperties, Indexer, Limits, RawCacheConfig, UnitWeighter};
-use foyer_policy::{
-    DefaultHasher, EventListener, Eviction, Fifo, Key, Lru, ModHasher, Reason, Result, Source,
-    Value,
+use foyer_core::{
+    AdmitAll, CacheProperties, FetchTarget, Indexer, Limits, RawCacheConfig, UnitWeighter,
 };
-use foyer_raw::{FetchTypes, NoListener, NoopPipe, Pipe, RawCache};
-use std::sync::Wait;
+use foyer_policy::{
+    DefaultHasher, EventListener, Eviction, Fault, Fifo, Key, Lru, ModHasher, Reason, Result,
+    Source, Value,
+};
+use foyer_raw::{
+    Direct, FetchTypes, Given, ListSpawner, NoFetch, NoListener, NoopPipe, Pipe, RawCache,
+    RequiredFetch,
+};
+use futures::future::{Ready, ready};
+use std::alloc::Global;
+use std::sync::{Arc, Wait};
 use std::test::Fail;
 
 type Cache<H> = RawCache<H, Fifo, u64, u64, ModHasher>;
+
+/// A fetch that is ready at once.
+type Fetch = Ready<std::result::Result<FetchTarget<u64, u64, CacheProperties>, Fault>>;
 
 #[test]
 fn an_entry_is_found(rt: HostRuntime) -> std::result::Result<(), Fail> {
@@ -169,5 +179,81 @@ fn each_call_is_made(rt: HostRuntime) -> std::result::Result<(), Fail> {
         NoListener::new(),
     )?;
     assert!(rt; all_calls(cache, 1, 1, 10)?);
+    Ok(())
+}
+
+// The other calls of such a cache: a pipe, properties, a removal, and the fetch of a missing key by both calls.
+fn other_calls<H, E, K, V, L, Q, R, I>(
+    cache: RawCache<
+        H,
+        E,
+        K,
+        V,
+        DefaultHasher,
+        CacheProperties,
+        UnitWeighter,
+        AdmitAll,
+        L,
+        Q,
+        Direct<R>,
+        I,
+    >,
+    alloc: Global,
+    pipe: Arc<Q>,
+    key: K,
+    again: K,
+    value: V,
+    fetch: R,
+) -> Result<bool>
+where
+    H: Wait + Drop,
+    E: Eviction,
+    K: Key,
+    V: Value,
+    L: EventListener<Key = K, Value = V>,
+    Q: Pipe<Key = K, Value = V, Properties = CacheProperties>,
+    R: RequiredFetch<K, V, CacheProperties>,
+    I: Indexer<K>,
+    requires clones { (k c : K) → K.is_clone k c → K.eq c k ≡ true }
+    requires fetch { R.can_poll fetch }
+{
+    let cache = cache.with_pipe(pipe);
+    let properties = CacheProperties::default();
+    drop(cache.insert_with_properties(key, value, properties)?);
+    let removed = cache.remove(&again)?.is_some();
+    let mut spawner = ListSpawner::new(alloc);
+    let first = cache.get_or_fetch(&again, || fetch, &mut spawner)?;
+    let second = cache.get_or_fetch_inner(
+        &again,
+        || None::<NoFetch>,
+        || None::<Given<R>>,
+        (),
+        &mut spawner,
+    )?;
+    Ok(removed && first.need_await() && second.need_await())
+}
+
+#[test]
+fn each_other_call_is_made(rt: HostRuntime) -> std::result::Result<(), Fail> {
+    let alloc = rt.alloc();
+    let cache: RawCache<
+        HostRuntime,
+        Lru,
+        u64,
+        u64,
+        DefaultHasher,
+        CacheProperties,
+        UnitWeighter,
+        AdmitAll,
+        NoListener<u64, u64>,
+        NoopPipe<u64, u64>,
+        Direct<Fetch>,
+    > = RawCache::new(rt, alloc, RawCacheConfig::new(100), NoListener::new())?;
+    let pipe = Arc::new(alloc, NoopPipe::default())?;
+    let fetch = ready(Err(Fault {
+        code: 1,
+        message: String::new(alloc),
+    }));
+    assert!(rt; other_calls(cache, alloc, pipe, 1, 1, 10, fetch)?);
     Ok(())
 }

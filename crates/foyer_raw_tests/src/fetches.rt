@@ -19,6 +19,7 @@ use std::sync::{Arc, Wait};
 use std::test::Fail;
 
 mod ends;
+mod tasks;
 mod waits;
 
 type Target = FetchTarget<u64, u64, CacheProperties>;

@@ -4,7 +4,7 @@ ghost use Rattle.std.specs.Prelude.{◌≡◌};
 
 use crate::testing::{Ear, Note, Notes, fifo};
 use foyer_core::{AdmitAll, CacheProperties, Limits, RawCacheConfig, UnitWeighter, Weighter};
-use foyer_policy::{Event, Fifo, Lru, LruConfig, ModHasher, Properties};
+use foyer_policy::{Event, Fifo, Lfu, LfuConfig, Lru, LruConfig, ModHasher, Properties, Ratio};
 use foyer_raw::{NoListener, RawCache};
 use std::alloc::Global;
 use std::sync::Wait;
@@ -118,4 +118,59 @@ fn a_weight_fits_beside_what_is_pinned(rt: HostRuntime) -> std::result::Result<(
     assert!(rt; !cache.contains(&1) && cache.fits());
     assert_eq!(rt; cache.usage(), 1);
     Ok(())
+}
+
+// With which number a cache of this configuration is refused.
+fn refused_by<H: Wait + Drop>(rt: H, alloc: Global, eviction_config: LfuConfig) -> Option<u8> {
+    let config: RawCacheConfig<LfuConfig, ModHasher, UnitWeighter, AdmitAll> = RawCacheConfig {
+        capacity: 4,
+        shards: 2,
+        eviction_config,
+        hash_builder: ModHasher::default(),
+        weighter: UnitWeighter,
+        filter: AdmitAll,
+        number: 0,
+        limits: Limits::default(),
+    };
+    let made: foyer_policy::Result<RawCache<H, Lfu, u64, u64, ModHasher>> = RawCache::new(
+        rt,
+        alloc,
+        config,
+        NoListener::new(),
+    );
+    Some(made.err()?.number())
+}
+
+// Of two faults the first is answered.
+#[test]
+fn a_faulty_configuration_is_refused(rt: HostRuntime) {
+    let half = Ratio { num: 1, den: 2 };
+    let no_denominator = LfuConfig {
+        window_capacity_ratio: Ratio { num: 1, den: 0 },
+        cmsketch_hashes: 0,
+        ..LfuConfig::default()
+    };
+    let out_of_range = LfuConfig {
+        protected_capacity_ratio: Ratio { num: 1, den: 1 },
+        cmsketch_buckets: 0,
+        ..LfuConfig::default()
+    };
+    let too_much = LfuConfig {
+        window_capacity_ratio: half,
+        protected_capacity_ratio: half,
+        ..LfuConfig::default()
+    };
+    let no_rows = LfuConfig {
+        cmsketch_hashes: 0,
+        ..LfuConfig::default()
+    };
+    let no_buckets = LfuConfig {
+        cmsketch_buckets: 0,
+        ..LfuConfig::default()
+    };
+    let faulty = [no_denominator, out_of_range, too_much, no_rows, no_buckets];
+    for (config, number) in faulty.into_iter().zip([2u8, 3, 4, 5, 6]) {
+        assert_eq!(rt; refused_by(rt, rt.alloc(), config), Some(number));
+    }
+    assert_eq!(rt; refused_by(rt, rt.alloc(), LfuConfig::default()), None);
 }

@@ -1,6 +1,7 @@
 //! How tasks end.
 
 use super::*;
+use foyer_policy::Properties;
 
 #[test]
 fn a_builder_that_was_lent(rt: HostRuntime) -> std::result::Result<(), Fail> {
@@ -235,5 +236,28 @@ fn waiters_hear_before_the_listener(rt: HostRuntime) -> std::result::Result<(), 
     assert_eq!(rt; block_on(&rt, to_the_end(spawner))?, 0);
     assert!(rt; notes.are(&[Note::Leave(Event::Evict, 0, 0), Note::Piece(0, 0)]));
     assert_eq!(rt; *block_on(&rt, wait)??.ok_or("none")?, 5);
+    Ok(())
+}
+
+// Who waits is answered before anything is told: what nobody received leaves first, as the last handle of a phantom.
+#[test]
+fn an_answer_comes_back_before_the_leaves(rt: HostRuntime) -> std::result::Result<(), Fail> {
+    let alloc = rt.alloc();
+    let notes = Notes::new(alloc)?;
+    let cache = cache(rt, alloc, &notes)?;
+    let phantom = FetchTarget::Entry {
+        value: 5,
+        properties: CacheProperties::default().with_phantom(true),
+    };
+    let (wait, spawner) = dropped(&cache, alloc, None, must(0, Ok(phantom)))?;
+    drop(wait);
+    assert_eq!(rt; block_on(&rt, to_the_end(spawner))?, 0);
+    assert!(rt;
+        notes.are(&[
+            Note::Leave(Event::Evict, 7, 5),
+            Note::Piece(7, 5),
+            Note::Leave(Event::Remove, 7, 5),
+        ])
+    );
     Ok(())
 }

@@ -1,6 +1,7 @@
 //! What those get who wait.
 
 use super::*;
+use foyer_policy::Lru;
 
 type Plain<H> = RawCache<
     H,
@@ -144,5 +145,41 @@ fn a_wait_is_dropped(rt: HostRuntime) -> std::result::Result<(), Fail> {
     assert_eq!(rt; entry.refs(), 2);
     drop(after);
     assert_eq!(rt; entry.refs(), 1);
+    Ok(())
+}
+
+/// A cache that pins what is in use.
+type Pinning<H> = RawCache<
+    H,
+    Lru,
+    u64,
+    u64,
+    ModHasher,
+    CacheProperties,
+    UnitWeighter,
+    AdmitAll,
+    NoListener<u64, u64>,
+    NoopPipe<u64, u64>,
+    Direct<Later<Surely>>,
+>;
+
+// The answer of a wait is a handle like any other: it keeps a record pinned until the wait is dropped.
+#[test]
+fn a_wait_ends_a_pin(rt: HostRuntime) -> std::result::Result<(), Fail> {
+    let alloc = rt.alloc();
+    let config: RawCacheConfig<_, ModHasher, _, _> = RawCacheConfig {
+        shards: 1,
+        ..RawCacheConfig::new(1)
+    };
+    let cache: Pinning<HostRuntime> = RawCache::new(rt, alloc, config, NoListener::new())?;
+    let mut spawner = ListSpawner::new(alloc);
+    let wait = cache.get_or_fetch(&7, || after_polls(0, Ok(value(70))), &mut spawner)?;
+    assert_eq!(rt; block_on(&rt, to_the_end(spawner))?, 0);
+    drop(cache.get(&7)?);
+    drop(cache.insert(8, 80)?);
+    assert!(rt; cache.contains(&7) && cache.contains(&8));
+    drop(wait);
+    drop(cache.insert(9, 90)?);
+    assert!(rt; !cache.contains(&7) && !cache.contains(&8) && cache.contains(&9));
     Ok(())
 }

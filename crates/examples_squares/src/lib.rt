@@ -1,0 +1,124 @@
+//! A cache of the squares of numbers, for the programs that show how a cache is called.
+#![tactic(auto)]
+
+ghost use Rattle.std.specs.Prelude.{◌≡◌, ◌*◌, IfOk};
+
+use foyer_core::{AdmitAll, UnitWeighter};
+use foyer_memory::{Cache, CacheProperties, FetchTarget};
+use foyer_policy::{DefaultHasher, Event, EventListener, Fault, Result};
+use foyer_raw::{Direct, ListSpawner, NoopPipe};
+use futures::Future;
+use futures::task::{Context, Poll};
+use std::alloc::{AllocError, Global};
+use std::sync::atomic::{AtomicU64, Ordering};
+use std::sync::{Arc, Wait};
+
+/// A cache of squares. It counts what leaves, and fetches what is missing.
+pub type Squares<H> = Cache<
+    H,
+    u32,
+    u64,
+    DefaultHasher,
+    CacheProperties,
+    UnitWeighter,
+    AdmitAll,
+    Counter,
+    NoopPipe<u32, u64>,
+    Direct<SquareFetch>,
+>;
+
+/// Counts, and is shared by all who count together. As a listener it counts what leaves.
+#[derive(Drop)]
+pub struct Counter(Arc<AtomicU64>);
+
+impl Counter {
+    /// Nothing was counted yet.
+    pub fn new(alloc: Global) -> std::result::Result<Self, AllocError> {
+        Ok(Counter(Arc::new(alloc, AtomicU64::new(0))?))
+    }
+
+    /// The same counter again.
+    pub fn share(&self) -> std::result::Result<Self, AllocError> {
+        Ok(Counter(Arc::try_clone(&self.0)?))
+    }
+
+    /// One more.
+    pub fn add(&self) {
+        self.0.fetch_add(1, Ordering::SeqCst);
+    }
+
+    /// How many were counted.
+    pub fn count(&self) -> u64 {
+        self.0.load(Ordering::SeqCst)
+    }
+}
+
+impl EventListener for Counter {
+    type Key = u32;
+
+    type Value = u64;
+
+    fn on_leave(&self, _event: Event, _number: &u32, _square: &u64) {
+        self.add();
+    }
+}
+
+/// Fetches the square of a number, and counts that.
+#[derive(Drop)]
+pub struct SquareFetch {
+    number: u32,
+    fetched: Counter,
+}
+
+impl Future for SquareFetch {
+    type Output = std::result::Result<FetchTarget<u32, u64, CacheProperties>, Fault>;
+
+    fn poll(&mut self, _cx: &mut Context<'_>) -> Poll<Self::Output> {
+        self.fetched.add();
+        Poll::Ready(Ok(FetchTarget::Entry {
+            value: square(self.number),
+            properties: CacheProperties::default(),
+        }))
+    }
+}
+
+/// A fetch of the square of a number, which this counter counts.
+pub fn fetch(number: u32, fetched: &Counter) -> std::result::Result<SquareFetch, AllocError> {
+    Ok(SquareFetch {
+        number,
+        fetched: fetched.share()?,
+    })
+}
+
+/// Polls the tasks until each has ended.
+#[derive(Drop)]
+pub struct AllTasks<X: Future<Output = ()>> {
+    /// The tasks.
+    pub tasks: ListSpawner<X>,
+}
+
+impl<X: Future<Output = ()>> Future for AllTasks<X> {
+    type Output = ();
+
+    fn poll(&mut self, cx: &mut Context<'_>) -> Poll<()> {
+        if self.tasks.poll_all(cx) > 0 {
+            return cx.yield_now();
+        }
+        Poll::Ready(())
+    }
+}
+
+/// The square of a number.
+pub fn square(number: u32) -> u64
+    ensures { result ≡ number * number }
+{
+    u64::from(number) * u64::from(number)
+}
+
+/// Puts the square of a number in, and answers what its entry has.
+pub fn put<H: Wait + Drop>(squares: &Squares<H>, number: u32) -> Result<u64>
+    ensures { IfOk result (λ square. square ≡ number * number) }
+{
+    let entry = squares.insert(number, square(number))?;
+    Ok(*entry)
+}

@@ -1,0 +1,295 @@
+//! A cache beside a core of one thread: random calls, which both answer alike.
+
+use crate::testing::{Ear, Note, Notes};
+use foyer_core::{
+    AdmitAll, CacheCore, CoreEntry, Ended, FetchTarget, Inserted, Leave, Limits, Lookup,
+    RawCacheConfig, UnitWeighter,
+};
+use foyer_memory::{
+    Cache, CacheBuilder, CacheEntry, CacheProperties, Eviction, EvictionConfig, FetchTask,
+};
+use foyer_policy::{Event, Fault, Fifo, Lfu, Lru, ModHasher, S3Fifo, Sieve, Source};
+use foyer_raw::{Direct, ListSpawner, NoopPipe};
+use futures::Future;
+use futures::executor::block_on;
+use futures::future::{Ready, ready};
+use futures::task::{Context, Poll};
+use log::Log;
+use std::alloc::Global;
+use std::random::RandomSource;
+use std::sync::Wait;
+use std::test::Fail;
+
+mod runs;
+
+type Target = FetchTarget<u64, u64, CacheProperties>;
+
+/// What a fetch gives, at once.
+type Given = Ready<Result<Target, Fault>>;
+
+type Two<H> = Cache<
+    H,
+    u64,
+    u64,
+    ModHasher,
+    CacheProperties,
+    UnitWeighter,
+    AdmitAll,
+    Ear,
+    NoopPipe<u64, u64>,
+    Direct<Given>,
+>;
+
+type TwoEntry<H> = CacheEntry<
+    H,
+    u64,
+    u64,
+    ModHasher,
+    CacheProperties,
+    UnitWeighter,
+    AdmitAll,
+    Ear,
+    NoopPipe<u64, u64>,
+    Direct<Given>,
+>;
+
+type Tasks<H> = ListSpawner<
+    FetchTask<
+        H,
+        u64,
+        u64,
+        ModHasher,
+        CacheProperties,
+        UnitWeighter,
+        AdmitAll,
+        Ear,
+        NoopPipe<u64, u64>,
+        Direct<Given>,
+    >,
+>;
+
+type One<E> = CacheCore<E, u64, u64, CacheProperties, ModHasher>;
+
+type Handle = CoreEntry<u64, u64, CacheProperties>;
+
+/// A handle of the core, which is discarded where it is not given back.
+struct Kept(Option<Handle>);
+
+impl Drop for Kept {
+    fn drop(self) {
+        let Kept(handle) = self;
+        if let Some(handle) = handle {
+            handle.discard();
+        }
+    }
+}
+
+/// A cache and a core over the same records, and what both told.
+#[derive(Drop)]
+struct Both<H: Wait + Drop, E: Eviction> {
+    cache: Two<H>,
+    core: One<E>,
+    heard: Notes,
+    left: Vec<Note>,
+    held: Vec<(TwoEntry<H>, Kept)>,
+}
+
+/// Polls the tasks once, and answers how many remain.
+#[derive(Drop)]
+struct Once<H: Wait + Drop> {
+    tasks: Tasks<H>,
+}
+
+impl<H: Wait + Drop> Future for Once<H> {
+    type Output = usize;
+
+    fn poll(&mut self, cx: &mut Context<'_>) -> Poll<usize> {
+        Poll::Ready(self.tasks.poll_all(cx))
+    }
+}
+
+fn target(value: u64) -> Target {
+    FetchTarget::Entry {
+        value,
+        properties: CacheProperties::default(),
+    }
+}
+
+// A future of a value, which is there at once.
+fn given(value: u64) -> Given {
+    ready(Ok(target(value)))
+}
+
+impl<H: Wait + RandomSource + Alloc<A = Global> + Copy + Drop, E: Eviction> Both<H, E> {
+    // What the core handed out.
+    fn note(&mut self, leaves: Vec<Leave<u64, u64, CacheProperties>>) -> Result<(), Fail> {
+        for (event, left) in leaves.as_slice() {
+            self.left
+                .push(Note::Leave(*event, *left.key(), *left.value()))?;
+        }
+        Ok(())
+    }
+
+    // Holds an entry of each, whether they are of the same record, and gives the oldest back where there are nine.
+    fn hold(&mut self, alloc: Global, entry: TwoEntry<H>, kept: Kept) -> Result<bool, Fail> {
+        let same = match &kept.0 {
+            Some(handle) => {
+                *entry.key() == *handle.key()
+                    && *entry == *handle.value()
+                    && entry.source() == handle.source()
+            }
+            None => false,
+        };
+        self.held.push((entry, kept))?;
+        if self.held.len() > 8 {
+            let (entry, mut kept) = self.held.remove(0);
+            drop(entry);
+            if let Some(handle) = kept.0.take() {
+                let mut leaves = Vec::new(alloc);
+                if let Some(leave) = self.core.drop_entry(handle) {
+                    leaves.push(leave)?;
+                }
+                self.note(leaves)?;
+            }
+        }
+        Ok(same)
+    }
+
+    // The same of two that may be missing, but both or none.
+    fn hold_found(
+        &mut self,
+        alloc: Global,
+        entry: Option<TwoEntry<H>>,
+        kept: Kept,
+    ) -> Result<bool, Fail> {
+        match entry {
+            Some(entry) => self.hold(alloc, entry, kept),
+            None => Ok(kept.0.is_none()),
+        }
+    }
+
+    // An insert.
+    fn insert(&mut self, alloc: Global, key: u64, value: u64) -> Result<bool, Fail> {
+        let entry = self.cache.insert(key, value)?;
+        let (kept, leaves) = match self.core.insert(key, value) {
+            Ok(
+                Inserted {
+                    entry,
+                    answers,
+                    leaves,
+                },
+            ) => {
+                self.core.drop_answers(answers);
+                (Kept(Some(entry)), leaves)
+            }
+            Err(refused) => (Kept(None), refused.leaves),
+        };
+        self.note(leaves)?;
+        self.hold(alloc, entry, kept)
+    }
+
+    // A remove.
+    fn remove(&mut self, alloc: Global, key: u64) -> Result<bool, Fail> {
+        let entry = self.cache.remove(&key)?;
+        match self.core.remove(&key)? {
+            Some((handle, left)) => {
+                let kept = Kept(Some(handle));
+                self.left
+                    .push(Note::Leave(Event::Remove, *left.key(), *left.value()))?;
+                self.hold_found(alloc, entry, kept)
+            }
+            None => Ok(entry.is_none()),
+        }
+    }
+
+    // Two look-ups that fetch, and the fetch.
+    fn fetch(&mut self, rt: H, alloc: Global, key: u64, value: u64) -> Result<bool, Fail> {
+        let mut tasks: Tasks<H> = ListSpawner::new(alloc);
+        let first = self.cache.get_or_fetch(&key, || given(value), &mut tasks)?;
+        let second = self.cache.get_or_fetch(&key, || given(value), &mut tasks)?;
+        if block_on(&rt, Once { tasks })? != 0 {
+            return Ok(false);
+        }
+        let first = block_on(&rt, first)??;
+        let second = block_on(&rt, second)??;
+        let lead = self.ask(key)?;
+        let next = self.ask(key)?;
+        // The second handle, and then the first.
+        let mut both = Vec::new(alloc);
+        both.push(next.1)?;
+        both.push(lead.1)?;
+        if let Some(fetch) = lead.0 {
+            both = Vec::new(alloc);
+            let Ended {
+                found: _,
+                answers,
+                leaves,
+            } = self
+                .core
+                .complete(&key, fetch, target(value), Source::Outer);
+            let (_, handles) = answers.into_parts();
+            if let Ok(mut handles) = handles {
+                while let Some(handle) = handles.pop() {
+                    let _ = both.push(Kept(Some(handle)));
+                }
+                handles.destroy_empty();
+            }
+            self.note(leaves)?;
+        }
+        let one = both.pop().ok_or("no first handle")?;
+        let other = both.pop().ok_or("no second handle")?;
+        Ok(self.hold(alloc, first, one)? && self.hold(alloc, second, other)?)
+    }
+
+    // What the core answers who asks for a key: the fetch that is to be led, or a handle.
+    fn ask(&mut self, key: u64) -> Result<(Option<u64>, Kept), Fail> {
+        match self.core.get_or_enqueue(&key, None, ())? {
+            Lookup::Hit(handle) => Ok((None, Kept(Some(handle)))),
+            Lookup::Lead {
+                fetch,
+                token: _,
+                required: _,
+            } => Ok((Some(fetch), Kept(None))),
+            Lookup::Wait { token: _ } => Ok((None, Kept(None))),
+        }
+    }
+
+    // One call, picked by a number; whether both answered alike.
+    fn step(
+        &mut self,
+        rt: H,
+        alloc: Global,
+        pick: u64,
+        key: u64,
+        value: u64,
+    ) -> Result<bool, Fail> {
+        match pick {
+            0 | 1 => self.insert(alloc, key, value),
+            2 => {
+                let entry = self.cache.get(&key)?;
+                let kept = Kept(self.core.get(&key)?);
+                self.hold_found(alloc, entry, kept)
+            }
+            3 => Ok(self.cache.touch(&key)? == self.core.touch(&key)?),
+            4 => Ok(self.cache.contains(&key) == self.core.contains(&key)),
+            5 => self.remove(alloc, key),
+            _ => self.fetch(rt, alloc, key, value),
+        }
+    }
+
+    // Whether both have the same sums and counts, and told the same leaves since the last step.
+    fn agree(&mut self) -> bool {
+        for (entry, kept) in self.held.as_slice() {
+            if let Some(handle) = &kept.0 {
+                if !self.core.owns(handle) || entry.refs() != self.core.refs(handle) {
+                    return false;
+                }
+            }
+        }
+        let same = self.heard.are(self.left.as_slice());
+        self.heard.forget();
+        self.left.clear();
+        same && self.cache.usage() == self.core.usage()
+            && self.cache.entries() == self.core.entries()
+    }
+}

@@ -1,0 +1,303 @@
+//! Look-ups that fetch what is missing.
+
+ghost use Rattle.std.specs.Prelude.{◌≡◌, IsSome};
+
+use foyer_core::{AdmitAll, UnitWeighter};
+use foyer_memory::{
+    Cache, CacheBuilder, CacheProperties, EvictionConfig, FetchTarget, FetchTask, FifoConfig,
+    GetOrFetch, LfuConfig, LruConfig, OptionalFetchBuilder, S3FifoConfig, SieveConfig,
+};
+use foyer_policy::{DefaultHasher, Fault, Result, Source};
+use foyer_raw::{Direct, FetchTypes, Given, ListSpawner, NoListener, NoopPipe, Pollable, Spawner};
+use futures::Future;
+use futures::executor::block_on;
+use futures::future::{Ready, ready};
+use futures::task::{Context, Poll};
+use std::sync::Wait;
+use std::test::Fail;
+
+type Target = FetchTarget<u64, u64, CacheProperties>;
+
+/// What a required fetch gives.
+type Surely = std::result::Result<Target, Fault>;
+
+/// What an optional fetch may give.
+type Perhaps = std::result::Result<Option<Target>, Fault>;
+
+type Fetching<H, T = Direct<Ready<Surely>>> = Cache<
+    H,
+    u64,
+    u64,
+    DefaultHasher,
+    CacheProperties,
+    UnitWeighter,
+    AdmitAll,
+    NoListener<u64, u64>,
+    NoopPipe<u64, u64>,
+    T,
+>;
+
+type Look<H, T> = GetOrFetch<
+    H,
+    u64,
+    u64,
+    DefaultHasher,
+    CacheProperties,
+    UnitWeighter,
+    AdmitAll,
+    NoListener<u64, u64>,
+    NoopPipe<u64, u64>,
+    T,
+>;
+
+type Task<H, T> = FetchTask<
+    H,
+    u64,
+    u64,
+    DefaultHasher,
+    CacheProperties,
+    UnitWeighter,
+    AdmitAll,
+    NoListener<u64, u64>,
+    NoopPipe<u64, u64>,
+    T,
+>;
+
+/// Gives the optional fetch that it holds.
+#[derive(Drop)]
+struct May {
+    fetch: Pollable<Ready<Perhaps>>,
+}
+
+impl OptionalFetchBuilder<u64, u64, CacheProperties, ()> for May {
+    type Fetch = Ready<Perhaps>;
+
+    fn build(self, _context: &mut ()) -> Ready<Perhaps> {
+        let May { fetch } = self;
+        fetch.into_inner()
+    }
+}
+
+/// Fetch types with an optional and a required fetch.
+struct Trial;
+
+impl FetchTypes<u64, u64, CacheProperties> for Trial {
+    type Context = ();
+
+    type Optional = May;
+
+    type Required = Given<Ready<Surely>>;
+}
+
+/// Polls the tasks once, and answers how many remain.
+#[derive(Drop)]
+struct Once<X: Future<Output = ()>> {
+    spawner: ListSpawner<X>,
+}
+
+impl<X: Future<Output = ()>> Future for Once<X> {
+    type Output = usize;
+
+    fn poll(&mut self, cx: &mut Context<'_>) -> Poll<usize> {
+        Poll::Ready(self.spawner.poll_all(cx))
+    }
+}
+
+/// Polls a look-up twice: the value of the first answer, and the number of the second one's refusal.
+struct Twice<'a, H: Wait + Drop, T: FetchTypes<u64, u64, CacheProperties>> {
+    look: &'a mut Look<H, T>,
+}
+
+impl<H: Wait + Drop, T: FetchTypes<u64, u64, CacheProperties>> Drop for Twice<'_, H, T> {
+    fn drop(self) {
+        let Twice { look: _ } = self;
+    }
+}
+
+impl<H: Wait + Drop, T: FetchTypes<u64, u64, CacheProperties>> Future for Twice<'_, H, T> {
+    type Output = (u64, u8);
+
+    fn poll(&mut self, cx: &mut Context<'_>) -> Poll<(u64, u8)> {
+        let Poll::Ready(first) = self.look.poll(cx) else {
+            return cx.yield_now();
+        };
+        let Poll::Ready(second) = self.look.poll_inner(cx) else {
+            return cx.yield_now();
+        };
+        let value = match first {
+            Ok(entry) => *entry,
+            Err(error) => u64::from(error.number()),
+        };
+        let number = match second {
+            Err(error) => error.number(),
+            Ok(_) => 0,
+        };
+        Poll::Ready((value, number))
+    }
+}
+
+fn target(value: u64) -> Target {
+    FetchTarget::Entry {
+        value,
+        properties: CacheProperties::default(),
+    }
+}
+
+// A required builder whose fetch gives this.
+fn must(value: u64) -> Option<Given<Ready<Surely>>> {
+    Some(Given {
+        fetch: Pollable::new(ready(Ok(target(value)))),
+    })
+}
+
+#[test]
+fn two_wait_for_one_fetch(rt: HostRuntime) -> std::result::Result<(), Fail> {
+    let alloc = rt.alloc();
+    let cache: Fetching<HostRuntime> = CacheBuilder::new(16).build(rt, alloc, &rt)?;
+    let mut spawner = ListSpawner::new(alloc);
+    let first = cache.get_or_fetch(&7, || ready(Ok(target(69))), &mut spawner)?;
+    let second = cache.get_or_fetch(&7, || ready(Ok(target(68))), &mut spawner)?;
+    assert!(rt; first.need_await() && second.need_await());
+    assert_eq!(rt; format!(in alloc; "{first:?}")?.as_str(), "Lru(Miss)");
+    let first = first.try_unwrap().err().ok_or("a hit")?;
+    assert_eq!(rt; block_on(&rt, Once { spawner })?, 0);
+    let first = block_on(&rt, first)??;
+    let second = block_on(&rt, second)??;
+    assert_eq!(rt; (*first, *second, first.refs()), (69, 69, 2));
+    assert_eq!(rt;
+        (first.source(), second.source()),
+        (Source::Outer, Source::Outer)
+    );
+    let mut spawner = ListSpawner::new(alloc);
+    let hit = cache.get_or_fetch(&7, || ready(Ok(target(1))), &mut spawner)?;
+    assert!(rt; !hit.need_await());
+    assert_eq!(rt; format!(in alloc; "{hit:?}")?.as_str(), "Lru(Hit)");
+    let hit = hit.try_unwrap().ok().ok_or("a miss")??;
+    assert_eq!(rt; (*hit, hit.source()), (69, Source::Memory));
+    Ok(())
+}
+
+/// A spawner that keeps the last task.
+#[derive(Drop)]
+struct Last<X> {
+    task: Option<X>,
+}
+
+impl<X: Future<Output = ()>> Spawner<X> for Last<X> {
+    ghost room = { λ _. 1 };
+
+    fn reserve(&mut self) -> Result<()> {
+        Ok(())
+    }
+
+    fn spawn(&mut self, task: X) {
+        self.task = Some(task);
+    }
+}
+
+#[test]
+fn each_kind_prints_its_name(rt: HostRuntime) -> std::result::Result<(), Fail> {
+    let alloc = rt.alloc();
+    let kinds = [
+        (
+            EvictionConfig::from(FifoConfig {}),
+            ["Fifo(RawFetch {", "Fifo(Miss)", "Fifo(Hit)"],
+        ),
+        (
+            EvictionConfig::from(S3FifoConfig::default()),
+            ["S3Fifo(RawFetch {", "S3Fifo(Miss)", "S3Fifo(Hit)"],
+        ),
+        (
+            EvictionConfig::from(LruConfig::default()),
+            ["Lru(RawFetch {", "Lru(Miss)", "Lru(Hit)"],
+        ),
+        (
+            EvictionConfig::from(LfuConfig::default()),
+            ["Lfu(RawFetch {", "Lfu(Miss)", "Lfu(Hit)"],
+        ),
+        (
+            EvictionConfig::from(SieveConfig),
+            ["Sieve(RawFetch {", "Sieve(Miss)", "Sieve(Hit)"],
+        ),
+    ];
+    for (config, [begun, miss, hit]) in kinds {
+        let cache: Fetching<HostRuntime> = CacheBuilder::new(16)
+            .with_eviction_config(config)
+            .build(rt, alloc, &rt)?;
+        let mut last: Last<Task<HostRuntime, Direct<Ready<Surely>>>> = Last { task: None };
+        let look = cache.get_or_fetch(&7, || ready(Ok(target(69))), &mut last)?;
+        assert_eq!(rt; format!(in alloc; "{look:?}")?.as_str(), miss);
+        let task = last.task.take().ok_or("no task")?;
+        assert!(rt; format!(in alloc; "{task:?}")?.as_str().starts_with(begun));
+        drop(task);
+        drop(cache.insert(7, 70)?);
+        let look = cache.get_or_fetch(&7, || ready(Ok(target(69))), &mut last)?;
+        assert_eq!(rt; format!(in alloc; "{look:?}")?.as_str(), hit);
+    }
+    Ok(())
+}
+
+#[test]
+fn a_fetch_is_overtaken(rt: HostRuntime) -> std::result::Result<(), Fail> {
+    let alloc = rt.alloc();
+    let cache: Fetching<HostRuntime> = CacheBuilder::new(16).build(rt, alloc, &rt)?;
+    let mut spawner = ListSpawner::new(alloc);
+    let first = cache.get_or_fetch(&7, || ready(Ok(target(69))), &mut spawner)?;
+    let held = cache.insert(7, 70)?;
+    assert_eq!(rt; held.refs(), 2);
+    assert_eq!(rt; block_on(&rt, Once { spawner })?, 0);
+    assert_eq!(rt; *block_on(&rt, first)??, 70);
+    assert_eq!(rt; *cache.get(&7)?.ok_or("none")?, 70);
+    Ok(())
+}
+
+#[test]
+fn an_answer_is_given_once(rt: HostRuntime) -> std::result::Result<(), Fail> {
+    let alloc = rt.alloc();
+    let cache: Fetching<HostRuntime> = CacheBuilder::new(16).build(rt, alloc, &rt)?;
+    let mut spawner = ListSpawner::new(alloc);
+    let mut wait = cache.get_or_fetch(&7, || ready(Ok(target(5))), &mut spawner)?;
+    assert_eq!(rt; block_on(&rt, Once { spawner })?, 0);
+    assert_eq!(rt; block_on(&rt, Twice { look: &mut wait })?, (5, 16));
+    let mut spawner = ListSpawner::new(alloc);
+    let mut hit = cache.get_or_fetch(&7, || ready(Ok(target(6))), &mut spawner)?;
+    assert_eq!(rt; block_on(&rt, Twice { look: &mut hit })?, (5, 16));
+    let spent = hit.try_unwrap().ok().ok_or("a miss")?;
+    assert_eq!(rt; spent.err().ok_or("an entry")?.number(), 16);
+    Ok(())
+}
+
+#[test]
+fn a_builder_that_was_lent(rt: HostRuntime) -> std::result::Result<(), Fail> {
+    let alloc = rt.alloc();
+    let cache: Fetching<HostRuntime, Trial> = CacheBuilder::new(16).build(rt, alloc, &rt)?;
+    let mut spawner: ListSpawner<Task<HostRuntime, Trial>> = ListSpawner::new(alloc);
+    let optional = Some(May {
+        fetch: Pollable::new(ready(Ok(None))),
+    });
+    let first = cache.get_or_fetch_inner(&7, || optional, || None, (), &mut spawner)?;
+    let second = cache.get_or_fetch_inner(&7, || None, || must(5), (), &mut spawner)?;
+    assert_eq!(rt; block_on(&rt, Once { spawner })?, 0);
+    assert_eq!(rt; (*block_on(&rt, first)??, *block_on(&rt, second)??), (5, 5));
+    Ok(())
+}
+
+#[test]
+fn nothing_was_found(rt: HostRuntime) -> std::result::Result<(), Fail> {
+    let alloc = rt.alloc();
+    let cache: Fetching<HostRuntime, Trial> = CacheBuilder::new(16).build(rt, alloc, &rt)?;
+    let mut spawner: ListSpawner<Task<HostRuntime, Trial>> = ListSpawner::new(alloc);
+    let mut first = cache.get_or_fetch_inner(&7, || None, || None, (), &mut spawner)?;
+    let lost = cache.get_or_fetch_inner(&8, || None, || None, (), &mut spawner)?;
+    let mut other: ListSpawner<Task<HostRuntime, Trial>> = ListSpawner::new(alloc);
+    let dropped = cache.get_or_fetch_inner(&9, || None, || must(5), (), &mut other)?;
+    drop(other);
+    assert_eq!(rt; block_on(&rt, Once { spawner })?, 0);
+    assert_eq!(rt; block_on(&rt, Twice { look: &mut first })?, (13, 16));
+    assert_eq!(rt; block_on(&rt, lost)?.err().ok_or("an entry")?.number(), 13);
+    assert_eq!(rt;
+        block_on(&rt, dropped)?.err().ok_or("an entry")?.number(),
+        15
+    );
+    Ok(())
+}
