@@ -7,6 +7,7 @@ import traceback
 from concurrent.futures import FIRST_COMPLETED, ThreadPoolExecutor, wait
 
 from machine import free_memory, processors, rt
+from minutes import longest_chain
 from proving import Proof
 from repository import PARTS, Crates, files_below
 
@@ -69,11 +70,10 @@ class Gate:
 
     def prove_and_test(self):
         """Proves every crate, lowest first, and runs all tests beside that. Two crates are proved side by side: of
-        those whose turn has come the one with most above it gets all jobs but one, and the others one after another
-        get that one. Where only one is ready it gets all."""
+        those whose turn has come the one with the longest chain of work above it gets all jobs but one, and the others
+        one after another get that one. Where only one is ready it gets all."""
         lowest, tests = self.crates.lowest_first(), self.tested()
-        above = {it: sum(it in self.crates.below(other) for other in lowest) for it in lowest}
-        left = sorted(lowest, key=lambda it: (-above[it], not self.is_program(it)))
+        left = sorted(lowest, key=lambda it: (-longest_chain(self.crates, it), not self.is_program(it)))
         running, proved = {}, set()
         with ThreadPoolExecutor() as pool:
             while left or tests or running:
