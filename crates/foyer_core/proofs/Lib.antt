@@ -6,6 +6,7 @@ pub mod ApartLemmas
 pub mod Arriving
 pub mod ArrivingPieces
 pub mod Asked
+pub mod BucketLemmas
 pub mod CallsTold
 pub mod ChainLemmas
 pub mod Clearing
@@ -64,6 +65,7 @@ pub mod PieceLaws
 pub mod PieceTold
 pub mod PinLemmas
 pub mod Popped
+pub mod ProbeLemmas
 pub mod Pushing
 pub mod RefusalLemmas
 pub mod Removed
@@ -82,6 +84,7 @@ pub mod Staying
 pub mod Stepped
 pub mod StoredLemmas
 pub mod TableLemmas
+pub mod TagLemmas
 pub mod Taken
 pub mod Told
 pub mod Touched

@@ -30,3 +30,5 @@ pub mod Bulk
 pub mod CoreBulk
 pub mod Pieces
 pub mod Questions
+pub mod Probing
+pub mod Tags

@@ -16,6 +16,7 @@ pub mod shard;
 mod share;
 mod slot;
 mod store;
+pub mod tags;
 pub mod weighter;
 
 pub use cache_core::{CacheCore, shard_capacity};
@@ -31,4 +32,5 @@ pub use piece::Piece;
 pub use properties::{CacheProperties, marked};
 pub use record::{Data, Flags, Limits, Record};
 pub use shard::Shard;
+pub use tags::Tags;
 pub use weighter::{UnitWeighter, Weighter};
