@@ -13,3 +13,5 @@ mod record;
 pub mod refusing;
 #[cfg(test)]
 mod shard;
+#[cfg(test)]
+mod tags;
