@@ -15,7 +15,6 @@ use Rattle.std.proofs.lemmas.List.Folds.{list_any-append}
 use Rattle.std.proofs.lemmas.Grind.{common_steps}
 use Rattle.std.proofs.lemmas.Map.{update_here, update_apart, update_same, update_other}
 use Rattle.std.proofs.lemmas.Map.Keys.{IsDistinct-push}
-use Rattle.slab.specs.Slab.{Slab, get, Updates, with_value}
 use Rattle.foyer_core.specs.declared.indexer.chain.Pair.{Pair}
 use Rattle.foyer_core.specs.declared.outcome.Waiting.{Waiting}
 use Rattle.foyer_core.specs.Indexer.{same_key, same_key_equiv}
@@ -23,8 +22,9 @@ use Rattle.foyer_core.specs.Chains.{entries_of, has}
 use Rattle.foyer_core.specs.Entries.{lookup_same}
 use Rattle.foyer_core.specs.Inflight.{Place, Opens, AreOpen, AreLinked, after_nothing, asked, closed, tokens_of, joined, opens_by, with_place, without_later}
 use Rattle.foyer_core.specs.Inflights.{opens_of}
+use Rattle.foyer_core.specs.Slots.{Slots, get, with_value}
 use Rattle.foyer_core.specs.declared.inflight.InflightManager.{InflightManager}
-use Rattle.foyer_core.proofs.SlotLemmas.{updates_at, write_at}
+use Rattle.foyer_core.proofs.SlotLemmas.{write_at}
 use Rattle.foyer_core.proofs.TableLemmas.{update_same as update_there}
 
 tells : (b : Bool) → (b ≡ true) ⊎ (b ≡ false)
@@ -369,16 +369,16 @@ module _ {K N R : Type 0} {eq : K → K → Bool} where
 pub update_below : {K A : Type 0} (e : K → K → Bool) (f g : K → Option A) (k : K) (w : Option A) (q : K) → g q ≡ f q → update e g k w q ≡ update e f k w q
 update_below {A = A} e f g k w q same = ap (λ (o : Option A). cond (e k q) w o) same
 
--- room was made in a slab, and then a value put in
-pub put_in_room : {T : Type 0} (old room new : Slab T) (n key : ℕ) (x y : T) → ((m : ℕ) → get room m ≡ get old m) → key ≡ n → x ≡ y → Updates room new key (Some x) → (m : ℕ) → get new m ≡ update nat_eq (get old) n (Some y) m
-put_in_room {T = T} old room new n key x y kept at is u m =
-    updates_at room new key (Some x) u m
+-- room was made, and then a value put in
+pub put_in_room : {T : Type 0} (old room new : Slots T) (n key : ℕ) (x y : T) → ((m : ℕ) → get room m ≡ get old m) → key ≡ n → x ≡ y → ((m : ℕ) → get new m ≡ update nat_eq (get room) key (Some x) m) → (m : ℕ) → get new m ≡ update nat_eq (get old) n (Some y) m
+put_in_room {T = T} old room new n key x y kept at is put m =
+    put m
     ∙ update_below nat_eq (get old) (get room) key (Some x) m (kept m)
     ∙ ap (λ (q : ℕ). update nat_eq (get old) q (Some x) m) at
     ∙ ap (λ (z : T). update nat_eq (get old) n (Some z) m) is
 
 -- a write of what is there
-pub write_again : {T : Type 0} (s : Slab T) (n : ℕ) (x y : T) → get s n ≡ Some x → y ≡ x → (m : ℕ) → get (with_value s n y) m ≡ get s m
+pub write_again : {T : Type 0} (s : Slots T) (n : ℕ) (x y : T) → get s n ≡ Some x → y ≡ x → (m : ℕ) → get (with_value s n y) m ≡ get s m
 write_again {T = T} s n x y there is m =
     write_at s n x y there m
     ∙ ap (λ (z : T). update nat_eq (get s) n (Some z) m) is

@@ -8,6 +8,7 @@ pub mod ArrivingPieces
 pub mod Asked
 pub mod BucketLemmas
 pub mod CallsTold
+pub mod CellLemmas
 pub mod ChainLemmas
 pub mod Clearing
 pub mod Cloned

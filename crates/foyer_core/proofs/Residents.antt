@@ -1,13 +1,12 @@
 -- The records of a shard's slots that are in the index, and the items of its policy.
-use Rattle.std.proofs.Common.{◌≡◌, ◌≢◌, ◌⊎◌, ℕ, zero, suc, ◌+◌, ◌<◌, ◌≤◌, Bool, true, false, cond, List, [], ◌∷◌, Option, Some, None, get_or, refl, sym, ◌∙◌, ap, subst, inl, inr, Contains, arith, true≢false}
+use Rattle.std.proofs.Common.{◌≡◌, ◌≢◌, ◌⊎◌, ℕ, zero, suc, ◌+◌, ◌<◌, Bool, true, false, cond, List, [], ◌∷◌, Option, Some, None, get_or, refl, sym, ◌∙◌, ap, subst, inl, inr, Contains, arith, true≢false}
 use Rattle.std.proofs.Math.Logic.{∥∥₁_elim}
 use Rattle.std.proofs.Props.{props}
-use Rattle.std.specs.Prelude.{◌==◌, ◌&&◌, sum_by, option_map, option_and_then, is_some, if◌then◌else◌}
+use Rattle.std.specs.Prelude.{◌==◌, sum_by, option_map, option_and_then, if◌then◌else◌}
 use Rattle.std.specs.Cmp.{IsEquivalence}
 use Rattle.std.proofs.lemmas.Bool.Decides.{nat_tests, eqb_tells}
 use Rattle.std.proofs.lemmas.List.Sums.{sum_by-cons}
-use Rattle.slab.specs.Slab.{entries, entries_from}
-use Rattle.slab.proofs.SlabLemmas.{Contains-cons, Contains-cons_cases, Contains-entries}
+use Rattle.foyer_core.specs.Slots.{entries, entries_from}
 use Rattle.foyer_policy.specs.Items.{weight_of, count_of, find_id, remove_id, HasIdsOnce}
 use Rattle.foyer_policy.specs.Policy.{IsPolicy}
 use Rattle.foyer_policy.specs.declared.types.Item.{Item}
@@ -15,11 +14,11 @@ use Rattle.foyer_policy.proofs.ItemLemmas.{one_if, count-cons, found-id, found-w
 use Rattle.foyer_core.specs.Values.{Kept, Rec}
 use Rattle.foyer_core.specs.Table.{rec_of}
 use Rattle.foyer_core.specs.Records.{slot_in, number_of, record_in}
-use Rattle.foyer_core.specs.State.{Meaning, State, IsKept, item_of}
-use Rattle.foyer_core.specs.Stored.{state}
+use Rattle.foyer_core.specs.State.{Meaning, State, IsKept}
 use Rattle.foyer_core.proofs.Keeps.{counted_there}
 use Rattle.foyer_core.proofs.ShardLemmas.{Holding, now_of}
-use Rattle.foyer_core.proofs.StoredLemmas.{slot_record, some_of}
+use Rattle.foyer_core.proofs.SlotLemmas.{Contains-cons, Contains-cons_cases, Contains-entries}
+use Rattle.foyer_core.proofs.StoredLemmas.{slot_record}
 use Rattle.foyer_core.proofs.TableLemmas.{id_by-some, named_is}
 
 module _ {K V P : Type 0} where

@@ -2,7 +2,7 @@
 use Rattle.std.specs.declared.cmp.PartialEq.{Ghosts as EqGhosts}
 use Rattle.std.specs.declared.hash.Hash.{Ghosts as HashGhosts}
 use Rattle.std.specs.declared.clone.Clone.{Ghosts as CloneGhosts}
-use Rattle.slab.specs.Slab.{get}
+use Rattle.foyer_core.specs.Slots.{get}
 use Rattle.foyer_core.specs.Inflight.{Opens, opens_by, numbers_in}
 use Rattle.foyer_core.specs.declared.inflight.InflightManager.{InflightManager}
 

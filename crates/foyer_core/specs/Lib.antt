@@ -13,6 +13,9 @@ pub mod Indexer
 pub mod Inflight
 pub mod Inflights
 pub mod Values
+pub mod Slots
+pub mod Cells
+pub mod SlotLends
 pub mod Waited
 pub mod Table
 pub mod Near

@@ -1,6 +1,6 @@
 -- What contracts see of a shard's records.
 use Rattle.std.specs.Prelude.{ℕ, Option}
-use Rattle.slab.specs.Slab.{get, HasRoomFor}
+use Rattle.foyer_core.specs.Slots.{get, HasRoomFor}
 use Rattle.foyer_core.specs.declared.records.Records.{Records}
 use Rattle.foyer_core.specs.Values.{Kept, Rec}
 use Rattle.foyer_core.specs.Ids.{slot_of, HasRoomForId}

@@ -1,15 +1,15 @@
 //! The open fetches of a shard: who leads the fetch of a key, and who waits for it.
 
 ghost use Rattle.std.specs.Prelude.{◌≡◌, ◌↔◌, ℕ, ◌+◌, ◌<◌, [], ◌∷◌, Some, None, IsSomeAnd, IfSome, IfNone, OnSome, IfOk, IfErr, OnOk, OnErr, IsTrue, length, true, false, is_some, option_copied};
-ghost use Rattle.slab.specs.Slab.{get};
+ghost use Rattle.foyer_core.specs.Slots.{get};
 ghost use Rattle.foyer_policy.specs.declared.error.Reason.TheVariants.{NoMemory};
 ghost use Rattle.foyer_core.specs.Indexer.{same_key};
 ghost use Rattle.foyer_core.specs.Inflight.{AreLinked, AreOpen, AreOpen-prop, HasNumbers, IsFetchOrTake, IsOpen, LacksNumber, Place, RefusesEnqueue, after_enqueue, after_nothing, asked, closed, enqueued, joined, no_opens, numbers_in, opens_by, waiters_of, with_place};
 
 use crate::indexer::{HashTableIndexer, Indexer};
 use crate::outcome::Waiting;
+use crate::slots::Slots;
 use foyer_policy::{Error, Key, Reason, Result};
-use slab::Slab;
 use std::alloc::Global;
 use std::marker::Model;
 
@@ -117,7 +117,7 @@ pub enum FetchOrTake<R, N> {
 #[derive(Drop)]
 pub struct InflightManager<K: Key, N: Drop, R: Drop> {
     index: HashTableIndexer<K>,
-    inflights: Slab<Inflight<N, R>>,
+    inflights: Slots<Inflight<N, R>>,
     next_fetch: u64,
     next_token: u64,
     alloc: Global,
@@ -134,7 +134,7 @@ impl<K: Key, N: Drop, R: Drop> InflightManager<K, N, R> {
     {
         InflightManager {
             index: HashTableIndexer::new(alloc),
-            inflights: Slab::new(alloc),
+            inflights: Slots::new(alloc),
             next_fetch: 0,
             next_token: 0,
             alloc,
@@ -196,14 +196,14 @@ impl<K: Key, N: Drop, R: Drop> InflightManager<K, N, R> {
             return Err(Error::new(Reason::Ids));
         }
         let inflight = Inflight::new(self.alloc, id, Waiting { token, waiter })?;
-        let Ok(()) = self.inflights.reserve(1) else {
+        let Ok(()) = self.inflights.reserve() else {
             return Err(Error::new(Reason::NoMemory));
         };
-        let number = self.inflights.vacant_key();
+        let number = self.inflights.next_slot();
         if let Err(error) = self.index.insert(hash, key, number as u64) {
             return Err(error);
         }
-        let _ = self.inflights.insert_reserved(inflight);
+        let _ = self.inflights.insert(inflight);
         self.next_fetch += 1;
         self.next_token += 1;
         Ok(Enqueue::Lead {

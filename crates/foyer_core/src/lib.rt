@@ -15,6 +15,7 @@ mod records;
 pub mod shard;
 mod share;
 mod slot;
+mod slots;
 mod store;
 pub mod tags;
 pub mod weighter;

@@ -1,8 +1,8 @@
-//! The records of a shard: a slab of slots, and where each id stands.
+//! The records of a shard: slots with a record each, and where each id stands.
 
 ghost use Rattle.std.specs.Prelude.{◌≡◌, ℕ, ◌+◌, ◌-◌, ◌<◌, ◌^◌, Option, Some, None, IfErr, IfOk, OnOk, OnErr, IsSomeAnd, IsSome, IsTrue, nat_eq, option_copied, option_map, true};
 ghost use Rattle.std.specs.Map.{update};
-ghost use Rattle.slab.specs.Slab.{entries, get};
+ghost use Rattle.foyer_core.specs.Slots.{entries, get};
 ghost use Rattle.foyer_policy.specs.declared.error.Reason.TheVariants.{NoMemory};
 ghost use Rattle.foyer_core.specs.Values.{Kept};
 ghost use Rattle.foyer_core.specs.Ids.{slot_of};
@@ -13,9 +13,9 @@ mod ids;
 
 use crate::entry::Left;
 use crate::slot::Slot;
+use crate::slots::{Iter, Slots};
 use foyer_policy::{Error, Place, Reason, Result};
 use ids::Ids;
-use slab::{Iter, Slab};
 use std::alloc::Global;
 use std::mem;
 
@@ -23,7 +23,7 @@ use std::mem;
 /// isn't known.
 #[derive(Drop)]
 pub struct Records<K: Drop, V: Drop, P: Drop> {
-    slots: Slab<Slot<K, V, P>>,
+    slots: Slots<Slot<K, V, P>>,
     ids: Ids,
     ghost agree: { IsTable (get slots) (slot_of ids) },
 }
@@ -36,7 +36,7 @@ impl<K: Drop, V: Drop, P: Drop> Records<K, V, P> {
         ensures ids { (id : ℕ) → number_of result id ≡ None }
     {
         Records {
-            slots: Slab::new(alloc),
+            slots: Slots::new(alloc),
             ids: Ids::new(alloc),
         }
     }
@@ -49,7 +49,7 @@ impl<K: Drop, V: Drop, P: Drop> Records<K, V, P> {
         ensures slots { (n : ℕ) → slot_in self.new n ≡ slot_in self.old n }
         ensures ids { (id : ℕ) → number_of self.new id ≡ number_of self.old id }
     {
-        let Ok(()) = self.slots.reserve(1) else {
+        let Ok(()) = self.slots.reserve() else {
             return Err(Error::new(Reason::NoMemory));
         };
         let Ok(()) = self.ids.reserve(self.slots.len()) else {
@@ -121,7 +121,7 @@ impl<K: Drop, V: Drop, P: Drop> Records<K, V, P> {
         ensures records { (id : ℕ) → record_in self.new id ≡ update nat_eq (record_in self.old) slot.id (Some (rec_of slot)) id }
     {
         let id = slot.id();
-        let place = self.slots.insert_reserved(slot);
+        let place = self.slots.insert(slot);
         self.ids.name(id, place);
         place
     }

@@ -2,13 +2,13 @@ use Rattle.std.proofs.Common.{◌≡◌, ℕ, ◌+◌, true, Option, Some, refl,
 use Rattle.std.specs.Prelude.{if◌then◌else◌, is_some, option_and_then}
 use Rattle.std.specs.Option.{option_copied_mut}
 use Rattle.std.specs.Map.{update}
-use Rattle.slab.specs.Slab.{get, with_value}
 use Rattle.foyer_core.specs.declared.outcome.Waiting.{Waiting}
 use Rattle.foyer_core.specs.Chains.{entries_of}
 use Rattle.foyer_core.specs.Entries.{lookup_same}
 use Rattle.foyer_core.specs.Indexer.{same_key}
 use Rattle.foyer_core.specs.Inflight.{Place, after_enqueue, opens_by, joined, numbers_in}
 use Rattle.foyer_core.specs.Inflights.{opens_of}
+use Rattle.foyer_core.specs.Slots.{get, with_value}
 use Rattle.foyer_core.proofs.SlotLemmas.{write_at}
 use Rattle.foyer_core.proofs.InflightLemmas.{join_open, linked_same, led_to, open_same, places_same, same_opens, write_again, write_linked, write_places}
 use Rattle.foyer_core.proofs.inflight.InflightManager.enqueue.Goals as goal

@@ -1,7 +1,7 @@
 use Rattle.std.proofs.Common.{ap}
 use Rattle.std.specs.Prelude.{option_and_then}
-use Rattle.slab.specs.Slab.{get}
 use Rattle.foyer_core.specs.Inflight.{numbers_in}
+use Rattle.foyer_core.specs.Slots.{get}
 use Rattle.foyer_core.proofs.InflightLemmas.{led_none}
 use Rattle.foyer_core.proofs.inflight.InflightManager.is_empty.Goals as goal
 

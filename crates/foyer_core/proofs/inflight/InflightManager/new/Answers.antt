@@ -1,7 +1,7 @@
 use Rattle.std.proofs.Common.{refl, ap}
 use Rattle.std.specs.Prelude.{option_and_then}
-use Rattle.slab.specs.Slab.{get}
 use Rattle.foyer_core.specs.Inflight.{no_opens, numbers_in, opens_by}
+use Rattle.foyer_core.specs.Slots.{get}
 use Rattle.foyer_core.proofs.InflightLemmas.{open_empty, same_opens}
 use Rattle.foyer_core.proofs.inflight.InflightManager.new.Goals as goal
 

@@ -1,9 +1,8 @@
-use Rattle.std.proofs.Common.{◌≡◌, ℕ, ◌<◌, ◌∙◌, Some, None, length, refl, sym, ap}
+use Rattle.std.proofs.Common.{◌≡◌, ℕ, ◌<◌, ◌∙◌, Some, length, refl, sym, ap}
 use Rattle.std.specs.Prelude.{option_and_then}
-use Rattle.slab.specs.Slab.{get}
 use Rattle.foyer_core.specs.Inflight.{Place, closed, numbers_in, opens_by}
 use Rattle.foyer_core.specs.Inflights.{opens_of}
-use Rattle.foyer_core.proofs.SlotLemmas.{updates_at}
+use Rattle.foyer_core.specs.Slots.{get}
 use Rattle.foyer_core.proofs.InflightLemmas.{led_to, same_opens, take_linked, take_open, take_places}
 use Rattle.foyer_core.proofs.inflight.InflightManager.take.Goals as goal
 
@@ -18,7 +17,7 @@ invariant_of-self g c =
     let k : ℕ × g.row.K.Denot = (c.args.hash, c.args.key.now) in
     let n = c.in_ok-number.number in
     let there = sym c.in_ok-number.ensures in
-    let write = updates_at s.inflights c.remove-2.new.self n None c.remove-2.ensures.updates in
+    let write = c.remove-2.ensures.slots in
     record {
       linked = take_linked g.met.K.Eq.laws (numbers_in s.index) (numbers_in c.remove.new.self) (get s.inflights) (get c.remove-2.new.self) k n s.linked there c.remove.ensures.view write;
       sound = take_open g.met.K.Eq.laws (numbers_in s.index) (numbers_in c.remove.new.self) (get s.inflights) (get c.remove-2.new.self) k n s.linked there c.remove.ensures.view write s.next_fetch s.next_token s.sound;
@@ -29,7 +28,7 @@ returns-clause-opens g c =
     let s = c.args.self.now in
     let k : ℕ × g.row.K.Denot = (c.args.hash, c.args.key.now) in
     let n = c.in_ok-number.number in
-    let write = updates_at s.inflights c.remove-2.new.self n None c.remove-2.ensures.updates in
+    let write = c.remove-2.ensures.slots in
     same_opens (opens_by (numbers_in c.remove.new.self) (get c.remove-2.new.self) s.next_fetch s.next_token) (closed g.K.PartialEq.eq (opens_of s) k)
     (take_places g.met.K.Eq.laws (numbers_in s.index) (numbers_in c.remove.new.self) (get s.inflights) (get c.remove-2.new.self) k n s.linked (sym c.in_ok-number.ensures) c.remove.ensures.view write) refl refl
 

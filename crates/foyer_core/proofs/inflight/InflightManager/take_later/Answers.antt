@@ -1,12 +1,12 @@
 use Rattle.std.proofs.Common.{◌≡◌, ℕ, true, Some, None, sym, refl, ap, ◌∙◌}
 use Rattle.std.specs.Prelude.{option_and_then}
 use Rattle.std.specs.Map.{update}
-use Rattle.slab.specs.Slab.{get, with_value}
 use Rattle.foyer_core.specs.Chains.{entries_of}
 use Rattle.foyer_core.specs.Entries.{lookup_same}
 use Rattle.foyer_core.specs.Indexer.{same_key}
 use Rattle.foyer_core.specs.Inflight.{Place, numbers_in, opens_by, with_place}
 use Rattle.foyer_core.specs.Inflights.{opens_of}
+use Rattle.foyer_core.specs.Slots.{get, with_value}
 use Rattle.foyer_core.proofs.SlotLemmas.{write_at}
 use Rattle.foyer_core.proofs.InflightLemmas.{later_open, one, same_opens, write_linked, write_places}
 use Rattle.foyer_core.proofs.inflight.InflightManager.take_later.Goals as goal

@@ -5,7 +5,7 @@ use Rattle.foyer_core.specs.Values.{Kept}
 use Rattle.foyer_core.specs.Steps.{outside}
 use Rattle.foyer_core.specs.Table.{rec_of}
 use Rattle.foyer_core.specs.Records.{slot_in, number_of, record_in}
-use Rattle.foyer_core.proofs.SlotLemmas.{write_at, room-write}
+use Rattle.foyer_core.proofs.SlotLemmas.{write_at}
 use Rattle.foyer_core.proofs.TableLemmas.{write_table, write_records, not_zero}
 use Rattle.foyer_core.proofs.records.Records.leave.Goals as goal
 
@@ -16,7 +16,7 @@ invariant_of-self g c =
     record { agree = write_table (slot_in c.args.self.now) _ (number_of c.args.self.now) (number_of c.args.self.now) c.args.slot c.args.self.now.agree c.in-Some.found.now c.leave-left.new.self there same (write_at c.args.self.now.slots c.args.slot c.in-Some.found.now c.leave-left.new.self there) (λ q. refl) }
 
 pub returns-then-handles-eq0-clause-room : goal.returns-then-handles-eq0-clause-room
-returns-then-handles-eq0-clause-room g c room = c.forget.ensures.room (room-write c.args.self.now.slots c.args.slot c.in-Some.found.now c.leave-left.new.self (sym c.in-Some.ensures.value) room.0, room.1)
+returns-then-handles-eq0-clause-room g c room = c.forget.ensures.room room
 
 pub returns-else-handles-eq0-clause-records : goal.returns-else-handles-eq0-clause-records
 returns-else-handles-eq0-clause-records g c s is id =

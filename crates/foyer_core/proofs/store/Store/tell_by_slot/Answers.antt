@@ -1,8 +1,8 @@
 use Rattle.std.proofs.Common.{◌∙◌, sym, inr}
-use Rattle.slab.proofs.SlabLemmas.{Contains-cons_cases, Contains-entries}
 use Rattle.foyer_core.specs.Questions.{IsTold}
 use Rattle.foyer_core.specs.Values.{Kept}
 use Rattle.foyer_core.proofs.Residents.{none_listed, passed, passed_by}
+use Rattle.foyer_core.proofs.SlotLemmas.{Contains-entries}
 use Rattle.foyer_core.proofs.store.Store.tell_by_slot.Goals as goal
 
 pub loop-slot-init : goal.loop-slot-init
