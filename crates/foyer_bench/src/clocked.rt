@@ -7,8 +7,8 @@ ghost use Rattle.foyer_core.specs.Idle.{NoneOpen};
 ghost use Rattle.foyer_bench.specs.Drive.{NoMoreHandles, Runs};
 
 use crate::drive::{Core, drive};
-use crate::failure::Failure;
 use crate::progress::Progress;
+use foyer_bench_common::{Failure, Timed};
 use foyer_policy::{Eviction, HashBuilder};
 use std::alloc::Global;
 use std::rt::Clock;
@@ -16,15 +16,6 @@ use std::time::{Duration, Instant};
 
 // How many keys are looked up between two looks at the clock.
 const PART: usize = 1 << 18;
-
-/// What a timed run comes to.
-#[derive(Clone, Copy, Debug)]
-pub struct Timed {
-    /// How many keys were found.
-    pub hits: usize,
-    /// How long the look-ups took together, in nanoseconds.
-    pub nanos: u64,
-}
 
 /// Runs over the keys as `drive` does, and says how long it took. At `Err` some first keys were looked up. It asks
 /// that no fetch is open.

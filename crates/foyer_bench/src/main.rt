@@ -3,57 +3,44 @@
 //! many were found and how long it took.
 #![tactic(auto)]
 
-ghost use Rattle.std.specs.Prelude.{◌<◌, IfOk};
+ghost use Rattle.std.specs.Prelude.{◌<◌};
 
+use foyer_bench_common::{
+    BenchArgs, Failure, Hasher, Policy, Report, bench_args, keys_of, print_report, ranks_of,
+    words_of,
+};
 use foyer_core::{AdmitAll, Limits, RawCacheConfig, UnitWeighter};
 use foyer_policy::{
     DefaultHasher, Eviction, Fifo, HashBuilder, Lfu, Lru, ModHasher, S3Fifo, Sieve,
 };
-use std::env;
-use std::io::{ErrorKind, IsTerminal};
+use std::alloc::Global;
+use std::io::IsTerminal;
 use std::process::ExitCode;
 
-mod args;
 mod clocked;
 mod drive;
-mod failure;
 mod progress;
-mod random;
-mod report;
-mod skew;
-mod trace;
-mod words;
-mod zipf;
 
-use args::{BenchArgs, Hasher, Policy, bench_args};
 use clocked::run_clocked;
 use drive::Core;
-use failure::Failure;
 use progress::Progress;
-use report::Report;
-use trace::{Ranks, keys_of};
-use zipf::Refusal;
+
+// How the program is called.
+const USAGE: &str =
+    "foyer-bench POLICY CAPACITY SHARDS OPS KEYSPACE SKEW SEED [--hasher mod|default] [--reps N] [--hits]";
 
 fn main(rt: HostRuntime) -> ExitCode {
     let Err(failure) = run(&rt) else {
         return ExitCode::SUCCESS;
     };
-    let (status, message) = match failure {
-        Failure::Arguments => (
-            2,
-            "usage: foyer-bench POLICY CAPACITY SHARDS OPS KEYSPACE SKEW SEED [--hasher mod|default] [--reps N] [--hits]",
-        ),
-        Failure::Memory => (1, "foyer-bench: out of memory"),
-        Failure::InputOrOutput => (1, "foyer-bench: input or output failed"),
-    };
-    // The status says it where standard error can't.
-    let _ = eprintln!(rt; "{message}");
-    ExitCode::from(status)
+    failure.tell(&rt, USAGE);
+    ExitCode::from(failure.status())
 }
 
 fn run(rt: &HostRuntime) -> Result<(), Failure> {
-    let args = arguments(rt)?;
-    let keys = trace_of(rt, &args)?;
+    let words = words_of(rt)?;
+    let args = bench_args(words.as_slice()).ok_or(Failure::Arguments)?;
+    let keys = trace_of(rt.alloc(), &args)?;
     let keys = keys.as_slice();
     match args.policy {
         Policy::Fifo => run_policy::<Fifo>(rt, &args, keys),
@@ -64,34 +51,12 @@ fn run(rt: &HostRuntime) -> Result<(), Failure> {
     }
 }
 
-// What the program is asked for.
-fn arguments(rt: &HostRuntime) -> Result<BenchArgs, Failure>
-    ensures { IfOk result (λ args. 0 < args.skew.den) }
-{
-    let args = match env::args(rt) {
-        Ok(args) => args,
-        Err(error) if error.kind() == ErrorKind::OutOfMemory => return Err(Failure::Memory),
-        Err(_) => return Err(Failure::Arguments),
-    };
-    let mut words = Vec::new(rt.alloc());
-    for word in args.skip(1) {
-        let Ok(()) = words.push(word) else {
-            return Err(Failure::Memory);
-        };
-    }
-    bench_args(words.as_slice()).ok_or(Failure::Arguments)
-}
-
 // The keys that are looked up.
-fn trace_of(rt: &HostRuntime, args: &BenchArgs) -> Result<Vec<u64>, Failure>
+fn trace_of(alloc: Global, args: &BenchArgs) -> Result<Vec<u64>, Failure>
     requires { 0 < args.now.skew.den }
 {
-    let ranks = match Ranks::new(rt.alloc(), args.keyspace, args.skew) {
-        Ok(ranks) => ranks,
-        Err(Refusal::Memory) => return Err(Failure::Memory),
-        Err(Refusal::Keyspace) => return Err(Failure::Arguments),
-    };
-    keys_of(rt.alloc(), &ranks, args.seed, args.ops as usize).map_err(|_| Failure::Memory)
+    let ranks = ranks_of(alloc, args)?;
+    keys_of(alloc, &ranks, args.seed, args.ops as usize).map_err(|_| Failure::Memory)
 }
 
 // Runs over a cache of this policy.
@@ -116,15 +81,7 @@ fn run_reps<E: Eviction, S: HashBuilder + Default>(
     for rep in 0..args.options.reps {
         let report = run_once::<E, S>(rt, args, keys, &mut progress)?;
         progress.end(rt);
-        let hits = report.hits;
-        let written = if args.options.hits_alone {
-            println!(rt; "hits={hits}")
-        } else {
-            println!(rt; "{report}")
-        };
-        if written.is_err() {
-            return Err(Failure::InputOrOutput);
-        }
+        print_report(rt, args.options, report)?;
     }
     Ok(())
 }

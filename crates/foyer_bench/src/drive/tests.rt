@@ -1,6 +1,5 @@
 use super::*;
-use crate::skew::Skew;
-use crate::trace::{Ranks, keys_of};
+use foyer_bench_common::{Ranks, Skew, keys_of};
 use foyer_core::{Limits, RawCacheConfig};
 use foyer_policy::{DefaultHasher, Fifo, Lfu, Lru, ModHasher, S3Fifo, Sieve};
 use std::alloc::Global;
