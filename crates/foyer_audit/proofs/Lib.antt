@@ -1,1 +1,3 @@
+pub mod Accounted
+pub mod Counts
 pub mod Legals

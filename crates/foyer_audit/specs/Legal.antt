@@ -1,5 +1,5 @@
 -- Legal histories.
-use Rattle.std.specs.Prelude.{◌≡◌, ℕ, ◌%◌, ◌==◌, Bool, true, false, not, All, List, [], ◌∷◌, Option, Some, None}
+use Rattle.std.specs.Prelude.{◌≡◌, ℕ, ◌%◌, ◌<◌, ◌==◌, Bool, true, false, not, All, List, [], ◌∷◌, Option, Some, None}
 use Rattle.foyer_core.specs.declared.config.RawCacheConfig.{RawCacheConfig}
 use Rattle.foyer_core.specs.Core.{IsNewCore, share_of}
 use Rattle.foyer_core.specs.Inflight.{no_opens}
@@ -68,3 +68,10 @@ pub record IsHistory {K V P View C S W A Q : Type 0} (t : Terms K V P View C S W
   pub opening : SessionState K V P View S W A
   pub opens : IsOpening t config shard opening
   pub legal : Legal t picks same config.shards shard opening calls now
+
+-- A legal history of one of the shards of a cache, of some configuration, to some state.
+abbrev pub IsSomeHistory : {K V P View C S W A Q : Type 0} → Terms K V P View C S W A → (Q → K → V → Bool → Type 0)
+    → (Command K V P Q C → Command K V P Q C → Bool) → List (Command K V P Q C × Reply K V P) → Type 0
+IsSomeHistory {K} {V} {P} {View} {C} {S} {W} {A} {Q} t picks same calls =
+    (config : RawCacheConfig C S W A) × (shard : ℕ) × (now : SessionState K V P View S W A) × (shard < config.shards)
+    × ∥ IsHistory t picks same config shard calls now ∥₁

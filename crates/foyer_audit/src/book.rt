@@ -4,6 +4,7 @@ ghost use Rattle.std.specs.Prelude.{◌≡◌, ◌++◌, ◌∷◌, ◌<◌, ◌
 ghost use Rattle.foyer_policy.specs.declared.error.Reason.TheVariants.{NoMemory};
 ghost use Rattle.foyer_core.specs.Core.{core_fault};
 ghost use Rattle.foyer_session.specs.Sessions.{session_of, terms_of};
+ghost use Rattle.foyer_audit.specs.Accounts.{AreCopies};
 ghost use Rattle.foyer_audit.specs.Legal.{Call, IsHistory, is_elsewhere, key_of};
 
 use crate::compared::Compared;
@@ -135,6 +136,17 @@ impl<
         }
     }
 
+    // Two copies of the reply of a number, or none where one is refused.
+    pub(crate) fn copies(&self, number: u64) -> (Option<Reply<K, V, P>>, Option<Reply<K, V, P>>)
+        ensures { (c : Command K V P Q C) (reply : Reply K V P) → slice_get self.now.history.items number ≡ Some (c, reply)
+            → AreCopies ⟦<Reply<K, V, P> as Clone>⟧.is_clone reply result.0 result.1 }
+    {
+        match self.reply(number) {
+            Some(reply) => two_copies(reply),
+            None => (None, None),
+        }
+    }
+
     // The history, which is legal from the opening state of a configuration.
     pub(crate) fn into_history(self) -> Vec<(Command<K, V, P, Q, C>, Reply<K, V, P>)>
         ensures history { result.items ≡ self.history.items }
@@ -144,6 +156,21 @@ impl<
         let Book { history, .. } = self;
         history
     }
+}
+
+// Two copies of a reply, or none where one is refused.
+fn two_copies<K: Key, V: Value + Clone, P: Properties + Clone>(
+    reply: &Reply<K, V, P>,
+) -> (Option<Reply<K, V, P>>, Option<Reply<K, V, P>>)
+    ensures { AreCopies ⟦<Reply<K, V, P> as Clone>⟧.is_clone reply.now result.0 result.1 }
+{
+    let Ok(one) = reply.clone() else {
+        return (None, None);
+    };
+    let Ok(other) = reply.clone() else {
+        return (None, None);
+    };
+    (Some(one), Some(other))
 }
 
 // Carries a command of the shard of this number, of so many, out, and leaves the command. Only memory can be missing.

@@ -1,18 +1,40 @@
-//! When two commands are equal, for ghost fields that speak of it.
+//! When two commands are equal, and when two replies are, as members that ghost fields and proofs can name.
 
-use foyer_session::Command;
+use foyer_session::{Command, Reply};
 
-/// Says in contracts when two commands whose `FlushIf` has this predicate are equal: where `==` says so. Every
-/// predicate is one whose commands can be compared.
-pub trait Compared<K, V, P, C> {
-    ghost use Rattle.std.specs.Prelude.{Bool};
+/// Says in contracts when two commands whose `FlushIf` has this predicate are equal, and when two replies to them are:
+/// where `==` says so. Every predicate is one whose commands can be compared.
+pub trait Compared<K, V, P, C>: Sized {
+    ghost use Rattle.std.specs.Prelude.{◌≡◌, Bool};
     ghost use Rattle.foyer_session.specs.declared.command.Command.{Command};
+    ghost use Rattle.foyer_session.specs.declared.command.Reply.{Reply};
 
     // whether two commands are equal
     ghost same: { Command K V P Self C → Command K V P Self C → Bool };
+
+    // whether two replies are equal
+    ghost alike: { Reply K V P → Reply K V P → Bool };
+
+    /// Whether two commands are equal.
+    fn are_same(one: &Command<K, V, P, Self, C>, other: &Command<K, V, P, Self, C>) -> bool
+        ensures { result ≡ same one.now other.now };
+
+    /// Whether two replies are equal.
+    fn are_alike(one: &Reply<K, V, P>, other: &Reply<K, V, P>) -> bool
+        ensures { result ≡ alike one.now other.now };
 }
 
 impl<K: PartialEq, V: PartialEq, P: PartialEq, Q: PartialEq, C: PartialEq> Compared<K, V, P, C>
     for Q {
     ghost same = { ⟦<Command<K, V, P, Q, C> as PartialEq>⟧.eq };
+
+    ghost alike = { ⟦<Reply<K, V, P> as PartialEq>⟧.eq };
+
+    fn are_same(one: &Command<K, V, P, Q, C>, other: &Command<K, V, P, Q, C>) -> bool {
+        one == other
+    }
+
+    fn are_alike(one: &Reply<K, V, P>, other: &Reply<K, V, P>) -> bool {
+        one == other
+    }
 }

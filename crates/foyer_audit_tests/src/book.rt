@@ -1,17 +1,12 @@
+//! Books in one thread's hands.
+
+use crate::testing::{command, config, insert, is_keyed, next, session};
 use foyer_audit::Book;
-use foyer_core::{
-    AdmitAll, CacheCore, CacheProperties, Limits, RawCacheConfig, UnitWeighter, shard_capacity,
-};
-use foyer_policy::{Fault, Fifo, FifoConfig, ModHasher, Result, Source};
-use foyer_session::{Answer, Command, End, NoPredicate, Session};
-use std::alloc::Global;
+use foyer_core::{AdmitAll, CacheProperties, UnitWeighter};
+use foyer_policy::{Fifo, FifoConfig, ModHasher, Result};
+use foyer_session::{Answer, Command, NoPredicate};
 use std::process::Abort;
-use std::sync::Arc;
 use std::test::Fail;
-
-type Plain = Command<u64, u64, CacheProperties, NoPredicate, FifoConfig>;
-
-type Config = RawCacheConfig<FifoConfig, ModHasher, UnitWeighter, AdmitAll>;
 
 type PlainBook = Book<
     Fifo,
@@ -24,73 +19,6 @@ type PlainBook = Book<
     NoPredicate,
     FifoConfig,
 >;
-
-type PlainSession = Session<Fifo, u64, u64, CacheProperties, ModHasher, UnitWeighter, AdmitAll>;
-
-fn config(capacity: usize, shards: usize) -> Config {
-    RawCacheConfig {
-        capacity,
-        shards,
-        eviction_config: FifoConfig {},
-        hash_builder: ModHasher::default(),
-        weighter: UnitWeighter,
-        filter: AdmitAll,
-        number: 0,
-        limits: Limits::default(),
-    }
-}
-
-// A session over the one shard of this number of a cache of this capacity with so many shards.
-fn session(alloc: Global, capacity: usize, shards: usize, shard: usize) -> Result<PlainSession> {
-    let capacity = shard_capacity(capacity, shards, shard);
-    Ok(Session::new(alloc, CacheCore::new(alloc, config(capacity, 1))?))
-}
-
-fn insert(key: u64, value: u64) -> Plain {
-    Command::Insert(key, value, CacheProperties::default())
-}
-
-fn fault(alloc: Global, code: u64) -> std::result::Result<Arc<Fault, Global>, Fail> {
-    let message = String::from_str(alloc, "refused")?;
-    Ok(Arc::new(alloc, Fault { code, message })?)
-}
-
-// The command of a number: each kind that names no handle and no piece.
-fn command(alloc: Global, number: u64) -> std::result::Result<Plain, Fail> {
-    let key = (number >> 40) % 16;
-    let fetch = (number >> 50) % 4;
-    Ok(match (number >> 32) % 21 {
-        0 | 1 | 2 => insert(key, number % 1000),
-        3 => Command::Get(key),
-        4 => Command::Contains(key),
-        5 => Command::Touch(key),
-        6 => Command::Remove(key),
-        7 => Command::GetOrFetch(key, None),
-        8 => Command::GetOrFetch(key, Some(number % 1000)),
-        9 => Command::Complete(
-            key,
-            fetch,
-            End::Value(number % 1000, CacheProperties::default(), Source::Outer),
-        ),
-        10 => Command::Fail(key, fetch, fault(alloc, number % 10)?),
-        11 => Command::Cancel(key, fetch),
-        12 => Command::FetchOrTake(key, fetch, None),
-        13 => Command::FetchOrTake(key, fetch, Some(fault(alloc, number % 10)?)),
-        14 => Command::IsOpen(key, fetch),
-        15 => Command::EvictAll,
-        16 => Command::FlushIf(NoPredicate),
-        17 => Command::Resize((number % 8) as usize),
-        18 => Command::Reconfigure(FifoConfig {}),
-        19 => Command::Capacity,
-        _ => Command::Usage,
-    })
-}
-
-fn next(number: u64) -> u64 {
-    number
-        .wrapping_mul(6364136223846793005)
-        .wrapping_add(1442695040888963407)
-}
 
 #[test]
 fn each_call_has_its_number_and_reply(rt: HostRuntime) -> std::result::Result<(), Fail> {
@@ -131,13 +59,13 @@ fn a_fresh_session_replies_the_same(rt: HostRuntime) -> std::result::Result<(), 
     let mut number = 1u64;
     let mut elsewhere = 0;
     for _ in 0..500 {
-        let asked = command(alloc, number)?;
+        let key = (number >> 40) % 16;
+        let asked = command(alloc, number, key)?;
         let at = book.apply(asked.clone()?)?;
         let Some(recorded) = book.reply(at) else {
             return Err(Fail::from(std::alloc::AllocError));
         };
-        let odd = (number >> 40) % 2 == 1;
-        if odd && (number >> 32) % 21 < 15 {
+        if key % 2 == 1 && is_keyed(number) {
             assert!(rt; matches!(recorded.answer, Answer::NotHeld));
             elsewhere += 1;
         } else {

@@ -2,4 +2,8 @@
 #![tactic(auto)]
 
 #[cfg(test)]
+mod audited;
+#[cfg(test)]
 mod book;
+#[cfg(test)]
+mod testing;
