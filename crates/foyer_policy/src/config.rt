@@ -2,9 +2,6 @@
 
 use serde::{DeserializeOwned, Serialize};
 
-#[cfg(test)]
-mod tests;
-
 /// What a policy keeps beside an item. Every fitting type is one.
 pub trait State: Default + Drop + 'static {}
 

@@ -8,9 +8,6 @@ use std::marker::Model;
 use std::sync::Arc;
 use thiserror::Error as ThisError;
 
-#[cfg(test)]
-mod tests;
-
 /// What a refusal has to do with.
 #[derive(Clone, Copy, Debug, PartialEq, Eq, Hash)]
 pub enum ErrorKind {

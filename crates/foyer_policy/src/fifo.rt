@@ -147,6 +147,3 @@ impl Eviction for Fifo {
         0
     }
 }
-
-#[cfg(test)]
-mod tests;

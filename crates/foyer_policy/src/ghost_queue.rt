@@ -183,6 +183,3 @@ impl GhostQueue {
         self.capacity
     }
 }
-
-#[cfg(test)]
-mod tests;

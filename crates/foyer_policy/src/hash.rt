@@ -7,9 +7,6 @@ ghost use Rattle.foyer_policy.specs.Hash.{no_digits, with_bytes, number_of_bytes
 use std::hash::{BuildHasher, BuildHasherDefault, FoldHasher, Hash, Hasher};
 use std::marker::Model;
 
-#[cfg(test)]
-mod tests;
-
 /// Gives each key a number, and equal keys equal numbers. Every `BuildHasher` is one.
 pub trait HashBuilder: Drop + 'static {
     // The number of a key that makes these writes to a hasher.

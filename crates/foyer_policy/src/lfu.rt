@@ -279,6 +279,3 @@ impl Eviction for Lfu {
         0
     }
 }
-
-#[cfg(test)]
-mod tests;

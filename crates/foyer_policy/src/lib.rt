@@ -18,8 +18,6 @@ pub mod properties;
 pub mod s3fifo;
 pub mod sieve;
 pub mod sketch;
-#[cfg(test)]
-mod testing;
 pub mod types;
 
 pub use config::{Config, State};

@@ -6,9 +6,6 @@ ghost use Rattle.foyer_policy.specs.Limit.{limit_of, ok_unless, ratio_fault};
 use crate::error::{Error, Field, Reason, Result};
 use crate::types::Ratio;
 
-#[cfg(test)]
-mod tests;
-
 /// In which range a ratio is accepted.
 #[derive(Clone, Copy)]
 pub(crate) enum Range {

@@ -13,8 +13,6 @@ use std::marker::Model;
 pub(crate) mod arena;
 pub(crate) mod block;
 pub(crate) mod linking;
-#[cfg(test)]
-mod tests;
 
 /// Names a value of a [`Lists`] while it is in.
 #[derive(Clone, Copy, Debug, PartialEq, Eq, Hash)]

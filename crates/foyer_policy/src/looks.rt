@@ -4,9 +4,6 @@ ghost use Rattle.foyer_policy.specs.Looks.{LooksArePaid};
 
 use crate::eviction::Eviction;
 
-#[cfg(test)]
-mod tests;
-
 /// The law that evictions are paid for: over every list of calls of a new policy, the looks of all its
 /// pops together are at most the number of victims that pops gave and of acquires.
 ///

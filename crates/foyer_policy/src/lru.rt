@@ -291,6 +291,3 @@ impl Eviction for Lru {
         0
     }
 }
-
-#[cfg(test)]
-mod tests;

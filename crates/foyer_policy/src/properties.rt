@@ -7,9 +7,6 @@ ghost use Rattle.foyer_policy.specs.declared.types.Location.{Location};
 
 use crate::types::{Age, Hint, Location};
 
-#[cfg(test)]
-mod tests;
-
 /// The properties of a record. A type answers what it keeps, and `None` for what it does not.
 pub trait Properties: Default + Drop + 'static {
     // What each question is answered with.

@@ -289,6 +289,3 @@ impl Eviction for S3Fifo {
         self.looks
     }
 }
-
-#[cfg(test)]
-mod tests;

@@ -266,6 +266,3 @@ impl Eviction for Sieve {
         self.looks
     }
 }
-
-#[cfg(test)]
-mod tests;

@@ -11,9 +11,6 @@ use std::alloc::Global;
 use std::marker::Model;
 use std::simd::prelude::*;
 
-#[cfg(test)]
-mod tests;
-
 // How many counters are halved at once.
 const LANES: usize = 32;
 

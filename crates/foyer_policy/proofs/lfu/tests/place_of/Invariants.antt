@@ -1,7 +1,0 @@
-use Rattle.std.specs.Prelude.{IfSome, IsSome}
-use Rattle.foyer_policy.specs.Lists.{find}
-use Rattle.foyer_policy.proofs.lfu.tests.place_of.Given as goal
-
--- the next place is one that is in
-abbrev pub invariant-loop : goal.invariant-loop
-invariant-loop l = IfSome l.next (λ p. IsSome (find p l.policy.lists))

@@ -1,0 +1,340 @@
+ghost use Rattle.std.specs.Prelude.{◌<◌, ◌≤◌, IfSome, IsSome, OnOk, length};
+ghost use Rattle.foyer_policy.specs.Lists.{find};
+
+use crate::testing::Answer;
+use foyer_policy::{Lists, Place};
+use std::alloc::Global;
+use std::mem::align_of;
+use std::process::Abort;
+use std::sync::Arc;
+use std::sync::atomic::{AtomicU64, Ordering};
+
+#[test]
+fn values_keep_their_places(rt: HostRuntime) -> Answer<()> {
+    let mut lists: Lists<u32, 2> = Lists::new(rt.alloc());
+    lists.reserve(3)?;
+    let one = lists.push_back(0, 10);
+    let two = lists.push_back(0, 20);
+    let three = lists.push_back(1, 30);
+    assert_eq!(rt; lists.front(0), Some(one));
+    assert_eq!(rt; lists.next(one), Some(two));
+
+    lists.move_back(one, 1);
+    assert_eq!(rt; lists.front(0), Some(two));
+    assert_eq!(rt; lists.next(three), Some(one));
+    assert_eq!(rt; lists.next(one), None);
+
+    *lists.get_mut(one) += 1;
+    assert_eq!(rt; *lists.get(one), 11);
+    assert_eq!(rt; lists.remove(three), 30);
+    assert_eq!(rt; lists.pop_front(1), Some(11));
+    assert_eq!(rt; lists.pop_front(1), None);
+    assert_eq!(rt; lists.pop_front(0), Some(20));
+    Ok(())
+}
+
+// A value that counts its drop at its number.
+struct Counted {
+    number: usize,
+    drops: Drops,
+}
+
+type Drops = Arc<Vec<AtomicU64>, Global>;
+
+impl Drop for Counted {
+    fn drop(self) {
+        let Counted { number, drops } = self;
+        if let Some(count) = drops.get(number) {
+            count.fetch_add(1, Ordering::SeqCst);
+        }
+    }
+}
+
+// Counts of drops, all 0.
+fn no_drops(alloc: Global, len: usize) -> Answer<Drops> {
+    let mut counts = Vec::new(alloc);
+    for _ in 0..len {
+        counts.push(AtomicU64::new(0))?;
+    }
+    Ok(Arc::new(alloc, counts)?)
+}
+
+fn new_counted(number: usize, drops: &Drops) -> Answer<Counted> {
+    Ok(Counted {
+        number,
+        drops: Arc::try_clone(drops)?,
+    })
+}
+
+// The drops of the values from one number on, up to another, as long as all have as many.
+fn drops_of(rt: &impl Abort, drops: &Drops, from: usize, to: usize) -> u64 {
+    let mut all = None;
+    for number in from..to {
+        let count = match drops.get(number) {
+            Some(count) => count.load(Ordering::SeqCst),
+            None => panic!(rt; "there is no value {number}"),
+        };
+        match all {
+            Some(others) => assert_eq!(rt; count, others, "drops of {number}"),
+            None => all = Some(count),
+        }
+    }
+    all.unwrap_or(0)
+}
+
+// 100 values over three lists, through pops, removals, growths and a value that is overwritten.
+#[test]
+fn each_value_is_dropped_once(rt: HostRuntime) -> Answer<()> {
+    let drops = no_drops(rt.alloc(), 101)?;
+    let mut lists: Lists<Counted, 3> = Lists::new(rt.alloc());
+    for number in 0..60usize {
+        lists.reserve(1)?;
+        lists.push_back(number % 3, new_counted(number, &drops)?);
+    }
+    assert_eq!(rt; drops_of(&rt, &drops, 0, 101), 0);
+    for list in 0..3usize {
+        lists.pop_front(list);
+    }
+    assert_eq!(rt; drops_of(&rt, &drops, 0, 3), 1);
+    if let Some(first) = lists.front(0) {
+        let left = lists.remove(first);
+        assert_eq!(rt; left.number, 3);
+        assert_eq!(rt; drops_of(&rt, &drops, 3, 101), 0);
+    }
+    assert_eq!(rt; drops_of(&rt, &drops, 3, 4), 1);
+    lists.reserve(200)?;
+    assert_eq!(rt; drops_of(&rt, &drops, 4, 101), 0);
+    for number in 60..100usize {
+        lists.reserve(1)?;
+        lists.push_back(2, new_counted(number, &drops)?);
+    }
+    let other = new_counted(100, &drops)?;
+    if let Some(first) = lists.front(1) {
+        *lists.get_mut(first) = other;
+    }
+    assert_eq!(rt; drops_of(&rt, &drops, 4, 5), 1);
+    assert_eq!(rt; drops_of(&rt, &drops, 5, 101), 0);
+    drop(lists);
+    assert_eq!(rt; drops_of(&rt, &drops, 0, 101), 1);
+    Ok(())
+}
+
+#[test]
+fn lists_are_dropped_in_each_state(rt: HostRuntime) -> Answer<()> {
+    let drops = no_drops(rt.alloc(), 4)?;
+    let unused: Lists<Counted, 2> = Lists::new(rt.alloc());
+    drop(unused);
+    let mut emptied: Lists<Counted, 2> = Lists::new(rt.alloc());
+    emptied.reserve(1)?;
+    emptied.push_back(1, new_counted(0, &drops)?);
+    emptied.pop_front(1);
+    assert_eq!(rt; drops_of(&rt, &drops, 0, 1), 1);
+    drop(emptied);
+    assert_eq!(rt; drops_of(&rt, &drops, 0, 1), 1);
+    let mut full: Lists<Counted, 1> = Lists::new(rt.alloc());
+    for number in 0..4usize {
+        full.reserve(1)?;
+        full.push_back(0, new_counted(number, &drops)?);
+    }
+    drop(full);
+    assert_eq!(rt; drops_of(&rt, &drops, 0, 1), 2);
+    assert_eq!(rt; drops_of(&rt, &drops, 1, 4), 1);
+    Ok(())
+}
+
+// A node that is freed is the next to be used, and a growth moves no node.
+#[test]
+fn freed_places_are_given_again(rt: HostRuntime) -> Answer<()> {
+    let mut lists: Lists<u64, 2> = Lists::new(rt.alloc());
+    lists.reserve(4)?;
+    let first = lists.push_back(0, 1);
+    let second = lists.push_back(0, 2);
+    let third = lists.push_back(0, 3);
+    lists.push_back(0, 4);
+    lists.remove(second);
+    lists.remove(third);
+    lists.reserve(50)?;
+    assert_eq!(rt; lists.push_back(1, 20), second);
+    assert_eq!(rt; lists.push_back(1, 30), third);
+    assert_eq!(rt; *lists.get(first), 1);
+    assert_eq!(rt; lists.list_of(first), 0);
+    assert_eq!(rt; lists.pop_front(1), Some(20));
+    assert_eq!(rt; lists.pop_front(1), Some(30));
+    assert_eq!(rt; lists.pop_front(0), Some(1));
+    assert_eq!(rt; lists.pop_front(0), Some(4));
+    assert_eq!(rt; lists.pop_front(0), None);
+    Ok(())
+}
+
+// The lists stay as they were, and the same call with less then succeeds.
+#[test]
+fn room_that_no_block_has_is_refused(rt: HostRuntime) -> Answer<()> {
+    let mut lists: Lists<u64, 1> = Lists::new(rt.alloc());
+    lists.reserve(0)?;
+    for more in [usize::MAX, usize::MAX - 1, usize::MAX / 2, usize::MAX / 32] {
+        match lists.reserve(more) {
+            Ok(()) => panic!(&rt; "there is room for {more}"),
+            Err(error) => assert_eq!(rt; error.number(), 7),
+        }
+    }
+    lists.reserve(1)?;
+    let place = lists.push_back(0, 5);
+    match lists.reserve(usize::MAX) {
+        Ok(()) => panic!(&rt; "there is room"),
+        Err(error) => assert_eq!(rt; error.number(), 7),
+    }
+    assert_eq!(rt; *lists.get(place), 5);
+    assert_eq!(rt; lists.front(0), Some(place));
+    lists.reserve(10)?;
+    assert_eq!(rt; lists.remove(place), 5);
+    assert_eq!(rt; lists.front(0), None);
+    Ok(())
+}
+
+// No list, a value of no size, and one that is aligned to 16 bytes.
+#[test]
+fn sizes_at_the_ends(rt: HostRuntime) -> Answer<()> {
+    let mut none: Lists<u64, 0> = Lists::new(rt.alloc());
+    none.reserve(3)?;
+    drop(none);
+    let mut marks: Lists<(), 1> = Lists::new(rt.alloc());
+    for _mark in 0..9u64 {
+        marks.reserve(1)?;
+        marks.push_back(0, ());
+    }
+    assert_eq!(rt; marks.pop_front(0), Some(()));
+    assert_eq!(rt; align_of::<u128>(), 16);
+    let mut wide: Lists<u128, 2> = Lists::new(rt.alloc());
+    for number in 0..20u64 {
+        wide.reserve(1)?;
+        wide.push_back(1, u128::from(number) << 64);
+    }
+    for number in 0..20u64 {
+        assert_eq!(rt; wide.pop_front(1), Some(u128::from(number) << 64));
+    }
+    Ok(())
+}
+
+// A list of the model: places and values, in order.
+type Model = [Vec<(Place, u64)>; 3];
+
+// How many values the model has.
+fn count(model: &Model) -> usize {
+    let two = model[0].len().saturating_add(model[1].len());
+    two.saturating_add(model[2].len())
+}
+
+// The place of a list's value at an index, or its last one.
+fn place_at<const N: usize>(lists: &Lists<u64, N>, list: usize, index: usize) -> Option<Place>
+    requires { list < N }
+    ensures { IfSome result (λ p. IsSome (find p lists.now.lists)) }
+{
+    let mut place = lists.front(list)?;
+    for _step in 0..index {
+        match lists.next(place) {
+            Some(next) => place = next,
+            None => return Some(place),
+        }
+    }
+    Some(place)
+}
+
+// Each list has the model's places and values, in order.
+fn agrees(rt: &impl Abort, lists: &Lists<u64, 3>, model: &Model) {
+    for list in 0..3usize {
+        agrees_at(rt, lists, list, &model[list]);
+    }
+}
+
+fn agrees_at(rt: &impl Abort, lists: &Lists<u64, 3>, list: usize, entries: &[(Place, u64)])
+    requires { list < 3 }
+{
+    let mut at = lists.front(list);
+    for entry in entries {
+        assert_eq!(rt; at, Some(entry.0));
+        let Some(here) = at else { return };
+        assert_eq!(rt; lists.list_of(here), list);
+        assert_eq!(rt; *lists.get(here), entry.1);
+        at = lists.next(here);
+    }
+    assert_eq!(rt; at, None);
+}
+
+// Makes room, and asks again where memory is refused once, which leaves all as it was. With `--fail-alloc` each
+// growth is refused in turn.
+fn reserve(rt: &impl Abort, lists: &mut Lists<u64, 3>, model: &Model, more: usize) -> Answer<()>
+    ensures { OnOk result (more ≤ lists.new.room) }
+{
+    if let Err(error) = lists.reserve(more) {
+        assert_eq!(rt; error.number(), 7);
+        agrees(rt, lists, model);
+        lists.reserve(more)?;
+    }
+    Ok(())
+}
+
+// Where the entry of a place stands in the model's list.
+fn index_of(rt: &impl Abort, entries: &[(Place, u64)], place: Place) -> usize
+    ensures { result < length entries.now }
+{
+    for (index, entry) in entries.iter().enumerate() {
+        if entry.0 == place {
+            return index;
+        }
+    }
+    panic!(rt; "the model lacks a place")
+}
+
+// A number below a bound, of the generator that the sketch seeds its rows with.
+fn random(state: &mut u64, bound: usize) -> usize
+    requires { 0 < bound }
+    ensures { result < bound }
+{
+    *state = state
+        .wrapping_mul(6364136223846793005)
+        .wrapping_add(1442695040888963407);
+    (*state >> 33) as usize % bound
+}
+
+#[test]
+fn random_calls_agree_with_a_model(rt: HostRuntime) -> Answer<()> {
+    let mut lists: Lists<u64, 3> = Lists::new(rt.alloc());
+    let mut model: Model = [
+        Vec::new(rt.alloc()),
+        Vec::new(rt.alloc()),
+        Vec::new(rt.alloc()),
+    ];
+    let mut state = 7;
+    for call in 0..10_000u64 {
+        let list = random(&mut state, 3);
+        let index = random(&mut state, 8);
+        let what = random(&mut state, 7);
+        if what < 3 && count(&model) < 24 {
+            reserve(&rt, &mut lists, &model, index + 1)?;
+            let place = lists.push_back(list, call);
+            model[list].push((place, call))?;
+        } else if what < 4 {
+            let was = if model[list].is_empty() {
+                None
+            } else {
+                Some(model[list].remove(0).1)
+            };
+            assert_eq!(rt; lists.pop_front(list), was);
+        } else if let Some(place) = place_at(&lists, list, index) {
+            let at = index_of(&rt, &model[list], place);
+            if what == 4 {
+                assert_eq!(rt; lists.remove(place), model[list].remove(at).1);
+            } else if what == 5 {
+                let to = random(&mut state, 3);
+                lists.move_back(place, to);
+                let entry = model[list].remove(at);
+                model[to].push(entry)?;
+            } else {
+                *lists.get_mut(place) = call;
+                model[list][at].1 = call;
+            }
+        }
+        agrees(&rt, &lists, &model);
+    }
+    Ok(())
+}
