@@ -12,7 +12,7 @@ use crate::accounts::account_for;
 use crate::book::Book;
 use crate::compared::Compared;
 use crate::receipt::Share;
-use foyer_core::{Filter, HashTableIndexer, Indexer, RawCacheConfig, Weighter};
+use foyer_core::{Filter, Finder, RawCacheConfig, TagFinder, Weighter};
 use foyer_policy::{Config, Eviction, HashBuilder, Key, Properties, Result, Value};
 use foyer_session::{Command, Predicate, Reply};
 use std::alloc::Global;
@@ -49,7 +49,7 @@ pub struct AuditedShard<
     A: Filter<K, V>,
     Q: Predicate<K, V> + Clone + Eq + Compared<K, V, P, C>,
     C: Config + Eq,
-    I: Indexer<K> = HashTableIndexer<K>,
+    I: Finder<K> = TagFinder<K>,
 > {
     desk: Mutex<Desk<G, E, K, V, P, S, W, A, Q, C, I>>,
 }
@@ -65,7 +65,7 @@ impl<
     A: Filter<K, V>,
     Q: Predicate<K, V> + Clone + Eq + Compared<K, V, P, C>,
     C: Config + Eq,
-    I: Indexer<K>,
+    I: Finder<K>,
 > AuditedShard<G, E, K, V, P, S, W, A, Q, C, I> {
     /// An audited shard with no call in its history, over the shard of this number of a cache of this configuration,
     /// and a share for each of so many threads. It asks for a blank ledger with a part for each. Refused as a book is:

@@ -8,9 +8,7 @@ ghost use Rattle.foyer_audit.specs.Accounts.{AreCopies};
 ghost use Rattle.foyer_audit.specs.Legal.{Call, IsHistory, is_elsewhere, key_of};
 
 use crate::compared::Compared;
-use foyer_core::{
-    CacheCore, Filter, HashTableIndexer, Indexer, RawCacheConfig, Weighter, shard_capacity,
-};
+use foyer_core::{CacheCore, Filter, Finder, RawCacheConfig, TagFinder, Weighter, shard_capacity};
 use foyer_policy::{Config, Error, Eviction, HashBuilder, Key, Properties, Reason, Result, Value};
 use foyer_session::{Answer, Command, Leaves, Predicate, Reply, Session};
 use std::alloc::Global;
@@ -30,7 +28,7 @@ pub struct Book<
     A: Filter<K, V>,
     Q: Predicate<K, V> + Clone + Eq + Compared<K, V, P, C>,
     C: Config + Eq,
-    I: Indexer<K> = HashTableIndexer<K>,
+    I: Finder<K> = TagFinder<K>,
 > {
     session: Session<E, K, V, P, S, W, A, I>,
     // the configuration with which the book was opened
@@ -55,7 +53,7 @@ impl<
     A: Filter<K, V>,
     Q: Predicate<K, V> + Clone + Eq + Compared<K, V, P, C>,
     C: Config + Eq,
-    I: Indexer<K>,
+    I: Finder<K>,
 > Book<E, K, V, P, S, W, A, Q, C, I> {
     /// An empty book of the shard of this number of a cache of this configuration, with that shard's capacity.
     /// Refused as the cache is: where there is to be no shard (F1), then with the policy configuration's first
@@ -184,7 +182,7 @@ fn carry_out<
     A: Filter<K, V>,
     Q: Predicate<K, V> + Clone + Eq + Compared<K, V, P, C>,
     C: Config + Eq,
-    I: Indexer<K>,
+    I: Finder<K>,
 >(
     session: &mut Session<E, K, V, P, S, W, A, I>,
     shards: usize,
@@ -224,7 +222,7 @@ fn lives_elsewhere<
     A: Filter<K, V>,
     Q: Predicate<K, V> + Clone + Eq + Compared<K, V, P, C>,
     C: Config + Eq,
-    I: Indexer<K>,
+    I: Finder<K>,
 >(
     session: &Session<E, K, V, P, S, W, A, I>,
     shards: usize,

@@ -1,5 +1,40 @@
 -- How a change of one cell changes the slots, and keeps the count and the list of free cells.
-use Rattle.std.proofs.Common.{◌≡◌, ◌≢◌, ℕ, zero, suc, ◌+◌, ◌-◌, ◌<◌, ◌≤◌, List, [], ◌∷◌, ◌++◌, map, length, get_or, set, nat_eq, Option, Some, None, is_some, IsSome, true, count_by, cond, slice_get, refl, sym, ap, subst, ◌∙◌, arith, true≢false}
+use Rattle.std.proofs.Common.{
+  ◌≡◌,
+  ◌≢◌,
+  ℕ,
+  zero,
+  suc,
+  ◌+◌,
+  ◌-◌,
+  ◌<◌,
+  ◌≤◌,
+  List,
+  [],
+  ◌∷◌,
+  ◌++◌,
+  map,
+  length,
+  get_or,
+  set,
+  nat_eq,
+  Option,
+  Some,
+  None,
+  is_some,
+  IsSome,
+  true,
+  count_by,
+  cond,
+  slice_get,
+  refl,
+  sym,
+  ap,
+  subst,
+  ◌∙◌,
+  arith,
+  true≢false,
+}
 use Rattle.std.specs.Prelude.{option_and_then, unwrap_or}
 use Rattle.std.specs.Map.{update}
 use Rattle.std.proofs.lemmas.List.{map-set, map_push, length-map, length-set, length_push, get_or-set_same}

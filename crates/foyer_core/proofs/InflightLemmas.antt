@@ -1,6 +1,36 @@
 -- Place fetches, as one opens, is waited for or is taken.
 use Rattle.std.proofs.Math.Path.{fun_ext}
-use Rattle.std.proofs.Common.{◌≡◌, ◌≢◌, ℕ, ◌+◌, ◌<◌, ◌≤◌, ◌⊎◌, List, [], ◌∷◌, ◌++◌, Bool, true, false, cond, Option, Some, None, length, nat_eq, refl, sym, ap, ◌∙◌, subst, inl, inr, arith, rules}
+use Rattle.std.proofs.Common.{
+  ◌≡◌,
+  ◌≢◌,
+  ℕ,
+  ◌+◌,
+  ◌<◌,
+  ◌≤◌,
+  ◌⊎◌,
+  List,
+  [],
+  ◌∷◌,
+  ◌++◌,
+  Bool,
+  true,
+  false,
+  cond,
+  Option,
+  Some,
+  None,
+  length,
+  nat_eq,
+  refl,
+  sym,
+  ap,
+  ◌∙◌,
+  subst,
+  inl,
+  inr,
+  arith,
+  rules,
+}
 use Rattle.std.specs.Prelude.{◌==◌, if◌then◌else◌, is_some, option_and_then, IsSomeAnd}
 use Rattle.std.specs.declared.cmp.PartialEq.{Ghosts as EqGhosts}
 use Rattle.std.specs.declared.hash.Hash.{Ghosts as HashGhosts}
@@ -61,13 +91,16 @@ module _ {N R : Type 0} where
     go false h = absurd cc
 
 -- places with the same parts are one
-pub same_opens : {K N R : Type 0} (f g : Opens K N R) → ((q : ℕ × K) → f.places q ≡ g.places q) → f.next_fetch ≡ g.next_fetch → f.next_token ≡ g.next_token → f ≡ g
+pub same_opens : {K N R : Type 0} (f g : Opens K N R) → ((q : ℕ × K) → f.places q ≡ g.places q) → f.next_fetch ≡
+    g.next_fetch → f.next_token ≡ g.next_token → f ≡ g
 same_opens f g places fetch token =
     let p : f.places ≡ g.places = fun_ext places in
     λ i. record { places = p i; next_fetch = fetch i; next_token = token i }
 
 module _ {K N R : Type 0} where
-  pub places_same : (keys keys' : ℕ × K → Option ℕ) (slots slots' : ℕ → Option (Place N R)) → ((q : ℕ × K) → keys' q ≡ keys q) → ((n : ℕ) → slots' n ≡ slots n) → (q : ℕ × K) → option_and_then slots' (keys' q) ≡ option_and_then slots (keys q)
+  pub places_same : (keys keys' : ℕ × K → Option ℕ) (slots slots' : ℕ → Option (Place N R)) →
+      ((q : ℕ × K) → keys' q ≡ keys q) → ((n : ℕ) → slots' n ≡ slots n) → (q : ℕ × K) → option_and_then slots' (keys' q)
+      ≡ option_and_then slots (keys q)
   places_same keys keys' slots slots' k s q = ap (option_and_then slots') (k q) ∙ go (keys q) where
     go : (o : Option ℕ) → option_and_then slots' o ≡ option_and_then slots o
     go None = refl
@@ -75,7 +108,8 @@ module _ {K N R : Type 0} where
 
 module _ {K N R : Type 0} (eq : K → K → Bool) where
   -- what was written under a key is there
-  pub written_there : IsEquivalence eq → (f g : Opens K N R) (k : ℕ × K) (o : Place N R) → ((q : ℕ × K) → g.places q ≡ update (same_key eq) f.places k (Some o) q) → g.places k ≡ Some o
+  pub written_there : IsEquivalence eq → (f g : Opens K N R) (k : ℕ × K) (o : Place N R) →
+      ((q : ℕ × K) → g.places q ≡ update (same_key eq) f.places k (Some o) q) → g.places k ≡ Some o
   written_there laws f g k o write = write k ∙ update_same (same_key eq) f.places k (Some o) k ((same_key_equiv laws).refl k)
 
   -- the fetch that is open under a key is written, which none under another key is like
@@ -85,18 +119,21 @@ module _ {K N R : Type 0} (eq : K → K → Bool) where
     pub tokens_below : (t : ℕ) → has t (tokens_of o) ≡ true → t < token
     pub once : IsDistinct nat_eq (tokens_of o)
     pub own_fetch : (q : ℕ × K) (x : Place N R) → f.places q ≡ Some x → x.fetch ≡ o.fetch → same_key eq k q ≡ true
-    pub own_tokens : (q : ℕ × K) (x : Place N R) (t : ℕ) → f.places q ≡ Some x → has t (tokens_of x) ≡ true → has t (tokens_of o) ≡ true → same_key eq k q ≡ true
+    pub own_tokens : (q : ℕ × K) (x : Place N R) (t : ℕ) → f.places q ≡ Some x → has t (tokens_of x) ≡ true → has t
+        (tokens_of o) ≡ true → same_key eq k q ≡ true
 
   module _ (f g : Opens K N R) (k : ℕ × K) (w : Option (Place N R)) (write : (q : ℕ × K) → g.places q ≡ update (same_key eq) f.places k w q) where
     -- what is open afterwards is what was written, or was open under another key
     was : (q : ℕ × K) (o : Place N R) → g.places q ≡ Some o → ((same_key eq k q ≡ true) × (w ≡ Some o)) ⊎ ((same_key eq k q ≡ false) × (f.places q ≡ Some o))
     was q o h = go (tells (same_key eq k q)) where
-      go : (same_key eq k q ≡ true) ⊎ (same_key eq k q ≡ false) → ((same_key eq k q ≡ true) × (w ≡ Some o)) ⊎ ((same_key eq k q ≡ false) × (f.places q ≡ Some o))
+      go : (same_key eq k q ≡ true) ⊎ (same_key eq k q ≡ false) → ((same_key eq k q ≡ true) × (w ≡ Some o)) ⊎
+          ((same_key eq k q ≡ false) × (f.places q ≡ Some o))
       go (inl e) = inl (e, sym (update_same (same_key eq) f.places k w q e) ∙ sym (write q) ∙ h)
       go (inr e) = inr (e, sym (update_other (same_key eq) f.places k w q e) ∙ sym (write q) ∙ h)
 
 module _ {K N R : Type 0} {eq : K → K → Bool} where
-  pub open_same : (f g : Opens K N R) → ((q : ℕ × K) → g.places q ≡ f.places q) → g.next_fetch ≡ f.next_fetch → g.next_token ≡ f.next_token → AreOpen eq f → AreOpen eq g
+  pub open_same : (f g : Opens K N R) → ((q : ℕ × K) → g.places q ≡ f.places q) → g.next_fetch ≡ f.next_fetch →
+      g.next_token ≡ f.next_token → AreOpen eq f → AreOpen eq g
   open_same f g same id token a = record {
     waited = λ q o h. a.waited q o (sym (same q) ∙ h);
     below = λ q o h. rw id (a.below q o (sym (same q) ∙ h));
@@ -133,7 +170,8 @@ module _ {K N R : Type 0} {eq : K → K → Bool} where
     one_place = λ p q x y t hp hq. absurd (none_some (f.places p) x (none p) hp);
   }
 
-  module _ (laws : IsEquivalence eq) (f g : Opens K N R) (k : ℕ × K) (new : Place N R) (write : (q : ℕ × K) → g.places q ≡ update (same_key eq) f.places k (Some new) q) where
+  module _ (laws : IsEquivalence eq) (f g : Opens K N R) (k : ℕ × K) (new : Place N R)
+      (write : (q : ℕ × K) → g.places q ≡ update (same_key eq) f.places k (Some new) q) where
     abbrev Was : ℕ × K → Place N R → Type 0
     Was q o = ((same_key eq k q ≡ true) × (Some new ≡ Some o)) ⊎ ((same_key eq k q ≡ false) × (f.places q ≡ Some o))
 
@@ -184,7 +222,8 @@ module _ {K N R : Type 0} {eq : K → K → Bool} where
       one_place p q x y t tx ty (inr e) (inr d) = a.one_place p q x y t e.1 d.1 tx ty
 
   -- a fetch opens
-  pub fits_new : (f : Opens K N R) (k : ℕ × K) (w : Waiting N) → w.token ≡ f.next_token → AreOpen eq f → Fits eq f (f.next_fetch + 1) (f.next_token + 1) k (record { fetch = f.next_fetch; tokens = w ∷ []; later = None })
+  pub fits_new : (f : Opens K N R) (k : ℕ × K) (w : Waiting N) → w.token ≡ f.next_token → AreOpen eq f → Fits eq f
+      (f.next_fetch + 1) (f.next_token + 1) k (record { fetch = f.next_fetch; tokens = w ∷ []; later = None })
   unfolding IsDistinct
   fits_new f k w token a = record {
     waited = omega arith;
@@ -198,12 +237,16 @@ module _ {K N R : Type 0} {eq : K → K → Bool} where
     only t h = grind (arith, nat_tests)
 
   -- one more waits
-  pub fits_joined : (laws : IsEquivalence eq) (f : Opens K N R) (k : ℕ × K) (o : Place N R) (w : Waiting N) (later : Option R) → f.places k ≡ Some o → w.token ≡ f.next_token → AreOpen eq f → Fits eq f f.next_fetch (f.next_token + 1) k (joined (Some o) o.fetch w later)
+  pub fits_joined : (laws : IsEquivalence eq) (f : Opens K N R) (k : ℕ × K) (o : Place N R) (w : Waiting N)
+      (later : Option R) → f.places k ≡ Some o → w.token ≡ f.next_token → AreOpen eq f → Fits eq f f.next_fetch
+      (f.next_token + 1) k (joined (Some o) o.fetch w later)
   fits_joined laws f k o w later there token a = record {
     waited = subst (λ (n : ℕ). 0 < n) (sym (length_push o.tokens w)) (omega arith);
     below = a.below k o there;
     tokens_below = λ t h. tokens_below t (more t h);
-    once = subst (λ (ts : List ℕ). IsDistinct nat_eq ts) (sym (tokens-joined o w later)) (IsDistinct-push nat_eq_equiv (tokens_of o) w.token (a.once k o there) (fresh (tells (has w.token (tokens_of o)))));
+    once = subst (λ (ts : List ℕ). IsDistinct nat_eq ts) (sym (tokens-joined o w later))
+        (IsDistinct-push nat_eq_equiv (tokens_of o) w.token (a.once k o there)
+        (fresh (tells (has w.token (tokens_of o)))));
     own_fetch = λ q x h same. a.one_fetch k q o x there h (sym same);
     own_tokens = λ q x t h tx to. own_tokens q x t h tx (more t to);
   } where
@@ -218,12 +261,14 @@ module _ {K N R : Type 0} {eq : K → K → Bool} where
     fresh (inl e) = (let lt = a.tokens_below k o w.token there e in absurd (omega (arith, lt, token)))
     fresh (inr e) = e
 
-    own_tokens : (q : ℕ × K) (x : Place N R) (t : ℕ) → f.places q ≡ Some x → has t (tokens_of x) ≡ true → (has t (tokens_of o) ≡ true) ⊎ (t ≡ w.token) → same_key eq k q ≡ true
+    own_tokens : (q : ℕ × K) (x : Place N R) (t : ℕ) → f.places q ≡ Some x → has t (tokens_of x) ≡ true →
+        (has t (tokens_of o) ≡ true) ⊎ (t ≡ w.token) → same_key eq k q ≡ true
     own_tokens q x t h tx (inl e) = a.one_place k q o x t there h e tx
     own_tokens q x t h tx (inr e) = (let lt = a.tokens_below q x t h tx in absurd (omega (arith, lt, e, token)))
 
   -- the kept builder is taken
-  pub fits_same : (f : Opens K N R) (k : ℕ × K) (o : Place N R) (later : Option R) → f.places k ≡ Some o → AreOpen eq f → Fits eq f f.next_fetch f.next_token k (record { fetch = o.fetch; tokens = o.tokens; later = later })
+  pub fits_same : (f : Opens K N R) (k : ℕ × K) (o : Place N R) (later : Option R) → f.places k ≡ Some o → AreOpen eq
+      f → Fits eq f f.next_fetch f.next_token k (record { fetch = o.fetch; tokens = o.tokens; later = later })
   fits_same f k o later there a = record {
     waited = a.waited k o there;
     below = a.below k o there;
@@ -235,21 +280,27 @@ module _ {K N R : Type 0} {eq : K → K → Bool} where
 
   -- ---- keys and slots
 
-  pub linked_same : (keys keys' : ℕ × K → Option ℕ) (slots slots' : ℕ → Option (Place N R)) → ((q : ℕ × K) → keys' q ≡ keys q) → ((n : ℕ) → slots' n ≡ slots n) → AreLinked eq keys slots → AreLinked eq keys' slots'
+  pub linked_same : (keys keys' : ℕ × K → Option ℕ) (slots slots' : ℕ → Option (Place N R)) →
+      ((q : ℕ × K) → keys' q ≡ keys q) → ((n : ℕ) → slots' n ≡ slots n) → AreLinked eq keys slots → AreLinked eq keys'
+      slots'
   linked_same keys keys' slots slots' k s a = record {
     led = λ q n h. ap is_some (s n) ∙ a.led q n (sym (k q) ∙ h);
     apart = λ p q n hp hq. a.apart p q n (sym (k p) ∙ hp) (sym (k q) ∙ hq);
   }
 
-  module _ (laws : IsEquivalence eq) (keys keys' : ℕ × K → Option ℕ) (slots slots' : ℕ → Option (Place N R)) (k : ℕ × K) (n : ℕ) (linked : AreLinked eq keys slots) where
-    side : (w : Option ℕ) → ((q : ℕ × K) → keys' q ≡ update (same_key eq) keys k w q) → (q : ℕ × K) → ((same_key eq k q ≡ true) × (keys' q ≡ w)) ⊎ ((same_key eq k q ≡ false) × (keys' q ≡ keys q))
+  module _ (laws : IsEquivalence eq) (keys keys' : ℕ × K → Option ℕ) (slots slots' : ℕ → Option (Place N R))
+      (k : ℕ × K) (n : ℕ) (linked : AreLinked eq keys slots) where
+    side : (w : Option ℕ) → ((q : ℕ × K) → keys' q ≡ update (same_key eq) keys k w q) → (q : ℕ × K) →
+        ((same_key eq k q ≡ true) × (keys' q ≡ w)) ⊎ ((same_key eq k q ≡ false) × (keys' q ≡ keys q))
     side w write q = go (tells (same_key eq k q)) where
       go : (same_key eq k q ≡ true) ⊎ (same_key eq k q ≡ false) → ((same_key eq k q ≡ true) × (keys' q ≡ w)) ⊎ ((same_key eq k q ≡ false) × (keys' q ≡ keys q))
       go (inl e) = inl (e, write q ∙ update_same (same_key eq) keys k w q e)
       go (inr e) = inr (e, write q ∙ update_other (same_key eq) keys k w q e)
 
     -- a fetch opens in a free slot
-    module _ (new : Place N R) (free : slots n ≡ None) (put : (q : ℕ × K) → keys' q ≡ update (same_key eq) keys k (Some n) q) (write : (m : ℕ) → slots' m ≡ update nat_eq slots n (Some new) m) where
+    module _ (new : Place N R) (free : slots n ≡ None)
+        (put : (q : ℕ × K) → keys' q ≡ update (same_key eq) keys k (Some n) q)
+        (write : (m : ℕ) → slots' m ≡ update nat_eq slots n (Some new) m) where
       here : slots' n ≡ Some new
       here = write n ∙ update_here slots n (Some new)
 
@@ -262,12 +313,16 @@ module _ {K N R : Type 0} {eq : K → K → Bool} where
         unchanged None h = refl
         unchanged (Some m) h = other q m h
 
-        go : ((same_key eq k q ≡ true) × (keys' q ≡ Some n)) ⊎ ((same_key eq k q ≡ false) × (keys' q ≡ keys q)) → option_and_then slots' (keys' q) ≡ update (same_key eq) (λ p. option_and_then slots (keys p)) k (Some new) q
+        go : ((same_key eq k q ≡ true) × (keys' q ≡ Some n)) ⊎ ((same_key eq k q ≡ false) × (keys' q ≡ keys q)) →
+            option_and_then slots' (keys' q) ≡ update (same_key eq) (λ p. option_and_then slots (keys p)) k (Some new) q
         go (inl e) = ap (option_and_then slots') e.1 ∙ here ∙ sym (update_same (same_key eq) (λ p. option_and_then slots (keys p)) k (Some new) q e.0)
-        go (inr e) = ap (option_and_then slots') e.1 ∙ unchanged (keys q) refl ∙ sym (update_other (same_key eq) (λ p. option_and_then slots (keys p)) k (Some new) q e.0)
+        go (inr e) = ap (option_and_then slots') e.1 ∙ unchanged (keys q) refl ∙ sym
+            (update_other (same_key eq) (λ p. option_and_then slots (keys p)) k (Some new) q e.0)
 
       -- what is open then, where it is a first one who waits
-      pub lead_open : (id token : ℕ) (w : Waiting N) → w.token ≡ token → new ≡ record { fetch = id; tokens = w ∷ []; later = None } → AreOpen eq (opens_by keys slots id token) → AreOpen eq (opens_by keys' slots' (id + 1) (token + 1))
+      pub lead_open : (id token : ℕ) (w : Waiting N) → w.token ≡ token → new ≡ record
+          { fetch = id; tokens = w ∷ []; later = None } → AreOpen eq (opens_by keys slots id token) → AreOpen eq
+          (opens_by keys' slots' (id + 1) (token + 1))
       lead_open id token w is made a =
           let f = opens_by keys slots id token in
           open_write laws f (opens_by keys' slots' (id + 1) (token + 1)) k new lead_places (omega arith) (omega arith)
@@ -278,14 +333,18 @@ module _ {K N R : Type 0} {eq : K → K → Bool} where
         led = λ q m h. led q m h (side (Some n) put q);
         apart = λ p q m hp hq. apart p q m hp hq (side (Some n) put p) (side (Some n) put q);
       } where
-        led : (q : ℕ × K) (m : ℕ) → keys' q ≡ Some m → ((same_key eq k q ≡ true) × (keys' q ≡ Some n)) ⊎ ((same_key eq k q ≡ false) × (keys' q ≡ keys q)) → is_some (slots' m) ≡ true
+        led : (q : ℕ × K) (m : ℕ) → keys' q ≡ Some m → ((same_key eq k q ≡ true) × (keys' q ≡ Some n)) ⊎
+            ((same_key eq k q ≡ false) × (keys' q ≡ keys q)) → is_some (slots' m) ≡ true
         led q m h (inl e) = subst (λ (x : ℕ). is_some (slots' x) ≡ true) (one n m (sym e.1 ∙ h)) (ap is_some here)
         led q m h (inr e) = (let old = sym e.1 ∙ h in ap is_some (other q m old) ∙ linked.led q m old)
 
         taken : (q : ℕ × K) (m : ℕ) → keys q ≡ Some m → m ≡ n → ⊥
         taken q m h e = led_to (slots m) (linked.led q m h) (ap slots e ∙ free)
 
-        apart : (p q : ℕ × K) (m : ℕ) → keys' p ≡ Some m → keys' q ≡ Some m → ((same_key eq k p ≡ true) × (keys' p ≡ Some n)) ⊎ ((same_key eq k p ≡ false) × (keys' p ≡ keys p)) → ((same_key eq k q ≡ true) × (keys' q ≡ Some n)) ⊎ ((same_key eq k q ≡ false) × (keys' q ≡ keys q)) → same_key eq p q ≡ true
+        apart : (p q : ℕ × K) (m : ℕ) → keys' p ≡ Some m → keys' q ≡ Some m →
+            ((same_key eq k p ≡ true) × (keys' p ≡ Some n)) ⊎ ((same_key eq k p ≡ false) × (keys' p ≡ keys p)) →
+            ((same_key eq k q ≡ true) × (keys' q ≡ Some n)) ⊎ ((same_key eq k q ≡ false) × (keys' q ≡ keys q)) →
+            same_key eq p q ≡ true
         apart p q m hp hq (inl e) (inl d) = sym ((same_key_equiv laws).congr k p q e.0) ∙ d.0
         apart p q m hp hq (inl e) (inr d) = absurd (taken q m (sym d.1 ∙ hq) (one m n (sym hp ∙ e.1)))
         apart p q m hp hq (inr e) (inl d) = absurd (taken p m (sym e.1 ∙ hp) (one m n (sym hq ∙ d.1)))
@@ -297,15 +356,18 @@ module _ {K N R : Type 0} {eq : K → K → Bool} where
       away q m other h e = true≢false (sym (linked.apart k q n there (h ∙ ap (λ (x : ℕ). Some x) e)) ∙ other)
 
       -- the open fetch of a key is written
-      module _ (respects : (p q : ℕ × K) → same_key eq p q ≡ true → keys p ≡ keys q) (new : Place N R) (write : (m : ℕ) → slots' m ≡ update nat_eq slots n (Some new) m) where
+      module _ (respects : (p q : ℕ × K) → same_key eq p q ≡ true → keys p ≡ keys q) (new : Place N R)
+          (write : (m : ℕ) → slots' m ≡ update nat_eq slots n (Some new) m) where
         pub write_places : (q : ℕ × K) → option_and_then slots' (keys q) ≡ update (same_key eq) (λ p. option_and_then slots (keys p)) k (Some new) q
         write_places q = go (tells (same_key eq k q)) where
           unchanged : same_key eq k q ≡ false → (o : Option ℕ) → keys q ≡ o → option_and_then slots' o ≡ option_and_then slots o
           unchanged other None h = refl
           unchanged other (Some m) h = write m ∙ update_apart slots n (Some new) m (away q m other h)
 
-          go : (same_key eq k q ≡ true) ⊎ (same_key eq k q ≡ false) → option_and_then slots' (keys q) ≡ update (same_key eq) (λ p. option_and_then slots (keys p)) k (Some new) q
-          go (inl e) = ap (option_and_then slots') (sym (respects k q e) ∙ there) ∙ write n ∙ update_here slots n (Some new) ∙ sym (update_same (same_key eq) (λ p. option_and_then slots (keys p)) k (Some new) q e)
+          go : (same_key eq k q ≡ true) ⊎ (same_key eq k q ≡ false) → option_and_then slots' (keys q) ≡ update
+              (same_key eq) (λ p. option_and_then slots (keys p)) k (Some new) q
+          go (inl e) = ap (option_and_then slots') (sym (respects k q e) ∙ there) ∙ write n ∙ update_here slots n
+              (Some new) ∙ sym (update_same (same_key eq) (λ p. option_and_then slots (keys p)) k (Some new) q e)
           go (inr e) = unchanged e (keys q) refl ∙ sym (update_other (same_key eq) (λ p. option_and_then slots (keys p)) k (Some new) q e)
 
         pub write_linked : AreLinked eq keys slots'
@@ -318,7 +380,9 @@ module _ {K N R : Type 0} {eq : K → K → Bool} where
           led q m h (inr e) = ap is_some (write m ∙ update_apart slots n (Some new) m e.1) ∙ linked.led q m h
 
         -- what is open then, where one more waits
-        pub join_open : (id token : ℕ) (o : Place N R) (w : Waiting N) (later : Option R) → slots n ≡ Some o → w.token ≡ token → new ≡ joined (Some o) o.fetch w later → AreOpen eq (opens_by keys slots id token) → AreOpen eq (opens_by keys slots' id (token + 1))
+        pub join_open : (id token : ℕ) (o : Place N R) (w : Waiting N) (later : Option R) → slots n ≡ Some o → w.token
+            ≡ token → new ≡ joined (Some o) o.fetch w later → AreOpen eq (opens_by keys slots id token) → AreOpen eq
+            (opens_by keys slots' id (token + 1))
         join_open id token o w later was is made a =
             let f = opens_by keys slots id token in
             let open_there : f.places k ≡ Some o = ap (option_and_then slots) there ∙ was in
@@ -326,7 +390,9 @@ module _ {K N R : Type 0} {eq : K → K → Bool} where
             (subst (λ (x : Place N R). Fits eq f id (token + 1) k x) (sym made) (fits_joined laws f k o w later open_there is a)) a
 
         -- what is open then, where the builder alone is another
-        pub later_open : (id token : ℕ) (o : Place N R) (later : Option R) → slots n ≡ Some o → new ≡ record { fetch = o.fetch; tokens = o.tokens; later = later } → AreOpen eq (opens_by keys slots id token) → AreOpen eq (opens_by keys slots' id token)
+        pub later_open : (id token : ℕ) (o : Place N R) (later : Option R) → slots n ≡ Some o → new ≡ record
+            { fetch = o.fetch; tokens = o.tokens; later = later } → AreOpen eq (opens_by keys slots id token) → AreOpen
+            eq (opens_by keys slots' id token)
         later_open id token o later was made a =
             let f = opens_by keys slots id token in
             let open_there : f.places k ≡ Some o = ap (option_and_then slots) there ∙ was in
@@ -344,9 +410,11 @@ module _ {K N R : Type 0} {eq : K → K → Bool} where
           unchanged other None h = refl
           unchanged other (Some m) h = stays q m other h
 
-          go : ((same_key eq k q ≡ true) × (keys' q ≡ None)) ⊎ ((same_key eq k q ≡ false) × (keys' q ≡ keys q)) → option_and_then slots' (keys' q) ≡ update (same_key eq) (λ p. option_and_then slots (keys p)) k None q
+          go : ((same_key eq k q ≡ true) × (keys' q ≡ None)) ⊎ ((same_key eq k q ≡ false) × (keys' q ≡ keys q)) →
+              option_and_then slots' (keys' q) ≡ update (same_key eq) (λ p. option_and_then slots (keys p)) k None q
           go (inl e) = ap (option_and_then slots') e.1 ∙ sym (update_same (same_key eq) (λ p. option_and_then slots (keys p)) k None q e.0)
-          go (inr e) = ap (option_and_then slots') e.1 ∙ unchanged e.0 (keys q) refl ∙ sym (update_other (same_key eq) (λ p. option_and_then slots (keys p)) k None q e.0)
+          go (inr e) = ap (option_and_then slots') e.1 ∙ unchanged e.0 (keys q) refl ∙ sym
+              (update_other (same_key eq) (λ p. option_and_then slots (keys p)) k None q e.0)
 
         -- what is open then
         pub take_open : (id token : ℕ) → AreOpen eq (opens_by keys slots id token) → AreOpen eq (opens_by keys' slots' id token)
@@ -357,11 +425,13 @@ module _ {K N R : Type 0} {eq : K → K → Bool} where
           led = λ q m h. led q m h (side None out q);
           apart = λ p q m hp hq. linked.apart p q m (old p m hp (side None out p)) (old q m hq (side None out q));
         } where
-          led : (q : ℕ × K) (m : ℕ) → keys' q ≡ Some m → ((same_key eq k q ≡ true) × (keys' q ≡ None)) ⊎ ((same_key eq k q ≡ false) × (keys' q ≡ keys q)) → is_some (slots' m) ≡ true
+          led : (q : ℕ × K) (m : ℕ) → keys' q ≡ Some m → ((same_key eq k q ≡ true) × (keys' q ≡ None)) ⊎
+              ((same_key eq k q ≡ false) × (keys' q ≡ keys q)) → is_some (slots' m) ≡ true
           led q m h (inl e) = absurd (none_some (keys' q) m e.1 h)
           led q m h (inr e) = (let before = sym e.1 ∙ h in ap is_some (stays q m e.0 before) ∙ linked.led q m before)
 
-          old : (q : ℕ × K) (m : ℕ) → keys' q ≡ Some m → ((same_key eq k q ≡ true) × (keys' q ≡ None)) ⊎ ((same_key eq k q ≡ false) × (keys' q ≡ keys q)) → keys q ≡ Some m
+          old : (q : ℕ × K) (m : ℕ) → keys' q ≡ Some m → ((same_key eq k q ≡ true) × (keys' q ≡ None)) ⊎
+              ((same_key eq k q ≡ false) × (keys' q ≡ keys q)) → keys q ≡ Some m
           old q m h (inl e) = absurd (none_some (keys' q) m e.1 h)
           old q m h (inr e) = sym e.1 ∙ h
 
@@ -370,7 +440,9 @@ pub update_below : {K A : Type 0} (e : K → K → Bool) (f g : K → Option A) 
 update_below {A = A} e f g k w q same = ap (λ (o : Option A). cond (e k q) w o) same
 
 -- room was made, and then a value put in
-pub put_in_room : {T : Type 0} (old room new : Slots T) (n key : ℕ) (x y : T) → ((m : ℕ) → get room m ≡ get old m) → key ≡ n → x ≡ y → ((m : ℕ) → get new m ≡ update nat_eq (get room) key (Some x) m) → (m : ℕ) → get new m ≡ update nat_eq (get old) n (Some y) m
+pub put_in_room : {T : Type 0} (old room new : Slots T) (n key : ℕ) (x y : T) → ((m : ℕ) → get room m ≡ get old m) →
+    key ≡ n → x ≡ y → ((m : ℕ) → get new m ≡ update nat_eq (get room) key (Some x) m) → (m : ℕ) → get new m ≡ update
+    nat_eq (get old) n (Some y) m
 put_in_room {T = T} old room new n key x y kept at is put m =
     put m
     ∙ update_below nat_eq (get old) (get room) key (Some x) m (kept m)
@@ -417,27 +489,32 @@ module _ {K N R : Type 0} (eq : K → K → Bool) (f : Opens K N R) (k : ℕ × 
     go q false = refl
 
 -- a key that leads to no place leads nowhere
-pub led_none : {N R : Type 0} (slots : ℕ → Option (Place N R)) (o : Option ℕ) → ((n : ℕ) → o ≡ Some n → is_some (slots n) ≡ true) → option_and_then slots o ≡ None → o ≡ None
+pub led_none : {N R : Type 0} (slots : ℕ → Option (Place N R)) (o : Option ℕ) →
+    ((n : ℕ) → o ≡ Some n → is_some (slots n) ≡ true) → option_and_then slots o ≡ None → o ≡ None
 led_none slots None led none = refl
 led_none slots (Some n) led none = absurd (led_to (slots n) (led n refl) none)
 
 module _ {K N R : Type 0} {q : EqGhosts K} {h : HashGhosts K} {c : CloneGhosts K} where
   -- equal keys have the same place
-  pub places_alike : IsEquivalence q.eq → (m : InflightManager K N R q h c) (a b : ℕ × K) → same_key q.eq a b ≡ true → (opens_of m).places a ≡ (opens_of m).places b
+  pub places_alike : IsEquivalence q.eq → (m : InflightManager K N R q h c) (a b : ℕ × K) → same_key q.eq a b ≡ true →
+      (opens_of m).places a ≡ (opens_of m).places b
   places_alike laws m a b same = ap (option_and_then (get m.inflights)) (lookup_same laws a b same (entries_of m.index.pairs.items))
 
-  pub alike_at : IsEquivalence q.eq → (m : InflightManager K N R q h c) (hash : ℕ) (a b : K) → q.eq a b ≡ true → (opens_of m).places (hash, b) ≡ (opens_of m).places (hash, a)
+  pub alike_at : IsEquivalence q.eq → (m : InflightManager K N R q h c) (hash : ℕ) (a b : K) → q.eq a b ≡ true →
+      (opens_of m).places (hash, b) ≡ (opens_of m).places (hash, a)
   alike_at laws m hash a b same = sym (places_alike laws m (hash, a) (hash, b) (rw (eq-eqb hash hash refl) same))
 
 -- no key is found exactly where there is no pair
-pub none_in : {K : Type 0} {eq : K → K → Bool} → IsEquivalence eq → (pairs : List (Pair K)) → ((q : ℕ × K) → lookup (same_key eq q) (entries_of pairs) ≡ None) → (length pairs == 0) ≡ true
+pub none_in : {K : Type 0} {eq : K → K → Bool} → IsEquivalence eq → (pairs : List (Pair K)) →
+    ((q : ℕ × K) → lookup (same_key eq q) (entries_of pairs) ≡ None) → (length pairs == 0) ≡ true
 none_in laws [] none = refl
 none_in {K = K} {eq = eq} laws (p ∷ ps) none =
     let k : ℕ × K = (p.hash, p.key) in
     let found : lookup (same_key eq k) (entries_of (p ∷ ps)) ≡ Some p.number = rw ((same_key_equiv laws).refl k) refl in
     absurd (none_some (lookup (same_key eq k) (entries_of (p ∷ ps))) p.number (none k) found)
 
-pub empty_in : {K : Type 0} (eq : K → K → Bool) (pairs : List (Pair K)) → (length pairs == 0) ≡ true → (q : ℕ × K) → lookup (same_key eq q) (entries_of pairs) ≡ None
+pub empty_in : {K : Type 0} (eq : K → K → Bool) (pairs : List (Pair K)) → (length pairs == 0) ≡ true → (q : ℕ × K) →
+    lookup (same_key eq q) (entries_of pairs) ≡ None
 empty_in eq [] empty q = refl
 empty_in eq (p ∷ ps) empty q = (let none : length (p ∷ ps) ≡ 0 = eqb-true (length (p ∷ ps)) 0 empty in absurd (omega (arith, none)))
 

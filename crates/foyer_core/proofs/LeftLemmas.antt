@@ -13,7 +13,7 @@ use Rattle.foyer_policy.specs.declared.types.Item.{Item}
 use Rattle.foyer_core.specs.declared.records.Records.{Records}
 use Rattle.foyer_core.specs.Values.{Kept, Rec, Gone}
 use Rattle.foyer_core.specs.Indexer.{same_key}
-use Rattle.foyer_core.specs.Table.{rec_of, slot_outside, id_by}
+use Rattle.foyer_core.specs.Table.{rec_of, has_key, slot_outside, id_by}
 use Rattle.foyer_core.specs.Records.{slot_in, number_of, record_in, id_in}
 use Rattle.foyer_core.specs.State.{Meaning, State, IsKept, key_of, item_of}
 use Rattle.foyer_core.specs.Steps.{after_out, outside}
@@ -23,7 +23,7 @@ use Rattle.foyer_core.proofs.Keys.{same_key_laws}
 use Rattle.foyer_core.proofs.Evictions.{popped_shorter}
 use Rattle.foyer_core.proofs.States.{same_state}
 use Rattle.foyer_core.proofs.ShardLemmas.{Holding, now_of}
-use Rattle.foyer_core.proofs.StoredLemmas.{index_is, slot_record}
+use Rattle.foyer_core.proofs.StoredLemmas.{index_is, slot_record, some_of}
 use Rattle.foyer_core.proofs.TableLemmas.{id_by-some, id_by-there}
 
 some_one : (a b : ℕ) → Some a ≡ Some b → a ≡ b
@@ -61,6 +61,11 @@ module _ {K V P View C : Type 0} (m : Meaning K P View C) (laws : IsEquivalence 
     pub under : (q : ℕ × K) → keys q ≡ Some n → same_key m.same (key_of x.kept) q ≡ true
     under q led = ∥∥₁_elim kept (hlevel props) (λ k'. under_by k' q led)
 
+    -- what its record says to a key is what the keys say that lead to it
+    answer_there : (k q : ℕ × K) → keys q ≡ Some n → has_key m.same (slot_in t n) k ≡ same_key m.same q k
+    answer_there k q led = ap (λ (o : Option (Kept K V P)). has_key m.same o k) there
+        ∙ (same_key_laws m.same laws).congr (key_of x.kept) q k (under q led)
+
     module _ (f' : ℕ → Option (Kept K V P)) (write : (q : ℕ) → f' q ≡ update nat_eq (slot_in t) n (slot_outside x) q) (at' : ℕ → Option Item) (same : (p : ℕ) → at' p ≡ without x.id (at p))
         (keys' : ℕ × K → Option ℕ) (gone : (q : ℕ × K) → keys' q ≡ update (same_key m.same) keys (key_of x.kept) None q) where
       other : (j : ℕ) → j ≢ n → f' j ≡ slot_in t j
@@ -97,6 +102,10 @@ module _ {K V P View C : Type 0} (m : Meaning K P View C) (laws : IsEquivalence 
         go : (p : Option ℕ) (i : Item) → i.id ≢ x.id → option_and_then at p ≡ Some i → option_and_then at' p ≡ Some i
         go None i apart h = h
         go (Some p) i apart h = same p ∙ ap (without x.id) h ∙ without-other x.id i apart
+
+  -- what the record of a slot says to a key is what the keys say that lead to the slot
+  pub answer_is : (k q : ℕ × K) (n : ℕ) → keys q ≡ Some n → has_key m.same (slot_in t n) k ≡ same_key m.same q k
+  answer_is k q n led = (let x = some_of (slot_in t n) (stored.led q n led) in answer_there n x.0 x.1 k q led)
 
   -- the victim of a pop
   module _ (i : Item) (v : View) (popped : m.policy.pop view ≡ Some (i, v)) where
@@ -139,6 +148,20 @@ module _ {K V P View C : Type 0} (m : Meaning K P View C) (laws : IsEquivalence 
           let r = popped_there m laws good now k' i v popped in
           let same : rec_of x ≡ r.0 = (let e : Some (rec_of x) ≡ Some r.0 = sym rec_there ∙ r.1 in cc) in
           ap (λ (z : Rec K V P). z.resident) same ∙ r.2
+
+      leads : (w : Option ℕ) → option_and_then (id_in t) w ≡ Some i.id → w ≡ Some n
+      leads None h = absurd cc
+      leads (Some j) h = ap (λ (a : ℕ). Some a) (some_one j n (sym (t.agree.known j i.id h) ∙ found))
+
+      led_by : IsKept m now → keys (key_of x.kept) ≡ Some n
+      led_by k' =
+          let r = popped_there m laws good now k' i v popped in
+          let same : r.0 ≡ rec_of x = (let e : Some r.0 ≡ Some (rec_of x) = sym r.1 ∙ rec_there in cc) in
+          leads (keys (key_of x.kept)) (subst (λ (z : Rec K V P). now.index (key_of z.kept) ≡ Some i.id) same r.3)
+
+      -- its key leads to it
+      pub victim_led : keys (key_of x.kept) ≡ Some n
+      victim_led = ∥∥₁_elim kept (hlevel props) led_by
 
       pub victim_resident : x.resident ≡ true
       victim_resident = ∥∥₁_elim kept (hlevel props) resident_by

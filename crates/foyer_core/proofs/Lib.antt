@@ -86,6 +86,7 @@ pub mod Stepped
 pub mod StoredLemmas
 pub mod TableLemmas
 pub mod TagLemmas
+pub mod TaggedLemmas
 pub mod Taken
 pub mod Told
 pub mod Touched

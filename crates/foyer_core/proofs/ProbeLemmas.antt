@@ -77,6 +77,18 @@ module _ (at at' : ℕ → Option Tag) (b : ℕ) (t : Tag) (put : IsPut at at' b
       (λ j v apart was e. once i j u v is was e) j v there)
       i u is same
 
+  -- a tag that takes the place of one of its fingerprint is found
+  pub probed_replace : (bits : ℕ) → IsProbed bits at → (u : Tag) → at b ≡ Some u → u.fingerprint ≡ t.fingerprint
+      → IsProbed bits at'
+  probed_replace bits probed u was same = record {
+    behind = come (λ i v. home bits v.fingerprint ≤ i)
+        (subst (λ (part : ℕ). home bits part ≤ b) same (probed.behind b u was))
+        (λ i v apart is. probed.behind i v is);
+    full = λ i j v is from less. still_full j (come (λ i v. home bits v.fingerprint ≤ j → j < i → j ≢ b → at j ≢ None)
+        (λ from less apart. probed.full b j u was (subst (λ (part : ℕ). home bits part ≤ j) (sym same) from) less)
+        (λ i v apart is from less other. probed.full i j v is from less) i v is from less);
+  }
+
   pub before_put : (end : ℕ) → b < end → IsBefore end at → IsBefore end at'
   before_put end less before = come (λ i u. i < end) less (λ i u apart is. before i u is)
 
@@ -93,6 +105,34 @@ module _ (at at' : ℕ → Option Tag) (b : ℕ) (t : Tag) (put : IsPut at at' b
         (come (λ i u. u.slot ≡ slot → (v : Stands at n slot) × (v.tag ≡ u)) (λ names. absurd (apart (sym names)))
         (λ i u other is names. standing at n slot i u (before i u is) is names))
         ∙ sym (update_apart (part_of at n) t.slot (Some t.fingerprint) slot apart)
+  ]
+
+  replaced_other : (n : ℕ) → IsOnce at → IsOnce at' → IsBefore n at → b < n → (u : Tag) → at b ≡ Some u → (slot : ℕ)
+      → slot ≢ t.slot → part_of at' n slot ≡ update nat_eq (part_of at n) u.slot None slot
+  replaced_other n once once' before within u was slot other = elim (cases_eq slot u.slot) [
+    | inl e ↦ none_stands at' n slot
+        (come (λ i v. v.slot ≢ slot) (λ names. other (sym names))
+        (λ i v apart is names. apart (once i b v u is was (names ∙ e))))
+        ∙ sym (update_here (part_of at n) u.slot None) ∙ ap (update nat_eq (part_of at n) u.slot None) (sym e)
+    | inr apart ↦ same_part at at' n slot once once'
+        (λ i v is names. let away : i ≢ b =
+        λ e. apart (sym names ∙ ap (λ (w : Tag). w.slot) (same_Some v u (sym is ∙ ap at e ∙ was))) in
+        standing at' n slot i v (before i v is) (put.others i away ∙ is) names)
+        (come (λ i v. v.slot ≡ slot → (w : Stands at n slot) × (w.tag ≡ v)) (λ names. absurd (other (sym names)))
+        (λ i v away is names. standing at n slot i v (before i v is) is names))
+        ∙ sym (update_apart (part_of at n) u.slot None slot apart)
+  ]
+
+  -- the slot that gave its place has no fingerprint, this one has its own, and the others theirs
+  pub part_replace : (n : ℕ) → IsOnce at → IsOnce at' → IsBefore n at → b < n → (u : Tag) → at b ≡ Some u → (slot : ℕ)
+      → part_of at' n slot
+      ≡ update nat_eq (update nat_eq (part_of at n) u.slot None) t.slot (Some t.fingerprint) slot
+  part_replace n once once' before within u was slot = elim (cases_eq slot t.slot) [
+    | inl e ↦ ap (part_of at' n) e ∙ stands at' once' n b t within put.here
+        ∙ sym (update_here (update nat_eq (part_of at n) u.slot None) t.slot (Some t.fingerprint))
+        ∙ ap (update nat_eq (update nat_eq (part_of at n) u.slot None) t.slot (Some t.fingerprint)) (sym e)
+    | inr other ↦ (replaced_other n once once' before within u was slot other
+        ∙ sym (update_apart (update nat_eq (part_of at n) u.slot None) t.slot (Some t.fingerprint) slot other))
   ]
 
 module _ (at at' : ℕ → Option Tag) (b : ℕ) (put : IsPut at at' b None) where

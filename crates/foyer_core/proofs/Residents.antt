@@ -1,5 +1,35 @@
 -- The records of a shard's slots that are in the index, and the items of its policy.
-use Rattle.std.proofs.Common.{◌≡◌, ◌≢◌, ◌⊎◌, ℕ, zero, suc, ◌+◌, ◌<◌, Bool, true, false, cond, List, [], ◌∷◌, Option, Some, None, get_or, refl, sym, ◌∙◌, ap, subst, inl, inr, Contains, arith, true≢false}
+use Rattle.std.proofs.Common.{
+  ◌≡◌,
+  ◌≢◌,
+  ◌⊎◌,
+  ℕ,
+  zero,
+  suc,
+  ◌+◌,
+  ◌<◌,
+  Bool,
+  true,
+  false,
+  cond,
+  List,
+  [],
+  ◌∷◌,
+  Option,
+  Some,
+  None,
+  get_or,
+  refl,
+  sym,
+  ◌∙◌,
+  ap,
+  subst,
+  inl,
+  inr,
+  Contains,
+  arith,
+  true≢false,
+}
 use Rattle.std.proofs.Math.Logic.{∥∥₁_elim}
 use Rattle.std.proofs.Props.{props}
 use Rattle.std.specs.Prelude.{◌==◌, sum_by, option_map, option_and_then, if◌then◌else◌}
@@ -40,7 +70,9 @@ module _ {K V P : Type 0} where
   here e = (let same : (e.1.id == e.1.id) ≡ true = grind (arith, nat_tests) in rw same refl)
 
   -- no slot has the id
-  count-none : (id first : ℕ) (xs : List (Option (Kept K V P))) → ((n : ℕ) (x : Kept K V P) → get_or xs n None ≡ Some x → x.id ≢ id) → sum_by (one_in id) (entries_from first xs) ≡ 0
+  count-none : (id first : ℕ) (xs : List (Option (Kept K V P))) →
+      ((n : ℕ) (x : Kept K V P) → get_or xs n None ≡ Some x → x.id ≢ id) → sum_by (one_in id) (entries_from first xs) ≡
+      0
   count-none id first [] none = refl
   count-none id first (None ∷ rest) none = count-none id (first + 1) rest (λ n. none (suc n))
   count-none id first (Some x ∷ rest) none =
@@ -71,7 +103,8 @@ module _ {K V P : Type 0} where
   none_out e false out = refl
 
   -- what is counted alike has the same sum of any measure of ids
-  sums_alike : (f : ℕ → ℕ) (es : List (ℕ × Kept K V P)) (items : List Item) → ((id : ℕ) → sum_by (one_in id) es ≡ count_of id items) → sum_by (by_id f) es ≡ sum_by (λ i. f i.id) items
+  sums_alike : (f : ℕ → ℕ) (es : List (ℕ × Kept K V P)) (items : List Item) →
+      ((id : ℕ) → sum_by (one_in id) es ≡ count_of id items) → sum_by (by_id f) es ≡ sum_by (λ i. f i.id) items
   sums_alike f [] [] alike = refl
   sums_alike f [] (i ∷ is) alike =
       let same : (i.id == i.id) ≡ true = grind (arith, nat_tests) in
@@ -97,7 +130,13 @@ module _ {K V P : Type 0} where
 
   sums_by : (f g : ℕ × Kept K V P → ℕ) (es : List (ℕ × Kept K V P)) → ((e : ℕ × Kept K V P) → Contains es e → f e ≡ g e) → sum_by f es ≡ sum_by g es
   sums_by f g [] same = refl
-  sums_by f g (e ∷ es) same = omega (arith, sum_by-cons f e es, sum_by-cons g e es, same e (0, omega arith, refl), sums_by f g es (λ x h. same x (Contains-cons e x es h)))
+  sums_by f g (e ∷ es) same = omega (
+    arith,
+    sum_by-cons f e es,
+    sum_by-cons g e es,
+    same e (0, omega arith, refl),
+    sums_by f g es (λ x h. same x (Contains-cons e x es h)),
+  )
 
 -- measures that agree at each item that its id finds have one sum
 items_alike : (f g : Item → ℕ) (l : List Item) → HasIdsOnce l → ((i : Item) → find_id i.id l ≡ Some i → f i ≡ g i) → sum_by f l ≡ sum_by g l
@@ -131,7 +170,8 @@ module _ {A : Type 0} (Q : A → Type 0) (old rest : List (ℕ × A)) (head : �
   ]
 
 -- the next one is not in the index
-pub passed_by : {K V P : Type 0} (Q : Kept K V P → Type 0) (old rest : List (ℕ × Kept K V P)) (head : ℕ × Kept K V P) → old ≡ head ∷ rest → (n : ℕ) (x : Kept K V P)
+pub passed_by : {K V P : Type 0} (Q : Kept K V P → Type 0) (old rest : List (ℕ × Kept K V P)) (head : ℕ × Kept K V P)
+    → old ≡ head ∷ rest → (n : ℕ) (x : Kept K V P)
     → x.resident ≡ true → head.1.resident ≡ false → Q x ⊎ Contains old (n, x) → Q x ⊎ Contains rest (n, x)
 passed_by Q old rest head steps n x res out (inl q) = inl q
 passed_by {K} {V} {P} Q old rest head steps n x res out (inr listed) =
@@ -177,11 +217,13 @@ module _ {K V P View C : Type 0} (m : Meaning K P View C) (laws : IsEquivalence 
 
     go : (w : Option ℕ) → number_of t id ≡ w → sum_by (one_in id) (entries t.slots) ≡ count_of id (m.policy.order view)
     go None named =
-        let none = count-none id 0 t.slots.slots (λ n x there e. (let known = t.agree.known n id (id_by-some (slot_in t) n x there ∙ ap Some e) in absurd cc)) in
+        let none = count-none id 0 t.slots.slots (λ n x there e.
+        (let known = t.agree.known n id (id_by-some (slot_in t) n x there ∙ ap Some e) in absurd cc)) in
         none ∙ sym (no_item (ap (λ (w : Option ℕ). option_map rec_of (option_and_then (slot_in t) w)) named))
     go (Some n) named =
         let x = named_is (slot_in t n) id (t.agree.named id n named) in
-        let only : (j : ℕ) (y : Kept K V P) → get_or t.slots.slots j None ≡ Some y → y.id ≡ id → j ≡ n = λ j y there e. (let known = t.agree.known j id (id_by-some (slot_in t) j y there ∙ ap Some e) in cc) in
+        let only : (j : ℕ) (y : Kept K V P) → get_or t.slots.slots j None ≡ Some y → y.id ≡ id → j ≡ n = λ j y there
+        e. (let known = t.agree.known j id (id_by-some (slot_in t) j y there ∙ ap Some e) in cc) in
         let record_is : record_in t id ≡ Some (rec_of x.0) = ap (record_in t) (sym x.2) ∙ slot_record m at keys t n x.0 x.1 in
         count-one id 0 t.slots.slots n x.0 x.1 x.2 only ∙ by_slot x.0 record_is x.0.resident refl
 
@@ -209,7 +251,8 @@ module _ {K V P View C : Type 0} (m : Meaning K P View C) (laws : IsEquivalence 
   -- a record is that of a slot
   pub record_slot : (id : ℕ) (r : Rec K V P) → now.records id ≡ Some r → (n : ℕ) × (x : Kept K V P) × (slot_in t n ≡ Some x) × (rec_of x ≡ r)
   record_slot id r there = go (number_of t id) there where
-    by_slot : (n : ℕ) (w : Option (Kept K V P)) → slot_in t n ≡ w → option_map rec_of w ≡ Some r → (n : ℕ) × (x : Kept K V P) × (slot_in t n ≡ Some x) × (rec_of x ≡ r)
+    by_slot : (n : ℕ) (w : Option (Kept K V P)) → slot_in t n ≡ w → option_map rec_of w ≡ Some r → (n : ℕ) ×
+        (x : Kept K V P) × (slot_in t n ≡ Some x) × (rec_of x ≡ r)
     by_slot n None is h = absurd cc
     by_slot n (Some x) is h = (n, x, is, cc)
 

@@ -8,7 +8,19 @@ use Rattle.foyer_core.specs.Probing.{home, named, tag_in, size_of, IsNamed, AllN
 use Rattle.foyer_core.specs.declared.tags.buckets.Tag.{Tag}
 use Rattle.foyer_core.specs.declared.tags.buckets.Buckets.{Buckets}
 use Rattle.foyer_core.proofs.BucketLemmas.{along, named_within, found, stands, no_tag, part_longer, count_longer}
-use Rattle.foyer_core.proofs.ProbeLemmas.{AreBehind, behind_more, count_put, once_put, part_put, part_taken, once_moved, probed_moved, moved_back, moved_trans}
+use Rattle.foyer_core.proofs.ProbeLemmas.{
+  AreBehind,
+  behind_more,
+  count_put,
+  once_put,
+  part_put,
+  part_replace,
+  part_taken,
+  once_moved,
+  probed_moved,
+  moved_back,
+  moved_trans,
+}
 
 -- what a test of two slots says
 pub same_slot : (a b : ℕ) → (a == b) ≡ true → a ≡ b
@@ -97,6 +109,32 @@ module _ (b b' : Buckets) (bits end bucket : ℕ) (t : Tag) (put : IsPut (tag_in
       (Some t.fingerprint) slot
   parts_in slot = ap (λ (m : ℕ). part_of (tag_in b') m slot) size
       ∙ part_put (tag_in b) (tag_in b') bucket t put (size_of b) once once_in (tags_within b) within empty slot
+
+-- a tag that takes the place of another of its fingerprint
+module _ (b b' : Buckets) (bucket slot : ℕ) (t : Tag) (is : IsNamed (tag_in b) t.fingerprint bucket slot)
+    (put : IsPut (tag_in b) (tag_in b') bucket (Some t)) (size : size_of b' ≡ size_of b) (once : IsOnce (tag_in b))
+    (new : part_of (tag_in b) (size_of b) t.slot ≡ None) where
+  pub once_replace : IsOnce (tag_in b')
+  once_replace = once_put (tag_in b) (tag_in b') bucket t put once
+      (no_tag (tag_in b) once (size_of b) (tags_within b) t.slot new)
+
+  pub count_replace : count_in (tag_in b') (size_of b') ≡ count_in (tag_in b) (size_of b)
+  count_replace =
+      let counted : count_in (tag_in b') (size_of b) + one_if (tag_in b bucket) ≡ count_in (tag_in b)
+      (size_of b) + 1 =
+      count_put (tag_in b) (tag_in b') bucket (Some t) put (size_of b) (tags_within b bucket is.tag is.here) in
+      let one : one_if (tag_in b bucket) ≡ 1 = ap one_if is.here in
+      let same : count_in (tag_in b') (size_of b') ≡ count_in (tag_in b') (size_of b) =
+      ap (count_in (tag_in b')) size in
+      omega arith
+
+  pub parts_replace : (s : ℕ) → part_of (tag_in b') (size_of b') s
+      ≡ update nat_eq (update nat_eq (part_of (tag_in b) (size_of b)) slot None) t.slot (Some t.fingerprint) s
+  parts_replace s = ap (λ (m : ℕ). part_of (tag_in b') m s) size
+      ∙ part_replace (tag_in b) (tag_in b') bucket t put (size_of b) once once_replace (tags_within b)
+      (tags_within b bucket is.tag is.here) is.tag is.here s
+      ∙ ap (λ (k : ℕ). update nat_eq (update nat_eq (part_of (tag_in b) (size_of b)) k None) t.slot
+      (Some t.fingerprint) s) is.names
 
 -- a tag that is taken out, whose gap is closed
 module _ (b mid b' : Buckets) (part bucket slot : ℕ) (is : IsNamed (tag_in b) part bucket slot)

@@ -8,7 +8,7 @@ use Rattle.serde.specs.declared.ser.Described.{Ghosts as DescribedGhosts}
 use Rattle.foyer_policy.specs.declared.eviction.Eviction.{Ghosts as EvictionGhosts}
 use Rattle.foyer_policy.specs.declared.hash.HashBuilder.{Ghosts as HashBuilderGhosts}
 use Rattle.foyer_policy.specs.declared.properties.Properties.{Ghosts as PropertiesGhosts}
-use Rattle.foyer_core.specs.declared.indexer.Indexer.{Ghosts as IndexerGhosts}
+use Rattle.foyer_core.specs.declared.finder.Finder.{Ghosts as FinderGhosts}
 use Rattle.foyer_core.specs.declared.weighter.Weighter.{Ghosts as WeighterGhosts}
 use Rattle.foyer_core.specs.declared.filter.Filter.{Ghosts as FilterGhosts}
 use Rattle.foyer_core.specs.declared.cache_core.CacheCore.{CacheCore}
@@ -18,8 +18,10 @@ use Rattle.foyer_core.specs.Shards.{state_of, opens_of}
 use Rattle.foyer_core.specs.State.{Meaning}
 use Rattle.foyer_core.specs.Stored.{meaning}
 
-module _ {E K V P S W A N R I C X : Type 0} {e : EvictionGhosts E C X} {e1 : CloneGhosts C} {e2 : DefaultGhosts C} {e3 : DescribedGhosts C} {e4 : DefaultGhosts X}
-    {q : EqGhosts K} {h : HashGhosts K} {c : CloneGhosts K} {p : PropertiesGhosts P} {d : DefaultGhosts P} {b : HashBuilderGhosts S} {w : WeighterGhosts W K V} {f : FilterGhosts A K V} {i : IndexerGhosts I K} where
+module _ {E K V P S W A N R I C X : Type 0} {e : EvictionGhosts E C X} {e1 : CloneGhosts C} {e2 : DefaultGhosts C}
+    {e3 : DescribedGhosts C} {e4 : DefaultGhosts X}
+    {q : EqGhosts K} {h : HashGhosts K} {c : CloneGhosts K} {p : PropertiesGhosts P} {d : DefaultGhosts P}
+    {b : HashBuilderGhosts S} {w : WeighterGhosts W K V} {f : FilterGhosts A K V} {i : FinderGhosts I K} where
   -- what contracts see of a core
   abbrev pub core_of : CacheCore E K V P S W A N R I C X e e1 e2 e3 e4 q h c p d b w f i → Core K V P e.View S W A
   core_of s = record { capacity = s.capacity; hash_builder = s.hash_builder; weighter = s.weighter; filter = s.filter; shards = map state_of s.shards.items }

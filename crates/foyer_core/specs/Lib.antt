@@ -35,3 +35,4 @@ pub mod Pieces
 pub mod Questions
 pub mod Probing
 pub mod Tags
+pub mod Trails

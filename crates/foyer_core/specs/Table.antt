@@ -1,10 +1,17 @@
 -- The records of a shard, by slot and by id.
-use Rattle.std.specs.Prelude.{◌≡◌, ℕ, Option, Some, None, option_map, option_and_then, false, if◌then◌else◌, ◌==◌}
+use Rattle.std.specs.Prelude.{◌≡◌, ℕ, Option, Some, None, Bool, option_map, option_and_then, false, if◌then◌else◌, ◌==◌}
+use Rattle.foyer_core.specs.Indexer.{same_key}
+use Rattle.foyer_core.specs.State.{key_of}
 use Rattle.foyer_core.specs.Values.{Kept, Rec}
 
 -- what contracts see of a slot's record
 abbrev pub rec_of : {K V P : Type 0} → Kept K V P → Rec K V P
 rec_of s = record { kept = s.kept; handles = s.handles; resident = s.resident }
+
+-- whether a slot's record has this key
+abbrev pub has_key : {K V P : Type 0} → (K → K → Bool) → Option (Kept K V P) → ℕ × K → Bool
+has_key eq None q = false
+has_key eq (Some s) q = same_key eq (key_of s.kept) q
 
 -- a slot once its record is out of the index: it stays only while there is a handle
 abbrev pub slot_outside : {K V P : Type 0} → Kept K V P → Option (Kept K V P)

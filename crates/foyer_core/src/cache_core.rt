@@ -16,7 +16,7 @@ ghost use Rattle.foyer_core.specs.Stored.{meaning};
 use crate::config::RawCacheConfig;
 use crate::entry::{CoreEntry, Leave};
 use crate::filter::{AdmitAll, Filter};
-use crate::indexer::{HashTableIndexer, Indexer};
+use crate::finder::{Finder, TagFinder};
 use crate::outcome::{Inserted, InsertedOnto, Refused};
 use crate::properties::CacheProperties;
 use crate::shard::Shard;
@@ -54,7 +54,7 @@ pub struct CacheCore<
     A: Filter<K, V> = AdmitAll,
     N: Drop = (),
     R: Drop = (),
-    I: Indexer<K> = HashTableIndexer<K>,
+    I: Finder<K> = TagFinder<K>,
 > {
     shards: Vec<Shard<E, K, V, P, N, R, I>>,
     // The sums over the shards, kept as these change.
@@ -109,7 +109,7 @@ impl<
     A: Filter<K, V>,
     N: Drop,
     R: Drop,
-    I: Indexer<K>,
+    I: Finder<K>,
 > CacheCore<E, K, V, P, S, W, A, N, R, I> {
     ghost use Rattle.foyer_core.specs.CoreFetches.{at_hash, place_in};
     ghost use Rattle.foyer_core.specs.Core.{AtShard, InsertsWeighed, IsNewCore, Owns, core_fault, entries_of_core, hit_in, usage_of_core};

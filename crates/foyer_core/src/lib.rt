@@ -5,6 +5,7 @@ pub mod cache_core;
 pub mod config;
 pub mod entry;
 pub mod filter;
+pub mod finder;
 pub mod indexer;
 pub mod inflight;
 pub mod outcome;
@@ -24,6 +25,7 @@ pub use cache_core::{CacheCore, shard_capacity};
 pub use config::RawCacheConfig;
 pub use entry::{CoreEntry, Leave, Left};
 pub use filter::{AdmitAll, Filter};
+pub use finder::{Finder, Indexed, TagFinder};
 pub use indexer::{HashTableIndexer, Indexer, Sentry};
 pub use inflight::{Enqueue, FetchOrTake, InflightManager};
 pub use outcome::{

@@ -247,3 +247,19 @@ impl<K: Drop, V: Drop, P: Drop> Records<K, V, P> {
         left
     }
 }
+
+impl<K: Eq + Drop, V: Drop, P: Drop> Records<K, V, P> {
+    ghost use Rattle.foyer_core.specs.Records.{slot_in};
+    ghost use Rattle.foyer_core.specs.Table.{has_key};
+
+    /// Whether the record in a slot has this key.
+    #[inline(always)]
+    pub fn has_key(&self, slot: usize, hash: u64, key: &K) -> bool
+        ensures { result ≡ has_key K.eq (slot_in self.now slot) (hash, key.now) }
+    {
+        match self.slots.get(slot) {
+            Some(found) => found.hash() == hash && *found.key() == *key,
+            None => false,
+        }
+    }
+}

@@ -7,7 +7,7 @@ ghost use Rattle.foyer_core.specs.Inflights.{opens_of as manager_opens};
 ghost use Rattle.foyer_core.specs.Stores.{state_of as store_state};
 
 use crate::entry::CoreEntry;
-use crate::indexer::Indexer;
+use crate::finder::Finder;
 use crate::inflight::InflightManager;
 use crate::record::Limits;
 use crate::store::Store;
@@ -26,14 +26,14 @@ mod questions;
 /// One shard of a cache. Contracts see its `State`: maps from hashed keys to ids and from ids to records; and its
 /// `Opens`: the places of open fetches. `N` is what waits for an answer, and `R` what builds a fetch.
 #[derive(Drop)]
-pub struct Shard<E: Eviction, K: Key, V: Value, P: Properties, N: Drop, R: Drop, I: Indexer<K>> {
+pub struct Shard<E: Eviction, K: Key, V: Value, P: Properties, N: Drop, R: Drop, I: Finder<K>> {
     store: Store<E, K, V, P, I>,
     inflights: InflightManager<K, N, R>,
     // a key that is in the index has no place
     ghost apart: { Apart (store_state store).index (manager_opens inflights) },
 }
 
-impl<E: Eviction, K: Key, V: Value, P: Properties, N: Drop, R: Drop, I: Indexer<K>> Shard<
+impl<E: Eviction, K: Key, V: Value, P: Properties, N: Drop, R: Drop, I: Finder<K>> Shard<
     E,
     K,
     V,

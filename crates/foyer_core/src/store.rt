@@ -6,7 +6,7 @@ ghost use Rattle.foyer_policy.specs.Items.{weight_of};
 ghost use Rattle.foyer_core.specs.State.{IsKept};
 ghost use Rattle.foyer_core.specs.Stored.{meaning, state, IsStored};
 
-use crate::indexer::Indexer;
+use crate::finder::Finder;
 use crate::record::Limits;
 use crate::records::Records;
 use foyer_policy::{Eviction, Key, Properties, Result, Value};
@@ -29,7 +29,7 @@ mod refusals;
 
 /// What a shard holds. Contracts see its `State`: maps from hashed keys to ids and from ids to records.
 #[derive(Drop)]
-pub struct Store<E: Eviction, K: Key, V: Value, P: Properties, I: Indexer<K>> {
+pub struct Store<E: Eviction, K: Key, V: Value, P: Properties, I: Finder<K>> {
     eviction: E,
     index: I,
     records: Records<K, V, P>,
@@ -46,7 +46,7 @@ pub struct Store<E: Eviction, K: Key, V: Value, P: Properties, I: Indexer<K>> {
     ghost numbered: { entries ≤ next },
 }
 
-impl<E: Eviction, K: Key, V: Value, P: Properties, I: Indexer<K>> Store<E, K, V, P, I> {
+impl<E: Eviction, K: Key, V: Value, P: Properties, I: Finder<K>> Store<E, K, V, P, I> {
     ghost use Rattle.foyer_core.specs.Stores.{state_of, meaning_of};
     ghost use Rattle.foyer_core.specs.State.{hit, usage_of};
 
@@ -106,7 +106,16 @@ impl<E: Eviction, K: Key, V: Value, P: Properties, I: Indexer<K>> Store<E, K, V,
     pub fn contains(&self, hash: u64, key: &K) -> bool
         ensures { result ≡ is_some (hit (state_of self.now) (hash, key.now)) }
     {
-        self.index.get(hash, key).is_some()
+        self.slot_under(hash, key).is_some()
+    }
+
+    // The slot to which a key leads.
+    #[inline(always)]
+    fn slot_under(&self, hash: u64, key: &K) -> Option<usize>
+        ensures { result ≡ I.view self.now.index (hash, key.now) }
+    {
+        self.index
+            .find(hash, key, |slot| self.records.has_key(slot, hash, key))
     }
 
     // What the shard's numbers are below.

@@ -186,6 +186,27 @@ impl Tags {
         self.len += 1;
     }
 
+    /// Puts another slot in the place of one that is in under a hash. The other one is new. This takes no memory.
+    #[inline(always)]
+    pub fn replace(&mut self, hash: u64, slot: usize, other: usize)
+        requires there { slots_of self.old slot ≡ Some (fingerprint hash) }
+        requires other { other < 2 ^ 32 - 1 }
+        requires new { slots_of self.old other ≡ None }
+        ensures slots { (s : ℕ) → slots_of self.new s ≡ update nat_eq
+            (update nat_eq (slots_of self.old) slot None) other (Some (fingerprint hash)) s }
+        ensures len { len_of self.new ≡ len_of self.old }
+        ensures room { (n : ℕ) → HasRoomForTags self.old n → HasRoomForTags self.new n }
+    {
+        let fingerprint = fingerprint_of(hash);
+        let found = self
+            .buckets
+            .find(self.bits, fingerprint, |found| found == slot);
+        let Some(found) = found else {
+            unreachable!();
+        };
+        self.buckets.put(found.bucket, Tag::new(fingerprint, other));
+    }
+
     /// Takes a slot out from under a hash, and says whether it was there. This takes no memory.
     #[inline(always)]
     pub fn remove(&mut self, hash: u64, slot: usize) -> bool

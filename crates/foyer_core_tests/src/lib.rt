@@ -5,6 +5,8 @@
 #[cfg(test)]
 mod cache_core;
 #[cfg(test)]
+mod finder;
+#[cfg(test)]
 mod indexer;
 #[cfg(test)]
 mod inflight;

@@ -1,7 +1,7 @@
 ghost use Rattle.std.specs.Prelude.{◌≡◌};
 
 use foyer_core::{
-    CacheProperties, CoreEntry, Data, HashTableIndexer, Inserted, Left, Limits, Shard,
+    CacheProperties, CoreEntry, Data, Finder, Inserted, Left, Limits, Shard, TagFinder,
 };
 use foyer_policy::{Event, Eviction, Lru, LruConfig, Ratio, Result, Source};
 use std::alloc::Global;
@@ -9,9 +9,10 @@ use std::process::Abort;
 use std::test::Fail;
 
 mod ending;
+mod hashes;
 mod questions;
 
-type Over<E> = Shard<E, u64, u64, CacheProperties, (), (), HashTableIndexer<u64>>;
+type Over<E> = Shard<E, u64, u64, CacheProperties, (), (), TagFinder<u64>>;
 
 type Plain = Over<Lru>;
 
@@ -26,7 +27,7 @@ fn shard(alloc: Global, capacity: usize) -> Result<Plain> {
 
 // A shard with these limits that holds nothing.
 fn limited(alloc: Global, capacity: usize, limits: Limits) -> Result<Plain> {
-    let index = HashTableIndexer::new(alloc);
+    let index = TagFinder::empty(alloc);
     Shard::new(alloc, 0, capacity, limits, &LruConfig::default(), index)
 }
 

@@ -6,7 +6,7 @@ use Rattle.std.specs.declared.clone.Clone.{Ghosts as CloneGhosts}
 use Rattle.std.specs.declared.default.Default.{Ghosts as DefaultGhosts}
 use Rattle.foyer_policy.specs.declared.hash.HashBuilder.{Ghosts as HashBuilderGhosts}
 use Rattle.foyer_policy.specs.declared.properties.Properties.{Ghosts as PropertiesGhosts}
-use Rattle.foyer_core.specs.declared.indexer.Indexer.{Ghosts as IndexerGhosts}
+use Rattle.foyer_core.specs.declared.finder.Finder.{Ghosts as FinderGhosts}
 use Rattle.foyer_core.specs.declared.weighter.Weighter.{Ghosts as WeighterGhosts}
 use Rattle.foyer_core.specs.declared.filter.Filter.{Ghosts as FilterGhosts}
 use Rattle.foyer_raw.specs.declared.fetch.wait.RawGetOrFetch.TheVariants.{Hit, Miss}
@@ -17,7 +17,7 @@ use Rattle.foyer_memory.specs.declared.fetch.GetOrFetch.{GetOrFetch}
 use Rattle.foyer_memory.specs.declared.fetch.GetOrFetch.TheVariants.{Fifo, S3Fifo, Lru, Lfu, Sieve}
 
 module _ {H K V S P W A L Q T I F C O R G B : Type 0} {q : EqGhosts K} {h : HashGhosts K} {c : CloneGhosts K} {b : HashBuilderGhosts S}
-    {p : PropertiesGhosts P} {d : DefaultGhosts P} {w : WeighterGhosts W K V} {f : FilterGhosts A K V} {i : IndexerGhosts I K} where
+    {p : PropertiesGhosts P} {d : DefaultGhosts P} {w : WeighterGhosts W K V} {f : FilterGhosts A K V} {i : FinderGhosts I K} where
   -- whether the entry is still to come
   abbrev pub is_miss : GetOrFetch H K V S P W A L Q T I F C O R G B q h c b p d w f i → Bool
   is_miss (Fifo (Hit e)) = false

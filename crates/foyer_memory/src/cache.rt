@@ -6,9 +6,7 @@ ghost use Rattle.foyer_memory.specs.declared.config.EvictionConfig.TheVariants.{
 
 use crate::builder::CacheBuilder;
 use crate::types::{FifoCache, LfuCache, LruCache, S3FifoCache, SieveCache};
-use foyer_core::{
-    AdmitAll, CacheProperties, Filter, HashTableIndexer, Indexer, UnitWeighter, Weighter,
-};
+use foyer_core::{AdmitAll, CacheProperties, Filter, Finder, TagFinder, UnitWeighter, Weighter};
 use foyer_policy::{DefaultHasher, EventListener, HashBuilder, Key, Properties, Result, Value};
 use foyer_raw::{FetchTypes, NoFetch, NoListener, NoopPipe, Pipe};
 use std::fmt::{self, Debug};
@@ -33,7 +31,7 @@ pub enum Cache<
     L = NoListener<K, V>,
     Q = NoopPipe<K, V, P>,
     T = NoFetch,
-    I = HashTableIndexer<K>,
+    I = TagFinder<K>,
 >
 where
     H: Wait + Drop,
@@ -44,7 +42,7 @@ where
     W: Weighter<K, V>,
     A: Filter<K, V>,
     L: EventListener<Key = K, Value = V>,
-    I: Indexer<K>,
+    I: Finder<K>,
     Q: Pipe<Key = K, Value = V, Properties = P>,
     T: FetchTypes<K, V, P>,
 {
@@ -83,7 +81,7 @@ where
     W: Weighter<K, V>,
     A: Filter<K, V>,
     L: EventListener<Key = K, Value = V>,
-    I: Indexer<K>,
+    I: Finder<K>,
     Q: Pipe<Key = K, Value = V, Properties = P>,
     T: FetchTypes<K, V, P>,
 {
@@ -191,7 +189,7 @@ where
     W: Weighter<K, V>,
     A: Filter<K, V>,
     L: EventListener<Key = K, Value = V>,
-    I: Indexer<K>,
+    I: Finder<K>,
     Q: Pipe<Key = K, Value = V, Properties = P>,
     T: FetchTypes<K, V, P>,
 {

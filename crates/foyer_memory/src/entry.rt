@@ -7,7 +7,7 @@ use crate::types::{
     FifoCacheEntry, LfuCacheEntry, LruCacheEntry, S3FifoCacheEntry, SieveCacheEntry,
 };
 use foyer_core::{
-    AdmitAll, CacheProperties, Filter, HashTableIndexer, Indexer, Piece, UnitWeighter, Weighter,
+    AdmitAll, CacheProperties, Filter, Finder, Piece, TagFinder, UnitWeighter, Weighter,
 };
 use foyer_policy::{
     DefaultHasher, EventListener, HashBuilder, Key, Properties, Result, Source, Value,
@@ -33,7 +33,7 @@ pub enum CacheEntry<
     L = NoListener<K, V>,
     Q = NoopPipe<K, V, P>,
     T = NoFetch,
-    I = HashTableIndexer<K>,
+    I = TagFinder<K>,
 >
 where
     H: Wait + Drop,
@@ -44,7 +44,7 @@ where
     W: Weighter<K, V>,
     A: Filter<K, V>,
     L: EventListener<Key = K, Value = V>,
-    I: Indexer<K>,
+    I: Finder<K>,
     Q: Pipe<Key = K, Value = V, Properties = P>,
     T: FetchTypes<K, V, P>,
 {
@@ -70,7 +70,7 @@ where
     W: Weighter<K, V>,
     A: Filter<K, V>,
     L: EventListener<Key = K, Value = V>,
-    I: Indexer<K>,
+    I: Finder<K>,
     Q: Pipe<Key = K, Value = V, Properties = P>,
     T: FetchTypes<K, V, P>,
 {
@@ -218,7 +218,7 @@ where
     W: Weighter<K, V>,
     A: Filter<K, V>,
     L: EventListener<Key = K, Value = V>,
-    I: Indexer<K>,
+    I: Finder<K>,
     Q: Pipe<Key = K, Value = V, Properties = P>,
     T: FetchTypes<K, V, P>,
 {
@@ -244,7 +244,7 @@ where
     W: Weighter<K, V>,
     A: Filter<K, V>,
     L: EventListener<Key = K, Value = V>,
-    I: Indexer<K>,
+    I: Finder<K>,
     Q: Pipe<Key = K, Value = V, Properties = P>,
     T: FetchTypes<K, V, P>,
 {

@@ -11,9 +11,7 @@ use crate::entry::{CacheEntry, wrapped};
 use crate::types::{
     FifoGetOrFetch, LfuGetOrFetch, LruGetOrFetch, S3FifoGetOrFetch, SieveGetOrFetch,
 };
-use foyer_core::{
-    AdmitAll, CacheProperties, Filter, HashTableIndexer, Indexer, UnitWeighter, Weighter,
-};
+use foyer_core::{AdmitAll, CacheProperties, Filter, Finder, TagFinder, UnitWeighter, Weighter};
 use foyer_policy::{
     DefaultHasher, Error, EventListener, HashBuilder, Key, Properties, Reason, Result, Value,
 };
@@ -38,7 +36,7 @@ pub enum GetOrFetch<
     L = NoListener<K, V>,
     Q = NoopPipe<K, V, P>,
     T = NoFetch,
-    I = HashTableIndexer<K>,
+    I = TagFinder<K>,
 >
 where
     H: Wait + Drop,
@@ -49,7 +47,7 @@ where
     W: Weighter<K, V>,
     A: Filter<K, V>,
     L: EventListener<Key = K, Value = V>,
-    I: Indexer<K>,
+    I: Finder<K>,
     Q: Pipe<Key = K, Value = V, Properties = P>,
     T: FetchTypes<K, V, P>,
 {
@@ -75,7 +73,7 @@ where
     W: Weighter<K, V>,
     A: Filter<K, V>,
     L: EventListener<Key = K, Value = V>,
-    I: Indexer<K>,
+    I: Finder<K>,
     Q: Pipe<Key = K, Value = V, Properties = P>,
     T: FetchTypes<K, V, P>,
 {
@@ -179,7 +177,7 @@ where
     W: Weighter<K, V>,
     A: Filter<K, V>,
     L: EventListener<Key = K, Value = V>,
-    I: Indexer<K>,
+    I: Finder<K>,
     Q: Pipe<Key = K, Value = V, Properties = P>,
     T: FetchTypes<K, V, P>,
 {
@@ -214,7 +212,7 @@ where
     W: Weighter<K, V>,
     A: Filter<K, V>,
     L: EventListener<Key = K, Value = V>,
-    I: Indexer<K>,
+    I: Finder<K>,
     Q: Pipe<Key = K, Value = V, Properties = P>,
     T: FetchTypes<K, V, P>,
 {

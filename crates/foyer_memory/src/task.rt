@@ -1,8 +1,6 @@
 //! The tasks that fetch, of a cache of any policy.
 
-use foyer_core::{
-    AdmitAll, CacheProperties, Filter, HashTableIndexer, Indexer, UnitWeighter, Weighter,
-};
+use foyer_core::{AdmitAll, CacheProperties, Filter, Finder, TagFinder, UnitWeighter, Weighter};
 use foyer_policy::{
     DefaultHasher, EventListener, Fifo, HashBuilder, Key, Lfu, Lru, Properties, S3Fifo, Sieve,
     Value,
@@ -31,7 +29,7 @@ pub enum FetchTask<
     L = NoListener<K, V>,
     Q = NoopPipe<K, V, P>,
     T = NoFetch,
-    I = HashTableIndexer<K>,
+    I = TagFinder<K>,
 >
 where
     H: Wait + Drop,
@@ -42,7 +40,7 @@ where
     W: Weighter<K, V>,
     A: Filter<K, V>,
     L: EventListener<Key = K, Value = V>,
-    I: Indexer<K>,
+    I: Finder<K>,
     Q: Pipe<Key = K, Value = V, Properties = P>,
     T: FetchTypes<K, V, P>,
 {
@@ -68,7 +66,7 @@ where
     W: Weighter<K, V>,
     A: Filter<K, V>,
     L: EventListener<Key = K, Value = V>,
-    I: Indexer<K>,
+    I: Finder<K>,
     Q: Pipe<Key = K, Value = V, Properties = P>,
     T: FetchTypes<K, V, P>,
 {
@@ -117,7 +115,7 @@ where
     W: Weighter<K, V>,
     A: Filter<K, V>,
     L: EventListener<Key = K, Value = V>,
-    I: Indexer<K>,
+    I: Finder<K>,
     Q: Pipe<Key = K, Value = V, Properties = P>,
     T: FetchTypes<K, V, P>,
 {

@@ -1,6 +1,6 @@
 //! The caches of each policy, their entries and what their look-ups answer, by name.
 
-use foyer_core::{AdmitAll, CacheProperties, HashTableIndexer, UnitWeighter};
+use foyer_core::{AdmitAll, CacheProperties, TagFinder, UnitWeighter};
 use foyer_policy::{DefaultHasher, Fifo, Lfu, Lru, S3Fifo, Sieve};
 use foyer_raw::{
     FetchTypes, NoFetch, NoListener, NoopPipe, RawCache, RawCacheEntry, RawGetOrFetch,
@@ -18,7 +18,7 @@ pub type FifoCache<
     L = NoListener<K, V>,
     Q = NoopPipe<K, V, P>,
     T = NoFetch,
-    I = HashTableIndexer<K>,
+    I = TagFinder<K>,
 > = RawCache<H, Fifo, K, V, S, P, W, A, L, Q, T, I>;
 
 /// An entry of such a cache.
@@ -33,7 +33,7 @@ pub type FifoCacheEntry<
     L = NoListener<K, V>,
     Q = NoopPipe<K, V, P>,
     T = NoFetch,
-    I = HashTableIndexer<K>,
+    I = TagFinder<K>,
 > = RawCacheEntry<H, Fifo, K, V, S, P, W, A, L, Q, <T as FetchTypes<K, V, P>>::Required, I>;
 
 /// What its look-ups answer that fetch.
@@ -48,7 +48,7 @@ pub type FifoGetOrFetch<
     L = NoListener<K, V>,
     Q = NoopPipe<K, V, P>,
     T = NoFetch,
-    I = HashTableIndexer<K>,
+    I = TagFinder<K>,
 > = RawGetOrFetch<H, Fifo, K, V, S, P, W, A, L, Q, <T as FetchTypes<K, V, P>>::Required, I>;
 
 /// A cache whose policy is S3-FIFO.
@@ -63,7 +63,7 @@ pub type S3FifoCache<
     L = NoListener<K, V>,
     Q = NoopPipe<K, V, P>,
     T = NoFetch,
-    I = HashTableIndexer<K>,
+    I = TagFinder<K>,
 > = RawCache<H, S3Fifo, K, V, S, P, W, A, L, Q, T, I>;
 
 /// An entry of such a cache.
@@ -78,7 +78,7 @@ pub type S3FifoCacheEntry<
     L = NoListener<K, V>,
     Q = NoopPipe<K, V, P>,
     T = NoFetch,
-    I = HashTableIndexer<K>,
+    I = TagFinder<K>,
 > = RawCacheEntry<H, S3Fifo, K, V, S, P, W, A, L, Q, <T as FetchTypes<K, V, P>>::Required, I>;
 
 /// What its look-ups answer that fetch.
@@ -93,7 +93,7 @@ pub type S3FifoGetOrFetch<
     L = NoListener<K, V>,
     Q = NoopPipe<K, V, P>,
     T = NoFetch,
-    I = HashTableIndexer<K>,
+    I = TagFinder<K>,
 > = RawGetOrFetch<H, S3Fifo, K, V, S, P, W, A, L, Q, <T as FetchTypes<K, V, P>>::Required, I>;
 
 /// A cache whose policy is least recently used.
@@ -108,7 +108,7 @@ pub type LruCache<
     L = NoListener<K, V>,
     Q = NoopPipe<K, V, P>,
     T = NoFetch,
-    I = HashTableIndexer<K>,
+    I = TagFinder<K>,
 > = RawCache<H, Lru, K, V, S, P, W, A, L, Q, T, I>;
 
 /// An entry of such a cache.
@@ -123,7 +123,7 @@ pub type LruCacheEntry<
     L = NoListener<K, V>,
     Q = NoopPipe<K, V, P>,
     T = NoFetch,
-    I = HashTableIndexer<K>,
+    I = TagFinder<K>,
 > = RawCacheEntry<H, Lru, K, V, S, P, W, A, L, Q, <T as FetchTypes<K, V, P>>::Required, I>;
 
 /// What its look-ups answer that fetch.
@@ -138,7 +138,7 @@ pub type LruGetOrFetch<
     L = NoListener<K, V>,
     Q = NoopPipe<K, V, P>,
     T = NoFetch,
-    I = HashTableIndexer<K>,
+    I = TagFinder<K>,
 > = RawGetOrFetch<H, Lru, K, V, S, P, W, A, L, Q, <T as FetchTypes<K, V, P>>::Required, I>;
 
 /// A cache whose policy is w-TinyLFU.
@@ -153,7 +153,7 @@ pub type LfuCache<
     L = NoListener<K, V>,
     Q = NoopPipe<K, V, P>,
     T = NoFetch,
-    I = HashTableIndexer<K>,
+    I = TagFinder<K>,
 > = RawCache<H, Lfu, K, V, S, P, W, A, L, Q, T, I>;
 
 /// An entry of such a cache.
@@ -168,7 +168,7 @@ pub type LfuCacheEntry<
     L = NoListener<K, V>,
     Q = NoopPipe<K, V, P>,
     T = NoFetch,
-    I = HashTableIndexer<K>,
+    I = TagFinder<K>,
 > = RawCacheEntry<H, Lfu, K, V, S, P, W, A, L, Q, <T as FetchTypes<K, V, P>>::Required, I>;
 
 /// What its look-ups answer that fetch.
@@ -183,7 +183,7 @@ pub type LfuGetOrFetch<
     L = NoListener<K, V>,
     Q = NoopPipe<K, V, P>,
     T = NoFetch,
-    I = HashTableIndexer<K>,
+    I = TagFinder<K>,
 > = RawGetOrFetch<H, Lfu, K, V, S, P, W, A, L, Q, <T as FetchTypes<K, V, P>>::Required, I>;
 
 /// A cache whose policy is Sieve.
@@ -198,7 +198,7 @@ pub type SieveCache<
     L = NoListener<K, V>,
     Q = NoopPipe<K, V, P>,
     T = NoFetch,
-    I = HashTableIndexer<K>,
+    I = TagFinder<K>,
 > = RawCache<H, Sieve, K, V, S, P, W, A, L, Q, T, I>;
 
 /// An entry of such a cache.
@@ -213,7 +213,7 @@ pub type SieveCacheEntry<
     L = NoListener<K, V>,
     Q = NoopPipe<K, V, P>,
     T = NoFetch,
-    I = HashTableIndexer<K>,
+    I = TagFinder<K>,
 > = RawCacheEntry<H, Sieve, K, V, S, P, W, A, L, Q, <T as FetchTypes<K, V, P>>::Required, I>;
 
 /// What its look-ups answer that fetch.
@@ -228,5 +228,5 @@ pub type SieveGetOrFetch<
     L = NoListener<K, V>,
     Q = NoopPipe<K, V, P>,
     T = NoFetch,
-    I = HashTableIndexer<K>,
+    I = TagFinder<K>,
 > = RawGetOrFetch<H, Sieve, K, V, S, P, W, A, L, Q, <T as FetchTypes<K, V, P>>::Required, I>;

@@ -2,7 +2,7 @@
 
 ghost use Rattle.std.specs.Prelude.{◌≡◌, true};
 
-use foyer_core::{AdmitAll, Indexer, Limits, UnitWeighter};
+use foyer_core::{AdmitAll, Finder, Limits, UnitWeighter};
 use foyer_memory::{Cache, CacheBuilder, CacheEntry, CacheProperties, Pipe};
 use foyer_policy::{DefaultHasher, EventListener, Key, Result, Source, Value};
 use foyer_raw::FetchTypes;
@@ -61,7 +61,7 @@ where
     K: Key,
     V: Value,
     L: EventListener<Key = K, Value = V>,
-    I: Indexer<K>,
+    I: Finder<K>,
     Q: Pipe<Key = K, Value = V, Properties = CacheProperties>,
     T: FetchTypes<K, V, CacheProperties>,
     requires clones { (k c : K) → K.is_clone k c → K.eq c k ≡ true }
@@ -97,7 +97,7 @@ where
     K: Key,
     V: Value,
     L: EventListener<Key = K, Value = V>,
-    I: Indexer<K>,
+    I: Finder<K>,
     Q: Pipe<Key = K, Value = V, Properties = CacheProperties>,
     T: FetchTypes<K, V, CacheProperties>,
 {

@@ -10,8 +10,8 @@ use crate::shared::{RawShard, Shared};
 use crate::shares::Shares;
 use crate::ticket::{Answer, Notifier};
 use foyer_core::{
-    AdmitAll, CacheCore, CacheProperties, Filter, HashTableIndexer, Indexer, RawCacheConfig,
-    UnitWeighter, Weighter,
+    AdmitAll, CacheCore, CacheProperties, Filter, Finder, RawCacheConfig, TagFinder, UnitWeighter,
+    Weighter,
 };
 use foyer_policy::{
     DefaultHasher, Error, EventListener, Eviction, HashBuilder, Key, Properties, Reason, Result,
@@ -24,8 +24,6 @@ mod bulk;
 mod fetching;
 mod insertion;
 mod keys;
-#[cfg(test)]
-mod tests;
 
 /// A cache that many threads share. Each shard stands under a lock of its own, and each call makes one step of a shard,
 /// or one of each in turn. What left is told after the lock is released.
@@ -42,7 +40,7 @@ pub struct RawCache<
     L = NoListener<K, V>,
     Q = NoopPipe<K, V, P>,
     T = NoFetch,
-    I = HashTableIndexer<K>,
+    I = TagFinder<K>,
 >
 where
     H: Wait + Drop,
@@ -54,7 +52,7 @@ where
     W: Weighter<K, V>,
     A: Filter<K, V>,
     L: EventListener<Key = K, Value = V>,
-    I: Indexer<K>,
+    I: Finder<K>,
     Q: Pipe<Key = K, Value = V, Properties = P>,
     T: FetchTypes<K, V, P>,
 {
@@ -72,7 +70,7 @@ where
     W: Weighter<K, V>,
     A: Filter<K, V>,
     L: EventListener<Key = K, Value = V>,
-    I: Indexer<K>,
+    I: Finder<K>,
     Q: Pipe<Key = K, Value = V, Properties = P>,
     T: FetchTypes<K, V, P>,
 {
@@ -199,7 +197,7 @@ where
 }
 
 // Each shard under a lock of its own.
-fn locked<E: Eviction, K: Key, V: Value, P: Properties, R: Drop, I: Indexer<K>>(
+fn locked<E: Eviction, K: Key, V: Value, P: Properties, R: Drop, I: Finder<K>>(
     alloc: Global,
     made: Vec<RawShard<E, K, V, P, R, I>>,
 ) -> Result<Vec<Mutex<RawShard<E, K, V, P, R, I>>>>

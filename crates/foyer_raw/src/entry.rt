@@ -4,7 +4,7 @@ ghost use Rattle.std.specs.Prelude.{◌≡◌, IfOk};
 
 use crate::pipe::Pipe;
 use crate::shares::Shares;
-use foyer_core::{CoreEntry, Filter, HashTableIndexer, Indexer, Piece, Weighter};
+use foyer_core::{CoreEntry, Filter, Finder, Piece, TagFinder, Weighter};
 use foyer_policy::{EventListener, Eviction, HashBuilder, Key, Properties, Result, Source, Value};
 use std::fmt::{self, Debug};
 use std::marker::Model;
@@ -13,7 +13,7 @@ use std::sync::Wait;
 
 /// A handle of a record. Its drop gives the handle back under its shard's lock, and then tells what left with it.
 /// Contracts see it as the core's entry that it keeps.
-pub struct RawCacheEntry<H, E, K, V, S, P, W, A, L, Q, R, I = HashTableIndexer<K>>
+pub struct RawCacheEntry<H, E, K, V, S, P, W, A, L, Q, R, I = TagFinder<K>>
 where
     H: Wait + Drop,
     E: Eviction,
@@ -24,7 +24,7 @@ where
     W: Weighter<K, V>,
     A: Filter<K, V>,
     L: EventListener<Key = K, Value = V>,
-    I: Indexer<K>,
+    I: Finder<K>,
     Q: Pipe<Key = K, Value = V, Properties = P>,
     R: Drop,
 {
@@ -43,7 +43,7 @@ where
     W: Weighter<K, V>,
     A: Filter<K, V>,
     L: EventListener<Key = K, Value = V>,
-    I: Indexer<K>,
+    I: Finder<K>,
     Q: Pipe<Key = K, Value = V, Properties = P>,
     R: Drop,
 {
@@ -65,7 +65,7 @@ where
     W: Weighter<K, V>,
     A: Filter<K, V>,
     L: EventListener<Key = K, Value = V>,
-    I: Indexer<K>,
+    I: Finder<K>,
     Q: Pipe<Key = K, Value = V, Properties = P>,
     R: Drop,
 {
@@ -86,7 +86,7 @@ where
     W: Weighter<K, V>,
     A: Filter<K, V>,
     L: EventListener<Key = K, Value = V>,
-    I: Indexer<K>,
+    I: Finder<K>,
     Q: Pipe<Key = K, Value = V, Properties = P>,
     R: Drop,
 {
@@ -191,7 +191,7 @@ where
     W: Weighter<K, V>,
     A: Filter<K, V>,
     L: EventListener<Key = K, Value = V>,
-    I: Indexer<K>,
+    I: Finder<K>,
     Q: Pipe<Key = K, Value = V, Properties = P>,
     R: Drop,
 {
@@ -217,7 +217,7 @@ where
     W: Weighter<K, V>,
     A: Filter<K, V>,
     L: EventListener<Key = K, Value = V>,
-    I: Indexer<K>,
+    I: Finder<K>,
     Q: Pipe<Key = K, Value = V, Properties = P>,
     R: Drop,
 {

@@ -3,7 +3,7 @@
 ghost use Rattle.std.specs.Prelude.{◌≡◌, ◌<◌, vec_len};
 
 use crate::ticket::{Answer, Notifier};
-use foyer_core::{Filter, Indexer, Shard, Weighter};
+use foyer_core::{Filter, Finder, Shard, Weighter};
 use foyer_policy::{Event, EventListener, Eviction, HashBuilder, Key, Properties, Value};
 use std::alloc::Global;
 use std::sync::{Arc, Mutex, MutexGuard, Wait};
@@ -31,7 +31,7 @@ where
     W: Weighter<K, V>,
     A: Filter<K, V>,
     L: EventListener<Key = K, Value = V>,
-    I: Indexer<K>,
+    I: Finder<K>,
     R: Drop,
 {
     pub(crate) rt: H,
@@ -57,7 +57,7 @@ where
     W: Weighter<K, V>,
     A: Filter<K, V>,
     L: EventListener<Key = K, Value = V>,
-    I: Indexer<K>,
+    I: Finder<K>,
     R: Drop,
 {
     fn drop(self) {
@@ -92,7 +92,7 @@ where
     W: Weighter<K, V>,
     A: Filter<K, V>,
     L: EventListener<Key = K, Value = V>,
-    I: Indexer<K>,
+    I: Finder<K>,
     R: Drop,
 {
     // The hash of a key.

@@ -8,7 +8,7 @@ use crate::listener::tell;
 use crate::pipe::Pipe;
 use crate::shared::{RawEnded, Shared};
 use crate::ticket::{Answer, Notifier, Ticket, Waiters, refuse};
-use foyer_core::{Answers, CoreEntry, Ended, Filter, Indexer, Leave, Left, Piece, Weighter};
+use foyer_core::{Answers, CoreEntry, Ended, Filter, Finder, Leave, Left, Piece, Weighter};
 use foyer_policy::{EventListener, Eviction, HashBuilder, Key, Properties, Result, Value};
 use std::sync::{Arc, Wait};
 
@@ -25,7 +25,7 @@ where
     W: Weighter<K, V>,
     A: Filter<K, V>,
     L: EventListener<Key = K, Value = V>,
-    I: Indexer<K>,
+    I: Finder<K>,
     Q: Pipe<Key = K, Value = V, Properties = P>,
     R: Drop,
 {
@@ -44,7 +44,7 @@ where
     W: Weighter<K, V>,
     A: Filter<K, V>,
     L: EventListener<Key = K, Value = V>,
-    I: Indexer<K>,
+    I: Finder<K>,
     Q: Pipe<Key = K, Value = V, Properties = P>,
     R: Drop,
 {

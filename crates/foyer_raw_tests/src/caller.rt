@@ -2,9 +2,7 @@
 
 ghost use Rattle.std.specs.Prelude.{IsSome};
 
-use foyer_core::{
-    AdmitAll, CacheProperties, FetchTarget, HashTableIndexer, RawCacheConfig, UnitWeighter,
-};
+use foyer_core::{AdmitAll, CacheProperties, FetchTarget, RawCacheConfig, TagFinder, UnitWeighter};
 use foyer_policy::{DefaultHasher, Fault, Lru};
 use foyer_raw::{Direct, ListSpawner, NoListener, NoopPipe, RawCache};
 use futures::Future;
@@ -26,7 +24,7 @@ type Numbers<H, T> = RawCache<
     NoListener<u64, u64>,
     NoopPipe<u64, u64>,
     T,
-    HashTableIndexer<u64>,
+    TagFinder<u64>,
 >;
 
 /// A fetch that is ready at once.

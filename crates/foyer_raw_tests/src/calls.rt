@@ -4,7 +4,7 @@ ghost use Rattle.std.specs.Prelude.{◌≡◌, true};
 
 use crate::testing::fifo;
 use foyer_core::{
-    AdmitAll, CacheProperties, FetchTarget, Indexer, Limits, RawCacheConfig, UnitWeighter,
+    AdmitAll, CacheProperties, FetchTarget, Finder, Limits, RawCacheConfig, UnitWeighter,
 };
 use foyer_policy::{
     DefaultHasher, EventListener, Eviction, Fault, Fifo, Key, Lru, ModHasher, Reason, Result,
@@ -147,7 +147,7 @@ where
     L: EventListener<Key = K, Value = V>,
     Q: Pipe<Key = K, Value = V, Properties = CacheProperties>,
     T: FetchTypes<K, V, CacheProperties>,
-    I: Indexer<K>,
+    I: Finder<K>,
     requires clones { (k c : K) → K.is_clone k c → K.eq c k ≡ true }
 {
     let entry = cache.insert(key, value)?;
@@ -213,7 +213,7 @@ where
     L: EventListener<Key = K, Value = V>,
     Q: Pipe<Key = K, Value = V, Properties = CacheProperties>,
     R: RequiredFetch<K, V, CacheProperties>,
-    I: Indexer<K>,
+    I: Finder<K>,
     requires clones { (k c : K) → K.is_clone k c → K.eq c k ≡ true }
     requires fetch { R.can_poll fetch }
 {

@@ -8,7 +8,7 @@ use Rattle.foyer_policy.specs.declared.properties.Properties.{Ghosts as Properti
 use Rattle.foyer_policy.specs.declared.hash.HashBuilder.{Ghosts as HashBuilderGhosts}
 use Rattle.foyer_core.specs.declared.weighter.Weighter.{Ghosts as WeighterGhosts}
 use Rattle.foyer_core.specs.declared.filter.Filter.{Ghosts as FilterGhosts}
-use Rattle.foyer_core.specs.declared.indexer.Indexer.{Ghosts as IndexerGhosts}
+use Rattle.foyer_core.specs.declared.finder.Finder.{Ghosts as FinderGhosts}
 use Rattle.std.specs.Prelude.{ℕ, ◌+◌, vec_len}
 use Rattle.foyer_core.specs.Cores.{core_of, fetches_of, meaning_of_core}
 use Rattle.foyer_core.specs.State.{Meaning, coming_in}
@@ -17,7 +17,8 @@ use Rattle.foyer_session.specs.Step.{SessionState}
 use Rattle.foyer_session.specs.Terms.{Terms}
 
 module _ {E K V P S W A I C X : Type 0} {e : EvictionGhosts E C X} {e1 : CloneGhosts C} {e2 : DefaultGhosts C} {e3 : _} {e4 : DefaultGhosts X}
-    {q : EqGhosts K} {h : HashGhosts K} {c : CloneGhosts K} {p : PropertiesGhosts P} {d : DefaultGhosts P} {b : HashBuilderGhosts S} {w : WeighterGhosts W K V} {f : FilterGhosts A K V} {i : IndexerGhosts I K} where
+    {q : EqGhosts K} {h : HashGhosts K} {c : CloneGhosts K} {p : PropertiesGhosts P} {d : DefaultGhosts P}
+    {b : HashBuilderGhosts S} {w : WeighterGhosts W K V} {f : FilterGhosts A K V} {i : FinderGhosts I K} where
   -- what contracts see of a session
   abbrev pub session_of : Session E K V P S W A I C X e e1 e2 e3 e4 q h c p d b w f i → SessionState K V P e.View S W A
   session_of s = record { core = core_of s.core; fetches = fetches_of s.core; handles = s.handles.items; pieces = s.pieces.items }

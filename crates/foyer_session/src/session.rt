@@ -9,7 +9,7 @@ ghost use Rattle.foyer_session.specs.Waits.{AtMost};
 
 use crate::command::{Answer, Command, Reply};
 use crate::predicate::Predicate;
-use foyer_core::{CacheCore, Filter, HashTableIndexer, Indexer, Piece, Weighter};
+use foyer_core::{CacheCore, Filter, Finder, Piece, TagFinder, Weighter};
 use foyer_policy::{Error, Eviction, HashBuilder, Key, Properties, Reason, Result, Value};
 use std::alloc::Global;
 
@@ -40,7 +40,7 @@ pub struct Session<
     S: HashBuilder,
     W: Weighter<K, V>,
     A: Filter<K, V>,
-    I: Indexer<K> = HashTableIndexer<K>,
+    I: Finder<K> = TagFinder<K>,
 > {
     core: CacheCore<E, K, V, P, S, W, A, (), u64, I>,
     handles: Vec<Handle<K, V, P>>,
@@ -62,7 +62,7 @@ impl<
     S: HashBuilder,
     W: Weighter<K, V>,
     A: Filter<K, V>,
-    I: Indexer<K>,
+    I: Finder<K>,
 > Session<E, K, V, P, S, W, A, I> {
     ghost use Rattle.foyer_core.specs.Core.{usage_of_core, entries_of_core};
     ghost use Rattle.foyer_session.specs.Ledger.{AreAnswered, IsAnswered, IsSettled};

@@ -8,7 +8,7 @@ ghost use Rattle.foyer_session.specs.Told.{TellsAll, TellsPart};
 
 use crate::session::Session;
 use crate::text::Lines;
-use foyer_core::{AdmitAll, CacheProperties, Indexer};
+use foyer_core::{AdmitAll, CacheProperties, Finder};
 use foyer_policy::{Eviction, HashBuilder};
 use std::io;
 use std::io::{BufRead, ErrorKind, Write};
@@ -36,7 +36,7 @@ pub fn simulate<
     W: Write,
     E: Eviction,
     S: HashBuilder,
-    I: Indexer<u64>,
+    I: Finder<u64>,
     H: HighRatio<E::Config>,
 >(
     reader: &mut R,

@@ -1,5 +1,5 @@
 use foyer_core::{
-    AdmitAll, CacheCore, CacheProperties, HashTableIndexer, Indexer, Limits, Piece, RawCacheConfig,
+    AdmitAll, CacheCore, CacheProperties, Finder, Limits, Piece, RawCacheConfig, TagFinder,
     UnitWeighter,
 };
 use foyer_policy::{

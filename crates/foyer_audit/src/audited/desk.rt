@@ -9,7 +9,7 @@ ghost use Rattle.foyer_audit.specs.Legal.{Call};
 use crate::book::Book;
 use crate::compared::Compared;
 use crate::receipt::{Receipt, Share};
-use foyer_core::{Filter, Indexer, Weighter};
+use foyer_core::{Filter, Finder, Weighter};
 use foyer_policy::{Config, Error, Eviction, HashBuilder, Key, Properties, Reason, Result, Value};
 use foyer_session::{Command, Predicate, Reply};
 use std::sync::ledger;
@@ -28,7 +28,7 @@ pub(super) struct Desk<
     A: Filter<K, V>,
     Q: Predicate<K, V> + Clone + Eq + Compared<K, V, P, C>,
     C: Config + Eq,
-    I: Indexer<K>,
+    I: Finder<K>,
 > {
     pub(super) book: Book<E, K, V, P, S, W, A, Q, C, I>,
     pub(super) calls: ledger::Book<G>,
@@ -49,7 +49,7 @@ impl<
     A: Filter<K, V>,
     Q: Predicate<K, V> + Clone + Eq + Compared<K, V, P, C>,
     C: Config + Eq,
-    I: Indexer<K>,
+    I: Finder<K>,
 > Desk<G, E, K, V, P, S, W, A, Q, C, I> {
     // The call under the lock. The book goes on by one call of an equal command, and what the caller gets and keeps are
     // the number and two copies of the reply that stand there.

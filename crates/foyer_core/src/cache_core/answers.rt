@@ -6,7 +6,7 @@ ghost use Rattle.foyer_core.specs.Waited.{entries_got};
 use super::CacheCore;
 use crate::entry::CoreEntry;
 use crate::filter::Filter;
-use crate::indexer::Indexer;
+use crate::finder::Finder;
 use crate::outcome::{Answers, Outcome};
 use crate::weighter::Weighter;
 use foyer_policy::{Eviction, HashBuilder, Key, Properties, Value};
@@ -21,7 +21,7 @@ impl<
     A: Filter<K, V>,
     N: Drop,
     R: Drop,
-    I: Indexer<K>,
+    I: Finder<K>,
 > CacheCore<E, K, V, P, S, W, A, N, R, I> {
     ghost use Rattle.foyer_core.specs.Cores.{core_of, fetches_of, hashes_of, meaning_of_core};
     ghost use Rattle.foyer_core.specs.Dropping.{Drops, among};

@@ -10,7 +10,7 @@ use super::in_turn::{
 use super::load::Load;
 use crate::entry::Leave;
 use crate::filter::Filter;
-use crate::indexer::Indexer;
+use crate::finder::Finder;
 use crate::outcome::Refused;
 use crate::weighter::Weighter;
 use foyer_policy::{Eviction, HashBuilder, Key, Properties, Result, Value};
@@ -25,7 +25,7 @@ impl<
     A: Filter<K, V>,
     N: Drop,
     R: Drop,
-    I: Indexer<K>,
+    I: Finder<K>,
 > CacheCore<E, K, V, P, S, W, A, N, R, I> {
     ghost use Rattle.foyer_core.specs.Bulk.{Clears, EvictsIf, EvictsUnpinned, EvictingUnpinned, Says};
     ghost use Rattle.foyer_core.specs.CoreBulk.{InTurn, InTurnUntil, OfShards, EvictsToCapacity, EvictingToCapacity, Resizes, Configures, NothingPinned, IsEmptied, FitsOrPinned};

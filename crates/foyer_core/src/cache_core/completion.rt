@@ -10,7 +10,7 @@ ghost use Rattle.foyer_core.specs.Waited.{ending_of};
 use super::CacheCore;
 use super::load::Load;
 use crate::filter::Filter;
-use crate::indexer::Indexer;
+use crate::finder::Finder;
 use crate::outcome::{Ended, FetchTarget};
 use crate::piece::Piece;
 use crate::properties::marked;
@@ -28,7 +28,7 @@ impl<
     A: Filter<K, V>,
     N: Drop,
     R: Drop,
-    I: Indexer<K>,
+    I: Finder<K>,
 > CacheCore<E, K, V, P, S, W, A, N, R, I> {
     ghost use Rattle.foyer_core.specs.Core.{shard_at};
     ghost use Rattle.foyer_core.specs.CoreFetches.{AtOpen, Completed, PieceCompletes, ValueCompletes, is_of, place_in};

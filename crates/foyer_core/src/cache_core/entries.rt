@@ -8,7 +8,7 @@ use super::CacheCore;
 use super::load::Load;
 use crate::entry::{CoreEntry, Leave, Left};
 use crate::filter::Filter;
-use crate::indexer::Indexer;
+use crate::finder::Finder;
 use crate::weighter::Weighter;
 use foyer_policy::{Eviction, HashBuilder, Key, Properties, Result, Value};
 
@@ -22,7 +22,7 @@ impl<
     A: Filter<K, V>,
     N: Drop,
     R: Drop,
-    I: Indexer<K>,
+    I: Finder<K>,
 > CacheCore<E, K, V, P, S, W, A, N, R, I> {
     ghost use Rattle.foyer_core.specs.Core.{AtShard, IsOutdatedIn, Owns, refs_in};
     ghost use Rattle.foyer_core.specs.Cores.{core_of, fetches_of, hashes_of, meaning_of_core};

@@ -7,7 +7,7 @@ ghost use Rattle.foyer_core.specs.Waited.{ending_of};
 
 use super::CacheCore;
 use crate::filter::Filter;
-use crate::indexer::Indexer;
+use crate::finder::Finder;
 use crate::inflight::FetchOrTake;
 use crate::outcome::{Ended, Lookup};
 use crate::weighter::Weighter;
@@ -25,7 +25,7 @@ impl<
     A: Filter<K, V>,
     N: Drop,
     R: Drop,
-    I: Indexer<K>,
+    I: Finder<K>,
 > CacheCore<E, K, V, P, S, W, A, N, R, I> {
     ghost use Rattle.foyer_core.specs.CoreFetches.{AtOpen, EndsAt, IsOpenIn, at_hash, place_in};
     ghost use Rattle.foyer_core.specs.Cores.{core_of, fetches_of, hashes_of, meaning_of_core};

@@ -11,7 +11,7 @@ ghost use Rattle.foyer_core.specs.Stored.{meaning};
 
 use super::shards::shard_capacity;
 use crate::entry::Leave;
-use crate::indexer::Indexer;
+use crate::finder::Finder;
 use crate::shard::Shard;
 use foyer_policy::{Error, Eviction, Item, Key, Properties, Reason, Result, Value};
 use std::alloc::Global;
@@ -25,7 +25,7 @@ pub(super) fn evict_each<
     P: Properties,
     N: Drop,
     R: Drop,
-    I: Indexer<K>,
+    I: Finder<K>,
 >(shards: &mut Vec<Shard<E, K, V, P, N, R, I>>, leaves: &mut Vec<Leave<K, V, P>>) -> Result<()>
     ensures done { OnOk result (GoesOn leaves.old.items leaves.new.items (λ ls. InTurn (EvictsUnpinned (meaning K.eq E.model P.hint_of P.phantom_of))
         (map state_of shards.old.items) ls (map state_of shards.new.items))) }
@@ -50,7 +50,7 @@ pub(super) fn evict_each_to_capacity<
     P: Properties,
     N: Drop,
     R: Drop,
-    I: Indexer<K>,
+    I: Finder<K>,
 >(shards: &mut Vec<Shard<E, K, V, P, N, R, I>>, leaves: &mut Vec<Leave<K, V, P>>) -> Result<()>
     ensures done { OnOk result (GoesOn leaves.old.items leaves.new.items (λ ls. InTurn (EvictsToCapacity (meaning K.eq E.model P.hint_of P.phantom_of))
         (map state_of shards.old.items) ls (map state_of shards.new.items))) }
@@ -74,7 +74,7 @@ pub(super) fn share_out<
     P: Properties,
     N: Drop,
     R: Drop,
-    I: Indexer<K>,
+    I: Finder<K>,
 >(shards: &mut Vec<Shard<E, K, V, P, N, R, I>>, capacity: usize)
     ensures shares { SharesOut (meaning K.eq E.model P.hint_of P.phantom_of) capacity (map state_of shards.old.items) (map state_of shards.new.items) }
     ensures opens { map opens_of shards.new.items ≡ map opens_of shards.old.items }
@@ -94,7 +94,7 @@ pub(super) fn configure_each<
     P: Properties,
     N: Drop,
     R: Drop,
-    I: Indexer<K>,
+    I: Finder<K>,
 >(shards: &mut Vec<Shard<E, K, V, P, N, R, I>>, config: &E::Config)
     requires { E.model.fault config.now ≡ None }
     ensures configured { ConfiguresEach (meaning K.eq E.model P.hint_of P.phantom_of) config.now
@@ -116,7 +116,7 @@ pub(super) fn clear_each<
     P: Properties,
     N: Drop,
     R: Drop,
-    I: Indexer<K>,
+    I: Finder<K>,
 >(shards: &mut Vec<Shard<E, K, V, P, N, R, I>>, alloc: Global) -> Result<Vec<Leave<K, V, P>>>
     ensures done { IfOk result (λ leaves. InTurn (Clears (meaning K.eq E.model P.hint_of P.phantom_of)) (map state_of shards.old.items) leaves.items (map state_of shards.new.items)) }
     ensures err { OnErr result (map state_of shards.new.items ≡ map state_of shards.old.items) }
@@ -134,7 +134,7 @@ pub(super) fn clear_each<
 
 // Makes room in each policy for a `clear`, and answers what each shard holds. Only memory can be missing;
 // nothing else changes.
-fn reserve_each<E: Eviction, K: Key, V: Value, P: Properties, N: Drop, R: Drop, I: Indexer<K>>(
+fn reserve_each<E: Eviction, K: Key, V: Value, P: Properties, N: Drop, R: Drop, I: Finder<K>>(
     shards: &mut Vec<Shard<E, K, V, P, N, R, I>>,
     alloc: Global,
 ) -> Result<Vec<Vec<Item>>>
@@ -160,7 +160,7 @@ pub(super) fn evict_each_if<
     P: Properties,
     N: Drop,
     R: Drop,
-    I: Indexer<K>,
+    I: Finder<K>,
     F: Fn(&K, &V) -> bool,
 >(
     shards: &mut Vec<Shard<E, K, V, P, N, R, I>>,
@@ -190,7 +190,7 @@ fn pick_each<
     P: Properties,
     N: Drop,
     R: Drop,
-    I: Indexer<K>,
+    I: Finder<K>,
     F: Fn(&K, &V) -> bool,
 >(shards: &[Shard<E, K, V, P, N, R, I>], alloc: Global, predicate: &F) -> Result<Vec<Vec<Item>>>
     requires { F.IsAlwaysCallable predicate.now }

@@ -6,7 +6,7 @@ ghost use Rattle.foyer_core.specs.Shards.{state_of};
 ghost use Rattle.foyer_core.specs.State.{usage_of};
 ghost use Rattle.foyer_core.specs.Stored.{meaning};
 
-use crate::indexer::Indexer;
+use crate::finder::Finder;
 use crate::shard::Shard;
 use foyer_policy::{Eviction, Key, Properties, Value};
 
@@ -22,7 +22,7 @@ pub(super) struct Load {
 impl Load {
     // The load of a shard.
     #[inline(always)]
-    pub(super) fn of<E: Eviction, K: Key, V: Value, P: Properties, N: Drop, R: Drop, I: Indexer<K>>(
+    pub(super) fn of<E: Eviction, K: Key, V: Value, P: Properties, N: Drop, R: Drop, I: Finder<K>>(
         shard: &Shard<E, K, V, P, N, R, I>,
     ) -> Self
         ensures usage { result.usage ≡ usage_of (meaning K.eq E.model P.hint_of P.phantom_of) (state_of shard.now) }
@@ -43,7 +43,7 @@ impl Load {
         P: Properties,
         N: Drop,
         R: Drop,
-        I: Indexer<K>,
+        I: Finder<K>,
     >(shards: &[Shard<E, K, V, P, N, R, I>]) -> Self
         ensures { AreSums (meaning K.eq E.model P.hint_of P.phantom_of) result.usage result.entries (map state_of shards.now) }
     {

@@ -11,7 +11,7 @@ use super::CacheCore;
 use super::load::Load;
 use crate::entry::Leave;
 use crate::filter::Filter;
-use crate::indexer::Indexer;
+use crate::finder::Finder;
 use crate::outcome::InsertedOnto;
 use crate::properties::marked;
 use crate::record::Data;
@@ -28,7 +28,7 @@ impl<
     A: Filter<K, V>,
     N: Drop,
     R: Drop,
-    I: Indexer<K>,
+    I: Finder<K>,
 > CacheCore<E, K, V, P, S, W, A, N, R, I> {
     ghost use Rattle.foyer_core.specs.Bulk.{GoesOn};
     ghost use Rattle.foyer_core.specs.CoreFetches.{at_hash, place_in};

@@ -9,7 +9,7 @@ ghost use Rattle.foyer_policy.specs.declared.types.Source.TheVariants.{Memory};
 use super::CacheCore;
 use super::load::Load;
 use crate::filter::Filter;
-use crate::indexer::Indexer;
+use crate::finder::Finder;
 use crate::outcome::{Inserted, Refused};
 use crate::piece::Piece;
 use crate::weighter::Weighter;
@@ -25,7 +25,7 @@ impl<
     A: Filter<K, V>,
     N: Drop,
     R: Drop,
-    I: Indexer<K>,
+    I: Finder<K>,
 > CacheCore<E, K, V, P, S, W, A, N, R, I> {
     ghost use Rattle.foyer_core.specs.Core.{AtShard, InsertsAnswering, shard_at};
     ghost use Rattle.foyer_core.specs.CoreFetches.{at_hash, place_in};

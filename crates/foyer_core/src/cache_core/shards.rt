@@ -9,7 +9,7 @@ ghost use Rattle.foyer_core.specs.Stored.{meaning};
 use super::CacheCore;
 use crate::config::RawCacheConfig;
 use crate::filter::Filter;
-use crate::indexer::Indexer;
+use crate::finder::Finder;
 use crate::shard::Shard;
 use crate::weighter::Weighter;
 use foyer_policy::{Eviction, HashBuilder, Key, Properties, Result, Value};
@@ -47,7 +47,7 @@ impl<
     A: Filter<K, V>,
     N: Drop,
     R: Drop,
-    I: Indexer<K>,
+    I: Finder<K>,
 > CacheCore<E, K, V, P, S, W, A, N, R, I> {
     ghost use Rattle.foyer_core.specs.Shards.{opens_of, state_of};
 

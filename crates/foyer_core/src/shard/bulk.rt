@@ -5,11 +5,11 @@ ghost use Rattle.foyer_policy.specs.declared.error.Reason.TheVariants.{NoMemory}
 
 use super::Shard;
 use crate::entry::Leave;
-use crate::indexer::Indexer;
+use crate::finder::Finder;
 use foyer_policy::{Eviction, Key, Properties, Result, Value};
 use std::alloc::Global;
 
-impl<E: Eviction, K: Key, V: Value, P: Properties, N: Drop, R: Drop, I: Indexer<K>> Shard<
+impl<E: Eviction, K: Key, V: Value, P: Properties, N: Drop, R: Drop, I: Finder<K>> Shard<
     E,
     K,
     V,

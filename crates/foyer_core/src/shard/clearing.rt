@@ -7,11 +7,11 @@ ghost use Rattle.foyer_policy.specs.declared.types.Event.TheVariants.{Evict};
 
 use super::Shard;
 use crate::entry::Leave;
-use crate::indexer::Indexer;
+use crate::finder::Finder;
 use foyer_policy::{Error, Eviction, Item, Key, Properties, Reason, Result, Value};
 use std::alloc::Global;
 
-impl<E: Eviction, K: Key, V: Value, P: Properties, N: Drop, R: Drop, I: Indexer<K>> Shard<
+impl<E: Eviction, K: Key, V: Value, P: Properties, N: Drop, R: Drop, I: Finder<K>> Shard<
     E,
     K,
     V,

@@ -1,10 +1,10 @@
 //! The end of a shard.
 
 use super::Shard;
-use crate::indexer::Indexer;
+use crate::finder::Finder;
 use foyer_policy::{Eviction, Key, Properties, Value};
 
-impl<E: Eviction, K: Key, V: Value, P: Properties, N: Drop, R: Drop, I: Indexer<K>> Shard<
+impl<E: Eviction, K: Key, V: Value, P: Properties, N: Drop, R: Drop, I: Finder<K>> Shard<
     E,
     K,
     V,

@@ -4,10 +4,10 @@ ghost use Rattle.std.specs.Prelude.{◌≡◌, ◌≢◌, ◌<◌, ◌↔◌, �
 
 use super::Shard;
 use crate::entry::{CoreEntry, Leave};
-use crate::indexer::Indexer;
+use crate::finder::Finder;
 use foyer_policy::{Eviction, Key, Properties, Result, Value};
 
-impl<E: Eviction, K: Key, V: Value, P: Properties, N: Drop, R: Drop, I: Indexer<K>> Shard<
+impl<E: Eviction, K: Key, V: Value, P: Properties, N: Drop, R: Drop, I: Finder<K>> Shard<
     E,
     K,
     V,

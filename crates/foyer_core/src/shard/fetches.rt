@@ -7,7 +7,7 @@ ghost use Rattle.foyer_core.specs.Inflight.{IsFetchOrTake, IsOpen, after_nothing
 ghost use Rattle.foyer_core.specs.Waited.{ending_of};
 
 use super::Shard;
-use crate::indexer::Indexer;
+use crate::finder::Finder;
 use crate::inflight::{Enqueue, FetchOrTake};
 use crate::outcome::{Ended, Further, Lookup};
 use crate::piece::Piece;
@@ -16,7 +16,7 @@ use crate::share::Share;
 use foyer_policy::{Error, Eviction, Key, Properties, Reason, Result, Source, Value};
 use std::alloc::Global;
 
-impl<E: Eviction, K: Key, V: Value, P: Properties, N: Drop, R: Drop, I: Indexer<K>> Shard<
+impl<E: Eviction, K: Key, V: Value, P: Properties, N: Drop, R: Drop, I: Finder<K>> Shard<
     E,
     K,
     V,

@@ -7,7 +7,7 @@ ghost use Rattle.foyer_policy.specs.declared.types.Source.TheVariants.{Memory};
 
 use super::Shard;
 use crate::entry::Leave;
-use crate::indexer::Indexer;
+use crate::finder::Finder;
 use crate::outcome::{Answers, Further, Inserted, InsertedOnto, Refused};
 use crate::piece::Piece;
 use crate::record::Data;
@@ -15,7 +15,7 @@ use crate::share::Share;
 use foyer_policy::{Eviction, Key, Properties, Result, Source, Value};
 use std::alloc::Global;
 
-impl<E: Eviction, K: Key, V: Value, P: Properties, N: Drop, R: Drop, I: Indexer<K>> Shard<
+impl<E: Eviction, K: Key, V: Value, P: Properties, N: Drop, R: Drop, I: Finder<K>> Shard<
     E,
     K,
     V,

@@ -6,11 +6,11 @@ ghost use Rattle.foyer_policy.specs.Properties.{is_phantom};
 ghost use Rattle.foyer_policy.specs.declared.error.Reason.TheVariants.{Handles, NoMemory};
 
 use super::Shard;
-use crate::indexer::Indexer;
+use crate::finder::Finder;
 use crate::piece::Piece;
 use foyer_policy::{Eviction, Key, Properties, Reason, Value};
 
-impl<E: Eviction, K: Key, V: Value, P: Properties, N: Drop, R: Drop, I: Indexer<K>> Shard<
+impl<E: Eviction, K: Key, V: Value, P: Properties, N: Drop, R: Drop, I: Finder<K>> Shard<
     E,
     K,
     V,

@@ -13,12 +13,12 @@ ghost use Rattle.foyer_core.specs.Records.{slot_in, record_in, number_of, HasRoo
 
 use super::Store;
 use crate::entry::Left;
-use crate::indexer::Indexer;
+use crate::finder::Finder;
 use crate::records::Records;
 use crate::slot::Slot;
 use foyer_policy::{Eviction, Hint, Item, Key, Properties, Result, Value};
 
-impl<E: Eviction, K: Key, V: Value, P: Properties, I: Indexer<K>> Store<E, K, V, P, I> {
+impl<E: Eviction, K: Key, V: Value, P: Properties, I: Finder<K>> Store<E, K, V, P, I> {
     ghost use Rattle.foyer_core.specs.Stores.{state_of, meaning_of};
     ghost use Rattle.foyer_core.specs.State.{key_of, usage_of};
     ghost use Rattle.foyer_core.specs.Steps.{GivesWay, Admits, HasId};
@@ -48,15 +48,16 @@ impl<E: Eviction, K: Key, V: Value, P: Properties, I: Indexer<K>> Store<E, K, V,
         let weight = slot.weight();
         let hint = slot.properties().hint().unwrap_or(Hint::Normal);
         let id = slot.id();
+        let was = self.slot_under(hash, &key);
         let stands = self.stands(id);
         let (number, stood) = self.records.put(slot, stands);
-        let was = match self.index.insert(hash, key, number as u64) {
-            Ok(was) => was,
+        match self.index.put(hash, key, was, number) {
+            Ok(()) => (),
             Err(error) => {
                 self.records.put_back(number, stood);
                 return Err(error);
             }
-        };
+        }
         let (gone, replaced) = give_way(&mut self.eviction, &mut self.records, self.number, was);
         self.usage -= gone;
         self.entries -= replaced.is_some() as u64;
@@ -101,7 +102,7 @@ fn give_way<E: Eviction, K: Drop, V: Drop, P: Drop>(
     eviction: &mut E,
     records: &mut Records<K, V, P>,
     number: u64,
-    was: Option<u64>,
+    was: Option<usize>,
 ) -> (usize, Option<Left<K, V, P>>)
     requires { ForSome was (λ n. IsSomeAnd (slot_in records.old n) (λ s. (s.resident ≡ true) × IsSome (option_and_then (E.at eviction.old) s.place))) }
     ensures none { was ≡ None → (result ≡ (0, None)) × (E.view eviction.new ≡ E.view eviction.old) }
@@ -114,10 +115,9 @@ fn give_way<E: Eviction, K: Drop, V: Drop, P: Drop>(
     ensures some_places { (n : ℕ) (s : Kept K V P) (i : Item) → was ≡ Some n → slot_in records.old n ≡ Some s → option_and_then (E.at eviction.old) s.place ≡ Some i → (p : ℕ) → E.at eviction.new p ≡ without i.id (E.at eviction.old p) }
     ensures room { E.room eviction.old ≤ E.room eviction.new }
 {
-    let Some(old) = was else {
+    let Some(slot) = was else {
         return (0, None);
     };
-    let slot = old as usize;
     let Some(found) = records.get(slot) else {
         unreachable!();
     };

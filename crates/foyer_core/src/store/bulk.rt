@@ -5,10 +5,10 @@ ghost use Rattle.foyer_policy.specs.declared.error.Reason.TheVariants.{NoMemory}
 
 use super::Store;
 use crate::entry::Leave;
-use crate::indexer::Indexer;
+use crate::finder::Finder;
 use foyer_policy::{Error, Event, Eviction, Key, Properties, Reason, Result, Value};
 
-impl<E: Eviction, K: Key, V: Value, P: Properties, I: Indexer<K>> Store<E, K, V, P, I> {
+impl<E: Eviction, K: Key, V: Value, P: Properties, I: Finder<K>> Store<E, K, V, P, I> {
     ghost use Rattle.foyer_core.specs.Stores.{state_of, meaning_of};
     ghost use Rattle.foyer_core.specs.Bulk.{GoesOn, after_capacity, after_update, EvictsUnpinned, EvictingUnpinned};
     ghost use Rattle.foyer_core.specs.CoreBulk.{EvictsToCapacity, EvictingToCapacity};

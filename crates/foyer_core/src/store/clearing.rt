@@ -13,11 +13,11 @@ ghost use Rattle.foyer_core.specs.Records.{slot_in, record_in, HasRoom};
 
 use super::Store;
 use crate::entry::{Leave, Left};
-use crate::indexer::Indexer;
+use crate::finder::Finder;
 use crate::records::Records;
 use foyer_policy::{Event, Eviction, Item, Key, Properties, Result, Value};
 
-impl<E: Eviction, K: Key, V: Value, P: Properties, I: Indexer<K>> Store<E, K, V, P, I> {
+impl<E: Eviction, K: Key, V: Value, P: Properties, I: Finder<K>> Store<E, K, V, P, I> {
     ghost use Rattle.foyer_core.specs.Stores.{state_of, meaning_of};
     ghost use Rattle.foyer_core.specs.Bulk.{GoesOn, Clears, Lined, Passes};
 
@@ -79,14 +79,15 @@ impl<E: Eviction, K: Key, V: Value, P: Properties, I: Indexer<K>> Store<E, K, V,
     }
 }
 
-// The record in a slot leaves the index and its slot, in the core of this number.
-pub(super) fn leave_slot<K: Key, V: Drop, P: Drop, I: Indexer<K>>(
+// The record in a slot, to which its key leads, leaves the index and its slot, in the core of this number.
+pub(super) fn leave_slot<K: Key, V: Drop, P: Drop, I: Finder<K>>(
     index: &mut I,
     records: &mut Records<K, V, P>,
     slot: usize,
     number: u64,
 ) -> Left<K, V, P>
-    requires { IsSomeAnd (slot_in records.old slot) (λ s. s.resident ≡ true) }
+    requires { IsSomeAnd (slot_in records.old slot) (λ s.
+        (s.resident ≡ true) × (I.view index.old (key_of s.kept) ≡ Some slot)) }
     ensures left { (s : Kept K V P) → slot_in records.old slot ≡ Some s → result ≡ record { number = number; id = s.id; kept = s.kept } }
     ensures index { (s : Kept K V P) → slot_in records.old slot ≡ Some s → (q : ℕ × K) → I.view index.new q ≡ update (same_key K.eq) (I.view index.old) (key_of s.kept) None q }
     ensures slots { (s : Kept K V P) → slot_in records.old slot ≡ Some s → (q : ℕ) → slot_in records.new q ≡ update nat_eq (slot_in records.old) slot (slot_outside s) q }
@@ -96,6 +97,6 @@ pub(super) fn leave_slot<K: Key, V: Drop, P: Drop, I: Indexer<K>>(
     let Some(found) = records.get(slot) else {
         unreachable!();
     };
-    let _ = index.remove(found.hash(), found.key());
+    index.take(found.hash(), found.key(), slot);
     records.leave(slot, number)
 }

@@ -6,10 +6,10 @@ ghost use Rattle.foyer_core.specs.Records.{slot_in};
 ghost use Rattle.foyer_core.specs.Values.{Kept, Rec};
 
 use super::Store;
-use crate::indexer::Indexer;
+use crate::finder::Finder;
 use foyer_policy::{Eviction, Item, Key, Properties, Value};
 
-impl<E: Eviction, K: Key, V: Value, P: Properties, I: Indexer<K>> Store<E, K, V, P, I> {
+impl<E: Eviction, K: Key, V: Value, P: Properties, I: Finder<K>> Store<E, K, V, P, I> {
     ghost use Rattle.foyer_core.specs.Stores.{state_of};
     ghost use Rattle.foyer_core.specs.Questions.{IsTold, TellsResidents};
 

@@ -6,11 +6,11 @@ ghost use Rattle.foyer_core.specs.Records.{HasRoom};
 
 use super::Store;
 use crate::entry::{Leave, Left};
-use crate::indexer::Indexer;
+use crate::finder::Finder;
 use foyer_policy::{Error, Event, Eviction, Key, Properties, Reason, Result, Value};
 use std::alloc::Global;
 
-impl<E: Eviction, K: Key, V: Value, P: Properties, I: Indexer<K>> Store<E, K, V, P, I> {
+impl<E: Eviction, K: Key, V: Value, P: Properties, I: Finder<K>> Store<E, K, V, P, I> {
     ghost use Rattle.foyer_core.specs.Stores.{state_of, meaning_of};
     ghost use Rattle.foyer_core.specs.Steps.{Evicts, Evicting, EvictsOne};
     ghost use Rattle.foyer_core.specs.Bulk.{GoesOn};
@@ -33,7 +33,7 @@ impl<E: Eviction, K: Key, V: Value, P: Properties, I: Indexer<K>> Store<E, K, V,
         let Some(found) = self.records.get(slot) else {
             unreachable!();
         };
-        let _ = self.index.remove(found.hash(), found.key());
+        self.index.take(found.hash(), found.key(), slot);
         self.usage -= item.weight;
         self.entries -= 1;
         Ok(Some(self.records.leave(slot, self.number)))

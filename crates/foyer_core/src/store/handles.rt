@@ -7,11 +7,11 @@ ghost use Rattle.foyer_core.specs.Table.{rec_of};
 
 use super::Store;
 use crate::entry::{CoreEntry, Leave};
-use crate::indexer::Indexer;
+use crate::finder::Finder;
 use crate::slot::Slot;
 use foyer_policy::{Error, Event, Eviction, Key, Properties, Reason, Result, Source, Value};
 
-impl<E: Eviction, K: Key, V: Value, P: Properties, I: Indexer<K>> Store<E, K, V, P, I> {
+impl<E: Eviction, K: Key, V: Value, P: Properties, I: Finder<K>> Store<E, K, V, P, I> {
     ghost use Rattle.foyer_core.specs.Stores.{state_of, meaning_of};
     ghost use Rattle.foyer_core.specs.State.{handles_in};
     ghost use Rattle.foyer_core.specs.Steps.{Gets, GivesBack};
@@ -23,10 +23,9 @@ impl<E: Eviction, K: Key, V: Value, P: Properties, I: Indexer<K>> Store<E, K, V,
     pub fn get(&mut self, hash: u64, key: &K) -> Result<Option<CoreEntry<K, V, P>>>
         ensures gets { Gets (meaning_of self.old) (state_of self.old) (hash, key.now) result (state_of self.new) }
     {
-        let Some(number) = self.index.get(hash, key) else {
+        let Some(slot) = self.slot_under(hash, key) else {
             return Ok(None);
         };
-        let slot = number as usize;
         let Some(found) = self.records.get(slot) else {
             unreachable!();
         };

@@ -7,7 +7,7 @@ ghost use Rattle.foyer_core.specs.Records.{HasRoom};
 
 use super::Store;
 use crate::entry::{CoreEntry, Leave, discard_all};
-use crate::indexer::Indexer;
+use crate::finder::Finder;
 use crate::outcome::{Arrival, Further, Refused};
 use crate::record::Data;
 use crate::share::Share;
@@ -15,7 +15,7 @@ use crate::slot::Slot;
 use foyer_policy::{Error, Event, Eviction, Key, Properties, Reason, Result, Source, Value};
 use std::alloc::Global;
 
-impl<E: Eviction, K: Key, V: Value, P: Properties, I: Indexer<K>> Store<E, K, V, P, I> {
+impl<E: Eviction, K: Key, V: Value, P: Properties, I: Finder<K>> Store<E, K, V, P, I> {
     ghost use Rattle.foyer_core.specs.Stores.{state_of, meaning_of};
     ghost use Rattle.foyer_core.specs.State.{is_phantom_record};
     ghost use Rattle.foyer_core.specs.Bulk.{GoesOn};

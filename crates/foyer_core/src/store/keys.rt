@@ -4,10 +4,10 @@ ghost use Rattle.std.specs.Prelude.{◌≡◌};
 
 use super::Store;
 use crate::entry::{CoreEntry, Left};
-use crate::indexer::Indexer;
+use crate::finder::Finder;
 use foyer_policy::{Error, Eviction, Key, Properties, Reason, Result, Source, Value};
 
-impl<E: Eviction, K: Key, V: Value, P: Properties, I: Indexer<K>> Store<E, K, V, P, I> {
+impl<E: Eviction, K: Key, V: Value, P: Properties, I: Finder<K>> Store<E, K, V, P, I> {
     ghost use Rattle.foyer_core.specs.Stores.{state_of, meaning_of};
     ghost use Rattle.foyer_core.specs.Steps.{Touches, Removes};
 
@@ -17,10 +17,10 @@ impl<E: Eviction, K: Key, V: Value, P: Properties, I: Indexer<K>> Store<E, K, V,
     pub fn touch(&mut self, hash: u64, key: &K) -> Result<bool>
         ensures touches { Touches (meaning_of self.old) (state_of self.old) (hash, key.now) result (state_of self.new) }
     {
-        let Some(number) = self.index.get(hash, key) else {
+        let Some(slot) = self.slot_under(hash, key) else {
             return Ok(false);
         };
-        let Some(found) = self.records.get(number as usize) else {
+        let Some(found) = self.records.get(slot) else {
             unreachable!();
         };
         let handles = found.handles();
@@ -48,10 +48,9 @@ impl<E: Eviction, K: Key, V: Value, P: Properties, I: Indexer<K>> Store<E, K, V,
     ) -> Result<Option<(CoreEntry<K, V, P>, Left<K, V, P>)>>
         ensures removes { Removes (meaning_of self.old) (state_of self.old) (hash, key.now) result (state_of self.new) }
     {
-        let Some(number) = self.index.get(hash, key) else {
+        let Some(slot) = self.slot_under(hash, key) else {
             return Ok(None);
         };
-        let slot = number as usize;
         let Some(found) = self.records.get(slot) else {
             unreachable!();
         };
@@ -62,7 +61,7 @@ impl<E: Eviction, K: Key, V: Value, P: Properties, I: Indexer<K>> Store<E, K, V,
             unreachable!();
         };
         let entry = found.entry(self.number, slot, Source::Memory)?;
-        let _ = self.index.remove(hash, key);
+        self.index.take(hash, key, slot);
         let item = self.eviction.remove(place);
         self.usage -= item.weight;
         self.entries -= 1;

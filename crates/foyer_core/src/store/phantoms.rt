@@ -7,11 +7,11 @@ ghost use Rattle.foyer_core.specs.Values.{Rec, incoming_of};
 use super::Store;
 use super::admission::above;
 use crate::entry::{CoreEntry, Leave, Left};
-use crate::indexer::Indexer;
+use crate::finder::Finder;
 use crate::slot::Slot;
 use foyer_policy::{Error, Event, Eviction, Key, Properties, Reason, Result, Source, Value};
 
-impl<E: Eviction, K: Key, V: Value, P: Properties, I: Indexer<K>> Store<E, K, V, P, I> {
+impl<E: Eviction, K: Key, V: Value, P: Properties, I: Finder<K>> Store<E, K, V, P, I> {
     ghost use Rattle.foyer_core.specs.Stores.{state_of, meaning_of};
     ghost use Rattle.foyer_core.specs.Bulk.{GoesOn};
     ghost use Rattle.foyer_core.specs.Steps.{InsertsPhantom, RefusesPhantom, GivesWay, MayHold, after_hold, entry_of, replaced_leaves};
@@ -70,10 +70,10 @@ impl<E: Eviction, K: Key, V: Value, P: Properties, I: Indexer<K>> Store<E, K, V,
         ensures gives_way { GivesWay (meaning_of self.old) ((state_of self.old).index (hash, key.now)) (state_of self.old) (replaced_leaves result) (state_of self.new) }
         ensures room { HasRoom self.old.records → HasRoom self.new.records }
     {
-        let Some(number) = self.index.get(hash, key) else {
+        let Some(slot) = self.slot_under(hash, key) else {
             return None;
         };
-        let Some(found) = self.records.get(number as usize) else {
+        let Some(found) = self.records.get(slot) else {
             unreachable!();
         };
         let id = found.id();

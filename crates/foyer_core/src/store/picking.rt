@@ -9,11 +9,11 @@ ghost use Rattle.foyer_core.specs.Records.{HasRoom};
 use super::Store;
 use super::clearing::leave_slot;
 use crate::entry::{Leave, Left};
-use crate::indexer::Indexer;
+use crate::finder::Finder;
 use foyer_policy::{Error, Event, Eviction, Item, Key, Properties, Reason, Result, Value};
 use std::alloc::Global;
 
-impl<E: Eviction, K: Key, V: Value, P: Properties, I: Indexer<K>> Store<E, K, V, P, I> {
+impl<E: Eviction, K: Key, V: Value, P: Properties, I: Finder<K>> Store<E, K, V, P, I> {
     ghost use Rattle.foyer_core.specs.Stores.{state_of, meaning_of};
     ghost use Rattle.foyer_core.specs.Bulk.{GoesOn, TakesRecordOut, TakesOut, EvictsIf, Picks, Says, Answers};
 

@@ -6,7 +6,7 @@ ghost use Rattle.foyer_core.specs.Records.{slot_in};
 ghost use Rattle.foyer_core.specs.Values.{Carried, Kept, Rec, incoming_of};
 
 use super::Store;
-use crate::indexer::Indexer;
+use crate::finder::Finder;
 use crate::outcome::{Arrival, Further, Refused};
 use crate::piece::Piece;
 use crate::share::Share;
@@ -14,7 +14,7 @@ use crate::slot::Slot;
 use foyer_policy::{Eviction, Key, Properties, Reason, Source, Value};
 use std::alloc::Global;
 
-impl<E: Eviction, K: Key, V: Value, P: Properties, I: Indexer<K>> Store<E, K, V, P, I> {
+impl<E: Eviction, K: Key, V: Value, P: Properties, I: Finder<K>> Store<E, K, V, P, I> {
     ghost use Rattle.foyer_core.specs.Stores.{state_of, meaning_of};
     ghost use Rattle.foyer_core.specs.Steps.{Inserts, RefusesHandles, RefusesInsert, newcomer};
     ghost use Rattle.foyer_core.specs.Pieces.{GainsHandles, Returns, RefusesReturn, is_known};

@@ -4,11 +4,11 @@ ghost use Rattle.std.specs.Prelude.{◌≡◌, Err, IfSome, IfNone, true};
 ghost use Rattle.foyer_policy.specs.declared.error.Reason.TheVariants.{Handles};
 
 use super::Store;
-use crate::indexer::Indexer;
+use crate::finder::Finder;
 use crate::piece::Piece;
 use foyer_policy::{Eviction, Key, Properties, Reason, Value};
 
-impl<E: Eviction, K: Key, V: Value, P: Properties, I: Indexer<K>> Store<E, K, V, P, I> {
+impl<E: Eviction, K: Key, V: Value, P: Properties, I: Finder<K>> Store<E, K, V, P, I> {
     ghost use Rattle.foyer_core.specs.Stores.{state_of, meaning_of};
     ghost use Rattle.foyer_core.specs.State.{usage_of};
     ghost use Rattle.foyer_core.specs.Steps.{Gets};
@@ -19,10 +19,10 @@ impl<E: Eviction, K: Key, V: Value, P: Properties, I: Indexer<K>> Store<E, K, V,
         ensures some { IfSome result (λ reason. (reason ≡ Handles) × Gets (meaning_of self.now) (state_of self.now) (hash, key.now) (Err Handles) (state_of self.now)) }
         ensures none { IfNone result (MayGet (state_of self.now) (hash, key.now)) }
     {
-        let Some(number) = self.index.get(hash, key) else {
+        let Some(slot) = self.slot_under(hash, key) else {
             return None;
         };
-        let Some(found) = self.records.get(number as usize) else {
+        let Some(found) = self.records.get(slot) else {
             unreachable!();
         };
         if found.handles() >= self.limits.handles {

@@ -7,12 +7,12 @@ ghost use Rattle.foyer_policy.specs.Properties.{is_phantom};
 ghost use Rattle.foyer_core.specs.Values.{incoming_of};
 
 use super::Store;
-use crate::indexer::Indexer;
+use crate::finder::Finder;
 use crate::record::Data;
 use crate::slot::Slot;
 use foyer_policy::{Eviction, Key, Properties, Reason, Value};
 
-impl<E: Eviction, K: Key, V: Value, P: Properties, I: Indexer<K>> Store<E, K, V, P, I> {
+impl<E: Eviction, K: Key, V: Value, P: Properties, I: Finder<K>> Store<E, K, V, P, I> {
     ghost use Rattle.foyer_core.specs.Stores.{state_of, meaning_of};
     ghost use Rattle.foyer_core.specs.State.{is_phantom_record, pinned_beside};
     ghost use Rattle.foyer_core.specs.Steps.{HasId, LacksId, MayBy, RefusesInsert, newcomer};
@@ -154,10 +154,10 @@ impl<E: Eviction, K: Key, V: Value, P: Properties, I: Indexer<K>> Store<E, K, V,
     fn own_pinned(&self, hash: u64, key: &K) -> usize
         ensures { result + pinned_beside (meaning_of self.now) (state_of self.now) (hash, key.now) ≡ weight_of (E.model.pinned (E.view self.now.eviction)) }
     {
-        let Some(number) = self.index.get(hash, key) else {
+        let Some(slot) = self.slot_under(hash, key) else {
             return 0;
         };
-        let Some(found) = self.records.get(number as usize) else {
+        let Some(found) = self.records.get(slot) else {
             unreachable!();
         };
         let Some(place) = found.place() else {

@@ -5,8 +5,8 @@ ghost use Rattle.foyer_core.specs.Idle.{NoneOpen};
 
 use super::*;
 use foyer_core::{
-    Ended, FetchOrTake, FetchTarget, HashTableIndexer, Indexer, Lookup, Outcome, Piece, Refused,
-    Sentry,
+    Ended, FetchOrTake, FetchTarget, Finder, HashTableIndexer, Indexed, Lookup, Outcome, Piece,
+    Refused, Sentry,
 };
 use foyer_policy::{Error, Fault, Key};
 use std::sync::Arc;
@@ -23,7 +23,7 @@ struct Any<
     A: Filter<K, V>,
     N: Drop,
     R: Drop,
-    I: Indexer<K>,
+    I: Finder<K>,
 > {
     core: CacheCore<E, K, V, P, S, W, A, N, R, I>,
 }
@@ -38,7 +38,7 @@ impl<
     A: Filter<K, V>,
     N: Drop,
     R: Drop,
-    I: Indexer<K>,
+    I: Finder<K>,
 > Any<E, K, V, P, S, W, A, N, R, I> {
     ghost use Rattle.foyer_core.specs.CoreFetches.{IsOpenIn};
     ghost use Rattle.foyer_core.specs.Cores.{core_of, fetches_of, hashes_of};
@@ -175,7 +175,7 @@ type Guarded = Any<
     AdmitAll,
     u64,
     u64,
-    Sentry<HashTableIndexer<u64>>,
+    Indexed<Sentry<HashTableIndexer<u64>>>,
 >;
 
 // One of one shard that holds nothing.

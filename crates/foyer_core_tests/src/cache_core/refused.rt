@@ -4,7 +4,7 @@
 use super::weights::ByValue;
 use super::*;
 use crate::refusing::{RefusingIndex, RefusingPolicy};
-use foyer_core::{HashTableIndexer, Indexer};
+use foyer_core::{Finder, HashTableIndexer, Indexed, TagFinder};
 use foyer_policy::{Lfu, LfuConfig, Lru, LruConfig, S3Fifo, S3FifoConfig, Sieve, SieveConfig};
 
 mod bulk;
@@ -29,7 +29,7 @@ type Hostile<E, I> = CacheCore<
 type HostileLeaves = Vec<(Event, Left<u64, usize, CacheProperties>)>;
 
 // One of so many shards that holds nothing.
-fn hostile<E: Eviction, I: Indexer<u64>>(
+fn hostile<E: Eviction, I: Finder<u64>>(
     alloc: Global,
     capacity: usize,
     shards: usize,
@@ -51,7 +51,7 @@ fn hostile<E: Eviction, I: Indexer<u64>>(
 }
 
 // Puts a record in and lets its entry go: its id, or none where memory is refused, and what left.
-fn put_weight<E: Eviction, I: Indexer<u64>>(
+fn put_weight<E: Eviction, I: Finder<u64>>(
     rt: &impl Abort,
     core: &mut Hostile<E, I>,
     key: u64,
@@ -77,7 +77,7 @@ fn put_weight<E: Eviction, I: Indexer<u64>>(
 }
 
 // Puts records of weight 1 in, for which nothing leaves.
-fn put_ones<E: Eviction, I: Indexer<u64>>(rt: &impl Abort, core: &mut Hostile<E, I>, keys: &[u64]) {
+fn put_ones<E: Eviction, I: Finder<u64>>(rt: &impl Abort, core: &mut Hostile<E, I>, keys: &[u64]) {
     for key in keys {
         let (id, leaves) = put_weight(rt, core, *key, 1);
         assert!(rt; id.is_some() && leaves.is_empty());
@@ -94,7 +94,7 @@ fn assert_evicted(rt: &impl Abort, leaves: &HostileLeaves, keys: &[u64]) {
 
 // Three records give way to one that is as heavy as all of them, in this order, but that insert is refused once so
 // many of them have left. The same insert then succeeds.
-fn insert_is_refused<E: Eviction, I: Indexer<u64>>(
+fn insert_is_refused<E: Eviction, I: Finder<u64>>(
     rt: &impl Abort,
     alloc: Global,
     config: E::Config,
@@ -125,12 +125,13 @@ fn insert_is_refused<E: Eviction, I: Indexer<u64>>(
 // Three inserts make the requests 0 to 2 of the policy. That of the fourth is 3, and its evictions are 4 to 6; the
 // index is asked last of all.
 fn each_request_is_refused<E: Eviction>(rt: &impl Abort, alloc: Global, order: &[u64; 3]) -> Done {
-    type Index = HashTableIndexer<u64>;
-    insert_is_refused::<RefusingPolicy<E, 3>, Index>(rt, alloc, E::Config::default(), order, 0)?;
-    insert_is_refused::<RefusingPolicy<E, 4>, Index>(rt, alloc, E::Config::default(), order, 0)?;
-    insert_is_refused::<RefusingPolicy<E, 5>, Index>(rt, alloc, E::Config::default(), order, 1)?;
-    insert_is_refused::<RefusingPolicy<E, 6>, Index>(rt, alloc, E::Config::default(), order, 2)?;
-    insert_is_refused::<E, RefusingIndex<Index, 3>>(rt, alloc, E::Config::default(), order, 3)
+    type Tagged = TagFinder<u64>;
+    type Refusing = Indexed<RefusingIndex<HashTableIndexer<u64>, 3>>;
+    insert_is_refused::<RefusingPolicy<E, 3>, Tagged>(rt, alloc, E::Config::default(), order, 0)?;
+    insert_is_refused::<RefusingPolicy<E, 4>, Tagged>(rt, alloc, E::Config::default(), order, 0)?;
+    insert_is_refused::<RefusingPolicy<E, 5>, Tagged>(rt, alloc, E::Config::default(), order, 1)?;
+    insert_is_refused::<RefusingPolicy<E, 6>, Tagged>(rt, alloc, E::Config::default(), order, 2)?;
+    insert_is_refused::<E, Refusing>(rt, alloc, E::Config::default(), order, 3)
 }
 
 // What was used leaves later, but for FIFO, and for LRU, whose pool of high priority has room for two: the first is

@@ -5,7 +5,7 @@ ghost use Rattle.foyer_core.specs.Core.{Owns};
 ghost use Rattle.foyer_core.specs.Cores.{core_of};
 
 use super::*;
-use foyer_core::{HashTableIndexer, Sentry, shard_capacity};
+use foyer_core::{HashTableIndexer, Indexed, Sentry, shard_capacity};
 use foyer_policy::{Lru, LruConfig, Ratio};
 
 #[test]
@@ -116,7 +116,7 @@ type Guarded = CacheCore<
     AdmitAll,
     (),
     (),
-    Sentry<HashTableIndexer<u64>>,
+    Indexed<Sentry<HashTableIndexer<u64>>>,
 >;
 
 // A core's index is of the type that its maker picks.

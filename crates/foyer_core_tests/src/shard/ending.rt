@@ -43,7 +43,7 @@ fn end_of_three<const AT: u64>(
     rt: &impl Abort,
     alloc: Global,
 ) -> std::result::Result<Vec<(u64, u64)>, Fail> {
-    let index = HashTableIndexer::new(alloc);
+    let index = TagFinder::empty(alloc);
     let config = LruConfig::default();
     let mut shard: Over<RefusingPolicy<Lru, AT>> = Shard::new(
         alloc,

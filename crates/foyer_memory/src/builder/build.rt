@@ -8,7 +8,7 @@ ghost use Rattle.foyer_memory.specs.Faults.{build_fault, fault_with, kind_of_con
 use super::CacheBuilder;
 use crate::cache::Cache;
 use crate::config::EvictionConfig;
-use foyer_core::{Filter, Indexer, RawCacheConfig, Weighter};
+use foyer_core::{Filter, Finder, RawCacheConfig, Weighter};
 use foyer_policy::{EventListener, Eviction, HashBuilder, Key, Properties, Result, Value};
 use foyer_raw::{FetchTypes, Pipe, RawCache};
 use log::{Log, warn};
@@ -38,7 +38,7 @@ where
         P: Properties,
         Q: Pipe<Key = K, Value = V, Properties = P>,
         T: FetchTypes<K, V, P>,
-        I: Indexer<K>,
+        I: Finder<K>,
         G: Log,
         ensures accepted { OnOk result (build_fault self.config ≡ None) }
         ensures refused { IfSome (build_fault self.config) (λ reason. result ≡ Err reason) }
@@ -116,7 +116,7 @@ where
     W: Weighter<K, V>,
     A: Filter<K, V>,
     L: EventListener<Key = K, Value = V>,
-    I: Indexer<K>,
+    I: Finder<K>,
     Q: Pipe<Key = K, Value = V, Properties = P>,
     T: FetchTypes<K, V, P>,
     ensures accepted { OnOk result (fault_with E.model base.shards policy ≡ None) }

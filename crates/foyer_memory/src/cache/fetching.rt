@@ -8,7 +8,7 @@ ghost use Rattle.foyer_memory.specs.Looks.{entry_of, kind_of_look};
 use super::Cache;
 use crate::fetch::GetOrFetch;
 use crate::task::{FetchTask, Lent};
-use foyer_core::{Filter, Indexer, Weighter};
+use foyer_core::{Filter, Finder, Weighter};
 use foyer_policy::{EventListener, HashBuilder, Key, Properties, Result, Value};
 use foyer_raw::{Direct, FetchTypes, Given, NoFetch, Pipe, Pollable, RequiredFetch, Spawner};
 use std::sync::Wait;
@@ -23,7 +23,7 @@ where
     W: Weighter<K, V>,
     A: Filter<K, V>,
     L: EventListener<Key = K, Value = V>,
-    I: Indexer<K>,
+    I: Finder<K>,
     Q: Pipe<Key = K, Value = V, Properties = P>,
     T: FetchTypes<K, V, P>,
 {
@@ -82,7 +82,7 @@ where
     W: Weighter<K, V>,
     A: Filter<K, V>,
     L: EventListener<Key = K, Value = V>,
-    I: Indexer<K>,
+    I: Finder<K>,
     Q: Pipe<Key = K, Value = V, Properties = P>,
     R: RequiredFetch<K, V, P>,
 {

@@ -6,7 +6,7 @@ ghost use Rattle.foyer_memory.specs.Entries.{held, kind_of_entry};
 
 use super::Cache;
 use crate::entry::CacheEntry;
-use foyer_core::{Filter, Indexer, Piece, Weighter};
+use foyer_core::{Filter, Finder, Piece, Weighter};
 use foyer_policy::{EventListener, HashBuilder, Key, Properties, Result, Value};
 use foyer_raw::{FetchTypes, Pipe};
 use std::sync::Wait;
@@ -21,7 +21,7 @@ where
     W: Weighter<K, V>,
     A: Filter<K, V>,
     L: EventListener<Key = K, Value = V>,
-    I: Indexer<K>,
+    I: Finder<K>,
     Q: Pipe<Key = K, Value = V, Properties = P>,
     T: FetchTypes<K, V, P>,
 {

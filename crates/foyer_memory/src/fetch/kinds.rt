@@ -4,7 +4,7 @@ use super::GetOrFetch;
 use crate::types::{
     FifoGetOrFetch, LfuGetOrFetch, LruGetOrFetch, S3FifoGetOrFetch, SieveGetOrFetch,
 };
-use foyer_core::{Filter, Indexer, Weighter};
+use foyer_core::{Filter, Finder, Weighter};
 use foyer_policy::{EventListener, HashBuilder, Key, Properties, Value};
 use foyer_raw::{FetchTypes, Pipe};
 use std::sync::Wait;
@@ -20,7 +20,7 @@ where
     W: Weighter<K, V>,
     A: Filter<K, V>,
     L: EventListener<Key = K, Value = V>,
-    I: Indexer<K>,
+    I: Finder<K>,
     Q: Pipe<Key = K, Value = V, Properties = P>,
     T: FetchTypes<K, V, P>,
 {
@@ -45,7 +45,7 @@ where
     W: Weighter<K, V>,
     A: Filter<K, V>,
     L: EventListener<Key = K, Value = V>,
-    I: Indexer<K>,
+    I: Finder<K>,
     Q: Pipe<Key = K, Value = V, Properties = P>,
     T: FetchTypes<K, V, P>,
 {
@@ -70,7 +70,7 @@ where
     W: Weighter<K, V>,
     A: Filter<K, V>,
     L: EventListener<Key = K, Value = V>,
-    I: Indexer<K>,
+    I: Finder<K>,
     Q: Pipe<Key = K, Value = V, Properties = P>,
     T: FetchTypes<K, V, P>,
 {
@@ -95,7 +95,7 @@ where
     W: Weighter<K, V>,
     A: Filter<K, V>,
     L: EventListener<Key = K, Value = V>,
-    I: Indexer<K>,
+    I: Finder<K>,
     Q: Pipe<Key = K, Value = V, Properties = P>,
     T: FetchTypes<K, V, P>,
 {
@@ -120,7 +120,7 @@ where
     W: Weighter<K, V>,
     A: Filter<K, V>,
     L: EventListener<Key = K, Value = V>,
-    I: Indexer<K>,
+    I: Finder<K>,
     Q: Pipe<Key = K, Value = V, Properties = P>,
     T: FetchTypes<K, V, P>,
 {

@@ -1,7 +1,7 @@
 //! A spawner of tasks of any policy as one of each policy's.
 
 use super::FetchTask;
-use foyer_core::{Filter, Indexer, Weighter};
+use foyer_core::{Filter, Finder, Weighter};
 use foyer_policy::{
     EventListener, Fifo, HashBuilder, Key, Lfu, Lru, Properties, Result, S3Fifo, Sieve, Value,
 };
@@ -37,7 +37,7 @@ where
     W: Weighter<K, V>,
     A: Filter<K, V>,
     L: EventListener<Key = K, Value = V>,
-    I: Indexer<K>,
+    I: Finder<K>,
     Q: Pipe<Key = K, Value = V, Properties = P>,
     T: FetchTypes<K, V, P>,
     X: Spawner<FetchTask<H, K, V, S, P, W, A, L, Q, T, I>>,
@@ -64,7 +64,7 @@ where
     W: Weighter<K, V>,
     A: Filter<K, V>,
     L: EventListener<Key = K, Value = V>,
-    I: Indexer<K>,
+    I: Finder<K>,
     Q: Pipe<Key = K, Value = V, Properties = P>,
     T: FetchTypes<K, V, P>,
     X: Spawner<FetchTask<H, K, V, S, P, W, A, L, Q, T, I>>,
@@ -91,7 +91,7 @@ where
     W: Weighter<K, V>,
     A: Filter<K, V>,
     L: EventListener<Key = K, Value = V>,
-    I: Indexer<K>,
+    I: Finder<K>,
     Q: Pipe<Key = K, Value = V, Properties = P>,
     T: FetchTypes<K, V, P>,
     X: Spawner<FetchTask<H, K, V, S, P, W, A, L, Q, T, I>>,
@@ -118,7 +118,7 @@ where
     W: Weighter<K, V>,
     A: Filter<K, V>,
     L: EventListener<Key = K, Value = V>,
-    I: Indexer<K>,
+    I: Finder<K>,
     Q: Pipe<Key = K, Value = V, Properties = P>,
     T: FetchTypes<K, V, P>,
     X: Spawner<FetchTask<H, K, V, S, P, W, A, L, Q, T, I>>,
@@ -145,7 +145,7 @@ where
     W: Weighter<K, V>,
     A: Filter<K, V>,
     L: EventListener<Key = K, Value = V>,
-    I: Indexer<K>,
+    I: Finder<K>,
     Q: Pipe<Key = K, Value = V, Properties = P>,
     T: FetchTypes<K, V, P>,
     X: Spawner<FetchTask<H, K, V, S, P, W, A, L, Q, T, I>>,

@@ -6,7 +6,7 @@ use super::RawCache;
 use crate::fetch::FetchTypes;
 use crate::flush::{Flush, FlushIf};
 use crate::pipe::Pipe;
-use foyer_core::{Filter, Indexer, Leave, Piece, Weighter, shard_capacity};
+use foyer_core::{Filter, Finder, Leave, Piece, Weighter, shard_capacity};
 use foyer_policy::{EventListener, Eviction, HashBuilder, Key, Properties, Result, Value};
 use std::sync::Wait;
 
@@ -21,7 +21,7 @@ where
     W: Weighter<K, V>,
     A: Filter<K, V>,
     L: EventListener<Key = K, Value = V>,
-    I: Indexer<K>,
+    I: Finder<K>,
     Q: Pipe<Key = K, Value = V, Properties = P>,
     T: FetchTypes<K, V, P>,
 {

@@ -1,6 +1,6 @@
 //! Look-ups that fetch what is missing.
 
-ghost use Rattle.std.specs.Prelude.{◌≡◌, IfOk, IfSome, true};
+ghost use Rattle.std.specs.Prelude.{◌≡◌, IfOk, IfSome, IsSome, true};
 
 use super::RawCache;
 use crate::fetch::{
@@ -8,7 +8,8 @@ use crate::fetch::{
     RequiredFetch, Spawner,
 };
 use crate::pipe::Pipe;
-use foyer_core::{Filter, Indexer, Lookup, Weighter};
+use crate::ticket::{Answer, Waiter};
+use foyer_core::{Filter, Finder, Lookup, Weighter};
 use foyer_policy::{EventListener, Eviction, HashBuilder, Key, Properties, Result, Value};
 use futures::channel::oneshot;
 use std::sync::Wait;
@@ -24,7 +25,7 @@ where
     W: Weighter<K, V>,
     A: Filter<K, V>,
     L: EventListener<Key = K, Value = V>,
-    I: Indexer<K>,
+    I: Finder<K>,
     Q: Pipe<Key = K, Value = V, Properties = P>,
     T: FetchTypes<K, V, P>,
 {
@@ -88,6 +89,19 @@ where
             Lookup::Wait { token: _ } => { Ok(RawGetOrFetch::Miss(RawWait::new(shares, waiter))) }
         }
     }
+
+    /// A wait for what comes through a channel: for one who finds out in another way than by a task of this cache that there
+    /// is nothing, or why, and sends that. It ends as every wait does: once its sender is gone, with F14. Refused where
+    /// something can't be shared (F7).
+    pub fn wait_for(
+        &self,
+        waiter: Waiter<Answer<K, V, P>>,
+    ) -> Result<RawWait<H, E, K, V, S, P, W, A, L, Q, T::Required, I>>
+        ensures { IfOk result (λ wait. IsSome wait.open × IfSome wait.open (λ held. held.1 ≡ waiter)) }
+    {
+        let shares = self.shares.try_clone()?;
+        Ok(RawWait::new(shares, waiter))
+    }
 }
 
 impl<H, E, K, V, S, P, W, A, L, Q, R, I> RawCache<H, E, K, V, S, P, W, A, L, Q, Direct<R>, I>
@@ -101,7 +115,7 @@ where
     W: Weighter<K, V>,
     A: Filter<K, V>,
     L: EventListener<Key = K, Value = V>,
-    I: Indexer<K>,
+    I: Finder<K>,
     Q: Pipe<Key = K, Value = V, Properties = P>,
     R: RequiredFetch<K, V, P>,
 {

@@ -8,7 +8,7 @@ use crate::fetch::FetchTypes;
 use crate::pipe::Pipe;
 use crate::shared::RawInserted;
 use crate::shares::Shares;
-use foyer_core::{Filter, Indexer, Inserted, Piece, Refused, Weighter};
+use foyer_core::{Filter, Finder, Inserted, Piece, Refused, Weighter};
 use foyer_policy::{
     Error, EventListener, Eviction, HashBuilder, Key, Properties, Reason, Result, Source, Value,
 };
@@ -25,7 +25,7 @@ where
     W: Weighter<K, V>,
     A: Filter<K, V>,
     L: EventListener<Key = K, Value = V>,
-    I: Indexer<K>,
+    I: Finder<K>,
     Q: Pipe<Key = K, Value = V, Properties = P>,
     T: FetchTypes<K, V, P>,
 {

@@ -7,7 +7,7 @@ use crate::entry::RawCacheEntry;
 use crate::fetch::FetchTypes;
 use crate::pipe::Pipe;
 use crate::shares::Shares;
-use foyer_core::{Filter, Indexer, Weighter};
+use foyer_core::{Filter, Finder, Weighter};
 use foyer_policy::{
     Error, Event, EventListener, Eviction, HashBuilder, Key, Properties, Result, Value,
 };
@@ -24,7 +24,7 @@ where
     W: Weighter<K, V>,
     A: Filter<K, V>,
     L: EventListener<Key = K, Value = V>,
-    I: Indexer<K>,
+    I: Finder<K>,
     Q: Pipe<Key = K, Value = V, Properties = P>,
     T: FetchTypes<K, V, P>,
 {

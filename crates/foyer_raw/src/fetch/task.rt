@@ -9,7 +9,7 @@ use super::state::{RawFetchState, TaskEvent};
 use super::types::{FetchTypes, OptionalFuture, RequiredFuture};
 use crate::pipe::Pipe;
 use crate::shares::Shares;
-use foyer_core::{Filter, HashTableIndexer, Indexer, Weighter};
+use foyer_core::{Filter, Finder, TagFinder, Weighter};
 use foyer_policy::{
     Error, EventListener, Eviction, Fault, HashBuilder, Key, Properties, Reason, Value,
 };
@@ -23,7 +23,7 @@ mod polls;
 
 /// The task that fetches for those who wait for a key. It belongs to the one who leads the fetch. Where it is dropped
 /// before it ended, those who wait get F15.
-pub struct RawFetch<H, E, K, V, S, P, W, A, L, Q, T, I = HashTableIndexer<K>>
+pub struct RawFetch<H, E, K, V, S, P, W, A, L, Q, T, I = TagFinder<K>>
 where
     H: Wait + Drop,
     E: Eviction,
@@ -34,7 +34,7 @@ where
     W: Weighter<K, V>,
     A: Filter<K, V>,
     L: EventListener<Key = K, Value = V>,
-    I: Indexer<K>,
+    I: Finder<K>,
     Q: Pipe<Key = K, Value = V, Properties = P>,
     T: FetchTypes<K, V, P>,
 {
@@ -83,7 +83,7 @@ where
     W: Weighter<K, V>,
     A: Filter<K, V>,
     L: EventListener<Key = K, Value = V>,
-    I: Indexer<K>,
+    I: Finder<K>,
     Q: Pipe<Key = K, Value = V, Properties = P>,
     T: FetchTypes<K, V, P>,
 {
@@ -154,7 +154,7 @@ where
     W: Weighter<K, V>,
     A: Filter<K, V>,
     L: EventListener<Key = K, Value = V>,
-    I: Indexer<K>,
+    I: Finder<K>,
     Q: Pipe<Key = K, Value = V, Properties = P>,
     T: FetchTypes<K, V, P>,
 {
@@ -193,7 +193,7 @@ where
     W: Weighter<K, V>,
     A: Filter<K, V>,
     L: EventListener<Key = K, Value = V>,
-    I: Indexer<K>,
+    I: Finder<K>,
     Q: Pipe<Key = K, Value = V, Properties = P>,
     T: FetchTypes<K, V, P>,
 {

@@ -1,6 +1,6 @@
 //! What a caller waits with.
 
-ghost use Rattle.std.specs.Prelude.{◌≡◌, ⊤, IsErr, IsNone, IsOk, IfErr, MatchOption, IfOk, IfSome, Ok, Err, Some, None, true, false};
+ghost use Rattle.std.specs.Prelude.{◌≡◌, ⊤, IsErr, IsNone, IsOk, IsSome, IfErr, MatchOption, IfOk, IfSome, Ok, Err, Some, None, true, false};
 ghost use Rattle.futures.specs.Task.{Covers, Keeps};
 ghost use Rattle.futures.specs.Poll.{IfReady, OnPending};
 ghost use Rattle.foyer_policy.specs.declared.error.Reason.TheVariants.{Spent};
@@ -10,7 +10,7 @@ use crate::entry::RawCacheEntry;
 use crate::pipe::Pipe;
 use crate::shares::Shares;
 use crate::ticket::{Answer, Waiter};
-use foyer_core::{Filter, HashTableIndexer, Indexer, Weighter};
+use foyer_core::{Filter, Finder, TagFinder, Weighter};
 use foyer_policy::{
     Error, EventListener, Eviction, HashBuilder, Key, Properties, Reason, Result, Value,
 };
@@ -20,7 +20,7 @@ use std::fmt::{self, Debug};
 use std::sync::Wait;
 
 /// A future of an entry, or of none. One that is dropped gives a handle back that came meanwhile.
-pub struct RawWait<H, E, K, V, S, P, W, A, L, Q, R, I = HashTableIndexer<K>>
+pub struct RawWait<H, E, K, V, S, P, W, A, L, Q, R, I = TagFinder<K>>
 where
     H: Wait + Drop,
     E: Eviction,
@@ -31,7 +31,7 @@ where
     W: Weighter<K, V>,
     A: Filter<K, V>,
     L: EventListener<Key = K, Value = V>,
-    I: Indexer<K>,
+    I: Finder<K>,
     Q: Pipe<Key = K, Value = V, Properties = P>,
     R: Drop,
 {
@@ -55,7 +55,7 @@ where
     W: Weighter<K, V>,
     A: Filter<K, V>,
     L: EventListener<Key = K, Value = V>,
-    I: Indexer<K>,
+    I: Finder<K>,
     Q: Pipe<Key = K, Value = V, Properties = P>,
     R: Drop,
 {
@@ -63,7 +63,9 @@ where
     pub(crate) fn new(
         shares: Shares<H, E, K, V, S, P, W, A, L, Q, R, I>,
         waiter: Waiter<Answer<K, V, P>>,
-    ) -> Self {
+    ) -> Self
+        ensures { IsSome result.open × IfSome result.open (λ held. held.1 ≡ waiter) }
+    {
         RawWait {
             open: Some((shares, waiter)),
         }
@@ -81,7 +83,7 @@ where
     W: Weighter<K, V>,
     A: Filter<K, V>,
     L: EventListener<Key = K, Value = V>,
-    I: Indexer<K>,
+    I: Finder<K>,
     Q: Pipe<Key = K, Value = V, Properties = P>,
     R: Drop,
 {
@@ -111,7 +113,7 @@ where
     W: Weighter<K, V>,
     A: Filter<K, V>,
     L: EventListener<Key = K, Value = V>,
-    I: Indexer<K>,
+    I: Finder<K>,
     Q: Pipe<Key = K, Value = V, Properties = P>,
     R: Drop,
 {
@@ -159,7 +161,7 @@ where
     W: Weighter<K, V>,
     A: Filter<K, V>,
     L: EventListener<Key = K, Value = V>,
-    I: Indexer<K>,
+    I: Finder<K>,
     Q: Pipe<Key = K, Value = V, Properties = P>,
     R: Drop,
 {
@@ -170,7 +172,7 @@ where
 
 /// What a look-up answers that fetches what is missing: an entry at once, or a wait.
 #[derive(Drop)]
-pub enum RawGetOrFetch<H, E, K, V, S, P, W, A, L, Q, R, I = HashTableIndexer<K>>
+pub enum RawGetOrFetch<H, E, K, V, S, P, W, A, L, Q, R, I = TagFinder<K>>
 where
     H: Wait + Drop,
     E: Eviction,
@@ -181,7 +183,7 @@ where
     W: Weighter<K, V>,
     A: Filter<K, V>,
     L: EventListener<Key = K, Value = V>,
-    I: Indexer<K>,
+    I: Finder<K>,
     Q: Pipe<Key = K, Value = V, Properties = P>,
     R: Drop,
 {
@@ -202,7 +204,7 @@ where
     W: Weighter<K, V>,
     A: Filter<K, V>,
     L: EventListener<Key = K, Value = V>,
-    I: Indexer<K>,
+    I: Finder<K>,
     Q: Pipe<Key = K, Value = V, Properties = P>,
     R: Drop,
 {
@@ -244,7 +246,7 @@ where
     W: Weighter<K, V>,
     A: Filter<K, V>,
     L: EventListener<Key = K, Value = V>,
-    I: Indexer<K>,
+    I: Finder<K>,
     Q: Pipe<Key = K, Value = V, Properties = P>,
     R: Drop,
 {
@@ -285,7 +287,7 @@ where
     W: Weighter<K, V>,
     A: Filter<K, V>,
     L: EventListener<Key = K, Value = V>,
-    I: Indexer<K>,
+    I: Finder<K>,
     Q: Pipe<Key = K, Value = V, Properties = P>,
     R: Drop,
 {

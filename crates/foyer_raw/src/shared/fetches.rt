@@ -5,7 +5,7 @@ ghost use Rattle.foyer_core.specs.declared.outcome.Lookup.TheVariants.{Hit, Lead
 
 use super::{RawShard, Shared};
 use crate::ticket::{Answer, Notifier};
-use foyer_core::{Data, Ended, FetchOrTake, Filter, Indexer, Lookup, Piece, Weighter};
+use foyer_core::{Data, Ended, FetchOrTake, Filter, Finder, Lookup, Piece, Weighter};
 use foyer_policy::{
     Error, EventListener, Eviction, HashBuilder, Key, Properties, Reason, Result, Source, Value,
 };
@@ -29,7 +29,7 @@ where
     W: Weighter<K, V>,
     A: Filter<K, V>,
     L: EventListener<Key = K, Value = V>,
-    I: Indexer<K>,
+    I: Finder<K>,
     R: Drop,
 {
     // A handle of the key's record, or a token: for a new fetch, or for the one that is open.
@@ -106,7 +106,7 @@ where
 }
 
 // A handle of the key's record in a shard, or a token.
-fn look_up<E: Eviction, K: Key, V: Value, P: Properties, R: Drop, I: Indexer<K>>(
+fn look_up<E: Eviction, K: Key, V: Value, P: Properties, R: Drop, I: Finder<K>>(
     shard: &mut RawShard<E, K, V, P, R, I>,
     hash: u64,
     key: &K,

@@ -5,7 +5,7 @@ ghost use Rattle.std.specs.Prelude.{◌≡◌, IfOk, IfSome, true};
 use super::Shared;
 use crate::ticket::{Answer, Notifier};
 use foyer_core::{
-    CoreEntry, Data, Filter, Indexer, Inserted, Leave, Left, Piece, Refused, Weighter, marked,
+    CoreEntry, Data, Filter, Finder, Inserted, Leave, Left, Piece, Refused, Weighter, marked,
 };
 use foyer_policy::{
     Error, EventListener, Eviction, HashBuilder, Key, Properties, Reason, Result, Source, Value,
@@ -26,7 +26,7 @@ where
     W: Weighter<K, V>,
     A: Filter<K, V>,
     L: EventListener<Key = K, Value = V>,
-    I: Indexer<K>,
+    I: Finder<K>,
     R: Drop,
 {
     // A record that is to come in, of a key that has this hash: the weighter is asked, and then the filter, with no lock

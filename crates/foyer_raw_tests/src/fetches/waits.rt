@@ -2,6 +2,8 @@
 
 use super::*;
 use foyer_policy::Lru;
+use foyer_raw::Answer;
+use futures::channel::oneshot;
 
 type Plain<H> = RawCache<
     H,
@@ -145,6 +147,24 @@ fn a_wait_is_dropped(rt: HostRuntime) -> std::result::Result<(), Fail> {
     assert_eq!(rt; entry.refs(), 2);
     drop(after);
     assert_eq!(rt; entry.refs(), 1);
+    Ok(())
+}
+
+// A wait ends with what was sent, and with F14 where its sender goes without an answer.
+#[test]
+fn a_sender_is_gone(rt: HostRuntime) -> std::result::Result<(), Fail> {
+    let alloc = rt.alloc();
+    let cache: Plain<HostRuntime> = RawCache::new(rt, alloc, fifo(4, 1), NoListener::new())?;
+    let (notifier, waiter) = oneshot::channel::<Result<Answer<u64, u64, CacheProperties>>>(alloc)?;
+    let wait = cache.wait_for(waiter)?;
+    assert!(rt; notifier.send(Ok(None)).is_ok());
+    assert!(rt; block_on(&rt, wait)??.is_none());
+    let (notifier, waiter) = oneshot::channel::<Result<Answer<u64, u64, CacheProperties>>>(alloc)?;
+    drop(notifier);
+    let refused = block_on(&rt, cache.wait_for(waiter)?)?
+        .err()
+        .ok_or("an answer")?;
+    assert_eq!(rt; refused.number(), 14);
     Ok(())
 }
 

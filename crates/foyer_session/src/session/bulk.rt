@@ -5,7 +5,7 @@ ghost use Rattle.std.specs.Prelude.{◌≡◌, vec_len, vec_capacity};
 use super::Session;
 use crate::command::{Answer, Reply};
 use crate::predicate::Predicate;
-use foyer_core::{Filter, Indexer, Refused, Weighter};
+use foyer_core::{Filter, Finder, Refused, Weighter};
 use foyer_policy::{Eviction, HashBuilder, Key, Properties, Value};
 
 impl<
@@ -16,7 +16,7 @@ impl<
     S: HashBuilder,
     W: Weighter<K, V>,
     A: Filter<K, V>,
-    I: Indexer<K>,
+    I: Finder<K>,
 > Session<E, K, V, P, S, W, A, I> {
     ghost use Rattle.foyer_session.specs.Sessions.{session_of, taken, terms_of};
     ghost use Rattle.foyer_session.specs.Step.{ClearStep, EvictAllStep, FlushIfStep, ResizeStep, ReconfigureStep};

@@ -15,7 +15,7 @@ use super::waiters::tell_ended;
 use super::{Session, handle, piece};
 use crate::answers::{Answers, Gets};
 use crate::command::{Answer, End, Reply};
-use foyer_core::{CacheCore, Ended, FetchOrTake, FetchTarget, Filter, Indexer, Lookup, Weighter};
+use foyer_core::{CacheCore, Ended, FetchOrTake, FetchTarget, Filter, Finder, Lookup, Weighter};
 use foyer_policy::{Error, Eviction, Fault, HashBuilder, Key, Properties, Reason, Source, Value};
 use std::alloc::Global;
 use std::sync::Arc;
@@ -28,7 +28,7 @@ impl<
     S: HashBuilder,
     W: Weighter<K, V>,
     A: Filter<K, V>,
-    I: Indexer<K>,
+    I: Finder<K>,
 > Session<E, K, V, P, S, W, A, I> {
     ghost use Rattle.foyer_session.specs.Sessions.{session_of, taken, terms_of};
     ghost use Rattle.foyer_session.specs.Step.{CompleteStep, CompletesPiece, CompletesWith, EndStep, FetchOrTakeStep, GetOrFetchStep, IsOpenStep};
@@ -181,7 +181,7 @@ fn complete_in<
     S: HashBuilder,
     W: Weighter<K, V>,
     A: Filter<K, V>,
-    I: Indexer<K>,
+    I: Finder<K>,
 >(
     core: &mut CacheCore<E, K, V, P, S, W, A, (), u64, I>,
     key: &K,
@@ -210,7 +210,7 @@ fn end_in<
     S: HashBuilder,
     W: Weighter<K, V>,
     A: Filter<K, V>,
-    I: Indexer<K>,
+    I: Finder<K>,
 >(
     core: &mut CacheCore<E, K, V, P, S, W, A, (), u64, I>,
     key: &K,

@@ -8,7 +8,7 @@ ghost use Rattle.foyer_core.specs.Steps.{ClonesHandle};
 use super::ready::with_leave;
 use super::{Session, handle, piece};
 use crate::command::{Answer, Reply};
-use foyer_core::{CacheCore, CoreEntry, Filter, Indexer, Left, Weighter};
+use foyer_core::{CacheCore, CoreEntry, Filter, Finder, Left, Weighter};
 use foyer_policy::{Event, Eviction, HashBuilder, Key, Properties, Result, Value};
 
 impl<
@@ -19,7 +19,7 @@ impl<
     S: HashBuilder,
     W: Weighter<K, V>,
     A: Filter<K, V>,
-    I: Indexer<K>,
+    I: Finder<K>,
 > Session<E, K, V, P, S, W, A, I> {
     ghost use Rattle.foyer_session.specs.Sessions.{session_of, taken, terms_of};
     ghost use Rattle.foyer_session.specs.Step.{CloneStep, DropStep, TakePieceStep, RefsStep, OutdatedStep};
@@ -123,7 +123,7 @@ fn clone_held<
     S: HashBuilder,
     W: Weighter<K, V>,
     A: Filter<K, V>,
-    I: Indexer<K>,
+    I: Finder<K>,
 >(
     core: &mut CacheCore<E, K, V, P, S, W, A, (), u64, I>,
     entry: &CoreEntry<K, V, P>,

@@ -10,7 +10,7 @@ use super::handle::{self, Handle};
 use super::waiters::answer_all;
 use super::{Session, piece};
 use crate::command::{Answer, Reply};
-use foyer_core::{Filter, Indexer, Inserted, Refused, Weighter};
+use foyer_core::{Filter, Finder, Inserted, Refused, Weighter};
 use foyer_policy::{Error, Eviction, HashBuilder, Key, Properties, Reason, Value};
 
 impl<
@@ -21,7 +21,7 @@ impl<
     S: HashBuilder,
     W: Weighter<K, V>,
     A: Filter<K, V>,
-    I: Indexer<K>,
+    I: Finder<K>,
 > Session<E, K, V, P, S, W, A, I> {
     ghost use Rattle.foyer_session.specs.Sessions.{session_of, taken, terms_of};
     ghost use Rattle.foyer_session.specs.Step.{InsertPieceStep, InsertStep};

@@ -5,7 +5,7 @@ ghost use Rattle.std.specs.Prelude.{◌≡◌, ◌+◌, ◌<◌, ◌≤◌, true
 use super::ready::with_leave;
 use super::{Session, handle};
 use crate::command::{Answer, Reply};
-use foyer_core::{Filter, Indexer, Left, Weighter};
+use foyer_core::{Filter, Finder, Left, Weighter};
 use foyer_policy::{Event, Eviction, HashBuilder, Key, Properties, Value};
 
 impl<
@@ -16,7 +16,7 @@ impl<
     S: HashBuilder,
     W: Weighter<K, V>,
     A: Filter<K, V>,
-    I: Indexer<K>,
+    I: Finder<K>,
 > Session<E, K, V, P, S, W, A, I> {
     ghost use Rattle.foyer_session.specs.Sessions.{session_of, taken, terms_of};
     ghost use Rattle.foyer_session.specs.Step.{GetStep, ContainsStep, TouchStep, RemoveStep};

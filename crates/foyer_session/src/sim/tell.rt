@@ -19,7 +19,7 @@ use crate::command::{Command, End, Reply};
 use crate::predicate::NoPredicate;
 use crate::session::Session;
 use crate::text::{Line, write_out};
-use foyer_core::{AdmitAll, CacheProperties, Indexer};
+use foyer_core::{AdmitAll, CacheProperties, Finder};
 use foyer_policy::{Error, Eviction, HashBuilder, Properties, Reason, Source};
 use std::io;
 use std::io::Write;
@@ -40,7 +40,7 @@ pub enum Asked<C> {
 }
 
 /// Carries out a line, and writes what is printed for it.
-pub fn tell<W: Write, E: Eviction, S: HashBuilder, I: Indexer<u64>, H: HighRatio<E::Config>>(
+pub fn tell<W: Write, E: Eviction, S: HashBuilder, I: Finder<u64>, H: HighRatio<E::Config>>(
     writer: &mut W,
     session: &mut Session<E, u64, SimValue, CacheProperties, S, SimWeighter, AdmitAll, I>,
     high: &H,
@@ -113,7 +113,7 @@ fn completion<C>(key: u64, fetch: u64, value: u64) -> SimCommand<C>
 }
 
 // Carries out a command. Where memory was missing for it, nothing has changed.
-fn tell_command<W: Write, E: Eviction, S: HashBuilder, I: Indexer<u64>>(
+fn tell_command<W: Write, E: Eviction, S: HashBuilder, I: Finder<u64>>(
     writer: &mut W,
     session: &mut Session<E, u64, SimValue, CacheProperties, S, SimWeighter, AdmitAll, I>,
     command: SimCommand<E::Config>,
@@ -158,7 +158,7 @@ fn tell_refusal<W: Write>(
 }
 
 // Says that the policy has no pool of high priority.
-fn tell_wrong_policy<W: Write, E: Eviction, S: HashBuilder, I: Indexer<u64>>(
+fn tell_wrong_policy<W: Write, E: Eviction, S: HashBuilder, I: Finder<u64>>(
     writer: &mut W,
     session: &Session<E, u64, SimValue, CacheProperties, S, SimWeighter, AdmitAll, I>,
 ) -> io::Result<()>
@@ -169,7 +169,7 @@ fn tell_wrong_policy<W: Write, E: Eviction, S: HashBuilder, I: Indexer<u64>>(
 }
 
 // Says that a line is none.
-fn tell_bad<W: Write, E: Eviction, S: HashBuilder, I: Indexer<u64>>(
+fn tell_bad<W: Write, E: Eviction, S: HashBuilder, I: Finder<u64>>(
     writer: &mut W,
     session: &Session<E, u64, SimValue, CacheProperties, S, SimWeighter, AdmitAll, I>,
 ) -> io::Result<()>

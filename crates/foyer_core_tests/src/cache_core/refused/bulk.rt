@@ -3,7 +3,7 @@
 
 use super::*;
 
-type Refusing<const AT: u64> = Hostile<RefusingPolicy<Fifo, AT>, HashTableIndexer<u64>>;
+type Refusing<const AT: u64> = Hostile<RefusingPolicy<Fifo, AT>, TagFinder<u64>>;
 
 // A core of so many shards with these records.
 fn filled<const AT: u64>(

@@ -17,7 +17,7 @@ type Keyed = CacheCore<
     AdmitAll,
     u64,
     u64,
-    HashTableIndexer<RefusingKey>,
+    TagFinder<RefusingKey>,
 >;
 
 // One of capacity 2 that holds the keys 1 and 2, and for whose keys no further clone is granted.

@@ -7,7 +7,7 @@ use crate::fetch::FetchTypes;
 use crate::pipe::Pipe;
 use crate::shared::Later;
 use crate::ticket::{Waiters, refuse, tell_none};
-use foyer_core::{FetchOrTake, FetchTarget, Filter, Indexer, Piece, Weighter};
+use foyer_core::{FetchOrTake, FetchTarget, Filter, Finder, Piece, Weighter};
 use foyer_policy::{
     Error, EventListener, Eviction, Fault, HashBuilder, Key, Properties, Reason, Source, Value,
 };
@@ -24,7 +24,7 @@ where
     W: Weighter<K, V>,
     A: Filter<K, V>,
     L: EventListener<Key = K, Value = V>,
-    I: Indexer<K>,
+    I: Finder<K>,
     Q: Pipe<Key = K, Value = V, Properties = P>,
     T: FetchTypes<K, V, P>,
 {

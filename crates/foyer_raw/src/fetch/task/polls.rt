@@ -11,7 +11,7 @@ use crate::fetch::{
     TaskEvent,
 };
 use crate::pipe::Pipe;
-use foyer_core::{FetchOrTake, Filter, Indexer, Weighter};
+use foyer_core::{FetchOrTake, Filter, Finder, Weighter};
 use foyer_policy::{EventListener, Eviction, HashBuilder, Key, Properties, Source, Value};
 use futures::Future;
 use futures::task::{Context, Poll};
@@ -28,7 +28,7 @@ where
     W: Weighter<K, V>,
     A: Filter<K, V>,
     L: EventListener<Key = K, Value = V>,
-    I: Indexer<K>,
+    I: Finder<K>,
     Q: Pipe<Key = K, Value = V, Properties = P>,
     T: FetchTypes<K, V, P>,
 {
@@ -74,7 +74,7 @@ where
     W: Weighter<K, V>,
     A: Filter<K, V>,
     L: EventListener<Key = K, Value = V>,
-    I: Indexer<K>,
+    I: Finder<K>,
     Q: Pipe<Key = K, Value = V, Properties = P>,
     T: FetchTypes<K, V, P>,
 {

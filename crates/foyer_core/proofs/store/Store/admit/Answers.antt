@@ -19,13 +19,22 @@ use Rattle.foyer_core.proofs.AdmitLemmas.{Admitted, coming_slot, coming_rec, led
 use Rattle.foyer_core.proofs.GaveLemmas.{Gave, byte_is, alike_key, may_give_way, gave, new_there, gave_push, gave_lighter, gave_fits, gave_admitted}
 use Rattle.foyer_core.proofs.store.Store.admit.Goals as goal
 
+pub put-requires-clause-new : goal.put-requires-clause-new
+put-requires-clause-new g c κs within q led =
+    let s = c.args.self.now in
+    let m = meaning_of s in
+    led_not m g.met.K.Eq.laws g.met.E.Eviction.lawful (holding s) c.put-number.result.0 c.put-number.result.1
+    c.put-number.ensures.stood (λ r h. c.requires.out r (c.put-number.ensures.was ∙ h))
+    q c.put-number.result.0 led refl
+
 pub put_back-requires-clause-there : goal.put_back-requires-clause-there
 put_back-requires-clause-there g c =
     let s = c.args.self.now in
     let m = meaning_of s in
     let inc : Incoming g.row.K.Denot g.row.V.Denot g.row.P.Denot = incoming_of c.args.slot in
     let n = c.put-number.result.0 in
-    let unled = led_not m g.met.K.Eq.laws g.met.E.Eviction.lawful (holding s) n c.put-number.result.1 c.put-number.ensures.stood (λ r h. c.requires.out r (c.put-number.ensures.was ∙ h)) in
+    let unled = led_not m g.met.K.Eq.laws g.met.E.Eviction.lawful (holding s) n c.put-number.result.1
+    c.put-number.ensures.stood (λ r h. c.requires.out r (c.put-number.ensures.was ∙ h)) in
     rw (c.put-number.ensures.slots n ∙ update_here (slot_in s.records) n (Some c.args.slot)) (search rules)
 
 pub put_back-requires-clause-alike : goal.put_back-requires-clause-alike
@@ -34,7 +43,8 @@ put_back-requires-clause-alike g c x y is stood =
     let m = meaning_of s in
     let inc : Incoming g.row.K.Denot g.row.V.Denot g.row.P.Denot = incoming_of c.args.slot in
     let n = c.put-number.result.0 in
-    let unled = led_not m g.met.K.Eq.laws g.met.E.Eviction.lawful (holding s) n c.put-number.result.1 c.put-number.ensures.stood (λ r h. c.requires.out r (c.put-number.ensures.was ∙ h)) in
+    let unled = led_not m g.met.K.Eq.laws g.met.E.Eviction.lawful (holding s) n c.put-number.result.1
+    c.put-number.ensures.stood (λ r h. c.requires.out r (c.put-number.ensures.was ∙ h)) in
     let there : Some c.args.slot ≡ Some x = sym (c.put-number.ensures.slots n ∙ update_here (slot_in s.records) n (Some c.args.slot)) ∙ is in
     let same : c.args.slot ≡ x = cc (there) in
     ap (λ (z : Kept g.row.K.Denot g.row.V.Denot g.row.P.Denot). z.id) (sym same) ∙ sym (c.put-number.ensures.alike y stood)
@@ -42,154 +52,286 @@ put_back-requires-clause-alike g c x y is stood =
 pub invariant_of-self : goal.invariant_of-self
 invariant_of-self g c =
     let s = c.args.self.now in
+    let lawful = g.met.E.Eviction.lawful in
+    let laws = g.met.K.Eq.laws in
     let m = meaning_of s in
     let inc : Incoming g.row.K.Denot g.row.V.Denot g.row.P.Denot = incoming_of c.args.slot in
     let n = c.put-number.result.0 in
-    let unled = led_not m g.met.K.Eq.laws g.met.E.Eviction.lawful (holding s) n c.put-number.result.1 c.put-number.ensures.stood (λ r h. c.requires.out r (c.put-number.ensures.was ∙ h)) in
+    let unled = led_not m laws lawful (holding s) n c.put-number.result.1 c.put-number.ensures.stood (λ r h. c.requires.out r (c.put-number.ensures.was ∙ h)) in
     let there : slot_in c.put-number.new.self n ≡ Some c.args.slot = c.put-number.ensures.slots n ∙ update_here (slot_in s.records) n (Some c.args.slot) in
-    let back = unput m g.met.K.Eq.laws g.met.E.Eviction.lawful (holding s) n c.put-number.result.1 c.put-number.ensures.stood c.put-number.new.self c.args.slot c.put-number.ensures.slots c.put-number.ensures.records c.put-number.ensures.was c.put_back.new.self (g.I.Indexer.view c.insert.new.self) c.put_back.ensures.slots (c.put_back.ensures.records c.args.slot there) c.in-Err.ensures.err in
+    let back = unput m laws lawful (holding s) n c.put-number.result.1 c.put-number.ensures.stood
+    c.put-number.new.self c.args.slot c.put-number.ensures.slots c.put-number.ensures.records
+    c.put-number.ensures.was c.put_back.new.self (g.I.Finder.view c.put.new.self) c.put_back.ensures.slots
+    (c.put_back.ensures.records c.args.slot there) c.in-Err.ensures.err in
     record { kept = back.kept0; stored = back.stored0; weighed = s.weighed; counted = s.counted; numbered = s.numbered }
 
 pub returns-in-Err-clause-err : goal.returns-in-Err-clause-err
 returns-in-Err-clause-err g c =
     let s = c.args.self.now in
+    let lawful = g.met.E.Eviction.lawful in
+    let laws = g.met.K.Eq.laws in
     let m = meaning_of s in
     let inc : Incoming g.row.K.Denot g.row.V.Denot g.row.P.Denot = incoming_of c.args.slot in
     let n = c.put-number.result.0 in
-    let unled = led_not m g.met.K.Eq.laws g.met.E.Eviction.lawful (holding s) n c.put-number.result.1 c.put-number.ensures.stood (λ r h. c.requires.out r (c.put-number.ensures.was ∙ h)) in
+    let unled = led_not m laws lawful (holding s) n c.put-number.result.1 c.put-number.ensures.stood (λ r h. c.requires.out r (c.put-number.ensures.was ∙ h)) in
     let there : slot_in c.put-number.new.self n ≡ Some c.args.slot = c.put-number.ensures.slots n ∙ update_here (slot_in s.records) n (Some c.args.slot) in
-    let back = unput m g.met.K.Eq.laws g.met.E.Eviction.lawful (holding s) n c.put-number.result.1 c.put-number.ensures.stood c.put-number.new.self c.args.slot c.put-number.ensures.slots c.put-number.ensures.records c.put-number.ensures.was c.put_back.new.self (g.I.Indexer.view c.insert.new.self) c.put_back.ensures.slots (c.put_back.ensures.records c.args.slot there) c.in-Err.ensures.err in
+    let back = unput m laws lawful (holding s) n c.put-number.result.1 c.put-number.ensures.stood
+    c.put-number.new.self c.args.slot c.put-number.ensures.slots c.put-number.ensures.records
+    c.put-number.ensures.was c.put_back.new.self (g.I.Finder.view c.put.new.self) c.put_back.ensures.slots
+    (c.put_back.ensures.records c.args.slot there) c.in-Err.ensures.err in
     back.same0
 
 pub give_way-gone-requires-after_bounds : goal.give_way-gone-requires-after_bounds
 give_way-gone-requires-after_bounds g c κs within =
     let s = c.args.self.now in
+    let lawful = g.met.E.Eviction.lawful in
+    let laws = g.met.K.Eq.laws in
     let m = meaning_of s in
     let inc : Incoming g.row.K.Denot g.row.V.Denot g.row.P.Denot = incoming_of c.args.slot in
     let n = c.put-number.result.0 in
-    let unled = led_not m g.met.K.Eq.laws g.met.E.Eviction.lawful (holding s) n c.put-number.result.1 c.put-number.ensures.stood (λ r h. c.requires.out r (c.put-number.ensures.was ∙ h)) in
+    let unled = led_not m laws lawful (holding s) n c.put-number.result.1 c.put-number.ensures.stood (λ r h. c.requires.out r (c.put-number.ensures.was ∙ h)) in
     let hash : c.hash-hash.result ≡ inc.kept.hash = c.hash-hash.ensures in
-    let was : c.in-Ok.was ≡ g.I.Indexer.view s.index (key_of inc.kept) = c.in-Ok.ensures.was ∙ ap (λ (h : ℕ). g.I.Indexer.view s.index (h, c.args.key)) hash ∙ g.met.I.Indexer.respects s.index (inc.kept.hash, c.args.key) (key_of inc.kept) (alike_key g.K.PartialEq.eq inc.kept.hash c.args.key inc.kept.key c.requires.same) in
-    may_give_way m g.met.K.Eq.laws g.met.E.Eviction.lawful (holding s) inc n unled c.requires.out c.put-number.new.self c.args.slot c.put-number.ensures.slots c.in-Ok.was was
+    let was : c.slot_under-was.result ≡ g.I.Finder.view s.index (key_of inc.kept) = c.slot_under-was.ensures ∙ ap
+    (λ (h : ℕ). g.I.Finder.view s.index (h, c.args.key)) hash ∙ g.met.I.Finder.respects s.index
+    (inc.kept.hash, c.args.key) (key_of inc.kept) (alike_key g.K.PartialEq.eq inc.kept.hash c.args.key inc.kept.key
+    c.requires.same) in
+    may_give_way m laws lawful (holding s) inc n unled c.requires.out c.put-number.new.self c.args.slot c.put-number.ensures.slots c.slot_under-was.result was
 
 pub overflow_sub-self : goal.overflow_sub-self
 overflow_sub-self g c =
     let s = c.args.self.now in
+    let lawful = g.met.E.Eviction.lawful in
+    let laws = g.met.K.Eq.laws in
     let m = meaning_of s in
     let inc : Incoming g.row.K.Denot g.row.V.Denot g.row.P.Denot = incoming_of c.args.slot in
     let n = c.put-number.result.0 in
-    let unled = led_not m g.met.K.Eq.laws g.met.E.Eviction.lawful (holding s) n c.put-number.result.1 c.put-number.ensures.stood (λ r h. c.requires.out r (c.put-number.ensures.was ∙ h)) in
+    let unled = led_not m laws lawful (holding s) n c.put-number.result.1 c.put-number.ensures.stood (λ r h. c.requires.out r (c.put-number.ensures.was ∙ h)) in
     let hash : c.hash-hash.result ≡ inc.kept.hash = c.hash-hash.ensures in
-    let was : c.in-Ok.was ≡ g.I.Indexer.view s.index (key_of inc.kept) = c.in-Ok.ensures.was ∙ ap (λ (h : ℕ). g.I.Indexer.view s.index (h, c.args.key)) hash ∙ g.met.I.Indexer.respects s.index (inc.kept.hash, c.args.key) (key_of inc.kept) (alike_key g.K.PartialEq.eq inc.kept.hash c.args.key inc.kept.key c.requires.same) in
+    let was : c.slot_under-was.result ≡ g.I.Finder.view s.index (key_of inc.kept) = c.slot_under-was.ensures ∙ ap
+    (λ (h : ℕ). g.I.Finder.view s.index (h, c.args.key)) hash ∙ g.met.I.Finder.respects s.index
+    (inc.kept.hash, c.args.key) (key_of inc.kept) (alike_key g.K.PartialEq.eq inc.kept.hash c.args.key inc.kept.key
+    c.requires.same) in
     let w = c.give_way-gone.ensures in
-    let gv : Gave m g.met.K.Eq.laws g.met.E.Eviction.lawful (holding s) inc n unled c.requires.out c.put-number.new.self c.args.slot c.put-number.ensures.slots c.give_way-gone.result.0 c.give_way-gone.result.1 c.give_way-gone.new.records (g.E.Eviction.at c.give_way-gone.new.eviction) (g.E.Eviction.view c.give_way-gone.new.eviction) =
-    gave m g.met.K.Eq.laws g.met.E.Eviction.lawful (holding s) inc n unled c.requires.out c.put-number.new.self c.args.slot c.put-number.ensures.slots c.in-Ok.was was c.give_way-gone.result c.give_way-gone.new.records (g.E.Eviction.at c.give_way-gone.new.eviction) (g.E.Eviction.view c.give_way-gone.new.eviction)
+    let gv : Gave m laws lawful (holding s) inc n unled c.requires.out c.put-number.new.self c.args.slot
+    c.put-number.ensures.slots c.give_way-gone.result.0 c.give_way-gone.result.1 c.give_way-gone.new.records
+    (g.E.Eviction.at c.give_way-gone.new.eviction) (g.E.Eviction.view c.give_way-gone.new.eviction) =
+    gave m laws lawful (holding s) inc n unled c.requires.out c.put-number.new.self c.args.slot
+    c.put-number.ensures.slots c.slot_under-was.result was c.give_way-gone.result c.give_way-gone.new.records
+    (g.E.Eviction.at c.give_way-gone.new.eviction) (g.E.Eviction.view c.give_way-gone.new.eviction)
     w.none w.none_slots w.none_records w.none_places w.some w.some_slots w.some_records w.some_places in
-    (gave_lighter m g.met.K.Eq.laws g.met.E.Eviction.lawful (holding s) inc n unled c.requires.out c.put-number.new.self c.args.slot c.put-number.ensures.slots c.give_way-gone.result.0 c.give_way-gone.result.1 c.give_way-gone.new.records (g.E.Eviction.at c.give_way-gone.new.eviction) (g.E.Eviction.view c.give_way-gone.new.eviction) gv s.usage s.entries s.weighed s.counted).0
+    (gave_lighter m laws lawful (holding s) inc n unled c.requires.out c.put-number.new.self c.args.slot
+    c.put-number.ensures.slots c.give_way-gone.result.0 c.give_way-gone.result.1 c.give_way-gone.new.records
+    (g.E.Eviction.at c.give_way-gone.new.eviction) (g.E.Eviction.view c.give_way-gone.new.eviction) gv s.usage
+    s.entries s.weighed s.counted).0
 
 pub overflow_sub-self-2 : goal.overflow_sub-self-2
 overflow_sub-self-2 g c =
     let s = c.args.self.now in
+    let lawful = g.met.E.Eviction.lawful in
+    let laws = g.met.K.Eq.laws in
     let m = meaning_of s in
     let inc : Incoming g.row.K.Denot g.row.V.Denot g.row.P.Denot = incoming_of c.args.slot in
     let n = c.put-number.result.0 in
-    let unled = led_not m g.met.K.Eq.laws g.met.E.Eviction.lawful (holding s) n c.put-number.result.1 c.put-number.ensures.stood (λ r h. c.requires.out r (c.put-number.ensures.was ∙ h)) in
+    let unled = led_not m laws lawful (holding s) n c.put-number.result.1 c.put-number.ensures.stood (λ r h. c.requires.out r (c.put-number.ensures.was ∙ h)) in
     let hash : c.hash-hash.result ≡ inc.kept.hash = c.hash-hash.ensures in
-    let was : c.in-Ok.was ≡ g.I.Indexer.view s.index (key_of inc.kept) = c.in-Ok.ensures.was ∙ ap (λ (h : ℕ). g.I.Indexer.view s.index (h, c.args.key)) hash ∙ g.met.I.Indexer.respects s.index (inc.kept.hash, c.args.key) (key_of inc.kept) (alike_key g.K.PartialEq.eq inc.kept.hash c.args.key inc.kept.key c.requires.same) in
+    let was : c.slot_under-was.result ≡ g.I.Finder.view s.index (key_of inc.kept) = c.slot_under-was.ensures ∙ ap
+    (λ (h : ℕ). g.I.Finder.view s.index (h, c.args.key)) hash ∙ g.met.I.Finder.respects s.index
+    (inc.kept.hash, c.args.key) (key_of inc.kept) (alike_key g.K.PartialEq.eq inc.kept.hash c.args.key inc.kept.key
+    c.requires.same) in
     let w = c.give_way-gone.ensures in
-    let gv : Gave m g.met.K.Eq.laws g.met.E.Eviction.lawful (holding s) inc n unled c.requires.out c.put-number.new.self c.args.slot c.put-number.ensures.slots c.give_way-gone.result.0 c.give_way-gone.result.1 c.give_way-gone.new.records (g.E.Eviction.at c.give_way-gone.new.eviction) (g.E.Eviction.view c.give_way-gone.new.eviction) =
-    gave m g.met.K.Eq.laws g.met.E.Eviction.lawful (holding s) inc n unled c.requires.out c.put-number.new.self c.args.slot c.put-number.ensures.slots c.in-Ok.was was c.give_way-gone.result c.give_way-gone.new.records (g.E.Eviction.at c.give_way-gone.new.eviction) (g.E.Eviction.view c.give_way-gone.new.eviction)
+    let gv : Gave m laws lawful (holding s) inc n unled c.requires.out c.put-number.new.self c.args.slot
+    c.put-number.ensures.slots c.give_way-gone.result.0 c.give_way-gone.result.1 c.give_way-gone.new.records
+    (g.E.Eviction.at c.give_way-gone.new.eviction) (g.E.Eviction.view c.give_way-gone.new.eviction) =
+    gave m laws lawful (holding s) inc n unled c.requires.out c.put-number.new.self c.args.slot
+    c.put-number.ensures.slots c.slot_under-was.result was c.give_way-gone.result c.give_way-gone.new.records
+    (g.E.Eviction.at c.give_way-gone.new.eviction) (g.E.Eviction.view c.give_way-gone.new.eviction)
     w.none w.none_slots w.none_records w.none_places w.some w.some_slots w.some_records w.some_places in
-    rw (c.is_some.ensures, byte_is) (gave_lighter m g.met.K.Eq.laws g.met.E.Eviction.lawful (holding s) inc n unled c.requires.out c.put-number.new.self c.args.slot c.put-number.ensures.slots c.give_way-gone.result.0 c.give_way-gone.result.1 c.give_way-gone.new.records (g.E.Eviction.at c.give_way-gone.new.eviction) (g.E.Eviction.view c.give_way-gone.new.eviction) gv s.usage s.entries s.weighed s.counted).1
+    rw (c.is_some.ensures, byte_is) (gave_lighter m laws lawful (holding s) inc n unled c.requires.out
+    c.put-number.new.self c.args.slot c.put-number.ensures.slots c.give_way-gone.result.0 c.give_way-gone.result.1
+    c.give_way-gone.new.records (g.E.Eviction.at c.give_way-gone.new.eviction)
+    (g.E.Eviction.view c.give_way-gone.new.eviction) gv s.usage s.entries s.weighed s.counted).1
 
 pub push-place-requires-clause-new_id : goal.push-place-requires-clause-new_id
 push-place-requires-clause-new_id g c κs within =
     let s = c.args.self.now in
+    let lawful = g.met.E.Eviction.lawful in
+    let laws = g.met.K.Eq.laws in
     let m = meaning_of s in
     let inc : Incoming g.row.K.Denot g.row.V.Denot g.row.P.Denot = incoming_of c.args.slot in
     let n = c.put-number.result.0 in
-    let unled = led_not m g.met.K.Eq.laws g.met.E.Eviction.lawful (holding s) n c.put-number.result.1 c.put-number.ensures.stood (λ r h. c.requires.out r (c.put-number.ensures.was ∙ h)) in
+    let unled = led_not m laws lawful (holding s) n c.put-number.result.1 c.put-number.ensures.stood (λ r h. c.requires.out r (c.put-number.ensures.was ∙ h)) in
     let hash : c.hash-hash.result ≡ inc.kept.hash = c.hash-hash.ensures in
-    let was : c.in-Ok.was ≡ g.I.Indexer.view s.index (key_of inc.kept) = c.in-Ok.ensures.was ∙ ap (λ (h : ℕ). g.I.Indexer.view s.index (h, c.args.key)) hash ∙ g.met.I.Indexer.respects s.index (inc.kept.hash, c.args.key) (key_of inc.kept) (alike_key g.K.PartialEq.eq inc.kept.hash c.args.key inc.kept.key c.requires.same) in
+    let was : c.slot_under-was.result ≡ g.I.Finder.view s.index (key_of inc.kept) = c.slot_under-was.ensures ∙ ap
+    (λ (h : ℕ). g.I.Finder.view s.index (h, c.args.key)) hash ∙ g.met.I.Finder.respects s.index
+    (inc.kept.hash, c.args.key) (key_of inc.kept) (alike_key g.K.PartialEq.eq inc.kept.hash c.args.key inc.kept.key
+    c.requires.same) in
     let w = c.give_way-gone.ensures in
-    let gv : Gave m g.met.K.Eq.laws g.met.E.Eviction.lawful (holding s) inc n unled c.requires.out c.put-number.new.self c.args.slot c.put-number.ensures.slots c.give_way-gone.result.0 c.give_way-gone.result.1 c.give_way-gone.new.records (g.E.Eviction.at c.give_way-gone.new.eviction) (g.E.Eviction.view c.give_way-gone.new.eviction) =
-    gave m g.met.K.Eq.laws g.met.E.Eviction.lawful (holding s) inc n unled c.requires.out c.put-number.new.self c.args.slot c.put-number.ensures.slots c.in-Ok.was was c.give_way-gone.result c.give_way-gone.new.records (g.E.Eviction.at c.give_way-gone.new.eviction) (g.E.Eviction.view c.give_way-gone.new.eviction)
+    let gv : Gave m laws lawful (holding s) inc n unled c.requires.out c.put-number.new.self c.args.slot
+    c.put-number.ensures.slots c.give_way-gone.result.0 c.give_way-gone.result.1 c.give_way-gone.new.records
+    (g.E.Eviction.at c.give_way-gone.new.eviction) (g.E.Eviction.view c.give_way-gone.new.eviction) =
+    gave m laws lawful (holding s) inc n unled c.requires.out c.put-number.new.self c.args.slot
+    c.put-number.ensures.slots c.slot_under-was.result was c.give_way-gone.result c.give_way-gone.new.records
+    (g.E.Eviction.at c.give_way-gone.new.eviction) (g.E.Eviction.view c.give_way-gone.new.eviction)
     w.none w.none_slots w.none_records w.none_places w.some w.some_slots w.some_records w.some_places in
-    rw c.id-id.ensures (gave_push m g.met.K.Eq.laws g.met.E.Eviction.lawful (holding s) inc n unled c.requires.out c.put-number.new.self c.args.slot c.put-number.ensures.slots c.give_way-gone.result.0 c.give_way-gone.result.1 c.give_way-gone.new.records (g.E.Eviction.at c.give_way-gone.new.eviction) (g.E.Eviction.view c.give_way-gone.new.eviction) gv c.requires.fits).new
+    rw c.id-id.ensures (gave_push m laws lawful (holding s) inc n unled c.requires.out c.put-number.new.self
+    c.args.slot c.put-number.ensures.slots c.give_way-gone.result.0 c.give_way-gone.result.1
+    c.give_way-gone.new.records (g.E.Eviction.at c.give_way-gone.new.eviction)
+    (g.E.Eviction.view c.give_way-gone.new.eviction) gv c.requires.fits).new
 
 pub push-place-requires-clause-fits : goal.push-place-requires-clause-fits
 push-place-requires-clause-fits g c κs within =
     let s = c.args.self.now in
+    let lawful = g.met.E.Eviction.lawful in
+    let laws = g.met.K.Eq.laws in
     let m = meaning_of s in
     let inc : Incoming g.row.K.Denot g.row.V.Denot g.row.P.Denot = incoming_of c.args.slot in
     let n = c.put-number.result.0 in
-    let unled = led_not m g.met.K.Eq.laws g.met.E.Eviction.lawful (holding s) n c.put-number.result.1 c.put-number.ensures.stood (λ r h. c.requires.out r (c.put-number.ensures.was ∙ h)) in
+    let unled = led_not m laws lawful (holding s) n c.put-number.result.1 c.put-number.ensures.stood (λ r h. c.requires.out r (c.put-number.ensures.was ∙ h)) in
     let hash : c.hash-hash.result ≡ inc.kept.hash = c.hash-hash.ensures in
-    let was : c.in-Ok.was ≡ g.I.Indexer.view s.index (key_of inc.kept) = c.in-Ok.ensures.was ∙ ap (λ (h : ℕ). g.I.Indexer.view s.index (h, c.args.key)) hash ∙ g.met.I.Indexer.respects s.index (inc.kept.hash, c.args.key) (key_of inc.kept) (alike_key g.K.PartialEq.eq inc.kept.hash c.args.key inc.kept.key c.requires.same) in
+    let was : c.slot_under-was.result ≡ g.I.Finder.view s.index (key_of inc.kept) = c.slot_under-was.ensures ∙ ap
+    (λ (h : ℕ). g.I.Finder.view s.index (h, c.args.key)) hash ∙ g.met.I.Finder.respects s.index
+    (inc.kept.hash, c.args.key) (key_of inc.kept) (alike_key g.K.PartialEq.eq inc.kept.hash c.args.key inc.kept.key
+    c.requires.same) in
     let w = c.give_way-gone.ensures in
-    let gv : Gave m g.met.K.Eq.laws g.met.E.Eviction.lawful (holding s) inc n unled c.requires.out c.put-number.new.self c.args.slot c.put-number.ensures.slots c.give_way-gone.result.0 c.give_way-gone.result.1 c.give_way-gone.new.records (g.E.Eviction.at c.give_way-gone.new.eviction) (g.E.Eviction.view c.give_way-gone.new.eviction) =
-    gave m g.met.K.Eq.laws g.met.E.Eviction.lawful (holding s) inc n unled c.requires.out c.put-number.new.self c.args.slot c.put-number.ensures.slots c.in-Ok.was was c.give_way-gone.result c.give_way-gone.new.records (g.E.Eviction.at c.give_way-gone.new.eviction) (g.E.Eviction.view c.give_way-gone.new.eviction)
+    let gv : Gave m laws lawful (holding s) inc n unled c.requires.out c.put-number.new.self c.args.slot
+    c.put-number.ensures.slots c.give_way-gone.result.0 c.give_way-gone.result.1 c.give_way-gone.new.records
+    (g.E.Eviction.at c.give_way-gone.new.eviction) (g.E.Eviction.view c.give_way-gone.new.eviction) =
+    gave m laws lawful (holding s) inc n unled c.requires.out c.put-number.new.self c.args.slot
+    c.put-number.ensures.slots c.slot_under-was.result was c.give_way-gone.result c.give_way-gone.new.records
+    (g.E.Eviction.at c.give_way-gone.new.eviction) (g.E.Eviction.view c.give_way-gone.new.eviction)
     w.none w.none_slots w.none_records w.none_places w.some w.some_slots w.some_records w.some_places in
-    rw c.weight-weight.ensures (gave_push m g.met.K.Eq.laws g.met.E.Eviction.lawful (holding s) inc n unled c.requires.out c.put-number.new.self c.args.slot c.put-number.ensures.slots c.give_way-gone.result.0 c.give_way-gone.result.1 c.give_way-gone.new.records (g.E.Eviction.at c.give_way-gone.new.eviction) (g.E.Eviction.view c.give_way-gone.new.eviction) gv c.requires.fits).fits
+    rw c.weight-weight.ensures (gave_push m laws lawful (holding s) inc n unled c.requires.out c.put-number.new.self
+    c.args.slot c.put-number.ensures.slots c.give_way-gone.result.0 c.give_way-gone.result.1
+    c.give_way-gone.new.records (g.E.Eviction.at c.give_way-gone.new.eviction)
+    (g.E.Eviction.view c.give_way-gone.new.eviction) gv c.requires.fits).fits
 
 pub set_place-requires : goal.set_place-requires
 set_place-requires g c =
     let s = c.args.self.now in
+    let lawful = g.met.E.Eviction.lawful in
+    let laws = g.met.K.Eq.laws in
     let m = meaning_of s in
     let inc : Incoming g.row.K.Denot g.row.V.Denot g.row.P.Denot = incoming_of c.args.slot in
     let n = c.put-number.result.0 in
-    let unled = led_not m g.met.K.Eq.laws g.met.E.Eviction.lawful (holding s) n c.put-number.result.1 c.put-number.ensures.stood (λ r h. c.requires.out r (c.put-number.ensures.was ∙ h)) in
+    let unled = led_not m laws lawful (holding s) n c.put-number.result.1 c.put-number.ensures.stood (λ r h. c.requires.out r (c.put-number.ensures.was ∙ h)) in
     let hash : c.hash-hash.result ≡ inc.kept.hash = c.hash-hash.ensures in
-    let was : c.in-Ok.was ≡ g.I.Indexer.view s.index (key_of inc.kept) = c.in-Ok.ensures.was ∙ ap (λ (h : ℕ). g.I.Indexer.view s.index (h, c.args.key)) hash ∙ g.met.I.Indexer.respects s.index (inc.kept.hash, c.args.key) (key_of inc.kept) (alike_key g.K.PartialEq.eq inc.kept.hash c.args.key inc.kept.key c.requires.same) in
+    let was : c.slot_under-was.result ≡ g.I.Finder.view s.index (key_of inc.kept) = c.slot_under-was.ensures ∙ ap
+    (λ (h : ℕ). g.I.Finder.view s.index (h, c.args.key)) hash ∙ g.met.I.Finder.respects s.index
+    (inc.kept.hash, c.args.key) (key_of inc.kept) (alike_key g.K.PartialEq.eq inc.kept.hash c.args.key inc.kept.key
+    c.requires.same) in
     let w = c.give_way-gone.ensures in
-    let gv : Gave m g.met.K.Eq.laws g.met.E.Eviction.lawful (holding s) inc n unled c.requires.out c.put-number.new.self c.args.slot c.put-number.ensures.slots c.give_way-gone.result.0 c.give_way-gone.result.1 c.give_way-gone.new.records (g.E.Eviction.at c.give_way-gone.new.eviction) (g.E.Eviction.view c.give_way-gone.new.eviction) =
-    gave m g.met.K.Eq.laws g.met.E.Eviction.lawful (holding s) inc n unled c.requires.out c.put-number.new.self c.args.slot c.put-number.ensures.slots c.in-Ok.was was c.give_way-gone.result c.give_way-gone.new.records (g.E.Eviction.at c.give_way-gone.new.eviction) (g.E.Eviction.view c.give_way-gone.new.eviction)
+    let gv : Gave m laws lawful (holding s) inc n unled c.requires.out c.put-number.new.self c.args.slot
+    c.put-number.ensures.slots c.give_way-gone.result.0 c.give_way-gone.result.1 c.give_way-gone.new.records
+    (g.E.Eviction.at c.give_way-gone.new.eviction) (g.E.Eviction.view c.give_way-gone.new.eviction) =
+    gave m laws lawful (holding s) inc n unled c.requires.out c.put-number.new.self c.args.slot
+    c.put-number.ensures.slots c.slot_under-was.result was c.give_way-gone.result c.give_way-gone.new.records
+    (g.E.Eviction.at c.give_way-gone.new.eviction) (g.E.Eviction.view c.give_way-gone.new.eviction)
     w.none w.none_slots w.none_records w.none_places w.some w.some_slots w.some_records w.some_places in
-    rw (new_there m g.met.K.Eq.laws g.met.E.Eviction.lawful (holding s) inc n unled c.requires.out c.put-number.new.self c.args.slot c.put-number.ensures.slots c.give_way-gone.result.0 c.give_way-gone.result.1 c.give_way-gone.new.records (g.E.Eviction.at c.give_way-gone.new.eviction) (g.E.Eviction.view c.give_way-gone.new.eviction) gv) (search rules)
+    rw (new_there m laws lawful (holding s) inc n unled c.requires.out c.put-number.new.self c.args.slot
+    c.put-number.ensures.slots c.give_way-gone.result.0 c.give_way-gone.result.1 c.give_way-gone.new.records
+    (g.E.Eviction.at c.give_way-gone.new.eviction) (g.E.Eviction.view c.give_way-gone.new.eviction) gv)
+    (search rules)
 
 pub overflow_add-self : goal.overflow_add-self
 overflow_add-self g c =
     let s = c.args.self.now in
+    let lawful = g.met.E.Eviction.lawful in
+    let laws = g.met.K.Eq.laws in
     let m = meaning_of s in
     let inc : Incoming g.row.K.Denot g.row.V.Denot g.row.P.Denot = incoming_of c.args.slot in
     let n = c.put-number.result.0 in
-    let unled = led_not m g.met.K.Eq.laws g.met.E.Eviction.lawful (holding s) n c.put-number.result.1 c.put-number.ensures.stood (λ r h. c.requires.out r (c.put-number.ensures.was ∙ h)) in
+    let unled = led_not m laws lawful (holding s) n c.put-number.result.1 c.put-number.ensures.stood (λ r h. c.requires.out r (c.put-number.ensures.was ∙ h)) in
     let hash : c.hash-hash.result ≡ inc.kept.hash = c.hash-hash.ensures in
-    let was : c.in-Ok.was ≡ g.I.Indexer.view s.index (key_of inc.kept) = c.in-Ok.ensures.was ∙ ap (λ (h : ℕ). g.I.Indexer.view s.index (h, c.args.key)) hash ∙ g.met.I.Indexer.respects s.index (inc.kept.hash, c.args.key) (key_of inc.kept) (alike_key g.K.PartialEq.eq inc.kept.hash c.args.key inc.kept.key c.requires.same) in
+    let was : c.slot_under-was.result ≡ g.I.Finder.view s.index (key_of inc.kept) = c.slot_under-was.ensures ∙ ap
+    (λ (h : ℕ). g.I.Finder.view s.index (h, c.args.key)) hash ∙ g.met.I.Finder.respects s.index
+    (inc.kept.hash, c.args.key) (key_of inc.kept) (alike_key g.K.PartialEq.eq inc.kept.hash c.args.key inc.kept.key
+    c.requires.same) in
     let w = c.give_way-gone.ensures in
-    let gv : Gave m g.met.K.Eq.laws g.met.E.Eviction.lawful (holding s) inc n unled c.requires.out c.put-number.new.self c.args.slot c.put-number.ensures.slots c.give_way-gone.result.0 c.give_way-gone.result.1 c.give_way-gone.new.records (g.E.Eviction.at c.give_way-gone.new.eviction) (g.E.Eviction.view c.give_way-gone.new.eviction) =
-    gave m g.met.K.Eq.laws g.met.E.Eviction.lawful (holding s) inc n unled c.requires.out c.put-number.new.self c.args.slot c.put-number.ensures.slots c.in-Ok.was was c.give_way-gone.result c.give_way-gone.new.records (g.E.Eviction.at c.give_way-gone.new.eviction) (g.E.Eviction.view c.give_way-gone.new.eviction)
+    let gv : Gave m laws lawful (holding s) inc n unled c.requires.out c.put-number.new.self c.args.slot
+    c.put-number.ensures.slots c.give_way-gone.result.0 c.give_way-gone.result.1 c.give_way-gone.new.records
+    (g.E.Eviction.at c.give_way-gone.new.eviction) (g.E.Eviction.view c.give_way-gone.new.eviction) =
+    gave m laws lawful (holding s) inc n unled c.requires.out c.put-number.new.self c.args.slot
+    c.put-number.ensures.slots c.slot_under-was.result was c.give_way-gone.result c.give_way-gone.new.records
+    (g.E.Eviction.at c.give_way-gone.new.eviction) (g.E.Eviction.view c.give_way-gone.new.eviction)
     w.none w.none_slots w.none_records w.none_places w.some w.some_slots w.some_records w.some_places in
-    rw c.weight-weight.ensures (let f = gave_fits m g.met.K.Eq.laws g.met.E.Eviction.lawful (holding s) inc n unled c.requires.out c.put-number.new.self c.args.slot c.put-number.ensures.slots c.give_way-gone.result.0 c.give_way-gone.result.1 c.give_way-gone.new.records (g.E.Eviction.at c.give_way-gone.new.eviction) (g.E.Eviction.view c.give_way-gone.new.eviction) gv s.usage s.weighed c.requires.fits in search (rules, f))
+    rw c.weight-weight.ensures (let f = gave_fits m laws lawful (holding s) inc n unled c.requires.out
+    c.put-number.new.self c.args.slot c.put-number.ensures.slots c.give_way-gone.result.0 c.give_way-gone.result.1
+    c.give_way-gone.new.records (g.E.Eviction.at c.give_way-gone.new.eviction)
+    (g.E.Eviction.view c.give_way-gone.new.eviction) gv s.usage s.weighed c.requires.fits in search (rules, f))
 
 pub overflow_add-self-2 : goal.overflow_add-self-2
 overflow_add-self-2 g c =
     let s = c.args.self.now in
+    let lawful = g.met.E.Eviction.lawful in
+    let laws = g.met.K.Eq.laws in
     let m = meaning_of s in
     let inc : Incoming g.row.K.Denot g.row.V.Denot g.row.P.Denot = incoming_of c.args.slot in
     let n = c.put-number.result.0 in
-    let unled = led_not m g.met.K.Eq.laws g.met.E.Eviction.lawful (holding s) n c.put-number.result.1 c.put-number.ensures.stood (λ r h. c.requires.out r (c.put-number.ensures.was ∙ h)) in
+    let unled = led_not m laws lawful (holding s) n c.put-number.result.1 c.put-number.ensures.stood (λ r h. c.requires.out r (c.put-number.ensures.was ∙ h)) in
     let hash : c.hash-hash.result ≡ inc.kept.hash = c.hash-hash.ensures in
-    let was : c.in-Ok.was ≡ g.I.Indexer.view s.index (key_of inc.kept) = c.in-Ok.ensures.was ∙ ap (λ (h : ℕ). g.I.Indexer.view s.index (h, c.args.key)) hash ∙ g.met.I.Indexer.respects s.index (inc.kept.hash, c.args.key) (key_of inc.kept) (alike_key g.K.PartialEq.eq inc.kept.hash c.args.key inc.kept.key c.requires.same) in
+    let was : c.slot_under-was.result ≡ g.I.Finder.view s.index (key_of inc.kept) = c.slot_under-was.ensures ∙ ap
+    (λ (h : ℕ). g.I.Finder.view s.index (h, c.args.key)) hash ∙ g.met.I.Finder.respects s.index
+    (inc.kept.hash, c.args.key) (key_of inc.kept) (alike_key g.K.PartialEq.eq inc.kept.hash c.args.key inc.kept.key
+    c.requires.same) in
     let w = c.give_way-gone.ensures in
-    let gv : Gave m g.met.K.Eq.laws g.met.E.Eviction.lawful (holding s) inc n unled c.requires.out c.put-number.new.self c.args.slot c.put-number.ensures.slots c.give_way-gone.result.0 c.give_way-gone.result.1 c.give_way-gone.new.records (g.E.Eviction.at c.give_way-gone.new.eviction) (g.E.Eviction.view c.give_way-gone.new.eviction) =
-    gave m g.met.K.Eq.laws g.met.E.Eviction.lawful (holding s) inc n unled c.requires.out c.put-number.new.self c.args.slot c.put-number.ensures.slots c.in-Ok.was was c.give_way-gone.result c.give_way-gone.new.records (g.E.Eviction.at c.give_way-gone.new.eviction) (g.E.Eviction.view c.give_way-gone.new.eviction)
+    let gv : Gave m laws lawful (holding s) inc n unled c.requires.out c.put-number.new.self c.args.slot
+    c.put-number.ensures.slots c.give_way-gone.result.0 c.give_way-gone.result.1 c.give_way-gone.new.records
+    (g.E.Eviction.at c.give_way-gone.new.eviction) (g.E.Eviction.view c.give_way-gone.new.eviction) =
+    gave m laws lawful (holding s) inc n unled c.requires.out c.put-number.new.self c.args.slot
+    c.put-number.ensures.slots c.slot_under-was.result was c.give_way-gone.result c.give_way-gone.new.records
+    (g.E.Eviction.at c.give_way-gone.new.eviction) (g.E.Eviction.view c.give_way-gone.new.eviction)
     w.none w.none_slots w.none_records w.none_places w.some w.some_slots w.some_records w.some_places in
     let x0 = c.args.slot in
-    let there2 : slot_in c.give_way-gone.new.records n ≡ Some x0 = new_there m g.met.K.Eq.laws g.met.E.Eviction.lawful (holding s) inc n unled c.requires.out c.put-number.new.self c.args.slot c.put-number.ensures.slots c.give_way-gone.result.0 c.give_way-gone.result.1 c.give_way-gone.new.records (g.E.Eviction.at c.give_way-gone.new.eviction) (g.E.Eviction.view c.give_way-gone.new.eviction) gv in
-    let slots3 : (q : ℕ) → slot_in c.set_place.new.self q ≡ update nat_eq (slot_in c.give_way-gone.new.records) n (Some (coming_slot inc (Some c.push-place.result))) q =
-    (λ q. c.set_place.ensures.slots x0 there2 q ∙ ap (λ (x : Kept g.row.K.Denot g.row.V.Denot g.row.P.Denot). let y : Kept g.row.K.Denot g.row.V.Denot g.row.P.Denot = record x { place = Some c.push-place.result } in update nat_eq (slot_in c.give_way-gone.new.records) n (Some y) q) c.requires.coming) in
+    let there2 : slot_in c.give_way-gone.new.records n ≡ Some x0 = new_there m laws lawful (holding s) inc n unled
+    c.requires.out c.put-number.new.self c.args.slot c.put-number.ensures.slots c.give_way-gone.result.0
+    c.give_way-gone.result.1 c.give_way-gone.new.records (g.E.Eviction.at c.give_way-gone.new.eviction)
+    (g.E.Eviction.view c.give_way-gone.new.eviction) gv in
+    let slots3 : (q : ℕ) → slot_in c.set_place.new.self q ≡ update nat_eq (slot_in c.give_way-gone.new.records) n
+    (Some (coming_slot inc (Some c.push-place.result))) q =
+    (λ q. c.set_place.ensures.slots x0 there2 q ∙ ap (λ (x : Kept g.row.K.Denot g.row.V.Denot g.row.P.Denot). let y :
+    Kept g.row.K.Denot g.row.V.Denot g.row.P.Denot = record x { place = Some c.push-place.result } in update nat_eq
+    (slot_in c.give_way-gone.new.records) n (Some y) q) c.requires.coming) in
     let recs1 : (i : ℕ) → record_in c.put-number.new.self i ≡ update nat_eq (record_in s.records) inc.id (Some (coming_rec inc)) i =
-    (λ i. c.put-number.ensures.records i ∙ ap (λ (x : Kept g.row.K.Denot g.row.V.Denot g.row.P.Denot). update nat_eq (record_in s.records) x.id (Some (rec_of x)) i) c.requires.coming) in
-    let led1 : (q : _) → g.I.Indexer.view c.insert.new.self q ≡ update (same_key g.K.PartialEq.eq) (g.I.Indexer.view s.index) (key_of inc.kept) (Some n) q =
-    update_alike (same_key g.K.PartialEq.eq) (same_key_laws g.K.PartialEq.eq g.met.K.Eq.laws) (g.I.Indexer.view s.index) (g.I.Indexer.view c.insert.new.self) (inc.kept.hash, c.args.key) (key_of inc.kept) (Some n)
-    (alike_key g.K.PartialEq.eq inc.kept.hash c.args.key inc.kept.key c.requires.same) (λ q. c.in-Ok.ensures.view q ∙ ap (λ (h : ℕ). update (same_key g.K.PartialEq.eq) (g.I.Indexer.view s.index) (h, c.args.key) (Some n) q) hash) in
-    let item : (let i : Item = record { id = c.id-id.result; hash = c.hash-hash.result; weight = c.weight-weight.result; hint = c.unwrap_or-hint.result } in i) ≡ item_of m inc.id inc.kept = (rw (c.id-id.ensures, c.hash-hash.ensures, c.weight-weight.ensures, c.unwrap_or-hint.ensures, c.hint.ensures, c.properties.ensures) refl) in
-    let done : Admitted m g.met.K.Eq.laws g.met.E.Eviction.lawful (holding s) inc n unled c.requires.out c.give_way-gone.result.1 (s.usage - c.give_way-gone.result.0) (s.entries - cond (is_some c.give_way-gone.result.1) 1 0) (g.E.Eviction.view c.push-place.new.self) (g.I.Indexer.view c.insert.new.self) c.set_place.new.self (g.E.Eviction.at c.push-place.new.self) (max s.next (inc.id + 1)) =
-    gave_admitted m g.met.K.Eq.laws g.met.E.Eviction.lawful (holding s) inc n unled c.requires.out c.put-number.new.self c.args.slot c.put-number.ensures.slots c.give_way-gone.result.0 c.give_way-gone.result.1 c.give_way-gone.new.records (g.E.Eviction.at c.give_way-gone.new.eviction) (g.E.Eviction.view c.give_way-gone.new.eviction) gv c.requires.coming c.set_place.new.self c.push-place.result (g.I.Indexer.view c.insert.new.self) (g.E.Eviction.at c.push-place.new.self) (g.E.Eviction.view c.push-place.new.self) (max s.next (inc.id + 1)) recs1 led1 slots3 c.set_place.ensures.records
-    (c.push-place.ensures.here ∙ ap (λ (i : Item). Some i) item) c.push-place.ensures.was_free c.push-place.ensures.others (c.push-place.ensures.view ∙ ap (g.E.Eviction.model.push (g.E.Eviction.view c.give_way-gone.new.eviction)) item)
+    (λ i. c.put-number.ensures.records i ∙ ap (λ (x : Kept g.row.K.Denot g.row.V.Denot g.row.P.Denot). update nat_eq
+    (record_in s.records) x.id (Some (rec_of x)) i) c.requires.coming) in
+    let led1 : (q : _) → g.I.Finder.view c.put.new.self q ≡ update (same_key g.K.PartialEq.eq) (g.I.Finder.view s.index) (key_of inc.kept) (Some n) q =
+    update_alike (same_key g.K.PartialEq.eq) (same_key_laws g.K.PartialEq.eq laws) (g.I.Finder.view s.index)
+    (g.I.Finder.view c.put.new.self) (inc.kept.hash, c.args.key) (key_of inc.kept) (Some n)
+    (alike_key g.K.PartialEq.eq inc.kept.hash c.args.key inc.kept.key c.requires.same)
+    (λ q. c.in-Ok.ensures.view q ∙ ap (λ (h : ℕ). update (same_key g.K.PartialEq.eq) (g.I.Finder.view s.index)
+    (h, c.args.key) (Some n) q) hash) in
+    let item : (let i : Item = record {
+      id = c.id-id.result;
+      hash = c.hash-hash.result;
+      weight =
+          c.weight-weight.result;
+      hint = c.unwrap_or-hint.result;
+    } in i) ≡ item_of m inc.id inc.kept =
+    (rw (
+      c.id-id.ensures,
+      c.hash-hash.ensures,
+      c.weight-weight.ensures,
+      c.unwrap_or-hint.ensures,
+      c.hint.ensures,
+      c.properties.ensures,
+    ) refl) in
+    let done : Admitted m laws lawful (holding s) inc n unled c.requires.out c.give_way-gone.result.1
+    (s.usage - c.give_way-gone.result.0) (s.entries - cond (is_some c.give_way-gone.result.1) 1 0)
+    (g.E.Eviction.view c.push-place.new.self) (g.I.Finder.view c.put.new.self) c.set_place.new.self
+    (g.E.Eviction.at c.push-place.new.self) (max s.next (inc.id + 1)) =
+    gave_admitted m laws lawful (holding s) inc n unled c.requires.out c.put-number.new.self c.args.slot
+    c.put-number.ensures.slots c.give_way-gone.result.0 c.give_way-gone.result.1 c.give_way-gone.new.records
+    (g.E.Eviction.at c.give_way-gone.new.eviction) (g.E.Eviction.view c.give_way-gone.new.eviction) gv
+    c.requires.coming c.set_place.new.self c.push-place.result (g.I.Finder.view c.put.new.self)
+    (g.E.Eviction.at c.push-place.new.self) (g.E.Eviction.view c.push-place.new.self) (max s.next (inc.id + 1))
+    recs1 led1 slots3 c.set_place.ensures.records
+    (c.push-place.ensures.here ∙ ap (λ (i : Item). Some i) item) c.push-place.ensures.was_free
+    c.push-place.ensures.others (c.push-place.ensures.view ∙ ap
+    (g.E.Eviction.model.push (g.E.Eviction.view c.give_way-gone.new.eviction)) item)
     refl c.requires.plain c.requires.held c.requires.handles c.requires.fits s.usage s.entries s.weighed s.counted in
-    let few = ∥∥₁_elim done.kept3 (hlevel props) (λ k. entries_below m g.met.K.Eq.laws g.met.E.Eviction.lawful (state s.number s.capacity s.limits (g.E.Eviction.view c.push-place.new.self) (g.I.Indexer.view c.insert.new.self) c.set_place.new.self (max s.next (inc.id + 1))) k) in
+    let few = ∥∥₁_elim done.kept3 (hlevel props) (λ k. entries_below m laws lawful
+    (state s.number s.capacity s.limits (g.E.Eviction.view c.push-place.new.self) (g.I.Finder.view c.put.new.self)
+    c.set_place.new.self (max s.next (inc.id + 1))) k) in
     rw (c.is_some.ensures, byte_is) (omega (arith, done.counted3, few, c.requires.number))
 
 pub above-self-requires : goal.above-self-requires
@@ -198,31 +340,77 @@ above-self-requires g c = rw c.id-id.ensures (omega (arith, c.requires.number))
 pub invariant_of-self-2 : goal.invariant_of-self-2
 invariant_of-self-2 g c =
     let s = c.args.self.now in
+    let lawful = g.met.E.Eviction.lawful in
+    let laws = g.met.K.Eq.laws in
     let m = meaning_of s in
     let inc : Incoming g.row.K.Denot g.row.V.Denot g.row.P.Denot = incoming_of c.args.slot in
     let n = c.put-number.result.0 in
-    let unled = led_not m g.met.K.Eq.laws g.met.E.Eviction.lawful (holding s) n c.put-number.result.1 c.put-number.ensures.stood (λ r h. c.requires.out r (c.put-number.ensures.was ∙ h)) in
+    let unled = led_not m laws lawful (holding s) n c.put-number.result.1 c.put-number.ensures.stood (λ r h. c.requires.out r (c.put-number.ensures.was ∙ h)) in
     let hash : c.hash-hash.result ≡ inc.kept.hash = c.hash-hash.ensures in
-    let was : c.in-Ok.was ≡ g.I.Indexer.view s.index (key_of inc.kept) = c.in-Ok.ensures.was ∙ ap (λ (h : ℕ). g.I.Indexer.view s.index (h, c.args.key)) hash ∙ g.met.I.Indexer.respects s.index (inc.kept.hash, c.args.key) (key_of inc.kept) (alike_key g.K.PartialEq.eq inc.kept.hash c.args.key inc.kept.key c.requires.same) in
+    let was : c.slot_under-was.result ≡ g.I.Finder.view s.index (key_of inc.kept) = c.slot_under-was.ensures ∙ ap
+    (λ (h : ℕ). g.I.Finder.view s.index (h, c.args.key)) hash ∙ g.met.I.Finder.respects s.index
+    (inc.kept.hash, c.args.key) (key_of inc.kept) (alike_key g.K.PartialEq.eq inc.kept.hash c.args.key inc.kept.key
+    c.requires.same) in
     let w = c.give_way-gone.ensures in
-    let gv : Gave m g.met.K.Eq.laws g.met.E.Eviction.lawful (holding s) inc n unled c.requires.out c.put-number.new.self c.args.slot c.put-number.ensures.slots c.give_way-gone.result.0 c.give_way-gone.result.1 c.give_way-gone.new.records (g.E.Eviction.at c.give_way-gone.new.eviction) (g.E.Eviction.view c.give_way-gone.new.eviction) =
-    gave m g.met.K.Eq.laws g.met.E.Eviction.lawful (holding s) inc n unled c.requires.out c.put-number.new.self c.args.slot c.put-number.ensures.slots c.in-Ok.was was c.give_way-gone.result c.give_way-gone.new.records (g.E.Eviction.at c.give_way-gone.new.eviction) (g.E.Eviction.view c.give_way-gone.new.eviction)
+    let gv : Gave m laws lawful (holding s) inc n unled c.requires.out c.put-number.new.self c.args.slot
+    c.put-number.ensures.slots c.give_way-gone.result.0 c.give_way-gone.result.1 c.give_way-gone.new.records
+    (g.E.Eviction.at c.give_way-gone.new.eviction) (g.E.Eviction.view c.give_way-gone.new.eviction) =
+    gave m laws lawful (holding s) inc n unled c.requires.out c.put-number.new.self c.args.slot
+    c.put-number.ensures.slots c.slot_under-was.result was c.give_way-gone.result c.give_way-gone.new.records
+    (g.E.Eviction.at c.give_way-gone.new.eviction) (g.E.Eviction.view c.give_way-gone.new.eviction)
     w.none w.none_slots w.none_records w.none_places w.some w.some_slots w.some_records w.some_places in
     let x0 = c.args.slot in
-    let there2 : slot_in c.give_way-gone.new.records n ≡ Some x0 = new_there m g.met.K.Eq.laws g.met.E.Eviction.lawful (holding s) inc n unled c.requires.out c.put-number.new.self c.args.slot c.put-number.ensures.slots c.give_way-gone.result.0 c.give_way-gone.result.1 c.give_way-gone.new.records (g.E.Eviction.at c.give_way-gone.new.eviction) (g.E.Eviction.view c.give_way-gone.new.eviction) gv in
-    let slots3 : (q : ℕ) → slot_in c.set_place.new.self q ≡ update nat_eq (slot_in c.give_way-gone.new.records) n (Some (coming_slot inc (Some c.push-place.result))) q =
-    (λ q. c.set_place.ensures.slots x0 there2 q ∙ ap (λ (x : Kept g.row.K.Denot g.row.V.Denot g.row.P.Denot). let y : Kept g.row.K.Denot g.row.V.Denot g.row.P.Denot = record x { place = Some c.push-place.result } in update nat_eq (slot_in c.give_way-gone.new.records) n (Some y) q) c.requires.coming) in
+    let there2 : slot_in c.give_way-gone.new.records n ≡ Some x0 = new_there m laws lawful (holding s) inc n unled
+    c.requires.out c.put-number.new.self c.args.slot c.put-number.ensures.slots c.give_way-gone.result.0
+    c.give_way-gone.result.1 c.give_way-gone.new.records (g.E.Eviction.at c.give_way-gone.new.eviction)
+    (g.E.Eviction.view c.give_way-gone.new.eviction) gv in
+    let slots3 : (q : ℕ) → slot_in c.set_place.new.self q ≡ update nat_eq (slot_in c.give_way-gone.new.records) n
+    (Some (coming_slot inc (Some c.push-place.result))) q =
+    (λ q. c.set_place.ensures.slots x0 there2 q ∙ ap (λ (x : Kept g.row.K.Denot g.row.V.Denot g.row.P.Denot). let y :
+    Kept g.row.K.Denot g.row.V.Denot g.row.P.Denot = record x { place = Some c.push-place.result } in update nat_eq
+    (slot_in c.give_way-gone.new.records) n (Some y) q) c.requires.coming) in
     let recs1 : (i : ℕ) → record_in c.put-number.new.self i ≡ update nat_eq (record_in s.records) inc.id (Some (coming_rec inc)) i =
-    (λ i. c.put-number.ensures.records i ∙ ap (λ (x : Kept g.row.K.Denot g.row.V.Denot g.row.P.Denot). update nat_eq (record_in s.records) x.id (Some (rec_of x)) i) c.requires.coming) in
-    let led1 : (q : _) → g.I.Indexer.view c.insert.new.self q ≡ update (same_key g.K.PartialEq.eq) (g.I.Indexer.view s.index) (key_of inc.kept) (Some n) q =
-    update_alike (same_key g.K.PartialEq.eq) (same_key_laws g.K.PartialEq.eq g.met.K.Eq.laws) (g.I.Indexer.view s.index) (g.I.Indexer.view c.insert.new.self) (inc.kept.hash, c.args.key) (key_of inc.kept) (Some n)
-    (alike_key g.K.PartialEq.eq inc.kept.hash c.args.key inc.kept.key c.requires.same) (λ q. c.in-Ok.ensures.view q ∙ ap (λ (h : ℕ). update (same_key g.K.PartialEq.eq) (g.I.Indexer.view s.index) (h, c.args.key) (Some n) q) hash) in
-    let item : (let i : Item = record { id = c.id-id.result; hash = c.hash-hash.result; weight = c.weight-weight.result; hint = c.unwrap_or-hint.result } in i) ≡ item_of m inc.id inc.kept = (rw (c.id-id.ensures, c.hash-hash.ensures, c.weight-weight.ensures, c.unwrap_or-hint.ensures, c.hint.ensures, c.properties.ensures) refl) in
-    let done : Admitted m g.met.K.Eq.laws g.met.E.Eviction.lawful (holding s) inc n unled c.requires.out c.give_way-gone.result.1 (s.usage - c.give_way-gone.result.0) (s.entries - cond (is_some c.give_way-gone.result.1) 1 0) (g.E.Eviction.view c.push-place.new.self) (g.I.Indexer.view c.insert.new.self) c.set_place.new.self (g.E.Eviction.at c.push-place.new.self) c.above-self.result =
-    gave_admitted m g.met.K.Eq.laws g.met.E.Eviction.lawful (holding s) inc n unled c.requires.out c.put-number.new.self c.args.slot c.put-number.ensures.slots c.give_way-gone.result.0 c.give_way-gone.result.1 c.give_way-gone.new.records (g.E.Eviction.at c.give_way-gone.new.eviction) (g.E.Eviction.view c.give_way-gone.new.eviction) gv c.requires.coming c.set_place.new.self c.push-place.result (g.I.Indexer.view c.insert.new.self) (g.E.Eviction.at c.push-place.new.self) (g.E.Eviction.view c.push-place.new.self) c.above-self.result recs1 led1 slots3 c.set_place.ensures.records
-    (c.push-place.ensures.here ∙ ap (λ (i : Item). Some i) item) c.push-place.ensures.was_free c.push-place.ensures.others (c.push-place.ensures.view ∙ ap (g.E.Eviction.model.push (g.E.Eviction.view c.give_way-gone.new.eviction)) item)
-    (c.above-self.ensures ∙ ap (λ (a : ℕ). max s.next (a + 1)) c.id-id.ensures) c.requires.plain c.requires.held c.requires.handles c.requires.fits s.usage s.entries s.weighed s.counted in
-    let few = ∥∥₁_elim done.kept3 (hlevel props) (λ k. entries_below m g.met.K.Eq.laws g.met.E.Eviction.lawful (state s.number s.capacity s.limits (g.E.Eviction.view c.push-place.new.self) (g.I.Indexer.view c.insert.new.self) c.set_place.new.self c.above-self.result) k) in
+    (λ i. c.put-number.ensures.records i ∙ ap (λ (x : Kept g.row.K.Denot g.row.V.Denot g.row.P.Denot). update nat_eq
+    (record_in s.records) x.id (Some (rec_of x)) i) c.requires.coming) in
+    let led1 : (q : _) → g.I.Finder.view c.put.new.self q ≡ update (same_key g.K.PartialEq.eq) (g.I.Finder.view s.index) (key_of inc.kept) (Some n) q =
+    update_alike (same_key g.K.PartialEq.eq) (same_key_laws g.K.PartialEq.eq laws) (g.I.Finder.view s.index)
+    (g.I.Finder.view c.put.new.self) (inc.kept.hash, c.args.key) (key_of inc.kept) (Some n)
+    (alike_key g.K.PartialEq.eq inc.kept.hash c.args.key inc.kept.key c.requires.same)
+    (λ q. c.in-Ok.ensures.view q ∙ ap (λ (h : ℕ). update (same_key g.K.PartialEq.eq) (g.I.Finder.view s.index)
+    (h, c.args.key) (Some n) q) hash) in
+    let item : (let i : Item = record {
+      id = c.id-id.result;
+      hash = c.hash-hash.result;
+      weight =
+          c.weight-weight.result;
+      hint = c.unwrap_or-hint.result;
+    } in i) ≡ item_of m inc.id inc.kept =
+    (rw (
+      c.id-id.ensures,
+      c.hash-hash.ensures,
+      c.weight-weight.ensures,
+      c.unwrap_or-hint.ensures,
+      c.hint.ensures,
+      c.properties.ensures,
+    ) refl) in
+    let done : Admitted m laws lawful (holding s) inc n unled c.requires.out c.give_way-gone.result.1
+    (s.usage - c.give_way-gone.result.0) (s.entries - cond (is_some c.give_way-gone.result.1) 1 0)
+    (g.E.Eviction.view c.push-place.new.self) (g.I.Finder.view c.put.new.self) c.set_place.new.self
+    (g.E.Eviction.at c.push-place.new.self) c.above-self.result =
+    gave_admitted m laws lawful (holding s) inc n unled c.requires.out c.put-number.new.self c.args.slot
+    c.put-number.ensures.slots c.give_way-gone.result.0 c.give_way-gone.result.1 c.give_way-gone.new.records
+    (g.E.Eviction.at c.give_way-gone.new.eviction) (g.E.Eviction.view c.give_way-gone.new.eviction) gv
+    c.requires.coming c.set_place.new.self c.push-place.result (g.I.Finder.view c.put.new.self)
+    (g.E.Eviction.at c.push-place.new.self) (g.E.Eviction.view c.push-place.new.self) c.above-self.result recs1 led1
+    slots3 c.set_place.ensures.records
+    (c.push-place.ensures.here ∙ ap (λ (i : Item). Some i) item) c.push-place.ensures.was_free
+    c.push-place.ensures.others (c.push-place.ensures.view ∙ ap
+    (g.E.Eviction.model.push (g.E.Eviction.view c.give_way-gone.new.eviction)) item)
+    (c.above-self.ensures ∙ ap (λ (a : ℕ). max s.next (a + 1)) c.id-id.ensures) c.requires.plain c.requires.held
+    c.requires.handles c.requires.fits s.usage s.entries s.weighed s.counted in
+    let few = ∥∥₁_elim done.kept3 (hlevel props) (λ k. entries_below m laws lawful
+    (state s.number s.capacity s.limits (g.E.Eviction.view c.push-place.new.self) (g.I.Finder.view c.put.new.self)
+    c.set_place.new.self c.above-self.result) k) in
     record {
       kept = done.kept3;
       stored = done.stored3;
@@ -234,28 +422,72 @@ invariant_of-self-2 g c =
 pub returns-clause-admitted : goal.returns-clause-admitted
 returns-clause-admitted g c =
     let s = c.args.self.now in
+    let lawful = g.met.E.Eviction.lawful in
+    let laws = g.met.K.Eq.laws in
     let m = meaning_of s in
     let inc : Incoming g.row.K.Denot g.row.V.Denot g.row.P.Denot = incoming_of c.args.slot in
     let n = c.put-number.result.0 in
-    let unled = led_not m g.met.K.Eq.laws g.met.E.Eviction.lawful (holding s) n c.put-number.result.1 c.put-number.ensures.stood (λ r h. c.requires.out r (c.put-number.ensures.was ∙ h)) in
+    let unled = led_not m laws lawful (holding s) n c.put-number.result.1 c.put-number.ensures.stood (λ r h. c.requires.out r (c.put-number.ensures.was ∙ h)) in
     let hash : c.hash-hash.result ≡ inc.kept.hash = c.hash-hash.ensures in
-    let was : c.in-Ok.was ≡ g.I.Indexer.view s.index (key_of inc.kept) = c.in-Ok.ensures.was ∙ ap (λ (h : ℕ). g.I.Indexer.view s.index (h, c.args.key)) hash ∙ g.met.I.Indexer.respects s.index (inc.kept.hash, c.args.key) (key_of inc.kept) (alike_key g.K.PartialEq.eq inc.kept.hash c.args.key inc.kept.key c.requires.same) in
+    let was : c.slot_under-was.result ≡ g.I.Finder.view s.index (key_of inc.kept) = c.slot_under-was.ensures ∙ ap
+    (λ (h : ℕ). g.I.Finder.view s.index (h, c.args.key)) hash ∙ g.met.I.Finder.respects s.index
+    (inc.kept.hash, c.args.key) (key_of inc.kept) (alike_key g.K.PartialEq.eq inc.kept.hash c.args.key inc.kept.key
+    c.requires.same) in
     let w = c.give_way-gone.ensures in
-    let gv : Gave m g.met.K.Eq.laws g.met.E.Eviction.lawful (holding s) inc n unled c.requires.out c.put-number.new.self c.args.slot c.put-number.ensures.slots c.give_way-gone.result.0 c.give_way-gone.result.1 c.give_way-gone.new.records (g.E.Eviction.at c.give_way-gone.new.eviction) (g.E.Eviction.view c.give_way-gone.new.eviction) =
-    gave m g.met.K.Eq.laws g.met.E.Eviction.lawful (holding s) inc n unled c.requires.out c.put-number.new.self c.args.slot c.put-number.ensures.slots c.in-Ok.was was c.give_way-gone.result c.give_way-gone.new.records (g.E.Eviction.at c.give_way-gone.new.eviction) (g.E.Eviction.view c.give_way-gone.new.eviction)
+    let gv : Gave m laws lawful (holding s) inc n unled c.requires.out c.put-number.new.self c.args.slot
+    c.put-number.ensures.slots c.give_way-gone.result.0 c.give_way-gone.result.1 c.give_way-gone.new.records
+    (g.E.Eviction.at c.give_way-gone.new.eviction) (g.E.Eviction.view c.give_way-gone.new.eviction) =
+    gave m laws lawful (holding s) inc n unled c.requires.out c.put-number.new.self c.args.slot
+    c.put-number.ensures.slots c.slot_under-was.result was c.give_way-gone.result c.give_way-gone.new.records
+    (g.E.Eviction.at c.give_way-gone.new.eviction) (g.E.Eviction.view c.give_way-gone.new.eviction)
     w.none w.none_slots w.none_records w.none_places w.some w.some_slots w.some_records w.some_places in
     let x0 = c.args.slot in
-    let there2 : slot_in c.give_way-gone.new.records n ≡ Some x0 = new_there m g.met.K.Eq.laws g.met.E.Eviction.lawful (holding s) inc n unled c.requires.out c.put-number.new.self c.args.slot c.put-number.ensures.slots c.give_way-gone.result.0 c.give_way-gone.result.1 c.give_way-gone.new.records (g.E.Eviction.at c.give_way-gone.new.eviction) (g.E.Eviction.view c.give_way-gone.new.eviction) gv in
-    let slots3 : (q : ℕ) → slot_in c.set_place.new.self q ≡ update nat_eq (slot_in c.give_way-gone.new.records) n (Some (coming_slot inc (Some c.push-place.result))) q =
-    (λ q. c.set_place.ensures.slots x0 there2 q ∙ ap (λ (x : Kept g.row.K.Denot g.row.V.Denot g.row.P.Denot). let y : Kept g.row.K.Denot g.row.V.Denot g.row.P.Denot = record x { place = Some c.push-place.result } in update nat_eq (slot_in c.give_way-gone.new.records) n (Some y) q) c.requires.coming) in
+    let there2 : slot_in c.give_way-gone.new.records n ≡ Some x0 = new_there m laws lawful (holding s) inc n unled
+    c.requires.out c.put-number.new.self c.args.slot c.put-number.ensures.slots c.give_way-gone.result.0
+    c.give_way-gone.result.1 c.give_way-gone.new.records (g.E.Eviction.at c.give_way-gone.new.eviction)
+    (g.E.Eviction.view c.give_way-gone.new.eviction) gv in
+    let slots3 : (q : ℕ) → slot_in c.set_place.new.self q ≡ update nat_eq (slot_in c.give_way-gone.new.records) n
+    (Some (coming_slot inc (Some c.push-place.result))) q =
+    (λ q. c.set_place.ensures.slots x0 there2 q ∙ ap (λ (x : Kept g.row.K.Denot g.row.V.Denot g.row.P.Denot). let y :
+    Kept g.row.K.Denot g.row.V.Denot g.row.P.Denot = record x { place = Some c.push-place.result } in update nat_eq
+    (slot_in c.give_way-gone.new.records) n (Some y) q) c.requires.coming) in
     let recs1 : (i : ℕ) → record_in c.put-number.new.self i ≡ update nat_eq (record_in s.records) inc.id (Some (coming_rec inc)) i =
-    (λ i. c.put-number.ensures.records i ∙ ap (λ (x : Kept g.row.K.Denot g.row.V.Denot g.row.P.Denot). update nat_eq (record_in s.records) x.id (Some (rec_of x)) i) c.requires.coming) in
-    let led1 : (q : _) → g.I.Indexer.view c.insert.new.self q ≡ update (same_key g.K.PartialEq.eq) (g.I.Indexer.view s.index) (key_of inc.kept) (Some n) q =
-    update_alike (same_key g.K.PartialEq.eq) (same_key_laws g.K.PartialEq.eq g.met.K.Eq.laws) (g.I.Indexer.view s.index) (g.I.Indexer.view c.insert.new.self) (inc.kept.hash, c.args.key) (key_of inc.kept) (Some n)
-    (alike_key g.K.PartialEq.eq inc.kept.hash c.args.key inc.kept.key c.requires.same) (λ q. c.in-Ok.ensures.view q ∙ ap (λ (h : ℕ). update (same_key g.K.PartialEq.eq) (g.I.Indexer.view s.index) (h, c.args.key) (Some n) q) hash) in
-    let item : (let i : Item = record { id = c.id-id.result; hash = c.hash-hash.result; weight = c.weight-weight.result; hint = c.unwrap_or-hint.result } in i) ≡ item_of m inc.id inc.kept = (rw (c.id-id.ensures, c.hash-hash.ensures, c.weight-weight.ensures, c.unwrap_or-hint.ensures, c.hint.ensures, c.properties.ensures) refl) in
-    let done : Admitted m g.met.K.Eq.laws g.met.E.Eviction.lawful (holding s) inc n unled c.requires.out c.give_way-gone.result.1 (s.usage - c.give_way-gone.result.0) (s.entries - cond (is_some c.give_way-gone.result.1) 1 0) (g.E.Eviction.view c.push-place.new.self) (g.I.Indexer.view c.insert.new.self) c.set_place.new.self (g.E.Eviction.at c.push-place.new.self) c.above-self.result =
-    gave_admitted m g.met.K.Eq.laws g.met.E.Eviction.lawful (holding s) inc n unled c.requires.out c.put-number.new.self c.args.slot c.put-number.ensures.slots c.give_way-gone.result.0 c.give_way-gone.result.1 c.give_way-gone.new.records (g.E.Eviction.at c.give_way-gone.new.eviction) (g.E.Eviction.view c.give_way-gone.new.eviction) gv c.requires.coming c.set_place.new.self c.push-place.result (g.I.Indexer.view c.insert.new.self) (g.E.Eviction.at c.push-place.new.self) (g.E.Eviction.view c.push-place.new.self) c.above-self.result recs1 led1 slots3 c.set_place.ensures.records
-    (c.push-place.ensures.here ∙ ap (λ (i : Item). Some i) item) c.push-place.ensures.was_free c.push-place.ensures.others (c.push-place.ensures.view ∙ ap (g.E.Eviction.model.push (g.E.Eviction.view c.give_way-gone.new.eviction)) item)
-    (c.above-self.ensures ∙ ap (λ (a : ℕ). max s.next (a + 1)) c.id-id.ensures) c.requires.plain c.requires.held c.requires.handles c.requires.fits s.usage s.entries s.weighed s.counted in
+    (λ i. c.put-number.ensures.records i ∙ ap (λ (x : Kept g.row.K.Denot g.row.V.Denot g.row.P.Denot). update nat_eq
+    (record_in s.records) x.id (Some (rec_of x)) i) c.requires.coming) in
+    let led1 : (q : _) → g.I.Finder.view c.put.new.self q ≡ update (same_key g.K.PartialEq.eq) (g.I.Finder.view s.index) (key_of inc.kept) (Some n) q =
+    update_alike (same_key g.K.PartialEq.eq) (same_key_laws g.K.PartialEq.eq laws) (g.I.Finder.view s.index)
+    (g.I.Finder.view c.put.new.self) (inc.kept.hash, c.args.key) (key_of inc.kept) (Some n)
+    (alike_key g.K.PartialEq.eq inc.kept.hash c.args.key inc.kept.key c.requires.same)
+    (λ q. c.in-Ok.ensures.view q ∙ ap (λ (h : ℕ). update (same_key g.K.PartialEq.eq) (g.I.Finder.view s.index)
+    (h, c.args.key) (Some n) q) hash) in
+    let item : (let i : Item = record {
+      id = c.id-id.result;
+      hash = c.hash-hash.result;
+      weight =
+          c.weight-weight.result;
+      hint = c.unwrap_or-hint.result;
+    } in i) ≡ item_of m inc.id inc.kept =
+    (rw (
+      c.id-id.ensures,
+      c.hash-hash.ensures,
+      c.weight-weight.ensures,
+      c.unwrap_or-hint.ensures,
+      c.hint.ensures,
+      c.properties.ensures,
+    ) refl) in
+    let done : Admitted m laws lawful (holding s) inc n unled c.requires.out c.give_way-gone.result.1
+    (s.usage - c.give_way-gone.result.0) (s.entries - cond (is_some c.give_way-gone.result.1) 1 0)
+    (g.E.Eviction.view c.push-place.new.self) (g.I.Finder.view c.put.new.self) c.set_place.new.self
+    (g.E.Eviction.at c.push-place.new.self) c.above-self.result =
+    gave_admitted m laws lawful (holding s) inc n unled c.requires.out c.put-number.new.self c.args.slot
+    c.put-number.ensures.slots c.give_way-gone.result.0 c.give_way-gone.result.1 c.give_way-gone.new.records
+    (g.E.Eviction.at c.give_way-gone.new.eviction) (g.E.Eviction.view c.give_way-gone.new.eviction) gv
+    c.requires.coming c.set_place.new.self c.push-place.result (g.I.Finder.view c.put.new.self)
+    (g.E.Eviction.at c.push-place.new.self) (g.E.Eviction.view c.push-place.new.self) c.above-self.result recs1 led1
+    slots3 c.set_place.ensures.records
+    (c.push-place.ensures.here ∙ ap (λ (i : Item). Some i) item) c.push-place.ensures.was_free
+    c.push-place.ensures.others (c.push-place.ensures.view ∙ ap
+    (g.E.Eviction.model.push (g.E.Eviction.view c.give_way-gone.new.eviction)) item)
+    (c.above-self.ensures ∙ ap (λ (a : ℕ). max s.next (a + 1)) c.id-id.ensures) c.requires.plain c.requires.held
+    c.requires.handles c.requires.fits s.usage s.entries s.weighed s.counted in
     done.admits

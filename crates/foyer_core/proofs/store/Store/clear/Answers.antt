@@ -11,7 +11,7 @@ pub invariant_of-self : goal.invariant_of-self
 invariant_of-self g c =
     let s = c.args.self.now in
     let m = meaning_of s in
-    let keys = g.I.Indexer.view c.leave_all.new.index in
+    let keys = g.I.Finder.view c.leave_all.new.index in
     let t = c.leave_all.new.records in
     let view = g.E.Eviction.view c.clear.new.self in
     let all = sym c.requires.items in
@@ -28,7 +28,7 @@ pub returns-clause-told : goal.returns-clause-told
 returns-clause-told g c =
     let s = c.args.self.now in
     let m = meaning_of s in
-    let keys = g.I.Indexer.view c.leave_all.new.index in
+    let keys = g.I.Finder.view c.leave_all.new.index in
     let t = c.leave_all.new.records in
     let view = g.E.Eviction.view c.clear.new.self in
     let all = sym c.requires.items in

@@ -7,4 +7,6 @@ use Rattle.foyer_core.proofs.store.Store.contains.Goals as goal
 pub returns : goal.returns
 returns g c =
     let s = c.args.self.now in
-    c.is_some.ensures ∙ ap is_some c.get.ensures ∙ sym (index_some (meaning_of s) (g.E.Eviction.at s.eviction) (g.I.Indexer.view s.index) s.records s.stored (c.args.hash, c.args.key.now))
+    c.is_some.ensures ∙ ap is_some c.slot_under.ensures ∙ sym
+    (index_some (meaning_of s) (g.E.Eviction.at s.eviction) (g.I.Finder.view s.index) s.records s.stored
+    (c.args.hash, c.args.key.now))

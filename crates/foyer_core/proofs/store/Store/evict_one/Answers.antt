@@ -7,82 +7,133 @@ use Rattle.foyer_core.specs.Table.{rec_of}
 use Rattle.foyer_core.specs.Records.{slot_in, number_of}
 use Rattle.foyer_core.proofs.StoredLemmas.{none_not}
 use Rattle.foyer_core.proofs.Holdings.{holding}
-use Rattle.foyer_core.proofs.LeftLemmas.{victim_known, victim_there, victim_lighter, victim_weight, victim_entries, victim_gone, victim_resident, victim_after, victim_kept, victim_stored, victim_record, still_kept, still_stored, still_weighed, still_counted}
+use Rattle.foyer_core.proofs.LeftLemmas.{
+  victim_known,
+  victim_there,
+  victim_lighter,
+  victim_weight,
+  victim_entries,
+  victim_gone,
+  victim_led,
+  victim_resident,
+  victim_after,
+  victim_kept,
+  victim_stored,
+  victim_record,
+  still_kept,
+  still_stored,
+  still_weighed,
+  still_counted,
+}
 use Rattle.foyer_core.proofs.store.Store.evict_one.Goals as goal
 
 pub invariant_of-self : goal.invariant_of-self
 invariant_of-self g c =
     let s = c.args.self.now in
+    let lawful = g.met.E.Eviction.lawful in
+    let laws = g.met.K.Eq.laws in
     record {
-      kept = still_kept (meaning_of s) g.met.K.Eq.laws g.met.E.Eviction.lawful (holding s) (g.E.Eviction.view c.pop.new.self) c.in_err-item.ensures.err_view;
-      stored = still_stored (meaning_of s) g.met.K.Eq.laws g.met.E.Eviction.lawful (holding s) (g.E.Eviction.view c.pop.new.self) c.in_err-item.ensures.err_view (g.E.Eviction.at c.pop.new.self) c.in_err-item.ensures.err_places;
-      weighed = still_weighed (meaning_of s) g.met.K.Eq.laws g.met.E.Eviction.lawful (holding s) (g.E.Eviction.view c.pop.new.self) c.in_err-item.ensures.err_view s.usage s.weighed;
-      counted = still_counted (meaning_of s) g.met.K.Eq.laws g.met.E.Eviction.lawful (holding s) (g.E.Eviction.view c.pop.new.self) c.in_err-item.ensures.err_view s.entries s.counted;
+      kept = still_kept (meaning_of s) laws lawful (holding s) (g.E.Eviction.view c.pop.new.self) c.in_err-item.ensures.err_view;
+      stored = still_stored (meaning_of s) laws lawful (holding s) (g.E.Eviction.view c.pop.new.self)
+          c.in_err-item.ensures.err_view (g.E.Eviction.at c.pop.new.self) c.in_err-item.ensures.err_places;
+      weighed = still_weighed (meaning_of s) laws lawful (holding s) (g.E.Eviction.view c.pop.new.self) c.in_err-item.ensures.err_view s.usage s.weighed;
+      counted = still_counted (meaning_of s) laws lawful (holding s) (g.E.Eviction.view c.pop.new.self) c.in_err-item.ensures.err_view s.entries s.counted;
       numbered = s.numbered;
     }
 
 pub invariant_of-self-in_default : goal.invariant_of-self-in_default
 invariant_of-self-in_default g c =
     let s = c.args.self.now in
+    let lawful = g.met.E.Eviction.lawful in
+    let laws = g.met.K.Eq.laws in
     let p : Pops g.E.Eviction.model (g.E.Eviction.view s.eviction) None (g.E.Eviction.view c.pop.new.self) = rw c.in_default.is at c.in_ok-item.ensures.pops in
     let places = rw c.in_default.is at c.in_ok-item.ensures.none in
     record {
-      kept = still_kept (meaning_of s) g.met.K.Eq.laws g.met.E.Eviction.lawful (holding s) (g.E.Eviction.view c.pop.new.self) p.1;
-      stored = still_stored (meaning_of s) g.met.K.Eq.laws g.met.E.Eviction.lawful (holding s) (g.E.Eviction.view c.pop.new.self) p.1 (g.E.Eviction.at c.pop.new.self) places;
-      weighed = still_weighed (meaning_of s) g.met.K.Eq.laws g.met.E.Eviction.lawful (holding s) (g.E.Eviction.view c.pop.new.self) p.1 s.usage s.weighed;
-      counted = still_counted (meaning_of s) g.met.K.Eq.laws g.met.E.Eviction.lawful (holding s) (g.E.Eviction.view c.pop.new.self) p.1 s.entries s.counted;
+      kept = still_kept (meaning_of s) laws lawful (holding s) (g.E.Eviction.view c.pop.new.self) p.1;
+      stored = still_stored (meaning_of s) laws lawful (holding s) (g.E.Eviction.view c.pop.new.self) p.1 (g.E.Eviction.at c.pop.new.self) places;
+      weighed = still_weighed (meaning_of s) laws lawful (holding s) (g.E.Eviction.view c.pop.new.self) p.1 s.usage s.weighed;
+      counted = still_counted (meaning_of s) laws lawful (holding s) (g.E.Eviction.view c.pop.new.self) p.1 s.entries s.counted;
       numbered = s.numbered;
     }
 
 pub unreachable-requires : goal.unreachable-requires
 unreachable-requires g c =
     let s = c.args.self.now in
-    let p : g.E.Eviction.model.pop (g.E.Eviction.view s.eviction) ≡ Some (c.in-Some.item, g.E.Eviction.view c.pop.new.self) = rw c.in-Some.is at c.in_ok-item.ensures.pops in
-    none_not (number_of s.records c.in-Some.item.id) (victim_known (meaning_of s) g.met.K.Eq.laws g.met.E.Eviction.lawful (holding s) c.in-Some.item (g.E.Eviction.view c.pop.new.self) p) (sym c.find.ensures ∙ c.in_default-find.is)
+    let p : g.E.Eviction.model.pop (g.E.Eviction.view s.eviction) ≡ Some
+    (c.in-Some.item, g.E.Eviction.view c.pop.new.self) = rw c.in-Some.is at c.in_ok-item.ensures.pops in
+    none_not (number_of s.records c.in-Some.item.id) (victim_known (meaning_of s) g.met.K.Eq.laws
+    g.met.E.Eviction.lawful (holding s) c.in-Some.item (g.E.Eviction.view c.pop.new.self) p)
+    (sym c.find.ensures ∙ c.in_default-find.is)
 
 pub unreachable-requires-in_default-get : goal.unreachable-requires-in_default-get
 unreachable-requires-in_default-get g c =
     let s = c.args.self.now in
-    let p : g.E.Eviction.model.pop (g.E.Eviction.view s.eviction) ≡ Some (c.in-Some.item, g.E.Eviction.view c.pop.new.self) = rw c.in-Some.is at c.in_ok-item.ensures.pops in
+    let p : g.E.Eviction.model.pop (g.E.Eviction.view s.eviction) ≡ Some
+    (c.in-Some.item, g.E.Eviction.view c.pop.new.self) = rw c.in-Some.is at c.in_ok-item.ensures.pops in
     let none : slot_in s.records c.in-Some-find.slot ≡ None = sym (rw c.in_default-get.is at c.get.ensures) in
-    none_not (slot_in s.records c.in-Some-find.slot) (victim_there (meaning_of s) g.met.K.Eq.laws g.met.E.Eviction.lawful (holding s) c.in-Some.item (g.E.Eviction.view c.pop.new.self) p c.in-Some-find.slot (sym c.find.ensures ∙ c.in-Some-find.is)) none
+    none_not (slot_in s.records c.in-Some-find.slot) (victim_there (meaning_of s) g.met.K.Eq.laws
+    g.met.E.Eviction.lawful (holding s) c.in-Some.item (g.E.Eviction.view c.pop.new.self) p c.in-Some-find.slot
+    (sym c.find.ensures ∙ c.in-Some-find.is)) none
+
+pub take-requires-after_bounds : goal.take-requires-after_bounds
+take-requires-after_bounds g c κs within =
+    let s = c.args.self.now in
+    let p : g.E.Eviction.model.pop (g.E.Eviction.view s.eviction) ≡ Some
+    (c.in-Some.item, g.E.Eviction.view c.pop.new.self) = rw c.in-Some.is at c.in_ok-item.ensures.pops in
+    let there : slot_in s.records c.in-Some-find.slot ≡ Some c.in-Some-get.found.now = sym (rw c.in-Some-get.is at c.get.ensures) in
+    rw (c.hash.ensures, c.key.ensures) (victim_led (meaning_of s) g.met.K.Eq.laws g.met.E.Eviction.lawful (holding s)
+    c.in-Some.item (g.E.Eviction.view c.pop.new.self) p c.in-Some-find.slot c.in-Some-get.found.now
+    (sym c.find.ensures ∙ c.in-Some-find.is) there)
 
 pub overflow_sub-self : goal.overflow_sub-self
 overflow_sub-self g c =
     let s = c.args.self.now in
-    let p : g.E.Eviction.model.pop (g.E.Eviction.view s.eviction) ≡ Some (c.in-Some.item, g.E.Eviction.view c.pop.new.self) = rw c.in-Some.is at c.in_ok-item.ensures.pops in
+    let p : g.E.Eviction.model.pop (g.E.Eviction.view s.eviction) ≡ Some
+    (c.in-Some.item, g.E.Eviction.view c.pop.new.self) = rw c.in-Some.is at c.in_ok-item.ensures.pops in
     victim_lighter (meaning_of s) g.met.K.Eq.laws g.met.E.Eviction.lawful (holding s) c.in-Some.item (g.E.Eviction.view c.pop.new.self) p s.usage s.weighed
 
 pub overflow_sub-self-2 : goal.overflow_sub-self-2
 overflow_sub-self-2 g c =
     let s = c.args.self.now in
-    let p : g.E.Eviction.model.pop (g.E.Eviction.view s.eviction) ≡ Some (c.in-Some.item, g.E.Eviction.view c.pop.new.self) = rw c.in-Some.is at c.in_ok-item.ensures.pops in
-    (victim_entries (meaning_of s) g.met.K.Eq.laws g.met.E.Eviction.lawful (holding s) c.in-Some.item (g.E.Eviction.view c.pop.new.self) p s.entries s.counted).0
+    let p : g.E.Eviction.model.pop (g.E.Eviction.view s.eviction) ≡ Some
+    (c.in-Some.item, g.E.Eviction.view c.pop.new.self) = rw c.in-Some.is at c.in_ok-item.ensures.pops in
+    (victim_entries (meaning_of s) g.met.K.Eq.laws g.met.E.Eviction.lawful (holding s) c.in-Some.item
+    (g.E.Eviction.view c.pop.new.self) p s.entries s.counted).0
 
 pub leave-requires : goal.leave-requires
 leave-requires g c =
     let s = c.args.self.now in
-    let p : g.E.Eviction.model.pop (g.E.Eviction.view s.eviction) ≡ Some (c.in-Some.item, g.E.Eviction.view c.pop.new.self) = rw c.in-Some.is at c.in_ok-item.ensures.pops in
+    let p : g.E.Eviction.model.pop (g.E.Eviction.view s.eviction) ≡ Some
+    (c.in-Some.item, g.E.Eviction.view c.pop.new.self) = rw c.in-Some.is at c.in_ok-item.ensures.pops in
     let there : slot_in s.records c.in-Some-find.slot ≡ Some c.in-Some-get.found.now = sym (rw c.in-Some-get.is at c.get.ensures) in
-    let res = victim_resident (meaning_of s) g.met.K.Eq.laws g.met.E.Eviction.lawful (holding s) c.in-Some.item (g.E.Eviction.view c.pop.new.self) p c.in-Some-find.slot c.in-Some-get.found.now (sym c.find.ensures ∙ c.in-Some-find.is) there in
+    let res = victim_resident (meaning_of s) g.met.K.Eq.laws g.met.E.Eviction.lawful (holding s) c.in-Some.item
+    (g.E.Eviction.view c.pop.new.self) p c.in-Some-find.slot c.in-Some-get.found.now
+    (sym c.find.ensures ∙ c.in-Some-find.is) there in
     subst (λ (o : Option (Kept g.row.K.Denot g.row.V.Denot g.row.P.Denot)). IsSomeAnd o (λ x. x.resident ≡ true)) (sym there) res
 
 pub invariant_of-self-2 : goal.invariant_of-self-2
 invariant_of-self-2 g c =
     let s = c.args.self.now in
+    let lawful = g.met.E.Eviction.lawful in
+    let laws = g.met.K.Eq.laws in
     let v = g.E.Eviction.view c.pop.new.self in
     let x = c.in-Some-get.found.now in
     let p : g.E.Eviction.model.pop (g.E.Eviction.view s.eviction) ≡ Some (c.in-Some.item, v) = rw c.in-Some.is at c.in_ok-item.ensures.pops in
     let there : slot_in s.records c.in-Some-find.slot ≡ Some x = sym (rw c.in-Some-get.is at c.get.ensures) in
     let known : number_of s.records c.in-Some.item.id ≡ Some c.in-Some-find.slot = sym c.find.ensures ∙ c.in-Some-find.is in
-    let places : (q : ℕ) → g.E.Eviction.at c.pop.new.self q ≡ without c.in-Some.item.id (g.E.Eviction.at s.eviction q) = rw c.in-Some.is at c.in_ok-item.ensures.places in
-    let gone = rw (c.hash.ensures, c.key.ensures) at c.remove.ensures.view in
-    let lighter = victim_lighter (meaning_of s) g.met.K.Eq.laws g.met.E.Eviction.lawful (holding s) c.in-Some.item v p s.usage s.weighed in
-    let fewer = victim_entries (meaning_of s) g.met.K.Eq.laws g.met.E.Eviction.lawful (holding s) c.in-Some.item v p s.entries s.counted in
+    let places : (q : ℕ) → g.E.Eviction.at c.pop.new.self q ≡ without c.in-Some.item.id (g.E.Eviction.at s.eviction q)
+    = rw c.in-Some.is at c.in_ok-item.ensures.places in
+    let gone = rw (c.hash.ensures, c.key.ensures) at c.take.ensures in
+    let lighter = victim_lighter (meaning_of s) laws lawful (holding s) c.in-Some.item v p s.usage s.weighed in
+    let fewer = victim_entries (meaning_of s) laws lawful (holding s) c.in-Some.item v p s.entries s.counted in
     record {
-      kept = victim_kept (meaning_of s) g.met.K.Eq.laws g.met.E.Eviction.lawful (holding s) c.in-Some.item v p c.in-Some-find.slot x known there c.leave.new.self (c.leave.ensures.slots x there) (c.leave.ensures.records x there) (g.E.Eviction.at c.pop.new.self) places (g.I.Indexer.view c.remove.new.self) gone;
-      stored = victim_stored (meaning_of s) g.met.K.Eq.laws g.met.E.Eviction.lawful (holding s) c.in-Some.item v p c.in-Some-find.slot x known there c.leave.new.self (c.leave.ensures.slots x there) (c.leave.ensures.records x there) (g.E.Eviction.at c.pop.new.self) places (g.I.Indexer.view c.remove.new.self) gone;
-      weighed = victim_weight (meaning_of s) g.met.K.Eq.laws g.met.E.Eviction.lawful (holding s) c.in-Some.item v p s.usage s.weighed;
+      kept = victim_kept (meaning_of s) laws lawful (holding s) c.in-Some.item v p c.in-Some-find.slot x known there
+          c.leave.new.self (c.leave.ensures.slots x there) (c.leave.ensures.records x there)
+          (g.E.Eviction.at c.pop.new.self) places (g.I.Finder.view c.take.new.self) gone;
+      stored = victim_stored (meaning_of s) laws lawful (holding s) c.in-Some.item v p c.in-Some-find.slot x known
+          there c.leave.new.self (c.leave.ensures.slots x there) (c.leave.ensures.records x there)
+          (g.E.Eviction.at c.pop.new.self) places (g.I.Finder.view c.take.new.self) gone;
+      weighed = victim_weight (meaning_of s) laws lawful (holding s) c.in-Some.item v p s.usage s.weighed;
       counted = fewer.1;
       numbered = omega (arith, s.numbered, fewer.0);
     }
@@ -90,19 +141,26 @@ invariant_of-self-2 g c =
 pub returns-clause-some : goal.returns-clause-some
 returns-clause-some g c =
     let s = c.args.self.now in
+    let lawful = g.met.E.Eviction.lawful in
+    let laws = g.met.K.Eq.laws in
     let v = g.E.Eviction.view c.pop.new.self in
     let x = c.in-Some-get.found.now in
     let p : g.E.Eviction.model.pop (g.E.Eviction.view s.eviction) ≡ Some (c.in-Some.item, v) = rw c.in-Some.is at c.in_ok-item.ensures.pops in
     let there : slot_in s.records c.in-Some-find.slot ≡ Some x = sym (rw c.in-Some-get.is at c.get.ensures) in
     let known : number_of s.records c.in-Some.item.id ≡ Some c.in-Some-find.slot = sym c.find.ensures ∙ c.in-Some-find.is in
-    let places : (q : ℕ) → g.E.Eviction.at c.pop.new.self q ≡ without c.in-Some.item.id (g.E.Eviction.at s.eviction q) = rw c.in-Some.is at c.in_ok-item.ensures.places in
-    let gone = rw (c.hash.ensures, c.key.ensures) at c.remove.ensures.view in
+    let places : (q : ℕ) → g.E.Eviction.at c.pop.new.self q ≡ without c.in-Some.item.id (g.E.Eviction.at s.eviction q)
+    = rw c.in-Some.is at c.in_ok-item.ensures.places in
+    let gone = rw (c.hash.ensures, c.key.ensures) at c.take.ensures in
     record {
       item = c.in-Some.item;
       view = v;
       rec = rec_of x;
       popped = p;
-      there = victim_record (meaning_of s) g.met.K.Eq.laws g.met.E.Eviction.lawful (holding s) c.in-Some.item v p c.in-Some-find.slot x known there c.leave.new.self (c.leave.ensures.slots x there) (c.leave.ensures.records x there) (g.E.Eviction.at c.pop.new.self) places (g.I.Indexer.view c.remove.new.self) gone;
-      gone_is = c.leave.ensures.left x there ∙ victim_gone (meaning_of s) g.met.K.Eq.laws g.met.E.Eviction.lawful (holding s) c.in-Some.item v p c.in-Some-find.slot x known there;
-      after = victim_after (meaning_of s) g.met.K.Eq.laws g.met.E.Eviction.lawful (holding s) c.in-Some.item v p c.in-Some-find.slot x known there c.leave.new.self (c.leave.ensures.slots x there) (c.leave.ensures.records x there) (g.E.Eviction.at c.pop.new.self) places (g.I.Indexer.view c.remove.new.self) gone;
+      there = victim_record (meaning_of s) laws lawful (holding s) c.in-Some.item v p c.in-Some-find.slot x known
+          there c.leave.new.self (c.leave.ensures.slots x there) (c.leave.ensures.records x there)
+          (g.E.Eviction.at c.pop.new.self) places (g.I.Finder.view c.take.new.self) gone;
+      gone_is = c.leave.ensures.left x there ∙ victim_gone (meaning_of s) laws lawful (holding s) c.in-Some.item v p c.in-Some-find.slot x known there;
+      after = victim_after (meaning_of s) laws lawful (holding s) c.in-Some.item v p c.in-Some-find.slot x known there
+          c.leave.new.self (c.leave.ensures.slots x there) (c.leave.ensures.records x there)
+          (g.E.Eviction.at c.pop.new.self) places (g.I.Finder.view c.take.new.self) gone;
     }

@@ -11,21 +11,21 @@ use Rattle.foyer_core.proofs.store.Store.get.Goals as goal
 pub unreachable-requires : goal.unreachable-requires
 unreachable-requires g c =
     let s = c.args.self.now in
-    let none : slot_in s.records c.in-Some.number ≡ None = sym (rw c.in_default-get.is at c.get-2.ensures) in
-    none_not (slot_in s.records c.in-Some.number) (s.stored.led (c.args.hash, c.args.key.now) c.in-Some.number (sym c.get.ensures ∙ c.in-Some.is)) none
+    let none : slot_in s.records c.in-Some.slot ≡ None = sym (rw c.in_default-get.is at c.get.ensures) in
+    none_not (slot_in s.records c.in-Some.slot) (s.stored.led (c.args.hash, c.args.key.now) c.in-Some.slot (sym c.slot_under.ensures ∙ c.in-Some.is)) none
 
 pub returns-then-handles-self : goal.returns-then-handles-self
 returns-then-handles-self g c =
     let s = c.args.self.now in
     let x = c.in-Some-get.found.now in
-    let there : slot_in s.records c.in-Some.number ≡ Some x = sym (rw c.in-Some-get.is at c.get-2.ensures) in
-    let led = sym c.get.ensures ∙ c.in-Some.is in
+    let there : slot_in s.records c.in-Some.slot ≡ Some x = sym (rw c.in-Some-get.is at c.get.ensures) in
+    let led = sym c.slot_under.ensures ∙ c.in-Some.is in
     rw c.new.ensures record {
       gets = (
         x.id,
         rec_of x,
-        hits (meaning_of s) g.met.K.Eq.laws g.met.E.Eviction.lawful (holding s) (c.args.hash, c.args.key.now) c.in-Some.number led x there,
-        found (meaning_of s) g.met.K.Eq.laws g.met.E.Eviction.lawful (holding s) (c.args.hash, c.args.key.now) c.in-Some.number led x there,
+        hits (meaning_of s) g.met.K.Eq.laws g.met.E.Eviction.lawful (holding s) (c.args.hash, c.args.key.now) c.in-Some.slot led x there,
+        found (meaning_of s) g.met.K.Eq.laws g.met.E.Eviction.lawful (holding s) (c.args.hash, c.args.key.now) c.in-Some.slot led x there,
         omega (arith, c.handles.ensures, c.if-handles-self.true),
         refl,
       );
@@ -35,23 +35,28 @@ pub unreachable-requires-in_default-place : goal.unreachable-requires-in_default
 unreachable-requires-in_default-place g c =
     let s = c.args.self.now in
     let x = c.in-Some-get.found.now in
-    let there : slot_in s.records c.in-Some.number ≡ Some x = sym (rw c.in-Some-get.is at c.get-2.ensures) in
-    let res = resident (meaning_of s) g.met.K.Eq.laws g.met.E.Eviction.lawful (holding s) (c.args.hash, c.args.key.now) c.in-Some.number (sym c.get.ensures ∙ c.in-Some.is) x there in
-    none_not x.place (place_is (meaning_of s) (g.E.Eviction.at s.eviction) (g.I.Indexer.view s.index) s.records s.stored c.in-Some.number x there res) (sym c.place.ensures ∙ c.in_default-place.is)
+    let there : slot_in s.records c.in-Some.slot ≡ Some x = sym (rw c.in-Some-get.is at c.get.ensures) in
+    let res = resident (meaning_of s) g.met.K.Eq.laws g.met.E.Eviction.lawful (holding s)
+    (c.args.hash, c.args.key.now) c.in-Some.slot (sym c.slot_under.ensures ∙ c.in-Some.is) x there in
+    none_not x.place (place_is (meaning_of s) (g.E.Eviction.at s.eviction) (g.I.Finder.view s.index) s.records
+    s.stored c.in-Some.slot x there res) (sym c.place.ensures ∙ c.in_default-place.is)
 
 pub returns-in_err-entry : goal.returns-in_err-entry
 returns-in_err-entry g c =
     let s = c.args.self.now in
+    let lawful = g.met.E.Eviction.lawful in
+    let laws = g.met.K.Eq.laws in
     let x = c.in-Some-get.found.now in
-    let there : slot_in s.records c.in-Some.number ≡ Some x = sym (rw c.in-Some-get.is at c.get-2.ensures) in
-    let led = sym c.get.ensures ∙ c.in-Some.is in
+    let there : slot_in s.records c.in-Some.slot ≡ Some x = sym (rw c.in-Some-get.is at c.get.ensures) in
+    let led = sym c.slot_under.ensures ∙ c.in-Some.is in
     record {
-      gets = err_is c.from_residual.result c.in_err-entry.field-0.0 (λ r. Gets (meaning_of s) (state_of s) (c.args.hash, c.args.key.now) r (state_of s)) c.from_residual.ensures.1
+      gets = err_is c.from_residual.result c.in_err-entry.field-0.0
+          (λ r. Gets (meaning_of s) (state_of s) (c.args.hash, c.args.key.now) r (state_of s)) c.from_residual.ensures.1
           (rw c.in_err-entry.ensures.refused (
             x.id,
             rec_of x,
-            hits (meaning_of s) g.met.K.Eq.laws g.met.E.Eviction.lawful (holding s) (c.args.hash, c.args.key.now) c.in-Some.number led x there,
-            found (meaning_of s) g.met.K.Eq.laws g.met.E.Eviction.lawful (holding s) (c.args.hash, c.args.key.now) c.in-Some.number led x there,
+            hits (meaning_of s) laws lawful (holding s) (c.args.hash, c.args.key.now) c.in-Some.slot led x there,
+            found (meaning_of s) laws lawful (holding s) (c.args.hash, c.args.key.now) c.in-Some.slot led x there,
             omega (arith, c.handles.ensures, c.if-handles-self.false),
             refl,
           ));
@@ -61,45 +66,62 @@ pub acquire-requires : goal.acquire-requires
 acquire-requires g c =
     let s = c.args.self.now in
     let x = c.in-Some-get.found.now in
-    let there : slot_in s.records c.in-Some.number ≡ Some x = sym (rw c.in-Some-get.is at c.get-2.ensures) in
-    let at = placed (meaning_of s) g.met.K.Eq.laws g.met.E.Eviction.lawful (holding s) (c.args.hash, c.args.key.now) c.in-Some.number (sym c.get.ensures ∙ c.in-Some.is) x there c.in-Some-place.place (sym c.place.ensures ∙ c.in-Some-place.is) in
+    let there : slot_in s.records c.in-Some.slot ≡ Some x = sym (rw c.in-Some-get.is at c.get.ensures) in
+    let at = placed (meaning_of s) g.met.K.Eq.laws g.met.E.Eviction.lawful (holding s) (c.args.hash, c.args.key.now)
+    c.in-Some.slot (sym c.slot_under.ensures ∙ c.in-Some.is) x there c.in-Some-place.place
+    (sym c.place.ensures ∙ c.in-Some-place.is) in
     rw at (search rules)
 
 pub invariant_of-self : goal.invariant_of-self
 invariant_of-self g c =
     let s = c.args.self.now in
+    let lawful = g.met.E.Eviction.lawful in
+    let laws = g.met.K.Eq.laws in
     let m = meaning_of s in
     let x = c.in-Some-get.found.now in
-    let there : slot_in s.records c.in-Some.number ≡ Some x = sym (rw c.in-Some-get.is at c.get-2.ensures) in
-    let led = sym c.get.ensures ∙ c.in-Some.is in
-    let at = placed m g.met.K.Eq.laws g.met.E.Eviction.lawful (holding s) (c.args.hash, c.args.key.now) c.in-Some.number led x there c.in-Some-place.place (sym c.place.ensures ∙ c.in-Some-place.is) in
+    let there : slot_in s.records c.in-Some.slot ≡ Some x = sym (rw c.in-Some-get.is at c.get.ensures) in
+    let led = sym c.slot_under.ensures ∙ c.in-Some.is in
+    let at = placed m laws lawful (holding s) (c.args.hash, c.args.key.now) c.in-Some.slot led x there
+    c.in-Some-place.place (sym c.place.ensures ∙ c.in-Some-place.is) in
     let viewed : g.E.Eviction.view c.acquire.new.self ≡ m.policy.acquire (g.E.Eviction.view s.eviction) x.id = rw at at c.acquire.ensures.view in
     let write = c.add_handle.ensures.slots x there in
     record {
-      kept = got_kept m g.met.K.Eq.laws g.met.E.Eviction.lawful (holding s) (c.args.hash, c.args.key.now) c.in-Some.number led x there c.add_handle.new.self (g.E.Eviction.view c.acquire.new.self) viewed write c.add_handle.ensures.ids (omega (arith, c.handles.ensures, c.if-handles-self.false));
-      stored = count_stored m (g.E.Eviction.at s.eviction) (g.I.Indexer.view s.index) s.records (g.E.Eviction.at c.acquire.new.self) c.add_handle.new.self c.in-Some.number (x.handles + 1) x there write c.add_handle.ensures.ids c.acquire.ensures.places s.stored;
-      weighed = got_counted m g.met.K.Eq.laws g.met.E.Eviction.lawful (holding s) (c.args.hash, c.args.key.now) c.in-Some.number led x there c.add_handle.new.self (g.E.Eviction.view c.acquire.new.self) viewed write c.add_handle.ensures.ids s.usage s.weighed;
-      counted = got_entries m g.met.K.Eq.laws g.met.E.Eviction.lawful (holding s) (c.args.hash, c.args.key.now) c.in-Some.number led x there c.add_handle.new.self (g.E.Eviction.view c.acquire.new.self) viewed write c.add_handle.ensures.ids s.entries s.counted;
+      kept = got_kept m laws lawful (holding s) (c.args.hash, c.args.key.now) c.in-Some.slot led x there
+          c.add_handle.new.self (g.E.Eviction.view c.acquire.new.self) viewed write c.add_handle.ensures.ids
+          (omega (arith, c.handles.ensures, c.if-handles-self.false));
+      stored = count_stored m (g.E.Eviction.at s.eviction) (g.I.Finder.view s.index) s.records
+          (g.E.Eviction.at c.acquire.new.self) c.add_handle.new.self c.in-Some.slot (x.handles + 1) x there write
+          c.add_handle.ensures.ids c.acquire.ensures.places s.stored;
+      weighed = got_counted m laws lawful (holding s) (c.args.hash, c.args.key.now) c.in-Some.slot led x there
+          c.add_handle.new.self (g.E.Eviction.view c.acquire.new.self) viewed write c.add_handle.ensures.ids s.usage
+          s.weighed;
+      counted = got_entries m laws lawful (holding s) (c.args.hash, c.args.key.now) c.in-Some.slot led x there
+          c.add_handle.new.self (g.E.Eviction.view c.acquire.new.self) viewed write c.add_handle.ensures.ids s.entries
+          s.counted;
       numbered = s.numbered;
     }
 
 pub returns : goal.returns
 returns g c =
     let s = c.args.self.now in
+    let lawful = g.met.E.Eviction.lawful in
+    let laws = g.met.K.Eq.laws in
     let m = meaning_of s in
     let x = c.in-Some-get.found.now in
-    let there : slot_in s.records c.in-Some.number ≡ Some x = sym (rw c.in-Some-get.is at c.get-2.ensures) in
-    let led = sym c.get.ensures ∙ c.in-Some.is in
-    let at = placed m g.met.K.Eq.laws g.met.E.Eviction.lawful (holding s) (c.args.hash, c.args.key.now) c.in-Some.number led x there c.in-Some-place.place (sym c.place.ensures ∙ c.in-Some-place.is) in
+    let there : slot_in s.records c.in-Some.slot ≡ Some x = sym (rw c.in-Some-get.is at c.get.ensures) in
+    let led = sym c.slot_under.ensures ∙ c.in-Some.is in
+    let at = placed m laws lawful (holding s) (c.args.hash, c.args.key.now) c.in-Some.slot led x there
+    c.in-Some-place.place (sym c.place.ensures ∙ c.in-Some-place.is) in
     let viewed : g.E.Eviction.view c.acquire.new.self ≡ m.policy.acquire (g.E.Eviction.view s.eviction) x.id = rw at at c.acquire.ensures.view in
     let write = c.add_handle.ensures.slots x there in
     rw c.in_ok-entry.ensures.entry record {
       gets = (
         rec_of x,
-        hits m g.met.K.Eq.laws g.met.E.Eviction.lawful (holding s) (c.args.hash, c.args.key.now) c.in-Some.number led x there,
-        found m g.met.K.Eq.laws g.met.E.Eviction.lawful (holding s) (c.args.hash, c.args.key.now) c.in-Some.number led x there,
+        hits m laws lawful (holding s) (c.args.hash, c.args.key.now) c.in-Some.slot led x there,
+        found m laws lawful (holding s) (c.args.hash, c.args.key.now) c.in-Some.slot led x there,
         omega (arith, c.handles.ensures, c.if-handles-self.false),
         refl,
-        got_after m g.met.K.Eq.laws g.met.E.Eviction.lawful (holding s) (c.args.hash, c.args.key.now) c.in-Some.number led x there c.add_handle.new.self (g.E.Eviction.view c.acquire.new.self) viewed write c.add_handle.ensures.ids,
+        got_after m laws lawful (holding s) (c.args.hash, c.args.key.now) c.in-Some.slot led x there
+            c.add_handle.new.self (g.E.Eviction.view c.acquire.new.self) viewed write c.add_handle.ensures.ids,
       );
     }

@@ -4,7 +4,17 @@ use Rattle.foyer_core.specs.Steps.{GivesBack}
 use Rattle.foyer_core.specs.Records.{slot_in, number_of}
 use Rattle.foyer_core.proofs.Holdings.{holding}
 use Rattle.foyer_core.proofs.StoredLemmas.{none_not, place_is, place_there}
-use Rattle.foyer_core.proofs.GivingBack.{named_there, named_id, took_stored, took_kept, took_gives, released_kept, released_gives, released_weight, released_entries}
+use Rattle.foyer_core.proofs.GivingBack.{
+  named_there,
+  named_id,
+  took_stored,
+  took_kept,
+  took_gives,
+  released_kept,
+  released_gives,
+  released_weight,
+  released_entries,
+}
 use Rattle.foyer_core.proofs.store.Store.give_back.Goals as goal
 
 pub unreachable-requires : goal.unreachable-requires
@@ -17,14 +27,17 @@ unreachable-requires g c =
 pub invariant_of-self : goal.invariant_of-self
 invariant_of-self g c =
     let s = c.args.self.now in
+    let lawful = g.met.E.Eviction.lawful in
+    let laws = g.met.K.Eq.laws in
     let m = meaning_of s in
     let x = c.in-Some-get.found.now in
     let there : slot_in s.records c.in-Some.slot ≡ Some x = sym (rw c.in-Some-get.is at c.get.ensures) in
     let t = c.take_handle.new.self in
     let write = c.take_handle.ensures.slots x there in
     record {
-      kept = took_kept m g.met.K.Eq.laws g.met.E.Eviction.lawful (holding s) c.in-Some.slot x there t write c.take_handle.ensures.ids (omega (arith, c.handles-handles.ensures, c.if-handles-gt1.true));
-      stored = took_stored m g.met.K.Eq.laws g.met.E.Eviction.lawful (holding s) c.in-Some.slot x there t write c.take_handle.ensures.ids (g.E.Eviction.at s.eviction) (λ p. refl);
+      kept = took_kept m laws lawful (holding s) c.in-Some.slot x there t write c.take_handle.ensures.ids
+          (omega (arith, c.handles-handles.ensures, c.if-handles-gt1.true));
+      stored = took_stored m laws lawful (holding s) c.in-Some.slot x there t write c.take_handle.ensures.ids (g.E.Eviction.at s.eviction) (λ p. refl);
       weighed = s.weighed;
       counted = s.counted;
       numbered = s.numbered;
@@ -40,7 +53,9 @@ returns-then-handles-gt1-clause-taken g c =
     let t = c.take_handle.new.self in
     let write = c.take_handle.ensures.slots x there in (
       omega (arith, c.number.ensures, c.if-number-self.false),
-      took_gives m g.met.K.Eq.laws g.met.E.Eviction.lawful (holding s) c.in-Some.slot x there t write c.take_handle.ensures.ids (omega (arith, c.handles-handles.ensures, c.if-handles-gt1.true)) c.args.entry.id named,
+      took_gives m g.met.K.Eq.laws g.met.E.Eviction.lawful (holding s) c.in-Some.slot x there t write
+          c.take_handle.ensures.ids (omega (arith, c.handles-handles.ensures, c.if-handles-gt1.true)) c.args.entry.id
+          named,
     )
 
 pub returns-then-not-is_resident-clause-taken : goal.returns-then-not-is_resident-clause-taken
@@ -50,7 +65,8 @@ returns-then-not-is_resident-clause-taken g c =
     let x = c.in-Some-get.found.now in
     let there : slot_in s.records c.in-Some.slot ≡ Some x = sym (rw c.in-Some-get.is at c.get.ensures) in (
       omega (arith, c.number.ensures, c.if-number-self.false),
-      subst (λ (id : ℕ). GivesBack (meaning_of s) (state_of s) id c.forget.result (state_of c.forget.new.self)) (named_id s.records c.args.entry.id c.in-Some.slot named x there) (c.forget.ensures x there),
+      subst (λ (id : ℕ). GivesBack (meaning_of s) (state_of s) id c.forget.result (state_of c.forget.new.self))
+          (named_id s.records c.args.entry.id c.in-Some.slot named x there) (c.forget.ensures x there),
     )
 
 pub unreachable-requires-in_default-place : goal.unreachable-requires-in_default-place
@@ -59,7 +75,8 @@ unreachable-requires-in_default-place g c =
     let x = c.in-Some-get.found.now in
     let there : slot_in s.records c.in-Some.slot ≡ Some x = sym (rw c.in-Some-get.is at c.get.ensures) in
     let res : x.resident ≡ true = sym c.is_resident.ensures ∙ c.if-not-is_resident.false in
-    none_not x.place (place_is (meaning_of s) (g.E.Eviction.at s.eviction) (g.I.Indexer.view s.index) s.records s.stored c.in-Some.slot x there res) (sym c.place.ensures ∙ c.in_default-place.is)
+    none_not x.place (place_is (meaning_of s) (g.E.Eviction.at s.eviction) (g.I.Finder.view s.index) s.records
+    s.stored c.in-Some.slot x there res) (sym c.place.ensures ∙ c.in_default-place.is)
 
 pub release-requires-after_bounds : goal.release-requires-after_bounds
 release-requires-after_bounds g c κs within =
@@ -67,27 +84,32 @@ release-requires-after_bounds g c κs within =
     let x = c.in-Some-get.found.now in
     let there : slot_in s.records c.in-Some.slot ≡ Some x = sym (rw c.in-Some-get.is at c.get.ensures) in
     let res : x.resident ≡ true = sym c.is_resident.ensures ∙ c.if-not-is_resident.false in
-    let at = place_there (meaning_of s) (g.E.Eviction.at s.eviction) (g.I.Indexer.view s.index) s.records s.stored c.in-Some.slot x c.in-Some-place.place there res (sym c.place.ensures ∙ c.in-Some-place.is) in
+    let at = place_there (meaning_of s) (g.E.Eviction.at s.eviction) (g.I.Finder.view s.index) s.records s.stored
+    c.in-Some.slot x c.in-Some-place.place there res (sym c.place.ensures ∙ c.in-Some-place.is) in
     rw at (search rules)
 
 pub invariant_of-self-2 : goal.invariant_of-self-2
 invariant_of-self-2 g c =
     let s = c.args.self.now in
+    let lawful = g.met.E.Eviction.lawful in
+    let laws = g.met.K.Eq.laws in
     let m = meaning_of s in
     let x = c.in-Some-get.found.now in
     let there : slot_in s.records c.in-Some.slot ≡ Some x = sym (rw c.in-Some-get.is at c.get.ensures) in
     let res : x.resident ≡ true = sym c.is_resident.ensures ∙ c.if-not-is_resident.false in
     let one : x.handles ≡ 1 = omega (arith, c.handles-handles.ensures, c.if-handles-eq0.false, c.if-handles-gt1.false) in
-    let at = place_there m (g.E.Eviction.at s.eviction) (g.I.Indexer.view s.index) s.records s.stored c.in-Some.slot x c.in-Some-place.place there res (sym c.place.ensures ∙ c.in-Some-place.is) in
+    let at = place_there m (g.E.Eviction.at s.eviction) (g.I.Finder.view s.index) s.records s.stored c.in-Some.slot x
+    c.in-Some-place.place there res (sym c.place.ensures ∙ c.in-Some-place.is) in
     let view = g.E.Eviction.view c.release.new.self in
     let viewed : view ≡ m.policy.release (g.E.Eviction.view s.eviction) x.id = rw at at c.release.ensures.view in
     let t = c.take_handle-2.new.self in
     let write = c.take_handle-2.ensures.slots x there in
     record {
-      kept = released_kept m g.met.K.Eq.laws g.met.E.Eviction.lawful (holding s) c.in-Some.slot x there t write c.take_handle-2.ensures.ids one res view viewed;
-      stored = took_stored m g.met.K.Eq.laws g.met.E.Eviction.lawful (holding s) c.in-Some.slot x there t write c.take_handle-2.ensures.ids (g.E.Eviction.at c.release.new.self) c.release.ensures.places;
-      weighed = released_weight m g.met.K.Eq.laws g.met.E.Eviction.lawful (holding s) c.in-Some.slot x there t write c.take_handle-2.ensures.ids one res view viewed s.usage s.weighed;
-      counted = released_entries m g.met.K.Eq.laws g.met.E.Eviction.lawful (holding s) c.in-Some.slot x there t write c.take_handle-2.ensures.ids one res view viewed s.entries s.counted;
+      kept = released_kept m laws lawful (holding s) c.in-Some.slot x there t write c.take_handle-2.ensures.ids one res view viewed;
+      stored = took_stored m laws lawful (holding s) c.in-Some.slot x there t write c.take_handle-2.ensures.ids
+          (g.E.Eviction.at c.release.new.self) c.release.ensures.places;
+      weighed = released_weight m laws lawful (holding s) c.in-Some.slot x there t write c.take_handle-2.ensures.ids one res view viewed s.usage s.weighed;
+      counted = released_entries m laws lawful (holding s) c.in-Some.slot x there t write c.take_handle-2.ensures.ids one res view viewed s.entries s.counted;
       numbered = s.numbered;
     }
 
@@ -100,11 +122,13 @@ returns-clause-taken g c =
     let there : slot_in s.records c.in-Some.slot ≡ Some x = sym (rw c.in-Some-get.is at c.get.ensures) in
     let res : x.resident ≡ true = sym c.is_resident.ensures ∙ c.if-not-is_resident.false in
     let one : x.handles ≡ 1 = omega (arith, c.handles-handles.ensures, c.if-handles-eq0.false, c.if-handles-gt1.false) in
-    let at = place_there m (g.E.Eviction.at s.eviction) (g.I.Indexer.view s.index) s.records s.stored c.in-Some.slot x c.in-Some-place.place there res (sym c.place.ensures ∙ c.in-Some-place.is) in
+    let at = place_there m (g.E.Eviction.at s.eviction) (g.I.Finder.view s.index) s.records s.stored c.in-Some.slot x
+    c.in-Some-place.place there res (sym c.place.ensures ∙ c.in-Some-place.is) in
     let view = g.E.Eviction.view c.release.new.self in
     let viewed : view ≡ m.policy.release (g.E.Eviction.view s.eviction) x.id = rw at at c.release.ensures.view in
     let t = c.take_handle-2.new.self in
     let write = c.take_handle-2.ensures.slots x there in (
       omega (arith, c.number.ensures, c.if-number-self.false),
-      released_gives m g.met.K.Eq.laws g.met.E.Eviction.lawful (holding s) c.in-Some.slot x there t write c.take_handle-2.ensures.ids one res view viewed c.args.entry.id named,
+      released_gives m g.met.K.Eq.laws g.met.E.Eviction.lawful (holding s) c.in-Some.slot x there t write
+          c.take_handle-2.ensures.ids one res view viewed c.args.entry.id named,
     )

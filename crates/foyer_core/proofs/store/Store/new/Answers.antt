@@ -7,7 +7,7 @@ pub invariant_of-result : goal.invariant_of-result
 invariant_of-result g c =
     let m = meaning g.K.PartialEq.eq g.E.Eviction.model g.P.Properties.hint_of g.P.Properties.phantom_of in
     let s = c.in_ok-eviction.eviction in
-    let keys = g.I.Indexer.view c.args.index in
+    let keys = g.I.Finder.view c.args.index in
     let t = c.new-2.result in
     let sound = c.in_ok-eviction.ensures.accepted in
     record {

@@ -10,41 +10,53 @@ use Rattle.foyer_core.proofs.store.Store.own_pinned.Goals as goal
 pub unreachable-requires : goal.unreachable-requires
 unreachable-requires g c =
     let s = c.args.self.now in
-    let none : slot_in s.records c.in-Some.number ≡ None = sym (rw c.in_default-get.is at c.get-2.ensures) in
-    none_not (slot_in s.records c.in-Some.number) (s.stored.led (c.args.hash, c.args.key.now) c.in-Some.number (sym c.get.ensures ∙ c.in-Some.is)) none
+    let none : slot_in s.records c.in-Some.slot ≡ None = sym (rw c.in_default-get.is at c.get.ensures) in
+    none_not (slot_in s.records c.in-Some.slot) (s.stored.led (c.args.hash, c.args.key.now) c.in-Some.slot (sym c.slot_under.ensures ∙ c.in-Some.is)) none
 
 pub unreachable-requires-in_default-place : goal.unreachable-requires-in_default-place
 unreachable-requires-in_default-place g c =
     let s = c.args.self.now in
     let x = c.in-Some-get.found.now in
-    let there : slot_in s.records c.in-Some.number ≡ Some x = sym (rw c.in-Some-get.is at c.get-2.ensures) in
-    let res = resident (meaning_of s) g.met.K.Eq.laws g.met.E.Eviction.lawful (holding s) (c.args.hash, c.args.key.now) c.in-Some.number (sym c.get.ensures ∙ c.in-Some.is) x there in
-    none_not x.place (place_is (meaning_of s) (g.E.Eviction.at s.eviction) (g.I.Indexer.view s.index) s.records s.stored c.in-Some.number x there res) (sym c.place.ensures ∙ c.in_default-place.is)
+    let there : slot_in s.records c.in-Some.slot ≡ Some x = sym (rw c.in-Some-get.is at c.get.ensures) in
+    let res = resident (meaning_of s) g.met.K.Eq.laws g.met.E.Eviction.lawful (holding s)
+    (c.args.hash, c.args.key.now) c.in-Some.slot (sym c.slot_under.ensures ∙ c.in-Some.is) x there in
+    none_not x.place (place_is (meaning_of s) (g.E.Eviction.at s.eviction) (g.I.Finder.view s.index) s.records
+    s.stored c.in-Some.slot x there res) (sym c.place.ensures ∙ c.in_default-place.is)
 
 pub is_pinned-pinned-requires-after_bounds : goal.is_pinned-pinned-requires-after_bounds
 is_pinned-pinned-requires-after_bounds g c κs within =
     let s = c.args.self.now in
     let x = c.in-Some-get.found.now in
-    let there : slot_in s.records c.in-Some.number ≡ Some x = sym (rw c.in-Some-get.is at c.get-2.ensures) in
-    let at = placed (meaning_of s) g.met.K.Eq.laws g.met.E.Eviction.lawful (holding s) (c.args.hash, c.args.key.now) c.in-Some.number (sym c.get.ensures ∙ c.in-Some.is) x there c.in-Some-place.place (sym c.place.ensures ∙ c.in-Some-place.is) in
+    let there : slot_in s.records c.in-Some.slot ≡ Some x = sym (rw c.in-Some-get.is at c.get.ensures) in
+    let at = placed (meaning_of s) g.met.K.Eq.laws g.met.E.Eviction.lawful (holding s) (c.args.hash, c.args.key.now)
+    c.in-Some.slot (sym c.slot_under.ensures ∙ c.in-Some.is) x there c.in-Some-place.place
+    (sym c.place.ensures ∙ c.in-Some-place.is) in
     rw at (search rules)
 
 pub returns-then-pinned : goal.returns-then-pinned
 returns-then-pinned g c =
     let s = c.args.self.now in
+    let lawful = g.met.E.Eviction.lawful in
+    let laws = g.met.K.Eq.laws in
     let x = c.in-Some-get.found.now in
-    let there : slot_in s.records c.in-Some.number ≡ Some x = sym (rw c.in-Some-get.is at c.get-2.ensures) in
-    let led = sym c.get.ensures ∙ c.in-Some.is in
-    let at = placed (meaning_of s) g.met.K.Eq.laws g.met.E.Eviction.lawful (holding s) (c.args.hash, c.args.key.now) c.in-Some.number led x there c.in-Some-place.place (sym c.place.ensures ∙ c.in-Some-place.is) in
+    let there : slot_in s.records c.in-Some.slot ≡ Some x = sym (rw c.in-Some-get.is at c.get.ensures) in
+    let led = sym c.slot_under.ensures ∙ c.in-Some.is in
+    let at = placed (meaning_of s) laws lawful (holding s) (c.args.hash, c.args.key.now) c.in-Some.slot led x there
+    c.in-Some-place.place (sym c.place.ensures ∙ c.in-Some-place.is) in
     let tells = rw at at c.is_pinned-pinned.ensures in
-    rw c.weight.ensures (own_pinned_weight (meaning_of s) g.met.K.Eq.laws g.met.E.Eviction.lawful (holding s) (c.args.hash, c.args.key.now) c.in-Some.number led x there (tells.0 c.if-pinned.true))
+    rw c.weight.ensures (own_pinned_weight (meaning_of s) laws lawful (holding s) (c.args.hash, c.args.key.now)
+    c.in-Some.slot led x there (tells.0 c.if-pinned.true))
 
 pub returns-else-pinned : goal.returns-else-pinned
 returns-else-pinned g c =
     let s = c.args.self.now in
+    let lawful = g.met.E.Eviction.lawful in
+    let laws = g.met.K.Eq.laws in
     let x = c.in-Some-get.found.now in
-    let there : slot_in s.records c.in-Some.number ≡ Some x = sym (rw c.in-Some-get.is at c.get-2.ensures) in
-    let led = sym c.get.ensures ∙ c.in-Some.is in
-    let at = placed (meaning_of s) g.met.K.Eq.laws g.met.E.Eviction.lawful (holding s) (c.args.hash, c.args.key.now) c.in-Some.number led x there c.in-Some-place.place (sym c.place.ensures ∙ c.in-Some-place.is) in
+    let there : slot_in s.records c.in-Some.slot ≡ Some x = sym (rw c.in-Some-get.is at c.get.ensures) in
+    let led = sym c.slot_under.ensures ∙ c.in-Some.is in
+    let at = placed (meaning_of s) laws lawful (holding s) (c.args.hash, c.args.key.now) c.in-Some.slot led x there
+    c.in-Some-place.place (sym c.place.ensures ∙ c.in-Some-place.is) in
     let tells = rw at at c.is_pinned-pinned.ensures in
-    own_free_weight (meaning_of s) g.met.K.Eq.laws g.met.E.Eviction.lawful (holding s) (c.args.hash, c.args.key.now) c.in-Some.number led x there (λ pos. absurd (let yes = tells.1 pos in cc))
+    own_free_weight (meaning_of s) laws lawful (holding s) (c.args.hash, c.args.key.now) c.in-Some.slot led x there
+    (λ pos. absurd (let yes = tells.1 pos in cc))

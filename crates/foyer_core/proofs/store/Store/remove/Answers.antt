@@ -16,21 +16,23 @@ use Rattle.foyer_core.proofs.store.Store.remove.Goals as goal
 pub unreachable-requires : goal.unreachable-requires
 unreachable-requires g c =
     let s = c.args.self.now in
-    let none : slot_in s.records c.in-Some.number ≡ None = sym (rw c.in_default-get.is at c.get-2.ensures) in
-    none_not (slot_in s.records c.in-Some.number) (s.stored.led (c.args.hash, c.args.key.now) c.in-Some.number (sym c.get.ensures ∙ c.in-Some.is)) none
+    let none : slot_in s.records c.in-Some.slot ≡ None = sym (rw c.in_default-get.is at c.get.ensures) in
+    none_not (slot_in s.records c.in-Some.slot) (s.stored.led (c.args.hash, c.args.key.now) c.in-Some.slot (sym c.slot_under.ensures ∙ c.in-Some.is)) none
 
 pub returns-then-handles-self : goal.returns-then-handles-self
 returns-then-handles-self g c =
     let s = c.args.self.now in
+    let lawful = g.met.E.Eviction.lawful in
+    let laws = g.met.K.Eq.laws in
     let k : ℕ × g.row.K.Denot = (c.args.hash, c.args.key.now) in
     let x = c.in-Some-get.found.now in
-    let there : slot_in s.records c.in-Some.number ≡ Some x = sym (rw c.in-Some-get.is at c.get-2.ensures) in
-    let led = sym c.get.ensures ∙ c.in-Some.is in
+    let there : slot_in s.records c.in-Some.slot ≡ Some x = sym (rw c.in-Some-get.is at c.get.ensures) in
+    let led = sym c.slot_under.ensures ∙ c.in-Some.is in
     rw c.new.ensures record {
       removes = (
         x.id,
-        hits (meaning_of s) g.met.K.Eq.laws g.met.E.Eviction.lawful (holding s) k c.in-Some.number led x there,
-        (rec_of x, found (meaning_of s) g.met.K.Eq.laws g.met.E.Eviction.lawful (holding s) k c.in-Some.number led x there, omega (arith, c.handles.ensures, c.if-handles-self.true), refl),
+        hits (meaning_of s) laws lawful (holding s) k c.in-Some.slot led x there,
+        (rec_of x, found (meaning_of s) laws lawful (holding s) k c.in-Some.slot led x there, omega (arith, c.handles.ensures, c.if-handles-self.true), refl),
       );
     }
 
@@ -39,23 +41,32 @@ unreachable-requires-in_default-place g c =
     let s = c.args.self.now in
     let k : ℕ × g.row.K.Denot = (c.args.hash, c.args.key.now) in
     let x = c.in-Some-get.found.now in
-    let there : slot_in s.records c.in-Some.number ≡ Some x = sym (rw c.in-Some-get.is at c.get-2.ensures) in
-    let res = resident (meaning_of s) g.met.K.Eq.laws g.met.E.Eviction.lawful (holding s) k c.in-Some.number (sym c.get.ensures ∙ c.in-Some.is) x there in
-    none_not x.place (place_is (meaning_of s) (g.E.Eviction.at s.eviction) (g.I.Indexer.view s.index) s.records s.stored c.in-Some.number x there res) (sym c.place.ensures ∙ c.in_default-place.is)
+    let there : slot_in s.records c.in-Some.slot ≡ Some x = sym (rw c.in-Some-get.is at c.get.ensures) in
+    let res = resident (meaning_of s) g.met.K.Eq.laws g.met.E.Eviction.lawful (holding s) k c.in-Some.slot (sym c.slot_under.ensures ∙ c.in-Some.is) x there in
+    none_not x.place (place_is (meaning_of s) (g.E.Eviction.at s.eviction) (g.I.Finder.view s.index) s.records
+    s.stored c.in-Some.slot x there res) (sym c.place.ensures ∙ c.in_default-place.is)
 
 pub returns-in_err-entry : goal.returns-in_err-entry
 returns-in_err-entry g c =
     let s = c.args.self.now in
+    let lawful = g.met.E.Eviction.lawful in
+    let laws = g.met.K.Eq.laws in
     let k : ℕ × g.row.K.Denot = (c.args.hash, c.args.key.now) in
     let x = c.in-Some-get.found.now in
-    let there : slot_in s.records c.in-Some.number ≡ Some x = sym (rw c.in-Some-get.is at c.get-2.ensures) in
-    let led = sym c.get.ensures ∙ c.in-Some.is in
+    let there : slot_in s.records c.in-Some.slot ≡ Some x = sym (rw c.in-Some-get.is at c.get.ensures) in
+    let led = sym c.slot_under.ensures ∙ c.in-Some.is in
     record {
       removes = err_is c.from_residual.result c.in_err-entry.field-0.0 (λ r. Removes (meaning_of s) (state_of s) k r (state_of s)) c.from_residual.ensures.1
           (rw c.in_err-entry.ensures.refused (
             x.id,
-            hits (meaning_of s) g.met.K.Eq.laws g.met.E.Eviction.lawful (holding s) k c.in-Some.number led x there,
-            (rec_of x, found (meaning_of s) g.met.K.Eq.laws g.met.E.Eviction.lawful (holding s) k c.in-Some.number led x there, omega (arith, c.handles.ensures, c.if-handles-self.false), refl),
+            hits (meaning_of s) laws lawful (holding s) k c.in-Some.slot led x there,
+            (
+              rec_of x,
+              found (meaning_of s) laws lawful (holding s) k c.in-Some.slot led x there,
+              omega
+                  (arith, c.handles.ensures, c.if-handles-self.false),
+              refl,
+            ),
           ));
     }
 
@@ -64,73 +75,92 @@ remove-item-requires-after_bounds g c κs within =
     let s = c.args.self.now in
     let k : ℕ × g.row.K.Denot = (c.args.hash, c.args.key.now) in
     let x = c.in-Some-get.found.now in
-    let there : slot_in s.records c.in-Some.number ≡ Some x = sym (rw c.in-Some-get.is at c.get-2.ensures) in
-    let at = placed (meaning_of s) g.met.K.Eq.laws g.met.E.Eviction.lawful (holding s) k c.in-Some.number (sym c.get.ensures ∙ c.in-Some.is) x there c.in-Some-place.place (sym c.place.ensures ∙ c.in-Some-place.is) in
+    let there : slot_in s.records c.in-Some.slot ≡ Some x = sym (rw c.in-Some-get.is at c.get.ensures) in
+    let at = placed (meaning_of s) g.met.K.Eq.laws g.met.E.Eviction.lawful (holding s) k c.in-Some.slot
+    (sym c.slot_under.ensures ∙ c.in-Some.is) x there c.in-Some-place.place
+    (sym c.place.ensures ∙ c.in-Some-place.is) in
     rw at (search rules)
 
 pub overflow_sub-self : goal.overflow_sub-self
 overflow_sub-self g c =
     let s = c.args.self.now in
+    let lawful = g.met.E.Eviction.lawful in
+    let laws = g.met.K.Eq.laws in
     let k : ℕ × g.row.K.Denot = (c.args.hash, c.args.key.now) in
     let x = c.in-Some-get.found.now in
-    let there : slot_in s.records c.in-Some.number ≡ Some x = sym (rw c.in-Some-get.is at c.get-2.ensures) in
-    let led = sym c.get.ensures ∙ c.in-Some.is in
-    let at = placed (meaning_of s) g.met.K.Eq.laws g.met.E.Eviction.lawful (holding s) k c.in-Some.number led x there c.in-Some-place.place (sym c.place.ensures ∙ c.in-Some-place.is) in
+    let there : slot_in s.records c.in-Some.slot ≡ Some x = sym (rw c.in-Some-get.is at c.get.ensures) in
+    let led = sym c.slot_under.ensures ∙ c.in-Some.is in
+    let at = placed (meaning_of s) laws lawful (holding s) k c.in-Some.slot led x there c.in-Some-place.place (sym c.place.ensures ∙ c.in-Some-place.is) in
     let item = some_item (sym c.remove-item.ensures.item ∙ at) in
-    rw item (removed_lighter (meaning_of s) g.met.K.Eq.laws g.met.E.Eviction.lawful (holding s) k c.in-Some.number led x there s.usage s.weighed)
+    rw item (removed_lighter (meaning_of s) laws lawful (holding s) k c.in-Some.slot led x there s.usage s.weighed)
 
 pub leave-requires : goal.leave-requires
 leave-requires g c =
     let s = c.args.self.now in
     let k : ℕ × g.row.K.Denot = (c.args.hash, c.args.key.now) in
     let x = c.in-Some-get.found.now in
-    let there : slot_in s.records c.in-Some.number ≡ Some x = sym (rw c.in-Some-get.is at c.get-2.ensures) in
-    let res = resident (meaning_of s) g.met.K.Eq.laws g.met.E.Eviction.lawful (holding s) k c.in-Some.number (sym c.get.ensures ∙ c.in-Some.is) x there in
-    let there1 = more_there s.records c.add_handle.new.self c.in-Some.number x (c.add_handle.ensures.slots x there) in
+    let there : slot_in s.records c.in-Some.slot ≡ Some x = sym (rw c.in-Some-get.is at c.get.ensures) in
+    let res = resident (meaning_of s) g.met.K.Eq.laws g.met.E.Eviction.lawful (holding s) k c.in-Some.slot (sym c.slot_under.ensures ∙ c.in-Some.is) x there in
+    let there1 = more_there s.records c.add_handle.new.self c.in-Some.slot x (c.add_handle.ensures.slots x there) in
     subst (λ (o : Option (Kept g.row.K.Denot g.row.V.Denot g.row.P.Denot)). IsSomeAnd o (λ y. y.resident ≡ true)) (sym there1) res
 
 pub invariant_of-self : goal.invariant_of-self
 invariant_of-self g c =
     let s = c.args.self.now in
+    let lawful = g.met.E.Eviction.lawful in
+    let laws = g.met.K.Eq.laws in
     let m = meaning_of s in
     let k : ℕ × g.row.K.Denot = (c.args.hash, c.args.key.now) in
     let x = c.in-Some-get.found.now in
-    let there : slot_in s.records c.in-Some.number ≡ Some x = sym (rw c.in-Some-get.is at c.get-2.ensures) in
-    let led = sym c.get.ensures ∙ c.in-Some.is in
-    let at = placed m g.met.K.Eq.laws g.met.E.Eviction.lawful (holding s) k c.in-Some.number led x there c.in-Some-place.place (sym c.place.ensures ∙ c.in-Some-place.is) in
+    let there : slot_in s.records c.in-Some.slot ≡ Some x = sym (rw c.in-Some-get.is at c.get.ensures) in
+    let led = sym c.slot_under.ensures ∙ c.in-Some.is in
+    let at = placed m laws lawful (holding s) k c.in-Some.slot led x there c.in-Some-place.place (sym c.place.ensures ∙ c.in-Some-place.is) in
     let item = some_item (sym c.remove-item.ensures.item ∙ at) in
     let view = g.E.Eviction.view c.remove-item.new.self in
-    let viewed : view ≡ m.policy.remove (g.E.Eviction.view s.eviction) x.id = c.remove-item.ensures.view ∙ ap (λ (i : Item). m.policy.remove (g.E.Eviction.view s.eviction) i.id) item in
+    let viewed : view ≡ m.policy.remove (g.E.Eviction.view s.eviction) x.id = c.remove-item.ensures.view ∙ ap
+    (λ (i : Item). m.policy.remove (g.E.Eviction.view s.eviction) i.id) item in
     let places : (p : ℕ) → g.E.Eviction.at c.remove-item.new.self p ≡ without x.id (g.E.Eviction.at s.eviction p) =
     λ p. c.remove-item.ensures.places p ∙ ap (λ (i : Item). without i.id (g.E.Eviction.at s.eviction p)) item in
     let write1 = c.add_handle.ensures.slots x there in
-    let there1 = more_there s.records c.add_handle.new.self c.in-Some.number x write1 in
+    let there1 = more_there s.records c.add_handle.new.self c.in-Some.slot x write1 in
     let room : x.handles < s.limits.handles = omega (arith, c.handles.ensures, c.if-handles-self.false) in
     record {
-      kept = removed_kept m g.met.K.Eq.laws g.met.E.Eviction.lawful (holding s) k c.in-Some.number led x there room c.add_handle.new.self c.leave.new.self write1 c.add_handle.ensures.ids (c.leave.ensures.slots _ there1) (c.leave.ensures.records _ there1) (g.I.Indexer.view c.remove.new.self) c.remove.ensures.view (g.E.Eviction.at c.remove-item.new.self) places view viewed;
-      stored = removed_stored m g.met.K.Eq.laws g.met.E.Eviction.lawful (holding s) k c.in-Some.number led x there room c.add_handle.new.self c.leave.new.self write1 c.add_handle.ensures.ids (c.leave.ensures.slots _ there1) (c.leave.ensures.records _ there1) (g.I.Indexer.view c.remove.new.self) c.remove.ensures.view (g.E.Eviction.at c.remove-item.new.self) places view viewed;
-      weighed = rw (item, viewed) (removed_usage m g.met.K.Eq.laws g.met.E.Eviction.lawful (holding s) k c.in-Some.number led x there s.usage s.weighed);
-      counted = rw viewed (removed_entries m g.met.K.Eq.laws g.met.E.Eviction.lawful (holding s) k c.in-Some.number led x there s.entries s.counted);
+      kept = removed_kept m laws lawful (holding s) k c.in-Some.slot led x there room c.add_handle.new.self
+          c.leave.new.self write1 c.add_handle.ensures.ids (c.leave.ensures.slots _ there1)
+          (c.leave.ensures.records _ there1) (g.I.Finder.view c.take.new.self) c.take.ensures
+          (g.E.Eviction.at c.remove-item.new.self) places view viewed;
+      stored = removed_stored m laws lawful (holding s) k c.in-Some.slot led x there room c.add_handle.new.self
+          c.leave.new.self write1 c.add_handle.ensures.ids (c.leave.ensures.slots _ there1)
+          (c.leave.ensures.records _ there1) (g.I.Finder.view c.take.new.self) c.take.ensures
+          (g.E.Eviction.at c.remove-item.new.self) places view viewed;
+      weighed = rw (item, viewed) (removed_usage m laws lawful (holding s) k c.in-Some.slot led x there s.usage s.weighed);
+      counted = rw viewed (removed_entries m laws lawful (holding s) k c.in-Some.slot led x there s.entries s.counted);
       numbered = omega (arith, s.numbered);
     }
 
 pub returns : goal.returns
 returns g c =
     let s = c.args.self.now in
+    let lawful = g.met.E.Eviction.lawful in
+    let laws = g.met.K.Eq.laws in
     let m = meaning_of s in
     let k : ℕ × g.row.K.Denot = (c.args.hash, c.args.key.now) in
     let x = c.in-Some-get.found.now in
-    let there : slot_in s.records c.in-Some.number ≡ Some x = sym (rw c.in-Some-get.is at c.get-2.ensures) in
-    let led = sym c.get.ensures ∙ c.in-Some.is in
-    let at = placed m g.met.K.Eq.laws g.met.E.Eviction.lawful (holding s) k c.in-Some.number led x there c.in-Some-place.place (sym c.place.ensures ∙ c.in-Some-place.is) in
+    let there : slot_in s.records c.in-Some.slot ≡ Some x = sym (rw c.in-Some-get.is at c.get.ensures) in
+    let led = sym c.slot_under.ensures ∙ c.in-Some.is in
+    let at = placed m laws lawful (holding s) k c.in-Some.slot led x there c.in-Some-place.place (sym c.place.ensures ∙ c.in-Some-place.is) in
     let item = some_item (sym c.remove-item.ensures.item ∙ at) in
     let view = g.E.Eviction.view c.remove-item.new.self in
-    let viewed : view ≡ m.policy.remove (g.E.Eviction.view s.eviction) x.id = c.remove-item.ensures.view ∙ ap (λ (i : Item). m.policy.remove (g.E.Eviction.view s.eviction) i.id) item in
+    let viewed : view ≡ m.policy.remove (g.E.Eviction.view s.eviction) x.id = c.remove-item.ensures.view ∙ ap
+    (λ (i : Item). m.policy.remove (g.E.Eviction.view s.eviction) i.id) item in
     let places : (p : ℕ) → g.E.Eviction.at c.remove-item.new.self p ≡ without x.id (g.E.Eviction.at s.eviction p) =
     λ p. c.remove-item.ensures.places p ∙ ap (λ (i : Item). without i.id (g.E.Eviction.at s.eviction p)) item in
     let write1 = c.add_handle.ensures.slots x there in
-    let there1 = more_there s.records c.add_handle.new.self c.in-Some.number x write1 in
+    let there1 = more_there s.records c.add_handle.new.self c.in-Some.slot x write1 in
     let room : x.handles < s.limits.handles = omega (arith, c.handles.ensures, c.if-handles-self.false) in
     rw (c.in_ok-entry.ensures.entry, c.leave.ensures.left _ there1) record {
-      removes = removes m g.met.K.Eq.laws g.met.E.Eviction.lawful (holding s) k c.in-Some.number led x there room c.add_handle.new.self c.leave.new.self write1 c.add_handle.ensures.ids (c.leave.ensures.slots _ there1) (c.leave.ensures.records _ there1) (g.I.Indexer.view c.remove.new.self) c.remove.ensures.view (g.E.Eviction.at c.remove-item.new.self) places view viewed;
+      removes = removes m laws lawful (holding s) k c.in-Some.slot led x there room c.add_handle.new.self
+          c.leave.new.self write1 c.add_handle.ensures.ids (c.leave.ensures.slots _ there1)
+          (c.leave.ensures.records _ there1) (g.I.Finder.view c.take.new.self) c.take.ensures
+          (g.E.Eviction.at c.remove-item.new.self) places view viewed;
     }

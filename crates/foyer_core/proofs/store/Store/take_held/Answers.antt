@@ -16,7 +16,8 @@ returns-then-is_resident-clause-returned g c y is piece named =
     let m = meaning_of s in
     let x = c.in-Some.found.now in
     let there : slot_in s.records c.args.slot ≡ Some x = sym (rw c.in-Some.is at c.get.ensures) in
-    let rec : (state_of s).records x.id ≡ Some (rec_of x) = slot_record m (g.E.Eviction.at s.eviction) (g.I.Indexer.view s.index) s.records c.args.slot x there in
+    let rec : (state_of s).records x.id ≡ Some (rec_of x) = slot_record m (g.E.Eviction.at s.eviction)
+    (g.I.Finder.view s.index) s.records c.args.slot x there in
     let res : x.resident ≡ true = sym c.is_resident.ensures ∙ c.if-is_resident.true in
     let new = state_of c.hand_out.new.self in
     let same : x ≡ y = one x y (sym there ∙ is) in
@@ -32,7 +33,8 @@ returns-clause-returned g c y is piece named =
     let m = meaning_of s in
     let x = c.in-Some.found.now in
     let there : slot_in s.records c.args.slot ≡ Some x = sym (rw c.in-Some.is at c.get.ensures) in
-    let rec : (state_of s).records x.id ≡ Some (rec_of x) = slot_record m (g.E.Eviction.at s.eviction) (g.I.Indexer.view s.index) s.records c.args.slot x there in
+    let rec : (state_of s).records x.id ≡ Some (rec_of x) = slot_record m (g.E.Eviction.at s.eviction)
+    (g.I.Finder.view s.index) s.records c.args.slot x there in
     let out : x.resident ≡ false = sym c.is_resident.ensures ∙ c.if-is_resident.false in
     let new = state_of c.come_again.new.self in
     let same : x ≡ y = one x y (sym there ∙ is) in
@@ -40,6 +42,10 @@ returns-clause-returned g c y is piece named =
     let make = λ (n : ℕ). (let i : Incoming g.row.K.Denot g.row.V.Denot g.row.P.Denot = record { id = x.id; kept = x.kept; handles = n } in i) in
     let count : x.handles + 1 + c.args.further.count ≡ x.handles + (1 + c.args.further.count) = omega arith in
     match_so c.come_again.result
-    (λ made h. out_returns m (state_of s) x rec piece named' (1 + c.args.further.count) out made.leaves.items made.entry new (subst (λ (n : ℕ). Inserts m Memory (state_of s) (make n) made.leaves.items made.entry new) count h))
-    (λ refused h. out_refuses m (state_of s) x rec piece named' (1 + c.args.further.count) out refused.error refused.leaves.items new (subst (λ (n : ℕ). RefusesInsert m (state_of s) (make n) refused.error refused.leaves.items new) count h))
+    (λ made h. out_returns m (state_of s) x rec piece named' (1 + c.args.further.count) out made.leaves.items
+    made.entry new (subst (λ (n : ℕ). Inserts m Memory (state_of s) (make n) made.leaves.items made.entry new) count
+    h))
+    (λ refused h. out_refuses m (state_of s) x rec piece named' (1 + c.args.further.count) out refused.error
+    refused.leaves.items new (subst (λ (n : ℕ). RefusesInsert m (state_of s) (make n) refused.error
+    refused.leaves.items new) count h))
     (c.come_again.ensures.inserted x there)

@@ -18,7 +18,8 @@ pub unreachable-requires : goal.unreachable-requires
 unreachable-requires g c =
     let s = c.args.self.now in
     let m = meaning_of s in
-    none_not (number_of s.records c.args.id) (out_known m g.met.K.Eq.laws g.met.E.Eviction.lawful (holding s) c.args.id c.requires) (sym c.find.ensures ∙ c.in_default.is)
+    none_not (number_of s.records c.args.id) (out_known m g.met.K.Eq.laws g.met.E.Eviction.lawful (holding s)
+    c.args.id c.requires) (sym c.find.ensures ∙ c.in_default.is)
 
 pub unreachable-requires-in_default-get : goal.unreachable-requires-in_default-get
 unreachable-requires-in_default-get g c =
@@ -31,92 +32,118 @@ unreachable-requires-in_default-get g c =
 pub unreachable-requires-in_default-place : goal.unreachable-requires-in_default-place
 unreachable-requires-in_default-place g c =
     let s = c.args.self.now in
+    let lawful = g.met.E.Eviction.lawful in
+    let laws = g.met.K.Eq.laws in
     let m = meaning_of s in
     let known : number_of s.records c.args.id ≡ Some c.in-Some.slot = sym c.find.ensures ∙ c.in-Some.is in
     let x = c.in-Some-get.found.now in
     let there : slot_in s.records c.in-Some.slot ≡ Some x = sym (rw c.in-Some-get.is at c.get.ensures) in
-    let led = out_led m g.met.K.Eq.laws g.met.E.Eviction.lawful (holding s) c.args.id c.requires c.in-Some.slot known x there in
-    let res = resident m g.met.K.Eq.laws g.met.E.Eviction.lawful (holding s) (key_of x.kept) c.in-Some.slot led x there in
-    none_not x.place (place_is m (g.E.Eviction.at s.eviction) (g.I.Indexer.view s.index) s.records s.stored c.in-Some.slot x there res) (sym c.place.ensures ∙ c.in_default-place.is)
+    let led = out_led m laws lawful (holding s) c.args.id c.requires c.in-Some.slot known x there in
+    let res = resident m laws lawful (holding s) (key_of x.kept) c.in-Some.slot led x there in
+    none_not x.place (place_is m (g.E.Eviction.at s.eviction) (g.I.Finder.view s.index) s.records s.stored
+    c.in-Some.slot x there res) (sym c.place.ensures ∙ c.in_default-place.is)
 
 pub remove-item-requires-after_bounds : goal.remove-item-requires-after_bounds
 remove-item-requires-after_bounds g c κs within =
     let s = c.args.self.now in
+    let lawful = g.met.E.Eviction.lawful in
+    let laws = g.met.K.Eq.laws in
     let m = meaning_of s in
     let known : number_of s.records c.args.id ≡ Some c.in-Some.slot = sym c.find.ensures ∙ c.in-Some.is in
     let x = c.in-Some-get.found.now in
     let there : slot_in s.records c.in-Some.slot ≡ Some x = sym (rw c.in-Some-get.is at c.get.ensures) in
-    let led = out_led m g.met.K.Eq.laws g.met.E.Eviction.lawful (holding s) c.args.id c.requires c.in-Some.slot known x there in
-    let at = placed m g.met.K.Eq.laws g.met.E.Eviction.lawful (holding s) (key_of x.kept) c.in-Some.slot led x there c.in-Some-place.place (sym c.place.ensures ∙ c.in-Some-place.is) in
+    let led = out_led m laws lawful (holding s) c.args.id c.requires c.in-Some.slot known x there in
+    let at = placed m laws lawful (holding s) (key_of x.kept) c.in-Some.slot led x there c.in-Some-place.place (sym c.place.ensures ∙ c.in-Some-place.is) in
     rw at (search rules)
 
 pub overflow_sub-self : goal.overflow_sub-self
 overflow_sub-self g c =
     let s = c.args.self.now in
+    let lawful = g.met.E.Eviction.lawful in
+    let laws = g.met.K.Eq.laws in
     let m = meaning_of s in
     let known : number_of s.records c.args.id ≡ Some c.in-Some.slot = sym c.find.ensures ∙ c.in-Some.is in
     let x = c.in-Some-get.found.now in
     let there : slot_in s.records c.in-Some.slot ≡ Some x = sym (rw c.in-Some-get.is at c.get.ensures) in
-    let led = out_led m g.met.K.Eq.laws g.met.E.Eviction.lawful (holding s) c.args.id c.requires c.in-Some.slot known x there in
-    let at = placed m g.met.K.Eq.laws g.met.E.Eviction.lawful (holding s) (key_of x.kept) c.in-Some.slot led x there c.in-Some-place.place (sym c.place.ensures ∙ c.in-Some-place.is) in
+    let led = out_led m laws lawful (holding s) c.args.id c.requires c.in-Some.slot known x there in
+    let at = placed m laws lawful (holding s) (key_of x.kept) c.in-Some.slot led x there c.in-Some-place.place (sym c.place.ensures ∙ c.in-Some-place.is) in
     let item = some_item (sym c.remove-item.ensures.item ∙ at) in
-    rw item (removed_lighter m g.met.K.Eq.laws g.met.E.Eviction.lawful (holding s) (key_of x.kept) c.in-Some.slot led x there s.usage s.weighed)
+    rw item (removed_lighter m laws lawful (holding s) (key_of x.kept) c.in-Some.slot led x there s.usage s.weighed)
 
 pub leave_slot-requires-after_bounds : goal.leave_slot-requires-after_bounds
 leave_slot-requires-after_bounds g c κs within =
     let s = c.args.self.now in
+    let lawful = g.met.E.Eviction.lawful in
+    let laws = g.met.K.Eq.laws in
     let m = meaning_of s in
     let known : number_of s.records c.args.id ≡ Some c.in-Some.slot = sym c.find.ensures ∙ c.in-Some.is in
     let x = c.in-Some-get.found.now in
     let there : slot_in s.records c.in-Some.slot ≡ Some x = sym (rw c.in-Some-get.is at c.get.ensures) in
-    let led = out_led m g.met.K.Eq.laws g.met.E.Eviction.lawful (holding s) c.args.id c.requires c.in-Some.slot known x there in
-    let res = resident m g.met.K.Eq.laws g.met.E.Eviction.lawful (holding s) (key_of x.kept) c.in-Some.slot led x there in
-    subst (λ (o : Option (Kept g.row.K.Denot g.row.V.Denot g.row.P.Denot)). IsSomeAnd o (λ y. y.resident ≡ true)) (sym there) res
+    let led = out_led m laws lawful (holding s) c.args.id c.requires c.in-Some.slot known x there in
+    let res = resident m laws lawful (holding s) (key_of x.kept) c.in-Some.slot led x there in
+    subst (λ (o : Option (Kept g.row.K.Denot g.row.V.Denot g.row.P.Denot)). IsSomeAnd o
+    (λ y. (y.resident ≡ true) × (g.I.Finder.view s.index (key_of y.kept) ≡ Some c.in-Some.slot))) (sym there)
+    (res, led)
 
 pub invariant_of-self : goal.invariant_of-self
 invariant_of-self g c =
     let s = c.args.self.now in
+    let lawful = g.met.E.Eviction.lawful in
+    let laws = g.met.K.Eq.laws in
     let m = meaning_of s in
     let known : number_of s.records c.args.id ≡ Some c.in-Some.slot = sym c.find.ensures ∙ c.in-Some.is in
     let x = c.in-Some-get.found.now in
     let there : slot_in s.records c.in-Some.slot ≡ Some x = sym (rw c.in-Some-get.is at c.get.ensures) in
-    let led = out_led m g.met.K.Eq.laws g.met.E.Eviction.lawful (holding s) c.args.id c.requires c.in-Some.slot known x there in
-    let at = placed m g.met.K.Eq.laws g.met.E.Eviction.lawful (holding s) (key_of x.kept) c.in-Some.slot led x there c.in-Some-place.place (sym c.place.ensures ∙ c.in-Some-place.is) in
+    let led = out_led m laws lawful (holding s) c.args.id c.requires c.in-Some.slot known x there in
+    let at = placed m laws lawful (holding s) (key_of x.kept) c.in-Some.slot led x there c.in-Some-place.place (sym c.place.ensures ∙ c.in-Some-place.is) in
     let item = some_item (sym c.remove-item.ensures.item ∙ at) in
-    let id = out_id m g.met.K.Eq.laws g.met.E.Eviction.lawful (holding s) c.args.id c.requires c.in-Some.slot known x there in
+    let id = out_id m laws lawful (holding s) c.args.id c.requires c.in-Some.slot known x there in
     let view = g.E.Eviction.view c.remove-item.new.self in
-    let viewed : view ≡ m.policy.remove (g.E.Eviction.view s.eviction) x.id = c.remove-item.ensures.view ∙ ap (λ (i : Item). m.policy.remove (g.E.Eviction.view s.eviction) i.id) item in
+    let viewed : view ≡ m.policy.remove (g.E.Eviction.view s.eviction) x.id = c.remove-item.ensures.view ∙ ap
+    (λ (i : Item). m.policy.remove (g.E.Eviction.view s.eviction) i.id) item in
     let viewed_id : view ≡ m.policy.remove (g.E.Eviction.view s.eviction) c.args.id = viewed ∙ ap (m.policy.remove (g.E.Eviction.view s.eviction)) id in
     let places : (p : ℕ) → g.E.Eviction.at c.remove-item.new.self p ≡ without x.id (g.E.Eviction.at s.eviction p) =
     λ p. c.remove-item.ensures.places p ∙ ap (λ (i : Item). without i.id (g.E.Eviction.at s.eviction p)) item in
     record {
-      kept = out_kept m g.met.K.Eq.laws g.met.E.Eviction.lawful (holding s) c.args.id c.requires c.in-Some.slot known x there c.leave_slot.new.records (c.leave_slot.ensures.slots x there) (c.leave_slot.ensures.records x there) (g.E.Eviction.at c.remove-item.new.self) places (g.I.Indexer.view c.leave_slot.new.index) (c.leave_slot.ensures.index x there) view viewed_id;
-      stored = out_stored m g.met.K.Eq.laws g.met.E.Eviction.lawful (holding s) c.args.id c.requires c.in-Some.slot known x there c.leave_slot.new.records (c.leave_slot.ensures.slots x there) (c.leave_slot.ensures.records x there) (g.E.Eviction.at c.remove-item.new.self) places (g.I.Indexer.view c.leave_slot.new.index) (c.leave_slot.ensures.index x there) view viewed_id;
-      weighed = rw (item, viewed) (removed_usage m g.met.K.Eq.laws g.met.E.Eviction.lawful (holding s) (key_of x.kept) c.in-Some.slot led x there s.usage s.weighed);
-      counted = rw viewed (removed_entries m g.met.K.Eq.laws g.met.E.Eviction.lawful (holding s) (key_of x.kept) c.in-Some.slot led x there s.entries s.counted);
+      kept = out_kept m laws lawful (holding s) c.args.id c.requires c.in-Some.slot known x there
+          c.leave_slot.new.records (c.leave_slot.ensures.slots x there) (c.leave_slot.ensures.records x there)
+          (g.E.Eviction.at c.remove-item.new.self) places (g.I.Finder.view c.leave_slot.new.index)
+          (c.leave_slot.ensures.index x there) view viewed_id;
+      stored = out_stored m laws lawful (holding s) c.args.id c.requires c.in-Some.slot known x there
+          c.leave_slot.new.records (c.leave_slot.ensures.slots x there) (c.leave_slot.ensures.records x there)
+          (g.E.Eviction.at c.remove-item.new.self) places (g.I.Finder.view c.leave_slot.new.index)
+          (c.leave_slot.ensures.index x there) view viewed_id;
+      weighed = rw (item, viewed) (removed_usage m laws lawful (holding s) (key_of x.kept) c.in-Some.slot led x there s.usage s.weighed);
+      counted = rw viewed (removed_entries m laws lawful (holding s) (key_of x.kept) c.in-Some.slot led x there s.entries s.counted);
       numbered = omega (arith, s.numbered);
     }
 
 pub returns-clause-taken : goal.returns-clause-taken
 returns-clause-taken g c =
     let s = c.args.self.now in
+    let lawful = g.met.E.Eviction.lawful in
+    let laws = g.met.K.Eq.laws in
     let m = meaning_of s in
     let known : number_of s.records c.args.id ≡ Some c.in-Some.slot = sym c.find.ensures ∙ c.in-Some.is in
     let x = c.in-Some-get.found.now in
     let there : slot_in s.records c.in-Some.slot ≡ Some x = sym (rw c.in-Some-get.is at c.get.ensures) in
-    let led = out_led m g.met.K.Eq.laws g.met.E.Eviction.lawful (holding s) c.args.id c.requires c.in-Some.slot known x there in
-    let at = placed m g.met.K.Eq.laws g.met.E.Eviction.lawful (holding s) (key_of x.kept) c.in-Some.slot led x there c.in-Some-place.place (sym c.place.ensures ∙ c.in-Some-place.is) in
+    let led = out_led m laws lawful (holding s) c.args.id c.requires c.in-Some.slot known x there in
+    let at = placed m laws lawful (holding s) (key_of x.kept) c.in-Some.slot led x there c.in-Some-place.place (sym c.place.ensures ∙ c.in-Some-place.is) in
     let item = some_item (sym c.remove-item.ensures.item ∙ at) in
-    let id = out_id m g.met.K.Eq.laws g.met.E.Eviction.lawful (holding s) c.args.id c.requires c.in-Some.slot known x there in
+    let id = out_id m laws lawful (holding s) c.args.id c.requires c.in-Some.slot known x there in
     let view = g.E.Eviction.view c.remove-item.new.self in
-    let viewed : view ≡ m.policy.remove (g.E.Eviction.view s.eviction) x.id = c.remove-item.ensures.view ∙ ap (λ (i : Item). m.policy.remove (g.E.Eviction.view s.eviction) i.id) item in
+    let viewed : view ≡ m.policy.remove (g.E.Eviction.view s.eviction) x.id = c.remove-item.ensures.view ∙ ap
+    (λ (i : Item). m.policy.remove (g.E.Eviction.view s.eviction) i.id) item in
     let viewed_id : view ≡ m.policy.remove (g.E.Eviction.view s.eviction) c.args.id = viewed ∙ ap (m.policy.remove (g.E.Eviction.view s.eviction)) id in
     let places : (p : ℕ) → g.E.Eviction.at c.remove-item.new.self p ≡ without x.id (g.E.Eviction.at s.eviction p) =
     λ p. c.remove-item.ensures.places p ∙ ap (λ (i : Item). without i.id (g.E.Eviction.at s.eviction p)) item in
     let gone = λ (id : ℕ). (let y : Gone g.row.K.Denot g.row.V.Denot g.row.P.Denot = record { number = s.number; id = id; kept = x.kept } in y) in
     record {
       rec = rec_of x;
-      there = out_record m g.met.K.Eq.laws g.met.E.Eviction.lawful (holding s) c.args.id c.requires c.in-Some.slot known x there;
+      there = out_record m laws lawful (holding s) c.args.id c.requires c.in-Some.slot known x there;
       gone_is = c.leave_slot.ensures.left x there ∙ ap gone id;
-      after = out_after m g.met.K.Eq.laws g.met.E.Eviction.lawful (holding s) c.args.id c.requires c.in-Some.slot known x there c.leave_slot.new.records (c.leave_slot.ensures.slots x there) (c.leave_slot.ensures.records x there) (g.E.Eviction.at c.remove-item.new.self) places (g.I.Indexer.view c.leave_slot.new.index) (c.leave_slot.ensures.index x there) view viewed_id;
+      after = out_after m laws lawful (holding s) c.args.id c.requires c.in-Some.slot known x there
+          c.leave_slot.new.records (c.leave_slot.ensures.slots x there) (c.leave_slot.ensures.records x there)
+          (g.E.Eviction.at c.remove-item.new.self) places (g.I.Finder.view c.leave_slot.new.index)
+          (c.leave_slot.ensures.index x there) view viewed_id;
     }

@@ -11,21 +11,21 @@ use Rattle.foyer_core.proofs.store.Store.touch.Goals as goal
 pub unreachable-requires : goal.unreachable-requires
 unreachable-requires g c =
     let s = c.args.self.now in
-    let none : slot_in s.records c.in-Some.number ≡ None = sym (rw c.in_default-get.is at c.get-2.ensures) in
-    none_not (slot_in s.records c.in-Some.number) (s.stored.led (c.args.hash, c.args.key.now) c.in-Some.number (sym c.get.ensures ∙ c.in-Some.is)) none
+    let none : slot_in s.records c.in-Some.slot ≡ None = sym (rw c.in_default-get.is at c.get.ensures) in
+    none_not (slot_in s.records c.in-Some.slot) (s.stored.led (c.args.hash, c.args.key.now) c.in-Some.slot (sym c.slot_under.ensures ∙ c.in-Some.is)) none
 
 pub returns-then-handles-self : goal.returns-then-handles-self
 returns-then-handles-self g c =
     let s = c.args.self.now in
     let x = c.in-Some-get.found.now in
-    let there : slot_in s.records c.in-Some.number ≡ Some x = sym (rw c.in-Some-get.is at c.get-2.ensures) in
-    let led = sym c.get.ensures ∙ c.in-Some.is in
+    let there : slot_in s.records c.in-Some.slot ≡ Some x = sym (rw c.in-Some-get.is at c.get.ensures) in
+    let led = sym c.slot_under.ensures ∙ c.in-Some.is in
     rw c.new.ensures record {
       touches = (
         x.id,
         rec_of x,
-        hits (meaning_of s) g.met.K.Eq.laws g.met.E.Eviction.lawful (holding s) (c.args.hash, c.args.key.now) c.in-Some.number led x there,
-        found (meaning_of s) g.met.K.Eq.laws g.met.E.Eviction.lawful (holding s) (c.args.hash, c.args.key.now) c.in-Some.number led x there,
+        hits (meaning_of s) g.met.K.Eq.laws g.met.E.Eviction.lawful (holding s) (c.args.hash, c.args.key.now) c.in-Some.slot led x there,
+        found (meaning_of s) g.met.K.Eq.laws g.met.E.Eviction.lawful (holding s) (c.args.hash, c.args.key.now) c.in-Some.slot led x there,
         omega (arith, c.handles-handles.ensures, c.if-handles-self.true),
         refl,
       );
@@ -35,100 +35,119 @@ pub unreachable-requires-in_default-place : goal.unreachable-requires-in_default
 unreachable-requires-in_default-place g c =
     let s = c.args.self.now in
     let x = c.in-Some-get.found.now in
-    let there : slot_in s.records c.in-Some.number ≡ Some x = sym (rw c.in-Some-get.is at c.get-2.ensures) in
-    let res = resident (meaning_of s) g.met.K.Eq.laws g.met.E.Eviction.lawful (holding s) (c.args.hash, c.args.key.now) c.in-Some.number (sym c.get.ensures ∙ c.in-Some.is) x there in
-    none_not x.place (place_is (meaning_of s) (g.E.Eviction.at s.eviction) (g.I.Indexer.view s.index) s.records s.stored c.in-Some.number x there res) (sym c.place.ensures ∙ c.in_default-place.is)
+    let there : slot_in s.records c.in-Some.slot ≡ Some x = sym (rw c.in-Some-get.is at c.get.ensures) in
+    let res = resident (meaning_of s) g.met.K.Eq.laws g.met.E.Eviction.lawful (holding s)
+    (c.args.hash, c.args.key.now) c.in-Some.slot (sym c.slot_under.ensures ∙ c.in-Some.is) x there in
+    none_not x.place (place_is (meaning_of s) (g.E.Eviction.at s.eviction) (g.I.Finder.view s.index) s.records
+    s.stored c.in-Some.slot x there res) (sym c.place.ensures ∙ c.in_default-place.is)
 
 pub acquire-requires-after_bounds : goal.acquire-requires-after_bounds
 acquire-requires-after_bounds g c κs within =
     let s = c.args.self.now in
     let x = c.in-Some-get.found.now in
-    let there : slot_in s.records c.in-Some.number ≡ Some x = sym (rw c.in-Some-get.is at c.get-2.ensures) in
-    let at = placed (meaning_of s) g.met.K.Eq.laws g.met.E.Eviction.lawful (holding s) (c.args.hash, c.args.key.now) c.in-Some.number (sym c.get.ensures ∙ c.in-Some.is) x there c.in-Some-place.place (sym c.place.ensures ∙ c.in-Some-place.is) in
+    let there : slot_in s.records c.in-Some.slot ≡ Some x = sym (rw c.in-Some-get.is at c.get.ensures) in
+    let at = placed (meaning_of s) g.met.K.Eq.laws g.met.E.Eviction.lawful (holding s) (c.args.hash, c.args.key.now)
+    c.in-Some.slot (sym c.slot_under.ensures ∙ c.in-Some.is) x there c.in-Some-place.place
+    (sym c.place.ensures ∙ c.in-Some-place.is) in
     rw at (search rules)
 
 pub invariant_of-self : goal.invariant_of-self
 invariant_of-self g c =
     let s = c.args.self.now in
+    let lawful = g.met.E.Eviction.lawful in
+    let laws = g.met.K.Eq.laws in
     let m = meaning_of s in
     let k : ℕ × g.row.K.Denot = (c.args.hash, c.args.key.now) in
     let x = c.in-Some-get.found.now in
-    let there : slot_in s.records c.in-Some.number ≡ Some x = sym (rw c.in-Some-get.is at c.get-2.ensures) in
-    let led = sym c.get.ensures ∙ c.in-Some.is in
-    let at = placed m g.met.K.Eq.laws g.met.E.Eviction.lawful (holding s) k c.in-Some.number led x there c.in-Some-place.place (sym c.place.ensures ∙ c.in-Some-place.is) in
+    let there : slot_in s.records c.in-Some.slot ≡ Some x = sym (rw c.in-Some-get.is at c.get.ensures) in
+    let led = sym c.slot_under.ensures ∙ c.in-Some.is in
+    let at = placed m laws lawful (holding s) k c.in-Some.slot led x there c.in-Some-place.place (sym c.place.ensures ∙ c.in-Some-place.is) in
     let view = g.E.Eviction.view c.acquire.new.self in
     let viewed : view ≡ m.policy.acquire (g.E.Eviction.view s.eviction) x.id = rw at at c.acquire.ensures.view in
-    let is : view ≡ used m g.met.K.Eq.laws g.met.E.Eviction.lawful (holding s) x.id x.handles = viewed ∙ used_held m g.met.K.Eq.laws g.met.E.Eviction.lawful (holding s) x.id x.handles (omega (arith, c.handles-handles.ensures, c.if-handles-gt0.true)) in
+    let is : view ≡ used m laws lawful (holding s) x.id x.handles = viewed ∙ used_held m laws lawful (holding s) x.id
+    x.handles (omega (arith, c.handles-handles.ensures, c.if-handles-gt0.true)) in
     let room : x.handles < s.limits.handles = omega (arith, c.handles-handles.ensures, c.if-handles-self.false) in
     record {
-      kept = touched_kept m g.met.K.Eq.laws g.met.E.Eviction.lawful (holding s) k c.in-Some.number led x there room view is;
-      stored = touched_stored m g.met.K.Eq.laws g.met.E.Eviction.lawful (holding s) k c.in-Some.number led x there room view is (g.E.Eviction.at c.acquire.new.self) c.acquire.ensures.places;
-      weighed = touched_weight m g.met.K.Eq.laws g.met.E.Eviction.lawful (holding s) k c.in-Some.number led x there room view is s.usage s.weighed;
-      counted = touched_entries m g.met.K.Eq.laws g.met.E.Eviction.lawful (holding s) k c.in-Some.number led x there room view is s.entries s.counted;
+      kept = touched_kept m laws lawful (holding s) k c.in-Some.slot led x there room view is;
+      stored = touched_stored m laws lawful (holding s) k c.in-Some.slot led x there room view is (g.E.Eviction.at c.acquire.new.self) c.acquire.ensures.places;
+      weighed = touched_weight m laws lawful (holding s) k c.in-Some.slot led x there room view is s.usage s.weighed;
+      counted = touched_entries m laws lawful (holding s) k c.in-Some.slot led x there room view is s.entries s.counted;
       numbered = s.numbered;
     }
 
 pub returns-then-handles-gt0 : goal.returns-then-handles-gt0
 returns-then-handles-gt0 g c =
     let s = c.args.self.now in
+    let lawful = g.met.E.Eviction.lawful in
+    let laws = g.met.K.Eq.laws in
     let m = meaning_of s in
     let k : ℕ × g.row.K.Denot = (c.args.hash, c.args.key.now) in
     let x = c.in-Some-get.found.now in
-    let there : slot_in s.records c.in-Some.number ≡ Some x = sym (rw c.in-Some-get.is at c.get-2.ensures) in
-    let led = sym c.get.ensures ∙ c.in-Some.is in
-    let at = placed m g.met.K.Eq.laws g.met.E.Eviction.lawful (holding s) k c.in-Some.number led x there c.in-Some-place.place (sym c.place.ensures ∙ c.in-Some-place.is) in
+    let there : slot_in s.records c.in-Some.slot ≡ Some x = sym (rw c.in-Some-get.is at c.get.ensures) in
+    let led = sym c.slot_under.ensures ∙ c.in-Some.is in
+    let at = placed m laws lawful (holding s) k c.in-Some.slot led x there c.in-Some-place.place (sym c.place.ensures ∙ c.in-Some-place.is) in
     let view = g.E.Eviction.view c.acquire.new.self in
     let viewed : view ≡ m.policy.acquire (g.E.Eviction.view s.eviction) x.id = rw at at c.acquire.ensures.view in
-    let is : view ≡ used m g.met.K.Eq.laws g.met.E.Eviction.lawful (holding s) x.id x.handles = viewed ∙ used_held m g.met.K.Eq.laws g.met.E.Eviction.lawful (holding s) x.id x.handles (omega (arith, c.handles-handles.ensures, c.if-handles-gt0.true)) in
+    let is : view ≡ used m laws lawful (holding s) x.id x.handles = viewed ∙ used_held m laws lawful (holding s) x.id
+    x.handles (omega (arith, c.handles-handles.ensures, c.if-handles-gt0.true)) in
     let room : x.handles < s.limits.handles = omega (arith, c.handles-handles.ensures, c.if-handles-self.false) in
-    record { touches = touched m g.met.K.Eq.laws g.met.E.Eviction.lawful (holding s) k c.in-Some.number led x there room view is }
+    record { touches = touched m laws lawful (holding s) k c.in-Some.slot led x there room view is }
 
 pub release-requires-after_bounds : goal.release-requires-after_bounds
 release-requires-after_bounds g c κs within =
     let s = c.args.self.now in
     let x = c.in-Some-get.found.now in
-    let there : slot_in s.records c.in-Some.number ≡ Some x = sym (rw c.in-Some-get.is at c.get-2.ensures) in
-    let at = placed (meaning_of s) g.met.K.Eq.laws g.met.E.Eviction.lawful (holding s) (c.args.hash, c.args.key.now) c.in-Some.number (sym c.get.ensures ∙ c.in-Some.is) x there c.in-Some-place.place (sym c.place.ensures ∙ c.in-Some-place.is) in
+    let there : slot_in s.records c.in-Some.slot ≡ Some x = sym (rw c.in-Some-get.is at c.get.ensures) in
+    let at = placed (meaning_of s) g.met.K.Eq.laws g.met.E.Eviction.lawful (holding s) (c.args.hash, c.args.key.now)
+    c.in-Some.slot (sym c.slot_under.ensures ∙ c.in-Some.is) x there c.in-Some-place.place
+    (sym c.place.ensures ∙ c.in-Some-place.is) in
     rw (c.acquire.ensures.places c.in-Some-place.place, at) (search rules)
 
 pub invariant_of-self-2 : goal.invariant_of-self-2
 invariant_of-self-2 g c =
     let s = c.args.self.now in
+    let lawful = g.met.E.Eviction.lawful in
+    let laws = g.met.K.Eq.laws in
     let m = meaning_of s in
     let k : ℕ × g.row.K.Denot = (c.args.hash, c.args.key.now) in
     let x = c.in-Some-get.found.now in
-    let there : slot_in s.records c.in-Some.number ≡ Some x = sym (rw c.in-Some-get.is at c.get-2.ensures) in
-    let led = sym c.get.ensures ∙ c.in-Some.is in
-    let at = placed m g.met.K.Eq.laws g.met.E.Eviction.lawful (holding s) k c.in-Some.number led x there c.in-Some-place.place (sym c.place.ensures ∙ c.in-Some-place.is) in
+    let there : slot_in s.records c.in-Some.slot ≡ Some x = sym (rw c.in-Some-get.is at c.get.ensures) in
+    let led = sym c.slot_under.ensures ∙ c.in-Some.is in
+    let at = placed m laws lawful (holding s) k c.in-Some.slot led x there c.in-Some-place.place (sym c.place.ensures ∙ c.in-Some-place.is) in
     let at2 = c.acquire.ensures.places c.in-Some-place.place ∙ at in
     let view = g.E.Eviction.view c.release.new.self in
     let viewed : g.E.Eviction.view c.acquire.new.self ≡ m.policy.acquire (g.E.Eviction.view s.eviction) x.id = rw at at c.acquire.ensures.view in
     let released : view ≡ m.policy.release (g.E.Eviction.view c.acquire.new.self) x.id = rw at2 at c.release.ensures.view in
-    let is : view ≡ used m g.met.K.Eq.laws g.met.E.Eviction.lawful (holding s) x.id x.handles =
-    released ∙ ap (λ (v : g.E.Eviction.View). m.policy.release v x.id) viewed ∙ used_last m g.met.K.Eq.laws g.met.E.Eviction.lawful (holding s) x.id x.handles (omega (arith, c.handles-handles.ensures, c.if-handles-gt0.false)) in
+    let is : view ≡ used m laws lawful (holding s) x.id x.handles =
+    released ∙ ap (λ (v : g.E.Eviction.View). m.policy.release v x.id) viewed ∙ used_last m laws lawful (holding s)
+    x.id x.handles (omega (arith, c.handles-handles.ensures, c.if-handles-gt0.false)) in
     let room : x.handles < s.limits.handles = omega (arith, c.handles-handles.ensures, c.if-handles-self.false) in
     record {
-      kept = touched_kept m g.met.K.Eq.laws g.met.E.Eviction.lawful (holding s) k c.in-Some.number led x there room view is;
-      stored = touched_stored m g.met.K.Eq.laws g.met.E.Eviction.lawful (holding s) k c.in-Some.number led x there room view is (g.E.Eviction.at c.release.new.self) (λ p. c.release.ensures.places p ∙ c.acquire.ensures.places p);
-      weighed = touched_weight m g.met.K.Eq.laws g.met.E.Eviction.lawful (holding s) k c.in-Some.number led x there room view is s.usage s.weighed;
-      counted = touched_entries m g.met.K.Eq.laws g.met.E.Eviction.lawful (holding s) k c.in-Some.number led x there room view is s.entries s.counted;
+      kept = touched_kept m laws lawful (holding s) k c.in-Some.slot led x there room view is;
+      stored = touched_stored m laws lawful (holding s) k c.in-Some.slot led x there room view is
+          (g.E.Eviction.at c.release.new.self) (λ p. c.release.ensures.places p ∙ c.acquire.ensures.places p);
+      weighed = touched_weight m laws lawful (holding s) k c.in-Some.slot led x there room view is s.usage s.weighed;
+      counted = touched_entries m laws lawful (holding s) k c.in-Some.slot led x there room view is s.entries s.counted;
       numbered = s.numbered;
     }
 
 pub returns : goal.returns
 returns g c =
     let s = c.args.self.now in
+    let lawful = g.met.E.Eviction.lawful in
+    let laws = g.met.K.Eq.laws in
     let m = meaning_of s in
     let k : ℕ × g.row.K.Denot = (c.args.hash, c.args.key.now) in
     let x = c.in-Some-get.found.now in
-    let there : slot_in s.records c.in-Some.number ≡ Some x = sym (rw c.in-Some-get.is at c.get-2.ensures) in
-    let led = sym c.get.ensures ∙ c.in-Some.is in
-    let at = placed m g.met.K.Eq.laws g.met.E.Eviction.lawful (holding s) k c.in-Some.number led x there c.in-Some-place.place (sym c.place.ensures ∙ c.in-Some-place.is) in
+    let there : slot_in s.records c.in-Some.slot ≡ Some x = sym (rw c.in-Some-get.is at c.get.ensures) in
+    let led = sym c.slot_under.ensures ∙ c.in-Some.is in
+    let at = placed m laws lawful (holding s) k c.in-Some.slot led x there c.in-Some-place.place (sym c.place.ensures ∙ c.in-Some-place.is) in
     let at2 = c.acquire.ensures.places c.in-Some-place.place ∙ at in
     let view = g.E.Eviction.view c.release.new.self in
     let viewed : g.E.Eviction.view c.acquire.new.self ≡ m.policy.acquire (g.E.Eviction.view s.eviction) x.id = rw at at c.acquire.ensures.view in
     let released : view ≡ m.policy.release (g.E.Eviction.view c.acquire.new.self) x.id = rw at2 at c.release.ensures.view in
-    let is : view ≡ used m g.met.K.Eq.laws g.met.E.Eviction.lawful (holding s) x.id x.handles =
-    released ∙ ap (λ (v : g.E.Eviction.View). m.policy.release v x.id) viewed ∙ used_last m g.met.K.Eq.laws g.met.E.Eviction.lawful (holding s) x.id x.handles (omega (arith, c.handles-handles.ensures, c.if-handles-gt0.false)) in
+    let is : view ≡ used m laws lawful (holding s) x.id x.handles =
+    released ∙ ap (λ (v : g.E.Eviction.View). m.policy.release v x.id) viewed ∙ used_last m laws lawful (holding s)
+    x.id x.handles (omega (arith, c.handles-handles.ensures, c.if-handles-gt0.false)) in
     let room : x.handles < s.limits.handles = omega (arith, c.handles-handles.ensures, c.if-handles-self.false) in
-    record { touches = touched m g.met.K.Eq.laws g.met.E.Eviction.lawful (holding s) k c.in-Some.number led x there room view is }
+    record { touches = touched m laws lawful (holding s) k c.in-Some.slot led x there room view is }

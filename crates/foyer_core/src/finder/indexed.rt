@@ -1,0 +1,52 @@
+//! Slots in an index that keeps the keys.
+
+use crate::finder::Finder;
+use crate::indexer::{HashTableIndexer, Indexer};
+use foyer_policy::{Key, Result};
+use std::alloc::Global;
+
+/// A finder over an index, whose numbers are slots.
+#[derive(Drop)]
+pub struct Indexed<I> {
+    index: I,
+}
+
+/// A finder over an index, which keeps its keys.
+impl<I: Drop> From<I> for Indexed<I> {
+    ghost use Rattle.std.specs.Prelude.{◌≡◌};
+
+    ghost from_gives = { λ index finder. finder.index ≡ index };
+
+    fn from(index: I) -> Self {
+        Indexed { index }
+    }
+}
+
+impl<K: Key, I: Indexer<K>> Finder<K> for Indexed<I> {
+    ghost view = { λ s. I.view s.index };
+
+    ghost respects = { λ s p q same. I.respects s.index p q same };
+
+    fn empty(alloc: Global) -> Self {
+        Indexed {
+            index: I::empty(alloc),
+        }
+    }
+
+    #[inline]
+    fn find<F: Fn(usize) -> bool>(&self, hash: u64, key: &K, _is_its: F) -> Option<usize> {
+        let slot = self.index.get(hash, key)?;
+        Some(slot as usize)
+    }
+
+    #[inline]
+    fn put(&mut self, hash: u64, key: K, _was: Option<usize>, slot: usize) -> Result<()> {
+        let _ = self.index.insert(hash, key, slot as u64)?;
+        Ok(())
+    }
+
+    #[inline]
+    fn take(&mut self, hash: u64, key: &K, _slot: usize) {
+        let _ = self.index.remove(hash, key);
+    }
+}

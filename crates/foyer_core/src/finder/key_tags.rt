@@ -1,0 +1,89 @@
+//! Tags, with which slot each key leads to.
+
+ghost use Rattle.std.specs.Prelude.{◌≡◌, ◌≢◌, ℕ, Bool, ◌-◌, ◌^◌, ◌<◌, Some, None, IfErr, OnOk, OnErr};
+ghost use Rattle.std.specs.Map.{update};
+ghost use Rattle.foyer_policy.specs.declared.error.Reason.TheVariants.{NoMemory};
+ghost use Rattle.foyer_core.specs.Indexer.{same_key};
+ghost use Rattle.foyer_core.specs.Tags.{slots_of};
+ghost use Rattle.foyer_core.specs.Trails.{led, keyed, IsTagged, IsTagged-prop};
+
+use crate::finder::trail::Trail;
+use crate::tags::Tags;
+use foyer_policy::{Error, Key, Reason, Result};
+use std::alloc::Global;
+use std::snapshot::Snapshot;
+
+/// Slots below 2^32 - 1 under hashed keys, in tags. The keys are in no memory of theirs.
+#[derive(Drop)]
+pub(crate) struct KeyTags<K: Key> {
+    tags: Tags,
+    trail: Trail<K>,
+    ghost tagged: { IsTagged K.eq (led K.eq trail) (keyed trail) (slots_of tags) } by { IsTagged-prop K.eq (led K.eq trail) (keyed trail) (slots_of tags) },
+}
+
+impl<K: Key> KeyTags<K> {
+    /// No keys.
+    pub(crate) fn new(alloc: Global) -> Self
+        ensures { (q : ℕ × K) → led K.eq result.trail q ≡ None }
+    {
+        KeyTags {
+            tags: Tags::new(alloc),
+            trail: Trail::new(),
+        }
+    }
+
+    /// The slot under a key. The question is asked of slots that keys lead to: whether this key does.
+    #[inline(always)]
+    pub(crate) fn find<F: Fn(usize) -> bool>(&self, hash: u64, _key: &K, is_its: F) -> Option<usize>
+        requires asked { (q : ℕ × K) (s : ℕ) → led K.eq self.now.trail q ≡ Some s → F.pre is_its s }
+        requires told { (q : ℕ × K) (s : ℕ) (answer : Bool) → led K.eq self.now.trail q ≡ Some s →
+            F.post is_its s answer → answer ≡ same_key K.eq q (hash, _key.now) }
+        ensures { result ≡ led K.eq self.now.trail (hash, _key.now) }
+    {
+        self.tags.find(hash, is_its)
+    }
+
+    /// Puts a slot, to which no key leads, under a key that leads to none. Only memory can be missing, and nothing
+    /// changes then.
+    #[inline(always)]
+    pub(crate) fn insert(&mut self, hash: u64, key: Snapshot<K>, slot: usize) -> Result<()>
+        requires slot { slot < 2 ^ 32 - 1 }
+        requires absent { led K.eq self.old.trail (hash, key.value) ≡ None }
+        requires new { (q : ℕ × K) → led K.eq self.old.trail q ≢ Some slot }
+        ensures led { OnOk result ((q : ℕ × K) → led K.eq self.new.trail q
+            ≡ update (same_key K.eq) (led K.eq self.old.trail) (hash, key.value) (Some slot) q) }
+        ensures refused { IfErr result (λ e. e ≡ NoMemory) }
+        ensures err { OnErr result ((q : ℕ × K) → led K.eq self.new.trail q ≡ led K.eq self.old.trail q) }
+    {
+        if self.tags.reserve(1).is_err() {
+            return Err(Error::new(Reason::NoMemory));
+        }
+        self.tags.insert(hash, slot);
+        self.trail.mark(hash, key, Some(slot));
+        Ok(())
+    }
+
+    /// Puts a slot, to which no key leads, under a key in the place of its own. This takes no memory.
+    #[inline(always)]
+    pub(crate) fn replace(&mut self, hash: u64, key: Snapshot<K>, was: usize, slot: usize)
+        requires was { led K.eq self.old.trail (hash, key.value) ≡ Some was }
+        requires slot { slot < 2 ^ 32 - 1 }
+        requires new { (q : ℕ × K) → led K.eq self.old.trail q ≢ Some slot }
+        ensures led { (q : ℕ × K) → led K.eq self.new.trail q
+            ≡ update (same_key K.eq) (led K.eq self.old.trail) (hash, key.value) (Some slot) q }
+    {
+        self.tags.replace(hash, was, slot);
+        self.trail.mark(hash, key, Some(slot));
+    }
+
+    /// Takes a key out, which leads to this slot. This takes no memory.
+    #[inline(always)]
+    pub(crate) fn remove(&mut self, hash: u64, key: Snapshot<K>, slot: usize)
+        requires { led K.eq self.old.trail (hash, key.value) ≡ Some slot }
+        ensures led { (q : ℕ × K) → led K.eq self.new.trail q
+            ≡ update (same_key K.eq) (led K.eq self.old.trail) (hash, key.value) None q }
+    {
+        let _ = self.tags.remove(hash, slot);
+        self.trail.mark(hash, key, None);
+    }
+}

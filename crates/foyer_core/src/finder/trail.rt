@@ -1,0 +1,61 @@
+//! What was marked of keys, for contracts alone.
+
+ghost use Rattle.std.specs.Prelude.{◌≡◌, ℕ, Bool, Option, None, nat_eq};
+ghost use Rattle.std.specs.Map.{update};
+ghost use Rattle.foyer_core.specs.Indexer.{same_key};
+
+use std::mem;
+use std::snapshot::Snapshot;
+
+/// What was marked of keys, one thing after the other.
+#[derive(Drop)]
+enum Marks<K> {
+    /// Nothing.
+    Start,
+    /// A key leads to a slot from here on, or to none.
+    Mark {
+        before: Snapshot<Marks<K>>,
+        hash: u64,
+        key: Snapshot<K>,
+        slot: Option<usize>,
+    },
+}
+
+/// Which slot each hashed key leads to, by what was marked. It takes no memory, and nothing is done for it when
+/// the program runs.
+#[derive(Drop)]
+pub(crate) struct Trail<K> {
+    marks: Snapshot<Marks<K>>,
+}
+
+impl<K> Trail<K> {
+    ghost use Rattle.foyer_core.specs.Trails.{led, keyed, keyed_with};
+
+    /// No key leads to a slot.
+    #[inline(always)]
+    pub(crate) fn new() -> Self
+        ensures led { (eq : K → K → Bool) (q : ℕ × K) → led eq result q ≡ None }
+        ensures keyed { (s : ℕ) → keyed result s ≡ None }
+    {
+        Trail {
+            marks: Snapshot::of(&Marks::Start),
+        }
+    }
+
+    /// A key leads to a slot from here on, or to none.
+    #[inline(always)]
+    pub(crate) fn mark(&mut self, hash: u64, key: Snapshot<K>, slot: Option<usize>)
+        ensures led { (eq : K → K → Bool) (q : ℕ × K) →
+            led eq self.new q ≡ update (same_key eq) (led eq self.old) (hash, key.value) slot q }
+        ensures keyed { (s : ℕ) → keyed self.new s ≡ keyed_with slot (hash, key.value) (keyed self.old) s }
+    {
+        let start = Snapshot::of(&Marks::Start);
+        let before = mem::replace(&mut self.marks, start);
+        self.marks = Snapshot::of(&Marks::Mark {
+            before,
+            hash,
+            key,
+            slot,
+        });
+    }
+}
