@@ -1,0 +1,33 @@
+//! A cache of squares: two callers wait for one fetch of what is missing, and a listener counts what leaves.
+#![tactic(auto)]
+
+use examples_squares::{AllTasks, Counter, Squares, fetch, square};
+use foyer_memory::CacheBuilder;
+use foyer_raw::ListSpawner;
+use futures::executor::block_on;
+
+fn main(rt: HostRuntime) -> anyhow::Result<()> {
+    let alloc = rt.alloc();
+    let (fetched, gone) = (Counter::new(alloc)?, Counter::new(alloc)?);
+    let squares: Squares<HostRuntime> = CacheBuilder::new(3)
+        .with_shards(1)
+        .with_event_listener(gone.share()?)
+        .build(rt, alloc, &rt)?;
+    for number in 1..5 {
+        let entry = squares.insert(number, square(number))?;
+        println!(rt; "{} squared is {}", entry.key(), *entry)?;
+    }
+    if let Some(entry) = squares.get(&4)? {
+        println!(rt; "found {}", *entry)?;
+    }
+    // The square of 9 is missing: the first who asks leads its fetch, and the second waits for the same one.
+    let mut tasks = ListSpawner::new(alloc);
+    let (ann, ben) = (fetch(9, &fetched)?, fetch(9, &fetched)?);
+    let ann = squares.get_or_fetch(&9, || ann, &mut tasks)?;
+    let ben = squares.get_or_fetch(&9, || ben, &mut tasks)?;
+    block_on(&rt, AllTasks { tasks })?;
+    let (ann, ben) = (block_on(&rt, ann)??, block_on(&rt, ben)??);
+    println!(rt; "Ann gets {}, Ben gets {}", *ann, *ben)?;
+    println!(rt; "{} fetched, {} left", fetched.count(), gone.count())?;
+    Ok(())
+}
