@@ -19,29 +19,40 @@ use Rattle.foyer_core.specs.Waited.{Ending, got_of, handed_out}
 
 module _ {K V P View C : Type 0} (m : Meaning K P View C) where
   -- an insert's entry has the value that came in
-  entry_has : (phantom : Bool) (source : Source) (old : State K V P View) (i : Incoming K V P) (ls : List (Event × Gone K V P)) (entry : Held K V P) (new : State K V P View)
+  entry_has : (phantom : Bool) (source : Source) (old : State K V P View) (i : Incoming K V P)
+      (ls : List (Event × Gone K V P)) (entry : Held K V P) (new : State K V P View)
       → InsertsBy m phantom source old i ls entry new → entry.kept.value ≡ i.kept.value
   entry_has true source old i ls entry new did = ap (λ (e : Held K V P). e.kept.value) did.entry_is
   entry_has false source old i ls entry new did = ap (λ (e : Held K V P). e.kept.value) did.entry_is
 
   -- so has each entry of those who wait for it
-  arrives : (source : Source) (old : State K V P View) (i : Incoming K V P) (outcome : Outcome K V P) (got : Result (Option (List (Held K V P))) Reason) (ls : List (Event × Gone K V P)) (new : State K V P View)
-      → got ≡ got_of outcome → Arrives m source old i got ls new → IfOk (handed_out outcome) (All (λ e. e.kept.value ≡ i.kept.value))
+  arrives : (source : Source) (old : State K V P View) (i : Incoming K V P) (outcome : Outcome K V P)
+      (got : Result (Option (List (Held K V P))) Reason) (ls : List (Event × Gone K V P)) (new : State K V P View)
+      → got ≡ got_of outcome → Arrives m source old i got ls new →
+      IfOk (handed_out outcome) (All (λ e. e.kept.value ≡ i.kept.value))
   arrives source old i (Fault reason) got ls new is came = tt
-  arrives source old i Nothing got ls new is came = absurd (subst (λ (x : Result (Option (List (Held K V P))) Reason). Arrives m source old i x ls new) is came)
+  arrives source old i Nothing got ls new is came =
+      absurd (subst (λ (x : Result (Option (List (Held K V P))) Reason). Arrives m source old i x ls new) is came)
   arrives source old i (Entries entries) got ls new is came =
-      let here : Arrives m source old i (Ok (Some entries.items)) ls new = subst (λ (x : Result (Option (List (Held K V P))) Reason). Arrives m source old i x ls new) is came in
-      let has : here.0.kept.value ≡ i.kept.value = entry_has (is_phantom_record m i.kept) source old i ls here.0 new here.1 in
-      subst (λ (x : List (Held K V P)). All (λ e. e.kept.value ≡ i.kept.value) x) (sym here.2) (All-replicate (λ (e : Held K V P). e.kept.value ≡ i.kept.value) i.handles here.0 has)
+      let here : Arrives m source old i (Ok (Some entries.items)) ls new =
+      subst (λ (x : Result (Option (List (Held K V P))) Reason). Arrives m source old i x ls new) is came in
+      let has : here.0.kept.value ≡ i.kept.value =
+      entry_has (is_phantom_record m i.kept) source old i ls here.0 new here.1 in
+      subst (λ (x : List (Held K V P)). All (λ e. e.kept.value ≡ i.kept.value) x) (sym here.2)
+      (All-replicate (λ (e : Held K V P). e.kept.value ≡ i.kept.value) i.handles here.0 has)
 
-module _ {K V P View C S W A N R : Type 0} (m : Meaning K P View C) (hash : K → ℕ) (weighs : K → V → ℕ → Type 0) (admits : K → V → Bool → Type 0) (properties : P → Bool → P) (source : Source) (value : V) (p : P) (k : ℕ × K)
-    (ended : Ending K V P N) (old : Core K V P View S W A) (f : List (Opens K N R)) (new : Core K V P View S W A) (g : List (Opens K N R)) where
+module _ {K V P View C S W A N R : Type 0} (m : Meaning K P View C) (hash : K → ℕ) (weighs : K → V → ℕ → Type 0)
+    (admits : K → V → Bool → Type 0) (properties : P → Bool → P) (source : Source) (value : V) (p : P) (k : ℕ × K)
+    (ended : Ending K V P N) (old : Core K V P View S W A) (f : List (Opens K N R)) (new : Core K V P View S W A)
+    (g : List (Opens K N R)) where
   -- those who wait for a fetch get entries of the value that it ends with, where they get some
   pub served : (place : Option (Place N R)) (outcome : Outcome K V P) → ended.outcome ≡ got_of outcome
-      → Completed m hash weighs admits properties source (Entry value p) k place ended old f new g → IfOk (handed_out outcome) (All (λ e. e.kept.value ≡ value))
+      → Completed m hash weighs admits properties source (Entry value p) k place ended old f new g →
+      IfOk (handed_out outcome) (All (λ e. e.kept.value ≡ value))
   served None (Fault reason) got did = tt
   served None Nothing got did = λ n d h. absurd (omega arith)
-  served None (Entries entries) got did = (let none : ended.outcome ≡ Ok None = ap (λ (e : Ending K V P N). e.outcome) did.0 in absurd cc)
+  served None (Entries entries) got did =
+      (let none : ended.outcome ≡ Ok None = ap (λ (e : Ending K V P N). e.outcome) did.0 in absurd cc)
   served (Some o) outcome got did =
       let came = did.completes.arrived in
       arrives m source came.before _ outcome ended.outcome ended.leaves came.after got came.stepped

@@ -37,7 +37,8 @@ read_there {X} {Y} calls number made reply read there stands =
 
 -- whether a share with a number was found, after one more that has it, where none was before, and after one that lacks
 pub found_now : (before after : ℕ) (found here new : Bool) → before ≡ (if found then 1 else 0)
-    → after ≡ before + (if here then 1 else 0) → here ≡ true → found ≡ false → new ≡ true → after ≡ (if new then 1 else 0)
+    → after ≡ before + (if here then 1 else 0) → here ≡ true → found ≡ false → new ≡ true → after
+    ≡ (if new then 1 else 0)
 found_now before after found here new was more has none is = rw is (omega (arith, rw none at was, rw has at more))
 
 pub found_before : (before after : ℕ) (found here new : Bool) → before ≡ (if found then 1 else 0)
@@ -75,12 +76,15 @@ module _ {S K V P Q C : Type 0} (receipts : S → List (Receipt K V P Q C)) wher
   AllBelow len shares = All (λ s. All (λ r. r.number < len) (receipts s)) shares
 
   -- a number that is not below it is that of none
-  times-past : (shares : List S) (len number : ℕ) → AllBelow len shares → len ≤ number → times receipts number shares ≡ 0
+  times-past : (shares : List S) (len number : ℕ) → AllBelow len shares → len ≤ number → times receipts number shares
+      ≡ 0
   times-past [] len number below past = refl
   times-past (s ∷ shares) len number below past =
       let first = All-head (λ t. All (λ r. r.number < len) (receipts t)) s shares below in
-      let rest = times-past shares len number (All-tail (λ t. All (λ r. r.number < len) (receipts t)) s shares below) past in
-      let none = count_by-none (λ r. r.number == number) (receipts s) (λ k d lt. ne_eqb _ _ (λ same. absurd (let l = first k d lt in omega arith))) in
+      let rest = times-past shares len number (All-tail (λ t. All (λ r. r.number < len) (receipts t)) s shares below)
+      past in
+      let none = count_by-none (λ r. r.number == number) (receipts s)
+      (λ k d lt. ne_eqb _ _ (λ same. absurd (let l = first k d lt in omega arith))) in
       omega (arith, sum_by-cons (λ t. count_by (λ r. r.number == number) (receipts t)) s shares)
 
   -- where each number below the bound is that of one receipt, each number is that of one or of none
@@ -95,7 +99,8 @@ module _ {S K V P Q C : Type 0} (receipts : S → List (Receipt K V P Q C)) wher
   once_from_each shares len each number lt = each number ∙ ap (λ t. if t then 1 else 0) (lt-ltb number len lt)
 
   -- where the receipts of shares agree with a history, their numbers are below its length
-  pub below_from_agree : {same : Command K V P Q C → Command K V P Q C → Bool} {alike : Reply K V P → Reply K V P → Bool}
+  pub below_from_agree : {same : Command K V P Q C → Command K V P Q C → Bool}
+      {alike : Reply K V P → Reply K V P → Bool}
       {history : List (Command K V P Q C × Reply K V P)} (shares : List S)
       → All (λ s. Agree same alike history (receipts s)) shares → AllBelow (length history) shares
   below_from_agree shares agree k d lt i e below = some_within _ _ _ ((agree k d lt).stand i e below)

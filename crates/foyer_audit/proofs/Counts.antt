@@ -17,12 +17,15 @@ rank_grows a b number le = grind (arith, nat_tests)
 
 -- two elements at different places of numbers that rise are different
 apart : (i j a b : ℕ) → j ≢ i → (j < i → a < b) → (i < j → b < a) → a ≢ b
-apart i j a b differs below above same = ⊎_elim differs (⊎_elim (λ l. let less = below l in omega arith) (λ l. let more = above l in omega arith)) (cases_order j i)
+apart i j a b differs below above same = ⊎_elim differs
+    (⊎_elim (λ l. let less = below l in omega arith) (λ l. let more = above l in omega arith)) (cases_order j i)
 
 module _ {X : Type 0} (p : X → Bool) where
   -- an element that passes counts one, and one that doesn't counts none
-  count_by-cons : (b : Bool) (x : X) (xs : List X) → p x ≡ b → count_by p (x ∷ xs) ≡ (if b then 1 else 0) + count_by p xs
-  count_by-cons b x xs is = sum_by-cons (λ y. cond (p y) 1 0) x xs ∙ ap (λ (t : Bool). (if t then 1 else 0) + count_by p xs) is
+  count_by-cons : (b : Bool) (x : X) (xs : List X) → p x ≡ b → count_by p (x ∷ xs)
+      ≡ (if b then 1 else 0) + count_by p xs
+  count_by-cons b x xs is = sum_by-cons (λ y. cond (p y) 1 0) x xs
+      ∙ ap (λ (t : Bool). (if t then 1 else 0) + count_by p xs) is
 
   -- where none passes, none is counted
   pub count_by-none : (xs : List X) → All (λ x. p x ≡ false) xs → count_by p xs ≡ 0
@@ -78,11 +81,15 @@ module _ {X : Type 0} (n : X → ℕ) where
   count_by-searched (x ∷ xs) number rise (Ok i) within equal =
       let here : n (get_or (x ∷ xs) i x) ≡ number = ranked _ number _ (sym (equal x)) in
       count_by-one (λ y. n y == number) (x ∷ xs) i x within (eq-eqb _ _ here)
-      (λ j below differs. ne_eqb _ _ (λ same. apart i j _ _ differs (λ l. rise j i x l within) (λ l. rise i j x l below) (same ∙ sym here)))
+      (λ j below differs. ne_eqb _ _
+      (λ same. apart i j _ _ differs (λ l. rise j i x l within) (λ l. rise i j x l below) (same ∙ sym here)))
   count_by-searched xs number rise (Err i) within parted =
       let up : IsNonDecreasingBy (λ x. ordering_index (nat_cmp (n x) number)) xs = λ a b d le lt.
       rank_grows _ _ number (grind (arith, rise a b d, λ (same : a ≡ b). ap (λ k. n (get_or xs k d)) same)) in
       count_by-none (λ y. n y == number) xs (λ k d lt. ne_eqb _ _ (λ same.
-      let before : k < i → n (get_or xs k d) < number = λ l. ranked _ number _ (sym ((parted up).0 k d (omega arith) l)) in
+      let before : k < i → n (get_or xs k d) < number =
+      λ l. ranked _ number _ (sym ((parted up).0 k d (omega arith) l)) in
       let after : i ≤ k → number < n (get_or xs k d) = λ l. ranked _ number _ (sym ((parted up).1 k d l lt)) in
-      ⊎_elim (λ l. let more = after (omega arith) in omega arith) (⊎_elim (λ l. let less = before l in omega arith) (λ l. let more = after (omega arith) in omega arith)) (cases_order k i)))
+      ⊎_elim (λ l. let more = after (omega arith) in omega arith)
+      (⊎_elim (λ l. let less = before l in omega arith) (λ l. let more = after (omega arith) in omega arith))
+      (cases_order k i)))

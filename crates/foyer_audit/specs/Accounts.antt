@@ -6,7 +6,8 @@ use Rattle.foyer_audit.specs.declared.receipt.Receipt.{Receipt}
 
 module _ {K V P Q C : Type 0} where
   -- one receipt more, of this command, number and reply
-  abbrev pub received : List (Receipt K V P Q C) → Command K V P Q C → ℕ → Option (Reply K V P) → List (Receipt K V P Q C)
+  abbrev pub received : List (Receipt K V P Q C) → Command K V P Q C → ℕ → Option (Reply K V P) →
+      List (Receipt K V P Q C)
   received receipts command number reply = receipts ++ record { number = number; command = command; reply = reply } ∷ []
 
   -- the numbers of receipts rise
@@ -14,7 +15,8 @@ module _ {K V P Q C : Type 0} where
   Rise receipts = AllPairs (λ one later. one.number < later.number) receipts
 
 -- two copies of a reply, or none
-abbrev pub AreCopies : {K V P : Type 0} → (Reply K V P → Reply K V P → Type 0) → Reply K V P → Option (Reply K V P) → Option (Reply K V P) → Type 0
+abbrev pub AreCopies : {K V P : Type 0} → (Reply K V P → Reply K V P → Type 0) → Reply K V P → Option (Reply K V P) →
+    Option (Reply K V P) → Type 0
 AreCopies clones reply (Some one) (Some other) = clones reply one × clones reply other
 AreCopies clones reply None None = ⊤
 AreCopies clones reply _ _ = ⊥
@@ -22,7 +24,8 @@ AreCopies clones reply _ _ = ⊥
 -- `clones` says what a clone of a reply is.
 module _ {K V P Q C : Type 0} (clones : Reply K V P → Reply K V P → Type 0) where
   -- a call of this command answered this number and copy of a reply, and left a receipt of it with another copy
-  pub record IsReceived (old : List (Receipt K V P Q C)) (command : Command K V P Q C) (number : ℕ) (reply : Reply K V P)
+  pub record IsReceived (old : List (Receipt K V P Q C)) (command : Command K V P Q C) (number : ℕ)
+      (reply : Reply K V P)
       (told : Option (Reply K V P)) (new : List (Receipt K V P Q C)) : Type 0 where
     pub kept : Option (Reply K V P)
     pub copies : AreCopies clones reply told kept
@@ -33,14 +36,16 @@ module _ {K V P Q C : Type 0} (same : Command K V P Q C → Command K V P Q C �
     (alike : Reply K V P → Reply K V P → Bool) where
   -- whether a call is that of a receipt: the commands are equal, and so are the replies where the receipt has one
   abbrev pub IsCallOf : Receipt K V P Q C → Command K V P Q C × Reply K V P → Type 0
-  IsCallOf receipt call = (same call.0 receipt.command ≡ true) × IfSome receipt.reply (λ reply. alike call.1 reply ≡ true)
+  IsCallOf receipt call = (same call.0 receipt.command ≡ true)
+      × IfSome receipt.reply (λ reply. alike call.1 reply ≡ true)
 
   -- a receipt's call stands in a history at the receipt's number
   abbrev pub Stands : List (Command K V P Q C × Reply K V P) → Receipt K V P Q C → Type 0
   Stands history receipt = IsSomeAnd (slice_get history receipt.number) (IsCallOf receipt)
 
   -- the receipts of a share agree with a history: the call of each stands there, and their numbers rise
-  pub record Agree (history : List (Command K V P Q C × Reply K V P)) (receipts : List (Receipt K V P Q C)) : Type 0 where
+  pub record Agree (history : List (Command K V P Q C × Reply K V P)) (receipts : List (Receipt K V P Q C)) : Type
+      0 where
     pub stand : All (Stands history) receipts
     pub rise : Rise receipts
 
@@ -53,7 +58,8 @@ module _ {S K V P Q C : Type 0} (receipts : S → List (Receipt K V P Q C)) wher
   abbrev pub EachOnce : ℕ → List S → Type 0
   EachOnce len shares = (number : ℕ) → times number shares ≡ (if nat_lt number len then 1 else 0)
 
-  -- The receipts of these shares account for a history: each call of it is that of one receipt, and the calls of a share
+  -- The receipts of these shares account for a history: each call of it is that of one receipt, and the calls of a
+  -- share
   -- stand there in the share's order.
   pub record AccountFor (same : Command K V P Q C → Command K V P Q C → Bool) (alike : Reply K V P → Reply K V P → Bool)
       (history : List (Command K V P Q C × Reply K V P)) (shares : List S) : Type 0 where

@@ -46,20 +46,24 @@ module _ {K V P View C S W A : Type 0} (t : Terms K V P View C S W A) where
 module _ {K V P View C S W A Q : Type 0} (t : Terms K V P View C S W A) (picks : Q → K → V → Bool → Type 0)
     (same : Command K V P Q C → Command K V P Q C → Bool) (shards shard : ℕ) where
   -- what a shard may answer to a command, by whether its key lives in another one
-  abbrev pub CallWhere : Bool → SessionState K V P View S W A → Command K V P Q C → Reply K V P → SessionState K V P View S W A → Type 0
+  abbrev pub CallWhere : Bool → SessionState K V P View S W A → Command K V P Q C → Reply K V P →
+      SessionState K V P View S W A → Type 0
   CallWhere true old command reply new = (reply.answer ≡ NotHeld) × (reply.leaves ≡ []) × (new ≡ old)
   CallWhere false old command reply new =
       (made : Command K V P Q C) × (same made command ≡ true) × Step t picks old made reply.answer reply.leaves new
 
   -- what a shard may answer to a command: where its key lives in another shard, that none is held, and nothing changes;
   -- and else what a session may answer to an equal command
-  abbrev pub Call : SessionState K V P View S W A → Command K V P Q C → Reply K V P → SessionState K V P View S W A → Type 0
+  abbrev pub Call : SessionState K V P View S W A → Command K V P Q C → Reply K V P → SessionState K V P View S W A →
+      Type 0
   Call old command reply new = CallWhere (is_elsewhere t shards shard old (key_of command)) old command reply new
 
   -- each call is one from the state that those before it left
-  abbrev pub Legal : SessionState K V P View S W A → List (Command K V P Q C × Reply K V P) → SessionState K V P View S W A → Type 0
+  abbrev pub Legal : SessionState K V P View S W A → List (Command K V P Q C × Reply K V P) →
+      SessionState K V P View S W A → Type 0
   Legal old [] new = new ≡ old
-  Legal old (call ∷ calls) new = (mid : SessionState K V P View S W A) × Call old call.0 call.1 mid × Legal mid calls new
+  Legal old (call ∷ calls) new = (mid : SessionState K V P View S W A) × Call old call.0 call.1 mid
+      × Legal mid calls new
 
 -- A legal history of one of the shards of a cache, from the opening state of a configuration to this one.
 pub record IsHistory {K V P View C S W A Q : Type 0} (t : Terms K V P View C S W A) (picks : Q → K → V → Bool → Type 0)

@@ -12,7 +12,8 @@ use Rattle.foyer_core.specs.Values.{Answered, Gone, Held}
 
 -- the record of a hashed key: its value is the key, and it weighs 1
 abbrev pub data_of : ℕ × ℕ → Data ℕ ℕ Answered
-data_of k = record { key = k.1; value = k.1; properties = record { phantom = None; hint = Normal }; hash = k.0; weight = 1 }
+data_of k =
+    record { key = k.1; value = k.1; properties = record { phantom = None; hint = Normal }; hash = k.0; weight = 1 }
 
 -- no record has more handles than before: each entry was given back
 abbrev pub NoMoreHandles : {K V P View S W A : Type 0} → Core K V P View S W A → Core K V P View S W A → Type 0
@@ -28,7 +29,8 @@ module _ {View C : Type 0} (m : Meaning ℕ Answered View C) where
   -- a key's record is put in, and its entry is given back at once
   abbrev pub PutsIn : State ℕ ℕ Answered View → ℕ × ℕ → State ℕ ℕ Answered View → Type 0
   PutsIn old k new =
-      (entry : Held ℕ ℕ Answered) × (mid : State ℕ ℕ Answered View) × (leaves : List (Event × Gone ℕ ℕ Answered)) × (leave : Option (Event × Gone ℕ ℕ Answered))
+      (entry : Held ℕ ℕ Answered) × (mid : State ℕ ℕ Answered View) × (leaves : List (Event × Gone ℕ ℕ Answered))
+      × (leave : Option (Event × Gone ℕ ℕ Answered))
       × Inserts m Outer old (newcomer old (data_of k) 1) leaves entry mid × GivesBack m mid entry.id leave new
 
   -- a shard looks a hashed key up, and puts its record in where it finds none; the answer says which
@@ -39,7 +41,9 @@ module _ {View C : Type 0} (m : Meaning ℕ Answered View C) where
   -- the get is refused, or finds nothing and the insert is
   abbrev pub RefusesLookUp : State ℕ ℕ Answered View → ℕ × ℕ → Reason → State ℕ ℕ Answered View → Type 0
   RefusesLookUp old k reason new =
-      Gets m old k (Err reason) new ⊎ ((leaves : List (Event × Gone ℕ ℕ Answered)) × (hit old k ≡ None) × RefusesInsert m old (newcomer old (data_of k) 1) reason leaves new)
+      Gets m old k (Err reason) new ⊎
+      ((leaves : List (Event × Gone ℕ ℕ Answered)) × (hit old k ≡ None)
+      × RefusesInsert m old (newcomer old (data_of k) 1) reason leaves new)
 
   -- `hash` gives the hash of a key by a hash builder
   module _ {S W A : Type 0} (hash : S → ℕ → ℕ) where
@@ -51,18 +55,21 @@ module _ {View C : Type 0} (m : Meaning ℕ Answered View C) where
     -- keys are looked up, one after another, and these were the answers
     abbrev pub Drives : Core ℕ ℕ Answered View S W A → List ℕ → List Bool → Core ℕ ℕ Answered View S W A → Type 0
     Drives old [] [] new = new ≡ old
-    Drives old (key ∷ keys) (found ∷ answers) new = (mid : Core ℕ ℕ Answered View S W A) × LooksUp old key found mid × Drives mid keys answers new
+    Drives old (key ∷ keys) (found ∷ answers) new = (mid : Core ℕ ℕ Answered View S W A) × LooksUp old key found mid
+        × Drives mid keys answers new
     Drives old _ _ new = ⊥
 
     -- all keys are looked up, and so many are found
-    pub record Runs (old : Core ℕ ℕ Answered View S W A) (keys : List ℕ) (hits : ℕ) (new : Core ℕ ℕ Answered View S W A) : Type 0 where
+    pub record Runs (old : Core ℕ ℕ Answered View S W A) (keys : List ℕ) (hits : ℕ)
+        (new : Core ℕ ℕ Answered View S W A) : Type 0 where
       pub answers : List Bool
       pub drives : Drives old keys answers new
       pub each : length answers ≡ length keys
       pub hits_are : hits ≡ count_by (λ found. found) answers
 
     -- some first keys are looked up, and the next one is refused
-    pub record Stops (old : Core ℕ ℕ Answered View S W A) (keys : List ℕ) (reason : Reason) (new : Core ℕ ℕ Answered View S W A) : Type 0 where
+    pub record Stops (old : Core ℕ ℕ Answered View S W A) (keys : List ℕ) (reason : Reason)
+        (new : Core ℕ ℕ Answered View S W A) : Type 0 where
       pub first : List ℕ
       pub key : ℕ
       pub rest : List ℕ

@@ -15,6 +15,7 @@ pub keys_of-none : (rank : ℕ → ℕ) (seed : ℕ) → keys_of rank seed 0 ≡
 unfolding keys_of
 keys_of-none rank seed = refl
 
-pub keys_of-more : (rank : ℕ → ℕ) (seed n : ℕ) → keys_of rank seed (n + 1) ≡ keys_of rank seed n ++ mixed (rank (number_at (state_after seed (n + 1)))) ∷ []
+pub keys_of-more : (rank : ℕ → ℕ) (seed n : ℕ) → keys_of rank seed (n + 1) ≡ keys_of rank seed n
+    ++ mixed (rank (number_at (state_after seed (n + 1)))) ∷ []
 unfolding keys_of
 keys_of-more rank seed n = rw (add-one n) refl

@@ -20,15 +20,19 @@ list_all-digits [] = refl
 list_all-digits (c ∷ cs) = ap (λ (b : Bool). is_ascii_digit c && b) (list_all-digits cs)
 
 -- what is read of digits
-pub number_is : {E : Type 0} (word : List ℕ) (r : Result ℕ E) → all_ascii_digits word ≡ true → ParsesUnsigned 64 10 word r → result_ok r ≡ number_of word
+pub number_is : {E : Type 0} (word : List ℕ) (r : Result ℕ E) → all_ascii_digits word ≡ true →
+    ParsesUnsigned 64 10 word r → result_ok r ≡ number_of word
 unfolding number_of
 number_is {E} word (Ok x) digits h =
-    let o : OkIff {E = E} (Ok x) ((0 < length word) × (digits_value 10 word < 2 ^ 64)) (digits_value 10 word) = parse_digits numerals {E = E} 64 word (Ok x) h digits in
+    let o : OkIff {E = E} (Ok x) ((0 < length word) × (digits_value 10 word < 2 ^ 64)) (digits_value 10 word) =
+    parse_digits numerals {E = E} 64 word (Ok x) h digits in
     rw (lt-ltb 0 (length word) o.0.0, digits, lt-ltb (digits_value 10 word) (2 ^ 64) o.0.1) (ap (λ (n : ℕ). Some n) o.1)
 number_is {E} word (Err e) digits h = go (nat_lt 0 (length word)) (nat_lt (digits_value 10 word) (2 ^ 64)) refl refl
   where
     go : (a b : Bool) → nat_lt 0 (length word) ≡ a → nat_lt (digits_value 10 word) (2 ^ 64) ≡ b → None ≡ number_of word
-    go true true ea eb = absurd (let o : OkIff {E = E} (Err e) ((0 < length word) × (digits_value 10 word < 2 ^ 64)) (digits_value 10 word) = parse_digits numerals {E = E} 64 word (Err e) h digits in
+    go true true ea eb =
+        absurd (let o : OkIff {E = E} (Err e) ((0 < length word) × (digits_value 10 word < 2 ^ 64))
+        (digits_value 10 word) = parse_digits numerals {E = E} 64 word (Err e) h digits in
         o (ltb-true _ _ ea, ltb-true _ _ eb))
     go false b ea eb = rw ea refl
     go true false ea eb = rw (ea, digits, eb) refl
@@ -70,7 +74,8 @@ module _ {A : Type 0} (f : A → List ℕ) (options : Options) where
   options-odd (w ∷ v ∷ words) word h l at is = absurd (omega arith)
 
   pub options-other : (words : List A) (name value : A) → 2 ≤ length words → name ≡ get_or words 0 name → value ≡ get_or words 1 value → bytes_eq (f name) (codes "--hits") ≡ false
-      → option_and_then (λ o. options_of o (map f (drop 2 words))) (with_option options (f name) (f value)) ≡ options_of options (map f words)
+      → option_and_then (λ o. options_of o (map f (drop 2 words))) (with_option options (f name) (f value))
+      ≡ options_of options (map f words)
   unfolding options_of
   options-other [] name value h at there is = absurd (omega arith)
   options-other (w ∷ []) name value h at there is = absurd (omega arith)

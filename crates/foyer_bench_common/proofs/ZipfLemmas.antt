@@ -48,7 +48,8 @@ places_fit x n h =
     omega (arith, below, up)
 
 -- a number with its highest bit moved to the top
-pub moved : (x : ℕ) → 0 < x → x < 2 ^ 64 → (leading_zeros w64 x < 64) × (x * 2 ^ leading_zeros w64 x % 2 ^ 64 ≡ x * 2 ^ leading_zeros w64 x)
+pub moved : (x : ℕ) → 0 < x → x < 2 ^ 64 → (leading_zeros w64 x < 64)
+    × (x * 2 ^ leading_zeros w64 x % 2 ^ 64 ≡ x * 2 ^ leading_zeros w64 x)
 moved x some fits =
     let (j, sum, low, high) = leading_top 64 x some fits in
     (omega (arith, sum), shl_whole x (suc j) (leading_zeros w64 x) 64 high (omega (arith, sum)))
@@ -64,7 +65,8 @@ root_le n c h r = grind (arith, square_up, r.square_le)
 
 pub factor_le : (factors : List ℕ) → AreFactors factors → (n : ℕ) → n < 32 → slice_index factors n ≤ 2 ^ 63
 factor_le factors are zero h = root_le (2 ^ 62) (slice_index factors 0) (lit≤ tt) (are.each 0 h)
-factor_le factors are (suc n) h = root_le (slice_index factors n) (slice_index factors (suc n)) (factor_le factors are n (omega arith)) (are.each (suc n) h)
+factor_le factors are (suc n) h = root_le (slice_index factors n) (slice_index factors (suc n))
+    (factor_le factors are n (omega arith)) (are.each (suc n) h)
 
 -- ---- powers
 
@@ -75,21 +77,26 @@ pub power_by-none : (factors : List ℕ) (exponent : ℕ) → power_by factors e
 unfolding power_by
 power_by-none factors exponent = refl
 
-pub power_by-yes : (factors : List ℕ) (exponent n : ℕ) → bit_and (exponent / 2 ^ (31 - n)) 1 ≡ 1 → power_by factors exponent (n + 1) ≡ power_by factors exponent n * slice_index factors n / 2 ^ 63
+pub power_by-yes : (factors : List ℕ) (exponent n : ℕ) → bit_and (exponent / 2 ^ (31 - n)) 1 ≡ 1 →
+    power_by factors exponent (n + 1) ≡ power_by factors exponent n * slice_index factors n / 2 ^ 63
 unfolding power_by
 power_by-yes factors exponent n h =
-    let bit : (bit_at exponent (31 - n) == 1) ≡ true = ap (λ (k : ℕ). k == 1) (sym (shr_and_one exponent (31 - n)) ∙ h) in
+    let bit : (bit_at exponent (31 - n) == 1) ≡ true =
+    ap (λ (k : ℕ). k == 1) (sym (shr_and_one exponent (31 - n)) ∙ h) in
     rw (add-one n) (rw bit refl)
 
-pub power_by-no : (factors : List ℕ) (exponent n : ℕ) → (bit_and (exponent / 2 ^ (31 - n)) 1 ≡ 1 → ⊥) → power_by factors exponent (n + 1) ≡ power_by factors exponent n
+pub power_by-no : (factors : List ℕ) (exponent n : ℕ) → (bit_and (exponent / 2 ^ (31 - n)) 1 ≡ 1 → ⊥) →
+    power_by factors exponent (n + 1) ≡ power_by factors exponent n
 unfolding power_by
 power_by-no factors exponent n h =
-    let bit : (bit_at exponent (31 - n) == 1) ≡ false = not_equal (bit_at exponent (31 - n)) 1 (λ e. h (shr_and_one exponent (31 - n) ∙ e)) in
+    let bit : (bit_at exponent (31 - n) == 1) ≡ false =
+    not_equal (bit_at exponent (31 - n)) 1 (λ e. h (shr_and_one exponent (31 - n) ∙ e)) in
     rw (add-one n) (rw bit refl)
 
 -- a number below 1 times a factor is below 1
 pub lowered_le : (power factor : ℕ) → power ≤ 2 ^ 63 → factor ≤ 2 ^ 63 → power * factor / 2 ^ 63 ≤ 2 ^ 63
-lowered_le power factor p f = let up : power * factor ≤ 2 ^ 63 * 2 ^ 63 = mul-le power factor (2 ^ 63) (2 ^ 63) p f in omega (arith, up)
+lowered_le power factor p f = let up : power * factor ≤ 2 ^ 63 * 2 ^ 63 = mul-le power factor (2 ^ 63) (2 ^ 63) p f in
+    omega (arith, up)
 
 -- ---- sums
 
@@ -126,7 +133,8 @@ sums-more weight sums count more counted each is n below = elim (cases_lt n coun
 pub sums-rise : (weight : ℕ → ℕ) (sums : List ℕ) (count : ℕ) → length sums ≡ count
     → ((n : ℕ) → n < count → slice_index sums n ≡ sum_of weight (n + 1)) → IsNonDecreasing sums
 sums-rise weight sums count counted each i j d le below =
-    let first : get_or sums i d ≡ sum_of weight (i + 1) = get_or_default sums i d 0 (omega arith) ∙ each i (omega arith) in
+    let first : get_or sums i d ≡ sum_of weight (i + 1) = get_or_default sums i d 0 (omega arith)
+    ∙ each i (omega arith) in
     let second : get_or sums j d ≡ sum_of weight (j + 1) = get_or_default sums j d 0 below ∙ each j (omega arith) in
     let up = sum_of-grows weight (j - i) (i + 1) in
     let e : j - i + (i + 1) ≡ j + 1 = omega arith in
@@ -134,7 +142,8 @@ sums-rise weight sums count counted each i j d le below =
     omega (arith, first, second, grown)
 
 -- a sum that passes 64 bits makes the whole pass them
-pub sums-pass : (weight : ℕ → ℕ) (count keyspace : ℕ) → count < keyspace → (sum_of weight count + weight (count + 1) < 2 ^ 64 → ⊥) → 2 ^ 64 ≤ sum_of weight keyspace
+pub sums-pass : (weight : ℕ → ℕ) (count keyspace : ℕ) → count < keyspace →
+    (sum_of weight count + weight (count + 1) < 2 ^ 64 → ⊥) → 2 ^ 64 ≤ sum_of weight keyspace
 sums-pass weight count keyspace below passes =
     let up = sum_of-grows weight (keyspace - (count + 1)) (count + 1) in
     let e : keyspace - (count + 1) + (count + 1) ≡ keyspace = omega arith in
@@ -145,7 +154,8 @@ sums-pass weight count keyspace below passes =
 -- ---- ranks
 
 -- where the sums stop being at most a number, the first above it stands
-pub rank_is : (sums : List ℕ) (part i : ℕ) → i ≤ length sums → IsPartitionPoint (λ y. nat_le y part ≡ true) (λ y. nat_le y part ≡ false) sums i
+pub rank_is : (sums : List ℕ) (part i : ℕ) → i ≤ length sums →
+    IsPartitionPoint (λ y. nat_le y part ≡ true) (λ y. nat_le y part ≡ false) sums i
     → position_or_len (λ sum. nat_lt part sum) sums ≡ i
 rank_is sums part i within point = position_or_len_is (λ sum. nat_lt part sum) sums i 0 within
     (λ k below. above_not (get_or sums k 0) (point.0 k 0 (omega arith) below))

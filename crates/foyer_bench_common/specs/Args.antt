@@ -46,7 +46,13 @@ plain = record { hasher = Default; reps = 1; hits_alone = false }
 -- what these words ask for
 abbrev pub args_of : List (List ℕ) → Option BenchArgs
 args_of (policy ∷ capacity ∷ shards ∷ ops ∷ keyspace ∷ skew ∷ seed ∷ options) =
-    option_and_then (λ p. option_and_then (λ c. option_and_then (λ s. option_and_then (λ n. option_and_then (λ k. option_and_then (λ w. option_and_then (λ e.
-    option_and_then (λ o. Some record { policy = p; capacity = c; shards = s; ops = n; keyspace = k; skew = w; seed = e; options = o })
-    (options_of plain options)) (number_of seed)) (skew_of skew)) (some_of keyspace)) (some_of ops)) (some_of shards)) (number_of capacity)) (policy_of policy)
+    option_and_then
+    (λ p. option_and_then
+    (λ c. option_and_then
+    (λ s. option_and_then (λ n. option_and_then (λ k. option_and_then (λ w. option_and_then (λ e.
+    option_and_then
+    (λ o. Some
+    record { policy = p; capacity = c; shards = s; ops = n; keyspace = k; skew = w; seed = e; options = o })
+    (options_of plain options)) (number_of seed)) (skew_of skew)) (some_of keyspace)) (some_of ops)) (some_of shards))
+    (number_of capacity)) (policy_of policy)
 args_of _ = None

@@ -16,7 +16,9 @@ skew_with num den = if nat_lt num (2 ^ 32) then Some record { num = num; den = d
 -- of the digits before the point and after it, of which there are 6 at most
 abbrev pub skew_by : List ℕ → List ℕ → Option Skew
 skew_by whole places = if nat_lt 6 (length places) then None
-    else option_and_then (λ w. option_and_then (λ p. skew_with (w * 10 ^ length places + p) (10 ^ length places)) (part_of places)) (number_of whole)
+    else option_and_then
+    (λ w. option_and_then (λ p. skew_with (w * 10 ^ length places + p) (10 ^ length places)) (part_of places))
+    (number_of whole)
 
 -- the exponent that a decimal number is; 46 is the point
 abbrev pub skew_of : List ℕ → Option Skew

@@ -67,7 +67,8 @@ power factors exponent = power_by factors exponent 32
 -- the weight of the rank before this number: 2^40 over its power, and at least 1
 abbrev pub weight_by : List ℕ → ℕ → ℕ
 weight_by factors exponent =
-    if nat_lt 40 (exponent / 2 ^ 32) then 1 else max (power factors (exponent % 2 ^ 32) / 2 ^ 23 / 2 ^ (exponent / 2 ^ 32)) 1
+    if nat_lt 40 (exponent / 2 ^ 32) then 1 else max
+    (power factors (exponent % 2 ^ 32) / 2 ^ 23 / 2 ^ (exponent / 2 ^ 32)) 1
 
 unfoldable pub weight : List ℕ → Skew → ℕ → ℕ
 weight factors skew number = weight_by factors (log2 number * skew.num / skew.den)

@@ -5,5 +5,6 @@ use Rattle.foyer_bench_locked.specs.declared.args.LockedArgs.{LockedArgs}
 
 -- what these words ask for: how many threads, and then what the benchmark of a core is asked for
 abbrev pub args_of : List (List ℕ) → Option LockedArgs
-args_of (threads ∷ bench) = option_and_then (λ n. option_and_then (λ b. Some record { threads = n; bench = b }) (bench_args_of bench)) (some_of threads)
+args_of (threads ∷ bench) = option_and_then
+    (λ n. option_and_then (λ b. Some record { threads = n; bench = b }) (bench_args_of bench)) (some_of threads)
 args_of _ = None

@@ -14,21 +14,27 @@ second true b h = h
 second false true h = refl
 second false false h = h
 
-module _ {K V P View C : Type 0} (m : Meaning K P View C) (old : State K V P View) (kept : ∥ IsKept m old ∥₁) (k : ℕ × K) (new : State K V P View) where
+module _ {K V P View C : Type 0} (m : Meaning K P View C) (old : State K V P View) (kept : ∥ IsKept m old ∥₁)
+    (k : ℕ × K) (new : State K V P View) where
   -- an id that the index has under a key is that of a record whose key equals it
   led_key : (id : ℕ) (r : Rec K V P) → old.index k ≡ Some id → old.records id ≡ Some r → m.same k.1 r.kept.key ≡ true
   led_key id r led there = ∥∥₁_elim kept (hlevel props) (λ h. second _ _ ((h.indexed k id led).1 r there))
 
-  pub got_key : (r : Result (Option (Held K V P)) Reason) → Gets m old k r new → IfOk r (λ found. IfSome found (λ entry. m.same k.1 entry.kept.key ≡ true))
+  pub got_key : (r : Result (Option (Held K V P)) Reason) → Gets m old k r new →
+      IfOk r (λ found. IfSome found (λ entry. m.same k.1 entry.kept.key ≡ true))
   got_key (Ok None) h = tt
-  got_key (Ok (Some entry)) h = subst (λ (d : Data K V P). m.same k.1 d.key ≡ true) (sym (ap (λ (e : Held K V P). e.kept) h.4)) (led_key entry.id h.0 h.1 h.2)
+  got_key (Ok (Some entry)) h = subst (λ (d : Data K V P). m.same k.1 d.key ≡ true)
+      (sym (ap (λ (e : Held K V P). e.kept) h.4)) (led_key entry.id h.0 h.1 h.2)
   got_key (Err reason) h = tt
 
-  pub removed_key : (r : Result (Option (Held K V P × Gone K V P)) Reason) → Removes m old k r new → IfOk r (λ taken. IfSome taken (λ out. m.same k.1 out.0.kept.key ≡ true))
+  pub removed_key : (r : Result (Option (Held K V P × Gone K V P)) Reason) → Removes m old k r new →
+      IfOk r (λ taken. IfSome taken (λ out. m.same k.1 out.0.kept.key ≡ true))
   removed_key (Ok None) h = tt
-  removed_key (Ok (Some out)) h = subst (λ (d : Data K V P). m.same k.1 d.key ≡ true) (sym (ap (λ (e : Held K V P). e.kept) h.4)) (led_key out.0.id h.0 h.1 h.2)
+  removed_key (Ok (Some out)) h = subst (λ (d : Data K V P). m.same k.1 d.key ≡ true)
+      (sym (ap (λ (e : Held K V P). e.kept) h.4)) (led_key out.0.id h.0 h.1 h.2)
   removed_key (Err reason) h = tt
 
-pub cloned_data : {K V P View : Type 0} (old : State K V P View) (entry : Held K V P) (r : Result (Held K V P) Reason) (new : State K V P View) → ClonesHandle old entry r new → IfOk r (λ clone. clone.kept ≡ entry.kept)
+pub cloned_data : {K V P View : Type 0} (old : State K V P View) (entry : Held K V P) (r : Result (Held K V P) Reason)
+    (new : State K V P View) → ClonesHandle old entry r new → IfOk r (λ clone. clone.kept ≡ entry.kept)
 cloned_data old entry (Ok clone) new h = ap (λ (e : Held _ _ _). e.kept) h.3
 cloned_data old entry (Err reason) new h = tt

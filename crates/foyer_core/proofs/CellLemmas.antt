@@ -175,7 +175,10 @@ module _ {T : Type 0} where
       → AreCells (cells ++ Taken value ∷ []) vacant None
   AreCells-push cells vacant value sound = record {
     counted =
-        rw (map_push value_of cells (Taken value), sum_by_push (λ o. cond (is_some o) 1 0) (map value_of cells) (Some value))
+        rw (
+          map_push value_of cells (Taken value),
+          sum_by_push (λ o. cond (is_some o) 1 0) (map value_of cells) (Some value),
+        )
         (omega (arith, sound.counted, length_push cells (Taken value)));
     linked =
         let none = none_vacant cells vacant sound in
@@ -215,7 +218,8 @@ module _ {T : Type 0} where
       let within = slice_get_within cells slot (Taken value) there in
       let more : suc vacant ≡ vacant + 1 = omega arith in
       let counted = count_set cells slot (Taken value) (Free link) there in
-      let off : (m : ℕ) → m < vacant → IsFreeList cells (suc m) (Some slot) → ⊥ = λ m _. off_list cells slot value there m in
+      let off : (m : ℕ) → m < vacant → IsFreeList cells (suc m) (Some slot) → ⊥ =
+      λ m _. off_list cells slot value there m in
       let rest = beside_list cells slot (Free link) vacant link off sound.linked in
       subst (λ (n : ℕ). AreCells (set cells slot (Free link)) n (Some slot)) more record {
         counted = omega (arith, sound.counted, counted, length-set cells slot (Free link));
@@ -228,7 +232,8 @@ module _ {T : Type 0} where
       → AreCells (set cells slot (Taken new)) vacant link
   AreCells-write cells vacant slot link old new sound there =
       let counted = count_set cells slot (Taken old) (Taken new) there in
-      let off : (m : ℕ) → m < vacant → IsFreeList cells (suc m) (Some slot) → ⊥ = λ m _. off_list cells slot old there m in
+      let off : (m : ℕ) → m < vacant → IsFreeList cells (suc m) (Some slot) → ⊥ =
+      λ m _. off_list cells slot old there m in
       record {
         counted = omega (arith, sound.counted, counted, length-set cells slot (Taken new));
         linked = beside_list cells slot (Taken new) vacant link off sound.linked;

@@ -34,14 +34,17 @@ use Rattle.foyer_core.proofs.Views.{rearranged_keeps}
 
 module _ {K V P View C : Type 0} (m : Meaning K P View C) where
   -- the view after some leaves may be any
-  leave_other : (e : Event) (ids : List ℕ) (old : State K V P View) (ls : List (Event × Gone K V P)) (v w : View) (new : State K V P View) → Leave m e ids old ls v new → Leave m e ids old ls w (record new { view = w })
+  leave_other : (e : Event) (ids : List ℕ) (old : State K V P View) (ls : List (Event × Gone K V P)) (v w : View)
+      (new : State K V P View) → Leave m e ids old ls v new → Leave m e ids old ls w (record new { view = w })
   leave_other e [] old [] v w new h = ap (λ (s : State K V P View). record s { view = w }) h
   leave_other e [] old (l ∷ ls) v w new h = absurd h
   leave_other e (i ∷ ids) old [] v w new h = absurd h
-  leave_other e (i ∷ ids) old (l ∷ ls) v w new h = (h.0, h.1, h.2, leave_other e ids (after_out m old i h.0) ls v w new h.3)
+  leave_other e (i ∷ ids) old (l ∷ ls) v w new h =
+      (h.0, h.1, h.2, leave_other e ids (after_out m old i h.0) ls v w new h.3)
 
   -- a lined state as one that a shard holds
-  abbrev pub lined_holding : {number : ℕ} {keys : ℕ × K → Option ℕ} {records : Records K V P} {items : List Item} → Lined m number keys records items → Holding V m
+  abbrev pub lined_holding : {number : ℕ} {keys : ℕ × K → Option ℕ} {records : Records K V P} {items : List Item} →
+      Lined m number keys records items → Holding V m
   lined_holding {number = number} {keys = keys} {records = records} o = record {
     at = o.at;
     keys = keys;
@@ -56,18 +59,24 @@ module _ {K V P View C : Type 0} (m : Meaning K P View C) where
   }
 
   -- the first of the items is in
-  pub first_in : {number : ℕ} {keys : ℕ × K → Option ℕ} {records : Records K V P} (i : Item) (still : List Item) (o : Lined m number keys records (i ∷ still)) → 0 < count_of i.id (m.policy.order o.view)
+  pub first_in : {number : ℕ} {keys : ℕ × K → Option ℕ} {records : Records K V P} (i : Item) (still : List Item)
+      (o : Lined m number keys records (i ∷ still)) → 0 < count_of i.id (m.policy.order o.view)
   first_in i still o = subst (λ (l : List Item). 0 < count_of i.id l) (sym o.lined) (counted_first i still)
 
-  pub passes-start : {number : ℕ} {keys : ℕ × K → Option ℕ} {records : Records K V P} {items : List Item} (o : Lined m number keys records items) → Passes m o [] items [] keys records
+  pub passes-start : {number : ℕ} {keys : ℕ × K → Option ℕ} {records : Records K V P} {items : List Item}
+      (o : Lined m number keys records items) → Passes m o [] items [] keys records
   passes-start o = record { after = o; leave = refl }
 
   module _ (laws : IsEquivalence m.same) (good : IsPolicy m.policy) where
-    module _ {number : ℕ} {keys0 : ℕ × K → Option ℕ} {records0 : Records K V P} {items : List Item} (o : Lined m number keys0 records0 items)
-        (left : List Item) (i : Item) (still : List Item) (ls : List (Event × Gone K V P)) (keys : ℕ × K → Option ℕ) (t : Records K V P) (p : Passes m o left (i ∷ still) ls keys t)
+    module _ {number : ℕ} {keys0 : ℕ × K → Option ℕ} {records0 : Records K V P} {items : List Item}
+        (o : Lined m number keys0 records0 items)
+        (left : List Item) (i : Item) (still : List Item) (ls : List (Event × Gone K V P)) (keys : ℕ × K → Option ℕ)
+        (t : Records K V P) (p : Passes m o left (i ∷ still) ls keys t)
         (n : ℕ) (known : number_of t i.id ≡ Some n) (x : Kept K V P) (there : slot_in t n ≡ Some x)
-        (t' : Records K V P) (write : (q : ℕ) → slot_in t' q ≡ update nat_eq (slot_in t) n (slot_outside x) q) (recs : (j : ℕ) → record_in t' j ≡ update nat_eq (record_in t) x.id (outside (rec_of x)) j)
-        (keys' : ℕ × K → Option ℕ) (gone : (q : ℕ × K) → keys' q ≡ update (same_key m.same) keys (key_of x.kept) None q) where
+        (t' : Records K V P) (write : (q : ℕ) → slot_in t' q ≡ update nat_eq (slot_in t) n (slot_outside x) q)
+        (recs : (j : ℕ) → record_in t' j ≡ update nat_eq (record_in t) x.id (outside (rec_of x)) j)
+        (keys' : ℕ × K → Option ℕ)
+        (gone : (q : ℕ × K) → keys' q ≡ update (same_key m.same) keys (key_of x.kept) None q) where
       abbrev h : Holding V m
       h = lined_holding p.after
 
@@ -91,13 +100,16 @@ module _ {K V P View C : Type 0} (m : Meaning K P View C) where
         view = view';
         next = p.after.next;
         at = λ q. without x.id (p.after.at q);
-        kept = out_kept m laws good h i.id inside n known x there t' write recs (λ q. without x.id (p.after.at q)) (λ q. refl) keys' gone view' refl;
-        stored = out_stored m laws good h i.id inside n known x there t' write recs (λ q. without x.id (p.after.at q)) (λ q. refl) keys' gone view' refl;
+        kept = out_kept m laws good h i.id inside n known x there t' write recs (λ q. without x.id (p.after.at q))
+            (λ q. refl) keys' gone view' refl;
+        stored = out_stored m laws good h i.id inside n known x there t' write recs (λ q. without x.id (p.after.at q))
+            (λ q. refl) keys' gone view' refl;
         lined = lined';
       }
 
       after_is : lined_state after' ≡ record (after_out m (lined_state p.after) i.id (rec_of x)) { view = view' }
-      after_is = out_after m laws good h i.id inside n known x there t' write recs (λ q. without x.id (p.after.at q)) (λ q. refl) keys' gone view' refl
+      after_is = out_after m laws good h i.id inside n known x there t' write recs (λ q. without x.id (p.after.at q))
+          (λ q. refl) keys' gone view' refl
 
       abbrev leaving : ℕ → Gone K V P
       leaving id = record { number = number; id = id; kept = x.kept }
@@ -106,13 +118,18 @@ module _ {K V P View C : Type 0} (m : Meaning K P View C) where
       passes-more = record {
         after = after';
         leave =
-            subst (λ (id : ℕ). Leave m Clear (ids_of (left ++ i ∷ [])) (lined_state o) (ls ++ (Clear, leaving id) ∷ []) view' (lined_state after')) (sym (out_id m laws good h i.id inside n known x there))
-            (subst₂ (λ (ids : List ℕ) (s : State K V P View). Leave m Clear ids (lined_state o) (ls ++ (Clear, leaving i.id) ∷ []) view' s) (ids-more left i) (sym after_is)
-            (Leave-snoc m Clear (ids_of left) (lined_state o) ls p.after.view (lined_state p.after) i.id (rec_of x) view' p.leave (out_record m laws good h i.id inside n known x there)));
+            subst (λ (id : ℕ). Leave m Clear (ids_of (left ++ i ∷ [])) (lined_state o)
+            (ls ++ (Clear, leaving id) ∷ []) view' (lined_state after'))
+            (sym (out_id m laws good h i.id inside n known x there))
+            (subst₂ (λ (ids : List ℕ) (s : State K V P View). Leave m Clear ids (lined_state o)
+            (ls ++ (Clear, leaving i.id) ∷ []) view' s) (ids-more left i) (sym after_is)
+            (Leave-snoc m Clear (ids_of left) (lined_state o) ls p.after.view (lined_state p.after) i.id (rec_of x)
+            view' p.leave (out_record m laws good h i.id inside n known x there)));
       }
 
     -- all of them left
-    module _ (o : Holding V m) (items : List Item) (all : m.policy.order o.view ≡ items) (keys' : ℕ × K → Option ℕ) (t' : Records K V P)
+    module _ (o : Holding V m) (items : List Item) (all : m.policy.order o.view ≡ items) (keys' : ℕ × K → Option ℕ)
+        (t' : Records K V P)
         (view' : View) (viewed : view' ≡ m.policy.clear o.view) where
       abbrev pub line : Lined m o.number o.keys o.t items
       line = record {
@@ -136,7 +153,8 @@ module _ {K V P View C : Type 0} (m : Meaning K P View C) where
         final_is : final ≡ record (lined_state p.after) { view = view' }
         final_is =
             let r = leave-rests m Clear (ids_of items) (now_of o) ls p.after.view (lined_state p.after) p.leave in
-            same_state final (record (lined_state p.after) { view = view' }) (sym r.number) (sym r.capacity) (sym r.limits) refl (λ q. refl) (λ id. refl) (sym r.next)
+            same_state final (record (lined_state p.after) { view = view' }) (sym r.number) (sym r.capacity)
+            (sym r.limits) refl (λ q. refl) (λ id. refl) (sym r.next)
 
         pub clears : Clears m (now_of o) ls final
         clears =
@@ -152,18 +170,22 @@ module _ {K V P View C : Type 0} (m : Meaning K P View C) where
             absurd (omega arith)
 
         same_items : IsPermutation (m.policy.order p.after.view) (m.policy.order view')
-        same_items = subst₂ (λ (l k : List Item). IsPermutation l k) (sym p.after.lined) (sym none_in) (IsPermutation-refl [])
+        same_items = subst₂ (λ (l k : List Item). IsPermutation l k) (sym p.after.lined) (sym none_in)
+            (IsPermutation-refl [])
 
         kept_by : IsKept m (lined_state p.after) → IsKept m final
-        kept_by k' = subst (IsKept m) (sym final_is) (rearranged_keeps m (lined_state p.after) k' p.after.capacity view' same_items no_pin)
+        kept_by k' = subst (IsKept m) (sym final_is)
+            (rearranged_keeps m (lined_state p.after) k' p.after.capacity view' same_items no_pin)
 
         pub cleared_kept : ∥ IsKept m final ∥₁
         cleared_kept = ∥∥₁_map p.after.kept kept_by
 
         -- no slot's record is in the index
-        out_by : (n : ℕ) (x : Kept K V P) → slot_in t' n ≡ Some x → x.resident ≡ true → IsKept m (lined_state p.after) → true ≡ false
+        out_by : (n : ℕ) (x : Kept K V P) → slot_in t' n ≡ Some x → x.resident ≡ true → IsKept m (lined_state p.after)
+            → true ≡ false
         out_by n x there res k' =
-            let pos : 0 < count_of x.id (m.policy.order p.after.view) = k'.resident x.id (rec_of x) (slot_record m p.after.at keys' t' n x there) res in
+            let pos : 0 < count_of x.id (m.policy.order p.after.view) =
+            k'.resident x.id (rec_of x) (slot_record m p.after.at keys' t' n x there) res in
             let none : 0 < count_of x.id [] = subst (λ (l : List Item). 0 < count_of x.id l) p.after.lined pos in
             absurd (omega arith)
 

@@ -7,7 +7,8 @@ use Rattle.foyer_core.specs.Core.{Core, AtShard, shard_at}
 use Rattle.foyer_core.specs.State.{State}
 
 -- a place of a list after a write there
-pub set_here : {A : Type 0} (xs : List A) (i : ℕ) (x y : A) → slice_get xs i ≡ Some x → slice_get (slice_set xs i y) i ≡ Some y
+pub set_here : {A : Type 0} (xs : List A) (i : ℕ) (x y : A) → slice_get xs i ≡ Some x → slice_get (slice_set xs i y) i
+    ≡ Some y
 set_here [] i x y h = absurd cc
 set_here (a ∷ xs) zero x y h = refl
 set_here (a ∷ xs) (suc i) x y h = set_here xs i x y h
@@ -44,16 +45,19 @@ module _ {X K V P View S W A : Type 0} (f : X → State K V P View) (capacity : 
     shard_over = rw place_is (slice_get-map f xs i ∙ ap (option_map f) there)
 
     -- a step of it is a step at each hash that has it
-    pub at_over : (step : State K V P View → State K V P View → Type 0) (y : X) → step (f x) (f y) → AtShard step hash (core_over xs) (core_over (slice_set xs i y))
+    pub at_over : (step : State K V P View → State K V P View → Type 0) (y : X) → step (f x) (f y) →
+        AtShard step hash (core_over xs) (core_over (slice_set xs i y))
     at_over step y h = record {
       before = f x;
       after = f y;
       there = shard_over;
       stepped = h;
-      rest = rw place_is (ap (λ (l : List (State K V P View)). record (core_over xs) { shards = l }) (map-set f xs i y));
+      rest = rw place_is
+          (ap (λ (l : List (State K V P View)). record (core_over xs) { shards = l }) (map-set f xs i y));
     }
 
     -- where it stays, all does
     pub same_over : (y : X) → f y ≡ f x → core_over (slice_set xs i y) ≡ core_over xs
     same_over y same = ap (λ (l : List (State K V P View)). record (core_over xs) { shards = l })
-        (map-set f xs i y ∙ ap (λ (s : State K V P View). slice_set (map f xs) i s) same ∙ set_same (map f xs) i (f x) (slice_get-map f xs i ∙ ap (option_map f) there))
+        (map-set f xs i y ∙ ap (λ (s : State K V P View). slice_set (map f xs) i s) same
+        ∙ set_same (map f xs) i (f x) (slice_get-map f xs i ∙ ap (option_map f) there))

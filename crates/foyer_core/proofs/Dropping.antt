@@ -18,7 +18,8 @@ module _ {K V P View S W A : Type 0} where
   -- a core owns an entry or does not
   owns_or_not : (core : Core K V P View S W A) (entry : Held K V P) → Owns core entry ⊎ (Owns core entry → ⊥)
   owns_or_not core entry = go (shard_at core entry.kept.hash) where
-    go : (o : Option (State K V P View)) → IsSomeAnd o (λ s. (entry.number ≡ s.number) × (0 < handles_in s entry.id)) ⊎ (IsSomeAnd o (λ s. (entry.number ≡ s.number) × (0 < handles_in s entry.id)) → ⊥)
+    go : (o : Option (State K V P View)) → IsSomeAnd o (λ s. (entry.number ≡ s.number) × (0 < handles_in s entry.id))
+        ⊎ (IsSomeAnd o (λ s. (entry.number ≡ s.number) × (0 < handles_in s entry.id)) → ⊥)
     go None = inr (λ h. h)
     go (Some s) = elim (eqb_tells entry.number s.number) [
       | inr other ↦ inr (λ h. other.1 h.0)
@@ -29,13 +30,16 @@ module _ {K V P View S W A : Type 0} where
     ]
 
   -- what leaves tell, and then further ones
-  told_then : (same : K → K → Bool) (hash : K → ℕ) (old mid new : Core K V P View S W A) (ls more : List (Event × Gone K V P))
+  told_then : (same : K → K → Bool) (hash : K → ℕ) (old mid new : Core K V P View S W A)
+      (ls more : List (Event × Gone K V P))
       → IsTold same hash old ls mid → IsTold same hash mid more new → IsTold same hash old (ls ++ more) new
   told_then same hash old mid new ls more first second k =
-      second k ∙ leaves_congr same (known hash mid) (after_leaves same (known hash old) ls) first more k ∙ sym (leaves_append same (known hash old) ls more k)
+      second k ∙ leaves_congr same (known hash mid) (after_leaves same (known hash old) ls) first more k
+      ∙ sym (leaves_append same (known hash old) ls more k)
 
   -- handles that are given back, and then others
-  stay_then : (some others all : Held K V P → ℕ) → ((e : Held K V P) → all e ≡ others e + some e) → (old mid new : Core K V P View S W A)
+  stay_then : (some others all : Held K V P → ℕ) → ((e : Held K V P) → all e ≡ others e + some e) →
+      (old mid new : Core K V P View S W A)
       → HandlesStay some old mid → HandlesStay others mid new → HandlesStay all old new
   stay_then some others all sum old mid new first second e r there less =
       let n : all e ≡ others e + some e = sum e in
@@ -44,27 +48,37 @@ module _ {K V P View S W A : Type 0} where
       (b.0, b.1, b.2 ∙ a.2, omega (arith, n, a.3, b.3))
 
   -- where there is none, all stay
-  pub none_stay : (entries : List (Held K V P)) (core : Core K V P View S W A) → entries ≡ [] → HandlesStay (among core entries) core core
+  pub none_stay : (entries : List (Held K V P)) (core : Core K V P View S W A) → entries ≡ [] →
+      HandlesStay (among core entries) core core
   none_stay entries core none e r there less = (r, there, refl, omega arith)
 
   -- an entry's record has the same number where there are as many shards
-  one_same : (old mid : Core K V P View S W A) (entry e : Held K V P) → length mid.shards ≡ length old.shards → one_of mid entry e ≡ one_of old entry e
-  one_same old mid entry e many = ap (λ (n : ℕ). if (e.id == entry.id) && ((e.kept.hash % n) == (entry.kept.hash % n)) then 1 else 0) many
+  one_same : (old mid : Core K V P View S W A) (entry e : Held K V P) → length mid.shards ≡ length old.shards →
+      one_of mid entry e ≡ one_of old entry e
+  one_same old mid entry e many =
+      ap (λ (n : ℕ). if (e.id == entry.id) && ((e.kept.hash % n) == (entry.kept.hash % n)) then 1 else 0) many
 
 module _ {K V P View C S W A : Type 0} (m : Meaning K P View C) where
   -- what gives keys their hashes stays, and so many shards
-  ends_same : (entry : Held K V P) (leave : Option (Event × Gone K V P)) (old new : Core K V P View S W A) → EndsEntry m entry leave old new
+  ends_same : (entry : Held K V P) (leave : Option (Event × Gone K V P)) (old new : Core K V P View S W A) →
+      EndsEntry m entry leave old new
       → (new.hash_builder ≡ old.hash_builder) × (length new.shards ≡ length old.shards)
   ends_same entry leave old new h = elim (owns_or_not old entry) [
     | inl owned ↦ (let at = h.owned owned in (
       ap (λ (c : Core K V P View S W A). c.hash_builder) at.rest,
-      ap (λ (c : Core K V P View S W A). length c.shards) at.rest ∙ length-set old.shards (shard_of old entry.kept.hash) at.after,
+      ap (λ (c : Core K V P View S W A). length c.shards) at.rest
+          ∙ length-set old.shards (shard_of old entry.kept.hash) at.after,
     ))
-    | inr foreign ↦ (let same = (h.foreign foreign).1 in (ap (λ (c : Core K V P View S W A). c.hash_builder) same, ap (λ (c : Core K V P View S W A). length c.shards) same))
+    | inr foreign ↦
+        (let same = (h.foreign foreign).1 in (
+          ap (λ (c : Core K V P View S W A). c.hash_builder) same,
+          ap (λ (c : Core K V P View S W A). length c.shards) same,
+        ))
   ]
 
   -- of some entries the last ones have ended, and these are left; `hash` gives a key its hash
-  pub record DroppedTo (hash : S → K → ℕ) (entries left : List (Held K V P)) (old new : Core K V P View S W A) : Type 0 where
+  pub record DroppedTo (hash : S → K → ℕ) (entries left : List (Held K V P)) (old new : Core K V P View S W A) : Type
+      0 where
     pub gone : List (Held K V P)
     pub parts : entries ≡ left ++ gone
     pub drops : Drops m (hash old.hash_builder) gone old new
@@ -72,7 +86,8 @@ module _ {K V P View C S W A : Type 0} (m : Meaning K P View C) where
     pub builder : new.hash_builder ≡ old.hash_builder
     pub many : length new.shards ≡ length old.shards
 
-  pub dropped_none : (hash : S → K → ℕ) (entries : List (Held K V P)) (core : Core K V P View S W A) → DroppedTo hash entries entries core core
+  pub dropped_none : (hash : S → K → ℕ) (entries : List (Held K V P)) (core : Core K V P View S W A) →
+      DroppedTo hash entries entries core core
   dropped_none hash entries core = record {
     gone = [];
     parts = sym (append-nil entries);
@@ -82,21 +97,26 @@ module _ {K V P View C S W A : Type 0} (m : Meaning K P View C) where
     many = refl;
   }
 
-  pub dropped_more : (hash : S → K → ℕ) (entries left less : List (Held K V P)) (entry : Held K V P) (leave : Option (Event × Gone K V P)) (old mid new : Core K V P View S W A)
-      → left ≡ less ++ entry ∷ [] → DroppedTo hash entries left old mid → EndsEntry m entry leave mid new → IsTold m.same (hash mid.hash_builder) mid (option_to_list leave) new → HandlesStay (one_of mid entry) mid new
+  pub dropped_more : (hash : S → K → ℕ) (entries left less : List (Held K V P)) (entry : Held K V P)
+      (leave : Option (Event × Gone K V P)) (old mid new : Core K V P View S W A)
+      → left ≡ less ++ entry ∷ [] → DroppedTo hash entries left old mid → EndsEntry m entry leave mid new →
+      IsTold m.same (hash mid.hash_builder) mid (option_to_list leave) new → HandlesStay (one_of mid entry) mid new
       → DroppedTo hash entries less old new
   dropped_more hash entries left less entry leave old mid new last d ends told stay =
       let same = ends_same entry leave mid new ends in
-      let by : IsTold m.same (hash old.hash_builder) mid (option_to_list leave) new = subst (λ (b : S). IsTold m.same (hash b) mid (option_to_list leave) new) d.builder told in
+      let by : IsTold m.same (hash old.hash_builder) mid (option_to_list leave) new =
+      subst (λ (b : S). IsTold m.same (hash b) mid (option_to_list leave) new) d.builder told in
       record {
         gone = entry ∷ d.gone;
         parts = d.parts ∙ ap (λ (l : List (Held K V P)). l ++ d.gone) last ∙ append_assoc less (entry ∷ []) d.gone;
         drops = record {
           leaves = d.drops.leaves ++ option_to_list leave;
           ended = (d.drops.leaves, mid, leave, d.drops.ended, ends, refl);
-          told = told_then m.same (hash old.hash_builder) old mid new d.drops.leaves (option_to_list leave) d.drops.told by;
+          told = told_then m.same (hash old.hash_builder) old mid new d.drops.leaves (option_to_list leave)
+              d.drops.told by;
         };
-        stay = stay_then (among old d.gone) (one_of old entry) (among old (entry ∷ d.gone)) (λ e. sum_by-cons (λ x. one_of old x e) entry d.gone) old mid new d.stay one_stays;
+        stay = stay_then (among old d.gone) (one_of old entry) (among old (entry ∷ d.gone))
+            (λ e. sum_by-cons (λ x. one_of old x e) entry d.gone) old mid new d.stay one_stays;
         builder = same.0 ∙ d.builder;
         many = same.1 ∙ d.many;
       }
@@ -108,13 +128,17 @@ module _ {K V P View C S W A : Type 0} (m : Meaning K P View C) where
           (q.0, q.1, q.2, omega (arith, n, q.3))
 
   -- once none is left, all have ended
-  pub dropped_all : (hash : S → K → ℕ) (entries left : List (Held K V P)) (old new : Core K V P View S W A) → left ≡ [] → DroppedTo hash entries left old new
+  pub dropped_all : (hash : S → K → ℕ) (entries left : List (Held K V P)) (old new : Core K V P View S W A) → left
+      ≡ [] → DroppedTo hash entries left old new
       → Drops m (hash old.hash_builder) entries old new × HandlesStay (among old entries) old new
   dropped_all hash entries left old new none d =
-      let all : d.gone ≡ entries = ap (λ (l : List (Held K V P)). l ++ d.gone) (sym none) ∙ sym d.parts in
-      (subst (λ (l : List (Held K V P)). Drops m (hash old.hash_builder) l old new) all d.drops, subst (λ (l : List (Held K V P)). HandlesStay (among old l) old new) all d.stay)
+      let all : d.gone ≡ entries = ap (λ (l : List (Held K V P)). l ++ d.gone) (sym none) ∙ sym d.parts in (
+        subst (λ (l : List (Held K V P)). Drops m (hash old.hash_builder) l old new) all d.drops,
+        subst (λ (l : List (Held K V P)). HandlesStay (among old l) old new) all d.stay,
+      )
 
   -- where there is none, nothing changes
-  pub dropped_nobody : (hash : K → ℕ) (entries : List (Held K V P)) (old new : Core K V P View S W A) → Drops m hash entries old new → entries ≡ [] → new ≡ old
+  pub dropped_nobody : (hash : K → ℕ) (entries : List (Held K V P)) (old new : Core K V P View S W A) →
+      Drops m hash entries old new → entries ≡ [] → new ≡ old
   dropped_nobody hash [] old new d none = d.ended.1
   dropped_nobody hash (entry ∷ entries) old new d none = absurd cc

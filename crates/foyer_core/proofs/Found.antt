@@ -29,14 +29,17 @@ IsOnly id i x = x.id ≡ id → x ≡ i
 only_new : (id : ℕ) (i : Item) (l : List Item) → IsNewIn id l → AllByRecursion (IsOnly id i) l
 only_new id i [] h = tt
 only_new id i (x ∷ xs) h = (
-  λ e. absurd (let o : one_if id x ≡ 1 = (let t : (x.id == id) ≡ true = grind (arith, nat_tests) in rw t refl) in omega (arith, count-cons id x xs)),
+  λ e. absurd
+      (let o : one_if id x ≡ 1 = (let t : (x.id == id) ≡ true = grind (arith, nat_tests) in rw t refl) in
+      omega (arith, count-cons id x xs)),
   only_new id i xs (omega (arith, count-cons id x xs)),
 )
 
 only_found : (id : ℕ) (i : Item) (l : List Item) → HasIdsOnce l → find_id id l ≡ Some i → AllByRecursion (IsOnly id i) l
 only_found id i [] once h = tt
 only_found id i (x ∷ xs) once h = go (x.id == id) refl h (only_found id i xs (once-tail x xs once)) where
-  go : (b : Bool) → (x.id == id) ≡ b → cond b (Some x) (find_id id xs) ≡ Some i → (find_id id xs ≡ Some i → AllByRecursion (IsOnly id i) xs) → IsOnly id i x × AllByRecursion (IsOnly id i) xs
+  go : (b : Bool) → (x.id == id) ≡ b → cond b (Some x) (find_id id xs) ≡ Some i →
+      (find_id id xs ≡ Some i → AllByRecursion (IsOnly id i) xs) → IsOnly id i x × AllByRecursion (IsOnly id i) xs
   go true e h rec =
       let s : x ≡ i = cc in
       let n : x.id ≡ id = grind (arith, nat_tests) in
@@ -46,7 +49,8 @@ only_found id i (x ∷ xs) once h = go (x.id == id) refl h (only_found id i xs (
 found_only : (id : ℕ) (i j : Item) (l : List Item) → AllByRecursion (IsOnly id i) l → find_id id l ≡ Some j → j ≡ i
 found_only id i j [] all h = absurd cc
 found_only id i j (x ∷ xs) all h = go (x.id == id) refl h (found_only id i j xs all.1) where
-  go : (b : Bool) → (x.id == id) ≡ b → cond b (Some x) (find_id id xs) ≡ Some j → (find_id id xs ≡ Some j → j ≡ i) → j ≡ i
+  go : (b : Bool) → (x.id == id) ≡ b → cond b (Some x) (find_id id xs) ≡ Some j → (find_id id xs ≡ Some j → j ≡ i) → j
+      ≡ i
   go true e h rec =
       let s : x ≡ j = cc in
       let n : x.id ≡ id = grind (arith, nat_tests) in
@@ -54,10 +58,12 @@ found_only id i j (x ∷ xs) all h = go (x.id == id) refl h (found_only id i j x
   go false e h rec = rec h
 
 -- the order of a list with each id once does not tell what is found
-pub found-permuted : (id : ℕ) (i : Item) (xs ys : List Item) → HasIdsOnce xs → IsPermutation xs ys → find_id id xs ≡ Some i → find_id id ys ≡ Some i
+pub found-permuted : (id : ℕ) (i : Item) (xs ys : List Item) → HasIdsOnce xs → IsPermutation xs ys → find_id id xs
+    ≡ Some i → find_id id ys ≡ Some i
 found-permuted id i xs ys once perm h =
     let P : Item → Type 0 = IsOnly id i in
-    let all : AllByRecursion P ys = recursion_from_All P ys (All-permutation P xs ys perm (All-from_recursion P xs (only_found id i xs once h))) in
+    let all : AllByRecursion P ys = recursion_from_All P ys
+    (All-permutation P xs ys perm (All-from_recursion P xs (only_found id i xs once h))) in
     let j = found-where id ys (omega (arith, found-counted id i xs h, sum_by-IsPermutation (one_if id) xs ys perm)) in
     j.1 ∙ ap (λ (x : Item). Some x) (found_only id i j.0 ys all j.1)
 
@@ -71,22 +77,25 @@ pub found-tail : (id : ℕ) (i j : Item) (l : List Item) → i.id ≢ id → fin
 found-tail id i j l apart h = (let e : (i.id == id) ≡ false = grind (arith, nat_tests) in rw e h)
 
 -- what is found after one was taken out was found before
-pub found-remove_id : (id : ℕ) (j : Item) (k : ℕ) (l : List Item) → HasIdsOnce l → find_id k (remove_id id l) ≡ Some j → find_id k l ≡ Some j
+pub found-remove_id : (id : ℕ) (j : Item) (k : ℕ) (l : List Item) → HasIdsOnce l → find_id k (remove_id id l) ≡ Some j
+    → find_id k l ≡ Some j
 found-remove_id id j k [] once h = h
-found-remove_id id j k (x ∷ xs) once h = go (x.id == id) (x.id == k) refl refl h (found-remove_id id j k xs (once-tail x xs once)) where
-  go : (b c : Bool) → (x.id == id) ≡ b → (x.id == k) ≡ c → find_id k (cond b xs (x ∷ remove_id id xs)) ≡ Some j
-      → (find_id k (remove_id id xs) ≡ Some j → find_id k xs ≡ Some j) → cond c (Some x) (find_id k xs) ≡ Some j
-  go true true e f h rec =
-      let n : x.id ≡ k = grind (arith, nat_tests) in
-      absurd (found-not k j xs (subst (λ (a : ℕ). IsNewIn a xs) n (once-head x xs once)) h)
-  go true false e f h rec = h
-  go false true e f h rec = rw f at h
-  go false false e f h rec = rec (rw f at h)
+found-remove_id id j k (x ∷ xs) once h = go (x.id == id) (x.id == k) refl refl h
+    (found-remove_id id j k xs (once-tail x xs once)) where
+      go : (b c : Bool) → (x.id == id) ≡ b → (x.id == k) ≡ c → find_id k (cond b xs (x ∷ remove_id id xs)) ≡ Some j
+          → (find_id k (remove_id id xs) ≡ Some j → find_id k xs ≡ Some j) → cond c (Some x) (find_id k xs) ≡ Some j
+      go true true e f h rec =
+          let n : x.id ≡ k = grind (arith, nat_tests) in
+          absurd (found-not k j xs (subst (λ (a : ℕ). IsNewIn a xs) n (once-head x xs once)) h)
+      go true false e f h rec = h
+      go false true e f h rec = rw f at h
+      go false false e f h rec = rec (rw f at h)
 
 -- whatever is counted, the rest without an item has at most as much
 pub sum-removed : (measure : Item → ℕ) (id : ℕ) (l : List Item) → sum_by measure (remove_id id l) ≤ sum_by measure l
 sum-removed f id [] = omega arith
 sum-removed f id (x ∷ xs) = go (x.id == id) (sum-removed f id xs) where
-  go : (b : Bool) → sum_by f (remove_id id xs) ≤ sum_by f xs → sum_by f (cond b xs (x ∷ remove_id id xs)) ≤ sum_by f (x ∷ xs)
+  go : (b : Bool) → sum_by f (remove_id id xs) ≤ sum_by f xs →
+      sum_by f (cond b xs (x ∷ remove_id id xs)) ≤ sum_by f (x ∷ xs)
   go true rec = omega (arith, sum_by-cons f x xs)
   go false rec = omega (arith, sum_by-cons f x xs, sum_by-cons f x (remove_id id xs))

@@ -32,38 +32,54 @@ module _ {K V P : Type 0} (t : Records K V P) (id n : ℕ) (named : number_of t 
   named_there = id_by-there (slot_in t) n id (t.agree.named id n named)
 
   pub named_id : (x : Kept K V P) → slot_in t n ≡ Some x → x.id ≡ id
-  named_id x there = (let same : ◌≡◌ {A = Option ℕ} (Some x.id) (Some id) = sym (id_by-some (slot_in t) n x there) ∙ t.agree.named id n named in cc)
+  named_id x there =
+      (let same : ◌≡◌ {A = Option ℕ} (Some x.id) (Some id) = sym (id_by-some (slot_in t) n x there)
+      ∙ t.agree.named id n named in cc)
 
-module _ {K V P View C : Type 0} (m : Meaning K P View C) (laws : IsEquivalence m.same) (good : IsPolicy m.policy) (o : Holding V m) where
+module _ {K V P View C : Type 0} (m : Meaning K P View C) (laws : IsEquivalence m.same) (good : IsPolicy m.policy)
+    (o : Holding V m) where
   open o use {at, keys, t, number, capacity, limits, view, next, kept, stored}
 
   -- the record with one handle less
   module _ (n : ℕ) (x : Kept K V P) (there : slot_in t n ≡ Some x) (t' : Records K V P)
-      (write : (q : ℕ) → slot_in t' q ≡ update nat_eq (slot_in t) n (Some (with_handles x (x.handles - 1))) q) (ids : (q : ℕ) → number_of t' q ≡ number_of t q) where
+      (write : (q : ℕ) → slot_in t' q ≡ update nat_eq (slot_in t) n (Some (with_handles x (x.handles - 1))) q)
+      (ids : (q : ℕ) → number_of t' q ≡ number_of t q) where
     pub took_stored : (at' : ℕ → Option Item) → ((p : ℕ) → at' p ≡ at p) → IsStored m at' keys t'
     took_stored at' places = count_stored m at keys t at' t' n (x.handles - 1) x there write ids places stored
 
     abbrev with_left : View → ℕ → State K V P View
-    with_left v h = record (now_of o) { view = v; records = update nat_eq (record_in t) x.id (Some (record { kept = x.kept; handles = h; resident = x.resident })) }
+    with_left v h = record (now_of o) {
+      view = v;
+      records = update nat_eq (record_in t) x.id
+          (Some (record { kept = x.kept; handles = h; resident = x.resident }));
+    }
 
     took_state : (view' : View) → state number capacity limits view' keys t' next ≡ with_left view' (x.handles - 1)
-    took_state view' = same_state (state number capacity limits view' keys t' next) (with_left view' (x.handles - 1)) refl refl refl refl
+    took_state view' = same_state (state number capacity limits view' keys t' next)
+        (with_left view' (x.handles - 1)) refl refl refl refl
         (count_index m at keys t at t' n (x.handles - 1) x there write ids (λ p. refl))
-        (write_records (slot_in t) (slot_in t') (number_of t) (number_of t') n t.agree x (with_handles x (x.handles - 1)) there refl write ids) refl
+        (write_records (slot_in t) (slot_in t') (number_of t) (number_of t') n t.agree x
+        (with_handles x (x.handles - 1)) there refl write ids) refl
 
     -- once it is shown what the step makes
-    module _ (view' : View) (held : 0 < x.handles) (after : state number capacity limits view' keys t' next ≡ after_give_back m (now_of o) x.id (rec_of x)) where
+    module _ (view' : View) (held : 0 < x.handles)
+        (after : state number capacity limits view' keys t' next ≡ after_give_back m (now_of o) x.id (rec_of x)) where
       stays_kept : ∥ IsKept m (state number capacity limits view' keys t' next) ∥₁
-      stays_kept = ∥∥₁_map kept (λ k. subst (IsKept m) (sym after) (give_back_keeps m laws good (now_of o) k x.id (rec_of x) (slot_record m at keys t n x there) held))
+      stays_kept = ∥∥₁_map kept
+          (λ k. subst (IsKept m) (sym after)
+          (give_back_keeps m laws good (now_of o) k x.id (rec_of x) (slot_record m at keys t n x there) held))
 
-      stays_gives : None ≡ last_leave m number x.id (rec_of x) → (id : ℕ) → number_of t id ≡ Some n → GivesBack m (now_of o) id None (state number capacity limits view' keys t' next)
-      stays_gives leaves id named = subst (λ (a : ℕ). GivesBack m (now_of o) a None (state number capacity limits view' keys t' next)) (named_id t id n named x there) record {
-        rec = rec_of x;
-        there = slot_record m at keys t n x there;
-        held = held;
-        leaves = leaves;
-        after = after;
-      }
+      stays_gives : None ≡ last_leave m number x.id (rec_of x) → (id : ℕ) → number_of t id ≡ Some n →
+          GivesBack m (now_of o) id None (state number capacity limits view' keys t' next)
+      stays_gives leaves id named = subst
+          (λ (a : ℕ). GivesBack m (now_of o) a None (state number capacity limits view' keys t' next))
+          (named_id t id n named x there) record {
+            rec = rec_of x;
+            there = slot_record m at keys t n x there;
+            held = held;
+            leaves = leaves;
+            after = after;
+          }
 
     -- there is another one
     module _ (more : 1 < x.handles) where
@@ -71,17 +87,22 @@ module _ {K V P View C : Type 0} (m : Meaning K P View C) (laws : IsEquivalence 
       not_one = grind (arith, nat_tests)
 
       took_after : state number capacity limits view keys t' next ≡ after_give_back m (now_of o) x.id (rec_of x)
-      took_after = took_state view ∙ sym (ap (λ (b : Bool). cond b (after_last m (now_of o) x.id (rec_of x)) (with_left view (x.handles - 1))) not_one)
+      took_after = took_state view ∙
+          sym (ap (λ (b : Bool). cond b (after_last m (now_of o) x.id (rec_of x)) (with_left view (x.handles - 1)))
+          not_one)
 
       pub took_kept : ∥ IsKept m (state number capacity limits view keys t' next) ∥₁
       took_kept = stays_kept view (omega arith) took_after
 
-      pub took_gives : (id : ℕ) → number_of t id ≡ Some n → GivesBack m (now_of o) id None (state number capacity limits view keys t' next)
-      took_gives = stays_gives view (omega arith) took_after (let gone : Event × Gone K V P = (Evict, record { number = number; id = x.id; kept = x.kept }) in
+      pub took_gives : (id : ℕ) → number_of t id ≡ Some n →
+          GivesBack m (now_of o) id None (state number capacity limits view keys t' next)
+      took_gives = stays_gives view (omega arith) took_after
+          (let gone : Event × Gone K V P = (Evict, record { number = number; id = x.id; kept = x.kept }) in
           sym (ap (λ (b : Bool). cond (b && (not x.resident && is_phantom_record m x.kept)) (Some gone) None) not_one))
 
     -- it was the last one, of a record in the index
-    module _ (one : x.handles ≡ 1) (res : x.resident ≡ true) (view' : View) (viewed : view' ≡ m.policy.release view x.id) where
+    module _ (one : x.handles ≡ 1) (res : x.resident ≡ true) (view' : View)
+        (viewed : view' ≡ m.policy.release view x.id) where
       is_one : (x.handles == 1) ≡ true
       is_one = ap (λ (h : ℕ). h == 1) one
 
@@ -90,24 +111,33 @@ module _ {K V P View C : Type 0} (m : Meaning K P View C) (laws : IsEquivalence 
 
       released_after : state number capacity limits view' keys t' next ≡ after_give_back m (now_of o) x.id (rec_of x)
       released_after = took_state view' ∙ ap₂ with_left viewed none_left ∙ sym (ap₂ (λ (a b : Bool). cond a
-          (cond b (with_left (m.policy.release view x.id) 0) (record (now_of o) { records = update nat_eq (record_in t) x.id None }))
+          (cond b (with_left (m.policy.release view x.id) 0)
+          (record (now_of o) { records = update nat_eq (record_in t) x.id None }))
           (with_left view (x.handles - 1))) is_one res)
 
       pub released_kept : ∥ IsKept m (state number capacity limits view' keys t' next) ∥₁
       released_kept = stays_kept view' (omega (arith, one)) released_after
 
-      pub released_gives : (id : ℕ) → number_of t id ≡ Some n → GivesBack m (now_of o) id None (state number capacity limits view' keys t' next)
-      released_gives = stays_gives view' (omega (arith, one)) released_after (let gone : Event × Gone K V P = (Evict, record { number = number; id = x.id; kept = x.kept }) in
+      pub released_gives : (id : ℕ) → number_of t id ≡ Some n →
+          GivesBack m (now_of o) id None (state number capacity limits view' keys t' next)
+      released_gives = stays_gives view' (omega (arith, one)) released_after
+          (let gone : Event × Gone K V P = (Evict, record { number = number; id = x.id; kept = x.kept }) in
           sym (ap₂ (λ (a b : Bool). cond (a && (not b && is_phantom_record m x.kept)) (Some gone) None) is_one res))
 
       weight_same : IsKept m (now_of o) → weight_of (m.policy.order view') ≡ weight_of (m.policy.order view)
-      weight_same k = ap (λ (v : View). weight_of (m.policy.order v)) viewed ∙ sum_by-IsPermutation (λ (i : Item). i.weight) (m.policy.order view) (m.policy.order (m.policy.release view x.id)) (good.release_order view x.id k.once)
+      weight_same k = ap (λ (v : View). weight_of (m.policy.order v)) viewed
+          ∙ sum_by-IsPermutation (λ (i : Item). i.weight) (m.policy.order view)
+          (m.policy.order (m.policy.release view x.id)) (good.release_order view x.id k.once)
 
-      pub released_weight : (usage : ℕ) → usage ≡ weight_of (m.policy.order view) → usage ≡ weight_of (m.policy.order view')
+      pub released_weight : (usage : ℕ) → usage ≡ weight_of (m.policy.order view) → usage
+          ≡ weight_of (m.policy.order view')
       released_weight usage h = h ∙ sym (∥∥₁_elim kept (hlevel props) weight_same)
 
       length_same : IsKept m (now_of o) → length (m.policy.order view') ≡ length (m.policy.order view)
-      length_same k = ap (λ (v : View). length (m.policy.order v)) viewed ∙ length_permutation (m.policy.order view) (m.policy.order (m.policy.release view x.id)) (good.release_order view x.id k.once)
+      length_same k = ap (λ (v : View). length (m.policy.order v)) viewed
+          ∙ length_permutation (m.policy.order view) (m.policy.order (m.policy.release view x.id))
+          (good.release_order view x.id k.once)
 
-      pub released_entries : (entries : ℕ) → entries ≡ length (m.policy.order view) → entries ≡ length (m.policy.order view')
+      pub released_entries : (entries : ℕ) → entries ≡ length (m.policy.order view) → entries
+          ≡ length (m.policy.order view')
       released_entries entries h = h ∙ sym (∥∥₁_elim kept (hlevel props) length_same)

@@ -18,14 +18,17 @@ use Rattle.foyer_core.proofs.ShardLemmas.{Holding, now_of}
 use Rattle.foyer_core.proofs.States.{same_state}
 
 -- it keeps what a shard keeps
-module _ {K V P View C : Type 0} (m : Meaning K P View C) (s : State K V P View) (kept : IsKept m s) (i : Incoming K V P) (out_of : (r : Rec K V P) → s.records i.id ≡ Some r → r.resident ≡ false) where
+module _ {K V P View C : Type 0} (m : Meaning K P View C) (s : State K V P View) (kept : IsKept m s)
+    (i : Incoming K V P) (out_of : (r : Rec K V P) → s.records i.id ≡ Some r → r.resident ≡ false) where
   abbrev held_record : Rec K V P
   held_record = record { kept = i.kept; handles = i.handles; resident = false }
 
-  record_was : (id : ℕ) (q : Rec K V P) → (after_hold m s i).records id ≡ Some q → ((id ≡ i.id) × (q ≡ held_record)) ⊎ ((id ≢ i.id) × (s.records id ≡ Some q))
+  record_was : (id : ℕ) (q : Rec K V P) → (after_hold m s i).records id ≡ Some q → ((id ≡ i.id) × (q ≡ held_record))
+      ⊎ ((id ≢ i.id) × (s.records id ≡ Some q))
   record_was id q h = elim (eqb_tells id i.id) [
     | inl e ↦ (let now : ◌≡◌ {A = Option (Rec K V P)} (Some held_record) (Some q) =
-        sym (update_here s.records i.id (Some held_record)) ∙ subst (λ (a : ℕ). (after_hold m s i).records a ≡ Some q) (e.1) h in inl (e.1, cc (now)))
+        sym (update_here s.records i.id (Some held_record))
+        ∙ subst (λ (a : ℕ). (after_hold m s i).records a ≡ Some q) (e.1) h in inl (e.1, cc (now)))
     | inr e ↦ inr (e.1, sym (update_apart s.records i.id (Some held_record) id e.1) ∙ h)
   ]
 
@@ -36,22 +39,29 @@ module _ {K V P View C : Type 0} (m : Meaning K P View C) (s : State K V P View)
   hold_keeps held handles = record {
     once = kept.once;
     placed = λ j h. (let old = kept.placed j h in
-        let apart : j.id ≢ i.id = (λ e. absurd (true≢false (sym old.2 ∙ out_of old.0 (ap s.records (sym e) ∙ old.1)))) in
+        let apart : j.id ≢ i.id =
+        (λ e. absurd (true≢false (sym old.2 ∙ out_of old.0 (ap s.records (sym e) ∙ old.1)))) in
         (old.0, update_apart s.records i.id (Some held_record) j.id apart ∙ old.1, old.2, old.3, old.4));
     indexed = λ k id h. (let old = kept.indexed k id h in (
       old.0,
       λ q there. elim (record_was id q there) [
-        | inl f ↦ absurd (let none : count_of id (m.policy.order s.view) ≡ 0 = subst (λ (a : ℕ). count_of a (m.policy.order s.view) ≡ 0) (sym f.0) (out_new m s kept i.id out_of) in let pos = old.0 in omega arith)
+        | inl f ↦
+            absurd (let none : count_of id (m.policy.order s.view) ≡ 0 =
+            subst (λ (a : ℕ). count_of a (m.policy.order s.view) ≡ 0) (sym f.0) (out_new m s kept i.id out_of) in
+            let pos = old.0 in omega arith)
         | inr f ↦ old.1 q f.1
       ],
     ));
-    resident = λ id q h res. elim (record_was id q h) [ inl f ↦ absurd (out_is q f.1 res) | inr f ↦ kept.resident id q f.1 res ];
+    resident = λ id q h res. elim (record_was id q h)
+        [ inl f ↦ absurd (out_is q f.1 res) | inr f ↦ kept.resident id q f.1 res ];
     respects = kept.respects;
     needed = λ id q h. elim (record_was id q h) [ inl f ↦ inr (rw (f.1) held) | inr f ↦ kept.needed id q f.1 ];
     limited = λ id q h. elim (record_was id q h) [ inl f ↦ rw (f.1) handles | inr f ↦ kept.limited id q f.1 ];
     pinned = λ id q h pos. elim (record_was id q h) [ inl f ↦ rw (f.1) held | inr f ↦ kept.pinned id q f.1 pos ];
-    plain = λ id q h res. elim (record_was id q h) [ inl f ↦ absurd (out_is q f.1 res) | inr f ↦ kept.plain id q f.1 res ];
-    fresh = λ id q h. elim (record_was id q h) [ inl f ↦ omega (arith, f.0) | inr f ↦ omega (arith, kept.fresh id q f.1) ];
+    plain = λ id q h res. elim (record_was id q h)
+        [ inl f ↦ absurd (out_is q f.1 res) | inr f ↦ kept.plain id q f.1 res ];
+    fresh = λ id q h. elim (record_was id q h)
+        [ inl f ↦ omega (arith, f.0) | inr f ↦ omega (arith, kept.fresh id q f.1) ];
     fits = kept.fits;
   }
 
@@ -59,7 +69,8 @@ module _ {K V P View C : Type 0} (m : Meaning K P View C) (o : Holding V m) wher
   open o use {at, keys, t, number, capacity, limits, view, next, kept, stored}
 
   module _ (i : Incoming K V P) (n : ℕ) (unled : (q : ℕ × K) (k : ℕ) → keys q ≡ Some k → k ≢ n)
-      (x : Kept K V P) (x_is : x ≡ record { id = i.id; kept = i.kept; handles = i.handles; resident = false; place = None })
+      (x : Kept K V P)
+      (x_is : x ≡ record { id = i.id; kept = i.kept; handles = i.handles; resident = false; place = None })
       (t' : Records K V P) (slots : (q : ℕ) → slot_in t' q ≡ update nat_eq (slot_in t) n (Some x) q)
       (records : (id : ℕ) → record_in t' id ≡ update nat_eq (record_in t) x.id (Some (rec_of x)) id) where
     here : slot_in t' n ≡ Some x
@@ -89,8 +100,11 @@ module _ {K V P View C : Type 0} (m : Meaning K P View C) (o : Holding V m) wher
 
     module _ (next' : ℕ) (nexts : next' ≡ max next (i.id + 1)) where
       pub held_after : state number capacity limits view keys t' next' ≡ after_hold m (now_of o) i
-      held_after = same_state (state number capacity limits view keys t' next') (after_hold m (now_of o) i) refl refl refl refl held_hit
+      held_after = same_state (state number capacity limits view keys t' next')
+          (after_hold m (now_of o) i) refl refl refl refl held_hit
           (λ id. records id ∙ ap (λ (y : Kept K V P). update nat_eq (record_in t) y.id (Some (rec_of y)) id) x_is) nexts
 
-      pub held_kept : ((r : Rec K V P) → record_in t i.id ≡ Some r → r.resident ≡ false) → 0 < i.handles → i.handles ≤ limits.handles → ∥ IsKept m (state number capacity limits view keys t' next') ∥₁
-      held_kept out held handles = ∥∥₁_map kept (λ k. subst (IsKept m) (sym held_after) (hold_keeps m (now_of o) k i out held handles))
+      pub held_kept : ((r : Rec K V P) → record_in t i.id ≡ Some r → r.resident ≡ false) → 0 < i.handles →
+          i.handles ≤ limits.handles → ∥ IsKept m (state number capacity limits view keys t' next') ∥₁
+      held_kept out held handles = ∥∥₁_map kept
+          (λ k. subst (IsKept m) (sym held_after) (hold_keeps m (now_of o) k i out held handles))

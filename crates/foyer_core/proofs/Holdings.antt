@@ -11,8 +11,10 @@ use Rattle.foyer_core.specs.declared.store.Store.{Store}
 use Rattle.foyer_core.specs.Stores.{meaning_of}
 use Rattle.foyer_core.proofs.ShardLemmas.{Holding}
 
-module _ {E K V P I C S : Type 0} {e : EvictionGhosts E C S} {e1 : CloneGhosts C} {e2 : DefaultGhosts C} {e3 : DescribedGhosts C} {e4 : DefaultGhosts S}
-    {q : EqGhosts K} {h : HashGhosts K} {c : CloneGhosts K} {p : PropertiesGhosts P} {d : DefaultGhosts P} {i : FinderGhosts I K} where
+module _ {E K V P I C S : Type 0} {e : EvictionGhosts E C S} {e1 : CloneGhosts C} {e2 : DefaultGhosts C}
+    {e3 : DescribedGhosts C} {e4 : DefaultGhosts S}
+    {q : EqGhosts K} {h : HashGhosts K} {c : CloneGhosts K} {p : PropertiesGhosts P} {d : DefaultGhosts P}
+    {i : FinderGhosts I K} where
   abbrev pub holding : (s : Store E K V P I C S e e1 e2 e3 e4 q h c p d i) → Holding V (meaning_of s)
   holding s = record {
     at = e.at s.eviction;

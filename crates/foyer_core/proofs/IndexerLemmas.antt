@@ -12,7 +12,8 @@ use Rattle.std.proofs.lemmas.Map.Keys.{IsDistinct-from_apart, apart_from_distinc
 use Rattle.foyer_core.specs.Indexer.{same_key, same_key_equiv, AreNumbersOf}
 
 module _ {K : Type 0} where
-  listed_step : (e : K × ℕ) (es : List (K × ℕ)) (found : Option ℕ) (n : ℕ) (b : Bool) → cond b (Some e.1) found ≡ Some n → (found ≡ Some n → Contains (values_of es) n) → Contains (values_of (e ∷ es)) n
+  listed_step : (e : K × ℕ) (es : List (K × ℕ)) (found : Option ℕ) (n : ℕ) (b : Bool) → cond b (Some e.1) found
+      ≡ Some n → (found ≡ Some n → Contains (values_of es) n) → Contains (values_of (e ∷ es)) n
   listed_step e es found n true is rest = (0, omega arith, cc)
   listed_step e es found n false is rest = let r = rest is in (suc r.0, omega (arith, r.1), r.2)
 
@@ -22,22 +23,26 @@ module _ {K : Type 0} where
   listed test (e ∷ es) n is = listed_step e es (lookup test es) n (test e.0) is (listed test es n)
 
   -- the entry that has the number at a place
-  entry_at : (es : List (K × ℕ)) (k n : ℕ) → k < length (values_of es) → get_or (values_of es) k n ≡ n → (key : K) × (slice_get es k ≡ Some (key, n))
+  entry_at : (es : List (K × ℕ)) (k n : ℕ) → k < length (values_of es) → get_or (values_of es) k n ≡ n → (key : K)
+      × (slice_get es k ≡ Some (key, n))
   entry_at [] k n lt is = absurd (omega arith)
   entry_at (e ∷ es) zero n lt is = (e.0, ap (λ (m : ℕ). Some (e.0, m)) is)
   entry_at (e ∷ es) (suc k) n lt is = entry_at es k n (omega arith) is
 
-  key_at : (es : List (K × ℕ)) (k : ℕ) (key d : K) (n : ℕ) → slice_get es k ≡ Some (key, n) → get_or (keys_of es) k d ≡ key
+  key_at : (es : List (K × ℕ)) (k : ℕ) (key d : K) (n : ℕ) → slice_get es k ≡ Some (key, n) → get_or (keys_of es) k d
+      ≡ key
   key_at [] k key d n is = absurd cc
   key_at (e ∷ es) zero key d n is = ap (λ (p : K × ℕ). p.0) (let same : e ≡ (key, n) = cc in same)
   key_at (e ∷ es) (suc k) key d n is = key_at es k key d n is
 
-module _ {K : Type 0} {eq : K → K → Bool} (laws : IsEquivalence eq) (view : ℕ × K → Option ℕ) (numbers : List ℕ) (are : AreNumbersOf eq view numbers) where
+module _ {K : Type 0} {eq : K → K → Bool} (laws : IsEquivalence eq) (view : ℕ × K → Option ℕ) (numbers : List ℕ)
+    (are : AreNumbersOf eq view numbers) where
   -- each number that is under a key is there
   pub number_of_key : (q : ℕ × K) (n : ℕ) → view q ≡ Some n → Contains numbers n
   number_of_key q n is = rw are.values (listed (same_key eq q) are.entries n (sym (are.complete q) ∙ is))
 
-  key_of_place : (k n : ℕ) → k < length numbers → get_or numbers k n ≡ n → (q : ℕ × K) × (view q ≡ Some n) × (slice_get are.entries k ≡ Some (q, n))
+  key_of_place : (k n : ℕ) → k < length numbers → get_or numbers k n ≡ n → (q : ℕ × K) × (view q ≡ Some n)
+      × (slice_get are.entries k ≡ Some (q, n))
   key_of_place k n lt is =
       let e = entry_at are.entries k n (rw are.values at lt) (rw are.values at is) in
       (e.0, are.complete e.0 ∙ lookup_from_place (same_key_equiv laws) are.entries k e.0 n are.distinct e.1, e.1)
@@ -47,24 +52,32 @@ module _ {K : Type 0} {eq : K → K → Bool} (laws : IsEquivalence eq) (view : 
   key_of_number n has = let e = key_of_place has.0 n has.1 has.2 in (e.0, e.1)
 
   -- the keys of two places differ
-  places_differ : (i j n : ℕ) (p q : ℕ × K) → i < j → j < length (keys_of are.entries) → slice_get are.entries i ≡ Some (p, n) → slice_get are.entries j ≡ Some (q, n) → same_key eq p q ≡ false
+  places_differ : (i j n : ℕ) (p q : ℕ × K) → i < j → j < length (keys_of are.entries) → slice_get are.entries i
+      ≡ Some (p, n) → slice_get are.entries j ≡ Some (q, n) → same_key eq p q ≡ false
   places_differ i j n p q lt within here there =
-      let differ : same_key eq (get_or (keys_of are.entries) i p) (get_or (keys_of are.entries) j p) ≡ false = apart_from_distinct (same_key eq) (keys_of are.entries) i j p are.distinct lt within in
+      let differ : same_key eq (get_or (keys_of are.entries) i p) (get_or (keys_of are.entries) j p) ≡ false =
+      apart_from_distinct (same_key eq) (keys_of are.entries) i j p are.distinct lt within in
       rw (key_at are.entries i p p n here, key_at are.entries j q p n there) at differ
 
-  numbers_differ : ((p q : ℕ × K) (n : ℕ) → view p ≡ Some n → view q ≡ Some n → same_key eq p q ≡ true) → (i j n : ℕ) → i < j → j < length numbers → get_or numbers i n ≡ n → get_or numbers j n ≡ n → ⊥
+  numbers_differ : ((p q : ℕ × K) (n : ℕ) → view p ≡ Some n → view q ≡ Some n → same_key eq p q ≡ true) → (i j n : ℕ)
+      → i < j → j < length numbers → get_or numbers i n ≡ n → get_or numbers j n ≡ n → ⊥
   numbers_differ one i j n lt within here there =
       let p = key_of_place i n (omega arith) here in
       let q = key_of_place j n within there in
-      let far : j < length (keys_of are.entries) = omega (arith, length-keys_of are.entries, length-values_of are.entries, ap length are.values) in
+      let far : j < length (keys_of are.entries) =
+      omega (arith, length-keys_of are.entries, length-values_of are.entries, ap length are.values) in
       true≢false (sym (one p.0 q.0 n p.1 q.1) ∙ places_differ i j n p.0 q.0 lt far p.2 q.2)
 
   -- where no two keys have one number, no two numbers are equal
-  pub IsDistinct-numbers : ((p q : ℕ × K) (n : ℕ) → view p ≡ Some n → view q ≡ Some n → same_key eq p q ≡ true) → IsDistinct nat_eq numbers
-  IsDistinct-numbers one = IsDistinct-from_apart nat_eq numbers (λ i j d lt within. apart i j d lt within (nat_eq (get_or numbers i d) (get_or numbers j d)) refl) where
-    apart : (i j d : ℕ) → i < j → j < length numbers → (b : Bool) → nat_eq (get_or numbers i d) (get_or numbers j d) ≡ b → b ≡ false
-    apart i j d lt within false is = refl
-    apart i j d lt within true is =
-        let same : get_or numbers i d ≡ get_or numbers j d = grind (arith, nat_tests) in
-        let n : ℕ = get_or numbers i d in
-        absurd (numbers_differ one i j n lt within (get_or_default numbers i n d (omega arith)) (get_or_default numbers j n d within ∙ sym same))
+  pub IsDistinct-numbers : ((p q : ℕ × K) (n : ℕ) → view p ≡ Some n → view q ≡ Some n → same_key eq p q ≡ true) →
+      IsDistinct nat_eq numbers
+  IsDistinct-numbers one = IsDistinct-from_apart nat_eq numbers
+      (λ i j d lt within. apart i j d lt within (nat_eq (get_or numbers i d) (get_or numbers j d)) refl) where
+        apart : (i j d : ℕ) → i < j → j < length numbers → (b : Bool) → nat_eq (get_or numbers i d) (get_or numbers j d)
+            ≡ b → b ≡ false
+        apart i j d lt within false is = refl
+        apart i j d lt within true is =
+            let same : get_or numbers i d ≡ get_or numbers j d = grind (arith, nat_tests) in
+            let n : ℕ = get_or numbers i d in
+            absurd (numbers_differ one i j n lt within (get_or_default numbers i n d (omega arith))
+            (get_or_default numbers j n d within ∙ sym same))

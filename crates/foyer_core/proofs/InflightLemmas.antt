@@ -75,18 +75,23 @@ has_more : (t n : ℕ) (ts : List ℕ) → has t (ts ++ n ∷ []) ≡ true → (
 has_more t n ts h = go (tells (has t ts)) where
   go : (has t ts ≡ true) ⊎ (has t ts ≡ false) → (has t ts ≡ true) ⊎ (t ≡ n)
   go (inl e) = inl e
-  go (inr e) = (let last : has t (n ∷ []) ≡ true = rw e at (sym (list_any-append (nat_eq t) ts (n ∷ [])) ∙ h) in inr (grind (arith, nat_tests)))
+  go (inr e) =
+      (let last : has t (n ∷ []) ≡ true = rw e at (sym (list_any-append (nat_eq t) ts (n ∷ [])) ∙ h) in
+      inr (grind (arith, nat_tests)))
 
 module _ {N R : Type 0} where
   -- the tokens once one more waits
-  tokens-joined : (o : Place N R) (w : Waiting N) (later : Option R) → tokens_of (joined (Some o) o.fetch w later) ≡ tokens_of o ++ w.token ∷ []
+  tokens-joined : (o : Place N R) (w : Waiting N) (later : Option R) → tokens_of (joined (Some o) o.fetch w later)
+      ≡ tokens_of o ++ w.token ∷ []
   tokens-joined o w later = map_push (λ (w : Waiting N). w.token) o.tokens w
 
   -- the fetch that is open, where it is the one that was asked for
-  pub asked_is : (id : ℕ) (p : Option (Place N R)) → is_some (asked (Some id) p) ≡ true → (o : Place N R) × (p ≡ Some o) × (asked (Some id) p ≡ Some o)
+  pub asked_is : (id : ℕ) (p : Option (Place N R)) → is_some (asked (Some id) p) ≡ true → (o : Place N R)
+      × (p ≡ Some o) × (asked (Some id) p ≡ Some o)
   asked_is id None h = absurd cc
   asked_is id (Some o) h = go (o.fetch == id) h where
-    go : (b : Bool) → is_some (if b then Some o else None) ≡ true → (x : Place N R) × (Some o ≡ Some x) × ((if b then Some o else None) ≡ Some x)
+    go : (b : Bool) → is_some (if b then Some o else None) ≡ true → (x : Place N R) × (Some o ≡ Some x)
+        × ((if b then Some o else None) ≡ Some x)
     go true h = (o, refl, refl)
     go false h = absurd cc
 
@@ -110,7 +115,8 @@ module _ {K N R : Type 0} (eq : K → K → Bool) where
   -- what was written under a key is there
   pub written_there : IsEquivalence eq → (f g : Opens K N R) (k : ℕ × K) (o : Place N R) →
       ((q : ℕ × K) → g.places q ≡ update (same_key eq) f.places k (Some o) q) → g.places k ≡ Some o
-  written_there laws f g k o write = write k ∙ update_same (same_key eq) f.places k (Some o) k ((same_key_equiv laws).refl k)
+  written_there laws f g k o write = write k
+      ∙ update_same (same_key eq) f.places k (Some o) k ((same_key_equiv laws).refl k)
 
   -- the fetch that is open under a key is written, which none under another key is like
   pub record Fits (f : Opens K N R) (id token : ℕ) (k : ℕ × K) (o : Place N R) : Type 0 where
@@ -122,9 +128,11 @@ module _ {K N R : Type 0} (eq : K → K → Bool) where
     pub own_tokens : (q : ℕ × K) (x : Place N R) (t : ℕ) → f.places q ≡ Some x → has t (tokens_of x) ≡ true → has t
         (tokens_of o) ≡ true → same_key eq k q ≡ true
 
-  module _ (f g : Opens K N R) (k : ℕ × K) (w : Option (Place N R)) (write : (q : ℕ × K) → g.places q ≡ update (same_key eq) f.places k w q) where
+  module _ (f g : Opens K N R) (k : ℕ × K) (w : Option (Place N R))
+      (write : (q : ℕ × K) → g.places q ≡ update (same_key eq) f.places k w q) where
     -- what is open afterwards is what was written, or was open under another key
-    was : (q : ℕ × K) (o : Place N R) → g.places q ≡ Some o → ((same_key eq k q ≡ true) × (w ≡ Some o)) ⊎ ((same_key eq k q ≡ false) × (f.places q ≡ Some o))
+    was : (q : ℕ × K) (o : Place N R) → g.places q ≡ Some o → ((same_key eq k q ≡ true) × (w ≡ Some o))
+        ⊎ ((same_key eq k q ≡ false) × (f.places q ≡ Some o))
     was q o h = go (tells (same_key eq k q)) where
       go : (same_key eq k q ≡ true) ⊎ (same_key eq k q ≡ false) → ((same_key eq k q ≡ true) × (w ≡ Some o)) ⊎
           ((same_key eq k q ≡ false) × (f.places q ≡ Some o))
@@ -143,7 +151,8 @@ module _ {K N R : Type 0} {eq : K → K → Bool} where
     one_place = λ p q x y t hp hq. a.one_place p q x y t (sym (same p) ∙ hp) (sym (same q) ∙ hq);
   }
 
-  module _ (f g : Opens K N R) (k : ℕ × K) (w : Option (Place N R)) (write : (q : ℕ × K) → g.places q ≡ update (same_key eq) f.places k w q) where
+  module _ (f g : Opens K N R) (k : ℕ × K) (w : Option (Place N R))
+      (write : (q : ℕ × K) → g.places q ≡ update (same_key eq) f.places k w q) where
     pub open_none : w ≡ None → g.next_fetch ≡ f.next_fetch → g.next_token ≡ f.next_token → AreOpen eq f → AreOpen eq g
     open_none none id token a = record {
       waited = λ q o h. a.waited q o (old q o h);
@@ -155,7 +164,8 @@ module _ {K N R : Type 0} {eq : K → K → Bool} where
     } where
       old : (q : ℕ × K) (o : Place N R) → g.places q ≡ Some o → f.places q ≡ Some o
       old q o h = go (was eq f g k w write q o h) where
-        go : ((same_key eq k q ≡ true) × (w ≡ Some o)) ⊎ ((same_key eq k q ≡ false) × (f.places q ≡ Some o)) → f.places q ≡ Some o
+        go : ((same_key eq k q ≡ true) × (w ≡ Some o)) ⊎ ((same_key eq k q ≡ false) × (f.places q ≡ Some o)) →
+            f.places q ≡ Some o
         go (inl e) = absurd (none_some w o none e.1)
         go (inr e) = e.1
 
@@ -181,28 +191,36 @@ module _ {K N R : Type 0} {eq : K → K → Bool} where
     apart : (q : ℕ × K) {A : Type 0} → same_key eq k q ≡ false → same_key eq k q ≡ true → A
     apart q other is = absurd (true≢false (sym is ∙ other))
 
-    pub open_write : f.next_fetch ≤ g.next_fetch → f.next_token ≤ g.next_token → Fits eq f g.next_fetch g.next_token k new → AreOpen eq f → AreOpen eq g
+    pub open_write : f.next_fetch ≤ g.next_fetch → f.next_token ≤ g.next_token →
+        Fits eq f g.next_fetch g.next_token k new → AreOpen eq f → AreOpen eq g
     open_write ids tokens fits a = record {
       waited = λ q o h. waited o (was eq f g k (Some new) write q o h) (λ old. a.waited q o old);
       below = λ q o h. below o (was eq f g k (Some new) write q o h) (λ old. a.below q o old);
-      tokens_below = λ q o t h there. tokens_below o t there (was eq f g k (Some new) write q o h) (λ old. a.tokens_below q o t old there);
+      tokens_below = λ q o t h there. tokens_below o t there (was eq f g k (Some new) write q o h)
+          (λ old. a.tokens_below q o t old there);
       once = λ q o h. once o (was eq f g k (Some new) write q o h) (λ old. a.once q o old);
-      one_fetch = λ p q x y hp hq same. one_fetch p q x y same (was eq f g k (Some new) write p x hp) (was eq f g k (Some new) write q y hq);
-      one_place = λ p q x y t hp hq tx ty. one_place p q x y t tx ty (was eq f g k (Some new) write p x hp) (was eq f g k (Some new) write q y hq);
+      one_fetch = λ p q x y hp hq same. one_fetch p q x y same (was eq f g k (Some new) write p x hp)
+          (was eq f g k (Some new) write q y hq);
+      one_place = λ p q x y t hp hq tx ty. one_place p q x y t tx ty (was eq f g k (Some new) write p x hp)
+          (was eq f g k (Some new) write q y hq);
     } where
       waited : {q : ℕ × K} (o : Place N R) → Was q o → (f.places q ≡ Some o → 0 < length o.tokens) → 0 < length o.tokens
       waited o (inl e) old = subst (λ (x : Place N R). 0 < length x.tokens) (one new o e.1) fits.waited
       waited o (inr e) old = old e.1
 
-      below : {q : ℕ × K} (o : Place N R) → Was q o → (f.places q ≡ Some o → o.fetch < f.next_fetch) → o.fetch < g.next_fetch
+      below : {q : ℕ × K} (o : Place N R) → Was q o → (f.places q ≡ Some o → o.fetch < f.next_fetch) →
+          o.fetch < g.next_fetch
       below o (inl e) old = subst (λ (x : Place N R). x.fetch < g.next_fetch) (one new o e.1) fits.below
       below o (inr e) old = (let lt = old e.1 in omega arith)
 
-      tokens_below : {q : ℕ × K} (o : Place N R) (t : ℕ) → has t (tokens_of o) ≡ true → Was q o → (f.places q ≡ Some o → t < f.next_token) → t < g.next_token
-      tokens_below o t there (inl e) old = fits.tokens_below t (ap (λ (x : Place N R). has t (tokens_of x)) (one new o e.1) ∙ there)
+      tokens_below : {q : ℕ × K} (o : Place N R) (t : ℕ) → has t (tokens_of o) ≡ true → Was q o →
+          (f.places q ≡ Some o → t < f.next_token) → t < g.next_token
+      tokens_below o t there (inl e) old = fits.tokens_below t
+          (ap (λ (x : Place N R). has t (tokens_of x)) (one new o e.1) ∙ there)
       tokens_below o t there (inr e) old = (let lt = old e.1 in omega arith)
 
-      once : {q : ℕ × K} (o : Place N R) → Was q o → (f.places q ≡ Some o → IsDistinct nat_eq (tokens_of o)) → IsDistinct nat_eq (tokens_of o)
+      once : {q : ℕ × K} (o : Place N R) → Was q o → (f.places q ≡ Some o → IsDistinct nat_eq (tokens_of o)) →
+          IsDistinct nat_eq (tokens_of o)
       once o (inl e) old = subst (λ (x : Place N R). IsDistinct nat_eq (tokens_of x)) (one new o e.1) fits.once
       once o (inr e) old = old e.1
 
@@ -211,14 +229,19 @@ module _ {K N R : Type 0} {eq : K → K → Bool} where
 
       one_fetch : (p q : ℕ × K) (x y : Place N R) → x.fetch ≡ y.fetch → Was p x → Was q y → same_key eq p q ≡ true
       one_fetch p q x y same (inl e) (inl d) = both p q e.0 d.0
-      one_fetch p q x y same (inl e) (inr d) = apart q d.0 (fits.own_fetch q y d.1 (sym same ∙ ap (λ (o : Place N R). o.fetch) (sym (one new x e.1))))
-      one_fetch p q x y same (inr e) (inl d) = apart p e.0 (fits.own_fetch p x e.1 (same ∙ ap (λ (o : Place N R). o.fetch) (sym (one new y d.1))))
+      one_fetch p q x y same (inl e) (inr d) =
+          apart q d.0 (fits.own_fetch q y d.1 (sym same ∙ ap (λ (o : Place N R). o.fetch) (sym (one new x e.1))))
+      one_fetch p q x y same (inr e) (inl d) =
+          apart p e.0 (fits.own_fetch p x e.1 (same ∙ ap (λ (o : Place N R). o.fetch) (sym (one new y d.1))))
       one_fetch p q x y same (inr e) (inr d) = a.one_fetch p q x y e.1 d.1 same
 
-      one_place : (p q : ℕ × K) (x y : Place N R) (t : ℕ) → has t (tokens_of x) ≡ true → has t (tokens_of y) ≡ true → Was p x → Was q y → same_key eq p q ≡ true
+      one_place : (p q : ℕ × K) (x y : Place N R) (t : ℕ) → has t (tokens_of x) ≡ true → has t (tokens_of y) ≡ true →
+          Was p x → Was q y → same_key eq p q ≡ true
       one_place p q x y t tx ty (inl e) (inl d) = both p q e.0 d.0
-      one_place p q x y t tx ty (inl e) (inr d) = apart q d.0 (fits.own_tokens q y t d.1 ty (ap (λ (o : Place N R). has t (tokens_of o)) (one new x e.1) ∙ tx))
-      one_place p q x y t tx ty (inr e) (inl d) = apart p e.0 (fits.own_tokens p x t e.1 tx (ap (λ (o : Place N R). has t (tokens_of o)) (one new y d.1) ∙ ty))
+      one_place p q x y t tx ty (inl e) (inr d) =
+          apart q d.0 (fits.own_tokens q y t d.1 ty (ap (λ (o : Place N R). has t (tokens_of o)) (one new x e.1) ∙ tx))
+      one_place p q x y t tx ty (inr e) (inl d) =
+          apart p e.0 (fits.own_tokens p x t e.1 tx (ap (λ (o : Place N R). has t (tokens_of o)) (one new y d.1) ∙ ty))
       one_place p q x y t tx ty (inr e) (inr d) = a.one_place p q x y t e.1 d.1 tx ty
 
   -- a fetch opens
@@ -231,7 +254,9 @@ module _ {K N R : Type 0} {eq : K → K → Bool} where
     tokens_below = λ t h. (let is : t ≡ w.token = only t h in omega (arith, is, token));
     once = search (rules, common_steps);
     own_fetch = λ q x h same. (let lt = a.below q x h in absurd (omega (arith, lt, same)));
-    own_tokens = λ q x t h tx tw. (let lt = a.tokens_below q x t h tx in let is : t ≡ w.token = only t tw in absurd (omega (arith, lt, is, token)));
+    own_tokens = λ q x t h tx tw.
+        (let lt = a.tokens_below q x t h tx in let is : t ≡ w.token = only t tw in
+        absurd (omega (arith, lt, is, token)));
   } where
     only : (t : ℕ) → has t (w.token ∷ []) ≡ true → t ≡ w.token
     only t h = grind (arith, nat_tests)
@@ -250,7 +275,8 @@ module _ {K N R : Type 0} {eq : K → K → Bool} where
     own_fetch = λ q x h same. a.one_fetch k q o x there h (sym same);
     own_tokens = λ q x t h tx to. own_tokens q x t h tx (more t to);
   } where
-    more : (t : ℕ) → has t (tokens_of (joined (Some o) o.fetch w later)) ≡ true → (has t (tokens_of o) ≡ true) ⊎ (t ≡ w.token)
+    more : (t : ℕ) → has t (tokens_of (joined (Some o) o.fetch w later)) ≡ true → (has t (tokens_of o) ≡ true)
+        ⊎ (t ≡ w.token)
     more t h = has_more t w.token (tokens_of o) (ap (has t) (sym (tokens-joined o w later)) ∙ h)
 
     tokens_below : (t : ℕ) → (has t (tokens_of o) ≡ true) ⊎ (t ≡ w.token) → t < f.next_token + 1
@@ -293,7 +319,8 @@ module _ {K N R : Type 0} {eq : K → K → Bool} where
     side : (w : Option ℕ) → ((q : ℕ × K) → keys' q ≡ update (same_key eq) keys k w q) → (q : ℕ × K) →
         ((same_key eq k q ≡ true) × (keys' q ≡ w)) ⊎ ((same_key eq k q ≡ false) × (keys' q ≡ keys q))
     side w write q = go (tells (same_key eq k q)) where
-      go : (same_key eq k q ≡ true) ⊎ (same_key eq k q ≡ false) → ((same_key eq k q ≡ true) × (keys' q ≡ w)) ⊎ ((same_key eq k q ≡ false) × (keys' q ≡ keys q))
+      go : (same_key eq k q ≡ true) ⊎ (same_key eq k q ≡ false) → ((same_key eq k q ≡ true) × (keys' q ≡ w))
+          ⊎ ((same_key eq k q ≡ false) × (keys' q ≡ keys q))
       go (inl e) = inl (e, write q ∙ update_same (same_key eq) keys k w q e)
       go (inr e) = inr (e, write q ∙ update_other (same_key eq) keys k w q e)
 
@@ -305,9 +332,11 @@ module _ {K N R : Type 0} {eq : K → K → Bool} where
       here = write n ∙ update_here slots n (Some new)
 
       other : (q : ℕ × K) (m : ℕ) → keys q ≡ Some m → slots' m ≡ slots m
-      other q m h = write m ∙ update_apart slots n (Some new) m (λ e. led_to (slots m) (linked.led q m h) (ap slots e ∙ free))
+      other q m h = write m ∙ update_apart slots n (Some new) m
+          (λ e. led_to (slots m) (linked.led q m h) (ap slots e ∙ free))
 
-      pub lead_places : (q : ℕ × K) → option_and_then slots' (keys' q) ≡ update (same_key eq) (λ p. option_and_then slots (keys p)) k (Some new) q
+      pub lead_places : (q : ℕ × K) → option_and_then slots' (keys' q)
+          ≡ update (same_key eq) (λ p. option_and_then slots (keys p)) k (Some new) q
       lead_places q = go (side (Some n) put q) where
         unchanged : (o : Option ℕ) → keys q ≡ o → option_and_then slots' o ≡ option_and_then slots o
         unchanged None h = refl
@@ -315,7 +344,8 @@ module _ {K N R : Type 0} {eq : K → K → Bool} where
 
         go : ((same_key eq k q ≡ true) × (keys' q ≡ Some n)) ⊎ ((same_key eq k q ≡ false) × (keys' q ≡ keys q)) →
             option_and_then slots' (keys' q) ≡ update (same_key eq) (λ p. option_and_then slots (keys p)) k (Some new) q
-        go (inl e) = ap (option_and_then slots') e.1 ∙ here ∙ sym (update_same (same_key eq) (λ p. option_and_then slots (keys p)) k (Some new) q e.0)
+        go (inl e) = ap (option_and_then slots') e.1 ∙ here
+            ∙ sym (update_same (same_key eq) (λ p. option_and_then slots (keys p)) k (Some new) q e.0)
         go (inr e) = ap (option_and_then slots') e.1 ∙ unchanged (keys q) refl ∙ sym
             (update_other (same_key eq) (λ p. option_and_then slots (keys p)) k (Some new) q e.0)
 
@@ -358,9 +388,11 @@ module _ {K N R : Type 0} {eq : K → K → Bool} where
       -- the open fetch of a key is written
       module _ (respects : (p q : ℕ × K) → same_key eq p q ≡ true → keys p ≡ keys q) (new : Place N R)
           (write : (m : ℕ) → slots' m ≡ update nat_eq slots n (Some new) m) where
-        pub write_places : (q : ℕ × K) → option_and_then slots' (keys q) ≡ update (same_key eq) (λ p. option_and_then slots (keys p)) k (Some new) q
+        pub write_places : (q : ℕ × K) → option_and_then slots' (keys q)
+            ≡ update (same_key eq) (λ p. option_and_then slots (keys p)) k (Some new) q
         write_places q = go (tells (same_key eq k q)) where
-          unchanged : same_key eq k q ≡ false → (o : Option ℕ) → keys q ≡ o → option_and_then slots' o ≡ option_and_then slots o
+          unchanged : same_key eq k q ≡ false → (o : Option ℕ) → keys q ≡ o → option_and_then slots' o
+              ≡ option_and_then slots o
           unchanged other None h = refl
           unchanged other (Some m) h = write m ∙ update_apart slots n (Some new) m (away q m other h)
 
@@ -368,15 +400,18 @@ module _ {K N R : Type 0} {eq : K → K → Bool} where
               (same_key eq) (λ p. option_and_then slots (keys p)) k (Some new) q
           go (inl e) = ap (option_and_then slots') (sym (respects k q e) ∙ there) ∙ write n ∙ update_here slots n
               (Some new) ∙ sym (update_same (same_key eq) (λ p. option_and_then slots (keys p)) k (Some new) q e)
-          go (inr e) = unchanged e (keys q) refl ∙ sym (update_other (same_key eq) (λ p. option_and_then slots (keys p)) k (Some new) q e)
+          go (inr e) = unchanged e (keys q) refl ∙
+              sym (update_other (same_key eq) (λ p. option_and_then slots (keys p)) k (Some new) q e)
 
         pub write_linked : AreLinked eq keys slots'
         write_linked = record {
           led = λ q m h. led q m h (eqb_tells m n);
           apart = linked.apart;
         } where
-          led : (q : ℕ × K) (m : ℕ) → keys q ≡ Some m → ((nat_eq m n ≡ true) × (m ≡ n)) ⊎ ((nat_eq m n ≡ false) × (m ≢ n)) → is_some (slots' m) ≡ true
-          led q m h (inl e) = subst (λ (x : ℕ). is_some (slots' x) ≡ true) (sym e.1) (ap is_some (write n ∙ update_here slots n (Some new)))
+          led : (q : ℕ × K) (m : ℕ) → keys q ≡ Some m → ((nat_eq m n ≡ true) × (m ≡ n))
+              ⊎ ((nat_eq m n ≡ false) × (m ≢ n)) → is_some (slots' m) ≡ true
+          led q m h (inl e) = subst (λ (x : ℕ). is_some (slots' x) ≡ true) (sym e.1)
+              (ap is_some (write n ∙ update_here slots n (Some new)))
           led q m h (inr e) = ap is_some (write m ∙ update_apart slots n (Some new) m e.1) ∙ linked.led q m h
 
         -- what is open then, where one more waits
@@ -387,7 +422,8 @@ module _ {K N R : Type 0} {eq : K → K → Bool} where
             let f = opens_by keys slots id token in
             let open_there : f.places k ≡ Some o = ap (option_and_then slots) there ∙ was in
             open_write laws f (opens_by keys slots' id (token + 1)) k new write_places (omega arith) (omega arith)
-            (subst (λ (x : Place N R). Fits eq f id (token + 1) k x) (sym made) (fits_joined laws f k o w later open_there is a)) a
+            (subst (λ (x : Place N R). Fits eq f id (token + 1) k x) (sym made)
+            (fits_joined laws f k o w later open_there is a)) a
 
         -- what is open then, where the builder alone is another
         pub later_open : (id token : ℕ) (o : Place N R) (later : Option R) → slots n ≡ Some o → new ≡ record
@@ -400,25 +436,31 @@ module _ {K N R : Type 0} {eq : K → K → Bool} where
             (subst (λ (x : Place N R). Fits eq f id token k x) (sym made) (fits_same f k o later open_there a)) a
 
       -- the open fetch of a key is taken
-      module _ (out : (q : ℕ × K) → keys' q ≡ update (same_key eq) keys k None q) (write : (m : ℕ) → slots' m ≡ update nat_eq slots n None m) where
+      module _ (out : (q : ℕ × K) → keys' q ≡ update (same_key eq) keys k None q)
+          (write : (m : ℕ) → slots' m ≡ update nat_eq slots n None m) where
         stays : (q : ℕ × K) (m : ℕ) → same_key eq k q ≡ false → keys q ≡ Some m → slots' m ≡ slots m
         stays q m other h = write m ∙ update_apart slots n None m (away q m other h)
 
-        pub take_places : (q : ℕ × K) → option_and_then slots' (keys' q) ≡ update (same_key eq) (λ p. option_and_then slots (keys p)) k None q
+        pub take_places : (q : ℕ × K) → option_and_then slots' (keys' q)
+            ≡ update (same_key eq) (λ p. option_and_then slots (keys p)) k None q
         take_places q = go (side None out q) where
-          unchanged : same_key eq k q ≡ false → (o : Option ℕ) → keys q ≡ o → option_and_then slots' o ≡ option_and_then slots o
+          unchanged : same_key eq k q ≡ false → (o : Option ℕ) → keys q ≡ o → option_and_then slots' o
+              ≡ option_and_then slots o
           unchanged other None h = refl
           unchanged other (Some m) h = stays q m other h
 
           go : ((same_key eq k q ≡ true) × (keys' q ≡ None)) ⊎ ((same_key eq k q ≡ false) × (keys' q ≡ keys q)) →
               option_and_then slots' (keys' q) ≡ update (same_key eq) (λ p. option_and_then slots (keys p)) k None q
-          go (inl e) = ap (option_and_then slots') e.1 ∙ sym (update_same (same_key eq) (λ p. option_and_then slots (keys p)) k None q e.0)
+          go (inl e) = ap (option_and_then slots') e.1
+              ∙ sym (update_same (same_key eq) (λ p. option_and_then slots (keys p)) k None q e.0)
           go (inr e) = ap (option_and_then slots') e.1 ∙ unchanged e.0 (keys q) refl ∙ sym
               (update_other (same_key eq) (λ p. option_and_then slots (keys p)) k None q e.0)
 
         -- what is open then
-        pub take_open : (id token : ℕ) → AreOpen eq (opens_by keys slots id token) → AreOpen eq (opens_by keys' slots' id token)
-        take_open id token a = open_none (opens_by keys slots id token) (opens_by keys' slots' id token) k None take_places refl refl refl a
+        pub take_open : (id token : ℕ) → AreOpen eq (opens_by keys slots id token) →
+            AreOpen eq (opens_by keys' slots' id token)
+        take_open id token a = open_none (opens_by keys slots id token) (opens_by keys' slots' id token) k None
+            take_places refl refl refl a
 
         pub take_linked : AreLinked eq keys' slots'
         take_linked = record {
@@ -436,7 +478,8 @@ module _ {K N R : Type 0} {eq : K → K → Bool} where
           old q m h (inr e) = sym e.1 ∙ h
 
 -- another map below an update
-pub update_below : {K A : Type 0} (e : K → K → Bool) (f g : K → Option A) (k : K) (w : Option A) (q : K) → g q ≡ f q → update e g k w q ≡ update e f k w q
+pub update_below : {K A : Type 0} (e : K → K → Bool) (f g : K → Option A) (k : K) (w : Option A) (q : K) → g q ≡ f q →
+    update e g k w q ≡ update e f k w q
 update_below {A = A} e f g k w q same = ap (λ (o : Option A). cond (e k q) w o) same
 
 -- room was made, and then a value put in
@@ -450,7 +493,8 @@ put_in_room {T = T} old room new n key x y kept at is put m =
     ∙ ap (λ (z : T). update nat_eq (get old) n (Some z) m) is
 
 -- a write of what is there
-pub write_again : {T : Type 0} (s : Slots T) (n : ℕ) (x y : T) → get s n ≡ Some x → y ≡ x → (m : ℕ) → get (with_value s n y) m ≡ get s m
+pub write_again : {T : Type 0} (s : Slots T) (n : ℕ) (x y : T) → get s n ≡ Some x → y ≡ x → (m : ℕ) →
+    get (with_value s n y) m ≡ get s m
 write_again {T = T} s n x y there is m =
     write_at s n x y there m
     ∙ ap (λ (z : T). update nat_eq (get s) n (Some z) m) is
@@ -458,7 +502,8 @@ write_again {T = T} s n x y there is m =
 
 module _ {N R : Type 0} where
   -- the fetch that is open, where it is said to be
-  pub open_asked : (id : ℕ) (p : Option (Place N R)) → IsSomeAnd p (λ o. o.fetch ≡ id) → (o : Place N R) × (p ≡ Some o) × (asked (Some id) p ≡ Some o)
+  pub open_asked : (id : ℕ) (p : Option (Place N R)) → IsSomeAnd p (λ o. o.fetch ≡ id) → (o : Place N R)
+      × (p ≡ Some o) × (asked (Some id) p ≡ Some o)
   open_asked id None h = absurd h
   open_asked id (Some o) h = (o, refl, rw (eq-eqb o.fetch id h) refl)
 
@@ -466,11 +511,13 @@ module _ {N R : Type 0} where
   pub not_asked : (id : ℕ) (p : Option (Place N R)) → (IsSomeAnd p (λ o. o.fetch ≡ id) → ⊥) → asked (Some id) p ≡ None
   not_asked id None h = refl
   not_asked id (Some o) h = go (eqb_tells o.fetch id) where
-    go : ((nat_eq o.fetch id ≡ true) × (o.fetch ≡ id)) ⊎ ((nat_eq o.fetch id ≡ false) × (o.fetch ≢ id)) → (if o.fetch == id then Some o else None) ≡ None
+    go : ((nat_eq o.fetch id ≡ true) × (o.fetch ≡ id)) ⊎ ((nat_eq o.fetch id ≡ false) × (o.fetch ≢ id)) →
+        (if o.fetch == id then Some o else None) ≡ None
     go (inl e) = absurd (h e.1)
     go (inr e) = rw e.0 refl
 
-module _ {K N R : Type 0} (eq : K → K → Bool) (f : Opens K N R) (k : ℕ × K) (o : Place N R) (there : f.places k ≡ Some o) where
+module _ {K N R : Type 0} (eq : K → K → Bool) (f : Opens K N R) (k : ℕ × K) (o : Place N R)
+    (there : f.places k ≡ Some o) where
   abbrev bare : Place N R
   bare = record { fetch = o.fetch; tokens = o.tokens; later = None }
 
@@ -480,13 +527,15 @@ module _ {K N R : Type 0} (eq : K → K → Bool) (f : Opens K N R) (k : ℕ × 
 
   -- or is closed
   pub nothing_taken : is_some o.later ≡ false → closed eq (with_place eq f k (Some bare)) k ≡ after_nothing eq f k
-  nothing_taken none = same_opens (closed eq (with_place eq f k (Some bare)) k) (after_nothing eq f k) (λ q. go q (same_key eq k q)) refl refl where
-    gone : option_and_then without_later (f.places k) ≡ None
-    gone = ap (option_and_then without_later) there ∙ rw none refl
+  nothing_taken none = same_opens (closed eq (with_place eq f k (Some bare)) k) (after_nothing eq f k)
+      (λ q. go q (same_key eq k q)) refl refl where
+        gone : option_and_then without_later (f.places k) ≡ None
+        gone = ap (option_and_then without_later) there ∙ rw none refl
 
-    go : (q : ℕ × K) (b : Bool) → cond b None (cond b (Some bare) (f.places q)) ≡ cond b (option_and_then without_later (f.places k)) (f.places q)
-    go q true = sym gone
-    go q false = refl
+        go : (q : ℕ × K) (b : Bool) → cond b None (cond b (Some bare) (f.places q))
+            ≡ cond b (option_and_then without_later (f.places k)) (f.places q)
+        go q true = sym gone
+        go q false = refl
 
 -- a key that leads to no place leads nowhere
 pub led_none : {N R : Type 0} (slots : ℕ → Option (Place N R)) (o : Option ℕ) →
@@ -498,7 +547,8 @@ module _ {K N R : Type 0} {q : EqGhosts K} {h : HashGhosts K} {c : CloneGhosts K
   -- equal keys have the same place
   pub places_alike : IsEquivalence q.eq → (m : InflightManager K N R q h c) (a b : ℕ × K) → same_key q.eq a b ≡ true →
       (opens_of m).places a ≡ (opens_of m).places b
-  places_alike laws m a b same = ap (option_and_then (get m.inflights)) (lookup_same laws a b same (entries_of m.index.pairs.items))
+  places_alike laws m a b same = ap (option_and_then (get m.inflights))
+      (lookup_same laws a b same (entries_of m.index.pairs.items))
 
   pub alike_at : IsEquivalence q.eq → (m : InflightManager K N R q h c) (hash : ℕ) (a b : K) → q.eq a b ≡ true →
       (opens_of m).places (hash, b) ≡ (opens_of m).places (hash, a)
@@ -516,11 +566,13 @@ none_in {K = K} {eq = eq} laws (p ∷ ps) none =
 pub empty_in : {K : Type 0} (eq : K → K → Bool) (pairs : List (Pair K)) → (length pairs == 0) ≡ true → (q : ℕ × K) →
     lookup (same_key eq q) (entries_of pairs) ≡ None
 empty_in eq [] empty q = refl
-empty_in eq (p ∷ ps) empty q = (let none : length (p ∷ ps) ≡ 0 = eqb-true (length (p ∷ ps)) 0 empty in absurd (omega (arith, none)))
+empty_in eq (p ∷ ps) empty q =
+    (let none : length (p ∷ ps) ≡ 0 = eqb-true (length (p ∷ ps)) 0 empty in absurd (omega (arith, none)))
 
 module _ {K N R : Type 0} (eq : K → K → Bool) where
   -- what is not open is closed already
-  pub closed_already : (f : Opens K N R) (k : ℕ × K) → ((q : ℕ × K) → same_key eq k q ≡ true → f.places k ≡ f.places q) → f.places k ≡ None → f ≡ closed eq f k
+  pub closed_already : (f : Opens K N R) (k : ℕ × K) →
+      ((q : ℕ × K) → same_key eq k q ≡ true → f.places k ≡ f.places q) → f.places k ≡ None → f ≡ closed eq f k
   closed_already f k respects none = same_opens f (closed eq f k) (λ q. go q (same_key eq k q) refl) refl refl where
     go : (q : ℕ × K) (b : Bool) → same_key eq k q ≡ b → f.places q ≡ cond b None (f.places q)
     go q true h = sym (respects q h) ∙ none

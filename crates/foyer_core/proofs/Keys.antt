@@ -27,6 +27,7 @@ same_key_laws same laws = record {
 }
 
 -- to put under a key is to put under one that is equal
-pub update_alike : {A X : Type 0} (same : A → A → Bool) → IsEquivalence same → (f g : A → Option X) (a b : A) (w : Option X) → same a b ≡ true
+pub update_alike : {A X : Type 0} (same : A → A → Bool) → IsEquivalence same →
+    (f g : A → Option X) (a b : A) (w : Option X) → same a b ≡ true
     → ((q : A) → g q ≡ update same f a w q) → (q : A) → g q ≡ update same f b w q
 update_alike same laws f g a b w h put q = put q ∙ ap (λ t. cond t w (f q)) (laws.congr a b q h)

@@ -34,17 +34,22 @@ outside_out : {K V P : Type 0} (x y : Kept K V P) → slot_outside x ≡ Some y 
 outside_out {K} {V} {P} x y h = go (x.handles == 0) h where
   go : (b : Bool) → cond b None (Some (record x { resident = false; place = None })) ≡ Some y → y.resident ≡ false
   go true h = absurd cc
-  go false h = (let z : Kept K V P = record x { resident = false; place = None } in let e : z ≡ y = cc in ap (λ (k : Kept K V P). k.resident) (sym e))
+  go false h =
+      (let z : Kept K V P = record x { resident = false; place = None } in let e : z ≡ y = cc in
+      ap (λ (k : Kept K V P). k.resident) (sym e))
 
 without-other : (id : ℕ) (i : Item) → i.id ≢ id → without id (Some i) ≡ Some i
 without-other id i n = elim (eqb_tells i.id id) [ inl e ↦ absurd (n e.1) | inr e ↦ rw e.0 refl ]
 
 -- `IsStored`, of slots as a function
-pub record IsStoredBy {K V P View C : Type 0} (m : Meaning K P View C) (at : ℕ → Option Item) (keys : ℕ × K → Option ℕ) (slots : ℕ → Option (Kept K V P)) : Type 0 where
+pub record IsStoredBy {K V P View C : Type 0} (m : Meaning K P View C) (at : ℕ → Option Item)
+    (keys : ℕ × K → Option ℕ) (slots : ℕ → Option (Kept K V P)) : Type 0 where
   pub led : (q : ℕ × K) (n : ℕ) → keys q ≡ Some n → is_some (slots n) ≡ true
-  pub placed : (n : ℕ) (s : Kept K V P) → slots n ≡ Some s → s.resident ≡ true → option_and_then at s.place ≡ Some (item_of m s.id s.kept)
+  pub placed : (n : ℕ) (s : Kept K V P) → slots n ≡ Some s → s.resident ≡ true → option_and_then at s.place
+      ≡ Some (item_of m s.id s.kept)
 
-module _ {K V P View C : Type 0} (m : Meaning K P View C) (laws : IsEquivalence m.same) (good : IsPolicy m.policy) (o : Holding V m) where
+module _ {K V P View C : Type 0} (m : Meaning K P View C) (laws : IsEquivalence m.same) (good : IsPolicy m.policy)
+    (o : Holding V m) where
   open o use {at, keys, t, number, capacity, limits, view, next, kept, stored}
 
   abbrev now : State K V P View
@@ -54,8 +59,10 @@ module _ {K V P View C : Type 0} (m : Meaning K P View C) (laws : IsEquivalence 
     under_by : IsKept m now → (q : ℕ × K) → keys q ≡ Some n → same_key m.same (key_of x.kept) q ≡ true
     under_by k' q led =
         let r = indexed_there m laws good now k' q x.id (index_is m at keys t q n x led there) in
-        let same : rec_of x ≡ r.0 = (let e : Some (rec_of x) ≡ Some r.0 = sym (slot_record m at keys t n x there) ∙ r.1 in cc) in
-        (same_key_laws m.same laws).symm (key_of x.kept) q ∙ ap (λ (z : Rec K V P). same_key m.same q (key_of z.kept)) same ∙ r.3
+        let same : rec_of x ≡ r.0 =
+        (let e : Some (rec_of x) ≡ Some r.0 = sym (slot_record m at keys t n x there) ∙ r.1 in cc) in
+        (same_key_laws m.same laws).symm (key_of x.kept) q
+        ∙ ap (λ (z : Rec K V P). same_key m.same q (key_of z.kept)) same ∙ r.3
 
     -- what leads to the slot is its record's key
     pub under : (q : ℕ × K) → keys q ≡ Some n → same_key m.same (key_of x.kept) q ≡ true
@@ -66,36 +73,48 @@ module _ {K V P View C : Type 0} (m : Meaning K P View C) (laws : IsEquivalence 
     answer_there k q led = ap (λ (o : Option (Kept K V P)). has_key m.same o k) there
         ∙ (same_key_laws m.same laws).congr (key_of x.kept) q k (under q led)
 
-    module _ (f' : ℕ → Option (Kept K V P)) (write : (q : ℕ) → f' q ≡ update nat_eq (slot_in t) n (slot_outside x) q) (at' : ℕ → Option Item) (same : (p : ℕ) → at' p ≡ without x.id (at p))
-        (keys' : ℕ × K → Option ℕ) (gone : (q : ℕ × K) → keys' q ≡ update (same_key m.same) keys (key_of x.kept) None q) where
+    module _ (f' : ℕ → Option (Kept K V P)) (write : (q : ℕ) → f' q ≡ update nat_eq (slot_in t) n (slot_outside x) q)
+        (at' : ℕ → Option Item) (same : (p : ℕ) → at' p ≡ without x.id (at p))
+        (keys' : ℕ × K → Option ℕ)
+        (gone : (q : ℕ × K) → keys' q ≡ update (same_key m.same) keys (key_of x.kept) None q) where
       other : (j : ℕ) → j ≢ n → f' j ≡ slot_in t j
       other j apart = write j ∙ update_apart (slot_in t) n (slot_outside x) j apart
 
       -- a key that still leads somewhere leads to another slot, and led there before
       led_still : (q : ℕ × K) (j : ℕ) → keys' q ≡ Some j → (keys q ≡ Some j) × (j ≢ n)
       led_still q j h = go (same_key m.same (key_of x.kept) q) refl (sym (gone q) ∙ h) where
-        go : (b : Bool) → same_key m.same (key_of x.kept) q ≡ b → cond b None (keys q) ≡ Some j → (keys q ≡ Some j) × (j ≢ n)
+        go : (b : Bool) → same_key m.same (key_of x.kept) q ≡ b → cond b None (keys q) ≡ Some j → (keys q ≡ Some j)
+            × (j ≢ n)
         go true e h = absurd cc
         go false e h = (h, λ is. let u = under q (h ∙ ap (λ (a : ℕ). Some a) is) in absurd cc)
 
-      pub left_index : (q : ℕ × K) → option_and_then (id_by f') (keys' q) ≡ update (same_key m.same) (λ (p : ℕ × K). option_and_then (id_in t) (keys p)) (key_of x.kept) None q
-      left_index q = ap (option_and_then (id_by f')) (gone q) ∙ go (same_key m.same (key_of x.kept) q) refl (keys q) refl where
-        go : (b : Bool) → same_key m.same (key_of x.kept) q ≡ b → (w : Option ℕ) → keys q ≡ w → option_and_then (id_by f') (cond b None w) ≡ cond b None (option_and_then (id_in t) w)
-        go true e w is = refl
-        go false e None is = refl
-        go false e (Some j) is =
-            let apart : j ≢ n = (λ same. let u = under q (is ∙ ap (λ (a : ℕ). Some a) same) in absurd cc) in
-            ap (option_map (λ (s : Kept K V P). s.id)) (other j apart)
+      pub left_index : (q : ℕ × K) → option_and_then (id_by f') (keys' q)
+          ≡ update (same_key m.same) (λ (p : ℕ × K). option_and_then (id_in t) (keys p)) (key_of x.kept) None q
+      left_index q = ap (option_and_then (id_by f')) (gone q)
+          ∙ go (same_key m.same (key_of x.kept) q) refl (keys q) refl where
+            go : (b : Bool) → same_key m.same (key_of x.kept) q ≡ b → (w : Option ℕ) → keys q ≡ w →
+                option_and_then (id_by f') (cond b None w) ≡ cond b None (option_and_then (id_in t) w)
+            go true e w is = refl
+            go false e None is = refl
+            go false e (Some j) is =
+                let apart : j ≢ n = (λ same. let u = under q (is ∙ ap (λ (a : ℕ). Some a) same) in absurd cc) in
+                ap (option_map (λ (s : Kept K V P). s.id)) (other j apart)
 
       pub left_stored : IsStoredBy m at' keys' f'
       left_stored = record {
         led = λ q j h. let l = led_still q j h in ap is_some (other j l.1) ∙ stored.led q j l.0;
         placed = λ j y h res. elim (eqb_tells j n) [
-          | inl e ↦ (let out : slot_outside x ≡ Some y = sym (write n ∙ update_here (slot_in t) n (slot_outside x)) ∙ ap f' (sym e.1) ∙ h in
+          | inl e ↦
+              (let out : slot_outside x ≡ Some y = sym (write n ∙ update_here (slot_in t) n (slot_outside x))
+              ∙ ap f' (sym e.1) ∙ h in
               let f = outside_out x y out in absurd cc)
           | inr e ↦ (let was : slot_in t j ≡ Some y = sym (other j e.1) ∙ h in
               let old = stored.placed j y was res in
-              let apart : y.id ≢ x.id = (λ is. e.1 (some_one j n (sym (t.agree.known j y.id (id_by-some (slot_in t) j y was)) ∙ ap (number_of t) is ∙ t.agree.known n x.id (id_by-some (slot_in t) n x there)))) in
+              let apart : y.id ≢ x.id =
+              (λ is. e.1
+              (some_one j n
+              (sym (t.agree.known j y.id (id_by-some (slot_in t) j y was)) ∙ ap (number_of t) is
+              ∙ t.agree.known n x.id (id_by-some (slot_in t) n x there)))) in
               go y.place (item_of m y.id y.kept) apart old)
         ];
       } where
@@ -111,7 +130,8 @@ module _ {K V P View C : Type 0} (m : Meaning K P View C) (laws : IsEquivalence 
   module _ (i : Item) (v : View) (popped : m.policy.pop view ≡ Some (i, v)) where
     known_by : IsKept m now → is_some (number_of t i.id) ≡ true
     known_by k' = go (number_of t i.id) ((popped_there m laws good now k' i v popped).1) where
-      go : (w : Option ℕ) → option_map rec_of (option_and_then (slot_in t) w) ≡ Some (popped_there m laws good now k' i v popped).0 → is_some w ≡ true
+      go : (w : Option ℕ) → option_map rec_of (option_and_then (slot_in t) w)
+          ≡ Some (popped_there m laws good now k' i v popped).0 → is_some w ≡ true
       go None h = absurd cc
       go (Some n) h = refl
 
@@ -122,12 +142,16 @@ module _ {K V P View C : Type 0} (m : Meaning K P View C) (laws : IsEquivalence 
     victim_there n h = id_by-there (slot_in t) n i.id (t.agree.named i.id n h)
 
     pub victim_lighter : (usage : ℕ) → usage ≡ weight_of (m.policy.order view) → i.weight ≤ usage
-    victim_lighter usage h = ∥∥₁_elim kept (hlevel props) (λ k'. omega (arith, popped_weight m laws good now k' i v popped))
+    victim_lighter usage h = ∥∥₁_elim kept (hlevel props)
+        (λ k'. omega (arith, popped_weight m laws good now k' i v popped))
 
-    pub victim_weight : (usage : ℕ) → usage ≡ weight_of (m.policy.order view) → usage - i.weight ≡ weight_of (m.policy.order v)
-    victim_weight usage h = ∥∥₁_elim kept (hlevel props) (λ k'. omega (arith, popped_weight m laws good now k' i v popped))
+    pub victim_weight : (usage : ℕ) → usage ≡ weight_of (m.policy.order view) → usage - i.weight
+        ≡ weight_of (m.policy.order v)
+    victim_weight usage h = ∥∥₁_elim kept (hlevel props)
+        (λ k'. omega (arith, popped_weight m laws good now k' i v popped))
 
-    pub victim_entries : (entries : ℕ) → entries ≡ length (m.policy.order view) → (1 ≤ entries) × (entries - 1 ≡ length (m.policy.order v))
+    pub victim_entries : (entries : ℕ) → entries ≡ length (m.policy.order view) → (1 ≤ entries)
+        × (entries - 1 ≡ length (m.policy.order v))
     victim_entries entries h = (let e = popped_shorter m good now i v popped in (omega arith, omega arith))
 
     module _ (n : ℕ) (x : Kept K V P) (found : number_of t i.id ≡ Some n) (there : slot_in t n ≡ Some x) where
@@ -166,20 +190,29 @@ module _ {K V P View C : Type 0} (m : Meaning K P View C) (laws : IsEquivalence 
       pub victim_resident : x.resident ≡ true
       victim_resident = ∥∥₁_elim kept (hlevel props) resident_by
 
-      module _ (t' : Records K V P) (write : (q : ℕ) → slot_in t' q ≡ update nat_eq (slot_in t) n (slot_outside x) q) (recs : (id : ℕ) → record_in t' id ≡ update nat_eq (record_in t) x.id (outside (rec_of x)) id)
-          (at' : ℕ → Option Item) (same : (p : ℕ) → at' p ≡ without i.id (at p)) (keys' : ℕ × K → Option ℕ) (gone : (q : ℕ × K) → keys' q ≡ update (same_key m.same) keys (key_of x.kept) None q) where
+      module _ (t' : Records K V P) (write : (q : ℕ) → slot_in t' q ≡ update nat_eq (slot_in t) n (slot_outside x) q)
+          (recs : (id : ℕ) → record_in t' id ≡ update nat_eq (record_in t) x.id (outside (rec_of x)) id)
+          (at' : ℕ → Option Item) (same : (p : ℕ) → at' p ≡ without i.id (at p)) (keys' : ℕ × K → Option ℕ)
+          (gone : (q : ℕ × K) → keys' q ≡ update (same_key m.same) keys (key_of x.kept) None q) where
         same_x : (p : ℕ) → at' p ≡ without x.id (at p)
         same_x p = same p ∙ ap (λ (id : ℕ). without id (at p)) (sym victim_id)
 
-        pub victim_after : state number capacity limits v keys' t' next ≡ record (after_out m now i.id (rec_of x)) { view = v }
-        victim_after = same_state (state number capacity limits v keys' t' next) (record (after_out m now i.id (rec_of x)) { view = v }) refl refl refl refl (left_index n x there (slot_in t') write at' same_x keys' gone)
+        pub victim_after : state number capacity limits v keys' t' next
+            ≡ record (after_out m now i.id (rec_of x)) { view = v }
+        victim_after = same_state (state number capacity limits v keys' t' next)
+            (record (after_out m now i.id (rec_of x)) { view = v }) refl refl refl refl
+            (left_index n x there (slot_in t') write at' same_x keys' gone)
             (λ id. recs id ∙ ap (λ (a : ℕ). update nat_eq (record_in t) a (outside (rec_of x)) id) victim_id) refl
 
         pub victim_kept : ∥ IsKept m (state number capacity limits v keys' t' next) ∥₁
-        victim_kept = ∥∥₁_map kept (λ k'. subst (IsKept m) (sym victim_after) (popped_keeps m laws good now k' i v popped (rec_of x) rec_there))
+        victim_kept = ∥∥₁_map kept
+            (λ k'. subst (IsKept m) (sym victim_after)
+            (popped_keeps m laws good now k' i v popped (rec_of x) rec_there))
 
         pub victim_stored : IsStored m at' keys' t'
-        victim_stored = (let l = left_stored n x there (slot_in t') write at' same_x keys' gone in record { led = l.led; placed = l.placed })
+        victim_stored =
+            (let l = left_stored n x there (slot_in t') write at' same_x keys' gone in
+            record { led = l.led; placed = l.placed })
 
         pub victim_record : now.records i.id ≡ Some (rec_of x)
         victim_record = rec_there
@@ -190,10 +223,11 @@ module _ {K V P View C : Type 0} (m : Meaning K P View C) (laws : IsEquivalence 
     still_kept = subst (λ (w : View). ∥ IsKept m (state number capacity limits w keys t next) ∥₁) (sym same) kept
 
     pub still_stored : (at' : ℕ → Option Item) → ((p : ℕ) → at' p ≡ at p) → IsStored m at' keys t
-    still_stored at' places = record { led = stored.led; placed = λ n s there res. go s.place ∙ stored.placed n s there res } where
-      go : (p : Option ℕ) → option_and_then at' p ≡ option_and_then at p
-      go None = refl
-      go (Some p) = places p
+    still_stored at' places =
+        record { led = stored.led; placed = λ n s there res. go s.place ∙ stored.placed n s there res } where
+          go : (p : Option ℕ) → option_and_then at' p ≡ option_and_then at p
+          go None = refl
+          go (Some p) = places p
 
     pub still_weighed : (usage : ℕ) → usage ≡ weight_of (m.policy.order view) → usage ≡ weight_of (m.policy.order v)
     still_weighed usage h = h ∙ ap (λ (w : View). weight_of (m.policy.order w)) (sym same)

@@ -16,13 +16,16 @@ use Rattle.foyer_core.proofs.Origins.{RecordsFrom, from_same, gets_from}
 use Rattle.foyer_core.proofs.ShardTold.{SameIndex, gets_index, same_index}
 use Rattle.foyer_core.proofs.Staying.{RecordsStay, gets_stay, nothing, stay_same}
 
-module _ {K V P View C N R : Type 0} (m : Meaning K P View C) (old : State K V P View) (f : Opens K N R) (k : ℕ × K) (waiter : N) (later : Option R) (new : State K V P View) (g : Opens K N R) where
-  looked : (r : Result (Lookup K V P R) Reason) → LooksUp m old f k waiter later r new g → ((answer : Result (Option (Held K V P)) Reason) × Gets m old k answer new) ⊎ (new ≡ old)
+module _ {K V P View C N R : Type 0} (m : Meaning K P View C) (old : State K V P View) (f : Opens K N R) (k : ℕ × K)
+    (waiter : N) (later : Option R) (new : State K V P View) (g : Opens K N R) where
+  looked : (r : Result (Lookup K V P R) Reason) → LooksUp m old f k waiter later r new g →
+      ((answer : Result (Option (Held K V P)) Reason) × Gets m old k answer new) ⊎ (new ≡ old)
   looked (Ok (Hit entry)) h = inl (Ok (Some entry), h.0)
   looked (Ok (Lead fetch token required)) h = inr h.3
   looked (Ok (Wait token)) h = inr h.3
   looked (Err reason) h = go (hit old k) h.0 where
-    go : (o : Option ℕ) → RefusesLookUp m o old f k reason new → ((answer : Result (Option (Held K V P)) Reason) × Gets m old k answer new) ⊎ (new ≡ old)
+    go : (o : Option ℕ) → RefusesLookUp m o old f k reason new →
+        ((answer : Result (Option (Held K V P)) Reason) × Gets m old k answer new) ⊎ (new ≡ old)
     go None h = inr h.1
     go (Some id) h = inl (Err reason, h)
 

@@ -5,7 +5,9 @@ use Rattle.std.proofs.lemmas.Nat.{and_mask, ones_cat, ones_le_self, pow-add, zer
 
 -- the bits of a number are its lowest one and those of its half
 halved : (n : ℕ) → count_ones n ≡ count_ones (n / 2) + count_ones (n % 2)
-halved n = let parts : n / 2 * 2 ^ 1 + n % 2 ≡ n = omega arith in subst (λ (m : ℕ). count_ones m ≡ count_ones (n / 2) + count_ones (n % 2)) parts (ones_cat 1 (n / 2) (n % 2) (omega arith))
+halved n = let parts : n / 2 * 2 ^ 1 + n % 2 ≡ n = omega arith in
+    subst (λ (m : ℕ). count_ones m ≡ count_ones (n / 2) + count_ones (n % 2)) parts
+    (ones_cat 1 (n / 2) (n % 2) (omega arith))
 
 -- a number above 0 has a bit
 ones_some : (m : ℕ) → 0 < m → 1 ≤ count_ones m
@@ -31,4 +33,5 @@ one_bit (suc d) n h e = go (one_bit d (n / 2)) (n % 2) refl where
 
 -- a mask with the bits below a number's only one gives the remainder by it
 pub masked : (h n : ℕ) → count_ones n ≡ 1 → bit_and h (n - 1) ≡ h % n
-masked h n e = let power = one_bit n n (omega arith) e in subst (λ (m : ℕ). bit_and h (m - 1) ≡ h % m) (sym power.1) (and_mask h power.0)
+masked h n e = let power = one_bit n n (omega arith) e in
+    subst (λ (m : ℕ). bit_and h (m - 1) ≡ h % m) (sym power.1) (and_mask h power.0)

@@ -26,22 +26,27 @@ named-apart n id apart = elim (eqb_tells n.id id) [
 low_bits : (id fewer bits place : ℕ) → fewer ≤ bits → id % 2 ^ bits ≡ place → id % 2 ^ fewer ≡ place % 2 ^ fewer
 low_bits id fewer bits place more at =
     let sum : (bits - fewer) + fewer ≡ bits = omega arith in
-    sym (mod-mod-pow id (bits - fewer) fewer) ∙ ap (λ (n : ℕ). id % 2 ^ n % 2 ^ fewer) sum ∙ ap (λ (n : ℕ). n % 2 ^ fewer) at
+    sym (mod-mod-pow id (bits - fewer) fewer) ∙ ap (λ (n : ℕ). id % 2 ^ n % 2 ^ fewer) sum
+    ∙ ap (λ (n : ℕ). n % 2 ^ fewer) at
 
 module _ (near : List Named) (fewer bits place from : ℕ) (more : fewer ≤ bits) (low : from ≡ place % 2 ^ fewer) where
   -- what an id's place by fewer bits names
-  from_there : (o : Option Named) → slice_get near from ≡ o → (id : ℕ) → id % 2 ^ bits ≡ place → slot_near fewer near id ≡ slot_named o id
-  from_there o there id at = ap (λ (p : ℕ). slot_named (slice_get near p) id) (low_bits id fewer bits place more at ∙ sym low) ∙ ap (λ (o : Option Named). slot_named o id) there
+  from_there : (o : Option Named) → slice_get near from ≡ o → (id : ℕ) → id % 2 ^ bits ≡ place →
+      slot_near fewer near id ≡ slot_named o id
+  from_there o there id at = ap (λ (p : ℕ). slot_named (slice_get near p) id)
+      (low_bits id fewer bits place more at ∙ sym low) ∙ ap (λ (o : Option Named). slot_named o id) there
 
   -- it stays
-  pub stays-here : (n : Named) → slice_get near from ≡ Some n → (id : ℕ) → id % 2 ^ bits ≡ place → slot_named (Some n) id ≡ slot_near fewer near id
+  pub stays-here : (n : Named) → slice_get near from ≡ Some n → (id : ℕ) → id % 2 ^ bits ≡ place →
+      slot_named (Some n) id ≡ slot_near fewer near id
   stays-here n there id at = sym (from_there (Some n) there id at)
 
   -- it stands elsewhere
   pub stays-apart : (n free : Named) → slice_get near from ≡ Some n → n.id % 2 ^ bits ≢ place → free.slot ≡ None
       → (id : ℕ) → id % 2 ^ bits ≡ place → slot_named (Some free) id ≡ slot_near fewer near id
   stays-apart n free there apart none id at =
-      named-free free id none ∙ sym (named-apart n id (λ e. apart (ap (λ (q : ℕ). q % 2 ^ bits) e ∙ at))) ∙ sym (from_there (Some n) there id at)
+      named-free free id none ∙ sym (named-apart n id (λ e. apart (ap (λ (q : ℕ). q % 2 ^ bits) e ∙ at)))
+      ∙ sym (from_there (Some n) there id at)
 
   -- there is nothing
   pub stays-none : (free : Named) → slice_get near from ≡ None → free.slot ≡ None
@@ -64,7 +69,8 @@ pub spread_more : (near wider : List Named) (fewer bits place : ℕ) (n : Named)
     → (id : ℕ) → id % 2 ^ bits < place + 1 → slot_near bits (wider ++ n ∷ []) id ≡ slot_near fewer near id
 spread_more near wider fewer bits place n many before here id within = elim (leb_tells place (id % 2 ^ bits)) [
   | inl e ↦ (let at : id % 2 ^ bits ≡ place = omega (arith, e.1, within) in
-      ap (λ (p : ℕ). slot_named (slice_get (wider ++ n ∷ []) p) id) (at ∙ sym many) ∙ ap (λ (o : Option Named). slot_named o id) (get_last wider n) ∙ here id at)
+      ap (λ (p : ℕ). slot_named (slice_get (wider ++ n ∷ []) p) id) (at ∙ sym many)
+      ∙ ap (λ (o : Option Named). slot_named o id) (get_last wider n) ∙ here id at)
   | inr e ↦ (let inside : id % 2 ^ bits < length wider = subst (λ (m : ℕ). id % 2 ^ bits < m) (sym many) e.1 in
       ap (λ (o : Option Named). slot_named o id) (get_left wider (n ∷ []) (id % 2 ^ bits) inside) ∙ before id e.1)
 ]
@@ -73,8 +79,10 @@ spread_more near wider fewer bits place n many before here id within = elim (leb
 pub spread_all : (near wider : List Named) (fewer bits places : ℕ) → places ≡ 2 ^ bits
     → ((id : ℕ) → id % 2 ^ bits < places → slot_near bits wider id ≡ slot_near fewer near id)
     → (id : ℕ) → slot_near bits wider id ≡ slot_near fewer near id
-spread_all near wider fewer bits places all named id = named id (subst (λ (n : ℕ). id % 2 ^ bits < n) (sym all) (mod-lt id (pow_pos bits)))
+spread_all near wider fewer bits places all named id =
+    named id (subst (λ (n : ℕ). id % 2 ^ bits < n) (sym all) (mod-lt id (pow_pos bits)))
 
 -- the same slots are as far apart
-pub apart_same : (near near' far : ℕ → Option ℕ) → ((id : ℕ) → near' id ≡ near id) → AreApart near far → AreApart near' far
+pub apart_same : (near near' far : ℕ → Option ℕ) → ((id : ℕ) → near' id ≡ near id) → AreApart near far →
+    AreApart near' far
 apart_same near near' far same apart id is = apart id (subst (λ (o : Option ℕ). IsSome o) (same id) is)

@@ -14,7 +14,9 @@ use Rattle.foyer_core.specs.State.{Meaning, IsKept}
 use Rattle.foyer_core.specs.Stored.{IsStored, state}
 use Rattle.foyer_core.proofs.Keeps.{opened_keeps}
 
-module _ {K V P View C : Type 0} (m : Meaning K P View C) (keys : ℕ × K → Option ℕ) (t : Records K V P) (no_key : (q : ℕ × K) → keys q ≡ None) (no_slot : (n : ℕ) → slot_in t n ≡ None) (no_id : (id : ℕ) → number_of t id ≡ None) where
+module _ {K V P View C : Type 0} (m : Meaning K P View C) (keys : ℕ × K → Option ℕ) (t : Records K V P)
+    (no_key : (q : ℕ × K) → keys q ≡ None) (no_slot : (n : ℕ) → slot_in t n ≡ None)
+    (no_id : (id : ℕ) → number_of t id ≡ None) where
   pub hits_none : (q : ℕ × K) → option_and_then (id_in t) (keys q) ≡ None
   hits_none q = ap (option_and_then (id_in t)) (no_key q)
 
@@ -27,9 +29,11 @@ module _ {K V P View C : Type 0} (m : Meaning K P View C) (keys : ℕ × K → O
     placed = λ n s h res. absurd (let e : ◌≡◌ {A = Option (Kept K V P)} None (Some s) = sym (no_slot n) ∙ h in cc);
   }
 
-  module _ (laws : IsEquivalence m.same) (good : IsPolicy m.policy) (capacity : ℕ) (config : C) (view : View) (sound : m.policy.fault config ≡ None) (opens : view ≡ m.policy.opening capacity config) where
+  module _ (laws : IsEquivalence m.same) (good : IsPolicy m.policy) (capacity : ℕ) (config : C) (view : View)
+      (sound : m.policy.fault config ≡ None) (opens : view ≡ m.policy.opening capacity config) where
     pub opened_kept : (number : ℕ) (limits : Limits) → ∥ IsKept m (state number capacity limits view keys t 0) ∥₁
-    opened_kept number limits = ∣ opened_keeps m laws good (state number capacity limits view keys t 0) capacity config sound opens hits_none records_none ∣₁
+    opened_kept number limits = ∣ opened_keeps m laws good (state number capacity limits view keys t 0) capacity
+        config sound opens hits_none records_none ∣₁
 
     opened_order : m.policy.order view ≡ []
     opened_order = ap m.policy.order opens ∙ good.opening_order capacity config sound

@@ -26,7 +26,8 @@ use Rattle.foyer_core.proofs.TableLemmas.{id_by-some, id_by-there}
 some_number : (a b : ℕ) → Some a ≡ Some b → a ≡ b
 some_number a b h = cc
 
-module _ {K V P View C : Type 0} (m : Meaning K P View C) (laws : IsEquivalence m.same) (good : IsPolicy m.policy) (o : Holding V m) where
+module _ {K V P View C : Type 0} (m : Meaning K P View C) (laws : IsEquivalence m.same) (good : IsPolicy m.policy)
+    (o : Holding V m) where
   open o use {at, keys, t, number, capacity, limits, view, next, kept}
 
   abbrev now : State K V P View
@@ -35,7 +36,8 @@ module _ {K V P View C : Type 0} (m : Meaning K P View C) (laws : IsEquivalence 
   module _ (id : ℕ) (in_order : 0 < count_of id (m.policy.order view)) where
     known_by : IsKept m now → is_some (number_of t id) ≡ true
     known_by k' = go (number_of t id) ((counted_there m laws good now k' id in_order).1) where
-      go : (w : Option ℕ) → option_map rec_of (option_and_then (slot_in t) w) ≡ Some (counted_there m laws good now k' id in_order).0 → is_some w ≡ true
+      go : (w : Option ℕ) → option_map rec_of (option_and_then (slot_in t) w)
+          ≡ Some (counted_there m laws good now k' id in_order).0 → is_some w ≡ true
       go None h = absurd cc
       go (Some n) h = refl
 
@@ -67,16 +69,26 @@ module _ {K V P View C : Type 0} (m : Meaning K P View C) (laws : IsEquivalence 
         pub out_led : keys (key_of x.kept) ≡ Some n
         out_led = ∥∥₁_elim kept (hlevel props) led_by
 
-        module _ (t' : Records K V P) (write : (q : ℕ) → slot_in t' q ≡ update nat_eq (slot_in t) n (slot_outside x) q) (recs : (j : ℕ) → record_in t' j ≡ update nat_eq (record_in t) x.id (outside (rec_of x)) j)
-            (at' : ℕ → Option Item) (places : (p : ℕ) → at' p ≡ without x.id (at p)) (keys' : ℕ × K → Option ℕ) (gone : (q : ℕ × K) → keys' q ≡ update (same_key m.same) keys (key_of x.kept) None q)
+        module _ (t' : Records K V P)
+            (write : (q : ℕ) → slot_in t' q ≡ update nat_eq (slot_in t) n (slot_outside x) q)
+            (recs : (j : ℕ) → record_in t' j ≡ update nat_eq (record_in t) x.id (outside (rec_of x)) j)
+            (at' : ℕ → Option Item) (places : (p : ℕ) → at' p ≡ without x.id (at p)) (keys' : ℕ × K → Option ℕ)
+            (gone : (q : ℕ × K) → keys' q ≡ update (same_key m.same) keys (key_of x.kept) None q)
             (view' : View) (viewed : view' ≡ m.policy.remove view id) where
-          pub out_after : state number capacity limits view' keys' t' next ≡ record (after_out m now id (rec_of x)) { view = m.policy.remove view id }
-          out_after = same_state (state number capacity limits view' keys' t' next) (record (after_out m now id (rec_of x)) { view = m.policy.remove view id }) refl refl refl viewed
-              (left_index m laws good o n x there (slot_in t') write at' places keys' gone) (λ j. recs j ∙ ap (λ (a : ℕ). update nat_eq (record_in t) a (outside (rec_of x)) j) out_id) refl
+          pub out_after : state number capacity limits view' keys' t' next
+              ≡ record (after_out m now id (rec_of x)) { view = m.policy.remove view id }
+          out_after = same_state (state number capacity limits view' keys' t' next)
+              (record (after_out m now id (rec_of x)) { view = m.policy.remove view id }) refl refl refl viewed
+              (left_index m laws good o n x there (slot_in t') write at' places keys' gone)
+              (λ j. recs j ∙ ap (λ (a : ℕ). update nat_eq (record_in t) a (outside (rec_of x)) j) out_id) refl
 
           pub out_kept : ∥ IsKept m (state number capacity limits view' keys' t' next) ∥₁
           out_kept = ∥∥₁_map kept (λ k'. subst (IsKept m) (sym out_after)
-              (removed_keeps m laws good now k' (key_of x.kept) id (hits m laws good o (key_of x.kept) n out_led x there ∙ ap (λ (a : ℕ). Some a) out_id) (rec_of x) out_record))
+              (removed_keeps m laws good now k' (key_of x.kept) id
+              (hits m laws good o (key_of x.kept) n out_led x there ∙ ap (λ (a : ℕ). Some a) out_id) (rec_of x)
+              out_record))
 
           pub out_stored : IsStored m at' keys' t'
-          out_stored = (let l = left_stored m laws good o n x there (slot_in t') write at' places keys' gone in record { led = l.led; placed = l.placed })
+          out_stored =
+              (let l = left_stored m laws good o n x there (slot_in t') write at' places keys' gone in
+              record { led = l.led; placed = l.placed })

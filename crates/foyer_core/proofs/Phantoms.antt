@@ -15,7 +15,8 @@ use Rattle.foyer_core.proofs.LeaveLemmas.{Rests}
 use Rattle.foyer_core.proofs.InsertLemmas.{gives_way_rests}
 
 module _ {K V P View : Type 0} (s : State K V P View) (inc : Incoming K V P) (r : Option Reason)
-    (ids : r ≡ Some Ids ↔ LacksId s inc.id) (handles : r ≡ Some Handles ↔ (HasId s inc.id × (s.limits.handles < inc.handles))) where
+    (ids : r ≡ Some Ids ↔ LacksId s inc.id)
+    (handles : r ≡ Some Handles ↔ (HasId s inc.id × (s.limits.handles < inc.handles))) where
   -- where nothing is refused, there is an id, and its handles may be
   pub may_hold : r ≡ None → HasId s inc.id × (inc.handles ≤ s.limits.handles)
   may_hold none =
@@ -26,17 +27,21 @@ module _ {K V P View : Type 0} (s : State K V P View) (inc : Incoming K V P) (r 
 
 module _ {K V P View C : Type 0} (m : Meaning K P View C) where
   -- the record that is taken out is what gives way
-  pub taken_gives_way : (old : State K V P View) (o : Option ℕ) (id : ℕ) → o ≡ Some id → (gone : Gone K V P) (new : State K V P View) → TakesRecordOut m old id gone new
+  pub taken_gives_way : (old : State K V P View) (o : Option ℕ) (id : ℕ) → o ≡ Some id →
+      (gone : Gone K V P) (new : State K V P View) → TakesRecordOut m old id gone new
       → GivesWay m o old ((Replace, gone) ∷ []) new
-  taken_gives_way old o id is gone new h = subst (λ (w : Option ℕ). GivesWay m w old ((Replace, gone) ∷ []) new) (sym is)
+  taken_gives_way old o id is gone new h = subst (λ (w : Option ℕ). GivesWay m w old ((Replace, gone) ∷ []) new)
+      (sym is)
       (h.rec, h.there, ap (λ (g : Gone K V P). let l : Event × Gone K V P = (Replace, g) in l) h.gone_is, h.after)
 
   module _ (old : State K V P View) (inc : Incoming K V P) (replaced : Option (Gone K V P)) (last : State K V P View)
       (way : GivesWay m (old.index (key_of inc.kept)) old (replaced_leaves replaced) last) where
     pub way_rests : (laws : IsEquivalence m.same) → IsPolicy m.policy → Rests m old last
-    way_rests laws good = gives_way_rests m laws good (old.index (key_of inc.kept)) old (replaced_leaves replaced) last way
+    way_rests laws good = gives_way_rests m laws good (old.index (key_of inc.kept)) old (replaced_leaves replaced)
+        last way
 
-    pub phantom_came : (source : Source) → MayHold m old inc → (ls : List (Event × Gone K V P)) → ls ≡ replaced_leaves replaced ++ (Remove, record { number = old.number; id = inc.id; kept = inc.kept }) ∷ []
+    pub phantom_came : (source : Source) → MayHold m old inc → (ls : List (Event × Gone K V P)) → ls
+        ≡ replaced_leaves replaced ++ (Remove, record { number = old.number; id = inc.id; kept = inc.kept }) ∷ []
         → InsertsPhantom m source old inc ls (entry_of old inc.id inc.kept source) (after_hold m last inc)
     phantom_came source may ls is = record {
       may = may;

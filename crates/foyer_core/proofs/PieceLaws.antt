@@ -19,13 +19,15 @@ use Rattle.foyer_core.specs.declared.record.Data.{Data}
 use Rattle.foyer_core.proofs.CoreLaws.{Stands, came_stands}
 use Rattle.foyer_core.proofs.Keeps.{counted_there}
 
-module _ {K V P View C S W A : Type 0} (m : Meaning K P View C) (weighs : ℕ → Type 0) (hash : ℕ) (piece : Carried K V P) (more : State K V P View → ℕ) (result : Result (Made K V P) (Denied K V P))
+module _ {K V P View C S W A : Type 0} (m : Meaning K P View C) (weighs : ℕ → Type 0) (hash : ℕ)
+    (piece : Carried K V P) (more : State K V P View → ℕ) (result : Result (Made K V P) (Denied K V P))
     (old new : Core K V P View S W A) (x : State K V P View) (there : shard_at old hash ≡ Some x) where
   same_state_of : (s : State K V P View) → shard_at old hash ≡ Some s → x ≡ s
   same_state_of s h = (let e : Some x ≡ Some s = sym there ∙ h in cc)
 
   -- `own` says how many handles it gets, as its shard does
-  by_step : (b : Bool) → is_known x hash piece ≡ b → (own : State K V P View → ℕ) → own x ≡ more x → AtShard (λ s t. PieceBy m b weighs hash piece (own s) result s t) hash old new
+  by_step : (b : Bool) → is_known x hash piece ≡ b → (own : State K V P View → ℕ) → own x ≡ more x →
+      AtShard (λ s t. PieceBy m b weighs hash piece (own s) result s t) hash old new
       → AtShard (λ s t. InsertsPiece m weighs hash piece (more s) result s t) hash old new
   by_step b known own counts at = record {
     before = at.before;
@@ -33,58 +35,74 @@ module _ {K V P View C S W A : Type 0} (m : Meaning K P View C) (weighs : ℕ �
     there = at.there;
     stepped =
         let here : x ≡ at.before = same_state_of at.before at.there in
-        let is : is_known at.before hash piece ≡ b = ap (λ (s : State K V P View). is_known s hash piece) (sym here) ∙ known in
+        let is : is_known at.before hash piece ≡ b = ap (λ (s : State K V P View). is_known s hash piece) (sym here)
+        ∙ known in
         let count : own at.before ≡ more at.before = subst (λ (s : State K V P View). own s ≡ more s) here counts in
         subst (λ (n : ℕ). InsertsPiece m weighs hash piece n result at.before at.after) count
-        (subst (λ (c : Bool). PieceBy m c weighs hash piece (own at.before) result at.before at.after) (sym is) at.stepped);
+        (subst (λ (c : Bool). PieceBy m c weighs hash piece (own at.before) result at.before at.after) (sym is)
+        at.stepped);
     rest = at.rest;
   }
 
-  pub known_inserts : is_known x hash piece ≡ true → (own : State K V P View → ℕ) → own x ≡ more x → AtShard (λ s t. ReturnsAnswering m s piece (own s) result t) hash old new
+  pub known_inserts : is_known x hash piece ≡ true → (own : State K V P View → ℕ) → own x ≡ more x →
+      AtShard (λ s t. ReturnsAnswering m s piece (own s) result t) hash old new
       → AtShard (λ s t. InsertsPiece m weighs hash piece (more s) result s t) hash old new
   known_inserts known own counts at = by_step true known own counts at
 
   pub foreign_inserts : is_known x hash piece ≡ false → (own : State K V P View → ℕ) → own x ≡ more x
-      → AtShard (λ s t. (weight : ℕ) × weighs weight × InsertsAnswering m Memory s (newcomer s (record piece.kept { hash = hash; weight = weight }) (own s)) result t) hash old new
+      → AtShard
+      (λ s t. (weight : ℕ) × weighs weight × InsertsAnswering m Memory s
+      (newcomer s (record piece.kept { hash = hash; weight = weight }) (own s)) result t) hash old new
       → AtShard (λ s t. InsertsPiece m weighs hash piece (more s) result s t) hash old new
   foreign_inserts known own counts at = by_step false known own counts at
 
 -- a plain record that came in by a piece is hit by equal keys
-module _ {K V P View C : Type 0} (m : Meaning K P View C) (laws : IsEquivalence m.same) (good : IsPolicy m.policy) (s t : State K V P View) (kept : ∥ IsKept m s ∥₁) where
+module _ {K V P View C : Type 0} (m : Meaning K P View C) (laws : IsEquivalence m.same) (good : IsPolicy m.policy)
+    (s t : State K V P View) (kept : ∥ IsKept m s ∥₁) where
   same_rec : (a b : Rec K V P) → Some a ≡ Some b → a ≡ b
   same_rec a b h = cc
 
-  pub inserts_stand : (source : Source) (inc : Incoming K V P) (ls : List (Event × Gone K V P)) (entry : Held K V P) → Inserts m source s inc ls entry t → is_phantom_record m entry.kept ≡ false → Stands m laws good entry.kept t
+  pub inserts_stand : (source : Source) (inc : Incoming K V P) (ls : List (Event × Gone K V P)) (entry : Held K V P) →
+      Inserts m source s inc ls entry t → is_phantom_record m entry.kept ≡ false → Stands m laws good entry.kept t
   inserts_stand source inc ls entry h plain = go (is_phantom_record m inc.kept) refl h where
-    go : (b : Bool) → is_phantom_record m inc.kept ≡ b → InsertsBy m b source s inc ls entry t → Stands m laws good entry.kept t
-    go true is h = absurd (true≢false (sym is ∙ ap (λ (e : Held K V P). is_phantom_record m e.kept) (sym h.entry_is) ∙ plain))
-    go false is h = subst (λ (d : Data K V P). Stands m laws good d t) (ap (λ (e : Held K V P). e.kept) (sym h.entry_is)) (came_stands m laws good source s inc ls entry t h)
+    go : (b : Bool) → is_phantom_record m inc.kept ≡ b → InsertsBy m b source s inc ls entry t →
+        Stands m laws good entry.kept t
+    go true is h =
+        absurd (true≢false (sym is ∙ ap (λ (e : Held K V P). is_phantom_record m e.kept) (sym h.entry_is) ∙ plain))
+    go false is h = subst (λ (d : Data K V P). Stands m laws good d t)
+        (ap (λ (e : Held K V P). e.kept) (sym h.entry_is)) (came_stands m laws good source s inc ls entry t h)
 
-  pub gains_stand : (id n : ℕ) (ls : List (Event × Gone K V P)) (entry : Held K V P) → is_in (s.records id) ≡ true → GainsHandles s id n ls entry t → Stands m laws good entry.kept t
+  pub gains_stand : (id n : ℕ) (ls : List (Event × Gone K V P)) (entry : Held K V P) → is_in (s.records id) ≡ true →
+      GainsHandles s id n ls entry t → Stands m laws good entry.kept t
   gains_stand id n ls entry inside h =
       let res : h.rec.resident ≡ true = sym (ap is_in h.there) ∙ inside in
       let more : Rec K V P = record h.rec { handles = h.rec.handles + n } in
       subst (λ (d : Data K V P). Stands m laws good d t) (ap (λ (e : Held K V P). e.kept) (sym h.entry_is)) record {
         id = id;
         rec = more;
-        under = λ k same. ap (λ (x : State K V P View). x.index k) h.after ∙ ∥∥₁_elim kept (hlevel props) (λ κ. under_by h.rec h.there res k same κ);
+        under = λ k same. ap (λ (x : State K V P View). x.index k) h.after
+            ∙ ∥∥₁_elim kept (hlevel props) (λ κ. under_by h.rec h.there res k same κ);
         there = ap (λ (x : State K V P View). x.records id) h.after ∙ update_here s.records id (Some more);
         data_are = refl;
       }
     where
-      under_by : (r : Rec K V P) → s.records id ≡ Some r → r.resident ≡ true → (k : ℕ × K) → same_key m.same (key_of r.kept) k ≡ true → IsKept m s → s.index k ≡ Some id
+      under_by : (r : Rec K V P) → s.records id ≡ Some r → r.resident ≡ true → (k : ℕ × K) →
+          same_key m.same (key_of r.kept) k ≡ true → IsKept m s → s.index k ≡ Some id
       under_by r there res k same κ =
           let c = counted_there m laws good s κ id (κ.resident id r there res) in
           let alike : c.0 ≡ r = same_rec c.0 r (sym c.1 ∙ there) in
           sym (κ.respects (key_of r.kept) k same) ∙ ap (λ (x : Rec K V P). s.index (key_of x.kept)) (sym alike) ∙ c.3
 
-  pub piece_stands : (weighs : ℕ → Type 0) (hash : ℕ) (piece : Carried K V P) (more : ℕ) (made : Made K V P) → InsertsPiece m weighs hash piece more (Ok made) s t
+  pub piece_stands : (weighs : ℕ → Type 0) (hash : ℕ) (piece : Carried K V P) (more : ℕ) (made : Made K V P) →
+      InsertsPiece m weighs hash piece more (Ok made) s t
       → is_phantom_record m made.entry.kept ≡ false → Stands m laws good made.entry.kept t
   piece_stands weighs hash piece more made h plain = go (is_known s hash piece) h where
-    known : (b : Bool) → is_in (s.records piece.id) ≡ b → ReturnsBy m b s piece more made.leaves made.entry t → Stands m laws good made.entry.kept t
+    known : (b : Bool) → is_in (s.records piece.id) ≡ b → ReturnsBy m b s piece more made.leaves made.entry t →
+        Stands m laws good made.entry.kept t
     known true is h = gains_stand piece.id more made.leaves made.entry is h
     known false is h = inserts_stand Memory (returning s piece more) made.leaves made.entry h plain
 
     go : (b : Bool) → PieceBy m b weighs hash piece more (Ok made) s t → Stands m laws good made.entry.kept t
     go true h = known (is_in (s.records piece.id)) refl h
-    go false h = inserts_stand Memory (newcomer s (record piece.kept { hash = hash; weight = h.0 }) more) made.leaves made.entry h.2 plain
+    go false h = inserts_stand Memory (newcomer s (record piece.kept { hash = hash; weight = h.0 }) more) made.leaves
+        made.entry h.2 plain

@@ -6,9 +6,13 @@ use Rattle.foyer_core.specs.Values.{Incoming}
 use Rattle.foyer_core.specs.State.{Meaning, State, key_of, pinned_beside}
 use Rattle.foyer_core.specs.Steps.{HasId, LacksId, MayInsert, RefusesPlain}
 
-module _ {K V P View C : Type 0} (m : Meaning K P View C) (s : State K V P View) (inc : Incoming K V P) (r : Option Reason)
-    (ids : r ≡ Some Ids ↔ LacksId s inc.id) (handles : r ≡ Some Handles ↔ (HasId s inc.id × (s.limits.handles < inc.handles)))
-    (weight : r ≡ Some Weight ↔ (HasId s inc.id × (inc.handles ≤ s.limits.handles) × (2 ^ 64 ≤ inc.kept.weight + pinned_beside m s (key_of inc.kept)))) where
+module _ {K V P View C : Type 0} (m : Meaning K P View C) (s : State K V P View) (inc : Incoming K V P)
+    (r : Option Reason)
+    (ids : r ≡ Some Ids ↔ LacksId s inc.id)
+    (handles : r ≡ Some Handles ↔ (HasId s inc.id × (s.limits.handles < inc.handles)))
+    (weight : r ≡ Some Weight ↔
+    (HasId s inc.id × (inc.handles ≤ s.limits.handles)
+    × (2 ^ 64 ≤ inc.kept.weight + pinned_beside m s (key_of inc.kept)))) where
   -- where there is none, there is an id, the handles may be, and the weight fits
   pub not_refused : r ≡ None → MayInsert m s inc
   not_refused none =
@@ -16,15 +20,18 @@ module _ {K V P View C : Type 0} (m : Meaning K P View C) (s : State K V P View)
       let number : HasId s inc.id = omega arith in
       let not_handles : ¬ (s.limits.handles < inc.handles) = λ h. (let e = handles.1 (number, h) in absurd cc) in
       let handle : inc.handles ≤ s.limits.handles = omega arith in
-      let not_weight : ¬ (2 ^ 64 ≤ inc.kept.weight + pinned_beside m s (key_of inc.kept)) = λ h. (let e = weight.1 (number, handle, h) in absurd cc) in
+      let not_weight : ¬ (2 ^ 64 ≤ inc.kept.weight + pinned_beside m s (key_of inc.kept)) =
+      λ h. (let e = weight.1 (number, handle, h) in absurd cc) in
       (number, handle, omega arith)
 
   -- and one that is stands as the insert's
-  pub refused : (reason : Reason) → r ≡ Some reason → (reason ≡ Ids) ⊎ ((reason ≡ Handles) ⊎ (reason ≡ Weight)) → RefusesPlain m s inc reason [] s
+  pub refused : (reason : Reason) → r ≡ Some reason → (reason ≡ Ids) ⊎ ((reason ≡ Handles) ⊎ (reason ≡ Weight)) →
+      RefusesPlain m s inc reason [] s
   refused reason is only = elim only [
     | inl e ↦ stands Ids e (ids.0 (is ∙ ap (λ (x : Reason). Some x) e), refl, refl)
     | inr (inl e) ↦ (let h = handles.0 (is ∙ ap (λ (x : Reason). Some x) e) in stands Handles e (h.0, h.1, refl, refl))
-    | inr (inr e) ↦ (let h = weight.0 (is ∙ ap (λ (x : Reason). Some x) e) in stands Weight e (h.0, h.1, h.2, refl, refl))
+    | inr (inr e) ↦
+        (let h = weight.0 (is ∙ ap (λ (x : Reason). Some x) e) in stands Weight e (h.0, h.1, h.2, refl, refl))
   ] where
     stands : (x : Reason) → reason ≡ x → RefusesPlain m s inc x [] s → RefusesPlain m s inc reason [] s
     stands x e h = subst (λ (y : Reason). RefusesPlain m s inc y [] s) (sym e) h

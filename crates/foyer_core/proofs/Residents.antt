@@ -78,14 +78,21 @@ module _ {K V P : Type 0} where
   count-none id first (Some x ∷ rest) none =
       let other : (x.id == id) ≡ false = grind (arith, nat_tests, none 0 x refl) in
       let zero_in : one_in id (first, x) ≡ 0 = rw other refl in
-      omega (arith, sum_by-cons (one_in id) (first, x) (entries_from (first + 1) rest), count-none id (first + 1) rest (λ n. none (suc n)))
+      omega (
+        arith,
+        sum_by-cons (one_in id) (first, x) (entries_from (first + 1) rest),
+        count-none id (first + 1) rest (λ n. none (suc n)),
+      )
 
   -- one slot has it
-  count-one : (id first : ℕ) (xs : List (Option (Kept K V P))) (n : ℕ) (x : Kept K V P) → get_or xs n None ≡ Some x → x.id ≡ id
-      → ((j : ℕ) (y : Kept K V P) → get_or xs j None ≡ Some y → y.id ≡ id → j ≡ n) → sum_by (one_in id) (entries_from first xs) ≡ resident_one x
+  count-one : (id first : ℕ) (xs : List (Option (Kept K V P))) (n : ℕ) (x : Kept K V P) → get_or xs n None ≡ Some x →
+      x.id ≡ id
+      → ((j : ℕ) (y : Kept K V P) → get_or xs j None ≡ Some y → y.id ≡ id → j ≡ n) →
+      sum_by (one_in id) (entries_from first xs) ≡ resident_one x
   count-one id first [] n x there same only = absurd cc
   count-one id first (None ∷ rest) zero x there same only = absurd cc
-  count-one id first (None ∷ rest) (suc n) x there same only = count-one id (first + 1) rest n x there same (λ j y h e. omega (arith, only (suc j) y h e))
+  count-one id first (None ∷ rest) (suc n) x there same only =
+      count-one id (first + 1) rest n x there same (λ j y h e. omega (arith, only (suc j) y h e))
   count-one id first (Some y ∷ rest) zero x there same only =
       let is : y ≡ x = cc in
       let own : (y.id == id) ≡ true = grind (arith, nat_tests, ap (λ (z : Kept K V P). z.id) is) in
@@ -93,7 +100,8 @@ module _ {K V P : Type 0} where
       let others = count-none id (first + 1) rest (λ n z h e. omega (arith, only (suc n) z h e)) in
       omega (arith, sum_by-cons (one_in id) (first, y) (entries_from (first + 1) rest), one, others)
   count-one id first (Some y ∷ rest) (suc n) x there same only =
-      let other : (y.id == id) ≡ false = elim (eqb_tells y.id id) [ inl e ↦ absurd (omega (arith, only 0 y refl e.1)) | inr e ↦ e.0 ] in
+      let other : (y.id == id) ≡ false = elim (eqb_tells y.id id)
+      [ inl e ↦ absurd (omega (arith, only 0 y refl e.1)) | inr e ↦ e.0 ] in
       let zero_in : one_in id (first, y) ≡ 0 = rw other refl in
       let later = count-one id (first + 1) rest n x there same (λ j z h e. omega (arith, only (suc j) z h e)) in
       omega (arith, sum_by-cons (one_in id) (first, y) (entries_from (first + 1) rest), zero_in, later)
@@ -111,24 +119,39 @@ module _ {K V P : Type 0} where
       let one : one_if i.id i ≡ 1 = rw same refl in
       absurd (omega (arith, alike i.id, count-cons i.id i is))
   sums_alike f (e ∷ es) items alike = go e.1.resident refl (λ l. sums_alike f es l) where
-    go : (b : Bool) → e.1.resident ≡ b → ((l : List Item) → ((id : ℕ) → sum_by (one_in id) es ≡ count_of id l) → sum_by (by_id f) es ≡ sum_by (λ i. f i.id) l)
+    go : (b : Bool) → e.1.resident ≡ b →
+        ((l : List Item) → ((id : ℕ) → sum_by (one_in id) es ≡ count_of id l) → sum_by (by_id f) es
+        ≡ sum_by (λ i. f i.id) l)
         → sum_by (by_id f) (e ∷ es) ≡ sum_by (λ i. f i.id) items
     go false out rest =
         let none : by_id f e ≡ 0 = rw out refl in
         let nought : (id : ℕ) → one_in id e ≡ 0 = λ id. none_out e (e.1.id == id) out in
-        omega (arith, sum_by-cons (by_id f) e es, none, rest items (λ id. omega (arith, alike id, sum_by-cons (one_in id) e es, nought id)))
+        omega (
+          arith,
+          sum_by-cons (by_id f) e es,
+          none,
+          rest items (λ id. omega (arith, alike id, sum_by-cons (one_in id) e es, nought id)),
+        )
     go true res rest =
         let id = e.1.id in
         let one : one_in id e ≡ 1 = here e ∙ rw res refl in
         let found = found-where id items (omega (arith, alike id, sum_by-cons (one_in id) e es, one)) in
         let named : found.0.id ≡ id = found-id id found.0 items found.1 in
         let removed : (j : ℕ) → sum_by (one_in j) es ≡ count_of j (remove_id id items) = λ j.
-        (let same : one_in j e ≡ one_if j found.0 = ap (λ (b : Bool). cond (e.1.id == j) (cond b 1 0) 0) res ∙ ap (λ (a : ℕ). cond (a == j) 1 0) (sym named) in
+        (let same : one_in j e ≡ one_if j found.0 = ap (λ (b : Bool). cond (e.1.id == j) (cond b 1 0) 0) res
+        ∙ ap (λ (a : ℕ). cond (a == j) 1 0) (sym named) in
         omega (arith, alike j, sum_by-cons (one_in j) e es, sum-remove_id (one_if j) id found.0 items found.1, same)) in
         let own : by_id f e ≡ f found.0.id = ap (λ (b : Bool). cond b (f id) 0) res ∙ ap f (sym named) in
-        omega (arith, sum_by-cons (by_id f) e es, own, rest (remove_id id items) removed, sum-remove_id (λ i. f i.id) id found.0 items found.1)
+        omega (
+          arith,
+          sum_by-cons (by_id f) e es,
+          own,
+          rest (remove_id id items) removed,
+          sum-remove_id (λ i. f i.id) id found.0 items found.1,
+        )
 
-  sums_by : (f g : ℕ × Kept K V P → ℕ) (es : List (ℕ × Kept K V P)) → ((e : ℕ × Kept K V P) → Contains es e → f e ≡ g e) → sum_by f es ≡ sum_by g es
+  sums_by : (f g : ℕ × Kept K V P → ℕ) (es : List (ℕ × Kept K V P)) →
+      ((e : ℕ × Kept K V P) → Contains es e → f e ≡ g e) → sum_by f es ≡ sum_by g es
   sums_by f g [] same = refl
   sums_by f g (e ∷ es) same = omega (
     arith,
@@ -139,7 +162,8 @@ module _ {K V P : Type 0} where
   )
 
 -- measures that agree at each item that its id finds have one sum
-items_alike : (f g : Item → ℕ) (l : List Item) → HasIdsOnce l → ((i : Item) → find_id i.id l ≡ Some i → f i ≡ g i) → sum_by f l ≡ sum_by g l
+items_alike : (f g : Item → ℕ) (l : List Item) → HasIdsOnce l → ((i : Item) → find_id i.id l ≡ Some i → f i ≡ g i) →
+    sum_by f l ≡ sum_by g l
 items_alike f g [] once same = refl
 items_alike f g (i ∷ is) once same =
     let own : (i.id == i.id) ≡ true = grind (arith, nat_tests) in
@@ -160,14 +184,16 @@ pub one_record : {A : Type 0} (o : Option A) (a b : A) → o ≡ Some a → o �
 one_record o a b h k = cc
 
 -- Walks over slots with their numbers: of one there it was shown that Q holds, or it is still to come.
-module _ {A : Type 0} (Q : A → Type 0) (old rest : List (ℕ × A)) (head : ℕ × A) (steps : old ≡ head ∷ rest) (n : ℕ) (x : A) where
+module _ {A : Type 0} (Q : A → Type 0) (old rest : List (ℕ × A)) (head : ℕ × A) (steps : old ≡ head ∷ rest) (n : ℕ)
+    (x : A) where
   -- it was shown of the next one
   pub passed : Q head.1 → Q x ⊎ Contains old (n, x) → Q x ⊎ Contains rest (n, x)
   passed shown (inl q) = inl q
-  passed shown (inr listed) = elim (Contains-cons_cases head (n, x) rest (subst (λ (l : List (ℕ × A)). Contains l (n, x)) steps listed)) [
-    | inl here ↦ inl (subst Q (ap (λ (p : ℕ × A). p.1) here) shown)
-    | inr later ↦ inr later
-  ]
+  passed shown (inr listed) = elim
+      (Contains-cons_cases head (n, x) rest (subst (λ (l : List (ℕ × A)). Contains l (n, x)) steps listed)) [
+        | inl here ↦ inl (subst Q (ap (λ (p : ℕ × A). p.1) here) shown)
+        | inr later ↦ inr later
+      ]
 
 -- the next one is not in the index
 pub passed_by : {K V P : Type 0} (Q : Kept K V P → Type 0) (old rest : List (ℕ × Kept K V P)) (head : ℕ × Kept K V P)
@@ -175,7 +201,8 @@ pub passed_by : {K V P : Type 0} (Q : Kept K V P → Type 0) (old rest : List (�
     → x.resident ≡ true → head.1.resident ≡ false → Q x ⊎ Contains old (n, x) → Q x ⊎ Contains rest (n, x)
 passed_by Q old rest head steps n x res out (inl q) = inl q
 passed_by {K} {V} {P} Q old rest head steps n x res out (inr listed) =
-    elim (Contains-cons_cases head (n, x) rest (subst (λ (l : List (ℕ × Kept K V P)). Contains l (n, x)) steps listed)) [
+    elim (Contains-cons_cases head (n, x) rest
+    (subst (λ (l : List (ℕ × Kept K V P)). Contains l (n, x)) steps listed)) [
       | inl here ↦ absurd (true≢false (sym res ∙ sym (ap (λ (p : ℕ × Kept K V P). p.1.resident) here) ∙ out))
       | inr later ↦ inr later
     ]
@@ -183,14 +210,16 @@ passed_by {K} {V} {P} Q old rest head steps n x res out (inr listed) =
 -- nothing is to come
 pub none_listed : {A : Type 0} (Q : Type 0) (old : List A) (x : A) → old ≡ [] → Q ⊎ Contains old x → Q
 none_listed Q old x none (inl q) = q
-none_listed {A} Q old x none (inr listed) = (let past = subst (λ (l : List A). Contains l x) none listed in absurd (omega (arith, past.1)))
+none_listed {A} Q old x none (inr listed) =
+    (let past = subst (λ (l : List A). Contains l x) none listed in absurd (omega (arith, past.1)))
 
 -- the weight of a record, where there is one
 abbrev weight_at : {K V P : Type 0} → Option (Rec K V P) → ℕ
 weight_at None = 0
 weight_at (Some r) = r.kept.weight
 
-module _ {K V P View C : Type 0} (m : Meaning K P View C) (laws : IsEquivalence m.same) (good : IsPolicy m.policy) (o : Holding V m) where
+module _ {K V P View C : Type 0} (m : Meaning K P View C) (laws : IsEquivalence m.same) (good : IsPolicy m.policy)
+    (o : Holding V m) where
   open o use {at, keys, t, view, kept}
 
   abbrev now : State K V P View
@@ -202,10 +231,12 @@ module _ {K V P View C : Type 0} (m : Meaning K P View C) (laws : IsEquivalence 
     no_item : record_in t id ≡ None → count_of id (m.policy.order view) ≡ 0
     no_item none = elim (eqb_tells (count_of id (m.policy.order view)) 0) [
       | inl e ↦ e.1
-      | inr e ↦ (let there = counted_there m laws good now k' id (omega (arith, e.1)) in let past = there.1 in absurd cc)
+      | inr e ↦
+          (let there = counted_there m laws good now k' id (omega (arith, e.1)) in let past = there.1 in absurd cc)
     ]
 
-    by_slot : (x : Kept K V P) → record_in t id ≡ Some (rec_of x) → (b : Bool) → x.resident ≡ b → cond b 1 0 ≡ count_of id (m.policy.order view)
+    by_slot : (x : Kept K V P) → record_in t id ≡ Some (rec_of x) → (b : Bool) → x.resident ≡ b → cond b 1 0
+        ≡ count_of id (m.policy.order view)
     by_slot x there true res = omega (arith, k'.once id, k'.resident id (rec_of x) there res)
     by_slot x there false res = elim (eqb_tells (count_of id (m.policy.order view)) 0) [
       | inl e ↦ sym e.1
@@ -224,7 +255,8 @@ module _ {K V P View C : Type 0} (m : Meaning K P View C) (laws : IsEquivalence 
         let x = named_is (slot_in t n) id (t.agree.named id n named) in
         let only : (j : ℕ) (y : Kept K V P) → get_or t.slots.slots j None ≡ Some y → y.id ≡ id → j ≡ n = λ j y there
         e. (let known = t.agree.known j id (id_by-some (slot_in t) j y there ∙ ap Some e) in cc) in
-        let record_is : record_in t id ≡ Some (rec_of x.0) = ap (record_in t) (sym x.2) ∙ slot_record m at keys t n x.0 x.1 in
+        let record_is : record_in t id ≡ Some (rec_of x.0) = ap (record_in t) (sym x.2)
+        ∙ slot_record m at keys t n x.0 x.1 in
         count-one id 0 t.slots.slots n x.0 x.1 x.2 only ∙ by_slot x.0 record_is x.0.resident refl
 
   weighed_by : IsKept m now → sum_by weight_in (entries t.slots) ≡ weight_of (m.policy.order view)
@@ -242,20 +274,24 @@ module _ {K V P View C : Type 0} (m : Meaning K P View C) (laws : IsEquivalence 
   slots_weigh = ∥∥₁_elim kept (hlevel props) weighed_by
 
   -- what the index holds stands in the order
-  resident_by : IsKept m now → (id : ℕ) (r : Rec K V P) → now.records id ≡ Some r → r.resident ≡ true → 0 < count_of id (m.policy.order view)
+  resident_by : IsKept m now → (id : ℕ) (r : Rec K V P) → now.records id ≡ Some r → r.resident ≡ true →
+      0 < count_of id (m.policy.order view)
   resident_by k' id r there res = k'.resident id r there res
 
-  pub resident_counted : (id : ℕ) (r : Rec K V P) → now.records id ≡ Some r → r.resident ≡ true → 0 < count_of id (m.policy.order view)
+  pub resident_counted : (id : ℕ) (r : Rec K V P) → now.records id ≡ Some r → r.resident ≡ true →
+      0 < count_of id (m.policy.order view)
   resident_counted id r there res = ∥∥₁_elim kept (hlevel props) (λ k'. resident_by k' id r there res)
 
   -- a record is that of a slot
-  pub record_slot : (id : ℕ) (r : Rec K V P) → now.records id ≡ Some r → (n : ℕ) × (x : Kept K V P) × (slot_in t n ≡ Some x) × (rec_of x ≡ r)
+  pub record_slot : (id : ℕ) (r : Rec K V P) → now.records id ≡ Some r → (n : ℕ) × (x : Kept K V P)
+      × (slot_in t n ≡ Some x) × (rec_of x ≡ r)
   record_slot id r there = go (number_of t id) there where
     by_slot : (n : ℕ) (w : Option (Kept K V P)) → slot_in t n ≡ w → option_map rec_of w ≡ Some r → (n : ℕ) ×
         (x : Kept K V P) × (slot_in t n ≡ Some x) × (rec_of x ≡ r)
     by_slot n None is h = absurd cc
     by_slot n (Some x) is h = (n, x, is, cc)
 
-    go : (w : Option ℕ) → option_map rec_of (option_and_then (slot_in t) w) ≡ Some r → (n : ℕ) × (x : Kept K V P) × (slot_in t n ≡ Some x) × (rec_of x ≡ r)
+    go : (w : Option ℕ) → option_map rec_of (option_and_then (slot_in t) w) ≡ Some r → (n : ℕ) × (x : Kept K V P)
+        × (slot_in t n ≡ Some x) × (rec_of x ≡ r)
     go None h = absurd cc
     go (Some n) h = by_slot n (slot_in t n) refl h

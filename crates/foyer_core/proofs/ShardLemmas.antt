@@ -38,7 +38,8 @@ pub record Holding {K P View C : Type 0} (V : Type 0) (m : Meaning K P View C) :
 abbrev pub now_of : {K V P View C : Type 0} {m : Meaning K P View C} → Holding V m → State K V P View
 now_of o = state o.number o.capacity o.limits o.view o.keys o.t o.next
 
-module _ {K V P View C : Type 0} (m : Meaning K P View C) (laws : IsEquivalence m.same) (good : IsPolicy m.policy) (o : Holding V m) where
+module _ {K V P View C : Type 0} (m : Meaning K P View C) (laws : IsEquivalence m.same) (good : IsPolicy m.policy)
+    (o : Holding V m) where
   open o use {at, keys, t, number, capacity, limits, view, next, kept, stored}
 
   abbrev pub now : State K V P View
@@ -68,22 +69,31 @@ module _ {K V P View C : Type 0} (m : Meaning K P View C) (laws : IsEquivalence 
 
     -- a handle more
     module _ (t' : Records K V P) (view' : View) (viewed : view' ≡ m.policy.acquire view x.id)
-        (write : (q : ℕ) → slot_in t' q ≡ update nat_eq (slot_in t) n (Some (with_handles x (x.handles + 1))) q) (ids : (q : ℕ) → number_of t' q ≡ number_of t q) where
+        (write : (q : ℕ) → slot_in t' q ≡ update nat_eq (slot_in t) n (Some (with_handles x (x.handles + 1))) q)
+        (ids : (q : ℕ) → number_of t' q ≡ number_of t q) where
       pub got_after : state number capacity limits view' keys t' next ≡ after_get m now x.id (rec_of x)
-      got_after = same_state (state number capacity limits view' keys t' next) (after_get m now x.id (rec_of x)) refl refl refl viewed (count_index m at keys t at t' n (x.handles + 1) x there write ids (λ p. refl))
-          (write_records (slot_in t) (slot_in t') (number_of t) (number_of t') n t.agree x (with_handles x (x.handles + 1)) there refl write ids) refl
+      got_after = same_state (state number capacity limits view' keys t' next)
+          (after_get m now x.id (rec_of x)) refl refl refl viewed
+          (count_index m at keys t at t' n (x.handles + 1) x there write ids (λ p. refl))
+          (write_records (slot_in t) (slot_in t') (number_of t) (number_of t') n t.agree x
+          (with_handles x (x.handles + 1)) there refl write ids) refl
 
       pub got_kept : x.handles < limits.handles → ∥ IsKept m (state number capacity limits view' keys t' next) ∥₁
-      got_kept room = ∥∥₁_map kept (λ k'. subst (IsKept m) (sym got_after) (get_keeps m laws good now k' k x.id (rec_of x) hits found room))
+      got_kept room = ∥∥₁_map kept
+          (λ k'. subst (IsKept m) (sym got_after) (get_keeps m laws good now k' k x.id (rec_of x) hits found room))
 
       got_weight : IsKept m now → weight_of (m.policy.order view') ≡ weight_of (m.policy.order view)
-      got_weight k' = ap (λ (v : View). weight_of (m.policy.order v)) viewed ∙ sum_by-IsPermutation (λ (i : Item). i.weight) (m.policy.order view) (m.policy.order (m.policy.acquire view x.id)) (good.acquire_order view x.id k'.once)
+      got_weight k' = ap (λ (v : View). weight_of (m.policy.order v)) viewed
+          ∙ sum_by-IsPermutation (λ (i : Item). i.weight) (m.policy.order view)
+          (m.policy.order (m.policy.acquire view x.id)) (good.acquire_order view x.id k'.once)
 
       pub got_counted : (usage : ℕ) → usage ≡ weight_of (m.policy.order view) → usage ≡ weight_of (m.policy.order view')
       got_counted usage h = h ∙ sym (∥∥₁_elim kept (hlevel props) got_weight)
 
       got_length : IsKept m now → length (m.policy.order view') ≡ length (m.policy.order view)
-      got_length k' = ap (λ (v : View). length (m.policy.order v)) viewed ∙ length_permutation (m.policy.order view) (m.policy.order (m.policy.acquire view x.id)) (good.acquire_order view x.id k'.once)
+      got_length k' = ap (λ (v : View). length (m.policy.order v)) viewed
+          ∙ length_permutation (m.policy.order view) (m.policy.order (m.policy.acquire view x.id))
+          (good.acquire_order view x.id k'.once)
 
       pub got_entries : (entries : ℕ) → entries ≡ length (m.policy.order view) → entries ≡ length (m.policy.order view')
       got_entries entries h = h ∙ sym (∥∥₁_elim kept (hlevel props) got_length)

@@ -25,4 +25,5 @@ module _ {E K V P S W A N R I C X : Type 0} {e : EvictionGhosts E C X} {e1 : Clo
   pub core_sound : (s : CacheCore E K V P S W A N R I C X e e1 e2 e3 e4 q h c p d b w f i) (laws : IsEquivalence q.eq)
       (good : IsPolicy e.model) (equal : (x y : K) → q.eq x y ≡ true → hashes_of s x ≡ hashes_of s y)
       → AreSound (meaning_of_core s) laws good (hashes_of s) equal (length (core_of s).shards) (core_of s).shards
-  core_sound s laws good equal = sound_over (meaning_of_core s) laws good (hashes_of s) equal state_of s.shards.items (λ x. x.store.kept) s.belong s.hashed
+  core_sound s laws good equal = sound_over (meaning_of_core s) laws good (hashes_of s) equal state_of s.shards.items
+      (λ x. x.store.kept) s.belong s.hashed

@@ -22,7 +22,8 @@ some_in None h = absurd cc
 some_in (Some a) h = (a, refl)
 
 -- a result that is this error
-pub err_is : {A E : Type 0} (r : Result A E) (x : E) (Goal : Result A E → Type 0) → IsErrAnd r (λ e. e ≡ x) → Goal (Err x) → Goal r
+pub err_is : {A E : Type 0} (r : Result A E) (x : E) (Goal : Result A E → Type 0) → IsErrAnd r (λ e. e ≡ x) →
+    Goal (Err x) → Goal r
 err_is (Ok a) x Goal h goal = absurd h
 err_is {A} {E} (Err e) x Goal h goal = subst (λ (y : E). Goal (Err y)) (sym h) goal
 
@@ -30,19 +31,23 @@ pub none_not : {A : Type 0} (o : Option A) → is_some o ≡ true → ¬ (o ≡ 
 none_not None h e = absurd cc
 none_not (Some a) h e = absurd cc
 
-module _ {K V P View C : Type 0} (m : Meaning K P View C) (at : ℕ → Option Item) (keys : ℕ × K → Option ℕ) (t : Records K V P) where
+module _ {K V P View C : Type 0} (m : Meaning K P View C) (at : ℕ → Option Item) (keys : ℕ × K → Option ℕ)
+    (t : Records K V P) where
   -- the id that a key hits is that of the slot that it leads to
-  pub index_is : (q : ℕ × K) (n : ℕ) (s : Kept K V P) → keys q ≡ Some n → slot_in t n ≡ Some s → option_and_then (id_in t) (keys q) ≡ Some s.id
+  pub index_is : (q : ℕ × K) (n : ℕ) (s : Kept K V P) → keys q ≡ Some n → slot_in t n ≡ Some s →
+      option_and_then (id_in t) (keys q) ≡ Some s.id
   index_is q n s h there = ap (option_and_then (id_in t)) h ∙ id_by-some (slot_in t) n s there
 
   pub slot_record : (n : ℕ) (s : Kept K V P) → slot_in t n ≡ Some s → record_in t s.id ≡ Some (rec_of s)
   slot_record n s there = record_there (slot_in t) (number_of t) n t.agree s there
 
   -- a resident's place names its item
-  pub place_there : IsStored m at keys t → (n : ℕ) (s : Kept K V P) (p : ℕ) → slot_in t n ≡ Some s → s.resident ≡ true → s.place ≡ Some p → at p ≡ Some (item_of m s.id s.kept)
+  pub place_there : IsStored m at keys t → (n : ℕ) (s : Kept K V P) (p : ℕ) → slot_in t n ≡ Some s → s.resident ≡ true
+      → s.place ≡ Some p → at p ≡ Some (item_of m s.id s.kept)
   place_there stored n s p there res place = ap (option_and_then at) (sym place) ∙ stored.placed n s there res
 
-  pub place_is : IsStored m at keys t → (n : ℕ) (s : Kept K V P) → slot_in t n ≡ Some s → s.resident ≡ true → is_some s.place ≡ true
+  pub place_is : IsStored m at keys t → (n : ℕ) (s : Kept K V P) → slot_in t n ≡ Some s → s.resident ≡ true →
+      is_some s.place ≡ true
   place_is stored n s there res = go s.place (stored.placed n s there res) where
     go : (o : Option ℕ) → option_and_then at o ≡ Some (item_of m s.id s.kept) → is_some o ≡ true
     go None h = absurd cc
@@ -50,17 +55,22 @@ module _ {K V P View C : Type 0} (m : Meaning K P View C) (at : ℕ → Option I
 
   -- a slot whose handles change
   module _ (at' : ℕ → Option Item) (t' : Records K V P) (n h : ℕ) (s : Kept K V P) (there : slot_in t n ≡ Some s)
-      (write : (q : ℕ) → slot_in t' q ≡ update nat_eq (slot_in t) n (Some (with_handles s h)) q) (ids : (q : ℕ) → number_of t' q ≡ number_of t q) (same : (p : ℕ) → at' p ≡ at p) where
+      (write : (q : ℕ) → slot_in t' q ≡ update nat_eq (slot_in t) n (Some (with_handles s h)) q)
+      (ids : (q : ℕ) → number_of t' q ≡ number_of t q) (same : (p : ℕ) → at' p ≡ at p) where
     pub count_index : (q : ℕ × K) → option_and_then (id_in t') (keys q) ≡ option_and_then (id_in t) (keys q)
     count_index q = go (keys q) where
       go : (o : Option ℕ) → option_and_then (id_in t') o ≡ option_and_then (id_in t) o
       go None = refl
-      go (Some k) = write_ids (slot_in t) (slot_in t') (number_of t) (number_of t') n t.agree s (with_handles s h) there refl write ids k
+      go (Some k) = write_ids (slot_in t) (slot_in t') (number_of t) (number_of t') n t.agree s (with_handles s h)
+          there refl write ids k
 
     -- a slot now was there before, but for its handles
-    was : (k : ℕ) (x : Kept K V P) → slot_in t' k ≡ Some x → (y : Kept K V P) × (slot_in t k ≡ Some y) × (x ≡ with_handles y x.handles)
+    was : (k : ℕ) (x : Kept K V P) → slot_in t' k ≡ Some x → (y : Kept K V P) × (slot_in t k ≡ Some y)
+        × (x ≡ with_handles y x.handles)
     was k x is = elim (eqb_tells k n) [
-      | inl e ↦ (let now : Some (with_handles s h) ≡ Some x = sym (write n ∙ update_here (slot_in t) n (Some (with_handles s h))) ∙ ap (slot_in t') (sym e.1) ∙ is in
+      | inl e ↦
+          (let now : Some (with_handles s h) ≡ Some x =
+          sym (write n ∙ update_here (slot_in t) n (Some (with_handles s h))) ∙ ap (slot_in t') (sym e.1) ∙ is in
           let x_is : with_handles s h ≡ x = cc in
           (s, ap (slot_in t) e.1 ∙ there, subst (λ (z : Kept K V P). z ≡ with_handles s z.handles) x_is refl))
       | inr e ↦ (x, sym (write k ∙ update_apart (slot_in t) n (Some (with_handles s h)) k e.1) ∙ is, refl)
@@ -75,9 +85,11 @@ module _ {K V P View C : Type 0} (m : Meaning K P View C) (at : ℕ → Option I
       placed = λ k x is res.
           let y = was k x is in
           let old = stored.placed k y.0 y.1 (sym (ap (λ (z : Kept K V P). z.resident) y.2) ∙ res) in
-          and_then_same at' at x.place same ∙ ap (λ (z : Kept K V P). option_and_then at z.place) y.2 ∙ old ∙ ap (λ (z : Kept K V P). Some (item_of m z.id z.kept)) (sym y.2);
+          and_then_same at' at x.place same ∙ ap (λ (z : Kept K V P). option_and_then at z.place) y.2 ∙ old
+          ∙ ap (λ (z : Kept K V P). Some (item_of m z.id z.kept)) (sym y.2);
     } where
-      and_then_same : (f g : ℕ → Option Item) (o : Option ℕ) → ((p : ℕ) → f p ≡ g p) → option_and_then f o ≡ option_and_then g o
+      and_then_same : (f g : ℕ → Option Item) (o : Option ℕ) → ((p : ℕ) → f p ≡ g p) → option_and_then f o
+          ≡ option_and_then g o
       and_then_same f g None h = refl
       and_then_same f g (Some p) h = h p
 

@@ -30,7 +30,9 @@ module _ (xs ys : List Item) (i : Item) (once : HasIdsOnce xs) (perm : IsPermuta
 
   rest_finds : (id : ℕ) (j : Item) → find_id id ys ≡ Some j → find_id id xs ≡ Some j
   rest_finds id j h =
-      let apart : i.id ≢ id = λ e. absurd (let new : count_of id ys ≡ 0 = subst (λ (a : ℕ). count_of a ys ≡ 0) e rest_new in omega (arith, found-counted id j ys h)) in
+      let apart : i.id ≢ id = λ e.
+      absurd (let new : count_of id ys ≡ 0 = subst (λ (a : ℕ). count_of a ys ≡ 0) e rest_new in
+      omega (arith, found-counted id j ys h)) in
       found-permuted id j (i ∷ ys) xs both_once back (found-tail id i j ys apart h)
 
   pub taken_by_permutation : TakesOut xs ys i
@@ -38,7 +40,8 @@ module _ (xs ys : List Item) (i : Item) (once : HasIdsOnce xs) (perm : IsPermuta
     here = found-permuted i.id i (i ∷ ys) xs both_once back (found-head i ys);
     once = once-tail i ys both_once;
     gone = rest_new;
-    others = λ id apart. sym (count-other id i ys (λ e. apart (sym e))) ∙ sum_by-IsPermutation (one_if id) xs (i ∷ ys) perm;
+    others = λ id apart. sym (count-other id i ys (λ e. apart (sym e)))
+        ∙ sum_by-IsPermutation (one_if id) xs (i ∷ ys) perm;
     finds = rest_finds;
     weight = sum_by_popped (λ (j : Item). j.weight) i xs ys perm;
   }
@@ -68,7 +71,8 @@ module _ (xs : List Item) (i : Item) (once : HasIdsOnce xs) (here : find_id i.id
   }
 
 -- what is not taken out is found as before
-pub stays_found : (xs ys : List Item) (i : Item) → TakesOut xs ys i → (id : ℕ) (j : Item) → id ≢ i.id → find_id id xs ≡ Some j → find_id id ys ≡ Some j
+pub stays_found : (xs ys : List Item) (i : Item) → TakesOut xs ys i → (id : ℕ) (j : Item) → id ≢ i.id → find_id id xs
+    ≡ Some j → find_id id ys ≡ Some j
 stays_found xs ys i out id j apart h =
     let k = found-where id ys (omega (arith, out.others id apart, found-counted id j xs h)) in
     let same : k.0 ≡ j = cc (out.finds id k.0 k.1, h) in

@@ -21,12 +21,18 @@ use Rattle.foyer_policy.proofs.PopsLemmas.Cleared.{clear-order}
 
 module _ {S : Type 0} (R : S → S → Type 0) where
   -- a sum of what is nothing after each step
-  zip-sum : (Q : S → Type 0) (f : S → ℕ) → ((s t : S) → R s t → Q s → f t ≡ 0) → (ss ts : List S) → ((i : ℕ) (s : S) → slice_get ss i ≡ Some s → Q s) → AllZip R ss ts → sum_by f ts ≡ 0
+  zip-sum : (Q : S → Type 0) (f : S → ℕ) → ((s t : S) → R s t → Q s → f t ≡ 0) → (ss ts : List S) →
+      ((i : ℕ) (s : S) → slice_get ss i ≡ Some s → Q s) → AllZip R ss ts → sum_by f ts ≡ 0
   zip-sum Q f none [] [] q h = refl
   zip-sum Q f none [] (t ∷ ts) q h = absurd h
   zip-sum Q f none (s ∷ ss) [] q h = absurd h
   zip-sum Q f none (s ∷ ss) (t ∷ ts) q h =
-      omega (arith, sum_by-cons f t ts, none s t h.0 (q 0 s refl), zip-sum Q f none ss ts (λ i a there. q (suc i) a there) h.1)
+      omega (
+        arith,
+        sum_by-cons f t ts,
+        none s t h.0 (q 0 s refl),
+        zip-sum Q f none ss ts (λ i a there. q (suc i) a there) h.1,
+      )
 
   -- what stands at a place came of a step
   zip-from : (ss ts : List S) → AllZip R ss ts → (i : ℕ) (t : S) → slice_get ts i ≡ Some t → (s : S) × R s t
@@ -48,19 +54,24 @@ module _ {V C : Type 0} (m : Policy V C) (good : IsPolicy m) where
     go None e = e
     go (Some p) e = absurd (omega (arith, pop_shorter m good v p.1 p.0 e))
   popped_out (suc n) v less = go (m.pop v) refl (popped_out n) where
-    go : (o : Option (Item × V)) → m.pop v ≡ o → ((w : V) → length (m.order w) ≤ n → m.pop (after_pops m n w) ≡ None) → m.pop (view_or m o v (λ w. after_pops m n w)) ≡ None
+    go : (o : Option (Item × V)) → m.pop v ≡ o → ((w : V) → length (m.order w) ≤ n → m.pop (after_pops m n w) ≡ None)
+        → m.pop (view_or m o v (λ w. after_pops m n w)) ≡ None
     go None e rec = e
     go (Some p) e rec = rec p.1 (omega (arith, pop_shorter m good v p.1 p.0 e))
 
   -- where nothing is pinned, the pops leave nothing
   popped_all : (v : V) → m.pinned v ≡ [] → m.order (after_all_pops m v) ≡ []
   popped_all v none =
-      let end : IsWithin (m.order (after_all_pops m v)) (m.pinned (after_all_pops m v)) = good.pop_none (after_all_pops m v) (popped_out (length (m.order v)) v (omega arith)) in
+      let end : IsWithin (m.order (after_all_pops m v)) (m.pinned (after_all_pops m v)) =
+      good.pop_none (after_all_pops m v) (popped_out (length (m.order v)) v (omega arith)) in
       let nothing : m.pinned (after_all_pops m v) ≡ [] = after_pops_pinned m good (length (m.order v)) v ∙ none in
-      none_of (m.order (after_all_pops m v)) (subst (λ (l : List Item). sum_by (λ i. 1) (m.order (after_all_pops m v)) ≤ sum_by (λ i. 1) l) nothing (end (λ i. 1)))
+      none_of (m.order (after_all_pops m v))
+      (subst (λ (l : List Item). sum_by (λ i. 1) (m.order (after_all_pops m v)) ≤ sum_by (λ i. 1) l) nothing
+      (end (λ i. 1)))
 
 module _ {K V P View C : Type 0} (m : Meaning K P View C) (good : IsPolicy m.policy) where
-  leave-view : (e : Event) (ids : List ℕ) (old : State K V P View) (ls : List (Event × Gone K V P)) (v : View) (new : State K V P View) → Leave m e ids old ls v new → new.view ≡ v
+  leave-view : (e : Event) (ids : List ℕ) (old : State K V P View) (ls : List (Event × Gone K V P)) (v : View)
+      (new : State K V P View) → Leave m e ids old ls v new → new.view ≡ v
   leave-view e [] old [] v new h = ap (λ (s : State K V P View). s.view) h
   leave-view e [] old (l ∷ ls) v new h = absurd h
   leave-view e (i ∷ ids) old [] v new h = absurd h
@@ -70,40 +81,62 @@ module _ {K V P View C : Type 0} (m : Meaning K P View C) (good : IsPolicy m.pol
   IsOut t = m.policy.order t.view ≡ []
 
   cleared-out : (s t : State K V P View) (ls : List (Event × Gone K V P)) → Clears m s ls t → IsOut t
-  cleared-out s t ls h = ap m.policy.order (leave-view Clear (ids_of (m.policy.order s.view)) s ls (m.policy.clear s.view) t h) ∙ clear-order m.policy good s.view
+  cleared-out s t ls h = ap m.policy.order
+      (leave-view Clear (ids_of (m.policy.order s.view)) s ls (m.policy.clear s.view) t h)
+      ∙ clear-order m.policy good s.view
 
-  evicted-out : (s t : State K V P View) (ls : List (Event × Gone K V P)) → EvictsUnpinned m s ls t → m.policy.pinned s.view ≡ [] → IsOut t
+  evicted-out : (s t : State K V P View) (ls : List (Event × Gone K V P)) → EvictsUnpinned m s ls t →
+      m.policy.pinned s.view ≡ [] → IsOut t
   evicted-out s t ls h none =
-      ap m.policy.order (leave-view Evict (ids_of (pops m.policy s.view)) s ls (after_all_pops m.policy s.view) t h) ∙ popped_all m.policy good s.view none
+      ap m.policy.order (leave-view Evict (ids_of (pops m.policy s.view)) s ls (after_all_pops m.policy s.view) t h)
+      ∙ popped_all m.policy good s.view none
 
-  evicted-fits : (s t : State K V P View) (ls : List (Event × Gone K V P)) → EvictsToCapacity m s ls t → (usage_of m t ≤ t.capacity) ⊎ IsWithin (m.policy.order t.view) (m.policy.pinned t.view)
+  evicted-fits : (s t : State K V P View) (ls : List (Event × Gone K V P)) → EvictsToCapacity m s ls t →
+      (usage_of m t ≤ t.capacity) ⊎ IsWithin (m.policy.order t.view) (m.policy.pinned t.view)
   evicted-fits s t ls h = go (evicted_ends m.policy good s.capacity s.view) where
     at : t.view ≡ after_pops m.policy (length (evicted m.policy s.capacity s.view)) s.view
-    at = leave-view Evict (ids_of (evicted m.policy s.capacity s.view)) s ls (after_pops m.policy (length (evicted m.policy s.capacity s.view)) s.view) t h
+    at = leave-view Evict (ids_of (evicted m.policy s.capacity s.view)) s ls
+        (after_pops m.policy (length (evicted m.policy s.capacity s.view)) s.view) t h
 
     same : t.capacity ≡ s.capacity
-    same = (leave-rests m Evict (ids_of (evicted m.policy s.capacity s.view)) s ls (after_pops m.policy (length (evicted m.policy s.capacity s.view)) s.view) t h).capacity
+    same = (leave-rests m Evict (ids_of (evicted m.policy s.capacity s.view)) s ls
+        (after_pops m.policy (length (evicted m.policy s.capacity s.view)) s.view) t h).capacity
 
-    go : Ends m.policy s.capacity (after_pops m.policy (length (evicted m.policy s.capacity s.view)) s.view) → (usage_of m t ≤ t.capacity) ⊎ IsWithin (m.policy.order t.view) (m.policy.pinned t.view)
+    go : Ends m.policy s.capacity (after_pops m.policy (length (evicted m.policy s.capacity s.view)) s.view) →
+        (usage_of m t ≤ t.capacity) ⊎ IsWithin (m.policy.order t.view) (m.policy.pinned t.view)
     go (inl low) = inl (omega (arith, same, ap (λ (v : View). weight_of (m.policy.order v)) at, low))
     go (inr none) = inr (good.pop_none t.view (ap m.policy.pop at ∙ none))
 
-  module _ {S W A : Type 0} (old : Core K V P View S W A) (ls : List (Event × Gone K V P)) (new : Core K V P View S W A) where
+  module _ {S W A : Type 0} (old : Core K V P View S W A) (ls : List (Event × Gone K V P))
+      (new : Core K V P View S W A) where
     pub all_cleared : OfShards (InTurn (Clears m)) old ls new → IsEmptied m new
     all_cleared h =
-        let all = turn-keeps (λ (s t : State K V P View). IsOut t) (Clears m) cleared-out old.shards ls new.shards h.stepped in (
-          zip-sum (λ (s t : State K V P View). IsOut t) (λ s. Unit {0}) (usage_of m) (λ s t out q. ap weight_of out) old.shards new.shards (λ i s there. tt) all,
-          zip-sum (λ (s t : State K V P View). IsOut t) (λ s. Unit {0}) (λ s. length (m.policy.order s.view)) (λ s t out q. ap length out) old.shards new.shards (λ i s there. tt) all,
+        let all = turn-keeps (λ (s t : State K V P View). IsOut t) (Clears m) cleared-out old.shards ls new.shards
+        h.stepped in (
+          zip-sum (λ (s t : State K V P View). IsOut t) (λ s. Unit {0}) (usage_of m) (λ s t out q. ap weight_of out)
+              old.shards new.shards (λ i s there. tt) all,
+          zip-sum (λ (s t : State K V P View). IsOut t) (λ s. Unit {0}) (λ s. length (m.policy.order s.view))
+              (λ s t out q. ap length out) old.shards new.shards (λ i s there. tt) all,
         )
 
     pub all_evicted : OfShards (InTurn (EvictsUnpinned m)) old ls new → NothingPinned m old → IsEmptied m new
     all_evicted h none =
-        let all = turn-keeps (λ (s t : State K V P View). m.policy.pinned s.view ≡ [] → IsOut t) (EvictsUnpinned m) evicted-out old.shards ls new.shards h.stepped in (
-          zip-sum (λ (s t : State K V P View). m.policy.pinned s.view ≡ [] → IsOut t) (λ s. m.policy.pinned s.view ≡ []) (usage_of m) (λ s t out q. ap weight_of (out q)) old.shards new.shards none all,
-          zip-sum (λ (s t : State K V P View). m.policy.pinned s.view ≡ [] → IsOut t) (λ s. m.policy.pinned s.view ≡ []) (λ s. length (m.policy.order s.view)) (λ s t out q. ap length (out q)) old.shards new.shards none all,
+        let all = turn-keeps (λ (s t : State K V P View). m.policy.pinned s.view ≡ [] → IsOut t) (EvictsUnpinned m)
+        evicted-out old.shards ls new.shards h.stepped in (
+          zip-sum (λ (s t : State K V P View). m.policy.pinned s.view ≡ [] → IsOut t)
+              (λ s. m.policy.pinned s.view ≡ []) (usage_of m) (λ s t out q. ap weight_of (out q)) old.shards
+              new.shards none all,
+          zip-sum (λ (s t : State K V P View). m.policy.pinned s.view ≡ [] → IsOut t)
+              (λ s. m.policy.pinned s.view ≡ []) (λ s. length (m.policy.order s.view))
+              (λ s t out q. ap length (out q)) old.shards new.shards none all,
         )
 
     pub all_fit : (capacity : ℕ) → Resizes m (InTurn (EvictsToCapacity m)) capacity old ls new → FitsOrPinned m new
     all_fit capacity h i t there =
-        (zip-from (λ (s t : State K V P View). (usage_of m t ≤ t.capacity) ⊎ IsWithin (m.policy.order t.view) (m.policy.pinned t.view)) h.shared new.shards
-        (turn-keeps (λ (s t : State K V P View). (usage_of m t ≤ t.capacity) ⊎ IsWithin (m.policy.order t.view) (m.policy.pinned t.view)) (EvictsToCapacity m) evicted-fits h.shared ls new.shards h.evicted.stepped) i t there).1
+        (zip-from
+        (λ (s t : State K V P View). (usage_of m t ≤ t.capacity)
+        ⊎ IsWithin (m.policy.order t.view) (m.policy.pinned t.view)) h.shared new.shards
+        (turn-keeps
+        (λ (s t : State K V P View). (usage_of m t ≤ t.capacity)
+        ⊎ IsWithin (m.policy.order t.view) (m.policy.pinned t.view)) (EvictsToCapacity m) evicted-fits
+        h.shared ls new.shards h.evicted.stepped) i t there).1

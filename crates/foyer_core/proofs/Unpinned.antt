@@ -12,7 +12,8 @@ use Rattle.foyer_core.proofs.Evictions.{Leave-snoc}
 use Rattle.foyer_core.proofs.Popped.{pops_some, first_pops_none, after_pops_more}
 
 -- what is left after as many pops as give something is what all pops leave
-after_first_pops : {V C : Type 0} (m : Policy V C) (n : ℕ) (v : V) → after_pops m (length (first_pops m n v)) v ≡ after_pops m n v
+after_first_pops : {V C : Type 0} (m : Policy V C) (n : ℕ) (v : V) → after_pops m (length (first_pops m n v)) v
+    ≡ after_pops m n v
 after_first_pops m zero v = refl
 after_first_pops {V} m (suc n) v = go (m.pop v) refl (after_first_pops m n) where
   go : (o : Option (Item × V)) → m.pop v ≡ o → ((w : V) → after_pops m (length (first_pops m n w)) w ≡ after_pops m n w)
@@ -35,36 +36,51 @@ module _ {K V P View C : Type 0} (m : Meaning K P View C) where
   pub all-start : (old : State K V P View) → BegunAll old [] old
   all-start old = record { left = []; told = refl; leave = refl; view = refl }
 
-  pub all-refused : (old : State K V P View) (ls : List (Event × Gone K V P)) (now : State K V P View) → BegunAll old ls now → EvictingUnpinned m old ls now
+  pub all-refused : (old : State K V P View) (ls : List (Event × Gone K V P)) (now : State K V P View) →
+      BegunAll old ls now → EvictingUnpinned m old ls now
   all-refused old ls now h = record { left = h.left; rest = pops m.policy now.view; parts = h.told; leave = h.leave }
 
   -- where no pop gives anything, all left
-  pub all-none : (old : State K V P View) (ls : List (Event × Gone K V P)) (now : State K V P View) → BegunAll old ls now → m.policy.pop now.view ≡ None → EvictsUnpinned m old ls now
+  pub all-none : (old : State K V P View) (ls : List (Event × Gone K V P)) (now : State K V P View) →
+      BegunAll old ls now → m.policy.pop now.view ≡ None → EvictsUnpinned m old ls now
   all-none old ls now h none =
-      let all : h.left ≡ pops m.policy old.view = sym (append-nil h.left) ∙ ap (λ (l : List Item). h.left ++ l) (sym (first_pops_none m.policy (length (m.policy.order now.view)) now.view none)) ∙ h.told in
-      subst (λ (v : View). Leave m Evict (ids_of (pops m.policy old.view)) old ls v now) (after_first_pops m.policy (length (m.policy.order old.view)) old.view)
-      (subst (λ (l : List Item). Leave m Evict (ids_of l) old ls (after_pops m.policy (length l) old.view) now) all h.leave)
+      let all : h.left ≡ pops m.policy old.view = sym (append-nil h.left)
+      ∙ ap (λ (l : List Item). h.left ++ l)
+      (sym (first_pops_none m.policy (length (m.policy.order now.view)) now.view none)) ∙ h.told in
+      subst (λ (v : View). Leave m Evict (ids_of (pops m.policy old.view)) old ls v now)
+      (after_first_pops m.policy (length (m.policy.order old.view)) old.view)
+      (subst (λ (l : List Item). Leave m Evict (ids_of l) old ls (after_pops m.policy (length l) old.view) now) all
+      h.leave)
 
-  module _ (good : IsPolicy m.policy) (old : State K V P View) (ls : List (Event × Gone K V P)) (now : State K V P View) (h : BegunAll old ls now)
+  module _ (good : IsPolicy m.policy) (old : State K V P View) (ls : List (Event × Gone K V P))
+      (now : State K V P View) (h : BegunAll old ls now)
       (i : Item) (v : View) (popped : m.policy.pop now.view ≡ Some (i, v)) where
     next_view : v ≡ after_pops m.policy (length (h.left ++ i ∷ [])) old.view
     next_view =
         let count : length (h.left ++ i ∷ []) ≡ suc (length h.left) = omega (arith, length-append h.left (i ∷ [])) in
         rw count (after_pops_more m.policy (length h.left) old.view now.view v i h.view popped)
 
-    all-more : (r : Rec K V P) → now.records i.id ≡ Some r → BegunAll old (ls ++ (Evict, gone_of now.number i.id r) ∷ []) (record (after_out m now i.id r) { view = v })
+    all-more : (r : Rec K V P) → now.records i.id ≡ Some r →
+        BegunAll old (ls ++ (Evict, gone_of now.number i.id r) ∷ []) (record (after_out m now i.id r) { view = v })
     all-more r there = record {
       left = h.left ++ i ∷ [];
-      told = append_assoc h.left (i ∷ []) (pops m.policy v) ∙ ap (λ (l : List Item). h.left ++ l) (sym (pops_some m.policy good now.view v i popped)) ∙ h.told;
-      leave = subst₂ (λ (ids : List ℕ) (w : View). Leave m Evict ids old (ls ++ (Evict, gone_of now.number i.id r) ∷ []) w (record (after_out m now i.id r) { view = v })) (ids_more h.left i) next_view
-          (Leave-snoc m Evict (ids_of h.left) old ls (after_pops m.policy (length h.left) old.view) now i.id r v h.leave there);
+      told = append_assoc h.left (i ∷ []) (pops m.policy v)
+          ∙ ap (λ (l : List Item). h.left ++ l) (sym (pops_some m.policy good now.view v i popped)) ∙ h.told;
+      leave = subst₂
+          (λ (ids : List ℕ) (w : View). Leave m Evict ids old (ls ++ (Evict, gone_of now.number i.id r) ∷ []) w
+          (record (after_out m now i.id r) { view = v })) (ids_more h.left i) next_view
+          (Leave-snoc m Evict (ids_of h.left) old ls (after_pops m.policy (length h.left) old.view) now i.id r v
+          h.leave there);
       view = next_view;
     }
 
 -- one pop more
-pub all-evicts : {K V P View C : Type 0} (m : Meaning K P View C) (good : IsPolicy m.policy) (old : State K V P View) (ls : List (Event × Gone K V P)) (now : State K V P View)
-    → BegunAll m old ls now → (gone : Gone K V P) (new : State K V P View) → EvictsOne m now gone new → BegunAll m old (ls ++ (Evict, gone) ∷ []) new
+pub all-evicts : {K V P View C : Type 0} (m : Meaning K P View C) (good : IsPolicy m.policy) (old : State K V P View)
+    (ls : List (Event × Gone K V P)) (now : State K V P View)
+    → BegunAll m old ls now → (gone : Gone K V P) (new : State K V P View) → EvictsOne m now gone new →
+    BegunAll m old (ls ++ (Evict, gone) ∷ []) new
 all-evicts {K} {V} {P} {View} m good old ls now begun gone new e =
     subst (λ (g : Gone K V P). BegunAll m old (ls ++ (Evict, g) ∷ []) new) (sym e.gone_is)
-    (subst (λ (s : State K V P View). BegunAll m old (ls ++ (Evict, gone_of now.number e.item.id e.rec) ∷ []) s) (sym e.after)
+    (subst (λ (s : State K V P View). BegunAll m old (ls ++ (Evict, gone_of now.number e.item.id e.rec) ∷ []) s)
+    (sym e.after)
     (all-more m good old ls now begun e.item e.view e.popped e.rec e.there))

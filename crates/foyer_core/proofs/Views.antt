@@ -16,11 +16,15 @@ use Rattle.foyer_core.proofs.Found.{found-permuted, once-permuted}
 use Rattle.foyer_core.proofs.ShardLemmas.{Holding, now_of}
 
 -- a view with the same items, in any order, which pins nothing new
-pub rearranged_keeps : {K V P View C : Type 0} (m : Meaning K P View C) (s : State K V P View) → IsKept m s → (capacity : ℕ) (v : View) → IsPermutation (m.policy.order s.view) (m.policy.order v)
-    → ((j : ℕ) → 0 < count_of j (m.policy.pinned v) → 0 < count_of j (m.policy.pinned s.view)) → IsKept m (record s { capacity = capacity; view = v })
+pub rearranged_keeps : {K V P View C : Type 0} (m : Meaning K P View C) (s : State K V P View) → IsKept m s →
+    (capacity : ℕ) (v : View) → IsPermutation (m.policy.order s.view) (m.policy.order v)
+    → ((j : ℕ) → 0 < count_of j (m.policy.pinned v) → 0 < count_of j (m.policy.pinned s.view)) →
+    IsKept m (record s { capacity = capacity; view = v })
 rearranged_keeps m s kept capacity v perm pins = record {
   once = now_once;
-  placed = λ j h. kept.placed j (found-permuted j.id j (m.policy.order v) (m.policy.order s.view) now_once (IsPermutation-sym (m.policy.order s.view) (m.policy.order v) perm) h);
+  placed = λ j h. kept.placed j
+      (found-permuted j.id j (m.policy.order v) (m.policy.order s.view) now_once
+      (IsPermutation-sym (m.policy.order s.view) (m.policy.order v) perm) h);
   indexed = λ k j h. (omega (arith, (kept.indexed k j h).0, same_count j), (kept.indexed k j h).1);
   resident = λ j q h res. omega (arith, same_count j, kept.resident j q h res);
   respects = kept.respects;
@@ -29,7 +33,8 @@ rearranged_keeps m s kept capacity v perm pins = record {
   pinned = λ j q h pos. kept.pinned j q h (pins j pos);
   plain = kept.plain;
   fresh = kept.fresh;
-  fits = omega (arith, kept.fits, sum_by-IsPermutation (λ (i : Item). i.weight) (m.policy.order s.view) (m.policy.order v) perm);
+  fits = omega
+      (arith, kept.fits, sum_by-IsPermutation (λ (i : Item). i.weight) (m.policy.order s.view) (m.policy.order v) perm);
 } where
   now_once : HasIdsOnce (m.policy.order v)
   now_once = once-permuted (m.policy.order s.view) (m.policy.order v) perm kept.once
@@ -38,7 +43,8 @@ rearranged_keeps m s kept capacity v perm pins = record {
   same_count j = sum_by-IsPermutation (one_if j) (m.policy.order s.view) (m.policy.order v) perm
 
 -- another capacity, and another configuration where one is given
-module _ {K V P View C : Type 0} (m : Meaning K P View C) (laws : IsEquivalence m.same) (good : IsPolicy m.policy) (o : Holding V m) (capacity' : ℕ) (config : Option C)
+module _ {K V P View C : Type 0} (m : Meaning K P View C) (laws : IsEquivalence m.same) (good : IsPolicy m.policy)
+    (o : Holding V m) (capacity' : ℕ) (config : Option C)
     (v : View) (updated : v ≡ m.policy.update o.view capacity' config) where
   open o use {keys, t, number, limits, view, next, kept}
 
@@ -46,7 +52,8 @@ module _ {K V P View C : Type 0} (m : Meaning K P View C) (laws : IsEquivalence 
   update_after = ap (λ (w : View). state number capacity' limits w keys t next) updated
 
   kept_by : IsKept m (now_of o) → IsKept m (after_update m (now_of o) capacity' config)
-  kept_by k' = rearranged_keeps m (now_of o) k' capacity' (m.policy.update view capacity' config) (good.update_order view capacity' config k'.once)
+  kept_by k' = rearranged_keeps m (now_of o) k' capacity' (m.policy.update view capacity' config)
+      (good.update_order view capacity' config k'.once)
       (λ j pos. subst (λ l. 0 < count_of j l) (good.update_pinned view capacity' config) pos)
 
   pub update_kept : ∥ IsKept m (state number capacity' limits v keys t next) ∥₁
@@ -54,11 +61,13 @@ module _ {K V P View C : Type 0} (m : Meaning K P View C) (laws : IsEquivalence 
 
   same_weight : IsKept m (now_of o) → weight_of (m.policy.order v) ≡ weight_of (m.policy.order view)
   same_weight k' = ap (λ (w : View). weight_of (m.policy.order w)) updated
-      ∙ sum_by-IsPermutation (λ (i : Item). i.weight) (m.policy.order view) (m.policy.order (m.policy.update view capacity' config)) (good.update_order view capacity' config k'.once)
+      ∙ sum_by-IsPermutation (λ (i : Item). i.weight) (m.policy.order view)
+      (m.policy.order (m.policy.update view capacity' config)) (good.update_order view capacity' config k'.once)
 
   same_length : IsKept m (now_of o) → length (m.policy.order v) ≡ length (m.policy.order view)
   same_length k' = ap (λ (w : View). length (m.policy.order w)) updated
-      ∙ length_permutation (m.policy.order view) (m.policy.order (m.policy.update view capacity' config)) (good.update_order view capacity' config k'.once)
+      ∙ length_permutation (m.policy.order view) (m.policy.order (m.policy.update view capacity' config))
+      (good.update_order view capacity' config k'.once)
 
   pub update_weighed : (usage : ℕ) → usage ≡ weight_of (m.policy.order view) → usage ≡ weight_of (m.policy.order v)
   update_weighed usage h = h ∙ sym (∥∥₁_elim kept (hlevel props) same_weight)

@@ -15,20 +15,23 @@ use Rattle.foyer_core.specs.declared.records.Records.{Records}
 use Rattle.foyer_core.specs.Steps.{Leave, ids_of, gone_of, after_out}
 
 -- a list of leaves goes on, by leaves that are so
-pub record GoesOn {K V P : Type 0} (old new : List (Event × Gone K V P)) (So : List (Event × Gone K V P) → Type 0) : Type 0 where
+pub record GoesOn {K V P : Type 0} (old new : List (Event × Gone K V P)) (So : List (Event × Gone K V P) → Type 0) :
+    Type 0 where
   pub more : List (Event × Gone K V P)
   pub told : new ≡ old ++ more
   pub so : So more
 
 -- an answer that a call of a predicate may give, at a key and a value
-pub record Says {F K V : Type 0} (g : Shared F (Bor K × (Bor V × Unit {0})) Bool) (f : F) (key : K) (value : V) (answer : Bool) : Type 0 where
+pub record Says {F K V : Type 0} (g : Shared F (Bor K × (Bor V × Unit {0})) Bool) (f : F) (key : K) (value : V)
+    (answer : Bool) : Type 0 where
   pub shown_key : Bor K
   pub shown_value : Bor V
   pub shows : (shown_key.now ≡ key) × (shown_value.now ≡ value)
   pub says : FnReturns g f (shown_key, (shown_value, tt)) answer
 
 -- an answer that may be given of the key and the value of an id's record
-pub record Answers {K V P View : Type 0} (says : K → V → Bool → Type 0) (s : State K V P View) (id : ℕ) (answer : Bool) : Type 0 where
+pub record Answers {K V P View : Type 0} (says : K → V → Bool → Type 0) (s : State K V P View) (id : ℕ)
+    (answer : Bool) : Type 0 where
   pub rec : Rec K V P
   pub there : s.records id ≡ Some rec
   pub said : says rec.kept.key rec.kept.value answer
@@ -44,17 +47,20 @@ module _ {K V P View C : Type 0} (m : Meaning K P View C) where
 
   -- all that the pops give leaves, in their order: what is not pinned
   abbrev pub EvictsUnpinned : State K V P View → List (Event × Gone K V P) → State K V P View → Type 0
-  EvictsUnpinned old ls new = Leave m Evict (ids_of (pops m.policy old.view)) old ls (after_all_pops m.policy old.view) new
+  EvictsUnpinned old ls new = Leave m Evict (ids_of (pops m.policy old.view)) old ls
+      (after_all_pops m.policy old.view) new
 
   -- some beginning of that: what want of memory leaves
-  pub record EvictingUnpinned (old : State K V P View) (ls : List (Event × Gone K V P)) (new : State K V P View) : Type 0 where
+  pub record EvictingUnpinned (old : State K V P View) (ls : List (Event × Gone K V P)) (new : State K V P View) :
+      Type 0 where
     pub left : List Item
     pub rest : List Item
     pub parts : left ++ rest ≡ pops m.policy old.view
     pub leave : Leave m Evict (ids_of left) old ls (after_pops m.policy (length left) old.view) new
 
   -- the record of this id leaves, and the policy is told of it alone
-  pub record TakesRecordOut (old : State K V P View) (id : ℕ) (gone : Gone K V P) (new : State K V P View) : Type 0 where
+  pub record TakesRecordOut (old : State K V P View) (id : ℕ) (gone : Gone K V P) (new : State K V P View) : Type
+      0 where
     pub rec : Rec K V P
     pub there : old.records id ≡ Some rec
     pub gone_is : gone ≡ gone_of old.number id rec
@@ -75,13 +81,15 @@ module _ {K V P View C : Type 0} (m : Meaning K P View C) where
     pub picked_is : picked ≡ items_where_true answers (m.policy.order s.view)
 
   -- those records leave, in the policy's order
-  pub record EvictsIf (says : K → V → Bool → Type 0) (old : State K V P View) (ls : List (Event × Gone K V P)) (new : State K V P View) : Type 0 where
+  pub record EvictsIf (says : K → V → Bool → Type 0) (old : State K V P View) (ls : List (Event × Gone K V P))
+      (new : State K V P View) : Type 0 where
     pub picked : List Item
     pub picks : Picks says old picked
     pub leave : TakesOut Evict picked old ls new
 
 -- the policy of a shard of this number with these keys and records holds these items, in this order, whatever it is
-pub record Lined {K V P View C : Type 0} (m : Meaning K P View C) (number : ℕ) (keys : ℕ × K → Option ℕ) (records : Records K V P) (items : List Item) : Type 0 where
+pub record Lined {K V P View C : Type 0} (m : Meaning K P View C) (number : ℕ) (keys : ℕ × K → Option ℕ)
+    (records : Records K V P) (items : List Item) : Type 0 where
   pub capacity : ℕ
   pub limits : Limits
   pub view : View
@@ -91,11 +99,15 @@ pub record Lined {K V P View C : Type 0} (m : Meaning K P View C) (number : ℕ)
   pub stored : IsStored m at keys records
   pub lined : m.policy.order view ≡ items
 
-abbrev pub lined_state : {K V P View C : Type 0} {m : Meaning K P View C} {number : ℕ} {keys : ℕ × K → Option ℕ} {records : Records K V P} {items : List Item} → Lined m number keys records items → State K V P View
-lined_state {number = number} {keys = keys} {records = records} o = state number o.capacity o.limits o.view keys records o.next
+abbrev pub lined_state : {K V P View C : Type 0} {m : Meaning K P View C} {number : ℕ} {keys : ℕ × K → Option ℕ}
+    {records : Records K V P} {items : List Item} → Lined m number keys records items → State K V P View
+lined_state {number = number} {keys = keys} {records = records} o =
+    state number o.capacity o.limits o.view keys records o.next
 
 -- some of the items left, and these are still in
-pub record Passes {K V P View C : Type 0} (m : Meaning K P View C) {number : ℕ} {keys : ℕ × K → Option ℕ} {records : Records K V P} {items : List Item} (o : Lined m number keys records items)
-    (left still : List Item) (ls : List (Event × Gone K V P)) (keys' : ℕ × K → Option ℕ) (records' : Records K V P) : Type 0 where
+pub record Passes {K V P View C : Type 0} (m : Meaning K P View C) {number : ℕ} {keys : ℕ × K → Option ℕ}
+    {records : Records K V P} {items : List Item} (o : Lined m number keys records items)
+    (left still : List Item) (ls : List (Event × Gone K V P)) (keys' : ℕ × K → Option ℕ) (records' : Records K V P) :
+    Type 0 where
   pub after : Lined m number keys' records' still
   pub leave : Leave m Clear (ids_of left) (lined_state o) ls after.view (lined_state after)

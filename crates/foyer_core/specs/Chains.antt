@@ -78,10 +78,13 @@ pub record Takes {K : Type 0} (old : List ((ℕ × K) × ℕ)) (i number : ℕ) 
 
 IsPath-prop : (nexts : List (Option ℕ)) (link : Option ℕ) (xs : List ℕ) → IsProp (IsPath nexts link xs)
 IsPath-prop nexts link [] = hlevel props
-IsPath-prop nexts link (x ∷ xs) = let rest : IsProp (IsPath nexts (slice_index_or nexts x None) xs) = IsPath-prop nexts (slice_index_or nexts x None) xs in hlevel (props, rest)
+IsPath-prop nexts link (x ∷ xs) = let rest : IsProp (IsPath nexts (slice_index_or nexts x None) xs) =
+    IsPath-prop nexts (slice_index_or nexts x None) xs in hlevel (props, rest)
 
-AreChains-prop : (shift : ℕ) (heads : List (Option ℕ)) (hashes : List ℕ) (nexts : List (Option ℕ)) → IsProp (AreChains shift heads hashes nexts)
+AreChains-prop : (shift : ℕ) (heads : List (Option ℕ)) (hashes : List ℕ) (nexts : List (Option ℕ)) →
+    IsProp (AreChains shift heads hashes nexts)
 AreChains-prop shift heads hashes nexts = hlevel (props, IsPath-prop, IsDistinct-prop)
 
-pub AllInChains-prop : (shift : ℕ) (heads : List (Option ℕ)) (hashes : List ℕ) (nexts : List (Option ℕ)) → IsProp (AllInChains shift heads hashes nexts)
+pub AllInChains-prop : (shift : ℕ) (heads : List (Option ℕ)) (hashes : List ℕ) (nexts : List (Option ℕ)) →
+    IsProp (AllInChains shift heads hashes nexts)
 AllInChains-prop shift heads hashes nexts = hlevel (props, AreChains-prop)

@@ -21,11 +21,13 @@ pub record Core (K V P View S W A : Type 0) : Type 0 where
 
 -- each record stands in the shard of its hash
 abbrev pub Belong : {K V P View : Type 0} → List (State K V P View) → Type 0
-Belong {K} {V} {P} {View} shards = (i : ℕ) (s : State K V P View) → slice_get shards i ≡ Some s → AllData (λ d. d.hash % length shards ≡ i) s
+Belong {K} {V} {P} {View} shards = (i : ℕ) (s : State K V P View) → slice_get shards i ≡ Some s →
+    AllData (λ d. d.hash % length shards ≡ i) s
 
 -- each record has the hash of its key; `hash` gives each key its hash
 abbrev pub AreHashed : {K V P View : Type 0} → (K → ℕ) → List (State K V P View) → Type 0
-AreHashed {K} {V} {P} {View} hash shards = (i : ℕ) (s : State K V P View) → slice_get shards i ≡ Some s → AllData (λ d. d.hash ≡ hash d.key) s
+AreHashed {K} {V} {P} {View} hash shards = (i : ℕ) (s : State K V P View) → slice_get shards i ≡ Some s →
+    AllData (λ d. d.hash ≡ hash d.key) s
 
 -- the number of the shard of a hash
 abbrev pub shard_of : {K V P View S W A : Type 0} → Core K V P View S W A → ℕ → ℕ
@@ -45,7 +47,8 @@ hit_in core k = option_and_then (λ s. hit s k) (shard_at core k.0)
 
 -- an entry is this core's where the shard of its hash has its number and a handle of its id
 abbrev pub Owns : {K V P View S W A : Type 0} → Core K V P View S W A → Held K V P → Type 0
-Owns core entry = IsSomeAnd (shard_at core entry.kept.hash) (λ s. (entry.number ≡ s.number) × (0 < handles_in s entry.id))
+Owns core entry = IsSomeAnd (shard_at core entry.kept.hash)
+    (λ s. (entry.number ≡ s.number) × (0 < handles_in s entry.id))
 
 -- the record of an entry, in its shard
 abbrev pub record_of : {K V P View S W A : Type 0} → Core K V P View S W A → Held K V P → Option (Rec K V P)
@@ -60,7 +63,8 @@ abbrev pub IsOutdatedIn : {K V P View S W A : Type 0} → Core K V P View S W A 
 IsOutdatedIn core entry = IsSomeAnd (shard_at core entry.kept.hash) (λ s. IsOutdated s entry.id)
 
 -- the shard of a hash makes a step, and all else stays
-pub record AtShard {K V P View S W A : Type 0} (step : State K V P View → State K V P View → Type 0) (hash : ℕ) (old new : Core K V P View S W A) : Type 0 where
+pub record AtShard {K V P View S W A : Type 0} (step : State K V P View → State K V P View → Type 0) (hash : ℕ)
+    (old new : Core K V P View S W A) : Type 0 where
   pub before : State K V P View
   pub after : State K V P View
   pub there : shard_at old hash ≡ Some before
@@ -87,7 +91,8 @@ module _ {K V P View C : Type 0} (m : Meaning K P View C) where
   -- these are the sums over some shards: of the weights of what is in the index, and of how many records are in it;
   -- none of these passes a word
   abbrev pub AreSums : ℕ → ℕ → List (State K V P View) → Type 0
-  AreSums usage entries shards = (usage ≡ sum_by (usage_of m) shards) × (entries ≡ sum_by (λ s. length (m.policy.order s.view)) shards)
+  AreSums usage entries shards = (usage ≡ sum_by (usage_of m) shards)
+      × (entries ≡ sum_by (λ s. length (m.policy.order s.view)) shards)
       × All (λ s. (usage_of m s < 2 ^ 64) × (length (m.policy.order s.view) < 2 ^ 64)) shards
 
   -- a new shard holds nothing
@@ -101,7 +106,8 @@ module _ {K V P View C : Type 0} (m : Meaning K P View C) where
     pub starts : s.next ≡ 0
 
   -- the first shards of a new core, so many: they hold nothing, and each has its share of the capacity
-  pub record AreNewShards {S W A : Type 0} (config : RawCacheConfig C S W A) (many : ℕ) (shards : List (State K V P View)) : Type 0 where
+  pub record AreNewShards {S W A : Type 0} (config : RawCacheConfig C S W A) (many : ℕ)
+      (shards : List (State K V P View)) : Type 0 where
     pub counted : length shards ≡ many
     pub each : (i : ℕ) (s : State K V P View) → slice_get shards i ≡ Some s
         → IsNewShard config.eviction_config config.number (share_of config.capacity config.shards i) config.limits s
@@ -115,19 +121,24 @@ module _ {K V P View C : Type 0} (m : Meaning K P View C) where
     pub shards_are : AreNewShards config config.shards core.shards
 
   -- what an insert makes of its shard, and answers
-  abbrev pub InsertsAnswering : Source → State K V P View → Incoming K V P → Result (Made K V P) (Denied K V P) → State K V P View → Type 0
+  abbrev pub InsertsAnswering : Source → State K V P View → Incoming K V P → Result (Made K V P) (Denied K V P) →
+      State K V P View → Type 0
   InsertsAnswering source old i (Ok made) new = Inserts m source old i made.leaves made.entry new
   InsertsAnswering source old i (Err denied) new = RefusesInsert m old i denied.reason denied.leaves new
 
   -- An insert of a record in the shard of its hash, with a weight that the weighter may give it, and an answer that
   -- the filter may give: `properties` says what its properties are with that answer. It gets so many handles, and its
   -- entry has this source.
-  pub record InsertsWeighed {S W A : Type 0} (source : Source) (weighs : ℕ → Type 0) (admits : Bool → Type 0) (hash : ℕ) (key : K) (value : V) (properties : Bool → P) (handles : ℕ)
+  pub record InsertsWeighed {S W A : Type 0} (source : Source) (weighs : ℕ → Type 0) (admits : Bool → Type 0)
+      (hash : ℕ) (key : K) (value : V) (properties : Bool → P) (handles : ℕ)
       (result : Result (Made K V P) (Denied K V P)) (old new : Core K V P View S W A) : Type 0 where
     pub weight : ℕ
     pub weighed : weighs weight
     pub admitted : Bool
     pub answered : admits admitted
     pub inserts : AtShard
-        (λ s t. InsertsAnswering source s (newcomer s record { key = key; value = value; properties = properties admitted; hash = hash; weight = weight } handles) result t)
+        (λ s t. InsertsAnswering source s
+        (newcomer s
+        record { key = key; value = value; properties = properties admitted; hash = hash; weight = weight }
+        handles) result t)
         hash old new

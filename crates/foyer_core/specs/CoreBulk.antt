@@ -12,13 +12,15 @@ module _ {S L : Type 0} where
   -- each one makes its step, and what leaves stands in their order
   abbrev pub InTurn : (S → List L → S → Type 0) → List S → List L → List S → Type 0
   InTurn step [] ls [] = ls ≡ []
-  InTurn step (s ∷ ss) ls (t ∷ ts) = (own : List L) × (rest : List L) × (ls ≡ own ++ rest) × step s own t × InTurn step ss rest ts
+  InTurn step (s ∷ ss) ls (t ∷ ts) = (own : List L) × (rest : List L) × (ls ≡ own ++ rest) × step s own t
+      × InTurn step ss rest ts
   InTurn step [] ls (t ∷ ts) = ⊥
   InTurn step (s ∷ ss) ls [] = ⊥
 
   -- the first ones make their whole step, the next one makes a part of its step, and the others none: what want
   -- of memory leaves
-  pub record InTurnUntil (whole part : S → List L → S → Type 0) (old : List S) (ls : List L) (new : List S) : Type 0 where
+  pub record InTurnUntil (whole part : S → List L → S → Type 0) (old : List S) (ls : List L) (new : List S) : Type
+      0 where
     pub first : List S
     pub next : S
     pub others : List S
@@ -67,8 +69,10 @@ module _ {K V P View C : Type 0} (m : Meaning K P View C) where
 
   -- Another capacity of a core: all shares and the policies' limits are set, and then, with these steps, the shards
   -- evict.
-  pub record Resizes {S W A : Type 0} (evicts : List (State K V P View) → List (Event × Gone K V P) → List (State K V P View) → Type 0)
-      (capacity : ℕ) (old : Core K V P View S W A) (ls : List (Event × Gone K V P)) (new : Core K V P View S W A) : Type 0 where
+  pub record Resizes {S W A : Type 0}
+      (evicts : List (State K V P View) → List (Event × Gone K V P) → List (State K V P View) → Type 0)
+      (capacity : ℕ) (old : Core K V P View S W A) (ls : List (Event × Gone K V P)) (new : Core K V P View S W A) :
+      Type 0 where
     pub shared : List (State K V P View)
     pub shares : SharesOut capacity old.shards shared
     pub evicted : OfShards evicts (record old { capacity = capacity; shards = shared }) ls new

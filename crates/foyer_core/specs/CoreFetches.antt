@@ -35,8 +35,10 @@ module _ {K N R : Type 0} where
   at_hash step fetches hash = replaced fetches (hash % length fetches) step (slice_get fetches (hash % length fetches))
 
 -- the shard of a hash makes a step together with its open fetches, and all else stays
-pub record AtOpen {K V P View S W A N R : Type 0} (step : State K V P View → Opens K N R → State K V P View → Opens K N R → Type 0) (hash : ℕ)
-    (old : Core K V P View S W A) (f : List (Opens K N R)) (new : Core K V P View S W A) (g : List (Opens K N R)) : Type 0 where
+pub record AtOpen {K V P View S W A N R : Type 0}
+    (step : State K V P View → Opens K N R → State K V P View → Opens K N R → Type 0) (hash : ℕ)
+    (old : Core K V P View S W A) (f : List (Opens K N R)) (new : Core K V P View S W A) (g : List (Opens K N R)) :
+    Type 0 where
   pub before : State K V P View
   pub open_before : Opens K N R
   pub after : State K V P View
@@ -50,32 +52,42 @@ pub record AtOpen {K V P View S W A N R : Type 0} (step : State K V P View → O
 module _ {K V P N R : Type 0} where
   -- The end of a fetch with a refusal, where it is open: those who wait get it, and the place is closed. The end of one
   -- that is not open changes nothing.
-  abbrev pub EndsIn : Option (Place N R) → (K → K → Bool) → ℕ × K → Reason → List (Opens K N R) → Ending K V P N → List (Opens K N R) → Type 0
+  abbrev pub EndsIn : Option (Place N R) → (K → K → Bool) → ℕ × K → Reason → List (Opens K N R) → Ending K V P N →
+      List (Opens K N R) → Type 0
   EndsIn None eq k reason fetches ended after = (ended ≡ lost) × (after ≡ fetches)
   EndsIn (Some o) eq k reason fetches ended after =
-      (ended ≡ record { found = true; waiters = o.tokens; outcome = Err reason; leaves = [] }) × (after ≡ at_hash (λ f. closed eq f k) fetches k.0)
+      (ended ≡ record { found = true; waiters = o.tokens; outcome = Err reason; leaves = [] })
+      × (after ≡ at_hash (λ f. closed eq f k) fetches k.0)
 
-  abbrev pub EndsAt : ℕ × K → ℕ → (K → K → Bool) → Reason → List (Opens K N R) → Ending K V P N → List (Opens K N R) → Type 0
-  EndsAt k fetch eq reason fetches ended after = EndsIn (asked (Some fetch) (place_in fetches k)) eq k reason fetches ended after
+  abbrev pub EndsAt : ℕ × K → ℕ → (K → K → Bool) → Reason → List (Opens K N R) → Ending K V P N → List (Opens K N R) →
+      Type 0
+  EndsAt k fetch eq reason fetches ended after =
+      EndsIn (asked (Some fetch) (place_in fetches k)) eq k reason fetches ended after
 
 module _ {K V P View C S W A : Type 0} (m : Meaning K P View C) where
   -- whether a piece, whose key has this hash, stands for a record of this key in the shard of the key
   abbrev pub is_of : Core K V P View S W A → ℕ → Carried K V P → ℕ × K → Option (State K V P View) → Bool
   is_of core hash piece k None = false
-  is_of core hash piece k (Some s) = (shard_of core hash == shard_of core k.0) && m.same k.1 (coming_under s hash piece).1
+  is_of core hash piece k (Some s) = (shard_of core hash == shard_of core k.0)
+      && m.same k.1 (coming_under s hash piece).1
 
 module _ {K V P View C : Type 0} (m : Meaning K P View C) where
   -- what those get who wait, where a piece comes in whose key has this hash
-  abbrev pub PieceArrives : Bool → (ℕ → Type 0) → ℕ → Carried K V P → ℕ → State K V P View → Result (Option (List (Held K V P))) Reason → List (Event × Gone K V P) → State K V P View → Type 0
+  abbrev pub PieceArrives : Bool → (ℕ → Type 0) → ℕ → Carried K V P → ℕ → State K V P View →
+      Result (Option (List (Held K V P))) Reason → List (Event × Gone K V P) → State K V P View → Type 0
   PieceArrives true weighs hash piece more s outcome ls t = ArrivesBack m s piece more outcome ls t
   PieceArrives false weighs hash piece more s outcome ls t =
-      (weight : ℕ) × weighs weight × Arrives m Memory s (newcomer s (record piece.kept { hash = hash; weight = weight }) more) outcome ls t
+      (weight : ℕ) × weighs weight × Arrives m Memory s
+      (newcomer s (record piece.kept { hash = hash; weight = weight }) more) outcome ls t
 
 module _ {K V P View C S W A N R : Type 0} (m : Meaning K P View C) where
   -- The end of an open fetch of a hashed key with a record of it: `arrives` says what comes in in its shard, and what
   -- those get who wait. Its place is closed, even where the record is refused.
-  pub record CompletesAt (arrives : State K V P View → Result (Option (List (Held K V P))) Reason → List (Event × Gone K V P) → State K V P View → Type 0) (k : ℕ × K) (o : Place N R) (ended : Ending K V P N)
-      (old : Core K V P View S W A) (f : List (Opens K N R)) (new : Core K V P View S W A) (g : List (Opens K N R)) : Type 0 where
+  pub record CompletesAt
+      (arrives : State K V P View → Result (Option (List (Held K V P))) Reason → List (Event × Gone K V P) →
+      State K V P View → Type 0) (k : ℕ × K) (o : Place N R) (ended : Ending K V P N)
+      (old : Core K V P View S W A) (f : List (Opens K N R)) (new : Core K V P View S W A) (g : List (Opens K N R)) :
+      Type 0 where
     pub found : ended.found ≡ true
     pub waiters : ended.waiters ≡ o.tokens
     pub arrived : AtShard (λ s t. arrives s ended.outcome ended.leaves t) k.0 old new
@@ -83,8 +95,10 @@ module _ {K V P View C S W A N R : Type 0} (m : Meaning K P View C) where
 
   -- With a value: under a key that equals the one that was asked for, of a weight that the weighter may give it, and
   -- with an answer that the filter may give.
-  pub record ValueCompletes (source : Source) (weighs : ℕ → Type 0) (admits : Bool → Type 0) (k : ℕ × K) (value : V) (properties : Bool → P) (o : Place N R) (ended : Ending K V P N)
-      (old : Core K V P View S W A) (f : List (Opens K N R)) (new : Core K V P View S W A) (g : List (Opens K N R)) : Type 0 where
+  pub record ValueCompletes (source : Source) (weighs : ℕ → Type 0) (admits : Bool → Type 0) (k : ℕ × K) (value : V)
+      (properties : Bool → P) (o : Place N R) (ended : Ending K V P N)
+      (old : Core K V P View S W A) (f : List (Opens K N R)) (new : Core K V P View S W A) (g : List (Opens K N R)) :
+      Type 0 where
     pub own : K
     pub equal : m.same k.1 own ≡ true
     pub weight : ℕ
@@ -92,23 +106,35 @@ module _ {K V P View C S W A N R : Type 0} (m : Meaning K P View C) where
     pub admitted : Bool
     pub answered : admits admitted
     pub completes : CompletesAt
-        (λ s. Arrives m source s (newcomer s record { key = own; value = value; properties = properties admitted; hash = k.0; weight = weight } (length o.tokens)))
+        (λ s. Arrives m source s
+        (newcomer s
+        record { key = own; value = value; properties = properties admitted; hash = k.0; weight = weight }
+        (length o.tokens)))
         k o ended old f new g
 
   -- With a piece: it comes in where it stands for a record of the key, and else those who wait get F12.
-  abbrev pub PieceCompletes : Bool → (ℕ → Type 0) → ℕ → Carried K V P → ℕ × K → Place N R → Ending K V P N → Core K V P View S W A → List (Opens K N R) → Core K V P View S W A → List (Opens K N R) → Type 0
+  abbrev pub PieceCompletes : Bool → (ℕ → Type 0) → ℕ → Carried K V P → ℕ × K → Place N R → Ending K V P N →
+      Core K V P View S W A → List (Opens K N R) → Core K V P View S W A → List (Opens K N R) → Type 0
   PieceCompletes true weighs hash piece k o ended old f new g =
-      CompletesAt (λ s. PieceArrives m (is_known s hash piece) weighs hash piece (length o.tokens) s) k o ended old f new g
-  PieceCompletes false weighs hash piece k o ended old f new g = EndsIn (Some o) m.same k WrongKey f ended g × (new ≡ old)
+      CompletesAt (λ s. PieceArrives m (is_known s hash piece) weighs hash piece (length o.tokens) s) k o ended old f
+      new g
+  PieceCompletes false weighs hash piece k o ended old f new g = EndsIn (Some o) m.same k WrongKey f ended g
+      × (new ≡ old)
 
   -- The end of a fetch with a target, where it is open. The end of one that is not open changes nothing.
-  abbrev pub CompletesFrom : (K → ℕ) → (K → V → ℕ → Type 0) → (K → V → Bool → Type 0) → (P → Bool → P) → Source → FetchTarget K V P → ℕ × K → Place N R → Ending K V P N
+  abbrev pub CompletesFrom : (K → ℕ) → (K → V → ℕ → Type 0) → (K → V → Bool → Type 0) → (P → Bool → P) → Source →
+      FetchTarget K V P → ℕ × K → Place N R → Ending K V P N
       → Core K V P View S W A → List (Opens K N R) → Core K V P View S W A → List (Opens K N R) → Type 0
-  CompletesFrom hash weighs admits properties source (Entry value p) k o ended old f new g = ValueCompletes source (weighs k.1 value) (admits k.1 value) k value (properties p) o ended old f new g
+  CompletesFrom hash weighs admits properties source (Entry value p) k o ended old f new g =
+      ValueCompletes source (weighs k.1 value) (admits k.1 value) k value (properties p) o ended old f new g
   CompletesFrom hash weighs admits properties source (PieceOf piece) k o ended old f new g =
-      PieceCompletes (is_of m old (hash piece.kept.key) piece k (shard_at old k.0)) (weighs piece.kept.key piece.kept.value) (hash piece.kept.key) piece k o ended old f new g
+      PieceCompletes (is_of m old (hash piece.kept.key) piece k (shard_at old k.0))
+      (weighs piece.kept.key piece.kept.value) (hash piece.kept.key) piece k o ended old f new g
 
-  abbrev pub Completed : (K → ℕ) → (K → V → ℕ → Type 0) → (K → V → Bool → Type 0) → (P → Bool → P) → Source → FetchTarget K V P → ℕ × K → Option (Place N R) → Ending K V P N
+  abbrev pub Completed : (K → ℕ) → (K → V → ℕ → Type 0) → (K → V → Bool → Type 0) → (P → Bool → P) → Source →
+      FetchTarget K V P → ℕ × K → Option (Place N R) → Ending K V P N
       → Core K V P View S W A → List (Opens K N R) → Core K V P View S W A → List (Opens K N R) → Type 0
-  Completed hash weighs admits properties source target k None ended old f new g = (ended ≡ lost) × (new ≡ old) × (g ≡ f)
-  Completed hash weighs admits properties source target k (Some o) ended old f new g = CompletesFrom hash weighs admits properties source target k o ended old f new g
+  Completed hash weighs admits properties source target k None ended old f new g = (ended ≡ lost) × (new ≡ old)
+      × (g ≡ f)
+  Completed hash weighs admits properties source target k (Some o) ended old f new g =
+      CompletesFrom hash weighs admits properties source target k o ended old f new g

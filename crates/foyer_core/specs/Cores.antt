@@ -24,7 +24,14 @@ module _ {E K V P S W A N R I C X : Type 0} {e : EvictionGhosts E C X} {e1 : Clo
     {b : HashBuilderGhosts S} {w : WeighterGhosts W K V} {f : FilterGhosts A K V} {i : FinderGhosts I K} where
   -- what contracts see of a core
   abbrev pub core_of : CacheCore E K V P S W A N R I C X e e1 e2 e3 e4 q h c p d b w f i → Core K V P e.View S W A
-  core_of s = record { capacity = s.capacity; hash_builder = s.hash_builder; weighter = s.weighter; filter = s.filter; shards = map state_of s.shards.items }
+  core_of s =
+      record {
+        capacity = s.capacity;
+        hash_builder = s.hash_builder;
+        weighter = s.weighter;
+        filter = s.filter;
+        shards = map state_of s.shards.items;
+      }
 
   -- what a core is over
   abbrev pub meaning_of_core : CacheCore E K V P S W A N R I C X e e1 e2 e3 e4 q h c p d b w f i → Meaning K P e.View C

@@ -16,12 +16,14 @@ module _ {K V P View S W A : Type 0} where
 
 module _ {K V P View C S W A : Type 0} (m : Meaning K P View C) where
   -- an entry ends: one that the core owns is taken back, and with any other nothing changes
-  pub record EndsEntry (entry : Held K V P) (leave : Option (Event × Gone K V P)) (old new : Core K V P View S W A) : Type 0 where
+  pub record EndsEntry (entry : Held K V P) (leave : Option (Event × Gone K V P)) (old new : Core K V P View S W A) :
+      Type 0 where
     pub owned : Owns old entry → AtShard (λ s t. GivesBack m s entry.id leave t) entry.kept.hash old new
     pub foreign : (Owns old entry → ⊥) → (leave ≡ None) × (new ≡ old)
 
   -- entries end, from the last to the first, and this is what left with them
-  abbrev pub EndsAll : List (Held K V P) → Core K V P View S W A → List (Event × Gone K V P) → Core K V P View S W A → Type 0
+  abbrev pub EndsAll : List (Held K V P) → Core K V P View S W A → List (Event × Gone K V P) → Core K V P View S W A →
+      Type 0
   EndsAll [] old leaves new = (leaves ≡ []) × (new ≡ old)
   EndsAll (entry ∷ entries) old leaves new =
       (first : List (Event × Gone K V P)) × (mid : Core K V P View S W A) × (leave : Option (Event × Gone K V P))

@@ -17,22 +17,28 @@ use Rattle.foyer_core.specs.Waited.{Ending, lost}
 
 module _ {K V P View C : Type 0} (m : Meaning K P View C) where
   -- What those get who wait for a record that comes in: an entry like this one each, or the one refusal of it.
-  abbrev pub Arrives : Source → State K V P View → Incoming K V P → Result (Option (List (Held K V P))) Reason → List (Event × Gone K V P) → State K V P View → Type 0
-  Arrives source old i (Ok (Some entries)) ls new = (entry : Held K V P) × Inserts m source old i ls entry new × (entries ≡ replicate i.handles entry)
+  abbrev pub Arrives : Source → State K V P View → Incoming K V P → Result (Option (List (Held K V P))) Reason →
+      List (Event × Gone K V P) → State K V P View → Type 0
+  Arrives source old i (Ok (Some entries)) ls new = (entry : Held K V P) × Inserts m source old i ls entry new
+      × (entries ≡ replicate i.handles entry)
   Arrives source old i (Ok None) ls new = ⊥
   Arrives source old i (Err reason) ls new = RefusesInsert m old i reason ls new
 
   -- so it is for the record that a known piece stands for, which has so many handles more
-  abbrev pub ArrivesBack : State K V P View → Carried K V P → ℕ → Result (Option (List (Held K V P))) Reason → List (Event × Gone K V P) → State K V P View → Type 0
-  ArrivesBack old piece more (Ok (Some entries)) ls new = (entry : Held K V P) × Returns m old piece more ls entry new × (entries ≡ replicate more entry)
+  abbrev pub ArrivesBack : State K V P View → Carried K V P → ℕ → Result (Option (List (Held K V P))) Reason →
+      List (Event × Gone K V P) → State K V P View → Type 0
+  ArrivesBack old piece more (Ok (Some entries)) ls new = (entry : Held K V P) × Returns m old piece more ls entry new
+      × (entries ≡ replicate more entry)
   ArrivesBack old piece more (Ok None) ls new = ⊥
   ArrivesBack old piece more (Err reason) ls new = RefusesReturn m old piece more reason ls new
 
 module _ {K V P View C N R : Type 0} (m : Meaning K P View C) where
   -- One more asks for a key that is missing: it leads a new fetch where none is open, and else waits.
-  abbrev pub Enqueues : State K V P View → Opens K N R → ℕ × K → N → Option R → Enqueue R → State K V P View → Opens K N R → Type 0
+  abbrev pub Enqueues : State K V P View → Opens K N R → ℕ × K → N → Option R → Enqueue R → State K V P View →
+      Opens K N R → Type 0
   Enqueues old f k waiter later answer new g =
-      (hit old k ≡ None) × HasNumbers old.limits.ids f k × (answer ≡ enqueued (f.places k) f.next_fetch f.next_token later)
+      (hit old k ≡ None) × HasNumbers old.limits.ids f k
+      × (answer ≡ enqueued (f.places k) f.next_fetch f.next_token later)
       × (new ≡ old) × (g ≡ after_enqueue m.same f k waiter later)
 
   -- why a look-up is refused, by what the key hits: as a get is, or for want of a number or of memory
@@ -42,44 +48,53 @@ module _ {K V P View C N R : Type 0} (m : Meaning K P View C) where
 
   -- What a look-up answers that leads to a fetch where the key is missing. Where the key hits, it is a get, and nobody
   -- waits. A refused one changes nothing.
-  abbrev pub LooksUp : State K V P View → Opens K N R → ℕ × K → N → Option R → Result (Lookup K V P R) Reason → State K V P View → Opens K N R → Type 0
+  abbrev pub LooksUp : State K V P View → Opens K N R → ℕ × K → N → Option R → Result (Lookup K V P R) Reason →
+      State K V P View → Opens K N R → Type 0
   LooksUp old f k waiter later (Ok (Hit entry)) new g = Gets m old k (Ok (Some entry)) new × (g ≡ f)
-  LooksUp old f k waiter later (Ok (Lead fetch token required)) new g = Enqueues old f k waiter later (LeadsFetch fetch token required) new g
+  LooksUp old f k waiter later (Ok (Lead fetch token required)) new g =
+      Enqueues old f k waiter later (LeadsFetch fetch token required) new g
   LooksUp old f k waiter later (Ok (Wait token)) new g = Enqueues old f k waiter later (WaitsFetch token) new g
   LooksUp old f k waiter later (Err reason) new g = RefusesLookUp (hit old k) old f k reason new × (g ≡ f)
 
   -- The end of an open fetch of a key with a new record of it: the record comes in, with a handle for each who waits,
   -- and the place is closed, even where the record is refused.
-  pub record Completes (source : Source) (old : State K V P View) (f : Opens K N R) (k : ℕ × K) (d : Data K V P) (o : Place N R) (ended : Ending K V P N) (new : State K V P View) (g : Opens K N R) : Type 0 where
+  pub record Completes (source : Source) (old : State K V P View) (f : Opens K N R) (k : ℕ × K) (d : Data K V P)
+      (o : Place N R) (ended : Ending K V P N) (new : State K V P View) (g : Opens K N R) : Type 0 where
     pub found : ended.found ≡ true
     pub waiters : ended.waiters ≡ o.tokens
     pub arrives : Arrives m source old (newcomer old d (length o.tokens)) ended.outcome ended.leaves new
     pub closes : g ≡ closed m.same f k
 
   -- and the end of one that is not open, which changes nothing
-  pub record Loses (old : State K V P View) (f : Opens K N R) (ended : Ending K V P N) (new : State K V P View) (g : Opens K N R) : Type 0 where
+  pub record Loses (old : State K V P View) (f : Opens K N R) (ended : Ending K V P N) (new : State K V P View)
+      (g : Opens K N R) : Type 0 where
     pub lost_is : ended ≡ lost
     pub same : new ≡ old
     pub same_opens : g ≡ f
 
-  abbrev pub CompletesBy : Option (Place N R) → Source → State K V P View → Opens K N R → ℕ × K → Data K V P → Ending K V P N → State K V P View → Opens K N R → Type 0
+  abbrev pub CompletesBy : Option (Place N R) → Source → State K V P View → Opens K N R → ℕ × K → Data K V P →
+      Ending K V P N → State K V P View → Opens K N R → Type 0
   CompletesBy None source old f k d ended new g = Loses old f ended new g
   CompletesBy (Some o) source old f k d ended new g = Completes source old f k d o ended new g
 
 -- the same with the record that a known piece stands for
 module _ {K V P View C N R : Type 0} (m : Meaning K P View C) where
-  pub record CompletesBack (old : State K V P View) (f : Opens K N R) (k : ℕ × K) (piece : Carried K V P) (o : Place N R) (ended : Ending K V P N) (new : State K V P View) (g : Opens K N R) : Type 0 where
+  pub record CompletesBack (old : State K V P View) (f : Opens K N R) (k : ℕ × K) (piece : Carried K V P)
+      (o : Place N R) (ended : Ending K V P N) (new : State K V P View) (g : Opens K N R) : Type 0 where
     pub found : ended.found ≡ true
     pub waiters : ended.waiters ≡ o.tokens
     pub arrives : ArrivesBack m old piece (length o.tokens) ended.outcome ended.leaves new
     pub closes : g ≡ closed m.same f k
 
-  abbrev pub CompletesBackBy : Option (Place N R) → State K V P View → Opens K N R → ℕ × K → Carried K V P → Ending K V P N → State K V P View → Opens K N R → Type 0
+  abbrev pub CompletesBackBy : Option (Place N R) → State K V P View → Opens K N R → ℕ × K → Carried K V P →
+      Ending K V P N → State K V P View → Opens K N R → Type 0
   CompletesBackBy None old f k piece ended new g = Loses m old f ended new g
   CompletesBackBy (Some o) old f k piece ended new g = CompletesBack old f k piece o ended new g
 
 -- The end of a fetch with a refusal, where it is open: those who wait get it, and the place is closed. The end of one
 -- that is not open changes nothing.
-abbrev pub EndsBy : {K V P N R : Type 0} → Option (Place N R) → (K → K → Bool) → ℕ × K → Reason → Opens K N R → Ending K V P N → Opens K N R → Type 0
+abbrev pub EndsBy : {K V P N R : Type 0} → Option (Place N R) → (K → K → Bool) → ℕ × K → Reason → Opens K N R →
+    Ending K V P N → Opens K N R → Type 0
 EndsBy None eq k reason f ended g = (ended ≡ lost) × (g ≡ f)
-EndsBy (Some o) eq k reason f ended g = (ended ≡ record { found = true; waiters = o.tokens; outcome = Err reason; leaves = [] }) × (g ≡ closed eq f k)
+EndsBy (Some o) eq k reason f ended g =
+    (ended ≡ record { found = true; waiters = o.tokens; outcome = Err reason; leaves = [] }) × (g ≡ closed eq f k)

@@ -39,7 +39,8 @@ module _ {N R : Type 0} where
   -- leads it keeps the builder
   abbrev pub joined : Option (Place N R) → ℕ → Waiting N → Option R → Place N R
   joined None fetch w later = record { fetch = fetch; tokens = w ∷ []; later = None }
-  joined (Some o) fetch w later = record { fetch = o.fetch; tokens = o.tokens ++ w ∷ []; later = first_of o.later later }
+  joined (Some o) fetch w later =
+      record { fetch = o.fetch; tokens = o.tokens ++ w ∷ []; later = first_of o.later later }
 
   -- what one gets who asks, where these are the next numbers
   abbrev pub enqueued : Option (Place N R) → ℕ → ℕ → Option R → Enqueue R
@@ -108,7 +109,8 @@ module _ {K N R : Type 0} where
   -- one more asked for a key
   abbrev pub after_enqueue : (K → K → Bool) → Opens K N R → ℕ × K → N → Option R → Opens K N R
   after_enqueue eq f k waiter later = record {
-    places = update (same_key eq) f.places k (Some (joined (f.places k) f.next_fetch (record { token = f.next_token; waiter = waiter }) later));
+    places = update (same_key eq) f.places k
+        (Some (joined (f.places k) f.next_fetch (record { token = f.next_token; waiter = waiter }) later));
     next_fetch = next_fetch_after f k;
     next_token = f.next_token + 1;
   }
@@ -125,10 +127,13 @@ module _ {K N R : Type 0} where
   pub record AreOpen (eq : K → K → Bool) (f : Opens K N R) : Type 0 where
     pub waited : (q : ℕ × K) (o : Place N R) → f.places q ≡ Some o → 0 < length o.tokens
     pub below : (q : ℕ × K) (o : Place N R) → f.places q ≡ Some o → o.fetch < f.next_fetch
-    pub tokens_below : (q : ℕ × K) (o : Place N R) (t : ℕ) → f.places q ≡ Some o → has t (tokens_of o) ≡ true → t < f.next_token
+    pub tokens_below : (q : ℕ × K) (o : Place N R) (t : ℕ) → f.places q ≡ Some o → has t (tokens_of o) ≡ true →
+        t < f.next_token
     pub once : (q : ℕ × K) (o : Place N R) → f.places q ≡ Some o → IsDistinct nat_eq (tokens_of o)
-    pub one_fetch : (p q : ℕ × K) (a b : Place N R) → f.places p ≡ Some a → f.places q ≡ Some b → a.fetch ≡ b.fetch → same_key eq p q ≡ true
-    pub one_place : (p q : ℕ × K) (a b : Place N R) (t : ℕ) → f.places p ≡ Some a → f.places q ≡ Some b → has t (tokens_of a) ≡ true → has t (tokens_of b) ≡ true → same_key eq p q ≡ true
+    pub one_fetch : (p q : ℕ × K) (a b : Place N R) → f.places p ≡ Some a → f.places q ≡ Some b → a.fetch ≡ b.fetch →
+        same_key eq p q ≡ true
+    pub one_place : (p q : ℕ × K) (a b : Place N R) (t : ℕ) → f.places p ≡ Some a → f.places q ≡ Some b →
+        has t (tokens_of a) ≡ true → has t (tokens_of b) ≡ true → same_key eq p q ≡ true
 
   pub AreOpen-prop : (eq : K → K → Bool) (f : Opens K N R) → IsProp (AreOpen eq f)
   AreOpen-prop eq f = hlevel (props, IsDistinct-prop)
@@ -140,7 +145,8 @@ module _ {K N R : Type 0} where
 
   -- the open fetches, where a key leads to a number, and a number to an open fetch
   abbrev pub opens_by : (ℕ × K → Option ℕ) → (ℕ → Option (Place N R)) → ℕ → ℕ → Opens K N R
-  opens_by numbers slots id token = record { places = λ q. option_and_then slots (numbers q); next_fetch = id; next_token = token }
+  opens_by numbers slots id token =
+      record { places = λ q. option_and_then slots (numbers q); next_fetch = id; next_token = token }
 
 -- the number under a hashed key
 module _ {K : Type 0} {q : EqGhosts K} {h : HashGhosts K} {c : CloneGhosts K} where

@@ -17,7 +17,8 @@ module _ {K V P View S W A : Type 0} where
 
   -- one handle, for the record of this entry
   abbrev pub one_of : Core K V P View S W A → Held K V P → Held K V P → ℕ
-  one_of core entry e = if (e.id == entry.id) && (shard_of core e.kept.hash == shard_of core entry.kept.hash) then 1 else 0
+  one_of core entry e = if (e.id == entry.id) && (shard_of core e.kept.hash == shard_of core entry.kept.hash) then 1
+      else 0
 
   -- no record of this id is in the index of the shard of a hash
   abbrev pub IsOutside : Core K V P View S W A → ℕ → ℕ → Type 0
@@ -31,9 +32,11 @@ module _ {K V P View C S W A : Type 0} (m : Meaning K P View C) where
   -- a get of an equal key that is not refused finds this value; `hash` gives each key its hash
   abbrev pub Finds : (K → ℕ) → Core K V P View S W A → K → V → Type 0
   Finds hash core key value = (k : K) → m.same key k ≡ true
-      → (answer : Result (Option (Held K V P)) Reason) (new : Core K V P View S W A) → AtShard (λ s t. Gets m s (hash k, k) answer t) (hash k) core new
+      → (answer : Result (Option (Held K V P)) Reason) (new : Core K V P View S W A) →
+      AtShard (λ s t. Gets m s (hash k, k) answer t) (hash k) core new
       → IfOk answer (λ found. IsSomeAnd found (λ entry. entry.kept.value ≡ value))
 
   -- so it is for the shard of a hash
   abbrev pub IsBoundedAt : ℕ → ℕ → Core K V P View S W A → Core K V P View S W A → Type 0
-  IsBoundedAt hash weight old new = (s t : State K V P View) → shard_at old hash ≡ Some s → shard_at new hash ≡ Some t → IsBounded m weight s t
+  IsBoundedAt hash weight old new = (s t : State K V P View) → shard_at old hash ≡ Some s → shard_at new hash ≡ Some t
+      → IsBounded m weight s t

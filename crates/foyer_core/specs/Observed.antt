@@ -37,5 +37,7 @@ module _ {K V P View S W A : Type 0} (same : K → K → Bool) (hash : K → ℕ
   IsTold old leaves new = (k : K) → known hash new k ≡ after_leaves same (known hash old) leaves k
 
   -- the index afterwards is what these leaves, and then a record that came in, tell of the index before
-  abbrev pub IsToldWith : (P → Option Bool) → Core K V P View S W A → List (Event × Gone K V P) → ℕ → Data K V P → Core K V P View S W A → Type 0
-  IsToldWith phantom old leaves id d new = (k : K) → known hash new k ≡ after_entry same phantom (after_leaves same (known hash old) leaves) id d k
+  abbrev pub IsToldWith : (P → Option Bool) → Core K V P View S W A → List (Event × Gone K V P) → ℕ → Data K V P →
+      Core K V P View S W A → Type 0
+  IsToldWith phantom old leaves id d new = (k : K) → known hash new k
+      ≡ after_entry same phantom (after_leaves same (known hash old) leaves) id d k

@@ -13,8 +13,10 @@ use Rattle.foyer_core.specs.Stores.{state_of as store_state, meaning_of as store
 use Rattle.foyer_core.specs.Inflight.{Opens}
 use Rattle.foyer_core.specs.Inflights.{opens_of as manager_opens}
 
-module _ {E K V P N R I C S : Type 0} {e : EvictionGhosts E C S} {e1 : CloneGhosts C} {e2 : DefaultGhosts C} {e3 : DescribedGhosts C} {e4 : DefaultGhosts S}
-    {q : EqGhosts K} {h : HashGhosts K} {c : CloneGhosts K} {p : PropertiesGhosts P} {d : DefaultGhosts P} {i : FinderGhosts I K} where
+module _ {E K V P N R I C S : Type 0} {e : EvictionGhosts E C S} {e1 : CloneGhosts C} {e2 : DefaultGhosts C}
+    {e3 : DescribedGhosts C} {e4 : DefaultGhosts S}
+    {q : EqGhosts K} {h : HashGhosts K} {c : CloneGhosts K} {p : PropertiesGhosts P} {d : DefaultGhosts P}
+    {i : FinderGhosts I K} where
   -- what contracts see of a shard
   abbrev pub state_of : Shard E K V P N R I C S e e1 e2 e3 e4 q h c p d i → State K V P e.View
   state_of s = store_state s.store

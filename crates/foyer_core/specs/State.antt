@@ -95,17 +95,21 @@ module _ {K V P View C : Type 0} (m : Meaning K P View C) where
     -- the policy holds each id once, and each with its record's item; that record is in the index
     pub once : HasIdsOnce (m.policy.order s.view)
     pub placed : (i : Item) → find_id i.id (m.policy.order s.view) ≡ Some i
-        → (r : Rec K V P) × (s.records i.id ≡ Some r) × (r.resident ≡ true) × (s.index (key_of r.kept) ≡ Some i.id) × (i ≡ item_of i.id r.kept)
+        → (r : Rec K V P) × (s.records i.id ≡ Some r) × (r.resident ≡ true) × (s.index (key_of r.kept) ≡ Some i.id)
+        × (i ≡ item_of i.id r.kept)
     -- the policy holds what is in the index, under the key of its record
     pub indexed : (k : ℕ × K) (id : ℕ) → s.index k ≡ Some id
-        → (0 < count_of id (m.policy.order s.view)) × ((r : Rec K V P) → s.records id ≡ Some r → same_key m.same k (key_of r.kept) ≡ true)
-    pub resident : (id : ℕ) (r : Rec K V P) → s.records id ≡ Some r → r.resident ≡ true → 0 < count_of id (m.policy.order s.view)
+        → (0 < count_of id (m.policy.order s.view))
+        × ((r : Rec K V P) → s.records id ≡ Some r → same_key m.same k (key_of r.kept) ≡ true)
+    pub resident : (id : ℕ) (r : Rec K V P) → s.records id ≡ Some r → r.resident ≡ true →
+        0 < count_of id (m.policy.order s.view)
     pub respects : (k q : ℕ × K) → same_key m.same k q ≡ true → s.index k ≡ s.index q
     -- a record that is not in the index has a handle, and none has too many
     pub needed : (id : ℕ) (r : Rec K V P) → s.records id ≡ Some r → (r.resident ≡ true) ⊎ (0 < r.handles)
     pub limited : (id : ℕ) (r : Rec K V P) → s.records id ≡ Some r → r.handles ≤ s.limits.handles
     -- what is pinned has a handle
-    pub pinned : (id : ℕ) (r : Rec K V P) → s.records id ≡ Some r → 0 < count_of id (m.policy.pinned s.view) → 0 < r.handles
+    pub pinned : (id : ℕ) (r : Rec K V P) → s.records id ≡ Some r → 0 < count_of id (m.policy.pinned s.view) →
+        0 < r.handles
     -- no phantom record is in the index
     pub plain : (id : ℕ) (r : Rec K V P) → s.records id ≡ Some r → r.resident ≡ true → is_phantom_record r.kept ≡ false
     -- numbers in use are below the next one, and the usage fits a `usize`

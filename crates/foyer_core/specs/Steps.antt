@@ -49,7 +49,8 @@ LacksId s id = max s.next s.limits.ids ≤ id
 
 -- so many more handles of a record
 abbrev pub after_handles : {K V P View : Type 0} → State K V P View → ℕ → ℕ → Rec K V P → State K V P View
-after_handles s id more r = record s { records = update nat_eq s.records id (Some (record r { handles = r.handles + more })) }
+after_handles s id more r = record s
+    { records = update nat_eq s.records id (Some (record r { handles = r.handles + more })) }
 
 -- one more handle of a record
 abbrev pub after_handle : {K V P View : Type 0} → State K V P View → ℕ → Rec K V P → State K V P View
@@ -58,21 +59,27 @@ after_handle s id r = after_handles s id 1 r
 -- A handle of a record is refused: F9 at the limit of handles, or F7 where the record could not be shared.
 -- Nothing has changed.
 abbrev pub RefusesHandle : {K V P View : Type 0} → State K V P View → ℕ → Reason → State K V P View → Type 0
-RefusesHandle {K} {V} {P} old id Handles new = (r : Rec K V P) × (old.records id ≡ Some r) × (old.limits.handles ≤ r.handles) × (new ≡ old)
-RefusesHandle {K} {V} {P} old id NoMemory new = (r : Rec K V P) × (old.records id ≡ Some r) × (r.handles < old.limits.handles) × (new ≡ old)
+RefusesHandle {K} {V} {P} old id Handles new = (r : Rec K V P) × (old.records id ≡ Some r)
+    × (old.limits.handles ≤ r.handles) × (new ≡ old)
+RefusesHandle {K} {V} {P} old id NoMemory new = (r : Rec K V P) × (old.records id ≡ Some r)
+    × (r.handles < old.limits.handles) × (new ≡ old)
 RefusesHandle old id _ new = ⊥
 
 -- So many handles of a record are refused together, in the same way.
 abbrev pub RefusesHandles : {K V P View : Type 0} → State K V P View → ℕ → ℕ → Reason → State K V P View → Type 0
-RefusesHandles {K} {V} {P} old id more Handles new = (r : Rec K V P) × (old.records id ≡ Some r) × (old.limits.handles < r.handles + more) × (new ≡ old)
-RefusesHandles {K} {V} {P} old id more NoMemory new = (r : Rec K V P) × (old.records id ≡ Some r) × (r.handles + more ≤ old.limits.handles) × (new ≡ old)
+RefusesHandles {K} {V} {P} old id more Handles new = (r : Rec K V P) × (old.records id ≡ Some r)
+    × (old.limits.handles < r.handles + more) × (new ≡ old)
+RefusesHandles {K} {V} {P} old id more NoMemory new = (r : Rec K V P) × (old.records id ≡ Some r)
+    × (r.handles + more ≤ old.limits.handles) × (new ≡ old)
 RefusesHandles old id more _ new = ⊥
 
 -- What a clone of an entry answers: an entry like it, which is one more handle of its record, or a refusal
 -- of the handle. The policy is not told.
-abbrev pub ClonesHandle : {K V P View : Type 0} → State K V P View → Held K V P → Result (Held K V P) Reason → State K V P View → Type 0
+abbrev pub ClonesHandle : {K V P View : Type 0} → State K V P View → Held K V P → Result (Held K V P) Reason →
+    State K V P View → Type 0
 ClonesHandle {K} {V} {P} old entry (Ok clone) new =
-    (r : Rec K V P) × (old.records entry.id ≡ Some r) × (r.handles < old.limits.handles) × (clone ≡ record entry { left = true }) × (new ≡ after_handle old entry.id r)
+    (r : Rec K V P) × (old.records entry.id ≡ Some r) × (r.handles < old.limits.handles)
+    × (clone ≡ record entry { left = true }) × (new ≡ after_handle old entry.id r)
 ClonesHandle old entry (Err reason) new = RefusesHandle old entry.id reason new
 
 -- the record of an id is not in the index
@@ -82,18 +89,24 @@ IsOutdated {K} s id = (k : ℕ × K) → s.index k ≢ Some id
 module _ {K V P View C : Type 0} (m : Meaning K P View C) where
   -- the record of this id is out of the index
   abbrev pub after_out : State K V P View → ℕ → Rec K V P → State K V P View
-  after_out s id r = record s { index = update (same_key m.same) s.index (key_of r.kept) None; records = update nat_eq s.records id (outside r) }
+  after_out s id r = record s {
+    index = update (same_key m.same) s.index (key_of r.kept) None;
+    records =
+        update nat_eq s.records id (outside r);
+  }
 
   -- The records of these ids leave for this reason, in this order, and the policy's view becomes `v`.
   abbrev pub Leave : Event → List ℕ → State K V P View → List (Event × Gone K V P) → View → State K V P View → Type 0
   Leave event [] old [] v new = new ≡ record old { view = v }
   Leave event (id ∷ ids) old (l ∷ ls) v new =
-      (r : Rec K V P) × (old.records id ≡ Some r) × (l ≡ (event, gone_of old.number id r)) × Leave event ids (after_out old id r) ls v new
+      (r : Rec K V P) × (old.records id ≡ Some r) × (l ≡ (event, gone_of old.number id r))
+      × Leave event ids (after_out old id r) ls v new
   Leave event [] old (l ∷ ls) v new = ⊥
   Leave event (id ∷ ids) old [] v new = ⊥
 
   -- some beginning of the evictions to a target: what want of memory leaves
-  pub record Evicting (target : ℕ) (old : State K V P View) (ls : List (Event × Gone K V P)) (new : State K V P View) : Type 0 where
+  pub record Evicting (target : ℕ) (old : State K V P View) (ls : List (Event × Gone K V P))
+      (new : State K V P View) : Type 0 where
     pub left : List Item
     pub rest : List Item
     pub parts : left ++ rest ≡ evicted m.policy target old.view
@@ -102,7 +115,8 @@ module _ {K V P View C : Type 0} (m : Meaning K P View C) where
   -- all of them
   abbrev pub Evicts : ℕ → State K V P View → List (Event × Gone K V P) → State K V P View → Type 0
   Evicts target old ls new =
-      Leave Evict (ids_of (evicted m.policy target old.view)) old ls (after_pops m.policy (length (evicted m.policy target old.view)) old.view) new
+      Leave Evict (ids_of (evicted m.policy target old.view)) old ls
+      (after_pops m.policy (length (evicted m.policy target old.view)) old.view) new
 
   -- one eviction: the next victim leaves
   pub record EvictsOne (old : State K V P View) (gone : Gone K V P) (new : State K V P View) : Type 0 where
@@ -129,14 +143,16 @@ module _ {K V P View C : Type 0} (m : Meaning K P View C) where
   }
 
   -- a record comes in, and its key's record gives way
-  pub record Admits (old : State K V P View) (i : Incoming K V P) (replaced : Option (Gone K V P)) (new : State K V P View) : Type 0 where
+  pub record Admits (old : State K V P View) (i : Incoming K V P) (replaced : Option (Gone K V P))
+      (new : State K V P View) : Type 0 where
     pub last : State K V P View
     pub gives_way : GivesWay (old.index (key_of i.kept)) old (replaced_leaves replaced) last
     pub after : new ≡ after_push last i
 
   -- there is an id for the record, its handles may be, and its weight fits beside what is pinned
   abbrev pub MayInsert : State K V P View → Incoming K V P → Type 0
-  MayInsert old i = HasId old i.id × (i.handles ≤ old.limits.handles) × (i.kept.weight + pinned_beside m old (key_of i.kept) < 2 ^ 64)
+  MayInsert old i = HasId old i.id × (i.handles ≤ old.limits.handles)
+      × (i.kept.weight + pinned_beside m old (key_of i.kept) < 2 ^ 64)
 
   -- a record is held and does not come into the index, and the next id is above its own
   abbrev pub after_hold : State K V P View → Incoming K V P → State K V P View
@@ -147,7 +163,8 @@ module _ {K V P View C : Type 0} (m : Meaning K P View C) where
 
   -- An insert of a plain record that is not refused: the evictions to the capacity less its weight, then
   -- its key's record, where it is still there, gives way, then the record comes in. The entry has this source.
-  pub record InsertsPlain (source : Source) (old : State K V P View) (i : Incoming K V P) (ls : List (Event × Gone K V P)) (entry : Held K V P) (new : State K V P View) : Type 0 where
+  pub record InsertsPlain (source : Source) (old : State K V P View) (i : Incoming K V P)
+      (ls : List (Event × Gone K V P)) (entry : Held K V P) (new : State K V P View) : Type 0 where
     pub may : MayInsert old i
     pub evictions : List (Event × Gone K V P)
     pub replaced : List (Event × Gone K V P)
@@ -161,11 +178,13 @@ module _ {K V P View C : Type 0} (m : Meaning K P View C) where
 
   -- An insert of a plain record that is refused: for an id, a handle or the weight before anything, or for want
   -- of memory after some beginning of the evictions.
-  abbrev pub RefusesPlain : State K V P View → Incoming K V P → Reason → List (Event × Gone K V P) → State K V P View → Type 0
+  abbrev pub RefusesPlain : State K V P View → Incoming K V P → Reason → List (Event × Gone K V P) → State K V P View
+      → Type 0
   RefusesPlain old i Ids ls new = LacksId old i.id × (ls ≡ []) × (new ≡ old)
   RefusesPlain old i Handles ls new = HasId old i.id × (old.limits.handles < i.handles) × (ls ≡ []) × (new ≡ old)
   RefusesPlain old i Weight ls new =
-      HasId old i.id × (i.handles ≤ old.limits.handles) × (2 ^ 64 ≤ i.kept.weight + pinned_beside m old (key_of i.kept)) × (ls ≡ []) × (new ≡ old)
+      HasId old i.id × (i.handles ≤ old.limits.handles)
+      × (2 ^ 64 ≤ i.kept.weight + pinned_beside m old (key_of i.kept)) × (ls ≡ []) × (new ≡ old)
   RefusesPlain old i NoMemory ls new = MayInsert old i × Evicting (old.capacity - i.kept.weight) old ls new
   RefusesPlain old i _ ls new = ⊥
 
@@ -180,7 +199,8 @@ module _ {K V P View C : Type 0} (m : Meaning K P View C) where
 
   -- An insert of a phantom record that is not refused: its key's record gives way, then it is told as
   -- `Remove`. Nothing is evicted, and it is in the index at no time. The entry has this source.
-  pub record InsertsPhantom (source : Source) (old : State K V P View) (i : Incoming K V P) (ls : List (Event × Gone K V P)) (entry : Held K V P) (new : State K V P View) : Type 0 where
+  pub record InsertsPhantom (source : Source) (old : State K V P View) (i : Incoming K V P)
+      (ls : List (Event × Gone K V P)) (entry : Held K V P) (new : State K V P View) : Type 0 where
     pub may : MayHold old i
     pub replaced : List (Event × Gone K V P)
     pub last : State K V P View
@@ -191,31 +211,40 @@ module _ {K V P View C : Type 0} (m : Meaning K P View C) where
 
   -- An insert of a phantom record that is refused: for an id, a handle or for want of memory. Nothing has
   -- changed.
-  abbrev pub RefusesPhantom : State K V P View → Incoming K V P → Reason → List (Event × Gone K V P) → State K V P View → Type 0
+  abbrev pub RefusesPhantom : State K V P View → Incoming K V P → Reason → List (Event × Gone K V P) →
+      State K V P View → Type 0
   RefusesPhantom old i Ids ls new = LacksId old i.id × (ls ≡ []) × (new ≡ old)
   RefusesPhantom old i Handles ls new = HasId old i.id × (old.limits.handles < i.handles) × (ls ≡ []) × (new ≡ old)
   RefusesPhantom old i NoMemory ls new = MayHold old i × (ls ≡ []) × (new ≡ old)
   RefusesPhantom old i _ ls new = ⊥
 
   -- an insert of a record that is phantom, or is not
-  abbrev pub InsertsBy : Bool → Source → State K V P View → Incoming K V P → List (Event × Gone K V P) → Held K V P → State K V P View → Type 0
+  abbrev pub InsertsBy : Bool → Source → State K V P View → Incoming K V P → List (Event × Gone K V P) → Held K V P →
+      State K V P View → Type 0
   InsertsBy true source old i ls entry new = InsertsPhantom source old i ls entry new
   InsertsBy false source old i ls entry new = InsertsPlain source old i ls entry new
 
-  abbrev pub RefusesBy : Bool → State K V P View → Incoming K V P → Reason → List (Event × Gone K V P) → State K V P View → Type 0
+  abbrev pub RefusesBy : Bool → State K V P View → Incoming K V P → Reason → List (Event × Gone K V P) →
+      State K V P View → Type 0
   RefusesBy true old i reason ls new = RefusesPhantom old i reason ls new
   RefusesBy false old i reason ls new = RefusesPlain old i reason ls new
 
   -- an insert that is not refused, and one that is
-  abbrev pub Inserts : Source → State K V P View → Incoming K V P → List (Event × Gone K V P) → Held K V P → State K V P View → Type 0
+  abbrev pub Inserts : Source → State K V P View → Incoming K V P → List (Event × Gone K V P) → Held K V P →
+      State K V P View → Type 0
   Inserts source old i ls entry new = InsertsBy (is_phantom_record m i.kept) source old i ls entry new
 
-  abbrev pub RefusesInsert : State K V P View → Incoming K V P → Reason → List (Event × Gone K V P) → State K V P View → Type 0
+  abbrev pub RefusesInsert : State K V P View → Incoming K V P → Reason → List (Event × Gone K V P) → State K V P View
+      → Type 0
   RefusesInsert old i reason ls new = RefusesBy (is_phantom_record m i.kept) old i reason ls new
 
   -- one more handle of a record of the index, which the policy is told of
   abbrev pub after_get : State K V P View → ℕ → Rec K V P → State K V P View
-  after_get s id r = record s { view = m.policy.acquire s.view id; records = update nat_eq s.records id (Some (record r { handles = r.handles + 1 })) }
+  after_get s id r = record s {
+    view = m.policy.acquire s.view id;
+    records =
+        update nat_eq s.records id (Some (record r { handles = r.handles + 1 }));
+  }
 
   -- What a get answers: nothing where the key hits nothing, else an entry, or a refusal: F9 at the limit
   -- of handles, or F7 where the record could not be shared. A refused one changes nothing.
@@ -224,27 +253,33 @@ module _ {K V P View C : Type 0} (m : Meaning K P View C) where
   Gets old k (Ok (Some entry)) new =
       (r : Rec K V P) × (hit old k ≡ Some entry.id) × (old.records entry.id ≡ Some r) × (r.handles < old.limits.handles)
       × (entry ≡ entry_of old entry.id r.kept Memory) × (new ≡ after_get old entry.id r)
-  Gets old k (Err Handles) new = (id : ℕ) × (r : Rec K V P) × (hit old k ≡ Some id) × (old.records id ≡ Some r) × (old.limits.handles ≤ r.handles) × (new ≡ old)
-  Gets old k (Err NoMemory) new = (id : ℕ) × (r : Rec K V P) × (hit old k ≡ Some id) × (old.records id ≡ Some r) × (r.handles < old.limits.handles) × (new ≡ old)
+  Gets old k (Err Handles) new = (id : ℕ) × (r : Rec K V P) × (hit old k ≡ Some id) × (old.records id ≡ Some r)
+      × (old.limits.handles ≤ r.handles) × (new ≡ old)
+  Gets old k (Err NoMemory) new = (id : ℕ) × (r : Rec K V P) × (hit old k ≡ Some id) × (old.records id ≡ Some r)
+      × (r.handles < old.limits.handles) × (new ≡ old)
   Gets old k (Err _) new = ⊥
 
   -- the last handle is gone: what is in the index is released, and else forgotten
   abbrev pub after_last : State K V P View → ℕ → Rec K V P → State K V P View
   after_last s id r =
       if r.resident
-      then record s { view = m.policy.release s.view id; records = update nat_eq s.records id (Some (record r { handles = 0 })) }
+      then record s
+      { view = m.policy.release s.view id; records = update nat_eq s.records id (Some (record r { handles = 0 })) }
       else record s { records = update nat_eq s.records id None }
 
   -- one handle less
   abbrev pub after_give_back : State K V P View → ℕ → Rec K V P → State K V P View
-  after_give_back s id r = if r.handles == 1 then after_last s id r else record s { records = update nat_eq s.records id (Some (record r { handles = r.handles - 1 })) }
+  after_give_back s id r = if r.handles == 1 then after_last s id r
+      else record s { records = update nat_eq s.records id (Some (record r { handles = r.handles - 1 })) }
 
   -- a phantom record leaves with its last handle
   abbrev pub last_leave : ℕ → ℕ → Rec K V P → Option (Event × Gone K V P)
-  last_leave number id r = if (r.handles == 1) && (not r.resident && is_phantom_record m r.kept) then Some (Evict, gone_of number id r) else None
+  last_leave number id r = if (r.handles == 1) && (not r.resident && is_phantom_record m r.kept)
+      then Some (Evict, gone_of number id r) else None
 
   -- a handle is taken back
-  pub record GivesBack (old : State K V P View) (id : ℕ) (leave : Option (Event × Gone K V P)) (new : State K V P View) : Type 0 where
+  pub record GivesBack (old : State K V P View) (id : ℕ) (leave : Option (Event × Gone K V P))
+      (new : State K V P View) : Type 0 where
     pub rec : Rec K V P
     pub there : old.records id ≡ Some rec
     pub held : 0 < rec.handles
@@ -255,16 +290,20 @@ module _ {K V P View C : Type 0} (m : Meaning K P View C) where
   -- alone (F9).
   abbrev pub Touches : State K V P View → ℕ × K → Result Bool Reason → State K V P View → Type 0
   Touches old k (Ok false) new = Gets old k (Ok None) new
-  Touches old k (Ok true) new = (entry : Held K V P) × (mid : State K V P View) × Gets old k (Ok (Some entry)) mid × GivesBack mid entry.id None new
+  Touches old k (Ok true) new = (entry : Held K V P) × (mid : State K V P View) × Gets old k (Ok (Some entry)) mid
+      × GivesBack mid entry.id None new
   Touches old k (Err Handles) new = Gets old k (Err Handles) new
   Touches old k (Err _) new = ⊥
 
   -- What a remove answers: nothing where the key has no record in the index, else an entry, and the record
   -- leaves as `Remove`; or a refusal of the handle.
-  abbrev pub Removes : State K V P View → ℕ × K → Result (Option (Held K V P × Gone K V P)) Reason → State K V P View → Type 0
+  abbrev pub Removes : State K V P View → ℕ × K → Result (Option (Held K V P × Gone K V P)) Reason → State K V P View
+      → Type 0
   Removes old k (Ok None) new = (old.index k ≡ None) × (new ≡ old)
   Removes old k (Ok (Some out)) new =
-      (r : Rec K V P) × (old.index k ≡ Some out.0.id) × (old.records out.0.id ≡ Some r) × (r.handles < old.limits.handles)
+      (r : Rec K V P) × (old.index k ≡ Some out.0.id) × (old.records out.0.id ≡ Some r)
+      × (r.handles < old.limits.handles)
       × (out.0 ≡ entry_of old out.0.id r.kept Memory)
-      × Leave Remove (out.0.id ∷ []) (after_handle old out.0.id r) ((Remove, out.1) ∷ []) (m.policy.remove old.view out.0.id) new
+      × Leave Remove (out.0.id ∷ []) (after_handle old out.0.id r) ((Remove, out.1) ∷ [])
+      (m.policy.remove old.view out.0.id) new
   Removes old k (Err reason) new = (id : ℕ) × (old.index k ≡ Some id) × RefusesHandle old id reason new

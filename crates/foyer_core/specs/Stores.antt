@@ -11,8 +11,10 @@ use Rattle.foyer_core.specs.declared.store.Store.{Store}
 use Rattle.foyer_core.specs.State.{Meaning, State}
 use Rattle.foyer_core.specs.Stored.{meaning, state}
 
-module _ {E K V P I C S : Type 0} {e : EvictionGhosts E C S} {e1 : CloneGhosts C} {e2 : DefaultGhosts C} {e3 : DescribedGhosts C} {e4 : DefaultGhosts S}
-    {q : EqGhosts K} {h : HashGhosts K} {c : CloneGhosts K} {p : PropertiesGhosts P} {d : DefaultGhosts P} {i : FinderGhosts I K} where
+module _ {E K V P I C S : Type 0} {e : EvictionGhosts E C S} {e1 : CloneGhosts C} {e2 : DefaultGhosts C}
+    {e3 : DescribedGhosts C} {e4 : DefaultGhosts S}
+    {q : EqGhosts K} {h : HashGhosts K} {c : CloneGhosts K} {p : PropertiesGhosts P} {d : DefaultGhosts P}
+    {i : FinderGhosts I K} where
   -- what contracts see of a store
   abbrev pub state_of : Store E K V P I C S e e1 e2 e3 e4 q h c p d i → State K V P e.View
   state_of s = state s.number s.capacity s.limits (e.view s.eviction) (i.view s.index) s.records s.next

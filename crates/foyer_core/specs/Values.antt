@@ -14,7 +14,8 @@ body_of d = record { key = d.key; value = d.value; properties = d.properties }
 
 -- the data of a body with this hash and weight
 abbrev pub kept_of : {K V P : Type 0} → Body K V P → ℕ → ℕ → Data K V P
-kept_of body hash weight = record { key = body.key; value = body.value; properties = body.properties; hash = hash; weight = weight }
+kept_of body hash weight =
+    record { key = body.key; value = body.value; properties = body.properties; hash = hash; weight = weight }
 
 -- a record: its data, its place in the policy, its handle count and its flags
 pub record Stored (K V P : Type 0) : Type 0 where

@@ -19,7 +19,8 @@ made_of made = record { entry = made.entry; leaves = made.leaves.items }
 abbrev pub denied_of : {K V P : Type 0} → Refused K V P → Denied K V P
 denied_of refused = record { reason = refused.error; leaves = refused.leaves.items }
 
-abbrev pub insertion_of : {K V P N : Type 0} → Result (Inserted K V P N) (Refused K V P) → Result (Made K V P) (Denied K V P)
+abbrev pub insertion_of : {K V P N : Type 0} → Result (Inserted K V P N) (Refused K V P) →
+    Result (Made K V P) (Denied K V P)
 insertion_of (Ok made) = Ok (made_of made)
 insertion_of (Err refused) = Err (denied_of refused)
 
@@ -34,7 +35,8 @@ waiting_for f k = length (waiters_of (f.places k))
 
 -- these waited, and get an entry like this one each
 abbrev pub AnswersEach : {K V P N : Type 0} → List (Waiting N) → Held K V P → Answers K V P N → Type 0
-AnswersEach waiters entry answers = (answers.waiters.items ≡ waiters) × (entries_in answers.outcome ≡ Some (replicate (length waiters) entry))
+AnswersEach waiters entry answers = (answers.waiters.items ≡ waiters)
+    × (entries_in answers.outcome ≡ Some (replicate (length waiters) entry))
 
 -- the entries that those get who waited, none where they get nothing, or the one refusal
 abbrev pub handed_out : {K V P : Type 0} → Outcome K V P → Result (List (Held K V P)) Reason
@@ -67,4 +69,11 @@ got_of (Fault reason) = Err reason
 
 -- what contracts see of the end of a fetch
 abbrev pub ending_of : {K V P N : Type 0} → Ended K V P N → Ending K V P N
-ending_of e = record { found = e.found; waiters = e.answers.waiters.items; outcome = got_of e.answers.outcome; leaves = e.leaves.items }
+ending_of e =
+    record {
+      found = e.found;
+      waiters = e.answers.waiters.items;
+      outcome = got_of e.answers.outcome;
+      leaves =
+          e.leaves.items;
+    }

@@ -12,8 +12,10 @@ use Rattle.foyer_memory.specs.Kind.{Kind, of_fifo, of_s3fifo, of_lru, of_lfu, of
 use Rattle.foyer_memory.specs.declared.cache.Cache.{Cache}
 use Rattle.foyer_memory.specs.declared.cache.Cache.TheVariants.{FifoCache, S3FifoCache, LruCache, LfuCache, SieveCache}
 
-module _ {H K V S P W A L Q T I F C O R G B : Type 0} {q : EqGhosts K} {h : HashGhosts K} {c : CloneGhosts K} {b : HashBuilderGhosts S}
-    {p : PropertiesGhosts P} {d : DefaultGhosts P} {w : WeighterGhosts W K V} {f : FilterGhosts A K V} {i : FinderGhosts I K} where
+module _ {H K V S P W A L Q T I F C O R G B : Type 0} {q : EqGhosts K} {h : HashGhosts K} {c : CloneGhosts K}
+    {b : HashBuilderGhosts S}
+    {p : PropertiesGhosts P} {d : DefaultGhosts P} {w : WeighterGhosts W K V} {f : FilterGhosts A K V}
+    {i : FinderGhosts I K} where
   -- a cache's policy
   abbrev pub kind_of : Cache H K V S P W A L Q T I F C O R G B q h c b p d w f i → Kind
   kind_of (FifoCache cache) = of_fifo

@@ -16,8 +16,10 @@ use Rattle.foyer_memory.specs.declared.entry.CacheEntry.TheVariants.{Fifo as Fif
 use Rattle.foyer_memory.specs.declared.fetch.GetOrFetch.{GetOrFetch}
 use Rattle.foyer_memory.specs.declared.fetch.GetOrFetch.TheVariants.{Fifo, S3Fifo, Lru, Lfu, Sieve}
 
-module _ {H K V S P W A L Q T I F C O R G B : Type 0} {q : EqGhosts K} {h : HashGhosts K} {c : CloneGhosts K} {b : HashBuilderGhosts S}
-    {p : PropertiesGhosts P} {d : DefaultGhosts P} {w : WeighterGhosts W K V} {f : FilterGhosts A K V} {i : FinderGhosts I K} where
+module _ {H K V S P W A L Q T I F C O R G B : Type 0} {q : EqGhosts K} {h : HashGhosts K} {c : CloneGhosts K}
+    {b : HashBuilderGhosts S}
+    {p : PropertiesGhosts P} {d : DefaultGhosts P} {w : WeighterGhosts W K V} {f : FilterGhosts A K V}
+    {i : FinderGhosts I K} where
   -- whether the entry is still to come
   abbrev pub is_miss : GetOrFetch H K V S P W A L Q T I F C O R G B q h c b p d w f i → Bool
   is_miss (Fifo (Hit e)) = false
@@ -32,7 +34,8 @@ module _ {H K V S P W A L Q T I F C O R G B : Type 0} {q : EqGhosts K} {h : Hash
   is_miss (Sieve (Miss wait)) = true
 
   -- the entry of a hit, until it is taken
-  abbrev pub entry_of : GetOrFetch H K V S P W A L Q T I F C O R G B q h c b p d w f i → Option (CacheEntry H K V S P W A L Q T I F C O R G B)
+  abbrev pub entry_of : GetOrFetch H K V S P W A L Q T I F C O R G B q h c b p d w f i →
+      Option (CacheEntry H K V S P W A L Q T I F C O R G B)
   entry_of (Fifo (Hit e)) = option_map FifoEntry e
   entry_of (Fifo (Miss wait)) = None
   entry_of (S3Fifo (Hit e)) = option_map S3FifoEntry e

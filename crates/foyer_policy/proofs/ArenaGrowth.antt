@@ -17,15 +17,21 @@ all-lower k [] h = tt
 all-lower k (q ∷ qs) h = (omega (arith, h.0), all-lower k qs h.1)
 
 -- values that agree count alike
-same-used : {X : Type 0} (xs ys : List (Option X)) → ((q : ℕ) → get_or xs q None ≡ get_or ys q None) → used_of xs ≡ used_of ys
+same-used : {X : Type 0} (xs ys : List (Option X)) → ((q : ℕ) → get_or xs q None ≡ get_or ys q None) → used_of xs
+    ≡ used_of ys
 same-used [] [] h = refl
-same-used {X} [] (y ∷ ys) h = let e : None ≡ y = h 0 in let rest = same-used [] ys (λ q. h (suc q)) in rw (← e) (omega (arith, rest, sum_by-cons (λ o. cond (is_some o) 1 0) None ys))
-same-used {X} (x ∷ xs) [] h = let e : x ≡ None = h 0 in let rest = same-used xs [] (λ q. h (suc q)) in rw e (omega (arith, rest, sum_by-cons (λ o. cond (is_some o) 1 0) None xs))
-same-used (x ∷ xs) (y ∷ ys) h = let e : x ≡ y = h 0 in let rest = same-used xs ys (λ q. h (suc q)) in rw e (omega (arith, rest, sum_by-cons (λ o. cond (is_some o) 1 0) y xs, sum_by-cons (λ o. cond (is_some o) 1 0) y ys))
+same-used {X} [] (y ∷ ys) h = let e : None ≡ y = h 0 in let rest = same-used [] ys (λ q. h (suc q)) in
+    rw (← e) (omega (arith, rest, sum_by-cons (λ o. cond (is_some o) 1 0) None ys))
+same-used {X} (x ∷ xs) [] h = let e : x ≡ None = h 0 in let rest = same-used xs [] (λ q. h (suc q)) in
+    rw e (omega (arith, rest, sum_by-cons (λ o. cond (is_some o) 1 0) None xs))
+same-used (x ∷ xs) (y ∷ ys) h = let e : x ≡ y = h 0 in let rest = same-used xs ys (λ q. h (suc q)) in
+    rw e (omega
+    (arith, rest, sum_by-cons (λ o. cond (is_some o) 1 0) y xs, sum_by-cons (λ o. cond (is_some o) 1 0) y ys))
 
 module _ {T : Type 0} (n : ℕ) (ls : List (Option Links)) (vs0 : List (Option T)) where
   -- one more node moves
-  module _ (vs : List (Option T)) (ls1 : List (Option Links)) (vs1 : List (Option T)) (free : Option ℕ) (k : ℕ) (old : AreMoved n ls vs0 vs ls1 vs1 free (suc k)) (lt : k < length ls1)
+  module _ (vs : List (Option T)) (ls1 : List (Option Links)) (vs1 : List (Option T)) (free : Option ℕ) (k : ℕ)
+      (old : AreMoved n ls vs0 vs ls1 vs1 free (suc k)) (lt : k < length ls1)
       (was : k < length vs0 → IsMarked n (get_or ls k None) (get_or vs0 k None)) (small : length vs0 ≤ length ls1) where
     abbrev o : Option T
     o = get_or vs k None
@@ -62,7 +68,8 @@ module _ {T : Type 0} (n : ℕ) (ls : List (Option Links)) (vs0 : List (Option T
     link_in : (q : ℕ) → (q ≡ k) ⊎ (suc k ≤ q) → IsSome (get_or vs0 q None) → get_or ls2 q None ≡ get_or ls q None
     link_in q (inl e) h =
         let h' : IsSome (get_or vs0 k None) = subst (λ j. IsSome (get_or vs0 j None)) e h in
-        rw e (get_or-set_same ls1 k (moved_links n (get_or ls k None) o free) None lt ∙ filled_links (get_or vs0 k None) (sym stays_k) h')
+        rw e (get_or-set_same ls1 k (moved_links n (get_or ls k None) o free) None lt
+        ∙ filled_links (get_or vs0 k None) (sym stays_k) h')
     link_in q (inr past) h = get_or-set_other ls1 k q _ None (λ e. omega (arith, past, e)) ∙ old.links q past h
 
     marks_k : (p : Option T) → get_or vs0 k None ≡ p → IsMarked n (moved_links n (get_or ls k None) p free) p
@@ -71,11 +78,18 @@ module _ {T : Type 0} (n : ℕ) (ls : List (Option Links)) (vs0 : List (Option T
 
     mark_in : (q : ℕ) → (q ≡ k) ⊎ (suc k ≤ q) → q < length ls2 → IsMarked n (get_or ls2 q None) (get_or vs2 q None)
     mark_in q (inl e) less =
-        rw (e, get_or-set_same ls1 k (moved_links n (get_or ls k None) o free) None lt, get_or-set_same vs1 k o None in_values) (marks_k o (sym stays_k))
+        rw (
+          e,
+          get_or-set_same ls1 k (moved_links n (get_or ls k None) o free) None lt,
+          get_or-set_same vs1 k o None in_values,
+        ) (marks_k o (sym stays_k))
     mark_in q (inr past) less =
         let ne : q ≢ k = (λ e. omega (arith, past, e)) in
         let within : q < length ls1 = omega (arith, less, length-set ls1 k (moved_links n (get_or ls k None) o free)) in
-        rw (get_or-set_other ls1 k q (moved_links n (get_or ls k None) o free) None ne, get_or-set_other vs1 k q o None ne) (old.marked q past within)
+        rw (
+          get_or-set_other ls1 k q (moved_links n (get_or ls k None) o free) None ne,
+          get_or-set_other vs1 k q o None ne,
+        ) (old.marked q past within)
 
     abbrev ps : List ℕ
     ps = free_from ls1 (length ls1) free
@@ -84,7 +98,8 @@ module _ {T : Type 0} (n : ℕ) (ls : List (Option Links)) (vs0 : List (Option T
     counted = used-set vs1 k o in_values
 
     chain_in : IsFreeChain n ls2 vs2 ps
-    chain_in = chain-kept n ls1 ls2 vs1 vs2 k ps old.vacant.chain (all-other k ps old.above) (λ q ne. get_or-set_other ls1 k q _ None ne) (λ q ne. get_or-set_other vs1 k q _ None ne)
+    chain_in = chain-kept n ls1 ls2 vs1 vs2 k ps old.vacant.chain (all-other k ps old.above)
+        (λ q ne. get_or-set_other ls1 k q _ None ne) (λ q ne. get_or-set_other vs1 k q _ None ne)
 
     record Freed (free2 : Option ℕ) : Type 0 where
       pub list : List ℕ
@@ -98,7 +113,8 @@ module _ {T : Type 0} (n : ℕ) (ls : List (Option Links)) (vs0 : List (Option T
           vacant = record {
             first = rw e refl;
             chain = (
-              get_or-set_same ls1 k (moved_links n (get_or ls k None) o free) None lt ∙ rw e (ap (λ f. Some (free_links n f)) old.vacant.first),
+              get_or-set_same ls1 k (moved_links n (get_or ls k None) o free) None lt
+                  ∙ rw e (ap (λ f. Some (free_links n f)) old.vacant.first),
               get_or-set_same vs1 k o None in_values ∙ e,
               chain_in,
             );
@@ -122,9 +138,12 @@ module _ {T : Type 0} (n : ℕ) (ls : List (Option Links)) (vs0 : List (Option T
     pub moved-one : AreMoved n ls vs0 (set vs k None) ls2 vs2 (moved_free o k free) k
     moved-one =
         let f : Freed (moved_free o k free) = freed_by o refl in
-        let len2 : length vs2 ≡ length ls2 = length-set vs1 k o ∙ sym old.same_len ∙ sym (length-set ls1 k (moved_links n (get_or ls k None) o free)) in
+        let len2 : length vs2 ≡ length ls2 = length-set vs1 k o ∙ sym old.same_len
+        ∙ sym (length-set ls1 k (moved_links n (get_or ls k None) o free)) in
         let same : free_from ls2 (length ls2) (moved_free o k free) ≡ f.list =
-        rw f.vacant.first (free_from-chain n ls2 vs2 f.list (length ls2) f.vacant.chain (omega (arith, f.vacant.all, len2))) in record {
+        rw f.vacant.first
+        (free_from-chain n ls2 vs2 f.list (length ls2) f.vacant.chain (omega (arith, f.vacant.all, len2))) in
+        record {
           stays = λ q less. get_or-set_other vs k q None None (λ e. omega (arith, less, e)) ∙ old.stays q (omega arith);
           gone = λ q past. gone q (at_or_past q past);
           blank = λ q less. get_or-set_other vs1 k q o None (λ e. omega (arith, less, e)) ∙ old.blank q (omega arith);
@@ -145,7 +164,8 @@ module _ {T : Type 0} (n : ℕ) (ls : List (Option Links)) (vs0 : List (Option T
           gone q (inr past) = get_or-set_other vs k q None None (λ e. omega (arith, past, e)) ∙ old.gone q past
 
   -- all have moved
-  module _ (vs : List (Option T)) (ls1 : List (Option Links)) (vs1 : List (Option T)) (free : Option ℕ) (done : AreMoved n ls vs0 vs ls1 vs1 free 0) where
+  module _ (vs : List (Option T)) (ls1 : List (Option Links)) (vs1 : List (Option T)) (free : Option ℕ)
+      (done : AreMoved n ls vs0 vs ls1 vs1 free 0) where
     pub moved-block : (len : ℕ) → length ls1 ≡ len → len < 2 ^ 63 → IsLinkedBlock n ls1 vs1 len free
     moved-block len e small = record {
       links_len = e;
@@ -158,7 +178,8 @@ module _ {T : Type 0} (n : ℕ) (ls : List (Option Links)) (vs0 : List (Option T
     pub moved-used : used_of vs1 ≡ used_of vs0
     moved-used = same-used vs1 vs0 (λ q. done.values q (omega arith))
 
-    all-none : {X : Type 0} (xs : List (Option X)) → ((q : ℕ) → get_or xs q None ≡ None) → xs ≡ replicate (length xs) None
+    all-none : {X : Type 0} (xs : List (Option X)) → ((q : ℕ) → get_or xs q None ≡ None) → xs
+        ≡ replicate (length xs) None
     all-none [] h = refl
     all-none (x ∷ xs) h = λ i. h 0 i ∷ all-none xs (λ q. h (suc q)) i
 

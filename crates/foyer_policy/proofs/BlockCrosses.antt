@@ -40,7 +40,8 @@ module _ (R : RattleType) (s : ℕ) where
   column_lent-Common y b o (None ∷ cs) κ = (tt, column_lent-Common y b (o + s) cs κ)
 
 module _ (L T : RattleType) where
-  nodes-Keyless : IsSend L → IsSend T → (p : Ptr) (ls : List (Option L.Denot)) (vs : List (Option T.Denot)) → Keyless (nodes_own L T p ls vs)
+  nodes-Keyless : IsSend L → IsSend T → (p : Ptr) (ls : List (Option L.Denot)) (vs : List (Option T.Denot)) →
+      Keyless (nodes_own L T p ls vs)
   nodes-Keyless l t (block_ptr b o) ls vs = ((tt, column-Keyless L _ l b _ ls), (tt, column-Keyless T _ t b _ vs))
   nodes-Keyless l t null_ptr ls vs = tt
 
@@ -48,17 +49,26 @@ module _ (L T : RattleType) where
   blanks-Keyless (block_ptr b o) n = (blank-Keyless L _ b _ n, blank-Keyless T _ b _ n)
   blanks-Keyless null_ptr n = tt
 
-  nodes_lent-Common : IsSync L → IsSync T → (p : Ptr) (ls : List (Option L.Denot)) (vs : List (Option T.Denot)) → Common (nodes_lent L T p ls vs)
-  nodes_lent-Common l t (block_ptr b o) ls vs κ = ((tt, column_lent-Common L _ l b _ ls κ), (tt, column_lent-Common T _ t b _ vs κ))
+  nodes_lent-Common : IsSync L → IsSync T → (p : Ptr) (ls : List (Option L.Denot)) (vs : List (Option T.Denot)) →
+      Common (nodes_lent L T p ls vs)
+  nodes_lent-Common l t (block_ptr b o) ls vs κ =
+      ((tt, column_lent-Common L _ l b _ ls κ), (tt, column_lent-Common T _ t b _ vs κ))
   nodes_lent-Common l t null_ptr ls vs κ = tt
 
   pub Nodes-send : IsSend L → IsSend T → IsSend (Nodes.the_row L T)
   Nodes-send l t =
       let O = Nodes.the_type L T in let all : AllSend (fields O) = (search sendable, tt) in
-      owning_send O all (λ d. nodes-Keyless l t d.at d.links d.values) (λ k. quiet (to O) (exits_of k (fields O)) ((struct_send (shape O) all).leaving k))
+      owning_send O all (λ d. nodes-Keyless l t d.at d.links d.values)
+      (λ k. quiet (to O) (exits_of k (fields O)) ((struct_send (shape O) all).leaving k))
 
   pub Nodes-sync : IsSync L → IsSync T → IsSync (Nodes.the_row L T)
-  Nodes-sync l t = let O = Nodes.the_type L T in record { shared = λ d b o κ. ((struct_sync (shape O) (search sendable, tt)).shared (to O d) b o κ, nodes_lent-Common l t d.at d.links d.values κ) }
+  Nodes-sync l t = let O = Nodes.the_type L T in
+      record {
+        shared = λ d b o κ. (
+          (struct_sync (shape O) (search sendable, tt)).shared (to O d) b o κ,
+          nodes_lent-Common l t d.at d.links d.values κ,
+        );
+      }
 
   if_block : (y : Bool) (F : Fml) → Keyless F → Keyless (owns_if y F)
   if_block true F k = k
@@ -68,7 +78,10 @@ module _ (L T : RattleType) where
     pub Deed-send : Frees g g.dealloc_token → IsSend (Deed.the_row L T A g)
     Deed-send f =
         let O = Deed.the_type L T A g in let all : AllSend (fields O) = (search sendable, tt) in
-        owning_send O all (λ d. if_block (has_block d.len) _ (f.frees d.alloc _ d.at, (blanks-Keyless d.at d.len, room _ d.at))) (λ k. quiet (to O) (exits_of k (fields O)) ((struct_send (shape O) all).leaving k))
+        owning_send O all
+        (λ d. if_block (has_block d.len) _ (f.frees d.alloc _ d.at, (blanks-Keyless d.at d.len, room _ d.at)))
+        (λ k. quiet (to O) (exits_of k (fields O)) ((struct_send (shape O) all).leaving k))
 
     pub Deed-sync : IsSync (Deed.the_row L T A g)
-    Deed-sync = let O = Deed.the_type L T A g in record { shared = λ d b o κ. ((struct_sync (shape O) (search sendable, tt)).shared (to O d) b o κ, tt) }
+    Deed-sync = let O = Deed.the_type L T A g in
+        record { shared = λ d b o κ. ((struct_sync (shape O) (search sendable, tt)).shared (to O d) b o κ, tt) }

@@ -1,4 +1,5 @@
--- What `allocate` and `deallocate` share: room for an array of nodes is cut into columns of empty cells, and made of them again. Assumes `Logic`.
+-- What `allocate` and `deallocate` share: room for an array of nodes is cut into columns of empty cells, and made of
+-- them again. Assumes `Logic`.
 use mathlib.Core.Path.{◌≡◌, refl, sym, ap, ◌∙◌}
 use mathlib.Core.Bool.{Bool, true, false, not}
 use Prim.Native.Nat.{ℕ, zero, suc, ◌+◌, ◌*◌, ◌<◌, ◌^◌}
@@ -99,9 +100,12 @@ module _ (E : Two) {M : Type 1} {𝓤 : Ura M} (𝓛 : Logic 𝓤) (b : ℕ) whe
   node_cut : (o : ℕ) → ent 𝓤 (H.room (written E) b o) (sep 𝓤 (sem 𝓛 (Two-cells o)) (Joins-node o))
   node_cut o =
       qed 𝓛 (‵ (froom (written E) b o) ∷ []) ∵
-      use1 𝓛 ((‵ (froom (layout E.links) b (o + lo E)) ⊛ ‵ (froom (layout E.value) b (o + vo E)) ⊛ ‵ ftrue) ⊛ raw (Joins-fields o)) (𝓛.laws.room_fields (ν E) (fields E) b o) $
-      split ! $ split3 ! $ as_raw ! (layout E.links) b (o + lo E) $ move ! (1 ∷ []) $ as_raw ! (layout E.value) b (o + vo E) $ move ! (1 ∷ 0 ∷ []) $ fjoin ! $ frame ! $
-      assume ! (‵ (Two-cells o)) $ fsplit ! $ as_written ! (layout E.links) b (o + lo E) $ move ! (1 ∷ []) $ as_written ! (layout E.value) b (o + vo E) $
+      use1 𝓛 ((‵ (froom (layout E.links) b (o + lo E)) ⊛ ‵ (froom (layout E.value) b (o + vo E)) ⊛ ‵ ftrue) ⊛ raw
+      (Joins-fields o)) (𝓛.laws.room_fields (ν E) (fields E) b o) $
+      split ! $ split3 ! $ as_raw ! (layout E.links) b (o + lo E) $ move ! (1 ∷ []) $ as_raw ! (layout E.value) b
+      (o + vo E) $ move ! (1 ∷ 0 ∷ []) $ fjoin ! $ frame ! $
+      assume ! (‵ (Two-cells o)) $ fsplit ! $ as_written ! (layout E.links) b (o + lo E) $ move ! (1 ∷ []) $
+      as_written ! (layout E.value) b (o + vo E) $
       move ! (1 ∷ 0 ∷ 2 ∷ []) $ group ! 3 $
       use2 𝓛 (‵ (froom (written E) b o)) (apply∗ 𝓤 (rooms_at 𝓤 H (fields E) 0 b o) (H.room (written E) b o)) $ done !
 
@@ -110,31 +114,44 @@ module _ (E : Two) {M : Type 1} {𝓤 : Ura M} (𝓛 : Logic 𝓤) (b : ℕ) whe
       qed 𝓛 (‵ (froom (ty_array (written E) 0) b o) ∷ []) ∵ keep ! [] $ nothing ! $ nothing ! $ fjoin ! $ frame ! $
       assume ! (‵ (Blanks 0 o)) $ keep ! [] $ by ! (𝓛.laws.room_nil (written E) b o)
   columns_cut (suc n) o =
-      let at_links : o + s + lo E ≡ o + lo E + s = omega arith in let at_values : o + s + vo E ≡ o + vo E + s = omega arith in
+      let at_links : o + s + lo E ≡ o + lo E + s = omega arith in let at_values : o + s + vo E ≡ o + vo E + s =
+      omega arith in
       qed 𝓛 (‵ (froom (ty_array (written E) (suc n)) b o) ∷ []) ∵
-      use1 𝓛 (‵ (froom (written E) b o) ⊛ ‵ (froom (ty_array (written E) n) b (o + s))) (𝓛.laws.room_uncons (written E) n b o) $ split ! $
+      use1 𝓛 (‵ (froom (written E) b o) ⊛ ‵ (froom (ty_array (written E) n) b (o + s)))
+      (𝓛.laws.room_uncons (written E) n b o) $ split ! $
       use1 𝓛 (‵ (Two-cells o) ⊛ raw (Joins-node o)) (node_cut o) $ split ! $ fsplit ! $
-      move ! (3 ∷ []) $ use1 𝓛 (‵ (Blanks n (o + s)) ⊛ raw (Joins n (o + s))) (columns_cut n (o + s)) $ split ! $ fsplit ! $
+      move ! (3 ∷ []) $ use1 𝓛 (‵ (Blanks n (o + s)) ⊛ raw (Joins n (o + s))) (columns_cut n (o + s)) $ split ! $
+      fsplit ! $
       -- [links of the rest; values of the rest; they join; this node's links; its value; they join]
       rewrite ! 0 (λ (k : ℕ). ‵ (Links k n)) at_links refl $ rewrite ! 1 (λ (k : ℕ). ‵ (Values k n)) at_values refl $
       move ! (3 ∷ 0 ∷ []) $ fjoin ! $ move ! (3 ∷ 1 ∷ []) $ fjoin ! $ move ! (1 ∷ 0 ∷ []) $ fjoin ! $ frame ! $
       assume ! (‵ (Blanks (suc n) o)) $ fsplit ! $ fsplit ! $ move ! (2 ∷ []) $ fsplit ! $
       -- [its value; values of the rest; its links; links of the rest; the rest joins; the node joins]
-      rewrite ! 1 (λ (k : ℕ). ‵ (Values k n)) (sym at_values) refl $ rewrite ! 3 (λ (k : ℕ). ‵ (Links k n)) (sym at_links) refl $
+      rewrite ! 1 (λ (k : ℕ). ‵ (Values k n)) (sym at_values) refl $ rewrite ! 3 (λ (k : ℕ). ‵ (Links k n))
+      (sym at_links) refl $
       move ! (3 ∷ 1 ∷ []) $ fjoin ! $ move ! (0 ∷ 3 ∷ []) $
-      use2 𝓛 (‵ (froom (ty_array (written E) n) b (o + s))) (apply∗ 𝓤 (sem 𝓛 (Blanks n (o + s))) (H.room (ty_array (written E) n) b (o + s))) $
-      move ! (2 ∷ 1 ∷ []) $ fjoin ! $ move ! (0 ∷ 2 ∷ []) $ use2 𝓛 (‵ (froom (written E) b o)) (apply∗ 𝓤 (sem 𝓛 (Two-cells o)) (H.room (written E) b o)) $
+      use2 𝓛 (‵ (froom (ty_array (written E) n) b (o + s)))
+      (apply∗ 𝓤 (sem 𝓛 (Blanks n (o + s))) (H.room (ty_array (written E) n) b (o + s))) $
+      move ! (2 ∷ 1 ∷ []) $ fjoin ! $ move ! (0 ∷ 2 ∷ []) $ use2 𝓛 (‵ (froom (written E) b o))
+      (apply∗ 𝓤 (sem 𝓛 (Two-cells o)) (H.room (written E) b o)) $
       by ! (𝓛.laws.room_cons (written E) n b o)
 
-  pub block_cut : (n o : ℕ) → ent 𝓤 (H.room (block_type (RL E) (RV E) n) b o) (sep 𝓤 (sem 𝓛 (Blanks n o)) (sem 𝓛 (block_joins (RL E) (RV E) (block_ptr b o) n)))
+  pub block_cut : (n o : ℕ) → ent 𝓤 (H.room (block_type (RL E) (RV E) n) b o)
+      (sep 𝓤 (sem 𝓛 (Blanks n o)) (sem 𝓛 (block_joins (RL E) (RV E) (block_ptr b o) n)))
   block_cut n o =
-      qed 𝓛 (‵ (froom (block_type (RL E) (RV E) n) b o) ∷ []) ∵ as_written ! (ty_array (written E) n) b o $ use1 𝓛 (‵ (Blanks n o) ⊛ raw (Joins n o)) (columns_cut n o) $ split ! $ frame ! $
-      assume ! (‵ (Blanks n o)) $ use2 𝓛 (‵ (froom (ty_array (written E) n) b o)) (apply∗ 𝓤 (sem 𝓛 (Blanks n o)) (H.room (ty_array (written E) n) b o)) $ by ! (𝓛.laws.room-raw (ty_array (written E) n) b o)
+      qed 𝓛 (‵ (froom (block_type (RL E) (RV E) n) b o) ∷ []) ∵ as_written ! (ty_array (written E) n) b o $ use1 𝓛
+      (‵ (Blanks n o) ⊛ raw (Joins n o)) (columns_cut n o) $ split ! $ frame ! $
+      assume ! (‵ (Blanks n o)) $ use2 𝓛 (‵ (froom (ty_array (written E) n) b o))
+      (apply∗ 𝓤 (sem 𝓛 (Blanks n o)) (H.room (ty_array (written E) n) b o)) $ by !
+      (𝓛.laws.room-raw (ty_array (written E) n) b o)
 
-  pub block_glue : (n o : ℕ) → ent 𝓤 (sep 𝓤 (sem 𝓛 (Blanks n o)) (sem 𝓛 (block_joins (RL E) (RV E) (block_ptr b o) n))) (H.room (block_type (RL E) (RV E) n) b o)
+  pub block_glue : (n o : ℕ) → ent 𝓤
+      (sep 𝓤 (sem 𝓛 (Blanks n o)) (sem 𝓛 (block_joins (RL E) (RV E) (block_ptr b o) n)))
+      (H.room (block_type (RL E) (RV E) n) b o)
   block_glue n o = apply∗ 𝓤 (sem 𝓛 (Blanks n o)) (H.room (block_type (RL E) (RV E) n) b o)
 
   -- links need no end
-  pub links_blank : (ls : List (Option E.links.Denot)) (o : ℕ) → ent 𝓤 (sem 𝓛 (column (RL E) s b o ls)) (sem 𝓛 (Links o (length ls)))
+  pub links_blank : (ls : List (Option E.links.Denot)) (o : ℕ) →
+      ent 𝓤 (sem 𝓛 (column (RL E) s b o ls)) (sem 𝓛 (Links o (length ls)))
   links_blank [] o = id⊢ 𝓤 _
   links_blank (l ∷ ls) o = mono∗ 𝓤 (cell_room 0 E.links E.links_laws 𝓛 l b o) (links_blank ls (o + s))

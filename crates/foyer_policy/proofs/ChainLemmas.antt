@@ -15,7 +15,8 @@ is_at-other p q h = grind (arith, nat_tests)
 
 module _ {T : Type 0} where
   -- walking a chain gives its entries
-  pub walk-chain : (f : ℕ → Option (Node T)) (k n : ℕ) (b : Option ℕ) (l : List (ℕ × T)) → IsChain f k b l None → length l ≤ n → walk f n (first_or l None) ≡ l
+  pub walk-chain : (f : ℕ → Option (Node T)) (k n : ℕ) (b : Option ℕ) (l : List (ℕ × T)) → IsChain f k b l None →
+      length l ≤ n → walk f n (first_or l None) ≡ l
   walk-chain f k zero b [] c h = refl
   walk-chain f k (suc n) b [] c h = refl
   walk-chain f k zero b (e ∷ es) c h = absurd (omega arith)
@@ -38,15 +39,18 @@ module _ {T : Type 0} where
   Owned f k None = Unit {0}
   Owned f k (Some q) = owner (f q) ≡ Some k
 
-  pub Owned-is_at : (f : ℕ → Option (Node T)) (k q : ℕ) (o : Option ℕ) → Owned f k o → is_at o q ≡ true → owner (f q) ≡ Some k
+  pub Owned-is_at : (f : ℕ → Option (Node T)) (k q : ℕ) (o : Option ℕ) → Owned f k o → is_at o q ≡ true → owner (f q)
+      ≡ Some k
   Owned-is_at f k q None h e = cc
   Owned-is_at f k q (Some p) h e = grind (arith, nat_tests)
 
-  pub Owned-last : (f : ℕ → Option (Node T)) (k : ℕ) (b a : Option ℕ) (l : List (ℕ × T)) → IsChain f k b l a → Owned f k b → Owned f k (last_or l b)
+  pub Owned-last : (f : ℕ → Option (Node T)) (k : ℕ) (b a : Option ℕ) (l : List (ℕ × T)) → IsChain f k b l a →
+      Owned f k b → Owned f k (last_or l b)
   Owned-last f k b a [] c h = h
   Owned-last f k b a (e ∷ es) c h = Owned-last f k (Some e.0) a es c.1 (ap owner c.0)
 
-  pub Owned-first : (f : ℕ → Option (Node T)) (k : ℕ) (b a : Option ℕ) (l : List (ℕ × T)) → IsChain f k b l a → Owned f k a → Owned f k (first_or l a)
+  pub Owned-first : (f : ℕ → Option (Node T)) (k : ℕ) (b a : Option ℕ) (l : List (ℕ × T)) → IsChain f k b l a →
+      Owned f k a → Owned f k (first_or l a)
   Owned-first f k b a [] c h = h
   Owned-first f k b a (e ∷ es) c h = ap owner c.0
 
@@ -54,22 +58,30 @@ module _ {T : Type 0} where
   abbrev pub Keeps : (ℕ → Option (Node T)) → (ℕ → Option (Node T)) → ℕ → Type 0
   Keeps f g k = (j q : ℕ) → j ≢ k → owner (f q) ≡ Some j → g q ≡ f q
 
-  pub chain-frame : (f g : ℕ → Option (Node T)) (k j : ℕ) (b a : Option ℕ) (l : List (ℕ × T)) → Keeps f g k → j ≢ k → IsChain f j b l a → IsChain g j b l a
+  pub chain-frame : (f g : ℕ → Option (Node T)) (k j : ℕ) (b a : Option ℕ) (l : List (ℕ × T)) → Keeps f g k → j ≢ k →
+      IsChain f j b l a → IsChain g j b l a
   chain-frame f g k j b a [] keep ne c = tt
-  chain-frame f g k j b a (e ∷ es) keep ne c = (keep j e.0 ne (ap owner c.0) ∙ c.0, chain-frame f g k j (Some e.0) a es keep ne c.1)
+  chain-frame f g k j b a (e ∷ es) keep ne c =
+      (keep j e.0 ne (ap owner c.0) ∙ c.0, chain-frame f g k j (Some e.0) a es keep ne c.1)
 
-  pub is_at-last : (p : ℕ) (l : List (ℕ × T)) (d : Option ℕ) → IsFree p l → is_at d p ≡ false → is_at (last_or l d) p ≡ false
+  pub is_at-last : (p : ℕ) (l : List (ℕ × T)) (d : Option ℕ) → IsFree p l → is_at d p ≡ false → is_at (last_or l d) p
+      ≡ false
   is_at-last p [] d h e = e
   is_at-last p (x ∷ xs) d h e = is_at-last p xs (Some x.0) h.1 (grind (arith, nat_tests))
 
-  pub is_at-first : (p : ℕ) (l : List (ℕ × T)) (d : Option ℕ) → IsFree p l → is_at d p ≡ false → is_at (first_or l d) p ≡ false
+  pub is_at-first : (p : ℕ) (l : List (ℕ × T)) (d : Option ℕ) → IsFree p l → is_at d p ≡ false →
+      is_at (first_or l d) p ≡ false
   is_at-first p [] d h e = e
   is_at-first p (x ∷ xs) d h e = grind (arith, nat_tests)
 
   -- the places of l agree in f and g
-  pub chain-same : (f g : ℕ → Option (Node T)) (k : ℕ) (b a : Option ℕ) (l : List (ℕ × T)) → ((q : ℕ) → owner (f q) ≡ Some k → (IsFree q l → ⊥) → g q ≡ f q) → IsChain f k b l a → IsChain g k b l a
+  pub chain-same : (f g : ℕ → Option (Node T)) (k : ℕ) (b a : Option ℕ) (l : List (ℕ × T)) →
+      ((q : ℕ) → owner (f q) ≡ Some k → (IsFree q l → ⊥) → g q ≡ f q) → IsChain f k b l a → IsChain g k b l a
   chain-same f g k b a [] h c = tt
-  chain-same f g k b a (e ∷ es) h c = (h e.0 (ap owner c.0) (λ r. r.0 refl) ∙ c.0, chain-same f g k (Some e.0) a es (λ q o free. h q o (λ r. free r.1)) c.1)
+  chain-same f g k b a (e ∷ es) h c = (
+    h e.0 (ap owner c.0) (λ r. r.0 refl) ∙ c.0,
+    chain-same f g k (Some e.0) a es (λ q o free. h q o (λ r. free r.1)) c.1,
+  )
 
   -- an optional place that the list does not have
   abbrev pub Off : Option ℕ → List (ℕ × T) → Type 0
@@ -100,7 +112,8 @@ module _ {T : Type 0} where
 
   -- a chain without one entry
   pub chain-unlink : (f g : ℕ → Option (Node T)) (k p : ℕ) (v : T) (b a : Option ℕ) (xs ys : List (ℕ × T))
-      → Relinks f g p (last_or xs b) (first_or ys a) → IsDistinct (xs ++ (p, v) ∷ ys) → Off b (xs ++ (p, v) ∷ ys) → Off a (xs ++ (p, v) ∷ ys)
+      → Relinks f g p (last_or xs b) (first_or ys a) → IsDistinct (xs ++ (p, v) ∷ ys) → Off b (xs ++ (p, v) ∷ ys) →
+      Off a (xs ++ (p, v) ∷ ys)
       → IsChain f k b (xs ++ (p, v) ∷ ys) a → IsChain g k b (xs ++ ys) a
   chain-unlink f g k p v b a [] [] r d u w c = tt
   chain-unlink f g k p v b a [] (y ∷ ys) r d u w c = (
@@ -108,13 +121,15 @@ module _ {T : Type 0} where
     chain-off f g k p b (Some y.0) (Some y.0) a ys r d.0.1 (Off-rest b y ys (Off-rest b (p, v) (y ∷ ys) u)) d.1.0 c.1.1,
   )
   chain-unlink f g k p v b a (e ∷ []) ys r d u w c = (
-    r.at_before e.0 (λ h. d.0.0 (sym h)) (is_at-same e.0) (is_at-first e.0 ys a d.0.1 (Off-is_at a e ((p, v) ∷ ys) w)) ∙ ap (after_set (first_or ys a)) c.0,
+    r.at_before e.0 (λ h. d.0.0 (sym h)) (is_at-same e.0) (is_at-first e.0 ys a d.0.1 (Off-is_at a e ((p, v) ∷ ys) w))
+        ∙ ap (after_set (first_or ys a)) c.0,
     chain-unlink f g k p v (Some e.0) a [] ys r d.1 d.0 (Off-rest a e ((p, v) ∷ ys) w) c.1,
   )
   chain-unlink f g k p v b a (e ∷ (x ∷ xs)) ys r d u w c = (
     r.others e.0 (λ h. (IsFree-append_right e.0 (x ∷ xs) ((p, v) ∷ ys) d.0).0 (sym h))
         (is_at-last e.0 xs (Some x.0) (IsFree-append_left e.0 (x ∷ xs) ((p, v) ∷ ys) d.0).1 (is_at-other x.0 e.0 d.0.0))
-        (is_at-first e.0 ys a (IsFree-append_right e.0 (x ∷ xs) ((p, v) ∷ ys) d.0).1 (Off-is_at a e ((x ∷ xs) ++ (p, v) ∷ ys) w)) ∙ c.0,
+        (is_at-first e.0 ys a (IsFree-append_right e.0 (x ∷ xs) ((p, v) ∷ ys) d.0).1
+        (Off-is_at a e ((x ∷ xs) ++ (p, v) ∷ ys) w)) ∙ c.0,
     chain-unlink f g k p v (Some e.0) a (x ∷ xs) ys r d.1 d.0 (Off-rest a e ((x ∷ xs) ++ (p, v) ∷ ys) w) c.1,
   )
 

@@ -47,8 +47,10 @@ module _ (ls ls2 : List (List (ℕ × Item))) (sound : AreLists 1 ls) where
     after : ls2 ≡ (get_or ls 0 [] ++ (p, i) ∷ []) ∷ []
     after = pushed ∙ ap (λ (x : List (List (ℕ × Item))). set x 0 (get_or ls 0 [] ++ (p, i) ∷ [])) one
 
-    found : (q : ℕ) → find q ls2 ≡ cond (is_some (item_at self_item q (get_or ls 0 []))) (item_at self_item q (get_or ls 0 [])) (cond (p == q) (Some i) None)
-    found q = ap (find q) after ∙ find-single q (get_or ls 0 [] ++ (p, i) ∷ []) ∙ item_at-snoc self_item p q i (get_or ls 0 [])
+    found : (q : ℕ) → find q ls2 ≡ cond (is_some (item_at self_item q (get_or ls 0 [])))
+        (item_at self_item q (get_or ls 0 [])) (cond (p == q) (Some i) None)
+    found q = ap (find q) after ∙ find-single q (get_or ls 0 [] ++ (p, i) ∷ [])
+        ∙ item_at-snoc self_item p q i (get_or ls 0 [])
 
     pub push-here : find p ls2 ≡ Some i
     push-here =
@@ -64,10 +66,12 @@ module _ (ls ls2 : List (List (ℕ × Item))) (sound : AreLists 1 ls) where
           same None = refl
           same (Some x) = refl
 
-    pub push-once : HasIdsOnce (map (λ e. e.1) (list_at ls 0)) → IsNewIn i.id (map (λ e. e.1) (list_at ls 0)) → HasIdsOnce (map (λ e. e.1) (list_at ls2 0))
+    pub push-once : HasIdsOnce (map (λ e. e.1) (list_at ls 0)) → IsNewIn i.id (map (λ e. e.1) (list_at ls 0)) →
+        HasIdsOnce (map (λ e. e.1) (list_at ls2 0))
     push-once u n = rw (after, map-append) (once-snoc (map (λ (e : ℕ × Item). e.1) (get_or ls 0 [])) i u n)
 
-  module _ (p : ℕ) (i : Item) (there : find p ls ≡ Some i) (dropped : list_at ls2 0 ≡ drop_place p (list_at ls 0)) (count : length ls2 ≡ 1) (once : HasIdsOnce (map (λ e. e.1) (list_at ls 0))) where
+  module _ (p : ℕ) (i : Item) (there : find p ls ≡ Some i) (dropped : list_at ls2 0 ≡ drop_place p (list_at ls 0))
+      (count : length ls2 ≡ 1) (once : HasIdsOnce (map (λ e. e.1) (list_at ls 0))) where
     at : item_at self_item p (get_or ls 0 []) ≡ Some i
     at = sym (find-is p) ∙ there
 
@@ -80,9 +84,11 @@ module _ (ls ls2 : List (List (ℕ × Item))) (sound : AreLists 1 ls) where
     pub remove-places : (q : ℕ) → find q ls2 ≡ without i.id (find q ls)
     remove-places q =
         ap (find q) (single ls2 count) ∙ find-single q (get_or ls2 0 []) ∙ ap (item_at self_item q) dropped
-        ∙ item_at-drop_place self_item p q i (get_or ls 0 []) once (sound.within 0 (omega (arith, sound.count))) at ∙ ap (without i.id) (sym (find-is q))
+        ∙ item_at-drop_place self_item p q i (get_or ls 0 []) once (sound.within 0 (omega (arith, sound.count))) at
+        ∙ ap (without i.id) (sym (find-is q))
 
-pub pop-places : (ls ls2 : List (List (ℕ × Item))) → AreLists 1 ls → ls2 ≡ set ls 0 (rest (list_at ls 0)) → HasIdsOnce (map (λ e. e.1) (list_at ls 0)) → (r : Option Item) → r ≡ first_value (list_at ls 0)
+pub pop-places : (ls ls2 : List (List (ℕ × Item))) → AreLists 1 ls → ls2 ≡ set ls 0 (rest (list_at ls 0)) →
+    HasIdsOnce (map (λ e. e.1) (list_at ls 0)) → (r : Option Item) → r ≡ first_value (list_at ls 0)
     → IfSome r (λ i. (q : ℕ) → find q ls2 ≡ without i.id (find q ls))
 pop-places ls ls2 sound popped once r is = go (get_or ls 0 []) refl where
   go : (l : List (ℕ × Item)) → get_or ls 0 [] ≡ l → IfSome r (λ i. (q : ℕ) → find q ls2 ≡ without i.id (find q ls))
@@ -117,17 +123,21 @@ free-not : (p q : ℕ) (v : Item) (xs ys : List (ℕ × Item)) → IsFree q (xs 
 free-not p q v [] ys h = h.0
 free-not p q v (x ∷ xs) ys h = free-not p q v xs ys h.1
 
-find_in-at : (p : ℕ) (v : Item) (xs ys : List (ℕ × Item)) → IsDistinct (xs ++ (p, v) ∷ ys) → find_in p (xs ++ (p, v) ∷ ys) ≡ Some v
+find_in-at : (p : ℕ) (v : Item) (xs ys : List (ℕ × Item)) → IsDistinct (xs ++ (p, v) ∷ ys) →
+    find_in p (xs ++ (p, v) ∷ ys) ≡ Some v
 find_in-at p v [] ys d = (let e : (p == p) ≡ true = grind (arith, nat_tests) in rw e refl)
 find_in-at p v (x ∷ xs) ys d =
     let n : p ≢ x.0 = free-not p x.0 v xs ys d.0 in
     let e : (x.0 == p) ≡ false = grind (arith, nat_tests) in
     rw e (find_in-at p v xs ys d.1)
 
-pub popped-list : (ls ls2 : List (List (ℕ × Item))) → AreLists 1 ls → ls2 ≡ set ls 0 (rest (list_at ls 0)) → list_at ls2 0 ≡ rest (list_at ls 0)
-popped-list ls ls2 sound popped = ap (λ (x : List (List (ℕ × Item))). get_or x 0 []) (popped ∙ ap (λ (x : List (List (ℕ × Item))). set x 0 (rest (list_at ls 0))) (single ls sound.count))
+pub popped-list : (ls ls2 : List (List (ℕ × Item))) → AreLists 1 ls → ls2 ≡ set ls 0 (rest (list_at ls 0)) →
+    list_at ls2 0 ≡ rest (list_at ls 0)
+popped-list ls ls2 sound popped = ap (λ (x : List (List (ℕ × Item))). get_or x 0 [])
+    (popped ∙ ap (λ (x : List (List (ℕ × Item))). set x 0 (rest (list_at ls 0))) (single ls sound.count))
 
-pub pop-keeps : (ls ls2 : List (List (ℕ × Item))) → AreLists 1 ls → ls2 ≡ set ls 0 (rest (list_at ls 0)) → HasIdsOnce (items self_item (list_at ls 0)) → HasIdsOnce (items self_item (list_at ls2 0))
+pub pop-keeps : (ls ls2 : List (List (ℕ × Item))) → AreLists 1 ls → ls2 ≡ set ls 0 (rest (list_at ls 0)) →
+    HasIdsOnce (items self_item (list_at ls 0)) → HasIdsOnce (items self_item (list_at ls2 0))
 pop-keeps ls ls2 sound popped once = rw (popped-list ls ls2 sound popped) (pop-once (list_at ls 0) once)
 
 -- what is at a place stands in the one list
@@ -136,7 +146,10 @@ find-first ls p sound = ap (find p) (single ls sound.count) ∙ or_else-none (fi
 
 first-there : (p : ℕ) (l : List (ℕ × Item)) → Some p ≡ first_or l None → (i : Item) × (find_in p l ≡ Some i)
 first-there p [] h = absurd cc
-first-there p (x ∷ xs) h = (let e : p ≡ x.0 = cc in let y : (x.0 == p) ≡ true = grind (arith, nat_tests) in (x.1, rw y refl))
+first-there p (x ∷ xs) h =
+    (let e : p ≡ x.0 = cc in let y : (x.0 == p) ≡ true = grind (arith, nat_tests) in (x.1, rw y refl))
 
-pub remove-member : (ls : List (List (ℕ × Item))) → AreLists 1 ls → (p : ℕ) (i : Item) → find p ls ≡ Some i → HasIdsOnce (items self_item (list_at ls 0)) → find_id i.id (items self_item (list_at ls 0)) ≡ Some i
-remove-member ls sound p i there once = find_id-found self_item p i (list_at ls 0) once (sym (find_in-item_at p (list_at ls 0)) ∙ sym (find-first ls p sound) ∙ there)
+pub remove-member : (ls : List (List (ℕ × Item))) → AreLists 1 ls → (p : ℕ) (i : Item) → find p ls ≡ Some i →
+    HasIdsOnce (items self_item (list_at ls 0)) → find_id i.id (items self_item (list_at ls 0)) ≡ Some i
+remove-member ls sound p i there once = find_id-found self_item p i (list_at ls 0) once
+    (sym (find_in-item_at p (list_at ls 0)) ∙ sym (find-first ls p sound) ∙ there)

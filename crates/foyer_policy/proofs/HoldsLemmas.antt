@@ -15,8 +15,14 @@ use Rattle.foyer_policy.proofs.ListsLemmas.{IsIn, is_in, stands}
 use Rattle.foyer_policy.proofs.WriteLemmas.{Linked-write, count-write}
 
 module _ {T : Type 0} where
-  pub count-link : (ls : List (List (ℕ × T))) (k p : ℕ) (v : T) → k < length ls → sum_by length (set ls k (list_at ls k ++ (p, v) ∷ [])) ≡ sum_by length ls + 1
-  count-link ls k p v lt = omega (arith, sum_by-set length ls k (list_at ls k ++ (p, v) ∷ []) [] lt, length-append (list_at ls k) ((p, v) ∷ []))
+  pub count-link : (ls : List (List (ℕ × T))) (k p : ℕ) (v : T) → k < length ls →
+      sum_by length (set ls k (list_at ls k ++ (p, v) ∷ [])) ≡ sum_by length ls + 1
+  count-link ls k p v lt =
+      omega (
+        arith,
+        sum_by-set length ls k (list_at ls k ++ (p, v) ∷ []) [] lt,
+        length-append (list_at ls k) ((p, v) ∷ []),
+      )
 
   pub some_after_set : (b : Bool) (to : Option ℕ) (o : Option (Node T)) → IsSome o → IsSome (cond b (after_set to o) o)
   some_after_set true to None h = absurd (search rules)
@@ -24,40 +30,57 @@ module _ {T : Type 0} where
   some_after_set false to o h = h
 
 module _ {T : Type 0} {N : ℕ} where
-  pub lists_of-Holds : (nodes : Arena T N) (heads tails : List (Option ℕ)) (ls : List (List (ℕ × T))) → Holds nodes heads tails ls → lists_of nodes heads ≡ ls
-  lists_of-Holds nodes heads tails ls h = ext_get_or [] (lists_of nodes heads) ls (length-map heads (walk (get nodes) (nodes.used)) ∙ h.linked.heads_len) (λ j less.
-      let within : j < length heads = (let x : length (lists_of nodes heads) ≡ length heads = length-map heads (walk (get nodes) (nodes.used)) in omega arith) in
+  pub lists_of-Holds : (nodes : Arena T N) (heads tails : List (Option ℕ)) (ls : List (List (ℕ × T))) →
+      Holds nodes heads tails ls → lists_of nodes heads ≡ ls
+  lists_of-Holds nodes heads tails ls h = ext_get_or [] (lists_of nodes heads) ls
+      (length-map heads (walk (get nodes) (nodes.used)) ∙ h.linked.heads_len) (λ j less.
+      let within : j < length heads =
+      (let x : length (lists_of nodes heads) ≡ length heads = length-map heads (walk (get nodes) (nodes.used)) in
+      omega arith) in
       let lt : j < length ls = omega (arith, h.linked.heads_len) in
       let o : IsList (get nodes) j (get_or heads j None) (get_or tails j None) (list_at ls j) = h.linked.each j lt in
       let le : length (list_at ls j) ≤ nodes.used = omega (arith, get_or-le-sum_by length ls j [] lt, h.count) in
-      at-map (walk (get nodes) (nodes.used)) heads j None [] within ∙ rw o.head (walk-chain (get nodes) j (nodes.used) None (list_at ls j) o.chain le))
+      at-map (walk (get nodes) (nodes.used)) heads j None [] within
+      ∙ rw o.head (walk-chain (get nodes) j (nodes.used) None (list_at ls j) o.chain le))
 
-  pub Holds-again : (nodes : Arena T N) (heads tails : List (Option ℕ)) (ls : List (List (ℕ × T))) → Holds nodes heads tails ls → Holds nodes heads tails (lists_of nodes heads)
+  pub Holds-again : (nodes : Arena T N) (heads tails : List (Option ℕ)) (ls : List (List (ℕ × T))) →
+      Holds nodes heads tails ls → Holds nodes heads tails (lists_of nodes heads)
   Holds-again nodes heads tails ls h = rw (lists_of-Holds nodes heads tails ls h) h
 
   -- a stored node is linked in
   module _ (n0 n1 n2 : Arena T N) (heads heads2 tails : List (Option ℕ)) (k p : ℕ) (v : T)
       (old : Holds n0 heads tails (lists_of n0 heads)) (lt : k < length heads) (vacant : get n0 p ≡ None)
-      (changed : get n1 p ≡ Some (record { value = v; list = k; before = get_or tails k None; after = None })) (others : (q : ℕ) → q ≢ p → get n1 q ≡ get n0 q) where
+      (changed : get n1 p ≡ Some (record { value = v; list = k; before = get_or tails k None; after = None }))
+      (others : (q : ℕ) → q ≢ p → get n1 q ≡ get n0 q) where
     lt-lists : k < length (lists_of n0 heads)
     lt-lists = rw length-map lt
 
     pub tail_there : (x : ℕ) → get_or tails k None ≡ Some x → IsSome (get n1 x)
     tail_there x e =
-        let own : Owned (get n0) k (get_or tails k None) = Owned-tail (get n0) heads tails (lists_of n0 heads) k old.linked lt-lists in
+        let own : Owned (get n0) k (get_or tails k None) =
+        Owned-tail (get n0) heads tails (lists_of n0 heads) k old.linked lt-lists in
         let own' : owner (get n0 x) ≡ Some k = rw e at own in
-        let ne : x ≢ p = (λ q. let y : owner (get n0 p) ≡ Some k = rw q at own' in let z : owner (get n0 p) ≡ None = ap owner vacant in cc) in
+        let ne : x ≢ p =
+        (λ q. let y : owner (get n0 p) ≡ Some k = rw q at own' in let z : owner (get n0 p) ≡ None =
+        ap owner vacant in cc) in
         rw (others x ne) (some_owner (get n0 x) k own')
 
-    pub Holds-link : IsArena n2 → ((q : ℕ) → get n2 q ≡ cond (is_at (get_or tails k None) q) (after_set (Some p) (get n1 q)) (get n1 q))
+    pub Holds-link : IsArena n2 →
+        ((q : ℕ) → get n2 q ≡ cond (is_at (get_or tails k None) q) (after_set (Some p) (get n1 q)) (get n1 q))
         → n2.used ≡ n0.used + 1 → heads2 ≡ end_set (get_or tails k None) k (Some p) heads
-        → Holds n2 heads2 (set tails k (Some p)) (set (lists_of n0 heads) k (list_at (lists_of n0 heads) k ++ (p, v) ∷ []))
+        → Holds n2 heads2 (set tails k (Some p))
+        (set (lists_of n0 heads) k (list_at (lists_of n0 heads) k ++ (p, v) ∷ []))
     Holds-link arena links used ends =
-        let own : Owned (get n0) k (get_or tails k None) = Owned-tail (get n0) heads tails (lists_of n0 heads) k old.linked lt-lists in
-        let off : is_at (get_or tails k None) p ≡ false = not_true (is_at (get_or tails k None) p) (λ t. let y : owner (get n0 p) ≡ Some k = Owned-is_at (get n0) k p (get_or tails k None) own t in let z : owner (get n0 p) ≡ None = ap owner vacant in cc) in
+        let own : Owned (get n0) k (get_or tails k None) =
+        Owned-tail (get n0) heads tails (lists_of n0 heads) k old.linked lt-lists in
+        let off : is_at (get_or tails k None) p ≡ false =
+        not_true (is_at (get_or tails k None) p)
+        (λ t. let y : owner (get n0 p) ≡ Some k = Owned-is_at (get n0) k p (get_or tails k None) own t in
+        let z : owner (get n0 p) ≡ None = ap owner vacant in cc) in
         record {
           arena = arena;
-          linked = rw ends (Linked-link (get n0) (get n2) heads tails (lists_of n0 heads) k p v old.linked lt-lists vacant
+          linked = rw ends
+              (Linked-link (get n0) (get n2) heads tails (lists_of n0 heads) k p v old.linked lt-lists vacant
               record {
                 others = λ q ne is. links q ∙ rw is (others q ne);
                 at_before = λ q ne is. links q ∙ rw is (ap (after_set (Some p)) (others q ne));
@@ -66,26 +89,33 @@ module _ {T : Type 0} {N : ℕ} where
           count = count-link (lists_of n0 heads) k p v lt-lists ∙ rw used (ap (λ n. n + 1) old.count);
         }
 
-  pub contains_found : (n0 : Arena T N) (heads tails : List (Option ℕ)) (ls : List (List (ℕ × T))) (p : ℕ) → Linked (get n0) heads tails ls → IsSome (find p ls) → IsSome (get n0 p)
+  pub contains_found : (n0 : Arena T N) (heads tails : List (Option ℕ)) (ls : List (List (ℕ × T))) (p : ℕ) →
+      Linked (get n0) heads tails ls → IsSome (find p ls) → IsSome (get n0 p)
   contains_found n0 heads tails ls p old h = go (find p ls) refl h where
     go : (o : Option T) → find p ls ≡ o → IsSome o → IsSome (get n0 p)
     go None e h = absurd (search rules)
-    go (Some v) e h = let s : Found (get n0) p v ls = found (get n0) heads tails ls p v old e in some_owner (get n0 p) s.at.list (ap owner s.node)
+    go (Some v) e h = let s : Found (get n0) p v ls = found (get n0) heads tails ls p v old e in
+        some_owner (get n0 p) s.at.list (ap owner s.node)
 
-  pub Holds-new : (nodes : Arena T N) (n : ℕ) → IsArena nodes → nodes.used ≡ 0 → Holds nodes (replicate n None) (replicate n None) (replicate n [])
+  pub Holds-new : (nodes : Arena T N) (n : ℕ) → IsArena nodes → nodes.used ≡ 0 →
+      Holds nodes (replicate n None) (replicate n None) (replicate n [])
   Holds-new nodes n arena none = record {
     arena = arena;
     linked = record {
       heads_len = simp length-replicate;
       tails_len = simp length-replicate;
-      each = λ k lt. let less : k < n = rw length-replicate at lt in rw (get_or-replicate {A = Option ℕ} n k None None less, get_or-replicate {A = List (ℕ × T)} n k [] [] less) record { head = refl; tail = refl; chain = tt };
-      distinct = λ k lt. let less : k < n = rw length-replicate at lt in rw (get_or-replicate {A = List (ℕ × T)} n k [] [] less) tt;
+      each = λ k lt. let less : k < n = rw length-replicate at lt in
+          rw (get_or-replicate {A = Option ℕ} n k None None less, get_or-replicate {A = List (ℕ × T)} n k [] [] less)
+          record { head = refl; tail = refl; chain = tt };
+      distinct = λ k lt. let less : k < n = rw length-replicate at lt in
+          rw (get_or-replicate {A = List (ℕ × T)} n k [] [] less) tt;
     };
     count = sum_by-replicate length n [] ∙ rw none (omega arith);
   }
 
   -- only the nodes count
-  pub Holds-same : (a b : Arena T N) (heads tails : List (Option ℕ)) → IsArena b → ((q : ℕ) → get b q ≡ get a q) → b.used ≡ a.used → Holds a heads tails (lists_of a heads)
+  pub Holds-same : (a b : Arena T N) (heads tails : List (Option ℕ)) → IsArena b → ((q : ℕ) → get b q ≡ get a q) →
+      b.used ≡ a.used → Holds a heads tails (lists_of a heads)
       → Holds b heads tails (lists_of a heads)
   Holds-same a b heads tails arena same used h = record {
     arena = arena;
@@ -94,19 +124,26 @@ module _ {T : Type 0} {N : ℕ} where
   }
 
   -- what is left once an entry was taken out
-  pub taken : (n0 n1 : Arena T N) (heads tails heads2 tails2 : List (Option ℕ)) (p : ℕ) → Holds n0 heads tails (lists_of n0 heads) → IsSome (find p (lists_of n0 heads))
-      → IsArena n1 → Linked (get n1) heads2 tails2 (map (drop_place p) (lists_of n0 heads)) → n1.used + 1 ≡ n0.used → Holds n1 heads2 tails2 (map (drop_place p) (lists_of n0 heads))
+  pub taken : (n0 n1 : Arena T N) (heads tails heads2 tails2 : List (Option ℕ)) (p : ℕ) →
+      Holds n0 heads tails (lists_of n0 heads) → IsSome (find p (lists_of n0 heads))
+      → IsArena n1 → Linked (get n1) heads2 tails2 (map (drop_place p) (lists_of n0 heads)) → n1.used + 1 ≡ n0.used →
+      Holds n1 heads2 tails2 (map (drop_place p) (lists_of n0 heads))
   taken n0 n1 heads tails heads2 tails2 p old there arena linked used =
       let ls = lists_of n0 heads in
       let i : IsIn p ls = is_in p ls there in record {
         arena = arena;
         linked = linked;
-        count = (let x = count-unlink (length heads) ls (AreLists-Linked (get n0) heads tails ls (length heads) old.linked refl) p i.value i.stands in omega (arith, old.count));
+        count = (let x = count-unlink (length heads) ls
+            (AreLists-Linked (get n0) heads tails ls (length heads) old.linked refl) p i.value i.stands in
+            omega (arith, old.count));
       }
 
   -- and once it was put at the end of a list
-  pub put_back : (n0 n1 : Arena T N) (heads tails heads2 tails2 : List (Option ℕ)) (k p : ℕ) (v : T) → Holds n0 heads tails (lists_of n0 heads) → find p (lists_of n0 heads) ≡ Some v → k < length heads
-      → IsArena n1 → Linked (get n1) heads2 tails2 (set (map (drop_place p) (lists_of n0 heads)) k (list_at (map (drop_place p) (lists_of n0 heads)) k ++ (p, v) ∷ []))
+  pub put_back : (n0 n1 : Arena T N) (heads tails heads2 tails2 : List (Option ℕ)) (k p : ℕ) (v : T) →
+      Holds n0 heads tails (lists_of n0 heads) → find p (lists_of n0 heads) ≡ Some v → k < length heads
+      → IsArena n1 → Linked (get n1) heads2 tails2
+      (set (map (drop_place p) (lists_of n0 heads)) k
+      (list_at (map (drop_place p) (lists_of n0 heads)) k ++ (p, v) ∷ []))
       → n1.used ≡ n0.used → Holds n1 heads2 tails2 (moved p k (lists_of n0 heads))
   put_back n0 n1 heads tails heads2 tails2 k p v old is lt arena linked used =
       let ls = lists_of n0 heads in
@@ -119,8 +156,10 @@ module _ {T : Type 0} {N : ℕ} where
             let t = count-link (map (drop_place p) ls) k p v (rw length-map within) in omega (arith, old.count, used));
       }
 
-  pub Holds-write : (nodes after : Arena T N) (heads tails : List (Option ℕ)) (p : ℕ) (w : T) (n : Node T) → Holds nodes heads tails (lists_of nodes heads) → get nodes p ≡ Some n
-      → IsArena after → get after p ≡ Some (record { value = w; list = n.list; before = n.before; after = n.after }) → ((q : ℕ) → q ≢ p → get after q ≡ get nodes q) → after.used ≡ nodes.used
+  pub Holds-write : (nodes after : Arena T N) (heads tails : List (Option ℕ)) (p : ℕ) (w : T) (n : Node T) →
+      Holds nodes heads tails (lists_of nodes heads) → get nodes p ≡ Some n
+      → IsArena after → get after p ≡ Some (record { value = w; list = n.list; before = n.before; after = n.after }) →
+      ((q : ℕ) → q ≢ p → get after q ≡ get nodes q) → after.used ≡ nodes.used
       → Holds after heads tails (map (with_value p w) (lists_of nodes heads))
   Holds-write nodes after heads tails p w n old is arena changed others used = record {
     arena = arena;
@@ -129,20 +168,25 @@ module _ {T : Type 0} {N : ℕ} where
   }
 
   -- what every call tells of the lists
-  pub AreLists-Holds : (nodes : Arena T N) (heads tails : List (Option ℕ)) (n : ℕ) → Holds nodes heads tails (lists_of nodes heads) → length heads ≡ n → AreLists n (lists_of nodes heads)
+  pub AreLists-Holds : (nodes : Arena T N) (heads tails : List (Option ℕ)) (n : ℕ) →
+      Holds nodes heads tails (lists_of nodes heads) → length heads ≡ n → AreLists n (lists_of nodes heads)
   AreLists-Holds nodes heads tails n h e = AreLists-Linked (get nodes) heads tails (lists_of nodes heads) n h.linked e
 
-  pub AreLists-told : {nodes : Arena T N} {heads tails : List (Option ℕ)} {n room : ℕ} {s : Lists T} → ◌≡◌ {A = Lists T} (record { lists = lists_of nodes heads; room = room }) s
+  pub AreLists-told : {nodes : Arena T N} {heads tails : List (Option ℕ)} {n room : ℕ} {s : Lists T} →
+      ◌≡◌ {A = Lists T} (record { lists = lists_of nodes heads; room = room }) s
       → Holds nodes heads tails (lists_of nodes heads) → length heads ≡ n → AreLists n s.lists
   AreLists-told {nodes} {heads} {tails} {n} e h told = rw (← e) (AreLists-Holds nodes heads tails n h told)
 
   pub used_small : (a : Arena T N) → IsArena a → (a.used ≤ a.len) × (a.len < 2 ^ 63)
   used_small a h = (omega (arith, count_by-le-length is_some a.nodes.values, h.used, h.nodes.values_len), h.nodes.small)
 
-  pub lengths_small : (nodes : Arena T N) (heads tails : List (Option ℕ)) → Holds nodes heads tails (lists_of nodes heads) → sum_by length (lists_of nodes heads) < 2 ^ 64
+  pub lengths_small : (nodes : Arena T N) (heads tails : List (Option ℕ)) →
+      Holds nodes heads tails (lists_of nodes heads) → sum_by length (lists_of nodes heads) < 2 ^ 64
   lengths_small nodes heads tails h = let s = used_small nodes h.arena in omega (arith, h.count, s.0, s.1)
 
 -- lists that are all empty
-pub none_left : {T : Type 0} (ls : List (List (ℕ × T))) → ((k : ℕ) → k < length ls → list_at ls k ≡ []) → sum_by length ls ≡ 0
+pub none_left : {T : Type 0} (ls : List (List (ℕ × T))) → ((k : ℕ) → k < length ls → list_at ls k ≡ []) →
+    sum_by length ls ≡ 0
 none_left [] h = refl
-none_left (l ∷ ls) h = let e : l ≡ [] = h 0 (omega arith) in omega (arith, sum_by-cons length l ls, ap length e, none_left ls (λ k less. h (suc k) (omega (arith, less))))
+none_left (l ∷ ls) h = let e : l ≡ [] = h 0 (omega arith) in
+    omega (arith, sum_by-cons length l ls, ap length e, none_left ls (λ k less. h (suc k) (omega (arith, less))))

@@ -62,11 +62,15 @@ module _ {X : Type 0} (start : X) (popped : X → Item → X) (credit : X → �
     credit = λ v. credit v.1;
   }
 
-  popped-is : (xs : List Item) (x : X) (w : List Item × X) (i : Item) → queue_beside.pop (xs, x) ≡ Some (i, w) → (xs ≡ i ∷ w.0) × (w.1 ≡ popped x i)
+  popped-is : (xs : List Item) (x : X) (w : List Item × X) (i : Item) → queue_beside.pop (xs, x) ≡ Some (i, w) →
+      (xs ≡ i ∷ w.0) × (w.1 ≡ popped x i)
   popped-is [] x w i h = absurd cc
   popped-is (j ∷ js) x w i h =
-      let e : ◌≡◌ {A = Item × (List Item × X)} (j, (js, popped x j)) (i, w) = cc in
-      (ap (λ (p : Item × (List Item × X)). p.0 ∷ p.1.0) e, ap (λ (p : Item × (List Item × X)). p.1.1) (sym e) ∙ ap (λ (p : Item × (List Item × X)). popped x p.0) e)
+      let e : ◌≡◌ {A = Item × (List Item × X)} (j, (js, popped x j)) (i, w) = cc in (
+        ap (λ (p : Item × (List Item × X)). p.0 ∷ p.1.0) e,
+        ap (λ (p : Item × (List Item × X)). p.1.1) (sym e)
+            ∙ ap (λ (p : Item × (List Item × X)). popped x p.0) e,
+      )
 
   popped-none : (xs : List Item) (x : X) → queue_beside.pop (xs, x) ≡ None → IsWithin xs []
   popped-none [] x h = λ f. omega arith
@@ -76,7 +80,8 @@ module _ {X : Type 0} (start : X) (popped : X → Item → X) (credit : X → �
   all_popped [] x = refl
   all_popped (j ∷ js) x = all_popped js (popped x j)
 
-  pub queue_beside_lawful : credit start ≡ 0 → ((x : X) (i : Item) → credit (popped x i) ≤ credit x) → IsPolicy queue_beside
+  pub queue_beside_lawful : credit start ≡ 0 → ((x : X) (i : Item) → credit (popped x i) ≤ credit x) →
+      IsPolicy queue_beside
   queue_beside_lawful nothing less = record {
     opening_order = λ capacity c accepted. refl;
     fault_kind = λ c reason h. absurd cc;

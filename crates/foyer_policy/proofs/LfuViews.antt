@@ -29,7 +29,8 @@ item-at p [] = refl
 item-at p (e ∷ es) = ap (λ (r : Option Item). cond (e.0 == p) (Some e.1) r) (item-at p es)
 
 -- the lists of a view, one by one
-pub same_lists : (b : LfuView) (a c d x y z : List Item) → a ≡ x → c ≡ y → d ≡ z → with_lists b a c d ≡ with_lists b x y z
+pub same_lists : (b : LfuView) (a c d x y z : List Item) → a ≡ x → c ≡ y → d ≡ z → with_lists b a c d
+    ≡ with_lists b x y z
 same_lists b a c d x y z e f g = rw (e, f, g) refl
 
 abbrev pub view_of : LfuView → List (List (ℕ × Item)) → LfuView
@@ -47,14 +48,18 @@ items-flat ls n =
     ap (λ (x : List (List (ℕ × Item))). map (λ e. e.1) (flat x)) (three ls n)
     ∙ map-append (λ (e : ℕ × Item). e.1) a (b ++ (c ++ []))
     ∙ ap (λ (l : List Item). items_in ls 0 ++ l)
-    (map-append (λ (e : ℕ × Item). e.1) b (c ++ []) ∙ ap (λ (l : List (ℕ × Item)). items_in ls 1 ++ map (λ e. e.1) l) (append-nil c))
+    (map-append (λ (e : ℕ × Item). e.1) b (c ++ [])
+    ∙ ap (λ (l : List (ℕ × Item)). items_in ls 1 ++ map (λ e. e.1) l) (append-nil c))
 
 -- an item, its place and its list
-module _ (b : LfuView) (ls : List (List (ℕ × Item))) (sound : AreLists 3 ls) (once : HasIdsOnce (all_items ls)) (p : ℕ) (i : Item) where
+module _ (b : LfuView) (ls : List (List (ℕ × Item))) (sound : AreLists 3 ls) (once : HasIdsOnce (all_items ls))
+    (p : ℕ) (i : Item) where
   once_at : (k : ℕ) → k < 3 → HasIdsOnce (items_in ls k)
   once_at zero lt = once-front (items_in ls 0) (items_in ls 1 ++ items_in ls 2) once
-  once_at (suc zero) lt = once-front (items_in ls 1) (items_in ls 2) (once-back (items_in ls 0) (items_in ls 1 ++ items_in ls 2) once)
-  once_at (suc (suc zero)) lt = once-back (items_in ls 1) (items_in ls 2) (once-back (items_in ls 0) (items_in ls 1 ++ items_in ls 2) once)
+  once_at (suc zero) lt = once-front (items_in ls 1) (items_in ls 2)
+      (once-back (items_in ls 0) (items_in ls 1 ++ items_in ls 2) once)
+  once_at (suc (suc zero)) lt = once-back (items_in ls 1) (items_in ls 2)
+      (once-back (items_in ls 0) (items_in ls 1 ++ items_in ls 2) once)
   once_at (suc (suc (suc k))) lt = absurd (omega arith)
 
   module _ (k : ℕ) (lt : k < 3) (is : find_in p (list_at ls k) ≡ Some i) where
@@ -71,10 +76,12 @@ module _ (b : LfuView) (ls : List (List (ℕ × Item))) (sound : AreLists 3 ls) 
         ∙ items-drop_place self_item p i (list_at ls k) (once_at k lt) there
 
     off : (j : ℕ) → j < 3 → k ≢ j → drop_place p (list_at ls j) ≡ list_at ls j
-    off j lj ne = drop_place-free p (list_at ls j) (sound.between k j p i (omega (arith, sound.count)) (omega (arith, sound.count)) ne is)
+    off j lj ne = drop_place-free p (list_at ls j)
+        (sound.between k j p i (omega (arith, sound.count)) (omega (arith, sound.count)) ne is)
 
     pub dropped-other : (j : ℕ) → j < 3 → k ≢ j → items_in (map (drop_place p) ls) j ≡ items_in ls j
-    dropped-other j lj ne = ap (λ (l : List (ℕ × Item)). map (λ e. e.1) l) (get_or-map (drop_place p) ls j [] ∙ off j lj ne)
+    dropped-other j lj ne = ap (λ (l : List (ℕ × Item)). map (λ e. e.1) l)
+        (get_or-map (drop_place p) ls j [] ∙ off j lj ne)
 
     pub dropped-weight : weight_of (items_in (map (drop_place p) ls) k) + i.weight ≡ weight_of (items_in ls k)
     dropped-weight = rw dropped-here (sum-remove_id (λ (x : Item). x.weight) i.id i (items_in ls k) in_list)
@@ -82,16 +89,21 @@ module _ (b : LfuView) (ls : List (List (ℕ × Item))) (sound : AreLists 3 ls) 
     -- it is found among all
     pub in_all : find_id i.id (all_items ls) ≡ Some i
     in_all =
-        let flat_once : HasIdsOnce (map (λ e. e.1) (flat ls)) = subst (λ (l : List Item). HasIdsOnce l) (sym (items-flat ls sound.count)) once in
-        let at : item_at self_item p (flat ls) ≡ Some i = sym (item-at p (flat ls)) ∙ find_in-flat p ls ∙ find-at 3 ls k p i sound (omega (arith, sound.count)) is in
+        let flat_once : HasIdsOnce (map (λ e. e.1) (flat ls)) =
+        subst (λ (l : List Item). HasIdsOnce l) (sym (items-flat ls sound.count)) once in
+        let at : item_at self_item p (flat ls) ≡ Some i = sym (item-at p (flat ls)) ∙ find_in-flat p ls
+        ∙ find-at 3 ls k p i sound (omega (arith, sound.count)) is in
         ap (find_id i.id) (sym (items-flat ls sound.count)) ∙ find_id-found self_item p i (flat ls) flat_once at
 
     -- and taken out by its id is taken out by its place
     pub dropped-places : (q : ℕ) → find q (map (drop_place p) ls) ≡ without i.id (find q ls)
     dropped-places q =
-        let flat_once : HasIdsOnce (map (λ e. e.1) (flat ls)) = subst (λ (l : List Item). HasIdsOnce l) (sym (items-flat ls sound.count)) once in
-        let at : item_at self_item p (flat ls) ≡ Some i = sym (item-at p (flat ls)) ∙ find_in-flat p ls ∙ find-at 3 ls k p i sound (omega (arith, sound.count)) is in
-        sym (find_in-flat q (map (drop_place p) ls)) ∙ ap (find_in q) (flat-drop_place 3 p ls sound) ∙ item-at q (drop_place p (flat ls))
+        let flat_once : HasIdsOnce (map (λ e. e.1) (flat ls)) =
+        subst (λ (l : List Item). HasIdsOnce l) (sym (items-flat ls sound.count)) once in
+        let at : item_at self_item p (flat ls) ≡ Some i = sym (item-at p (flat ls)) ∙ find_in-flat p ls
+        ∙ find-at 3 ls k p i sound (omega (arith, sound.count)) is in
+        sym (find_in-flat q (map (drop_place p) ls)) ∙ ap (find_in q) (flat-drop_place 3 p ls sound)
+        ∙ item-at q (drop_place p (flat ls))
         ∙ item_at-drop_place self_item p q i (flat ls) flat_once (IsDistinct-flat 3 ls sound) at
         ∙ ap (without i.id) (sym (item-at q (flat ls)) ∙ find_in-flat q ls)
 
@@ -99,46 +111,62 @@ module _ (b : LfuView) (ls : List (List (ℕ × Item))) (sound : AreLists 3 ls) 
   window_found : find_in p (list_at ls 0) ≡ Some i → find_id i.id (items_in ls 0) ≡ Some i
   window_found is = in_list 0 (omega arith) is
 
-  probation_found : find_in p (list_at ls 1) ≡ Some i → (find_id i.id (items_in ls 0) ≡ None) × (find_id i.id (items_in ls 1) ≡ Some i)
+  probation_found : find_in p (list_at ls 1) ≡ Some i → (find_id i.id (items_in ls 0) ≡ None)
+      × (find_id i.id (items_in ls 1) ≡ Some i)
   probation_found is =
-      let here = in_list 1 (omega arith) is in
-      (find_id-other_part i.id i (items_in ls 0) (items_in ls 1 ++ items_in ls 2) once (find_id-front i.id i (items_in ls 1) (items_in ls 2) here), here)
+      let here = in_list 1 (omega arith) is in (
+        find_id-other_part i.id i (items_in ls 0) (items_in ls 1 ++ items_in ls 2) once
+            (find_id-front i.id i (items_in ls 1) (items_in ls 2) here),
+        here,
+      )
 
-  protected_found : find_in p (list_at ls 2) ≡ Some i → (find_id i.id (items_in ls 0) ≡ None) × (find_id i.id (items_in ls 1) ≡ None) × (find_id i.id (items_in ls 2) ≡ Some i)
+  protected_found : find_in p (list_at ls 2) ≡ Some i → (find_id i.id (items_in ls 0) ≡ None)
+      × (find_id i.id (items_in ls 1) ≡ None) × (find_id i.id (items_in ls 2) ≡ Some i)
   protected_found is =
       let here = in_list 2 (omega arith) is in
-      let behind : HasIdsOnce (items_in ls 1 ++ items_in ls 2) = once-back (items_in ls 0) (items_in ls 1 ++ items_in ls 2) once in
+      let behind : HasIdsOnce (items_in ls 1 ++ items_in ls 2) =
+      once-back (items_in ls 0) (items_in ls 1 ++ items_in ls 2) once in
       let off1 = find_id-other_part i.id i (items_in ls 1) (items_in ls 2) behind here in
-      let back : find_id i.id (items_in ls 1 ++ items_in ls 2) ≡ Some i = find_id-back i.id (items_in ls 1) (items_in ls 2) off1 ∙ here in
+      let back : find_id i.id (items_in ls 1 ++ items_in ls 2) ≡ Some i =
+      find_id-back i.id (items_in ls 1) (items_in ls 2) off1 ∙ here in
       (find_id-other_part i.id i (items_in ls 0) (items_in ls 1 ++ items_in ls 2) once back, off1, here)
 
   -- a removal
-  pub removed-view : (k : ℕ) → k < 3 → find_in p (list_at ls k) ≡ Some i → view_of b (map (drop_place p) ls) ≡ lfu.remove (view_of b ls) i.id
+  pub removed-view : (k : ℕ) → k < 3 → find_in p (list_at ls k) ≡ Some i → view_of b (map (drop_place p) ls)
+      ≡ lfu.remove (view_of b ls) i.id
   removed-view zero lt is =
       rw (window_found is)
-      (same_lists b _ _ _ _ _ _ (dropped-here 0 lt is) (dropped-other 0 lt is 1 (omega arith) (λ e. omega arith)) (dropped-other 0 lt is 2 (omega arith) (λ e. omega arith)))
+      (same_lists b _ _ _ _ _ _ (dropped-here 0 lt is) (dropped-other 0 lt is 1 (omega arith) (λ e. omega arith))
+      (dropped-other 0 lt is 2 (omega arith) (λ e. omega arith)))
   removed-view (suc zero) lt is =
       let f = probation_found is in
       rw (f.0, f.1)
-      (same_lists b _ _ _ _ _ _ (dropped-other 1 lt is 0 (omega arith) (λ e. omega arith)) (dropped-here 1 lt is) (dropped-other 1 lt is 2 (omega arith) (λ e. omega arith)))
+      (same_lists b _ _ _ _ _ _ (dropped-other 1 lt is 0 (omega arith) (λ e. omega arith)) (dropped-here 1 lt is)
+      (dropped-other 1 lt is 2 (omega arith) (λ e. omega arith)))
   removed-view (suc (suc zero)) lt is =
       let f = protected_found is in
       rw (f.0, f.1)
-      (same_lists b _ _ _ _ _ _ (dropped-other 2 lt is 0 (omega arith) (λ e. omega arith)) (dropped-other 2 lt is 1 (omega arith) (λ e. omega arith)) (dropped-here 2 lt is))
+      (same_lists b _ _ _ _ _ _ (dropped-other 2 lt is 0 (omega arith) (λ e. omega arith))
+      (dropped-other 2 lt is 1 (omega arith) (λ e. omega arith)) (dropped-here 2 lt is))
   removed-view (suc (suc (suc k))) lt is = absurd (omega arith)
 
   -- the weight of a list, less the item's where it was in that list
-  pub removed-weight : (k j : ℕ) → k < 3 → j < 3 → find_in p (list_at ls k) ≡ Some i → weight_of (items_in (map (drop_place p) ls) j) + cond (k == j) i.weight 0 ≡ weight_of (items_in ls j)
+  pub removed-weight : (k j : ℕ) → k < 3 → j < 3 → find_in p (list_at ls k) ≡ Some i →
+      weight_of (items_in (map (drop_place p) ls) j) + cond (k == j) i.weight 0 ≡ weight_of (items_in ls j)
   removed-weight k j lk lj is = go (k == j) refl where
-    go : (t : Bool) → (k == j) ≡ t → weight_of (items_in (map (drop_place p) ls) j) + cond t i.weight 0 ≡ weight_of (items_in ls j)
+    go : (t : Bool) → (k == j) ≡ t → weight_of (items_in (map (drop_place p) ls) j) + cond t i.weight 0
+        ≡ weight_of (items_in ls j)
     go true e = (let same : k ≡ j = grind (arith, nat_tests) in rw (← same) (dropped-weight k lk is))
-    go false e = (let ne : k ≢ j = grind (arith, nat_tests) in omega (arith, ap weight_of (dropped-other k lk is j lj ne)))
+    go false e =
+        (let ne : k ≢ j = grind (arith, nat_tests) in omega (arith, ap weight_of (dropped-other k lk is j lj ne)))
 
   -- what holds of every `Lfu` holds after a removal
-  pub IsLfu-removed : (k ww pw x y : ℕ) → k < 3 → find_in p (list_at ls k) ≡ Some i → IsLfu (view_of b ls) ww pw → x ≡ cond (k == 0) i.weight 0 → y ≡ cond (k == 2) i.weight 0
+  pub IsLfu-removed : (k ww pw x y : ℕ) → k < 3 → find_in p (list_at ls k) ≡ Some i → IsLfu (view_of b ls) ww pw → x
+      ≡ cond (k == 0) i.weight 0 → y ≡ cond (k == 2) i.weight 0
       → (x ≤ ww) × (y ≤ pw) × IsLfu (view_of b (map (drop_place p) ls)) (ww - x) (pw - y)
   IsLfu-removed k ww pw x y lk is old ex ey =
-      let order : all_items (map (drop_place p) ls) ≡ remove_id i.id (all_items ls) = ap lfu.order (removed-view k lk is) ∙ lfu_lawful.remove_order (view_of b ls) i.id in
+      let order : all_items (map (drop_place p) ls) ≡ remove_id i.id (all_items ls) =
+      ap lfu.order (removed-view k lk is) ∙ lfu_lawful.remove_order (view_of b ls) i.id in
       let w = removed-weight k 0 lk (omega arith) is in
       let q = removed-weight k 2 lk (omega arith) is in
       let all = sum-remove_id (λ (x : Item). x.weight) i.id i (all_items ls) (in_all k lk is) in (
@@ -160,7 +188,8 @@ module _ (b : LfuView) (ls : List (List (ℕ × Item))) (sound : AreLists 3 ls) 
     parts = split p i (list_at ls k) is
 
     without_it : map (λ e. e.1) (parts.front ++ parts.back) ≡ remove_id i.id (items_in ls k)
-    without_it = ap (λ (l : List (ℕ × Item)). map (λ e. e.1) l) (sym parts.without) ∙ items-drop_place self_item p i (list_at ls k) (once_at k lt) (there k lt is)
+    without_it = ap (λ (l : List (ℕ × Item)). map (λ e. e.1) l) (sym parts.without)
+        ∙ items-drop_place self_item p i (list_at ls k) (once_at k lt) (there k lt is)
 
     within : k < length ls
     within = omega (arith, sound.count)
@@ -185,7 +214,12 @@ module _ (b : LfuView) (ls : List (List (ℕ × Item))) (sound : AreLists 3 ls) 
       go true e =
           let same : k ≡ j = grind (arith, nat_tests) in
           rw (← same)
-          (omega (arith, ap weight_of moved_own-here, sum_by-append (λ (x : Item). x.weight) (remove_id i.id (items_in ls k)) (i ∷ []), sum-remove_id (λ (x : Item). x.weight) i.id i (items_in ls k) (in_list k lt is)))
+          (omega (
+            arith,
+            ap weight_of moved_own-here,
+            sum_by-append (λ (x : Item). x.weight) (remove_id i.id (items_in ls k)) (i ∷ []),
+            sum-remove_id (λ (x : Item). x.weight) i.id i (items_in ls k) (in_list k lt is),
+          ))
       go false e = (let ne : j ≢ k = grind (arith, nat_tests) in ap weight_of (moved_own-other j ne))
 
   -- to the end of protected, from probation
@@ -195,19 +229,24 @@ module _ (b : LfuView) (ls : List (List (ℕ × Item))) (sound : AreLists 3 ls) 
 
     pub promoted-from : items_in (moved p 2 ls) 1 ≡ remove_id i.id (items_in ls 1)
     promoted-from =
-        ap (λ (l : List (ℕ × Item)). map (λ e. e.1) l) (moved-here 3 ls sound 1 p i mid.front mid.back mid.is 2 (λ h. omega arith))
-        ∙ ap (λ (l : List (ℕ × Item)). map (λ e. e.1) l) (sym mid.without) ∙ items-drop_place self_item p i (list_at ls 1) (once_at 1 (omega arith)) (there 1 (omega arith) is)
+        ap (λ (l : List (ℕ × Item)). map (λ e. e.1) l)
+        (moved-here 3 ls sound 1 p i mid.front mid.back mid.is 2 (λ h. omega arith))
+        ∙ ap (λ (l : List (ℕ × Item)). map (λ e. e.1) l) (sym mid.without)
+        ∙ items-drop_place self_item p i (list_at ls 1) (once_at 1 (omega arith)) (there 1 (omega arith) is)
 
     pub promoted-to : items_in (moved p 2 ls) 2 ≡ items_in ls 2 ++ i ∷ []
     promoted-to =
-        ap (λ (l : List (ℕ × Item)). map (λ e. e.1) l) (moved-there 3 ls sound 1 p i mid.front mid.back mid.is 2 (λ h. omega arith) (omega (arith, sound.count)))
+        ap (λ (l : List (ℕ × Item)). map (λ e. e.1) l)
+        (moved-there 3 ls sound 1 p i mid.front mid.back mid.is 2 (λ h. omega arith) (omega (arith, sound.count)))
         ∙ map-append (λ (e : ℕ × Item). e.1) (list_at ls 2) ((p, i) ∷ [])
 
     pub promoted-window : items_in (moved p 2 ls) 0 ≡ items_in ls 0
-    promoted-window = ap (λ (l : List (ℕ × Item)). map (λ e. e.1) l) (moved-other 3 ls sound 1 p i mid.front mid.back mid.is 0 2 (λ h. omega arith) (λ h. omega arith))
+    promoted-window = ap (λ (l : List (ℕ × Item)). map (λ e. e.1) l)
+        (moved-other 3 ls sound 1 p i mid.front mid.back mid.is 0 2 (λ h. omega arith) (λ h. omega arith))
 
     pub promoted-weight : weight_of (items_in (moved p 2 ls) 2) ≡ weight_of (items_in ls 2) + i.weight
-    promoted-weight = omega (arith, ap weight_of promoted-to, sum_by-append (λ (x : Item). x.weight) (items_in ls 2) (i ∷ []))
+    promoted-weight =
+        omega (arith, ap weight_of promoted-to, sum_by-append (λ (x : Item). x.weight) (items_in ls 2) (i ∷ []))
 
     -- protected and the item weigh no more than all
     pub promoted-fits : weight_of (items_in ls 2) + i.weight ≤ weight_of (all_items ls)
@@ -220,8 +259,11 @@ module _ (b : LfuView) (ls : List (List (ℕ × Item))) (sound : AreLists 3 ls) 
         )
 
     -- and where protected settles then, that is the model's acquire
-    pub promoted-view : (ls2 : List (List (ℕ × Item))) → items_in ls2 2 ≡ fit (λ x. x.weight) b.protected_limit (items_in (moved p 2 ls) 2)
-        → items_in ls2 1 ≡ items_in (moved p 2 ls) 1 ++ over (λ x. x.weight) b.protected_limit (items_in (moved p 2 ls) 2) → items_in ls2 0 ≡ items_in (moved p 2 ls) 0
+    pub promoted-view : (ls2 : List (List (ℕ × Item))) → items_in ls2 2
+        ≡ fit (λ x. x.weight) b.protected_limit (items_in (moved p 2 ls) 2)
+        → items_in ls2 1 ≡ items_in (moved p 2 ls) 1
+        ++ over (λ x. x.weight) b.protected_limit (items_in (moved p 2 ls) 2) → items_in ls2 0
+        ≡ items_in (moved p 2 ls) 0
         → view_of (seen b i.hash) ls2 ≡ lfu.acquire (view_of b ls) i.id
     promoted-view ls2 to from window =
         let f = probation_found is in
@@ -232,19 +274,23 @@ module _ (b : LfuView) (ls : List (List (ℕ × Item))) (sound : AreLists 3 ls) 
         (rw promoted-to at to))
 
   -- a move within window or protected is the model's acquire
-  pub acquired-own : (k : ℕ) → k < 3 → k ≢ 1 → find_in p (list_at ls k) ≡ Some i → view_of (seen b i.hash) (moved p k ls) ≡ lfu.acquire (view_of b ls) i.id
+  pub acquired-own : (k : ℕ) → k < 3 → k ≢ 1 → find_in p (list_at ls k) ≡ Some i →
+      view_of (seen b i.hash) (moved p k ls) ≡ lfu.acquire (view_of b ls) i.id
   acquired-own zero lt ne is =
       rw (window_found is)
-      (same_lists (seen b i.hash) _ _ _ _ _ _ (moved_own-here 0 lt is) (moved_own-other 0 lt is 1 (λ e. omega arith)) (moved_own-other 0 lt is 2 (λ e. omega arith)))
+      (same_lists (seen b i.hash) _ _ _ _ _ _ (moved_own-here 0 lt is) (moved_own-other 0 lt is 1 (λ e. omega arith))
+      (moved_own-other 0 lt is 2 (λ e. omega arith)))
   acquired-own (suc zero) lt ne is = absurd (ne refl)
   acquired-own (suc (suc zero)) lt ne is =
       let f = protected_found is in
       rw (f.0, f.1, f.2)
-      (same_lists (seen b i.hash) _ _ _ _ _ _ (moved_own-other 2 lt is 0 (λ e. omega arith)) (moved_own-other 2 lt is 1 (λ e. omega arith)) (moved_own-here 2 lt is))
+      (same_lists (seen b i.hash) _ _ _ _ _ _ (moved_own-other 2 lt is 0 (λ e. omega arith))
+      (moved_own-other 2 lt is 1 (λ e. omega arith)) (moved_own-here 2 lt is))
   acquired-own (suc (suc (suc k))) lt ne is = absurd (omega arith)
 
 -- what holds of every `Lfu` holds where its items are rearranged
-pub IsLfu-rearranged : (v w : LfuView) (ww pw x y : ℕ) → IsLfu v ww pw → IsPermutation (lfu.order v) (lfu.order w) → x ≡ weight_of w.window → y ≡ weight_of w.protected
+pub IsLfu-rearranged : (v w : LfuView) (ww pw x y : ℕ) → IsLfu v ww pw → IsPermutation (lfu.order v) (lfu.order w) → x
+    ≡ weight_of w.window → y ≡ weight_of w.protected
     → w.window_ratio ≡ v.window_ratio → w.protected_ratio ≡ v.protected_ratio → IsLfu w x y
 IsLfu-rearranged v w ww pw x y old perm ex ey rw' rp = record {
   once = λ id. omega (arith, old.once id, sum_by-IsPermutation (one_if id) (lfu.order v) (lfu.order w) perm);
@@ -256,14 +302,25 @@ IsLfu-rearranged v w ww pw x y old perm ex ey rw' rp = record {
 }
 
 -- and after a push
-pub IsLfu-pushed : (v : LfuView) (i : Item) (ww pw x : ℕ) → IsLfu v ww pw → IsNewIn i.id (lfu.order v) → i.weight + weight_of (lfu.order v) < 2 ^ 64
+pub IsLfu-pushed : (v : LfuView) (i : Item) (ww pw x : ℕ) → IsLfu v ww pw → IsNewIn i.id (lfu.order v) →
+    i.weight + weight_of (lfu.order v) < 2 ^ 64
     → x ≡ weight_of (lfu.push v i).window → IsLfu (lfu.push v i) x pw
 IsLfu-pushed v i ww pw x old new fits ex =
     let perm : IsPermutation (i ∷ lfu.order v) (lfu.order (lfu.push v i)) = lfu_lawful.push_order v i in
     let back : IsPermutation (lfu.order v ++ i ∷ []) (i ∷ lfu.order v) = IsPermutation-to_front (lfu.order v) i in
     record {
-      once = λ id. omega (arith, once-snoc (lfu.order v) i old.once new id, sum_by-IsPermutation (one_if id) (lfu.order v ++ i ∷ []) (i ∷ lfu.order v) back, sum_by-IsPermutation (one_if id) (i ∷ lfu.order v) (lfu.order (lfu.push v i)) perm);
-      fits = omega (arith, sum_by-cons (λ (j : Item). j.weight) i (lfu.order v), sum_by-IsPermutation (λ (j : Item). j.weight) (i ∷ lfu.order v) (lfu.order (lfu.push v i)) perm);
+      once = λ id.
+          omega (
+            arith,
+            once-snoc (lfu.order v) i old.once new id,
+            sum_by-IsPermutation (one_if id) (lfu.order v ++ i ∷ []) (i ∷ lfu.order v) back,
+            sum_by-IsPermutation (one_if id) (i ∷ lfu.order v) (lfu.order (lfu.push v i)) perm,
+          );
+      fits = omega (
+        arith,
+        sum_by-cons (λ (j : Item). j.weight) i (lfu.order v),
+        sum_by-IsPermutation (λ (j : Item). j.weight) (i ∷ lfu.order v) (lfu.order (lfu.push v i)) perm,
+      );
       window = ex;
       protected = old.protected;
       window_divides = old.window_divides;
@@ -271,14 +328,21 @@ IsLfu-pushed v i ww pw x old new fits ex =
     }
 
 -- a push into the window, which settles then, is the model's push
-pub pushed-view : (b : LfuView) (ls ls1 ls2 : List (List (ℕ × Item))) (p : ℕ) (i : Item) → AreLists 3 ls → ls1 ≡ set ls 0 (list_at ls 0 ++ (p, i) ∷ [])
-    → items_in ls2 0 ≡ fit (λ x. x.weight) b.window_limit (items_in ls1 0) → items_in ls2 1 ≡ items_in ls1 1 ++ over (λ x. x.weight) b.window_limit (items_in ls1 0) → items_in ls2 2 ≡ items_in ls1 2
+pub pushed-view : (b : LfuView) (ls ls1 ls2 : List (List (ℕ × Item))) (p : ℕ) (i : Item) → AreLists 3 ls → ls1
+    ≡ set ls 0 (list_at ls 0 ++ (p, i) ∷ [])
+    → items_in ls2 0 ≡ fit (λ x. x.weight) b.window_limit (items_in ls1 0) → items_in ls2 1 ≡ items_in ls1 1
+    ++ over (λ x. x.weight) b.window_limit (items_in ls1 0) → items_in ls2 2 ≡ items_in ls1 2
     → view_of (seen b i.hash) ls2 ≡ lfu.push (view_of b ls) i
 pushed-view b ls ls1 ls2 p i sound put window probation protected =
     let here : items_in ls1 0 ≡ items_in ls 0 ++ i ∷ [] =
     ap (λ (x : List (List (ℕ × Item))). items_in x 0) put
-    ∙ ap (λ (l : List (ℕ × Item)). map (λ e. e.1) l) (get_or-set_same ls 0 (list_at ls 0 ++ (p, i) ∷ []) [] (omega (arith, sound.count)))
+    ∙ ap (λ (l : List (ℕ × Item)). map (λ e. e.1) l)
+    (get_or-set_same ls 0 (list_at ls 0 ++ (p, i) ∷ []) [] (omega (arith, sound.count)))
     ∙ map-append (λ (e : ℕ × Item). e.1) (list_at ls 0) ((p, i) ∷ []) in
-    let one : items_in ls1 1 ≡ items_in ls 1 = ap (λ (x : List (List (ℕ × Item))). items_in x 1) put ∙ ap (λ (l : List (ℕ × Item)). map (λ e. e.1) l) (get_or-set_other ls 0 1 (list_at ls 0 ++ (p, i) ∷ []) [] (λ e. omega arith)) in
-    let two : items_in ls1 2 ≡ items_in ls 2 = ap (λ (x : List (List (ℕ × Item))). items_in x 2) put ∙ ap (λ (l : List (ℕ × Item)). map (λ e. e.1) l) (get_or-set_other ls 0 2 (list_at ls 0 ++ (p, i) ∷ []) [] (λ e. omega arith)) in
+    let one : items_in ls1 1 ≡ items_in ls 1 = ap (λ (x : List (List (ℕ × Item))). items_in x 1) put
+    ∙ ap (λ (l : List (ℕ × Item)). map (λ e. e.1) l)
+    (get_or-set_other ls 0 1 (list_at ls 0 ++ (p, i) ∷ []) [] (λ e. omega arith)) in
+    let two : items_in ls1 2 ≡ items_in ls 2 = ap (λ (x : List (List (ℕ × Item))). items_in x 2) put
+    ∙ ap (λ (l : List (ℕ × Item)). map (λ e. e.1) l)
+    (get_or-set_other ls 0 2 (list_at ls 0 ++ (p, i) ∷ []) [] (λ e. omega arith)) in
     same_lists (seen b i.hash) _ _ _ _ _ _ (rw here at window) (rw (one, here) at probation) (protected ∙ two)

@@ -15,7 +15,8 @@ not_true true h = absurd (h refl)
 not_true false h = refl
 
 module _ {T : Type 0} where
-  pub owner-find_in : (f : ℕ → Option (Node T)) (k p : ℕ) (v : T) (b a : Option ℕ) (l : List (ℕ × T)) → IsChain f k b l a → find_in p l ≡ Some v → owner (f p) ≡ Some k
+  pub owner-find_in : (f : ℕ → Option (Node T)) (k p : ℕ) (v : T) (b a : Option ℕ) (l : List (ℕ × T)) →
+      IsChain f k b l a → find_in p l ≡ Some v → owner (f p) ≡ Some k
   owner-find_in f k p v b a [] c h = absurd cc
   owner-find_in f k p v b a (e ∷ es) c h = go (e.0 == p) refl (owner-find_in f k p v (Some e.0) a es c.1) where
     go : (t : Bool) → (e.0 == p) ≡ t → (find_in p es ≡ Some v → owner (f p) ≡ Some k) → owner (f p) ≡ Some k
@@ -23,32 +24,44 @@ module _ {T : Type 0} where
     go false is rec = rec (rw is at h)
 
   -- the node of an entry
-  pub node-split : (f : ℕ → Option (Node T)) (k p : ℕ) (v : T) (b a : Option ℕ) (xs ys : List (ℕ × T)) → IsChain f k b (xs ++ (p, v) ∷ ys) a
+  pub node-split : (f : ℕ → Option (Node T)) (k p : ℕ) (v : T) (b a : Option ℕ) (xs ys : List (ℕ × T)) →
+      IsChain f k b (xs ++ (p, v) ∷ ys) a
       → f p ≡ Some (record { value = v; list = k; before = last_or xs b; after = first_or ys a })
   node-split f k p v b a [] ys c = c.0
   node-split f k p v b a (e ∷ es) ys c = node-split f k p v (Some e.0) a es ys c.1
 
-  pub first_or-mid : (p : ℕ) (v : T) (xs ys : List (ℕ × T)) (a : Option ℕ) → first_or (xs ++ (p, v) ∷ ys) a ≡ first_or xs (Some p)
+  pub first_or-mid : (p : ℕ) (v : T) (xs ys : List (ℕ × T)) (a : Option ℕ) → first_or (xs ++ (p, v) ∷ ys) a
+      ≡ first_or xs (Some p)
   first_or-mid p v [] ys a = refl
   first_or-mid p v (e ∷ es) ys a = refl
 
-  pub chain-parts : (f : ℕ → Option (Node T)) (k p : ℕ) (v : T) (b a : Option ℕ) (xs ys : List (ℕ × T)) → IsChain f k b (xs ++ (p, v) ∷ ys) a
+  pub chain-parts : (f : ℕ → Option (Node T)) (k p : ℕ) (v : T) (b a : Option ℕ) (xs ys : List (ℕ × T)) →
+      IsChain f k b (xs ++ (p, v) ∷ ys) a
       → IsChain f k b xs (Some p) × IsChain f k (Some p) ys a
   chain-parts f k p v b a [] ys c = (tt, c.1)
   chain-parts f k p v b a (e ∷ es) ys c =
-      let r = chain-parts f k p v (Some e.0) a es ys c.1 in
-      ((c.0 ∙ ap (λ (x : Option ℕ). Some (record { value = e.1; list = k; before = b; after = x })) (first_or-mid p v es ys a), r.0), r.1)
+      let r = chain-parts f k p v (Some e.0) a es ys c.1 in (
+        (
+          c.0 ∙ ap (λ (x : Option ℕ). Some (record { value = e.1; list = k; before = b; after = x }))
+              (first_or-mid p v es ys a),
+          r.0,
+        ),
+        r.1,
+      )
 
   -- one list changes, and the nodes of the others stay
-  pub Linked-set : (f g : ℕ → Option (Node T)) (heads tails : List (Option ℕ)) (ls : List (List (ℕ × T))) (k : ℕ) (h t : Option ℕ) (l : List (ℕ × T))
-      → Linked f heads tails ls → k < length ls → Keeps f g k → IsList g k h t l → IsDistinct l → Linked g (set heads k h) (set tails k t) (set ls k l)
+  pub Linked-set : (f g : ℕ → Option (Node T)) (heads tails : List (Option ℕ)) (ls : List (List (ℕ × T))) (k : ℕ)
+      (h t : Option ℕ) (l : List (ℕ × T))
+      → Linked f heads tails ls → k < length ls → Keeps f g k → IsList g k h t l → IsDistinct l →
+      Linked g (set heads k h) (set tails k t) (set ls k l)
   Linked-set f g heads tails ls k h t l old lt keep new d = record {
     heads_len = rw (length-set, length-set) old.heads_len;
     tails_len = rw (length-set, length-set) old.tails_len;
     each = λ j less. each j (rw length-set at less) (same_or_not j k);
     distinct = λ j less. apart j (rw length-set at less) (same_or_not j k);
   } where
-    each : (j : ℕ) → j < length ls → (j ≡ k) ⊎ (j ≢ k) → IsList g j (get_or (set heads k h) j None) (get_or (set tails k t) j None) (get_or (set ls k l) j [])
+    each : (j : ℕ) → j < length ls → (j ≡ k) ⊎ (j ≢ k) →
+        IsList g j (get_or (set heads k h) j None) (get_or (set tails k t) j None) (get_or (set ls k l) j [])
     each j less (inl e) =
         let a : k < length heads = omega (arith, old.heads_len) in
         let b : k < length tails = omega (arith, old.tails_len) in
@@ -62,55 +75,71 @@ module _ {T : Type 0} where
     apart j less (inl e) = rw (e, get_or-set_same ls k l [] lt) d
     apart j less (inr ne) = rw (get_or-set_other ls k j l [] ne) (old.distinct j less)
 
-  chain-without : (f : ℕ → Option (Node T)) (j k p : ℕ) (b a : Option ℕ) (l : List (ℕ × T)) → IsChain f k b l a → owner (f p) ≡ Some j → j ≢ k → IsFree p l
+  chain-without : (f : ℕ → Option (Node T)) (j k p : ℕ) (b a : Option ℕ) (l : List (ℕ × T)) → IsChain f k b l a →
+      owner (f p) ≡ Some j → j ≢ k → IsFree p l
   chain-without f j k p b a [] c o ne = tt
-  chain-without f j k p b a (e ∷ es) c o ne =
-      ((λ q. ne (let x : owner (f p) ≡ Some k = rw (← q) (ap owner c.0) in cc)), chain-without f j k p (Some e.0) a es c.1 o ne)
+  chain-without f j k p b a (e ∷ es) c o ne = (
+    (λ q. ne (let x : owner (f p) ≡ Some k = rw (← q) (ap owner c.0) in cc)),
+    chain-without f j k p (Some e.0) a es c.1 o ne,
+  )
 
-  pub AreLists-Linked : (f : ℕ → Option (Node T)) (heads tails : List (Option ℕ)) (ls : List (List (ℕ × T))) (n : ℕ) → Linked f heads tails ls → length heads ≡ n → AreLists n ls
+  pub AreLists-Linked : (f : ℕ → Option (Node T)) (heads tails : List (Option ℕ)) (ls : List (List (ℕ × T))) (n : ℕ) →
+      Linked f heads tails ls → length heads ≡ n → AreLists n ls
   AreLists-Linked f heads tails ls n old h = record {
     count = sym old.heads_len ∙ h;
     within = old.distinct;
-    between = λ j k p v lj lk ne fi. chain-without f j k p None None (list_at ls k) (old.each k lk).chain (owner-find_in f j p v None None (list_at ls j) (old.each j lj).chain fi) ne;
+    between = λ j k p v lj lk ne fi. chain-without f j k p None None (list_at ls k) (old.each k lk).chain
+        (owner-find_in f j p v None None (list_at ls j) (old.each j lj).chain fi) ne;
   }
 
   -- where an entry stands, and its node
   pub record Found (f : ℕ → Option (Node T)) (p : ℕ) (v : T) (ls : List (List (ℕ × T))) : Type 0 where
     pub at : Stands p v ls
-    pub node : f p ≡ Some (record { value = v; list = at.list; before = last_or at.front None; after = first_or at.back None })
+    pub node : f p ≡ Some
+        (record { value = v; list = at.list; before = last_or at.front None; after = first_or at.back None })
 
-  pub found : (f : ℕ → Option (Node T)) (heads tails : List (Option ℕ)) (ls : List (List (ℕ × T))) (p : ℕ) (v : T) → Linked f heads tails ls → find p ls ≡ Some v → Found f p v ls
+  pub found : (f : ℕ → Option (Node T)) (heads tails : List (Option ℕ)) (ls : List (List (ℕ × T))) (p : ℕ) (v : T) →
+      Linked f heads tails ls → find p ls ≡ Some v → Found f p v ls
   found f heads tails ls p v old h =
       let s : Stands p v ls = stands p v ls h in
       let c : IsChain f s.list None (list_at ls s.list) None = (old.each s.list s.within).chain in
       record { at = s; node = node-split f s.list p v None None s.front s.back (rw s.is at c) }
 
-  pub Keeps-Relinks : (f g : ℕ → Option (Node T)) (k p : ℕ) (nb na : Option ℕ) → Relinks f g p nb na → owner (f p) ≡ Some k → Owned f k nb → Owned f k na → Keeps f g k
+  pub Keeps-Relinks : (f g : ℕ → Option (Node T)) (k p : ℕ) (nb na : Option ℕ) → Relinks f g p nb na → owner (f p)
+      ≡ Some k → Owned f k nb → Owned f k na → Keeps f g k
   Keeps-Relinks f g k p nb na r o ob oa j q ne oj =
       r.others q (λ e. ne (let x : owner (f p) ≡ Some j = rw e at oj in cc))
       (not_true (is_at nb q) (λ t. ne (let x : owner (f q) ≡ Some k = Owned-is_at f k q nb ob t in cc)))
       (not_true (is_at na q) (λ t. ne (let x : owner (f q) ≡ Some k = Owned-is_at f k q na oa t in cc)))
 
-  pub end_set-last : (l : List (ℕ × T)) (x k : ℕ) (to : Option ℕ) (ends : List (Option ℕ)) → end_set (last_or l (Some x)) k to ends ≡ ends
+  pub end_set-last : (l : List (ℕ × T)) (x k : ℕ) (to : Option ℕ) (ends : List (Option ℕ)) →
+      end_set (last_or l (Some x)) k to ends ≡ ends
   end_set-last [] x k to ends = refl
   end_set-last (e ∷ es) x k to ends = end_set-last es e.0 k to ends
 
-  pub heads-unlink : (xs ys : List (ℕ × T)) (p k : ℕ) (v : T) (heads : List (Option ℕ)) → get_or heads k None ≡ first_or (xs ++ (p, v) ∷ ys) None
+  pub heads-unlink : (xs ys : List (ℕ × T)) (p k : ℕ) (v : T) (heads : List (Option ℕ)) → get_or heads k None
+      ≡ first_or (xs ++ (p, v) ∷ ys) None
       → end_set (last_or xs None) k (first_or ys None) heads ≡ set heads k (first_or (xs ++ ys) None)
   heads-unlink [] ys p k v heads h = refl
-  heads-unlink (e ∷ es) ys p k v heads h = end_set-last es e.0 k (first_or ys None) heads ∙ sym (set-get_or heads k None) ∙ ap (set heads k) h
+  heads-unlink (e ∷ es) ys p k v heads h = end_set-last es e.0 k (first_or ys None) heads
+      ∙ sym (set-get_or heads k None) ∙ ap (set heads k) h
 
-  pub tails-unlink : (xs ys : List (ℕ × T)) (p k : ℕ) (v : T) (tails : List (Option ℕ)) → get_or tails k None ≡ last_or (xs ++ (p, v) ∷ ys) None
+  pub tails-unlink : (xs ys : List (ℕ × T)) (p k : ℕ) (v : T) (tails : List (Option ℕ)) → get_or tails k None
+      ≡ last_or (xs ++ (p, v) ∷ ys) None
       → end_set (first_or ys None) k (last_or xs None) tails ≡ set tails k (last_or (xs ++ ys) None)
   tails-unlink xs [] p k v tails h = ap (set tails k) (sym (last_or-append xs [] None))
-  tails-unlink xs (y ∷ ys) p k v tails h = sym (set-get_or tails k None) ∙ ap (set tails k) (h ∙ last_or-append xs ((p, v) ∷ y ∷ ys) None ∙ sym (last_or-append xs (y ∷ ys) None))
+  tails-unlink xs (y ∷ ys) p k v tails h = sym (set-get_or tails k None)
+      ∙ ap (set tails k) (h ∙ last_or-append xs ((p, v) ∷ y ∷ ys) None ∙ sym (last_or-append xs (y ∷ ys) None))
 
   -- an entry is taken out of its list
-  pub Linked-unlink : (f g : ℕ → Option (Node T)) (heads tails : List (Option ℕ)) (ls : List (List (ℕ × T))) (p : ℕ) (v : T) → Linked f heads tails ls → (s : Stands p v ls) → owner (f p) ≡ Some s.list
+  pub Linked-unlink : (f g : ℕ → Option (Node T)) (heads tails : List (Option ℕ)) (ls : List (List (ℕ × T))) (p : ℕ)
+      (v : T) → Linked f heads tails ls → (s : Stands p v ls) → owner (f p) ≡ Some s.list
       → Relinks f g p (last_or s.front None) (first_or s.back None)
-      → Linked g (end_set (last_or s.front None) s.list (first_or s.back None) heads) (end_set (first_or s.back None) s.list (last_or s.front None) tails) (map (drop_place p) ls)
+      → Linked g (end_set (last_or s.front None) s.list (first_or s.back None) heads)
+      (end_set (first_or s.back None) s.list (last_or s.front None) tails) (map (drop_place p) ls)
   Linked-unlink f g heads tails ls p v old s own r =
-      let o : IsList f s.list (get_or heads s.list None) (get_or tails s.list None) (list_at ls s.list) = old.each s.list s.within in
+      let o : IsList f s.list (get_or heads s.list None) (get_or tails s.list None) (list_at ls s.list) =
+      old.each s.list s.within in
       let oc : IsChain f s.list None (list_at ls s.list) None = o.chain in
       let oh : get_or heads s.list None ≡ first_or (list_at ls s.list) None = o.head in
       let ot : get_or tails s.list None ≡ last_or (list_at ls s.list) None = o.tail in
@@ -123,25 +152,37 @@ module _ {T : Type 0} where
       rw (
         heads-unlink s.front s.back p s.list v heads (oh ∙ ap (λ l. first_or l None) s.is),
         tails-unlink s.front s.back p s.list v tails (ot ∙ ap (λ l. last_or l None) s.is),
-        drop-all (length ls) ls (AreLists-Linked f heads tails ls (length ls) old old.heads_len) s.list p v s.front s.back s.is,
+        drop-all (length ls) ls (AreLists-Linked f heads tails ls (length ls) old old.heads_len) s.list p v s.front
+            s.back s.is,
       )
-      (Linked-set f g heads tails ls s.list (first_or (s.front ++ s.back) None) (last_or (s.front ++ s.back) None) (s.front ++ s.back) old s.within keep
+      (Linked-set f g heads tails ls s.list (first_or (s.front ++ s.back) None) (last_or (s.front ++ s.back) None)
+      (s.front ++ s.back) old s.within keep
       record { head = refl; tail = refl; chain = chain-unlink f g s.list p v None None s.front s.back r d tt tt c }
       (IsDistinct-without p v s.front s.back d))
 
-  pub chain-vacant : (f : ℕ → Option (Node T)) (j p : ℕ) (b a : Option ℕ) (l : List (ℕ × T)) → IsChain f j b l a → f p ≡ None → IsFree p l
+  pub chain-vacant : (f : ℕ → Option (Node T)) (j p : ℕ) (b a : Option ℕ) (l : List (ℕ × T)) → IsChain f j b l a → f p
+      ≡ None → IsFree p l
   chain-vacant f j p b a [] c n = tt
-  chain-vacant f j p b a (e ∷ es) c n = ((λ q. let x : f p ≡ Some (record { value = e.1; list = j; before = b; after = first_or es a }) = rw (← q) c.0 in cc), chain-vacant f j p (Some e.0) a es c.1 n)
+  chain-vacant f j p b a (e ∷ es) c n = (
+    (λ q. let x : f p ≡ Some (record { value = e.1; list = j; before = b; after = first_or es a }) =
+        rw (← q) c.0 in cc),
+    chain-vacant f j p (Some e.0) a es c.1 n,
+  )
 
-  pub heads-link : (l : List (ℕ × T)) (p k : ℕ) (v : T) (heads : List (Option ℕ)) → get_or heads k None ≡ first_or l None
+  pub heads-link : (l : List (ℕ × T)) (p k : ℕ) (v : T) (heads : List (Option ℕ)) → get_or heads k None
+      ≡ first_or l None
       → end_set (last_or l None) k (Some p) heads ≡ set heads k (first_or (l ++ (p, v) ∷ []) None)
   heads-link [] p k v heads h = refl
-  heads-link (e ∷ es) p k v heads h = end_set-last es e.0 k (Some p) heads ∙ sym (set-get_or heads k None) ∙ ap (set heads k) h
+  heads-link (e ∷ es) p k v heads h = end_set-last es e.0 k (Some p) heads ∙ sym (set-get_or heads k None)
+      ∙ ap (set heads k) h
 
   -- a value is put at the end of a list
-  pub Linked-link : (f g : ℕ → Option (Node T)) (heads tails : List (Option ℕ)) (ls : List (List (ℕ × T))) (k p : ℕ) (v : T) → Linked f heads tails ls → k < length ls
-      → f p ≡ None → LinksBack f g p (get_or tails k None) → g p ≡ Some (record { value = v; list = k; before = get_or tails k None; after = None })
-      → Linked g (end_set (get_or tails k None) k (Some p) heads) (set tails k (Some p)) (set ls k (list_at ls k ++ (p, v) ∷ []))
+  pub Linked-link : (f g : ℕ → Option (Node T)) (heads tails : List (Option ℕ)) (ls : List (List (ℕ × T))) (k p : ℕ)
+      (v : T) → Linked f heads tails ls → k < length ls
+      → f p ≡ None → LinksBack f g p (get_or tails k None) → g p
+      ≡ Some (record { value = v; list = k; before = get_or tails k None; after = None })
+      → Linked g (end_set (get_or tails k None) k (Some p) heads) (set tails k (Some p))
+      (set ls k (list_at ls k ++ (p, v) ∷ []))
   Linked-link f g heads tails ls k p v old lt free r n =
       let l = list_at ls k in
       let o : IsList f k (get_or heads k None) (get_or tails k None) l = old.each k lt in
@@ -151,29 +192,44 @@ module _ {T : Type 0} where
       let d : IsDistinct l = old.distinct k lt in
       let h : IsFree p l = chain-vacant f k p None None l o.chain free in
       let own : Owned f k (last_or l None) = Owned-last f k None None l o.chain tt in
-      let keep : Keeps f g k = (λ j q ne oj. r'.others q (λ e. (let x : owner (f p) ≡ Some j = rw e at oj in let y : owner (f p) ≡ None = ap owner free in cc))
-      (not_true (is_at (last_or l None) q) (λ t. ne (let x : owner (f q) ≡ Some k = Owned-is_at f k q (last_or l None) own t in cc)))) in
+      let keep : Keeps f g k =
+      (λ j q ne oj. r'.others q
+      (λ e. (let x : owner (f p) ≡ Some j = rw e at oj in let y : owner (f p) ≡ None = ap owner free in cc))
+      (not_true (is_at (last_or l None) q)
+      (λ t. ne (let x : owner (f q) ≡ Some k = Owned-is_at f k q (last_or l None) own t in cc)))) in
       rw (ot, heads-link l p k v heads o.head)
       (Linked-set f g heads tails ls k (first_or (l ++ (p, v) ∷ []) None) (Some p) (l ++ (p, v) ∷ []) old lt keep
-      record { head = refl; tail = sym (last_or-append l ((p, v) ∷ []) None); chain = chain-link f g k p v None l r' n' d h o.chain }
+      record {
+        head = refl;
+        tail = sym (last_or-append l ((p, v) ∷ []) None);
+        chain =
+            chain-link f g k p v None l r' n' d h o.chain;
+      }
       (IsDistinct-snoc p v l d h))
 
   -- a node that stood in no list is put at the end of one
-  pub Linked-back : (f g : ℕ → Option (Node T)) (heads tails : List (Option ℕ)) (ls : List (List (ℕ × T))) (k p : ℕ) (v : T) → Linked (all_but p f) heads tails ls → k < length ls
-      → ((q : ℕ) → q ≢ p → g q ≡ cond (is_at (get_or tails k None) q) (after_set (Some p) (f q)) (f q)) → g p ≡ Some (record { value = v; list = k; before = get_or tails k None; after = None })
-      → Linked g (end_set (get_or tails k None) k (Some p) heads) (set tails k (Some p)) (set ls k (list_at ls k ++ (p, v) ∷ []))
-  Linked-back f g heads tails ls k p v old lt others n = Linked-link (all_but p f) g heads tails ls k p v old lt (all_but-same p f)
+  pub Linked-back : (f g : ℕ → Option (Node T)) (heads tails : List (Option ℕ)) (ls : List (List (ℕ × T))) (k p : ℕ)
+      (v : T) → Linked (all_but p f) heads tails ls → k < length ls
+      → ((q : ℕ) → q ≢ p → g q ≡ cond (is_at (get_or tails k None) q) (after_set (Some p) (f q)) (f q)) → g p
+      ≡ Some (record { value = v; list = k; before = get_or tails k None; after = None })
+      → Linked g (end_set (get_or tails k None) k (Some p) heads) (set tails k (Some p))
+      (set ls k (list_at ls k ++ (p, v) ∷ []))
+  Linked-back f g heads tails ls k p v old lt others n =
+      Linked-link (all_but p f) g heads tails ls k p v old lt (all_but-same p f)
       record {
         others = λ q ne is. others q ne ∙ rw is (sym (all_but-other p q f ne));
         at_before = λ q ne is. others q ne ∙ rw is (ap (after_set (Some p)) (sym (all_but-other p q f ne)));
       } n
 
   -- the nodes alone count
-  pub Linked-alike : (f g : ℕ → Option (Node T)) (heads tails : List (Option ℕ)) (ls : List (List (ℕ × T))) → ((q : ℕ) → g q ≡ f q) → Linked f heads tails ls → Linked g heads tails ls
-  Linked-alike f g heads tails ls e l = let same : f ≡ g = λ i q. sym (e q) i in subst (λ (x : ℕ → Option (Node T)). Linked x heads tails ls) same l
+  pub Linked-alike : (f g : ℕ → Option (Node T)) (heads tails : List (Option ℕ)) (ls : List (List (ℕ × T))) →
+      ((q : ℕ) → g q ≡ f q) → Linked f heads tails ls → Linked g heads tails ls
+  Linked-alike f g heads tails ls e l = let same : f ≡ g = λ i q. sym (e q) i in
+      subst (λ (x : ℕ → Option (Node T)). Linked x heads tails ls) same l
 
   -- a node went
-  pub all_but-gone : (f g : ℕ → Option (Node T)) (p : ℕ) → g p ≡ None → ((q : ℕ) → q ≢ p → g q ≡ f q) → (q : ℕ) → g q ≡ all_but p f q
+  pub all_but-gone : (f g : ℕ → Option (Node T)) (p : ℕ) → g p ≡ None → ((q : ℕ) → q ≢ p → g q ≡ f q) → (q : ℕ) → g q
+      ≡ all_but p f q
   all_but-gone f g p is others q = go (q == p) refl where
     go : (b : Bool) → (q == p) ≡ b → g q ≡ cond b None (f q)
     go true e = ap g (place_is q p e) ∙ is
@@ -183,14 +239,16 @@ module _ {T : Type 0} where
   some_owner None k h = absurd cc
   some_owner (Some n) k h = search rules
 
-  pub Owned-tail : (f : ℕ → Option (Node T)) (heads tails : List (Option ℕ)) (ls : List (List (ℕ × T))) (k : ℕ) → Linked f heads tails ls → k < length ls → Owned f k (get_or tails k None)
+  pub Owned-tail : (f : ℕ → Option (Node T)) (heads tails : List (Option ℕ)) (ls : List (List (ℕ × T))) (k : ℕ) →
+      Linked f heads tails ls → k < length ls → Owned f k (get_or tails k None)
   Owned-tail f heads tails ls k old lt =
       let o : IsList f k (get_or heads k None) (get_or tails k None) (list_at ls k) = old.each k lt in
       let w : Owned f k (last_or (list_at ls k) None) = Owned-last f k None None (list_at ls k) o.chain tt in
       rw o.tail w
 
   -- nothing is found at a vacant place
-  pub find-vacant : (f : ℕ → Option (Node T)) (heads tails : List (Option ℕ)) (ls : List (List (ℕ × T))) (p : ℕ) → Linked f heads tails ls → f p ≡ None → find p ls ≡ None
+  pub find-vacant : (f : ℕ → Option (Node T)) (heads tails : List (Option ℕ)) (ls : List (List (ℕ × T))) (p : ℕ) →
+      Linked f heads tails ls → f p ≡ None → find p ls ≡ None
   find-vacant f heads tails ls p old h = go (find p ls) refl where
     go : (o : Option T) → find p ls ≡ o → find p ls ≡ None
     go None e = e
@@ -204,7 +262,8 @@ module _ {T : Type 0} where
     pub after_is : node.after ≡ first_or at.back None
     pub find_is : find p ls ≡ Some node.value
 
-  pub found_node : (f : ℕ → Option (Node T)) (heads tails : List (Option ℕ)) (ls : List (List (ℕ × T))) (p : ℕ) (node : Node T) → Linked f heads tails ls → IsSome (find p ls) → f p ≡ Some node → FoundNode f p node ls
+  pub found_node : (f : ℕ → Option (Node T)) (heads tails : List (Option ℕ)) (ls : List (List (ℕ × T))) (p : ℕ)
+      (node : Node T) → Linked f heads tails ls → IsSome (find p ls) → f p ≡ Some node → FoundNode f p node ls
   found_node f heads tails ls p node old there is = go (find p ls) refl there where
     go : (o : Option T) → find p ls ≡ o → IsSome o → FoundNode f p node ls
     go None e h = absurd (search rules)
@@ -215,9 +274,23 @@ module _ {T : Type 0} where
         let e' : find p ls ≡ Some node.value = e ∙ ap Some x in
         let s : Found f p node.value ls = found f heads tails ls p node.value old e' in
         let n = s.node in
-        let b : Node T = record { value = node.value; list = s.at.list; before = last_or s.at.front None; after = first_or s.at.back None } in
+        let b : Node T =
+        record {
+          value = node.value;
+          list = s.at.list;
+          before = last_or s.at.front None;
+          after =
+              first_or s.at.back None;
+        } in
         let w : node ≡ b = cc in
-        record { at = s.at; list_is = ap (λ (m : Node T). m.list) {y = b} w; before_is = ap (λ (m : Node T). m.before) {y = b} w; after_is = ap (λ (m : Node T). m.after) {y = b} w; find_is = e' }
+        record {
+          at = s.at;
+          list_is = ap (λ (m : Node T). m.list) {y = b} w;
+          before_is =
+              ap (λ (m : Node T). m.before) {y = b} w;
+          after_is = ap (λ (m : Node T). m.after) {y = b} w;
+          find_is = e';
+        }
 
   -- the front of a list
   pub record Front (ls : List (List (ℕ × T))) (k p : ℕ) : Type 0 where
@@ -226,7 +299,8 @@ module _ {T : Type 0} where
     pub first : first_value (list_at ls k) ≡ Some value
     pub gone : map (drop_place p) ls ≡ set ls k (rest (list_at ls k))
 
-  pub front_found : (f : ℕ → Option (Node T)) (heads tails : List (Option ℕ)) (ls : List (List (ℕ × T))) (k p : ℕ) → Linked f heads tails ls → k < length ls → get_or heads k None ≡ Some p → Front ls k p
+  pub front_found : (f : ℕ → Option (Node T)) (heads tails : List (Option ℕ)) (ls : List (List (ℕ × T))) (k p : ℕ) →
+      Linked f heads tails ls → k < length ls → get_or heads k None ≡ Some p → Front ls k p
   front_found f heads tails ls k p old lt h = go (list_at ls k) refl where
     sound : AreLists (length heads) ls
     sound = AreLists-Linked f heads tails ls (length heads) old refl
@@ -245,38 +319,54 @@ module _ {T : Type 0} where
         }
 
   -- what stands after a node
-  pub after-node : (f : ℕ → Option (Node T)) (heads tails : List (Option ℕ)) (ls : List (List (ℕ × T))) (k p : ℕ) (v : T) (xs ys : List (ℕ × T)) (node : Node T) → Linked f heads tails ls
+  pub after-node : (f : ℕ → Option (Node T)) (heads tails : List (Option ℕ)) (ls : List (List (ℕ × T))) (k p : ℕ)
+      (v : T) (xs ys : List (ℕ × T)) (node : Node T) → Linked f heads tails ls
       → list_at ls k ≡ xs ++ (p, v) ∷ ys → f p ≡ Some node → node.after ≡ first_or ys None
   after-node f heads tails ls k p v xs ys node old e is =
       let c : IsChain f k None (list_at ls k) None = (old.each k (within_if_found ls k (p, v) xs ys e)).chain in
       let c' : IsChain f k None (xs ++ (p, v) ∷ ys) None = rw e at c in
-      let n : f p ≡ Some (record { value = v; list = k; before = last_or xs None; after = first_or ys None }) = node-split f k p v None None xs ys c' in
+      let n : f p ≡ Some (record { value = v; list = k; before = last_or xs None; after = first_or ys None }) =
+      node-split f k p v None None xs ys c' in
       let b : Node T = record { value = v; list = k; before = last_or xs None; after = first_or ys None } in
       let r : node ≡ b = cc in
       ap (λ (m : Node T). m.after) r
 
   -- and that is in
-  pub after_found : (f : ℕ → Option (Node T)) (heads tails : List (Option ℕ)) (ls : List (List (ℕ × T))) (p q : ℕ) (node : Node T) → Linked f heads tails ls → IsSome (find p ls) → f p ≡ Some node
+  pub after_found : (f : ℕ → Option (Node T)) (heads tails : List (Option ℕ)) (ls : List (List (ℕ × T))) (p q : ℕ)
+      (node : Node T) → Linked f heads tails ls → IsSome (find p ls) → f p ≡ Some node
       → node.after ≡ Some q → IsSome (find q ls)
   after_found f heads tails ls p q node old there is e =
       let s : FoundNode f p node ls = found_node f heads tails ls p node old there is in
-      let split : list_at ls s.at.list ≡ (s.at.front ++ (p, node.value) ∷ []) ++ s.at.back = s.at.is ∙ sym (append_assoc s.at.front ((p, node.value) ∷ []) s.at.back) in
-      first_found (length heads) ls (AreLists-Linked f heads tails ls (length heads) old refl) s.at.list q (s.at.front ++ (p, node.value) ∷ []) s.at.back split (sym s.after_is ∙ e)
+      let split : list_at ls s.at.list ≡ (s.at.front ++ (p, node.value) ∷ []) ++ s.at.back = s.at.is
+      ∙ sym (append_assoc s.at.front ((p, node.value) ∷ []) s.at.back) in
+      first_found (length heads) ls (AreLists-Linked f heads tails ls (length heads) old refl) s.at.list q
+      (s.at.front ++ (p, node.value) ∷ []) s.at.back split (sym s.after_is ∙ e)
 
-  pub count-unlink : (n : ℕ) (ls : List (List (ℕ × T))) → AreLists n ls → (p : ℕ) (v : T) → (s : Stands p v ls) → sum_by length (map (drop_place p) ls) + 1 ≡ sum_by length ls
+  pub count-unlink : (n : ℕ) (ls : List (List (ℕ × T))) → AreLists n ls → (p : ℕ) (v : T) → (s : Stands p v ls) →
+      sum_by length (map (drop_place p) ls) + 1 ≡ sum_by length ls
   count-unlink n ls sound p v s =
       rw (drop-all n ls sound s.list p v s.front s.back s.is)
-      (omega (arith, sum_by-set length ls s.list (s.front ++ s.back) [] s.within, ap length s.is, length-append s.front ((p, v) ∷ s.back), length-append s.front s.back))
+      (omega (
+        arith,
+        sum_by-set length ls s.list (s.front ++ s.back) [] s.within,
+        ap length s.is,
+        length-append s.front ((p, v) ∷ s.back),
+        length-append s.front s.back,
+      ))
 
-  Relinks-at : (f g : ℕ → Option (Node T)) (p : ℕ) (b b' a a' : Option ℕ) → b ≡ b' → a ≡ a' → Relinks f g p b a → Relinks f g p b' a'
+  Relinks-at : (f g : ℕ → Option (Node T)) (p : ℕ) (b b' a a' : Option ℕ) → b ≡ b' → a ≡ a' → Relinks f g p b a →
+      Relinks f g p b' a'
   Relinks-at f g p b b' a a' e h r = rw (← e, ← h) r
 
-  Linked-at : (g : ℕ → Option (Node T)) (heads tails : List (Option ℕ)) (b b' a a' : Option ℕ) (k k' : ℕ) (ls : List (List (ℕ × T))) → b ≡ b' → a ≡ a' → k ≡ k'
-      → Linked g (end_set b' k' a' heads) (end_set a' k' b' tails) ls → Linked g (end_set b k a heads) (end_set a k b tails) ls
+  Linked-at : (g : ℕ → Option (Node T)) (heads tails : List (Option ℕ)) (b b' a a' : Option ℕ) (k k' : ℕ)
+      (ls : List (List (ℕ × T))) → b ≡ b' → a ≡ a' → k ≡ k'
+      → Linked g (end_set b' k' a' heads) (end_set a' k' b' tails) ls →
+      Linked g (end_set b k a heads) (end_set a k b tails) ls
   Linked-at g heads tails b b' a a' k k' ls e h i x = rw (e, h, i) x
 
   -- a node is unlinked
-  module _ (f0 f1 f2 f3 : ℕ → Option (Node T)) (heads tails : List (Option ℕ)) (ls : List (List (ℕ × T))) (p : ℕ) (node : Node T)
+  module _ (f0 f1 f2 f3 : ℕ → Option (Node T)) (heads tails : List (Option ℕ)) (ls : List (List (ℕ × T))) (p : ℕ)
+      (node : Node T)
       (old : Linked f0 heads tails ls) (there : IsSome (find p ls)) (is : f0 p ≡ Some node)
       (others : (q : ℕ) → q ≢ p → f1 q ≡ f0 q) where
     s : FoundNode f0 p node ls
@@ -319,12 +409,14 @@ module _ {T : Type 0} where
     pub before_there : (x : ℕ) → node.before ≡ Some x → IsSome (f1 x)
     before_there x e =
         let parts = chain-parts f0 s.at.list p node.value None None s.at.front s.at.back entry-chain in
-        stays x (last_or s.at.front None) (Owned-last f0 s.at.list None (Some p) s.at.front parts.0 tt) off-before (sym s.before_is ∙ e)
+        stays x (last_or s.at.front None) (Owned-last f0 s.at.list None (Some p) s.at.front parts.0 tt) off-before
+        (sym s.before_is ∙ e)
 
     pub after_there : (x : ℕ) → node.after ≡ Some x → IsSome (f1 x)
     after_there x e =
         let parts = chain-parts f0 s.at.list p node.value None None s.at.front s.at.back entry-chain in
-        stays x (first_or s.at.back None) (Owned-first f0 s.at.list (Some p) None s.at.back parts.1 tt) off-after (sym s.after_is ∙ e)
+        stays x (first_or s.at.back None) (Owned-first f0 s.at.list (Some p) None s.at.back parts.1 tt) off-after
+        (sym s.after_is ∙ e)
 
     relinks : ((q : ℕ) → q ≢ p → f2 q ≡ cond (is_at node.before q) (after_set node.after (f1 q)) (f1 q))
         → ((q : ℕ) → q ≢ p → f3 q ≡ cond (is_at node.after q) (before_set node.before (f2 q)) (f2 q))
@@ -337,14 +429,20 @@ module _ {T : Type 0} where
 
     pub Linked-without : ((q : ℕ) → q ≢ p → f2 q ≡ cond (is_at node.before q) (after_set node.after (f1 q)) (f1 q))
         → ((q : ℕ) → q ≢ p → f3 q ≡ cond (is_at node.after q) (before_set node.before (f2 q)) (f2 q))
-        → Linked f3 (end_set node.before node.list node.after heads) (end_set node.after node.list node.before tails) (map (drop_place p) ls)
+        → Linked f3 (end_set node.before node.list node.after heads) (end_set node.after node.list node.before tails)
+        (map (drop_place p) ls)
     Linked-without l2 l3 =
         let r : Relinks f0 f3 p node.before node.after = relinks l2 l3 in
-        let r' : Relinks f0 f3 p (last_or s.at.front None) (first_or s.at.back None) = Relinks-at f0 f3 p node.before (last_or s.at.front None) node.after (first_or s.at.back None) s.before_is s.after_is r in
-        Linked-at f3 heads tails node.before (last_or s.at.front None) node.after (first_or s.at.back None) node.list s.at.list (map (drop_place p) ls) s.before_is s.after_is s.list_is (Linked-unlink f0 f3 heads tails ls p node.value old s.at (ap owner is ∙ ap Some s.list_is) r')
+        let r' : Relinks f0 f3 p (last_or s.at.front None) (first_or s.at.back None) =
+        Relinks-at f0 f3 p node.before (last_or s.at.front None) node.after (first_or s.at.back None) s.before_is
+        s.after_is r in
+        Linked-at f3 heads tails node.before (last_or s.at.front None) node.after (first_or s.at.back None) node.list
+        s.at.list (map (drop_place p) ls) s.before_is s.after_is s.list_is
+        (Linked-unlink f0 f3 heads tails ls p node.value old s.at (ap owner is ∙ ap Some s.list_is) r')
 
   -- the value at a place is its node's
-  pub find-value : (f : ℕ → Option (Node T)) (heads tails : List (Option ℕ)) (ls : List (List (ℕ × T))) (p : ℕ) → Linked f heads tails ls → IsSome (find p ls) → value_of (f p) ≡ find p ls
+  pub find-value : (f : ℕ → Option (Node T)) (heads tails : List (Option ℕ)) (ls : List (List (ℕ × T))) (p : ℕ) →
+      Linked f heads tails ls → IsSome (find p ls) → value_of (f p) ≡ find p ls
   find-value f heads tails ls p old h = go (find p ls) refl h where
     go : (o : Option T) → find p ls ≡ o → IsSome o → value_of (f p) ≡ find p ls
     go None e h = absurd (search rules)
@@ -356,18 +454,26 @@ module _ {T : Type 0} where
   value_of-after false to o = refl
 
   -- the node p is put at the end of list k: first the one before it is linked to it, then it is written
-  pub Linked-relinked : (f0 f1 f2 : ℕ → Option (Node T)) (heads heads1 tails : List (Option ℕ)) (ls : List (List (ℕ × T))) (k p : ℕ) (v : T) (last to : Option ℕ) (now : Node T)
-      → Linked (all_but p f0) heads tails ls → k < length ls → value_of (f0 p) ≡ Some v → last ≡ get_or tails k None → to ≡ Some p
-      → ((q : ℕ) → f1 q ≡ cond (is_at last q) (after_set to (f0 q)) (f0 q)) → f1 p ≡ Some now → f2 p ≡ Some (record { value = now.value; list = k; before = last; after = None })
-      → ((q : ℕ) → q ≢ p → f2 q ≡ f1 q) → heads1 ≡ end_set last k to heads → Linked f2 heads1 (set tails k (Some p)) (set ls k (list_at ls k ++ (p, v) ∷ []))
-  Linked-relinked f0 f1 f2 heads heads1 tails ls k p v last to now old lt here is_last is_to links is written others ends =
-      let some : Some now.value ≡ Some v = ap value_of (sym is ∙ links p) ∙ value_of-after (is_at last p) to (f0 p) ∙ here in
+  pub Linked-relinked : (f0 f1 f2 : ℕ → Option (Node T)) (heads heads1 tails : List (Option ℕ))
+      (ls : List (List (ℕ × T))) (k p : ℕ) (v : T) (last to : Option ℕ) (now : Node T)
+      → Linked (all_but p f0) heads tails ls → k < length ls → value_of (f0 p) ≡ Some v → last ≡ get_or tails k None →
+      to ≡ Some p
+      → ((q : ℕ) → f1 q ≡ cond (is_at last q) (after_set to (f0 q)) (f0 q)) → f1 p ≡ Some now → f2 p
+      ≡ Some (record { value = now.value; list = k; before = last; after = None })
+      → ((q : ℕ) → q ≢ p → f2 q ≡ f1 q) → heads1 ≡ end_set last k to heads →
+      Linked f2 heads1 (set tails k (Some p)) (set ls k (list_at ls k ++ (p, v) ∷ []))
+  Linked-relinked f0 f1 f2 heads heads1 tails ls k p v last to now old lt here is_last is_to links is written others
+      ends =
+      let some : Some now.value ≡ Some v = ap value_of (sym is ∙ links p) ∙ value_of-after (is_at last p) to (f0 p)
+      ∙ here in
       let same : now.value ≡ v = cc in
       rw (ends, is_last, is_to)
-      (Linked-back f0 f2 heads tails ls k p v old lt (λ q ne. others q ne ∙ (rw (is_last, is_to) at (links q))) (written ∙ (λ i. Some (record { value = same i; list = k; before = is_last i; after = None }))))
+      (Linked-back f0 f2 heads tails ls k p v old lt (λ q ne. others q ne ∙ (rw (is_last, is_to) at (links q)))
+      (written ∙ (λ i. Some (record { value = same i; list = k; before = is_last i; after = None }))))
 
   -- the last node of a list that does not have p
-  pub tail_in : (f : ℕ → Option (Node T)) (heads tails : List (Option ℕ)) (ls : List (List (ℕ × T))) (k p x : ℕ) → Linked (all_but p f) heads tails ls → k < length ls → get_or tails k None ≡ Some x → IsSome (f x)
+  pub tail_in : (f : ℕ → Option (Node T)) (heads tails : List (Option ℕ)) (ls : List (List (ℕ × T))) (k p x : ℕ) →
+      Linked (all_but p f) heads tails ls → k < length ls → get_or tails k None ≡ Some x → IsSome (f x)
   tail_in f heads tails ls k p x old lt e =
       let own : Owned (all_but p f) k (get_or tails k None) = Owned-tail (all_but p f) heads tails ls k old lt in
       let own' : owner (all_but p f x) ≡ Some k = rw e at own in go (x == p) (some_owner (all_but p f x) k own') where

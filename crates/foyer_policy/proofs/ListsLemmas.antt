@@ -27,7 +27,8 @@ module _ {T : Type 0} where
   pub member : (p : ℕ) (v : T) (ls : List (List (ℕ × T))) → find p ls ≡ Some v → Member p v ls
   member p v [] h = absurd cc
   member p v (l ∷ ls) h = go (find_in p l) refl h (member p v ls) where
-    go : (o : Option T) → find_in p l ≡ o → or_else o (find p ls) ≡ Some v → (find p ls ≡ Some v → Member p v ls) → Member p v (l ∷ ls)
+    go : (o : Option T) → find_in p l ≡ o → or_else o (find p ls) ≡ Some v → (find p ls ≡ Some v → Member p v ls) →
+        Member p v (l ∷ ls)
     go None is h rec =
         let m : Member p v ls = rec h in
         record { list = suc m.list; within = omega (arith, m.within); there = m.there }
@@ -65,7 +66,8 @@ module _ {T : Type 0} where
   free_at p (l ∷ ls) zero h = IsFree-none p l (or_else-none (find_in p l) (find p ls) h).0
   free_at p (l ∷ ls) (suc k) h = free_at p ls k (or_else-none (find_in p l) (find p ls) h).1
 
-  pub AreLists-rest : (n : ℕ) (l : List (ℕ × T)) (ls : List (List (ℕ × T))) → AreLists n (l ∷ ls) → AreLists (length ls) ls
+  pub AreLists-rest : (n : ℕ) (l : List (ℕ × T)) (ls : List (List (ℕ × T))) → AreLists n (l ∷ ls) →
+      AreLists (length ls) ls
   AreLists-rest n l ls s = record {
     count = refl;
     within = λ k lt. s.within (suc k) (omega arith);
@@ -73,7 +75,8 @@ module _ {T : Type 0} where
   }
 
   -- what stands in one of the lists is found
-  pub find-at : (n : ℕ) (ls : List (List (ℕ × T))) (k p : ℕ) (v : T) → AreLists n ls → k < length ls → find_in p (list_at ls k) ≡ Some v → find p ls ≡ Some v
+  pub find-at : (n : ℕ) (ls : List (List (ℕ × T))) (k p : ℕ) (v : T) → AreLists n ls → k < length ls →
+      find_in p (list_at ls k) ≡ Some v → find p ls ≡ Some v
   find-at n [] k p v s lt h = absurd (omega arith)
   find-at n (l ∷ ls) zero p v s lt h = rw h refl
   find-at n (l ∷ ls) (suc k) p v s lt h =
@@ -112,23 +115,27 @@ module _ {T : Type 0} where
     go (inl lt) = get_or-le-sum_by length ls k [] lt
     go (inr past) = omega (arith, ap length (get_or_past ls k [] past))
 
-  pub within_if_found : (ls : List (List (ℕ × T))) (k : ℕ) (e : ℕ × T) (xs ys : List (ℕ × T)) → list_at ls k ≡ xs ++ e ∷ ys → k < length ls
+  pub within_if_found : (ls : List (List (ℕ × T))) (k : ℕ) (e : ℕ × T) (xs ys : List (ℕ × T)) → list_at ls k ≡ xs
+      ++ e ∷ ys → k < length ls
   within_if_found ls k e xs ys is = go (below_or_past k (length ls)) where
     go : (k < length ls) ⊎ (length ls ≤ k) → k < length ls
     go (inl lt) = lt
     go (inr past) = absurd (omega (arith, ap length (sym (get_or_past ls k [] past) ∙ is), length-append xs (e ∷ ys)))
 
   -- one list is changed by f, and the others have nothing that f changes
-  map_at : (f : List (ℕ × T) → List (ℕ × T)) (ls : List (List (ℕ × T))) (k : ℕ) (l : List (ℕ × T)) → f [] ≡ [] → k < length ls → f (list_at ls k) ≡ l
+  map_at : (f : List (ℕ × T) → List (ℕ × T)) (ls : List (List (ℕ × T))) (k : ℕ) (l : List (ℕ × T)) → f [] ≡ [] →
+      k < length ls → f (list_at ls k) ≡ l
       → ((j : ℕ) → j ≢ k → f (list_at ls j) ≡ list_at ls j) → map f ls ≡ set ls k l
-  map_at f ls k l nil lt here other = ext_get_or [] (map f ls) (set ls k l) (length-map ls f ∙ sym (length-set ls k l)) (λ j less.
+  map_at f ls k l nil lt here other = ext_get_or [] (map f ls) (set ls k l)
+      (length-map ls f ∙ sym (length-set ls k l)) (λ j less.
       ap (get_or (map f ls) j) (sym nil) ∙ get_or-map f ls j [] ∙ go j (same_or_not j k)) where
         go : (j : ℕ) → (j ≡ k) ⊎ (j ≢ k) → f (get_or ls j []) ≡ get_or (set ls k l) j []
         go j (inl q) = rw (q, get_or-set_same ls k l [] lt) here
         go j (inr ne) = other j ne ∙ sym (get_or-set_other ls k j l [] ne)
 
   -- an entry of list k, and what a call at its place leaves
-  module _ (n : ℕ) (ls : List (List (ℕ × T))) (sound : AreLists n ls) (k p : ℕ) (v : T) (xs ys : List (ℕ × T)) (is : list_at ls k ≡ xs ++ (p, v) ∷ ys) where
+  module _ (n : ℕ) (ls : List (List (ℕ × T))) (sound : AreLists n ls) (k p : ℕ) (v : T) (xs ys : List (ℕ × T))
+      (is : list_at ls k ≡ xs ++ (p, v) ∷ ys) where
     within : k < length ls
     within = within_if_found ls k (p, v) xs ys is
 
@@ -152,7 +159,9 @@ module _ {T : Type 0} where
 
     -- a write
     pub write-all : (w : T) → map (with_value p w) ls ≡ set ls k (xs ++ (p, w) ∷ ys)
-    write-all w = map_at (with_value p w) ls k (xs ++ (p, w) ∷ ys) refl within (rw is (with_value-mid p v w xs ys free_beside.0)) (λ j ne. with_value-free p w (list_at ls j) (free_elsewhere j ne))
+    write-all w = map_at (with_value p w) ls k (xs ++ (p, w) ∷ ys) refl within
+        (rw is (with_value-mid p v w xs ys free_beside.0))
+        (λ j ne. with_value-free p w (list_at ls j) (free_elsewhere j ne))
 
     pub write-here : (w : T) → list_at (map (with_value p w) ls) k ≡ xs ++ (p, w) ∷ ys
     write-here w = rw (write-all w) (get_or-set_same ls k (xs ++ (p, w) ∷ ys) [] within)
@@ -162,7 +171,8 @@ module _ {T : Type 0} where
 
     -- a removal
     pub drop-all : map (drop_place p) ls ≡ set ls k (xs ++ ys)
-    drop-all = map_at (drop_place p) ls k (xs ++ ys) refl within (rw is (drop_place-mid p v xs ys free_beside.0)) (λ j ne. drop_place-free p (list_at ls j) (free_elsewhere j ne))
+    drop-all = map_at (drop_place p) ls k (xs ++ ys) refl within (rw is (drop_place-mid p v xs ys free_beside.0))
+        (λ j ne. drop_place-free p (list_at ls j) (free_elsewhere j ne))
 
     pub drop-here : list_at (map (drop_place p) ls) k ≡ xs ++ ys
     drop-here = rw drop-all (get_or-set_same ls k (xs ++ ys) [] within)
@@ -175,31 +185,42 @@ module _ {T : Type 0} where
     moved-is j = rw (find-mid, drop-all) refl
 
     pub moved-all : (j : ℕ) → j ≢ k → moved p j ls ≡ set (set ls k (xs ++ ys)) j (list_at ls j ++ (p, v) ∷ [])
-    moved-all j ne = moved-is j ∙ ap (λ (l : List (ℕ × T)). set (set ls k (xs ++ ys)) j (l ++ (p, v) ∷ [])) (get_or-set_other ls k j (xs ++ ys) [] ne)
+    moved-all j ne = moved-is j ∙ ap (λ (l : List (ℕ × T)). set (set ls k (xs ++ ys)) j (l ++ (p, v) ∷ []))
+        (get_or-set_other ls k j (xs ++ ys) [] ne)
 
     pub moved-here : (j : ℕ) → j ≢ k → list_at (moved p j ls) k ≡ xs ++ ys
-    moved-here j ne = rw (moved-all j ne) (get_or-set_other (set ls k (xs ++ ys)) j k (list_at ls j ++ (p, v) ∷ []) [] (λ e. ne (sym e)) ∙ get_or-set_same ls k (xs ++ ys) [] within)
+    moved-here j ne = rw (moved-all j ne)
+        (get_or-set_other (set ls k (xs ++ ys)) j k (list_at ls j ++ (p, v) ∷ []) [] (λ e. ne (sym e))
+        ∙ get_or-set_same ls k (xs ++ ys) [] within)
 
     pub moved-there : (j : ℕ) → j ≢ k → j < length ls → list_at (moved p j ls) j ≡ list_at ls j ++ (p, v) ∷ []
-    moved-there j ne lt = rw (moved-all j ne) (get_or-set_same (set ls k (xs ++ ys)) j (list_at ls j ++ (p, v) ∷ []) [] (rw length-set lt))
+    moved-there j ne lt = rw (moved-all j ne)
+        (get_or-set_same (set ls k (xs ++ ys)) j (list_at ls j ++ (p, v) ∷ []) [] (rw length-set lt))
 
     pub moved-other : (i j : ℕ) → i ≢ j → i ≢ k → list_at (moved p j ls) i ≡ list_at ls i
-    moved-other i j ni nk = rw (moved-is j) (get_or-set_other (set ls k (xs ++ ys)) j i (list_at (set ls k (xs ++ ys)) j ++ (p, v) ∷ []) [] ni ∙ get_or-set_other ls k i (xs ++ ys) [] nk)
+    moved-other i j ni nk = rw (moved-is j)
+        (get_or-set_other (set ls k (xs ++ ys)) j i (list_at (set ls k (xs ++ ys)) j ++ (p, v) ∷ []) [] ni
+        ∙ get_or-set_other ls k i (xs ++ ys) [] nk)
 
     pub moved-own : moved p k ls ≡ set ls k ((xs ++ ys) ++ (p, v) ∷ [])
     moved-own =
         moved-is k
-        ∙ ap (λ (l : List (ℕ × T)). set (set ls k (xs ++ ys)) k (l ++ (p, v) ∷ [])) (get_or-set_same ls k (xs ++ ys) [] within)
+        ∙ ap (λ (l : List (ℕ × T)). set (set ls k (xs ++ ys)) k (l ++ (p, v) ∷ []))
+        (get_or-set_same ls k (xs ++ ys) [] within)
         ∙ set-set ls k (xs ++ ys) ((xs ++ ys) ++ (p, v) ∷ [])
 
   -- the first of what stands behind a part of a list
-  pub first_found : (n : ℕ) (ls : List (List (ℕ × T))) → AreLists n ls → (k q : ℕ) (xs ys : List (ℕ × T)) → list_at ls k ≡ xs ++ ys → first_or ys None ≡ Some q → IsSome (find q ls)
+  pub first_found : (n : ℕ) (ls : List (List (ℕ × T))) → AreLists n ls → (k q : ℕ) (xs ys : List (ℕ × T)) →
+      list_at ls k ≡ xs ++ ys → first_or ys None ≡ Some q → IsSome (find q ls)
   first_found n ls sound k q xs [] is h = absurd cc
-  first_found n ls sound k q xs (y ∷ ys) is h = let e : y.0 ≡ q = cc in rw (← e, find-mid n ls sound k y.0 y.1 xs ys is) (search rules)
+  first_found n ls sound k q xs (y ∷ ys) is h = let e : y.0 ≡ q = cc in
+      rw (← e, find-mid n ls sound k y.0 y.1 xs ys is) (search rules)
 
   -- the front of a list that leaves
-  pub pop-some : (n : ℕ) (ls : List (List (ℕ × T))) → AreLists n ls → (k p : ℕ) (v : T) (ys : List (ℕ × T)) → list_at ls k ≡ (p, v) ∷ ys → set ls k (rest (list_at ls k)) ≡ map (drop_place p) ls
-  pop-some n ls sound k p v ys is = ap (λ (l : List (ℕ × T)). set ls k (rest l)) is ∙ sym (drop-all n ls sound k p v [] ys is)
+  pub pop-some : (n : ℕ) (ls : List (List (ℕ × T))) → AreLists n ls → (k p : ℕ) (v : T) (ys : List (ℕ × T)) →
+      list_at ls k ≡ (p, v) ∷ ys → set ls k (rest (list_at ls k)) ≡ map (drop_place p) ls
+  pop-some n ls sound k p v ys is = ap (λ (l : List (ℕ × T)). set ls k (rest l)) is
+      ∙ sym (drop-all n ls sound k p v [] ys is)
 
   pub pop-none : (ls : List (List (ℕ × T))) (k : ℕ) → list_at ls k ≡ [] → set ls k (rest (list_at ls k)) ≡ ls
   pop-none ls k is = ap (λ (l : List (ℕ × T)). set ls k (rest l)) is ∙ ap (set ls k) (sym is) ∙ set-get_or ls k []

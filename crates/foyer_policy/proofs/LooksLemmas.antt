@@ -10,7 +10,8 @@ module _ {V C : Type 0} (m : Policy V C) (law : IsPolicy m) where
   paid-call : (v : V) (c : Call C) → call_looks m v c + m.credit (after_call m v c) ≤ m.credit v + call_pays m v c
   paid-call v (Push i) = omega (arith, law.push_credit v i)
   paid-call v Pop = go (m.pop v) refl where
-    go : (o : Option (Item × V)) → m.pop v ≡ o → m.looks v + m.credit (view_or m o v (λ w. w)) ≤ m.credit v + one_if_some m o
+    go : (o : Option (Item × V)) → m.pop v ≡ o →
+        m.looks v + m.credit (view_or m o v (λ w. w)) ≤ m.credit v + one_if_some m o
     go None is = omega (arith, law.none_looks v is)
     go (Some p) is = omega (arith, law.pop_looks v p.1 p.0 is)
   paid-call v (Remove id) = omega (arith, law.remove_credit v id)
@@ -25,4 +26,5 @@ module _ {V C : Type 0} (m : Policy V C) (law : IsPolicy m) where
   paid-calls v (c ∷ cs) = omega (arith, paid-call v c, paid-calls (after_call m v c) cs)
 
   pub looks-are-paid : LooksArePaid m
-  looks-are-paid capacity config calls accepted = omega (arith, paid-calls (m.opening capacity config) calls, law.opening_credit capacity config accepted)
+  looks-are-paid capacity config calls accepted =
+      omega (arith, paid-calls (m.opening capacity config) calls, law.opening_credit capacity config accepted)

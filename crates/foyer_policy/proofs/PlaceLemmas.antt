@@ -71,12 +71,14 @@ module _ {T : Type 0} where
   IsFree-append_right p (x ∷ xs) ys h = IsFree-append_right p xs ys h.1
 
   pub IsFree-without : (q p : ℕ) (v : T) (xs ys : List (ℕ × T)) → IsFree q (xs ++ (p, v) ∷ ys) → IsFree q (xs ++ ys)
-  IsFree-without q p v xs ys h = IsFree-append q xs ys (IsFree-append_left q xs ((p, v) ∷ ys) h) (IsFree-append_right q xs ((p, v) ∷ ys) h).1
+  IsFree-without q p v xs ys h = IsFree-append q xs ys (IsFree-append_left q xs ((p, v) ∷ ys) h)
+      (IsFree-append_right q xs ((p, v) ∷ ys) h).1
 
   pub IsFree-none : (p : ℕ) (l : List (ℕ × T)) → find_in p l ≡ None → IsFree p l
   IsFree-none p [] h = tt
   IsFree-none p (e ∷ es) h = go (e.0 == p) refl h (IsFree-none p es) where
-    go : (b : Bool) → (e.0 == p) ≡ b → cond b (Some e.1) (find_in p es) ≡ None → (find_in p es ≡ None → IsFree p es) → (e.0 ≢ p) × IsFree p es
+    go : (b : Bool) → (e.0 == p) ≡ b → cond b (Some e.1) (find_in p es) ≡ None → (find_in p es ≡ None → IsFree p es) →
+        (e.0 ≢ p) × IsFree p es
     go true is h rec = absurd cc
     go false is h rec = (place_differs e.0 p is, rec h)
 
@@ -97,32 +99,41 @@ module _ {T : Type 0} where
   find_in-mid p v [] ys f = rw (same_place p) refl
   find_in-mid p v (e ∷ es) ys f = rw (other_place e.0 p f.0) (find_in-mid p v es ys f.1)
 
-  pub drop_place-mid : (p : ℕ) (v : T) (xs ys : List (ℕ × T)) → IsFree p xs → drop_place p (xs ++ (p, v) ∷ ys) ≡ xs ++ ys
+  pub drop_place-mid : (p : ℕ) (v : T) (xs ys : List (ℕ × T)) → IsFree p xs → drop_place p (xs ++ (p, v) ∷ ys) ≡ xs
+      ++ ys
   drop_place-mid p v [] ys f = rw (same_place p) refl
   drop_place-mid p v (e ∷ es) ys f = rw (other_place e.0 p f.0) (ap (λ r. e ∷ r) (drop_place-mid p v es ys f.1))
 
-  pub with_value-mid : (p : ℕ) (v w : T) (xs ys : List (ℕ × T)) → IsFree p xs → with_value p w (xs ++ (p, v) ∷ ys) ≡ xs ++ (p, w) ∷ ys
+  pub with_value-mid : (p : ℕ) (v w : T) (xs ys : List (ℕ × T)) → IsFree p xs → with_value p w (xs ++ (p, v) ∷ ys)
+      ≡ xs ++ (p, w) ∷ ys
   with_value-mid p v w [] ys f = rw (same_place p) refl
   with_value-mid p v w (e ∷ es) ys f = rw (other_place e.0 p f.0) (ap (λ r. e ∷ r) (with_value-mid p v w es ys f.1))
 
-  pub IsDistinct-mid : (p : ℕ) (v : T) (xs ys : List (ℕ × T)) → IsDistinct (xs ++ (p, v) ∷ ys) → IsFree p xs × IsFree p ys
+  pub IsDistinct-mid : (p : ℕ) (v : T) (xs ys : List (ℕ × T)) → IsDistinct (xs ++ (p, v) ∷ ys) → IsFree p xs
+      × IsFree p ys
   IsDistinct-mid p v [] ys d = (tt, d.0)
   IsDistinct-mid p v (e ∷ es) ys d =
       let r = IsDistinct-mid p v es ys d.1 in
       (((λ q. (IsFree-append_right e.0 es ((p, v) ∷ ys) d.0).0 (sym q)), r.0), r.1)
 
-  pub IsDistinct-without : (p : ℕ) (v : T) (xs ys : List (ℕ × T)) → IsDistinct (xs ++ (p, v) ∷ ys) → IsDistinct (xs ++ ys)
+  pub IsDistinct-without : (p : ℕ) (v : T) (xs ys : List (ℕ × T)) → IsDistinct (xs ++ (p, v) ∷ ys) →
+      IsDistinct (xs ++ ys)
   IsDistinct-without p v [] ys d = d.1
   IsDistinct-without p v (e ∷ es) ys d = (IsFree-without e.0 p v es ys d.0, IsDistinct-without p v es ys d.1)
 
   pub IsDistinct-snoc : (p : ℕ) (v : T) (l : List (ℕ × T)) → IsDistinct l → IsFree p l → IsDistinct (l ++ (p, v) ∷ [])
   IsDistinct-snoc p v [] d h = (tt, tt)
-  IsDistinct-snoc p v (e ∷ es) d h = (IsFree-append e.0 es ((p, v) ∷ []) d.0 ((λ r. h.0 (sym r)), tt), IsDistinct-snoc p v es d.1 h.1)
+  IsDistinct-snoc p v (e ∷ es) d h =
+      (IsFree-append e.0 es ((p, v) ∷ []) d.0 ((λ r. h.0 (sym r)), tt), IsDistinct-snoc p v es d.1 h.1)
 
   -- one list before another
-  pub IsDistinct-append : (xs ys : List (ℕ × T)) → IsDistinct xs → IsDistinct ys → ((q : ℕ) (v : T) → find_in q xs ≡ Some v → IsFree q ys) → IsDistinct (xs ++ ys)
+  pub IsDistinct-append : (xs ys : List (ℕ × T)) → IsDistinct xs → IsDistinct ys →
+      ((q : ℕ) (v : T) → find_in q xs ≡ Some v → IsFree q ys) → IsDistinct (xs ++ ys)
   IsDistinct-append [] ys d e off = e
-  IsDistinct-append (x ∷ xs) ys d e off = (IsFree-append x.0 xs ys d.0 (off x.0 x.1 (rw (same_place x.0) refl)), IsDistinct-append xs ys d.1 e (λ q v is. go q v is (x.0 == q) refl)) where
+  IsDistinct-append (x ∷ xs) ys d e off = (
+    IsFree-append x.0 xs ys d.0 (off x.0 x.1 (rw (same_place x.0) refl)),
+    IsDistinct-append xs ys d.1 e (λ q v is. go q v is (x.0 == q) refl),
+  ) where
     go : (q : ℕ) (v : T) → find_in q xs ≡ Some v → (b : Bool) → (x.0 == q) ≡ b → IsFree q ys
     go q v is true t = off q x.1 (rw t refl)
     go q v is false t = off q v (rw t is)
@@ -130,32 +141,45 @@ module _ {T : Type 0} where
   pub find_in-append : (p : ℕ) (xs ys : List (ℕ × T)) → find_in p (xs ++ ys) ≡ or_else (find_in p xs) (find_in p ys)
   find_in-append p [] ys = refl
   find_in-append p (e ∷ es) ys = go (e.0 == p) (find_in-append p es ys) where
-    go : (b : Bool) → find_in p (es ++ ys) ≡ or_else (find_in p es) (find_in p ys) → cond b (Some e.1) (find_in p (es ++ ys)) ≡ or_else (cond b (Some e.1) (find_in p es)) (find_in p ys)
+    go : (b : Bool) → find_in p (es ++ ys) ≡ or_else (find_in p es) (find_in p ys) →
+        cond b (Some e.1) (find_in p (es ++ ys)) ≡ or_else (cond b (Some e.1) (find_in p es)) (find_in p ys)
     go true rec = refl
     go false rec = rec
 
-  pub find_in-snoc : (q p : ℕ) (v : T) (l : List (ℕ × T)) → find_in q (l ++ (p, v) ∷ []) ≡ or_else (find_in q l) (if p == q then Some v else None)
+  pub find_in-snoc : (q p : ℕ) (v : T) (l : List (ℕ × T)) → find_in q (l ++ (p, v) ∷ [])
+      ≡ or_else (find_in q l) (if p == q then Some v else None)
   find_in-snoc q p v l = find_in-append q l ((p, v) ∷ [])
 
-  pub drop_place-append_free : (p : ℕ) (xs ys : List (ℕ × T)) → IsFree p xs → drop_place p (xs ++ ys) ≡ xs ++ drop_place p ys
+  pub drop_place-append_free : (p : ℕ) (xs ys : List (ℕ × T)) → IsFree p xs → drop_place p (xs ++ ys) ≡ xs
+      ++ drop_place p ys
   drop_place-append_free p [] ys h = refl
-  drop_place-append_free p (e ∷ es) ys h = rw (other_place e.0 p h.0) (ap (λ r. e ∷ r) (drop_place-append_free p es ys h.1))
+  drop_place-append_free p (e ∷ es) ys h = rw (other_place e.0 p h.0)
+      (ap (λ r. e ∷ r) (drop_place-append_free p es ys h.1))
 
-  pub drop_place-append_found : (p : ℕ) (v : T) (xs ys : List (ℕ × T)) → find_in p xs ≡ Some v → drop_place p (xs ++ ys) ≡ drop_place p xs ++ ys
+  pub drop_place-append_found : (p : ℕ) (v : T) (xs ys : List (ℕ × T)) → find_in p xs ≡ Some v →
+      drop_place p (xs ++ ys) ≡ drop_place p xs ++ ys
   drop_place-append_found p v [] ys h = absurd cc
   drop_place-append_found p v (e ∷ es) ys h = go (e.0 == p) h (drop_place-append_found p v es ys) where
-    go : (b : Bool) → cond b (Some e.1) (find_in p es) ≡ Some v → (find_in p es ≡ Some v → drop_place p (es ++ ys) ≡ drop_place p es ++ ys) → cond b (es ++ ys) (e ∷ drop_place p (es ++ ys)) ≡ cond b es (e ∷ drop_place p es) ++ ys
+    go : (b : Bool) → cond b (Some e.1) (find_in p es) ≡ Some v →
+        (find_in p es ≡ Some v → drop_place p (es ++ ys) ≡ drop_place p es ++ ys) →
+        cond b (es ++ ys) (e ∷ drop_place p (es ++ ys)) ≡ cond b es (e ∷ drop_place p es) ++ ys
     go true h rec = refl
     go false h rec = ap (λ r. e ∷ r) (rec h)
 
-  pub with_value-append_free : (p : ℕ) (w : T) (xs ys : List (ℕ × T)) → IsFree p xs → with_value p w (xs ++ ys) ≡ xs ++ with_value p w ys
+  pub with_value-append_free : (p : ℕ) (w : T) (xs ys : List (ℕ × T)) → IsFree p xs → with_value p w (xs ++ ys) ≡ xs
+      ++ with_value p w ys
   with_value-append_free p w [] ys h = refl
-  with_value-append_free p w (e ∷ es) ys h = rw (other_place e.0 p h.0) (ap (λ r. e ∷ r) (with_value-append_free p w es ys h.1))
+  with_value-append_free p w (e ∷ es) ys h =
+      rw (other_place e.0 p h.0) (ap (λ r. e ∷ r) (with_value-append_free p w es ys h.1))
 
-  pub with_value-append_found : (p : ℕ) (v w : T) (xs ys : List (ℕ × T)) → find_in p xs ≡ Some v → with_value p w (xs ++ ys) ≡ with_value p w xs ++ ys
+  pub with_value-append_found : (p : ℕ) (v w : T) (xs ys : List (ℕ × T)) → find_in p xs ≡ Some v →
+      with_value p w (xs ++ ys) ≡ with_value p w xs ++ ys
   with_value-append_found p v w [] ys h = absurd cc
   with_value-append_found p v w (e ∷ es) ys h = go (e.0 == p) h (with_value-append_found p v w es ys) where
-    go : (b : Bool) → cond b (Some e.1) (find_in p es) ≡ Some v → (find_in p es ≡ Some v → with_value p w (es ++ ys) ≡ with_value p w es ++ ys) → cond b ((p, w) ∷ (es ++ ys)) (e ∷ with_value p w (es ++ ys)) ≡ cond b ((p, w) ∷ es) (e ∷ with_value p w es) ++ ys
+    go : (b : Bool) → cond b (Some e.1) (find_in p es) ≡ Some v →
+        (find_in p es ≡ Some v → with_value p w (es ++ ys) ≡ with_value p w es ++ ys) →
+        cond b ((p, w) ∷ (es ++ ys)) (e ∷ with_value p w (es ++ ys))
+        ≡ cond b ((p, w) ∷ es) (e ∷ with_value p w es) ++ ys
     go true h rec = refl
     go false h rec = ap (λ r. e ∷ r) (rec h)
 
@@ -184,72 +208,87 @@ module _ {T : Type 0} where
   pub find_in-drop_other : (q p : ℕ) (l : List (ℕ × T)) → p ≢ q → find_in q (drop_place p l) ≡ find_in q l
   find_in-drop_other q p [] ne = refl
   find_in-drop_other q p (e ∷ es) ne = go (e.0 == p) refl (find_in-drop_other q p es ne) where
-    go : (b : Bool) → (e.0 == p) ≡ b → find_in q (drop_place p es) ≡ find_in q es → find_in q (cond b es (e ∷ drop_place p es)) ≡ cond (e.0 == q) (Some e.1) (find_in q es)
+    go : (b : Bool) → (e.0 == p) ≡ b → find_in q (drop_place p es) ≡ find_in q es →
+        find_in q (cond b es (e ∷ drop_place p es)) ≡ cond (e.0 == q) (Some e.1) (find_in q es)
     go true is rec = let x : (e.0 == q) ≡ false = rw (place_is e.0 p is) (other_place p q ne) in rw x refl
     go false is rec = ap (cond (e.0 == q) (Some e.1)) rec
 
-  pub find_in-drop_place : (q p : ℕ) (l : List (ℕ × T)) → IsDistinct l → find_in q (drop_place p l) ≡ (if p == q then None else find_in q l)
+  pub find_in-drop_place : (q p : ℕ) (l : List (ℕ × T)) → IsDistinct l → find_in q (drop_place p l)
+      ≡ (if p == q then None else find_in q l)
   find_in-drop_place q p l d = go (p == q) refl where
     go : (b : Bool) → (p == q) ≡ b → find_in q (drop_place p l) ≡ cond b None (find_in q l)
     go true is = let e : p ≡ q = place_is p q is in rw (← e) (find_in-free p (drop_place p l) (dropped_is_free p l d))
     go false is = find_in-drop_other q p l (place_differs p q is)
 
-  pub length-drop_place : (p : ℕ) (v : T) (l : List (ℕ × T)) → find_in p l ≡ Some v → length (drop_place p l) + 1 ≡ length l
+  pub length-drop_place : (p : ℕ) (v : T) (l : List (ℕ × T)) → find_in p l ≡ Some v → length (drop_place p l) + 1
+      ≡ length l
   length-drop_place p v [] h = absurd cc
   length-drop_place p v (e ∷ es) h = go (e.0 == p) h (length-drop_place p v es) where
-    go : (b : Bool) → cond b (Some e.1) (find_in p es) ≡ Some v → (find_in p es ≡ Some v → length (drop_place p es) + 1 ≡ length es) → length (cond b es (e ∷ drop_place p es)) + 1 ≡ length (e ∷ es)
+    go : (b : Bool) → cond b (Some e.1) (find_in p es) ≡ Some v →
+        (find_in p es ≡ Some v → length (drop_place p es) + 1 ≡ length es) →
+        length (cond b es (e ∷ drop_place p es)) + 1 ≡ length (e ∷ es)
     go true h rec = omega arith
     go false h rec = omega (arith, rec h)
 
   -- with another value at a place
-  pub first_or-with_value : (p : ℕ) (w : T) (l : List (ℕ × T)) (d : Option ℕ) → first_or (with_value p w l) d ≡ first_or l d
+  pub first_or-with_value : (p : ℕ) (w : T) (l : List (ℕ × T)) (d : Option ℕ) → first_or (with_value p w l) d
+      ≡ first_or l d
   first_or-with_value p w [] d = refl
   first_or-with_value p w (e ∷ es) d = go (e.0 == p) refl where
     go : (b : Bool) → (e.0 == p) ≡ b → first_or (cond b ((p, w) ∷ es) (e ∷ with_value p w es)) d ≡ Some e.0
     go true is = ap Some (sym (place_is e.0 p is))
     go false is = refl
 
-  pub last_or-with_value : (p : ℕ) (w : T) (l : List (ℕ × T)) (d : Option ℕ) → last_or (with_value p w l) d ≡ last_or l d
+  pub last_or-with_value : (p : ℕ) (w : T) (l : List (ℕ × T)) (d : Option ℕ) → last_or (with_value p w l) d
+      ≡ last_or l d
   last_or-with_value p w [] d = refl
   last_or-with_value p w (e ∷ es) d = go (e.0 == p) refl (last_or-with_value p w es (Some e.0)) where
-    go : (b : Bool) → (e.0 == p) ≡ b → last_or (with_value p w es) (Some e.0) ≡ last_or es (Some e.0) → last_or (cond b ((p, w) ∷ es) (e ∷ with_value p w es)) d ≡ last_or es (Some e.0)
+    go : (b : Bool) → (e.0 == p) ≡ b → last_or (with_value p w es) (Some e.0) ≡ last_or es (Some e.0) →
+        last_or (cond b ((p, w) ∷ es) (e ∷ with_value p w es)) d ≡ last_or es (Some e.0)
     go true is rec = ap (λ (x : ℕ). last_or es (Some x)) (sym (place_is e.0 p is))
     go false is rec = rec
 
   pub IsFree-with_value : (q p : ℕ) (w : T) (l : List (ℕ × T)) → IsFree q l → IsFree q (with_value p w l)
   IsFree-with_value q p w [] h = tt
   IsFree-with_value q p w (e ∷ es) h = go (e.0 == p) refl (IsFree-with_value q p w es h.1) where
-    go : (b : Bool) → (e.0 == p) ≡ b → IsFree q (with_value p w es) → IsFree q (cond b ((p, w) ∷ es) (e ∷ with_value p w es))
+    go : (b : Bool) → (e.0 == p) ≡ b → IsFree q (with_value p w es) →
+        IsFree q (cond b ((p, w) ∷ es) (e ∷ with_value p w es))
     go true is rec = ((λ y. h.0 (place_is e.0 p is ∙ y)), h.1)
     go false is rec = (h.0, rec)
 
   pub IsDistinct-with_value : (p : ℕ) (w : T) (l : List (ℕ × T)) → IsDistinct l → IsDistinct (with_value p w l)
   IsDistinct-with_value p w [] d = tt
   IsDistinct-with_value p w (e ∷ es) d = go (e.0 == p) refl (IsDistinct-with_value p w es d.1) where
-    go : (b : Bool) → (e.0 == p) ≡ b → IsDistinct (with_value p w es) → IsDistinct (cond b ((p, w) ∷ es) (e ∷ with_value p w es))
+    go : (b : Bool) → (e.0 == p) ≡ b → IsDistinct (with_value p w es) →
+        IsDistinct (cond b ((p, w) ∷ es) (e ∷ with_value p w es))
     go true is rec = (let x : e.0 ≡ p = place_is e.0 p is in (rw (← x) d.0, d.1))
     go false is rec = (IsFree-with_value e.0 p w es d.0, rec)
 
   pub length-with_value : (p : ℕ) (w : T) (l : List (ℕ × T)) → length (with_value p w l) ≡ length l
   length-with_value p w [] = refl
   length-with_value p w (e ∷ es) = go (e.0 == p) (length-with_value p w es) where
-    go : (b : Bool) → length (with_value p w es) ≡ length es → length (cond b ((p, w) ∷ es) (e ∷ with_value p w es)) ≡ length (e ∷ es)
+    go : (b : Bool) → length (with_value p w es) ≡ length es → length (cond b ((p, w) ∷ es) (e ∷ with_value p w es))
+        ≡ length (e ∷ es)
     go true rec = refl
     go false rec = omega (arith, rec)
 
   pub find_in-with_other : (q p : ℕ) (w : T) (l : List (ℕ × T)) → p ≢ q → find_in q (with_value p w l) ≡ find_in q l
   find_in-with_other q p w [] ne = refl
   find_in-with_other q p w (e ∷ es) ne = go (e.0 == p) refl (find_in-with_other q p w es ne) where
-    go : (b : Bool) → (e.0 == p) ≡ b → find_in q (with_value p w es) ≡ find_in q es → find_in q (cond b ((p, w) ∷ es) (e ∷ with_value p w es)) ≡ cond (e.0 == q) (Some e.1) (find_in q es)
+    go : (b : Bool) → (e.0 == p) ≡ b → find_in q (with_value p w es) ≡ find_in q es →
+        find_in q (cond b ((p, w) ∷ es) (e ∷ with_value p w es)) ≡ cond (e.0 == q) (Some e.1) (find_in q es)
     go true is rec =
         let x : (p == q) ≡ false = other_place p q ne in
         let y : (e.0 == q) ≡ false = rw (place_is e.0 p is) x in
         rw (x, y) refl
     go false is rec = ap (cond (e.0 == q) (Some e.1)) rec
 
-  pub find_in-with_same : (p : ℕ) (v w : T) (l : List (ℕ × T)) → find_in p l ≡ Some v → find_in p (with_value p w l) ≡ Some w
+  pub find_in-with_same : (p : ℕ) (v w : T) (l : List (ℕ × T)) → find_in p l ≡ Some v → find_in p (with_value p w l)
+      ≡ Some w
   find_in-with_same p v w [] h = absurd cc
   find_in-with_same p v w (e ∷ es) h = go (e.0 == p) refl h (find_in-with_same p v w es) where
-    go : (b : Bool) → (e.0 == p) ≡ b → cond b (Some e.1) (find_in p es) ≡ Some v → (find_in p es ≡ Some v → find_in p (with_value p w es) ≡ Some w) → find_in p (cond b ((p, w) ∷ es) (e ∷ with_value p w es)) ≡ Some w
+    go : (b : Bool) → (e.0 == p) ≡ b → cond b (Some e.1) (find_in p es) ≡ Some v →
+        (find_in p es ≡ Some v → find_in p (with_value p w es) ≡ Some w) →
+        find_in p (cond b ((p, w) ∷ es) (e ∷ with_value p w es)) ≡ Some w
     go true is h rec = rw (same_place p) refl
     go false is h rec = rw is (rec h)

@@ -30,7 +30,8 @@ module _ {T : Type 0} where
       → moved e.0 0 (map (with_value e.0 w) (a ∷ (e ∷ es) ∷ c ∷ [])) ≡ (a ++ (e.0, w) ∷ []) ∷ es ∷ c ∷ []
   lowered a es c e w fa fc =
       let x : (e.0 == e.0) ≡ true = same_place e.0 in
-      rw (with_value-free e.0 w a fa, with_value-free e.0 w c fc, x) (rw (find_in-free e.0 a fa, x) (rw (drop_place-free e.0 a fa, drop_place-free e.0 c fc) refl))
+      rw (with_value-free e.0 w a fa, with_value-free e.0 w c fc, x)
+      (rw (find_in-free e.0 a fa, x) (rw (drop_place-free e.0 a fa, drop_place-free e.0 c fc) refl))
 
   -- the front of list 1, where a call of `front` has found it
   module _ (ls : List (List (ℕ × T))) (sound : AreLists 3 ls) (p : ℕ) (n : T) (e : ℕ × T) (es : List (ℕ × T))
@@ -42,10 +43,12 @@ module _ {T : Type 0} where
     in_one = rw (is, same_place e.0) refl
 
     off_zero : IsFree e.0 (list_at ls 0)
-    off_zero = sound.between 1 0 e.0 e.1 (omega (arith, sound.count)) (omega (arith, sound.count)) (λ h. omega arith) in_one
+    off_zero = sound.between 1 0 e.0 e.1 (omega (arith, sound.count)) (omega (arith, sound.count)) (λ h. omega arith)
+        in_one
 
     off_two : IsFree e.0 (list_at ls 2)
-    off_two = sound.between 1 2 e.0 e.1 (omega (arith, sound.count)) (omega (arith, sound.count)) (λ h. omega arith) in_one
+    off_two = sound.between 1 2 e.0 e.1 (omega (arith, sound.count)) (omega (arith, sound.count)) (λ h. omega arith)
+        in_one
 
     whole : ls ≡ list_at ls 0 ∷ (e ∷ es) ∷ list_at ls 2 ∷ []
     whole = three ls sound.count ∙ ap (λ (l : List (ℕ × T)). list_at ls 0 ∷ l ∷ list_at ls 2 ∷ []) is
@@ -57,5 +60,8 @@ module _ {T : Type 0} where
         let h : Some e.1 ≡ Some n = rw (find_in-free e.0 (list_at ls 0) off_zero, same_place e.0) at g in
         cc
 
-    pub lowers : (w : T) → moved p 0 (map (with_value p w) ls) ≡ (list_at ls 0 ++ (e.0, w) ∷ []) ∷ es ∷ list_at ls 2 ∷ []
-    lowers w = rw place-first (ap (λ (x : List (List (ℕ × T))). moved e.0 0 (map (with_value e.0 w) x)) whole ∙ lowered (list_at ls 0) es (list_at ls 2) e w off_zero off_two)
+    pub lowers : (w : T) → moved p 0 (map (with_value p w) ls)
+        ≡ (list_at ls 0 ++ (e.0, w) ∷ []) ∷ es ∷ list_at ls 2 ∷ []
+    lowers w = rw place-first
+        (ap (λ (x : List (List (ℕ × T))). moved e.0 0 (map (with_value e.0 w) x)) whole
+        ∙ lowered (list_at ls 0) es (list_at ls 2) e w off_zero off_two)

@@ -45,13 +45,27 @@ WasOver v w = (v.limit < weight_in v) × (length w.small + 1 ≤ length v.small)
 -- where small is still over its limit after a pop, it was before, and the pop took from it
 pub still-over : (v w : S3FifoView) (i : Item) → s3fifo_pop v ≡ Some (i, w) → w.limit < weight_in w → WasOver v w
 still-over v w i h over = go (is_over v) refl h where
-  some : v.limit < weight_in v → (r : List Entry) → from_rare v.setting.threshold v.small ≡ r → over_limit v r ≡ Some (i, w) → WasOver v w
-  some was [] is h = (let n = main-no_more (promoted v) w i h in let nothing : weight_in (promoted v) ≡ 0 = refl in absurd (omega (arith, over, n.1, nothing)))
+  some : v.limit < weight_in v → (r : List Entry) → from_rare v.setting.threshold v.small ≡ r → over_limit v r
+      ≡ Some (i, w) → WasOver v w
+  some was [] is h =
+      (let n = main-no_more (promoted v) w i h in let nothing : weight_in (promoted v) ≡ 0 = refl in
+      absurd (omega (arith, over, n.1, nothing)))
   some was (e ∷ es) is h =
-      let left : S3FifoView = record v { small = es; main = v.main ++ frequent_front v.setting.threshold v.small; ghost = ghost_push v.ghost e.item.hash e.item.weight } in
+      let left : S3FifoView = record v {
+        small = es;
+        main = v.main ++ frequent_front v.setting.threshold v.small;
+        ghost =
+            ghost_push v.ghost e.item.hash e.item.weight;
+      } in
       let same : ◌≡◌ {A = Item × S3FifoView} (e.item, left) (i, w) = cc in
-      subst (λ (x : Item × S3FifoView). WasOver v x.1) same (was, omega (arith, rare-length v.setting.threshold v.small, ap (λ (l : List Entry). length l) is))
+      subst (λ (x : Item × S3FifoView). WasOver v x.1) same
+      (was, omega (arith, rare-length v.setting.threshold v.small, ap (λ (l : List Entry). length l) is))
 
-  go : (b : Bool) → is_over v ≡ b → cond b (over_limit v (from_rare v.setting.threshold v.small)) (from_main v) ≡ Some (i, w) → WasOver v w
-  go true was h = (let o : v.limit < weight_in v = grind (arith, nat_tests) in some o (from_rare v.setting.threshold v.small) refl h)
-  go false was h = (let o : weight_in v ≤ v.limit = grind (arith, nat_tests) in let n = main-no_more v w i h in absurd (omega (arith, over, n.0, n.1, o)))
+  go : (b : Bool) → is_over v ≡ b → cond b (over_limit v (from_rare v.setting.threshold v.small)) (from_main v)
+      ≡ Some (i, w) → WasOver v w
+  go true was h =
+      (let o : v.limit < weight_in v = grind (arith, nat_tests) in
+      some o (from_rare v.setting.threshold v.small) refl h)
+  go false was h =
+      (let o : weight_in v ≤ v.limit = grind (arith, nat_tests) in let n = main-no_more v w i h in
+      absurd (omega (arith, over, n.0, n.1, o)))

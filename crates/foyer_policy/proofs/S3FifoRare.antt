@@ -16,19 +16,25 @@ module _ (t : ℕ) (l : List Entry) (e : Entry) (es : List Entry) (is : l ≡ e 
   rare-stops h = (let n : nat_le t e.frequency ≡ false = grind (arith, nat_tests) in ap (from_rare t) is ∙ rw n refl)
 
   pub front-stops : e.frequency < t → frequent_front t l ≡ []
-  front-stops h = (let n : nat_le t e.frequency ≡ false = grind (arith, nat_tests) in ap (frequent_front t) is ∙ rw n refl)
+  front-stops h =
+      (let n : nat_le t e.frequency ≡ false = grind (arith, nat_tests) in ap (frequent_front t) is ∙ rw n refl)
 
   pub rare-goes : t ≤ e.frequency → from_rare t l ≡ from_rare t es
   rare-goes h = (let n : nat_le t e.frequency ≡ true = grind (arith, nat_tests) in ap (from_rare t) is ∙ rw n refl)
 
   pub front-goes : t ≤ e.frequency → frequent_front t l ≡ e ∷ frequent_front t es
-  front-goes h = (let n : nat_le t e.frequency ≡ true = grind (arith, nat_tests) in ap (frequent_front t) is ∙ rw n refl)
+  front-goes h =
+      (let n : nat_le t e.frequency ≡ true = grind (arith, nat_tests) in ap (frequent_front t) is ∙ rw n refl)
 
-pub weight-head : (l : List Entry) (e : Entry) (es : List Entry) → l ≡ e ∷ es → weight_of (items l) ≡ e.item.weight + weight_of (items es)
-weight-head l e es is = ap (λ (x : List Entry). weight_of (items x)) is ∙ sum_by-cons (λ (i : Item). i.weight) e.item (items es)
+pub weight-head : (l : List Entry) (e : Entry) (es : List Entry) → l ≡ e ∷ es → weight_of (items l)
+    ≡ e.item.weight + weight_of (items es)
+weight-head l e es is = ap (λ (x : List Entry). weight_of (items x)) is
+    ∙ sum_by-cons (λ (i : Item). i.weight) e.item (items es)
 
 -- small is over its limit, and none of it is below the threshold: main gives, once all of small is there
-pub over-none : (v w : S3FifoView) (r : Option Item) → v.limit < weight_of (items v.small) → from_rare v.setting.threshold v.small ≡ [] → Gives (from_main (promoted v)) r (promoted v) w → Gives (s3fifo_pop v) r v w
+pub over-none : (v w : S3FifoView) (r : Option Item) → v.limit < weight_of (items v.small) →
+    from_rare v.setting.threshold v.small ≡ [] → Gives (from_main (promoted v)) r (promoted v) w →
+    Gives (s3fifo_pop v) r v w
 over-none v w (Some i) over rare h = (let e : is_over v ≡ true = grind (arith, nat_tests) in rw (e, rare) h)
 over-none v w None over rare h =
     let none = append-none v.main v.small (from_main-none (promoted v) h.0).0 in
@@ -39,12 +45,14 @@ pub pop_times-none : (n : ℕ) (v : S3FifoView) → s3fifo_pop v ≡ None → po
 pop_times-none zero v h = refl
 pop_times-none (suc n) v h = rw h refl
 
-pub pop_times-some : (v w : S3FifoView) (i : Item) → s3fifo_pop v ≡ Some (i, w) → pop_times s3fifo_pop (length v.small + length v.main) v ≡ pop_times s3fifo_pop (length w.small + length w.main) w
+pub pop_times-some : (v w : S3FifoView) (i : Item) → s3fifo_pop v ≡ Some (i, w) →
+    pop_times s3fifo_pop (length v.small + length v.main) v ≡ pop_times s3fifo_pop (length w.small + length w.main) w
 pop_times-some v w i h =
     let n : length v.small + length v.main ≡ suc (length w.small + length w.main) = pop-shorter v w i h ∙ omega arith in
     ap (λ (k : ℕ). pop_times s3fifo_pop k v) n ∙ rw h refl
 
 -- a pop that gave an item
-pub some-popped : (v w : S3FifoView) (o : Option Item) → is_some o ≡ true → Pops s3fifo v o w → (i : Item) × (s3fifo_pop v ≡ Some (i, w))
+pub some-popped : (v w : S3FifoView) (o : Option Item) → is_some o ≡ true → Pops s3fifo v o w → (i : Item)
+    × (s3fifo_pop v ≡ Some (i, w))
 some-popped v w None h p = absurd cc
 some-popped v w (Some i) h p = (i, p)

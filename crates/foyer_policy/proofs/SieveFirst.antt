@@ -17,11 +17,13 @@ all-first [] [] = refl
 
 turn-first : (before behind : List Entry) → victim_of (turn before behind) ≡ unvisited_or_first (behind ++ before)
 turn-first before behind = go (from_unvisited behind) refl where
-  inner : (r : List Entry) → from_unvisited behind ≡ [] → from_unvisited before ≡ r → victim_of (where_behind_visited before behind r) ≡ unvisited_or_first (behind ++ before)
+  inner : (r : List Entry) → from_unvisited behind ≡ [] → from_unvisited before ≡ r →
+      victim_of (where_behind_visited before behind r) ≡ unvisited_or_first (behind ++ before)
   inner [] none is = rw (unvisited-none behind before none ∙ is) (all-first before behind)
   inner (e ∷ es) none is = rw (unvisited-none behind before none ∙ is) refl
 
-  go : (r : List Entry) → from_unvisited behind ≡ r → victim_of (first_unvisited before behind r) ≡ unvisited_or_first (behind ++ before)
+  go : (r : List Entry) → from_unvisited behind ≡ r → victim_of (first_unvisited before behind r)
+      ≡ unvisited_or_first (behind ++ before)
   go [] is = inner (from_unvisited before) is refl
   go (e ∷ es) is = rw (unvisited-found behind before e es is) refl
 
@@ -35,6 +37,9 @@ gives-none : (o : Option Turn) → popped o ≡ None → ◌≡◌ {A = Option I
 gives-none None h = refl
 gives-none (Some t) h = absurd cc
 
-pub victim-first : (v w : SieveView) (found : Option Item) → Pops (sieve SieveConfig) v found w → found ≡ unvisited_or_first (rotation v)
-victim-first v w None h = gives-none (turn (before_hand v.hand v.queue) (from_hand v.hand v.queue)) h.0 ∙ turn-first (before_hand v.hand v.queue) (from_hand v.hand v.queue)
-victim-first v w (Some i) h = gives-victim (turn (before_hand v.hand v.queue) (from_hand v.hand v.queue)) w i h ∙ turn-first (before_hand v.hand v.queue) (from_hand v.hand v.queue)
+pub victim-first : (v w : SieveView) (found : Option Item) → Pops (sieve SieveConfig) v found w → found
+    ≡ unvisited_or_first (rotation v)
+victim-first v w None h = gives-none (turn (before_hand v.hand v.queue) (from_hand v.hand v.queue)) h.0
+    ∙ turn-first (before_hand v.hand v.queue) (from_hand v.hand v.queue)
+victim-first v w (Some i) h = gives-victim (turn (before_hand v.hand v.queue) (from_hand v.hand v.queue)) w i h
+    ∙ turn-first (before_hand v.hand v.queue) (from_hand v.hand v.queue)

@@ -21,7 +21,8 @@ bucket-below buckets hash zero h = mod_below hash buckets h
 bucket-below buckets hash (suc r) h = mod_below (mixed hash (suc r) / 2 ^ 32) buckets h
 
 -- each row has a counter for each bucket
-pub row-length : (rows buckets r : ℕ) (counters : List ℕ) → length counters ≡ rows * buckets → r < rows → length (get_or (first_chunks buckets rows counters) r []) ≡ buckets
+pub row-length : (rows buckets r : ℕ) (counters : List ℕ) → length counters ≡ rows * buckets → r < rows →
+    length (get_or (first_chunks buckets rows counters) r []) ≡ buckets
 row-length rows buckets r counters n h =
     let up : suc r * buckets ≤ rows * buckets = mul-le-mul_right buckets h in
     let split : suc r * buckets ≡ buckets + r * buckets = omega arith in
@@ -32,7 +33,8 @@ abbrev pub counted_on : ℕ → ℕ → ℕ → List (List ℕ) → List (List �
 counted_on buckets hash k rows = take k rows ++ counted buckets hash k (drop k rows)
 
 counted_on-row : (buckets hash k : ℕ) (rows : List (List ℕ)) → k < length rows
-    → counted_on buckets hash (suc k) (set rows k (counted_at (bucket buckets hash k) (get_or rows k []))) ≡ counted_on buckets hash k rows
+    → counted_on buckets hash (suc k) (set rows k (counted_at (bucket buckets hash k) (get_or rows k [])))
+    ≡ counted_on buckets hash k rows
 counted_on-row buckets hash k rows h =
     let row = counted_at (bucket buckets hash k) (get_or rows k []) in
     rw (take-suc-set rows k row h, drop-set-lt (suc k) rows k row (omega arith), append_assoc)
@@ -49,7 +51,8 @@ counted_on-next rows buckets hash k n counters some h is =
     let all = first_chunks buckets rows counters in
     let there : k < length all = omega (arith, length-first_chunks buckets rows counters) in
     let e : k + 1 ≡ suc k = omega arith in
-    let same : n ≡ one_more (get_or (get_or all k []) b 0) = is ∙ ap one_more (sym (get_or-in_chunk buckets rows k b counters 0 h below)) in
+    let same : n ≡ one_more (get_or (get_or all k []) b 0) = is
+    ∙ ap one_more (sym (get_or-in_chunk buckets rows k b counters 0 h below)) in
     rw (e, first_chunks-set buckets rows k b n counters h below, same) (counted_on-row buckets hash k all there)
 
 -- the least of what was seen and of the counters from row k on
@@ -57,20 +60,24 @@ abbrev pub least_on : ℕ → ℕ → ℕ → ℕ → List (List ℕ) → ℕ
 least_on buckets hash k seen rows = min seen (least (counters_of buckets hash k (drop k rows)))
 
 pub least_on-next : (buckets hash k seen : ℕ) (rows : List (List ℕ)) → k < length rows
-    → least_on buckets hash (k + 1) (min seen (get_or (get_or rows k []) (bucket buckets hash k) 0)) rows ≡ least_on buckets hash k seen rows
+    → least_on buckets hash (k + 1) (min seen (get_or (get_or rows k []) (bucket buckets hash k) 0)) rows
+    ≡ least_on buckets hash k seen rows
 least_on-next buckets hash k seen rows h =
     let e : k + 1 ≡ suc k = omega arith in
     let split : drop k rows ≡ get_or rows k [] ∷ drop (suc k) rows = drop-cons rows k [] h in
     rw (e, split) (omega arith)
 
 -- no row is left
-pub counted_on-end : (buckets hash k : ℕ) (rows : List (List ℕ)) → length rows ≤ k → counted_on buckets hash k rows ≡ rows
+pub counted_on-end : (buckets hash k : ℕ) (rows : List (List ℕ)) → length rows ≤ k → counted_on buckets hash k rows
+    ≡ rows
 counted_on-end buckets hash k rows h = rw (take_all k rows h, drop_all k rows h) (append-nil rows)
 
-pub least_on-end : (buckets hash k seen : ℕ) (rows : List (List ℕ)) → length rows ≤ k → seen ≤ greatest → least_on buckets hash k seen rows ≡ seen
+pub least_on-end : (buckets hash k seen : ℕ) (rows : List (List ℕ)) → length rows ≤ k → seen ≤ greatest →
+    least_on buckets hash k seen rows ≡ seen
 least_on-end buckets hash k seen rows h le = rw (drop_all k rows h) (omega arith)
 
-pub least_on-start : (buckets hash : ℕ) (rows : List (List ℕ)) → least_on buckets hash 0 greatest rows ≡ least (counters_of buckets hash 0 rows)
+pub least_on-start : (buckets hash : ℕ) (rows : List (List ℕ)) → least_on buckets hash 0 greatest rows
+    ≡ least (counters_of buckets hash 0 rows)
 least_on-start buckets hash rows = (let e = least-le (counters_of buckets hash 0 rows) in omega arith) where
   least-le : (ns : List ℕ) → least ns ≤ greatest
   least-le [] = omega arith

@@ -18,7 +18,8 @@ module _ {T : Type 0} (item : T → Item) where
   pub walk-start : (before : List Item) (all : List (ℕ × T)) → Walk before all (first_or all None) before
   walk-start before all = record { done = []; todo = all; parts = refl; here = refl; told = sym (append-nil before) }
 
-  pub walk-end : (before : List Item) (all : List (ℕ × T)) (met : List Item) → Walk before all None met → met ≡ before ++ items item all
+  pub walk-end : (before : List Item) (all : List (ℕ × T)) (met : List Item) → Walk before all None met → met ≡ before
+      ++ items item all
   walk-end before all met w = go w.todo w.here w.parts where
     go : (todo : List (ℕ × T)) → None ≡ first_or todo None → all ≡ w.done ++ todo → met ≡ before ++ items item all
     go [] h parts = w.told ∙ ap (λ (l : List (ℕ × T)). before ++ items item l) (sym (append-nil w.done) ∙ sym parts)
@@ -33,7 +34,8 @@ module _ {T : Type 0} (item : T → Item) where
     pub told : met ≡ before ++ items item done
     pub found : find_in p all ≡ Some value
 
-  pub walk-stop : (before : List Item) (all : List (ℕ × T)) (p : ℕ) (met : List Item) → IsDistinct all → Walk before all (Some p) met → Stop before all p met
+  pub walk-stop : (before : List Item) (all : List (ℕ × T)) (p : ℕ) (met : List Item) → IsDistinct all →
+      Walk before all (Some p) met → Stop before all p met
   walk-stop before all p met distinct w = go w.todo w.here w.parts where
     go : (todo : List (ℕ × T)) → Some p ≡ first_or todo None → all ≡ w.done ++ todo → Stop before all p met
     go [] h parts = absurd cc
@@ -50,12 +52,22 @@ module _ {T : Type 0} (item : T → Item) where
           found = ap (find_in p) whole ∙ find_in-mid p x.1 w.done xs free.0;
         }
 
-  pub walk-within : (before : List Item) (all : List (ℕ × T)) (p : ℕ) (met : List Item) → Stop before all p met → length met < length before + length all
+  pub walk-within : (before : List Item) (all : List (ℕ × T)) (p : ℕ) (met : List Item) → Stop before all p met →
+      length met < length before + length all
   walk-within before all p met s =
-      omega (arith, ap length s.told, length-append before (items item s.done), length-map s.done (λ (e : ℕ × T). item e.1), ap length s.parts, length-append s.done ((p, s.value) ∷ s.todo))
+      omega (
+        arith,
+        ap length s.told,
+        length-append before (items item s.done),
+        length-map s.done (λ (e : ℕ × T). item e.1),
+        ap length s.parts,
+        length-append s.done ((p, s.value) ∷ s.todo),
+      )
 
-  pub walk-on : (before : List Item) (all : List (ℕ × T)) (p : ℕ) (next : Option ℕ) (met : List Item) (v : T) → Stop before all p met → find_in p all ≡ Some v
-      → ((xs ys : List (ℕ × T)) (v : T) → all ≡ xs ++ (p, v) ∷ ys → next ≡ first_or ys None) → Walk before all next (met ++ item v ∷ [])
+  pub walk-on : (before : List Item) (all : List (ℕ × T)) (p : ℕ) (next : Option ℕ) (met : List Item) (v : T) →
+      Stop before all p met → find_in p all ≡ Some v
+      → ((xs ys : List (ℕ × T)) (v : T) → all ≡ xs ++ (p, v) ∷ ys → next ≡ first_or ys None) →
+      Walk before all next (met ++ item v ∷ [])
   walk-on before all p next met v s found after =
       let same : v ≡ s.value = (let e : Some v ≡ Some s.value = sym found ∙ s.found in cc) in
       record {
@@ -65,5 +77,7 @@ module _ {T : Type 0} (item : T → Item) where
         here = after s.done s.todo s.value s.parts;
         told =
             ap (λ (l : List Item). l ++ item v ∷ []) s.told ∙ append_assoc before (items item s.done) (item v ∷ [])
-            ∙ ap (λ (l : List Item). before ++ l) (ap (λ (x : T). items item s.done ++ item x ∷ []) same ∙ sym (map-append (λ (e : ℕ × T). item e.1) s.done ((p, s.value) ∷ [])));
+            ∙ ap (λ (l : List Item). before ++ l)
+            (ap (λ (x : T). items item s.done ++ item x ∷ []) same
+            ∙ sym (map-append (λ (e : ℕ × T). item e.1) s.done ((p, s.value) ∷ [])));
       }

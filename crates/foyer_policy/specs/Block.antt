@@ -63,11 +63,13 @@ module _ (L T : RattleType) where
   FitsBlock n = (n * node_size < 2 ^ 63) × (n < 2 ^ 63)
 
   abbrev pub nodes_own : Ptr → List (Option L.Denot) → List (Option T.Denot) → Fml
-  nodes_own (block_ptr b o) ls vs = fsep (column_own L node_size b (o + links_offset) ls) (column_own T node_size b (o + value_offset) vs)
+  nodes_own (block_ptr b o) ls vs = fsep (column_own L node_size b (o + links_offset) ls)
+      (column_own T node_size b (o + value_offset) vs)
   nodes_own null_ptr ls vs = ffalse
 
   abbrev pub nodes_lent : Ptr → List (Option L.Denot) → List (Option T.Denot) → Lft → Fml
-  nodes_lent (block_ptr b o) ls vs = beside (column_shared L node_size b (o + links_offset) ls) (column_shared T node_size b (o + value_offset) vs)
+  nodes_lent (block_ptr b o) ls vs = beside (column_shared L node_size b (o + links_offset) ls)
+      (column_shared T node_size b (o + value_offset) vs)
   nodes_lent null_ptr ls vs = said ffalse
 
   -- room for n nodes
@@ -76,7 +78,8 @@ module _ (L T : RattleType) where
 
   -- n nodes with neither links nor values
   abbrev pub blank_nodes : Ptr → ℕ → Fml
-  blank_nodes (block_ptr b o) n = fsep (column L node_size b (o + links_offset) (replicate n None)) (column T node_size b (o + value_offset) (replicate n None))
+  blank_nodes (block_ptr b o) n = fsep (column L node_size b (o + links_offset) (replicate n None))
+      (column T node_size b (o + value_offset) (replicate n None))
   blank_nodes null_ptr n = ffalse
 
   -- n empty nodes make the whole block

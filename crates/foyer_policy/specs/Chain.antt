@@ -29,7 +29,8 @@ module _ {T : Type 0} where
   abbrev pub IsChain : (ℕ → Option (Node T)) → ℕ → Option ℕ → List (ℕ × T) → Option ℕ → Type 0
   IsChain f k before [] after = Unit {0}
   IsChain f k before (e ∷ es) after =
-      (f e.0 ≡ Some (record { value = e.1; list = k; before = before; after = first_or es after })) × IsChain f k (Some e.0) es after
+      (f e.0 ≡ Some (record { value = e.1; list = k; before = before; after = first_or es after }))
+      × IsChain f k (Some e.0) es after
 
   -- the list k, with its head and its tail
   pub record IsList (f : ℕ → Option (Node T)) (k : ℕ) (front back : Option ℕ) (l : List (ℕ × T)) : Type 0 where
@@ -41,7 +42,8 @@ module _ {T : Type 0} where
   pub record Linked (f : ℕ → Option (Node T)) (heads tails : List (Option ℕ)) (ls : List (List (ℕ × T))) : Type 0 where
     pub heads_len : length heads ≡ length ls
     pub tails_len : length tails ≡ length ls
-    pub each : (k : ℕ) → k < length ls → IsList f k (slice_index_or heads k None) (slice_index_or tails k None) (list_at ls k)
+    pub each : (k : ℕ) → k < length ls → IsList f k (slice_index_or heads k None) (slice_index_or tails k None)
+        (list_at ls k)
     pub distinct : (k : ℕ) → k < length ls → IsDistinct (list_at ls k)
 
   -- and there are no other nodes

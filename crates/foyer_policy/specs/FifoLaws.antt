@@ -8,7 +8,8 @@ use Rattle.foyer_policy.specs.declared.types.Item.{Item}
 
 take_first-is : (v w : List Item) (i : Item) → take_first v ≡ Some (i, w) → v ≡ i ∷ w
 take_first-is [] w i h = absurd cc
-take_first-is (x ∷ xs) w i h = (let e : ◌≡◌ {A = Item × List Item} (x, xs) (i, w) = cc in ap (λ (p : Item × List Item). p.0 ∷ p.1) e)
+take_first-is (x ∷ xs) w i h =
+    (let e : ◌≡◌ {A = Item × List Item} (x, xs) (i, w) = cc in ap (λ (p : Item × List Item). p.0 ∷ p.1) e)
 
 take_first-none : (v : List Item) → take_first v ≡ None → IsWithin v []
 take_first-none [] h = λ f. omega arith

@@ -47,7 +47,8 @@ ghost_push g hash weight = if g.capacity == 0 then g else with_pair hash weight 
 
 -- what an update and a push keep of the pairs is the longest tail within a weight
 abbrev pub LongestTailsAreKept : Type 0
-LongestTailsAreKept = (most : ℕ) (g : Ghost) → IsLongestTail pair_weight most (over pair_weight most g.pairs) (shrunk most g).pairs g.pairs
+LongestTailsAreKept = (most : ℕ) (g : Ghost) →
+    IsLongestTail pair_weight most (over pair_weight most g.pairs) (shrunk most g).pairs g.pairs
 
 abbrev pub with_capacity : Ghost → ℕ → Ghost
 with_capacity g capacity = record { pairs = g.pairs; hashes = g.hashes; capacity = capacity }

@@ -17,4 +17,5 @@ no_digits = record { sum = 0; place = 1 }
 
 -- after these bytes
 abbrev pub with_bytes : Digits → List ℕ → Digits
-with_bytes d bytes = record { sum = (d.sum + d.place * number_of_bytes bytes) % 2 ^ 64; place = (d.place * 256 ^ length bytes) % 2 ^ 64 }
+with_bytes d bytes =
+    record { sum = (d.sum + d.place * number_of_bytes bytes) % 2 ^ 64; place = (d.place * 256 ^ length bytes) % 2 ^ 64 }

@@ -26,11 +26,13 @@ pub record LfuView : Type 0 where
 
 -- the two ratios must leave something to probation
 abbrev pub sum_fault : Ratio → Ratio → Option Reason
-sum_fault window protected = if nat_lt (window.num * protected.den + protected.num * window.den) (window.den * protected.den) then None else Some RatioSum
+sum_fault window protected = if nat_lt (window.num * protected.den + protected.num * window.den)
+    (window.den * protected.den) then None else Some RatioSum
 
 -- the first fault of the two ratios: each alone, and then their sum
 abbrev pub ratios_fault : Ratio → Ratio → Option Reason
-ratios_fault window protected = or_else (ratio_fault Open Window window) (or_else (ratio_fault Open Protected protected) (sum_fault window protected))
+ratios_fault window protected = or_else (ratio_fault Open Window window)
+    (or_else (ratio_fault Open Protected protected) (sum_fault window protected))
 
 -- the first fault of the sketch's size, in the order of the configuration's fields
 abbrev pub buckets_fault : ℕ → ℕ → Option Reason
@@ -38,7 +40,8 @@ buckets_fault buckets hashes = if buckets == 0 then Some NoBuckets else if hashe
 
 -- the first fault of a configuration, in the order of its fields
 abbrev pub config_fault : LfuConfig → Option Reason
-config_fault c = or_else (ratios_fault c.window_capacity_ratio c.protected_capacity_ratio) (buckets_fault c.cmsketch_buckets c.cmsketch_hashes)
+config_fault c = or_else (ratios_fault c.window_capacity_ratio c.protected_capacity_ratio)
+    (buckets_fault c.cmsketch_buckets c.cmsketch_hashes)
 
 -- the window keeps its longest tail within its limit; what stands before that goes to the end of probation
 abbrev pub settle_window : LfuView → LfuView
@@ -62,7 +65,8 @@ seen v hash = record v { sketch = counting hash v.sketch }
 -- protected, which then settles
 abbrev pub used : LfuView → ℕ → Option Item → Option Item → Option Item → LfuView
 used v id (Some i) _ _ = seen (record v { window = remove_id id v.window ++ i ∷ [] }) i.hash
-used v id None (Some i) _ = settle_protected (seen (record v { probation = remove_id id v.probation; protected = v.protected ++ i ∷ [] }) i.hash)
+used v id None (Some i) _ = settle_protected
+    (seen (record v { probation = remove_id id v.probation; protected = v.protected ++ i ∷ [] }) i.hash)
 used v id None None (Some i) = seen (record v { protected = remove_id id v.protected ++ i ∷ [] }) i.hash
 used v id None None None = v
 

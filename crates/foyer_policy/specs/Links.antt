@@ -14,5 +14,6 @@ with_place o = record { place = unwrap_or o 18446744073709551615 }
 pub with_place-place_of : (l : Inside) → with_place (place_of l) ≡ l
 with_place-place_of l = go (l.place == 18446744073709551615) refl where
   go : (b : Bool) → (l.place == 18446744073709551615) ≡ b → with_place (if b then None else Some l.place) ≡ l
-  go true is = let here : l.place ≡ 18446744073709551615 = grind (arith, nat_tests) in ap (λ (n : ℕ). record { place = n }) (sym here)
+  go true is = let here : l.place ≡ 18446744073709551615 = grind (arith, nat_tests) in
+      ap (λ (n : ℕ). record { place = n }) (sym here)
   go false is = refl

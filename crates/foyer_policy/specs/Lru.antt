@@ -63,8 +63,10 @@ first_of v [] [] = None
 
 -- an item that was found in `low`, or else in `high`, goes to the end of `pin` with its bit
 abbrev pub pin_found : LruView → ℕ → Option Item → Option Item → LruView
-pin_found v id (Some i) _ = record v { low = remove_id id v.low; pin = v.pin ++ record { item = i; is_high = false } ∷ [] }
-pin_found v id None (Some i) = record v { high = remove_id id v.high; pin = v.pin ++ record { item = i; is_high = true } ∷ [] }
+pin_found v id (Some i) _ = record v
+    { low = remove_id id v.low; pin = v.pin ++ record { item = i; is_high = false } ∷ [] }
+pin_found v id None (Some i) = record v
+    { high = remove_id id v.high; pin = v.pin ++ record { item = i; is_high = true } ∷ [] }
 pin_found v id None None = v
 
 -- an item that was found in `pin` goes to the end of its list, by its bit
@@ -96,7 +98,8 @@ with_limits v l = record v { limit = l.limit; ratio = l.ratio }
 abbrev pub no_items : Limits → LruView
 no_items l = record { low = []; high = []; pin = []; limit = l.limit; ratio = l.ratio }
 
--- Three lists; pops come from `low`, then from `high`. Each call that puts an item somewhere, or sets the limit, settles.
+-- Three lists; pops come from `low`, then from `high`. Each call that puts an item somewhere, or sets the limit,
+-- settles.
 abbrev pub lru : Policy LruView LruConfig
 lru = record {
   fault = λ c. ratio_fault Closed HighPriorityPool c.high_priority_pool_ratio;

@@ -10,18 +10,23 @@ use Rattle.foyer_policy.specs.declared.types.Item.{Item}
 use Rattle.foyer_policy.specs.ItemLaws.{one_if, found-id, sum-remove_id}
 
 -- what is found, and then the rest, is the list in another order
-pub IsPermutation-remove_id : (id : ℕ) (i : Item) (l : List Item) → find_id id l ≡ Some i → IsPermutation l (i ∷ remove_id id l)
+pub IsPermutation-remove_id : (id : ℕ) (i : Item) (l : List Item) → find_id id l ≡ Some i →
+    IsPermutation l (i ∷ remove_id id l)
 IsPermutation-remove_id id i [] h = absurd cc
 IsPermutation-remove_id id i (x ∷ xs) h = go (x.id == id) h (IsPermutation-remove_id id i xs) where
-  go : (b : Bool) → cond b (Some x) (find_id id xs) ≡ Some i → (find_id id xs ≡ Some i → IsPermutation xs (i ∷ remove_id id xs)) → IsPermutation (x ∷ xs) (i ∷ cond b xs (x ∷ remove_id id xs))
+  go : (b : Bool) → cond b (Some x) (find_id id xs) ≡ Some i →
+      (find_id id xs ≡ Some i → IsPermutation xs (i ∷ remove_id id xs)) →
+      IsPermutation (x ∷ xs) (i ∷ cond b xs (x ∷ remove_id id xs))
   go true h rec = (let same : x ≡ i = cc in rw same (IsPermutation-refl (i ∷ xs)))
-  go false h rec = IsPermutation-trans (x ∷ xs) (x ∷ i ∷ remove_id id xs) (i ∷ x ∷ remove_id id xs) (IsPermutation-cons x xs (i ∷ remove_id id xs) (rec h)) (IsPermutation-middle (x ∷ []) i (remove_id id xs))
+  go false h rec = IsPermutation-trans (x ∷ xs) (x ∷ i ∷ remove_id id xs) (i ∷ x ∷ remove_id id xs)
+      (IsPermutation-cons x xs (i ∷ remove_id id xs) (rec h)) (IsPermutation-middle (x ∷ []) i (remove_id id xs))
 
 -- a list stays where the id is not found
 pub remove_id-none : (id : ℕ) (l : List Item) → find_id id l ≡ None → remove_id id l ≡ l
 remove_id-none id [] h = refl
 remove_id-none id (x ∷ xs) h = go (x.id == id) h (remove_id-none id xs) where
-  go : (b : Bool) → cond b (Some x) (find_id id xs) ≡ None → (find_id id xs ≡ None → remove_id id xs ≡ xs) → cond b xs (x ∷ remove_id id xs) ≡ x ∷ xs
+  go : (b : Bool) → cond b (Some x) (find_id id xs) ≡ None → (find_id id xs ≡ None → remove_id id xs ≡ xs) →
+      cond b xs (x ∷ remove_id id xs) ≡ x ∷ xs
   go true h rec = absurd cc
   go false h rec = ap (λ r. x ∷ r) (rec h)
 
@@ -29,14 +34,18 @@ remove_id-none id (x ∷ xs) h = go (x.id == id) h (remove_id-none id xs) where
 pub find_id-front : (id : ℕ) (i : Item) (xs ys : List Item) → find_id id xs ≡ Some i → find_id id (xs ++ ys) ≡ Some i
 find_id-front id i [] ys h = absurd cc
 find_id-front id i (x ∷ xs) ys h = go (x.id == id) h (find_id-front id i xs ys) where
-  go : (b : Bool) → cond b (Some x) (find_id id xs) ≡ Some i → (find_id id xs ≡ Some i → find_id id (xs ++ ys) ≡ Some i) → cond b (Some x) (find_id id (xs ++ ys)) ≡ Some i
+  go : (b : Bool) → cond b (Some x) (find_id id xs) ≡ Some i →
+      (find_id id xs ≡ Some i → find_id id (xs ++ ys) ≡ Some i) → cond b (Some x) (find_id id (xs ++ ys)) ≡ Some i
   go true h rec = h
   go false h rec = rec h
 
-pub remove_id-front : (id : ℕ) (i : Item) (xs ys : List Item) → find_id id xs ≡ Some i → remove_id id (xs ++ ys) ≡ remove_id id xs ++ ys
+pub remove_id-front : (id : ℕ) (i : Item) (xs ys : List Item) → find_id id xs ≡ Some i → remove_id id (xs ++ ys)
+    ≡ remove_id id xs ++ ys
 remove_id-front id i [] ys h = absurd cc
 remove_id-front id i (x ∷ xs) ys h = go (x.id == id) h (remove_id-front id i xs ys) where
-  go : (b : Bool) → cond b (Some x) (find_id id xs) ≡ Some i → (find_id id xs ≡ Some i → remove_id id (xs ++ ys) ≡ remove_id id xs ++ ys) → cond b (xs ++ ys) (x ∷ remove_id id (xs ++ ys)) ≡ cond b xs (x ∷ remove_id id xs) ++ ys
+  go : (b : Bool) → cond b (Some x) (find_id id xs) ≡ Some i →
+      (find_id id xs ≡ Some i → remove_id id (xs ++ ys) ≡ remove_id id xs ++ ys) →
+      cond b (xs ++ ys) (x ∷ remove_id id (xs ++ ys)) ≡ cond b xs (x ∷ remove_id id xs) ++ ys
   go true h rec = refl
   go false h rec = ap (λ r. x ∷ r) (rec h)
 
@@ -44,14 +53,19 @@ remove_id-front id i (x ∷ xs) ys h = go (x.id == id) h (remove_id-front id i x
 pub find_id-back : (id : ℕ) (xs ys : List Item) → find_id id xs ≡ None → find_id id (xs ++ ys) ≡ find_id id ys
 find_id-back id [] ys h = refl
 find_id-back id (x ∷ xs) ys h = go (x.id == id) h (find_id-back id xs ys) where
-  go : (b : Bool) → cond b (Some x) (find_id id xs) ≡ None → (find_id id xs ≡ None → find_id id (xs ++ ys) ≡ find_id id ys) → cond b (Some x) (find_id id (xs ++ ys)) ≡ find_id id ys
+  go : (b : Bool) → cond b (Some x) (find_id id xs) ≡ None →
+      (find_id id xs ≡ None → find_id id (xs ++ ys) ≡ find_id id ys) → cond b (Some x) (find_id id (xs ++ ys))
+      ≡ find_id id ys
   go true h rec = absurd cc
   go false h rec = rec h
 
-pub remove_id-back : (id : ℕ) (xs ys : List Item) → find_id id xs ≡ None → remove_id id (xs ++ ys) ≡ xs ++ remove_id id ys
+pub remove_id-back : (id : ℕ) (xs ys : List Item) → find_id id xs ≡ None → remove_id id (xs ++ ys) ≡ xs
+    ++ remove_id id ys
 remove_id-back id [] ys h = refl
 remove_id-back id (x ∷ xs) ys h = go (x.id == id) h (remove_id-back id xs ys) where
-  go : (b : Bool) → cond b (Some x) (find_id id xs) ≡ None → (find_id id xs ≡ None → remove_id id (xs ++ ys) ≡ xs ++ remove_id id ys) → cond b (xs ++ ys) (x ∷ remove_id id (xs ++ ys)) ≡ (x ∷ xs) ++ remove_id id ys
+  go : (b : Bool) → cond b (Some x) (find_id id xs) ≡ None →
+      (find_id id xs ≡ None → remove_id id (xs ++ ys) ≡ xs ++ remove_id id ys) →
+      cond b (xs ++ ys) (x ∷ remove_id id (xs ++ ys)) ≡ (x ∷ xs) ++ remove_id id ys
   go true h rec = absurd cc
   go false h rec = ap (λ r. x ∷ r) (rec h)
 
@@ -63,13 +77,17 @@ found-counted id i l h =
     omega (arith, sum-remove_id (one_if id) id i l h)
 
 -- where ids stand once, an id is found in one part alone
-pub find_id-one_part : (id : ℕ) (i : Item) (xs ys : List Item) → HasIdsOnce (xs ++ ys) → find_id id xs ≡ Some i → find_id id ys ≡ None
+pub find_id-one_part : (id : ℕ) (i : Item) (xs ys : List Item) → HasIdsOnce (xs ++ ys) → find_id id xs ≡ Some i →
+    find_id id ys ≡ None
 find_id-one_part id i xs ys once h = go (find_id id ys) refl where
   go : (o : Option Item) → find_id id ys ≡ o → o ≡ None
   go None is = refl
-  go (Some j) is = absurd (omega (arith, sum_by-append (one_if id) xs ys, found-counted id i xs h, found-counted id j ys is, once id))
+  go (Some j) is =
+      absurd (omega
+      (arith, sum_by-append (one_if id) xs ys, found-counted id i xs h, found-counted id j ys is, once id))
 
-pub find_id-other_part : (id : ℕ) (i : Item) (xs ys : List Item) → HasIdsOnce (xs ++ ys) → find_id id ys ≡ Some i → find_id id xs ≡ None
+pub find_id-other_part : (id : ℕ) (i : Item) (xs ys : List Item) → HasIdsOnce (xs ++ ys) → find_id id ys ≡ Some i →
+    find_id id xs ≡ None
 find_id-other_part id i xs ys once h = go (find_id id xs) refl where
   go : (o : Option Item) → find_id id xs ≡ o → o ≡ None
   go None is = refl

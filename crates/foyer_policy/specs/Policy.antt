@@ -134,10 +134,12 @@ module _ {V C : Type 0} (m : Policy V C) where
     pub acquire_credit : (v : V) (id : ℕ) → m.credit (m.acquire v id) ≤ m.credit v + 1
     -- release rearranges and unpins its item alone
     pub release_order : (v : V) (id : ℕ) → HasIdsOnce (m.order v) → IsPermutation (m.order v) (m.order (m.release v id))
-    pub release_pinned : (v : V) (id : ℕ) → HasIdsOnce (m.order v) → m.pinned (m.release v id) ≡ remove_id id (m.pinned v)
+    pub release_pinned : (v : V) (id : ℕ) → HasIdsOnce (m.order v) → m.pinned (m.release v id)
+        ≡ remove_id id (m.pinned v)
     pub release_credit : (v : V) (id : ℕ) → m.credit (m.release v id) ≤ m.credit v
     -- update rearranges
-    pub update_order : (v : V) (capacity : ℕ) (config : Option C) → HasIdsOnce (m.order v) → IsPermutation (m.order v) (m.order (m.update v capacity config))
+    pub update_order : (v : V) (capacity : ℕ) (config : Option C) → HasIdsOnce (m.order v) →
+        IsPermutation (m.order v) (m.order (m.update v capacity config))
     pub update_pinned : (v : V) (capacity : ℕ) (config : Option C) → m.pinned (m.update v capacity config) ≡ m.pinned v
     pub update_credit : (v : V) (capacity : ℕ) (config : Option C) → m.credit (m.update v capacity config) ≤ m.credit v
     -- clear is pop until none, and then a remove of each item that is left, which is pinned

@@ -55,7 +55,8 @@ abbrev pub denominator_fault : Ratio → Option Reason
 denominator_fault ratio = if ratio.den == 0 then Some ZeroDenominator else None
 
 abbrev pub s3fifo_fault : S3FifoConfig → Option Reason
-s3fifo_fault c = or_else (ratio_fault Open SmallQueue c.small_queue_capacity_ratio) (denominator_fault c.ghost_queue_capacity_ratio)
+s3fifo_fault c = or_else (ratio_fault Open SmallQueue c.small_queue_capacity_ratio)
+    (denominator_fault c.ghost_queue_capacity_ratio)
 
 -- the entries at the front whose frequency reaches a threshold
 abbrev pub frequent_front : ℕ → List Entry → List Entry
@@ -162,7 +163,8 @@ remove_entry id (e ∷ es) = if e.item.id == id then es else e ∷ remove_entry 
 -- the list with 1 added to the frequency of the first item of this id, up to 3
 abbrev pub use_entry : ℕ → List Entry → List Entry
 use_entry id [] = []
-use_entry id (e ∷ es) = if e.item.id == id then record { item = e.item; frequency = min (e.frequency + 1) 3 } ∷ es else e ∷ use_entry id es
+use_entry id (e ∷ es) = if e.item.id == id then record { item = e.item; frequency = min (e.frequency + 1) 3 } ∷ es
+    else e ∷ use_entry id es
 
 -- whether small has the id
 abbrev pub is_in_small : S3FifoView → ℕ → Bool
@@ -179,9 +181,11 @@ pub record Limits : Type 0 where
   pub setting : Setting
 
 abbrev pub limits_by : ℕ → Setting → Limits
-limits_by capacity s = record { small = limit_of capacity s.small_ratio; ghost = limit_of capacity s.ghost_ratio; setting = s }
+limits_by capacity s =
+    record { small = limit_of capacity s.small_ratio; ghost = limit_of capacity s.ghost_ratio; setting = s }
 
--- the limits that come of a capacity and a configuration, with its threshold, of a new policy and of one that is updated
+-- the limits that come of a capacity and a configuration, with its threshold, of a new policy and of one that is
+-- updated
 abbrev pub limits_of : ℕ → S3FifoConfig → Limits
 limits_of capacity c = limits_by capacity (setting_of c)
 
@@ -213,7 +217,8 @@ s3fifo = record {
   push = λ v i. put v (record { item = i; frequency = 0 }) (contains v.ghost.hashes i.hash);
   pop = s3fifo_pop;
   remove = λ v id.
-      if is_in_small v id then record v { small = remove_entry id v.small } else record v { main = remove_entry id v.main };
+      if is_in_small v id then record v { small = remove_entry id v.small }
+      else record v { main = remove_entry id v.main };
   acquire = λ v id.
       if is_in_small v id then record v { small = use_entry id v.small } else record v { main = use_entry id v.main };
   release = λ v id. v;

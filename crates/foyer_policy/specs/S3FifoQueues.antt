@@ -78,8 +78,10 @@ PlacesAfter (Some i) old new = (p : ℕ) → item_at new p ≡ without i.id (ite
 
 -- what is taken from small, where it is over its limit
 abbrev pub TakesSmall : ℕ → List (List (ℕ × Node)) → Option Item → List (List (ℕ × Node)) → Type 0
-TakesSmall t old None new = (from_rare t (small_of old) ≡ []) × (small_of new ≡ []) × (main_of new ≡ main_of old ++ small_of old)
-TakesSmall t old (Some i) new = (e : Entry) × (from_rare t (small_of old) ≡ e ∷ small_of new) × (e.item ≡ i) × (main_of new ≡ main_of old ++ frequent_front t (small_of old))
+TakesSmall t old None new = (from_rare t (small_of old) ≡ []) × (small_of new ≡ [])
+    × (main_of new ≡ main_of old ++ small_of old)
+TakesSmall t old (Some i) new = (e : Entry) × (from_rare t (small_of old) ≡ e ∷ small_of new) × (e.item ≡ i)
+    × (main_of new ≡ main_of old ++ frequent_front t (small_of old))
 
 -- a victim and its looks
 abbrev pub Taken : Type 0
@@ -88,7 +90,8 @@ Taken = Item × ℕ
 -- what is taken from main
 abbrev pub TakesMain : List (List (ℕ × Node)) → Option Taken → List (List (ℕ × Node)) → Type 0
 TakesMain old None new = (main_of old ≡ []) × (main_of new ≡ []) × (small_of new ≡ small_of old)
-TakesMain old (Some r) new = (main_turn (main_of old) ≡ Some (record { victim = r.0; main = main_of new })) × (main_looks (main_of old) ≡ r.1) × (small_of new ≡ small_of old)
+TakesMain old (Some r) new = (main_turn (main_of old) ≡ Some (record { victim = r.0; main = main_of new }))
+    × (main_looks (main_of old) ≡ r.1) × (small_of new ≡ small_of old)
 
 -- the view of these queues
 abbrev pub view_with : List (List (ℕ × Node)) → Ghost → ℕ → Setting → S3FifoView

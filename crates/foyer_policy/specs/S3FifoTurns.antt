@@ -49,14 +49,16 @@ at_least-right k (x ∷ xs) ys h = at_least-right k xs ys h.1
 parted : (m : ℕ) (l : List Entry) → l ≡ before_first m l ++ from_first m l
 parted m [] = refl
 parted m (e ∷ es) = go (e.frequency == m) (parted m es) where
-  go : (b : Bool) → es ≡ before_first m es ++ from_first m es → e ∷ es ≡ cond b [] (e ∷ before_first m es) ++ cond b (e ∷ es) (from_first m es)
+  go : (b : Bool) → es ≡ before_first m es ++ from_first m es → e ∷ es ≡ cond b [] (e ∷ before_first m es)
+      ++ cond b (e ∷ es) (from_first m es)
   go true rec = refl
   go false rec = ap (λ r. e ∷ r) rec
 
 before-above : (m : ℕ) (l : List Entry) → AtLeast m l → AtLeast (m + 1) (before_first m l)
 before-above m [] h = tt
 before-above m (e ∷ es) h = go (e.frequency == m) refl (before-above m es h.1) where
-  go : (b : Bool) → (e.frequency == m) ≡ b → AtLeast (m + 1) (before_first m es) → AtLeast (m + 1) (cond b [] (e ∷ before_first m es))
+  go : (b : Bool) → (e.frequency == m) ≡ b → AtLeast (m + 1) (before_first m es) →
+      AtLeast (m + 1) (cond b [] (e ∷ before_first m es))
   go true is rec = tt
   go false is rec = (let ne : e.frequency ≢ m = grind (arith, nat_tests) in omega (arith, h.0), rec)
 
@@ -70,7 +72,8 @@ from-at_least k m (e ∷ es) h = go (e.frequency == m) (from-at_least k m es h.1
 head-is : (m : ℕ) (l : List Entry) (e : Entry) (es : List Entry) → from_first m l ≡ e ∷ es → e.frequency ≡ m
 head-is m [] e es h = absurd cc
 head-is m (x ∷ xs) e es h = go (x.frequency == m) refl h (head-is m xs e es) where
-  go : (b : Bool) → (x.frequency == m) ≡ b → cond b (x ∷ xs) (from_first m xs) ≡ e ∷ es → (from_first m xs ≡ e ∷ es → e.frequency ≡ m) → e.frequency ≡ m
+  go : (b : Bool) → (x.frequency == m) ≡ b → cond b (x ∷ xs) (from_first m xs) ≡ e ∷ es →
+      (from_first m xs ≡ e ∷ es → e.frequency ≡ m) → e.frequency ≡ m
   go true is h rec = (let same : x ≡ e = cc in let n : x.frequency ≡ m = grind (arith, nat_tests) in rw (← same) n)
   go false is h rec = rec h
 
@@ -84,9 +87,12 @@ record Found (m : ℕ) (l : List Entry) : Type 0 where
   is : from_first m l ≡ head ∷ rest
 
 least-found : (e : Entry) (es : List Entry) → Found (least e es) (e ∷ es)
-least-found e [] = (let same : (e.frequency == e.frequency) ≡ true = grind (arith, nat_tests) in record { head = e; rest = []; is = rw same refl })
+least-found e [] =
+    (let same : (e.frequency == e.frequency) ≡ true = grind (arith, nat_tests) in
+    record { head = e; rest = []; is = rw same refl })
 least-found e (f ∷ fs) = go (e.frequency == least e (f ∷ fs)) refl (least-found f fs) where
-  go : (b : Bool) → (e.frequency == least e (f ∷ fs)) ≡ b → Found (least f fs) (f ∷ fs) → Found (least e (f ∷ fs)) (e ∷ f ∷ fs)
+  go : (b : Bool) → (e.frequency == least e (f ∷ fs)) ≡ b → Found (least f fs) (f ∷ fs) →
+      Found (least e (f ∷ fs)) (e ∷ f ∷ fs)
   go true is rec = record { head = e; rest = f ∷ fs; is = rw is refl }
   go false is rec =
       let ne : e.frequency ≢ least e (f ∷ fs) = grind (arith, nat_tests) in
@@ -125,14 +131,19 @@ least-split e es =
 module _ (m : ℕ) (v : Entry) (rest : List Entry) (at : v.frequency ≡ m) (from : AtLeast m rest) where
   before-is : (front : List Entry) → AtLeast (m + 1) front → before_first m (front ++ v ∷ rest) ≡ front
   before-is [] above = (let e : (v.frequency == m) ≡ true = grind (arith, nat_tests) in rw e refl)
-  before-is (x ∷ xs) above = (let le = above.0 in let ne : x.frequency ≢ m = omega (arith, le) in let e : (x.frequency == m) ≡ false = grind (arith, nat_tests) in rw e (ap (λ r. x ∷ r) (before-is xs above.1)))
+  before-is (x ∷ xs) above =
+      (let le = above.0 in let ne : x.frequency ≢ m = omega (arith, le) in let e : (x.frequency == m) ≡ false =
+      grind (arith, nat_tests) in rw e (ap (λ r. x ∷ r) (before-is xs above.1)))
 
   from-is : (front : List Entry) → AtLeast (m + 1) front → from_first m (front ++ v ∷ rest) ≡ v ∷ rest
   from-is [] above = (let e : (v.frequency == m) ≡ true = grind (arith, nat_tests) in rw e refl)
-  from-is (x ∷ xs) above = (let le = above.0 in let ne : x.frequency ≢ m = omega (arith, le) in let e : (x.frequency == m) ≡ false = grind (arith, nat_tests) in rw e (from-is xs above.1))
+  from-is (x ∷ xs) above =
+      (let le = above.0 in let ne : x.frequency ≢ m = omega (arith, le) in let e : (x.frequency == m) ≡ false =
+      grind (arith, nat_tests) in rw e (from-is xs above.1))
 
   all-at_least : (front : List Entry) → AtLeast (m + 1) front → AtLeast m (front ++ v ∷ rest)
-  all-at_least front above = at_least-append m front (v ∷ rest) (weaker m (m + 1) front (omega arith) above) (omega (arith, at), from)
+  all-at_least front above = at_least-append m front (v ∷ rest) (weaker m (m + 1) front (omega arith) above)
+      (omega (arith, at), from)
 
   least-of : (x : Entry) (xs front : List Entry) → x ∷ xs ≡ front ++ v ∷ rest → AtLeast (m + 1) front → least x xs ≡ m
   least-of x xs front is above =
@@ -151,10 +162,12 @@ module _ (m : ℕ) (v : Entry) (rest : List Entry) (at : v.frequency ≡ m) (fro
   least_of-is [] above = least-of v rest [] refl above
   least_of-is (x ∷ xs) above = least-of x (xs ++ v ∷ rest) (x ∷ xs) refl above
 
-  pub turn-is : (front : List Entry) → AtLeast (m + 1) front → main_turn (front ++ v ∷ rest) ≡ Some (record { victim = v.item; main = lowered m rest ++ lowered (m + 1) front })
+  pub turn-is : (front : List Entry) → AtLeast (m + 1) front → main_turn (front ++ v ∷ rest)
+      ≡ Some (record { victim = v.item; main = lowered m rest ++ lowered (m + 1) front })
   turn-is front above = rw (least_of-is front above, from-is front above, before-is front above) refl
 
-  pub looks-is : (front : List Entry) → AtLeast (m + 1) front → main_looks (front ++ v ∷ rest) ≡ m * length (front ++ v ∷ rest) + length front + 1
+  pub looks-is : (front : List Entry) → AtLeast (m + 1) front → main_looks (front ++ v ∷ rest)
+      ≡ m * length (front ++ v ∷ rest) + length front + 1
   looks-is front above = rw (least_of-is front above, from-is front above, before-is front above) refl
 
 -- what is taken off
@@ -170,19 +183,25 @@ pub record MainTurned (l : List Entry) (t : MainTurn) : Type 0 where
   pub paid : main_looks l + frequencies t.main ≤ frequencies l + 1
   pub kept : frequencies t.main ≤ frequencies l
 
-module _ (m : ℕ) (front : List Entry) (v : Entry) (rest : List Entry) (at : v.frequency ≡ m) (above : AtLeast (m + 1) front) (from : AtLeast m rest) where
+module _ (m : ℕ) (front : List Entry) (v : Entry) (rest : List Entry) (at : v.frequency ≡ m)
+    (above : AtLeast (m + 1) front) (from : AtLeast m rest) where
   abbrev left : MainTurn
   left = record { victim = v.item; main = lowered m rest ++ lowered (m + 1) front }
 
   left-items : items left.main ≡ items rest ++ items front
-  left-items = items-append (lowered m rest) (lowered (m + 1) front) ∙ rw (items-lowered m rest, items-lowered (m + 1) front) refl
+  left-items = items-append (lowered m rest) (lowered (m + 1) front)
+      ∙ rw (items-lowered m rest, items-lowered (m + 1) front) refl
 
   whole-items : items (front ++ v ∷ rest) ≡ items front ++ v.item ∷ items rest
   whole-items = items-append front (v ∷ rest)
 
   left-order : IsPermutation (items (front ++ v ∷ rest)) (v.item ∷ items left.main)
-  left-order = rw (whole-items, left-items) (IsPermutation-trans (items front ++ v.item ∷ items rest) (v.item ∷ (items front ++ items rest)) (v.item ∷ (items rest ++ items front))
-      (IsPermutation-middle (items front) v.item (items rest)) (IsPermutation-cons v.item (items front ++ items rest) (items rest ++ items front) (IsPermutation-append_comm (items front) (items rest))))
+  left-order = rw (whole-items, left-items)
+      (IsPermutation-trans (items front ++ v.item ∷ items rest) (v.item ∷ (items front ++ items rest))
+      (v.item ∷ (items rest ++ items front))
+      (IsPermutation-middle (items front) v.item (items rest))
+      (IsPermutation-cons v.item (items front ++ items rest) (items rest ++ items front)
+      (IsPermutation-append_comm (items front) (items rest))))
 
   left-turned : MainTurned (front ++ v ∷ rest) left
   left-turned =
@@ -193,7 +212,8 @@ module _ (m : ℕ) (front : List Entry) (v : Entry) (rest : List Entry) (at : v.
       let e = frequencies-cons v rest in
       let n = looks-is m v rest at from front above in
       let k = length-append front (v ∷ rest) in
-      let q : m * length (front ++ v ∷ rest) ≡ m * length front + m + m * length rest = ap (λ (x : ℕ). m * x) k ∙ omega arith in
+      let q : m * length (front ++ v ∷ rest) ≡ m * length front + m + m * length rest = ap (λ (x : ℕ). m * x) k
+      ∙ omega arith in
       record {
         order = left-order;
         paid = omega (arith, a, b, c, d, e, n, q, at);
@@ -204,8 +224,11 @@ pub main-turned : (l : List Entry) (t : MainTurn) → main_turn l ≡ Some t →
 main-turned [] t h = absurd cc
 main-turned (e ∷ es) t h =
     let s = least-split e es in
-    let gives : main_turn (e ∷ es) ≡ Some (record { victim = s.victim.item; main = lowered s.least s.rest ++ lowered (s.least + 1) s.front }) = ap main_turn s.is ∙ turn-is s.least s.victim s.rest s.at s.from s.front s.above in
-    let r : MainTurn = record { victim = s.victim.item; main = lowered s.least s.rest ++ lowered (s.least + 1) s.front } in
+    let gives : main_turn (e ∷ es) ≡ Some
+    (record { victim = s.victim.item; main = lowered s.least s.rest ++ lowered (s.least + 1) s.front }) =
+    ap main_turn s.is ∙ turn-is s.least s.victim s.rest s.at s.from s.front s.above in
+    let r : MainTurn =
+    record { victim = s.victim.item; main = lowered s.least s.rest ++ lowered (s.least + 1) s.front } in
     let same : r ≡ t = (let q : Some r ≡ Some t = sym gives ∙ h in cc) in
     let facts : MainTurned (e ∷ es) r = rw s.is (left-turned s.least s.front s.victim s.rest s.at s.above s.from) in
     subst (λ (x : MainTurn). MainTurned (e ∷ es) x) same facts
@@ -214,5 +237,7 @@ pub main-none : (l : List Entry) → main_turn l ≡ None → l ≡ []
 main-none [] h = refl
 main-none (e ∷ es) h =
     let s = least-split e es in
-    let gives : main_turn (e ∷ es) ≡ Some (record { victim = s.victim.item; main = lowered s.least s.rest ++ lowered (s.least + 1) s.front }) = ap main_turn s.is ∙ turn-is s.least s.victim s.rest s.at s.from s.front s.above in
+    let gives : main_turn (e ∷ es) ≡ Some
+    (record { victim = s.victim.item; main = lowered s.least s.rest ++ lowered (s.least + 1) s.front }) =
+    ap main_turn s.is ∙ turn-is s.least s.victim s.rest s.at s.from s.front s.above in
     absurd cc

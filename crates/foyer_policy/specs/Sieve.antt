@@ -81,7 +81,8 @@ pub record Turn : Type 0 where
 
 -- All are visited, so the first of the rotation leaves and every bit is cleared.
 abbrev pub where_all_visited : List Entry → List Entry → Option Turn
-where_all_visited before (e ∷ es) = Some (record { victim = e.item; before = all_cleared before; behind = all_cleared es })
+where_all_visited before (e ∷ es) = Some
+    (record { victim = e.item; before = all_cleared before; behind = all_cleared es })
 where_all_visited (e ∷ es) [] = Some (record { victim = e.item; before = []; behind = all_cleared es })
 where_all_visited [] [] = None
 

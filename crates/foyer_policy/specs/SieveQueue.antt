@@ -46,7 +46,8 @@ pub record IsSound (ls : List (List (ℕ × Node))) (hand : Option ℕ) : Type 0
   pub there : IfSome hand (λ p. IsSome (find p ls))
 
 -- What a pop leaves of a queue of one list, where these stood before the hand and from it on.
-pub record IsTurn (before behind : List Entry) (left : List (ℕ × Node)) (item : Item) (hand : Option ℕ) (looks : ℕ) : Type 0 where
+pub record IsTurn (before behind : List Entry) (left : List (ℕ × Node)) (item : Item) (hand : Option ℕ) (looks : ℕ) :
+    Type 0 where
   pub front : List (ℕ × Node)
   pub back : List (ℕ × Node)
   pub parts : left ≡ front ++ back

@@ -55,7 +55,8 @@ halved s = record { buckets = s.buckets; rows = halves s.rows; step = s.step }
 
 -- where the step is as high as the number of buckets, the counters and the step are halved
 abbrev pub settled : Sketch → Sketch
-settled s = if nat_le s.buckets s.step then record { buckets = s.buckets; rows = halves s.rows; step = s.step / 2 } else s
+settled s = if nat_le s.buckets s.step then record { buckets = s.buckets; rows = halves s.rows; step = s.step / 2 }
+    else s
 
 -- the sketch once the hash was counted, in each row and in the step
 abbrev pub counting : ℕ → Sketch → Sketch
@@ -64,7 +65,8 @@ counting hash s = settled (record { buckets = s.buckets; rows = counted s.bucket
 -- the counters of a hash's buckets, from row r on
 abbrev pub counters_of : ℕ → ℕ → ℕ → List (List ℕ) → List ℕ
 counters_of buckets hash r [] = []
-counters_of buckets hash r (row ∷ rows) = slice_index row (bucket buckets hash r) ∷ counters_of buckets hash (suc r) rows
+counters_of buckets hash r (row ∷ rows) = slice_index row (bucket buckets hash r) ∷ counters_of buckets hash (suc r)
+    rows
 
 -- the least of these counters, and the greatest number where there are none
 abbrev pub least : List ℕ → ℕ
@@ -108,7 +110,8 @@ counter s r b = slice_index (slice_index_or s.rows r []) b
 
 -- the past explains the sketch: each counter is the number of the hashes of its bucket
 pub record IsPast (s : Sketch) (past : List Event) : Type 0 where
-  pub counters : (r b : ℕ) → r < length s.rows → b < s.buckets → counter s r b ≡ number_in s.buckets (λ hash. bucket s.buckets hash r == b) past
+  pub counters : (r b : ℕ) → r < length s.rows → b < s.buckets → counter s r b
+      ≡ number_in s.buckets (λ hash. bucket s.buckets hash r == b) past
   pub step : s.step ≡ step_after s.buckets past
 
 -- some past explains the sketch
@@ -123,7 +126,8 @@ EstimatesAreBounded = (s : Sketch) (past : List Event) (hash : ℕ) → 0 < leng
 
 -- the counter of row r and bucket b stands at r * buckets + b of one list
 abbrev pub sketch_of : ℕ → ℕ → List ℕ → ℕ → Sketch
-sketch_of rows buckets counters step = record { buckets = buckets; rows = first_chunks buckets rows counters; step = step }
+sketch_of rows buckets counters step =
+    record { buckets = buckets; rows = first_chunks buckets rows counters; step = step }
 
 -- what is true of each sketch
 pub record IsSketch (rows buckets : ℕ) (counters : List ℕ) (step : ℕ) : Type 0 where

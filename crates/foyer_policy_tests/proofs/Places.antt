@@ -26,19 +26,24 @@ pub is_there : (o : Option Item) (id : ℕ) → option_map (λ i. i.id) o ≡ So
 is_there None id e = absurd cc
 is_there (Some i) id e = search rules
 
-pub after_push : (at new : ℕ → Option Item) (places : List (Option ℕ)) (item : Item) (place : ℕ) → AreThere at places → item.id < length places
-    → new place ≡ Some item → at place ≡ None → ((q : ℕ) → q ≢ place → new q ≡ at q) → AreThere new (slice_set places item.id (Some place))
+pub after_push : (at new : ℕ → Option Item) (places : List (Option ℕ)) (item : Item) (place : ℕ) → AreThere at places
+    → item.id < length places
+    → new place ≡ Some item → at place ≡ None → ((q : ℕ) → q ≢ place → new q ≡ at q) →
+    AreThere new (slice_set places item.id (Some place))
 after_push at new places item place there within here free others id p is = go (id == item.id) refl where
   go : (b : Bool) → (id == item.id) ≡ b → option_map (λ i. i.id) (new p) ≡ Some id
   go true same =
       let e : id ≡ item.id = same_id id item.id same in
-      let read : slice_index_or (slice_set places item.id (Some place)) item.id None ≡ Some place = get_or-set_same places item.id (Some place) None within in
+      let read : slice_index_or (slice_set places item.id (Some place)) item.id None ≡ Some place =
+      get_or-set_same places item.id (Some place) None within in
       let q : place ≡ p = cc in
       rw (← q, here, e) refl
   go false other =
-      let was : slice_index_or places id None ≡ Some p = sym (get_or-set_other places item.id id (Some place) None (other_id id item.id other)) ∙ is in
+      let was : slice_index_or places id None ≡ Some p =
+      sym (get_or-set_other places item.id id (Some place) None (other_id id item.id other)) ∙ is in
       let known : id_of (at p) ≡ Some id = there id p was in
-      ap id_of (others p (λ q. let n : at p ≡ None = rw q free in let k : id_of None ≡ Some id = rw n at known in absurd cc)) ∙ known
+      ap id_of (others p
+      (λ q. let n : at p ≡ None = rw q free in let k : id_of None ≡ Some id = rw n at known in absurd cc)) ∙ known
 
 -- a record of another id stays
 stays : (gone id : ℕ) (o : Option Item) → id ≢ gone → id_of o ≡ Some id → id_of (without gone o) ≡ Some id
@@ -47,8 +52,10 @@ stays gone id (Some i) ne e =
     let same : i.id ≡ id = cc in
     rw (same, differs id gone ne) refl
 
-pub after_leave : (at new : ℕ → Option Item) (places left : List (Option ℕ)) (gone : ℕ) → AreThere at places → slice_index_or left gone None ≡ None
-    → ((q : ℕ) → q ≢ gone → slice_index_or left q None ≡ slice_index_or places q None) → ((p : ℕ) → new p ≡ without gone (at p)) → AreThere new left
+pub after_leave : (at new : ℕ → Option Item) (places left : List (Option ℕ)) (gone : ℕ) → AreThere at places →
+    slice_index_or left gone None ≡ None
+    → ((q : ℕ) → q ≢ gone → slice_index_or left q None ≡ slice_index_or places q None) →
+    ((p : ℕ) → new p ≡ without gone (at p)) → AreThere new left
 after_leave at new places left gone there none others leaves id p is = go (id == gone) refl where
   go : (b : Bool) → (id == gone) ≡ b → option_map (λ i. i.id) (new p) ≡ Some id
   go true same =
@@ -59,5 +66,6 @@ after_leave at new places left gone there none others leaves id p is = go (id ==
       let ne : id ≢ gone = other_id id gone other in
       ap id_of (leaves p) ∙ stays gone id (at p) ne (there id p (sym (others id ne) ∙ is))
 
-pub after_none : (at new : ℕ → Option Item) (places : List (Option ℕ)) → AreThere at places → ((p : ℕ) → new p ≡ at p) → AreThere new places
+pub after_none : (at new : ℕ → Option Item) (places : List (Option ℕ)) → AreThere at places → ((p : ℕ) → new p ≡ at p)
+    → AreThere new places
 after_none at new places there same id p is = ap id_of (same p) ∙ there id p is

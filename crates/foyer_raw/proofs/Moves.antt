@@ -11,7 +11,8 @@ pub Leads-start : (s t : RawFetchState) (r optional : Bool) → t ≡ next_state
 Leads-start s t r optional e = ((r, Start optional) ∷ [], (omega arith), (λ init. (optional, refl)), e)
 
 -- one event that comes later
-pub Leads-later : (s t : RawFetchState) (r : Bool) (event : TaskEvent) → s ≢ Init → t ≡ next_state s r event → Leads 1 s t
+pub Leads-later : (s t : RawFetchState) (r : Bool) (event : TaskEvent) → s ≢ Init → t ≡ next_state s r event →
+    Leads 1 s t
 Leads-later s t r event begun e = ((r, event) ∷ [], (omega arith), (λ init. absurd (begun init)), e)
 
 -- no event

@@ -31,10 +31,12 @@ BeginsWithStart (e ∷ es) = (optional : Bool) × (e.1 ≡ Start optional)
 
 -- at most n events lead from one state to the other, and from Init the first of them is a start
 abbrev pub Leads : ℕ → RawFetchState → RawFetchState → Type 0
-Leads n s t = (events : List (Bool × TaskEvent)) × (length events ≤ n) × (s ≡ Init → BeginsWithStart events) × (t ≡ run s events)
+Leads n s t = (events : List (Bool × TaskEvent)) × (length events ≤ n) × (s ≡ Init → BeginsWithStart events)
+    × (t ≡ run s events)
 
 -- a task in this state waits for a source: the fetch that it polls there needs it
-abbrev pub Awaits : {F G : Type 0} → RawFetchState → (F → ℕ → Type 0) → (G → ℕ → Type 0) → Option F → Option G → ℕ → Type 0
+abbrev pub Awaits : {F G : Type 0} → RawFetchState → (F → ℕ → Type 0) → (G → ℕ → Type 0) → Option F → Option G → ℕ →
+    Type 0
 Awaits FetchOptional needs needs' optional required source = IsSomeAnd optional (λ f. needs f source)
 Awaits FetchRequired needs needs' optional required source = IsSomeAnd required (λ f. needs' f source)
 Awaits s needs needs' optional required source = ⊥

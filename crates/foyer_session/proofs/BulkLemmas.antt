@@ -17,7 +17,8 @@ use Rattle.foyer_session.specs.Owns.{OwnsHandles}
 use Rattle.foyer_session.proofs.CountLemmas.{Alike, leave_alike}
 
 -- what stands at a place of the second list stands for what is there in the first
-zip-back : {S : Type 0} (R : S → S → Type 0) (ss ts : List S) → AllZip R ss ts → (i : ℕ) (t : S) → slice_get ts i ≡ Some t → (s : S) × (slice_get ss i ≡ Some s) × R s t
+zip-back : {S : Type 0} (R : S → S → Type 0) (ss ts : List S) → AllZip R ss ts → (i : ℕ) (t : S) → slice_get ts i
+    ≡ Some t → (s : S) × (slice_get ss i ≡ Some s) × R s t
 zip-back R [] [] h i t there = absurd cc
 zip-back R [] (u ∷ ts) h i t there = absurd h
 zip-back R (s ∷ ss) [] h i t there = absurd h
@@ -51,97 +52,138 @@ module _ {K V P View C : Type 0} (m : Meaning K P View C) where
   unpinned_alike : (s u : State K V P View) (ls : List (Event × Gone K V P)) → EvictsUnpinned m s ls u → Alike s u
   unpinned_alike s u ls h = leave_alike m Evict _ s ls _ u h
 
-  some_unpinned_alike : (s u : State K V P View) (ls : List (Event × Gone K V P)) → EvictingUnpinned m s ls u → Alike s u
+  some_unpinned_alike : (s u : State K V P View) (ls : List (Event × Gone K V P)) → EvictingUnpinned m s ls u →
+      Alike s u
   some_unpinned_alike s u ls h = leave_alike m Evict (ids_of h.left) s ls _ u h.leave
 
   evicted_alike : (s u : State K V P View) (ls : List (Event × Gone K V P)) → EvictsToCapacity m s ls u → Alike s u
   evicted_alike s u ls h = leave_alike m Evict _ s ls _ u h
 
-  some_evicted_alike : (s u : State K V P View) (ls : List (Event × Gone K V P)) → EvictingToCapacity m s ls u → Alike s u
+  some_evicted_alike : (s u : State K V P View) (ls : List (Event × Gone K V P)) → EvictingToCapacity m s ls u →
+      Alike s u
   some_evicted_alike s u ls h = leave_alike m Evict (ids_of h.left) s ls _ u h.leave
 
-  picked_alike : (says : K → V → Bool → Type 0) (s u : State K V P View) (ls : List (Event × Gone K V P)) → EvictsIf m says s ls u → Alike s u
+  picked_alike : (says : K → V → Bool → Type 0) (s u : State K V P View) (ls : List (Event × Gone K V P)) →
+      EvictsIf m says s ls u → Alike s u
   picked_alike says s u ls h = leave_alike m Evict (ids_of h.picked) s ls _ u h.leave
 
   -- with another capacity, and another configuration where one is given
-  updated_alike : (config : Option C) (f : ℕ → State K V P View → ℕ) (old new : List (State K V P View)) → length new ≡ length old
-      → ((i : ℕ) (s : State K V P View) → slice_get old i ≡ Some s → slice_get new i ≡ Some (after_update m s (f i s) config)) → AllZip Alike old new
-  updated_alike config = updates-keep m Alike config (λ s c. record { handles = λ id. refl; next = refl; number = refl })
+  updated_alike : (config : Option C) (f : ℕ → State K V P View → ℕ) (old new : List (State K V P View)) → length new
+      ≡ length old
+      → ((i : ℕ) (s : State K V P View) → slice_get old i ≡ Some s → slice_get new i
+      ≡ Some (after_update m s (f i s) config)) → AllZip Alike old new
+  updated_alike config = updates-keep m Alike config
+      (λ s c. record { handles = λ id. refl; next = refl; number = refl })
 
-  module _ {S W A : Type 0} (core : Core K V P View S W A) (ls : List (Event × Gone K V P)) (new : Core K V P View S W A) (handles : List (Option (Held K V P))) where
-    turn_owns : (step : State K V P View → List (Event × Gone K V P) → State K V P View → Type 0) → ((s u : State K V P View) (own : List (Event × Gone K V P)) → step s own u → Alike s u)
+  module _ {S W A : Type 0} (core : Core K V P View S W A) (ls : List (Event × Gone K V P))
+      (new : Core K V P View S W A) (handles : List (Option (Held K V P))) where
+    turn_owns : (step : State K V P View → List (Event × Gone K V P) → State K V P View → Type 0) →
+        ((s u : State K V P View) (own : List (Event × Gone K V P)) → step s own u → Alike s u)
         → OfShards (InTurn step) core ls new → OwnsHandles core handles → OwnsHandles new handles
-    turn_owns step alike h owns = alike_owns core new handles (turn-keeps Alike step alike core.shards ls new.shards h.stepped) owns
+    turn_owns step alike h owns = alike_owns core new handles
+        (turn-keeps Alike step alike core.shards ls new.shards h.stepped) owns
 
     until_owns : (whole part : State K V P View → List (Event × Gone K V P) → State K V P View → Type 0)
-        → ((s u : State K V P View) (own : List (Event × Gone K V P)) → whole s own u → Alike s u) → ((s u : State K V P View) (own : List (Event × Gone K V P)) → part s own u → Alike s u)
+        → ((s u : State K V P View) (own : List (Event × Gone K V P)) → whole s own u → Alike s u) →
+        ((s u : State K V P View) (own : List (Event × Gone K V P)) → part s own u → Alike s u)
         → OfShards (InTurnUntil whole part) core ls new → OwnsHandles core handles → OwnsHandles new handles
     until_owns whole part alike alike' h owns =
-        alike_owns core new handles (until-keeps Alike whole part alike alike' alike_same core.shards ls new.shards h.stepped) owns
+        alike_owns core new handles
+        (until-keeps Alike whole part alike alike' alike_same core.shards ls new.shards h.stepped) owns
 
     pub cleared_owns : OfShards (InTurn (Clears m)) core ls new → OwnsHandles core handles → OwnsHandles new handles
     cleared_owns h owns = turn_owns (Clears m) cleared_alike h owns
 
-    pub evicted_owns : OfShards (InTurn (EvictsUnpinned m)) core ls new → OwnsHandles core handles → OwnsHandles new handles
+    pub evicted_owns : OfShards (InTurn (EvictsUnpinned m)) core ls new → OwnsHandles core handles →
+        OwnsHandles new handles
     evicted_owns h owns = turn_owns (EvictsUnpinned m) unpinned_alike h owns
 
-    pub some_evicted_owns : OfShards (InTurnUntil (EvictsUnpinned m) (EvictingUnpinned m)) core ls new → OwnsHandles core handles → OwnsHandles new handles
-    some_evicted_owns h owns = until_owns (EvictsUnpinned m) (EvictingUnpinned m) unpinned_alike some_unpinned_alike h owns
+    pub some_evicted_owns : OfShards (InTurnUntil (EvictsUnpinned m) (EvictingUnpinned m)) core ls new →
+        OwnsHandles core handles → OwnsHandles new handles
+    some_evicted_owns h owns = until_owns (EvictsUnpinned m) (EvictingUnpinned m) unpinned_alike some_unpinned_alike h
+        owns
 
-    pub flushed_owns : (says : K → V → Bool → Type 0) → OfShards (InTurn (EvictsIf m says)) core ls new → OwnsHandles core handles → OwnsHandles new handles
+    pub flushed_owns : (says : K → V → Bool → Type 0) → OfShards (InTurn (EvictsIf m says)) core ls new →
+        OwnsHandles core handles → OwnsHandles new handles
     flushed_owns says h owns = turn_owns (EvictsIf m says) (picked_alike says) h owns
 
-  module _ {S W A : Type 0} (capacity : ℕ) (core : Core K V P View S W A) (ls : List (Event × Gone K V P)) (new : Core K V P View S W A) (handles : List (Option (Held K V P))) where
-    shared_owns : (shared : List (State K V P View)) → SharesOut m capacity core.shards shared → OwnsHandles core handles → OwnsHandles (record core { capacity = capacity; shards = shared }) handles
-    shared_owns shared h owns = alike_owns core (record core { capacity = capacity; shards = shared }) handles (updated_alike None (λ i s. share_of capacity (length core.shards) i) core.shards shared h.counted h.each) owns
+  module _ {S W A : Type 0} (capacity : ℕ) (core : Core K V P View S W A) (ls : List (Event × Gone K V P))
+      (new : Core K V P View S W A) (handles : List (Option (Held K V P))) where
+    shared_owns : (shared : List (State K V P View)) → SharesOut m capacity core.shards shared →
+        OwnsHandles core handles → OwnsHandles (record core { capacity = capacity; shards = shared }) handles
+    shared_owns shared h owns = alike_owns core (record core { capacity = capacity; shards = shared }) handles
+        (updated_alike None (λ i s. share_of capacity (length core.shards) i) core.shards shared h.counted h.each) owns
 
-    pub resized_owns : Resizes m (InTurn (EvictsToCapacity m)) capacity core ls new → OwnsHandles core handles → OwnsHandles new handles
-    resized_owns h owns = turn_owns (record core { capacity = capacity; shards = h.shared }) ls new handles (EvictsToCapacity m) evicted_alike h.evicted (shared_owns h.shared h.shares owns)
+    pub resized_owns : Resizes m (InTurn (EvictsToCapacity m)) capacity core ls new → OwnsHandles core handles →
+        OwnsHandles new handles
+    resized_owns h owns = turn_owns (record core { capacity = capacity; shards = h.shared }) ls new handles
+        (EvictsToCapacity m) evicted_alike h.evicted (shared_owns h.shared h.shares owns)
 
-    pub some_resized_owns : Resizes m (InTurnUntil (EvictsToCapacity m) (EvictingToCapacity m)) capacity core ls new → OwnsHandles core handles → OwnsHandles new handles
+    pub some_resized_owns : Resizes m (InTurnUntil (EvictsToCapacity m) (EvictingToCapacity m)) capacity core ls new →
+        OwnsHandles core handles → OwnsHandles new handles
     some_resized_owns h owns =
-        until_owns (record core { capacity = capacity; shards = h.shared }) ls new handles (EvictsToCapacity m) (EvictingToCapacity m) evicted_alike some_evicted_alike h.evicted (shared_owns h.shared h.shares owns)
+        until_owns (record core { capacity = capacity; shards = h.shared }) ls new handles (EvictsToCapacity m)
+        (EvictingToCapacity m) evicted_alike some_evicted_alike h.evicted (shared_owns h.shared h.shares owns)
 
-  pub configured_owns : {S W A : Type 0} (config : C) (core new : Core K V P View S W A) (handles : List (Option (Held K V P))) → Configures m config core new → OwnsHandles core handles → OwnsHandles new handles
+  pub configured_owns : {S W A : Type 0} (config : C) (core new : Core K V P View S W A)
+      (handles : List (Option (Held K V P))) → Configures m config core new → OwnsHandles core handles →
+      OwnsHandles new handles
   configured_owns config core new handles h owns =
-      alike_owns core new handles (updated_alike (Some config) (λ i s. s.capacity) core.shards new.shards h.shards.counted h.shards.each) owns
+      alike_owns core new handles
+      (updated_alike (Some config) (λ i s. s.capacity) core.shards new.shards h.shards.counted h.shards.each) owns
 
 -- one predicate may answer all that another may
-module _ {K V P View C : Type 0} (m : Meaning K P View C) (says tells : K → V → Bool → Type 0) (more : (key : K) (value : V) (answer : Bool) → says key value answer → tells key value answer) where
-  answers_more : (s : State K V P View) (items : List Item) (answers : List Bool) → AllZip (λ i. Answers says s i.id) items answers → AllZip (λ i. Answers tells s i.id) items answers
+module _ {K V P View C : Type 0} (m : Meaning K P View C) (says tells : K → V → Bool → Type 0)
+    (more : (key : K) (value : V) (answer : Bool) → says key value answer → tells key value answer) where
+  answers_more : (s : State K V P View) (items : List Item) (answers : List Bool) →
+      AllZip (λ i. Answers says s i.id) items answers → AllZip (λ i. Answers tells s i.id) items answers
   answers_more s [] [] h = tt
   answers_more s [] (b ∷ bs) h = absurd h
   answers_more s (i ∷ is) [] h = absurd h
-  answers_more s (i ∷ is) (b ∷ bs) h =
-      (record { rec = h.0.rec; there = h.0.there; said = more h.0.rec.kept.key h.0.rec.kept.value b h.0.said }, answers_more s is bs h.1)
+  answers_more s (i ∷ is) (b ∷ bs) h = (
+    record { rec = h.0.rec; there = h.0.there; said = more h.0.rec.kept.key h.0.rec.kept.value b h.0.said },
+    answers_more s is bs h.1,
+  )
 
   picks_more : (s : State K V P View) (picked : List Item) → Picks m says s picked → Picks m tells s picked
-  picks_more s picked h = record { answers = h.answers; each = answers_more s (m.policy.order s.view) h.answers h.each; picked_is = h.picked_is }
+  picks_more s picked h =
+      record {
+        answers = h.answers;
+        each = answers_more s (m.policy.order s.view) h.answers h.each;
+        picked_is =
+            h.picked_is;
+      }
 
-  evicts_more : (s : State K V P View) (ls : List (Event × Gone K V P)) (u : State K V P View) → EvictsIf m says s ls u → EvictsIf m tells s ls u
+  evicts_more : (s : State K V P View) (ls : List (Event × Gone K V P)) (u : State K V P View) →
+      EvictsIf m says s ls u → EvictsIf m tells s ls u
   evicts_more s ls u h = record { picked = h.picked; picks = picks_more s h.picked h.picks; leave = h.leave }
 
-  turn_more : (ss : List (State K V P View)) (ls : List (Event × Gone K V P)) (us : List (State K V P View)) → InTurn (EvictsIf m says) ss ls us → InTurn (EvictsIf m tells) ss ls us
+  turn_more : (ss : List (State K V P View)) (ls : List (Event × Gone K V P)) (us : List (State K V P View)) →
+      InTurn (EvictsIf m says) ss ls us → InTurn (EvictsIf m tells) ss ls us
   turn_more [] ls [] h = h
   turn_more [] ls (u ∷ us) h = absurd h
   turn_more (s ∷ ss) ls [] h = absurd h
   turn_more (s ∷ ss) ls (u ∷ us) h = (h.0, h.1, h.2, evicts_more s h.0 u h.3, turn_more ss h.1 us h.4)
 
   -- what leaves by the one, leaves by the other
-  pub flushes_more : {S W A : Type 0} (core : Core K V P View S W A) (ls : List (Event × Gone K V P)) (new : Core K V P View S W A)
+  pub flushes_more : {S W A : Type 0} (core : Core K V P View S W A) (ls : List (Event × Gone K V P))
+      (new : Core K V P View S W A)
       → OfShards (InTurn (EvictsIf m says)) core ls new → OfShards (InTurn (EvictsIf m tells)) core ls new
   flushes_more core ls new h = record { stepped = turn_more core.shards ls new.shards h.stepped; rest = h.rest }
 
 -- what follows of an answer in either case
-pub of_either : {A E : Type 0} {P : A → Type 0} {Q G : Type 0} (result : Result A E) → IfOk result P → OnErr result Q → ((a : A) → P a → G) → (Q → G) → G
+pub of_either : {A E : Type 0} {P : A → Type 0} {Q G : Type 0} (result : Result A E) → IfOk result P → OnErr result Q
+    → ((a : A) → P a → G) → (Q → G) → G
 of_either (Ok a) ok err f h = f a ok
 of_either (Err e) ok err f h = h err
 
 -- the same where the answer is nothing
-pub of_done : {A E : Type 0} {P Q G : Type 0} (result : Result A E) → OnOk result P → OnErr result Q → (P → G) → (Q → G) → G
+pub of_done : {A E : Type 0} {P Q G : Type 0} (result : Result A E) → OnOk result P → OnErr result Q → (P → G) →
+    (Q → G) → G
 of_done (Ok a) ok err f h = f ok
 of_done (Err e) ok err f h = h err
 
-pub of_both : {A E : Type 0} {P : A → Type 0} {Q : E → Type 0} {G : Type 0} (result : Result A E) → IfOk result P → IfErr result Q → ((a : A) → P a → G) → ((e : E) → Q e → G) → G
+pub of_both : {A E : Type 0} {P : A → Type 0} {Q : E → Type 0} {G : Type 0} (result : Result A E) → IfOk result P →
+    IfErr result Q → ((a : A) → P a → G) → ((e : E) → Q e → G) → G
 of_both (Ok a) ok err f h = f a ok
 of_both (Err e) ok err f h = h e err

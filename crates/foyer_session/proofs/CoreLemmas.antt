@@ -22,7 +22,8 @@ use Rattle.foyer_core.specs.Inflight.{AreOpen, Opens}
 use Rattle.foyer_core.specs.Shards.{opens_of, state_of}
 use Rattle.foyer_core.specs.State.{State, IsKept}
 
-module _ {E K V P S W A N R I C X : Type 0} {e : EvictionGhosts E C X} {e1 : CloneGhosts C} {e2 : DefaultGhosts C} {e3 : _} {e4 : DefaultGhosts X}
+module _ {E K V P S W A N R I C X : Type 0} {e : EvictionGhosts E C X} {e1 : CloneGhosts C} {e2 : DefaultGhosts C}
+    {e3 : _} {e4 : DefaultGhosts X}
     {q : EqGhosts K} {h : HashGhosts K} {c : CloneGhosts K} {p : PropertiesGhosts P} {d : DefaultGhosts P}
     {b : HashBuilderGhosts S} {w : WeighterGhosts W K V} {f : FilterGhosts A K V} {i : FinderGhosts I K} where
   pub kept_at : (core : CacheCore E K V P S W A N R I C X e e1 e2 e3 e4 q h c p d b w f i) (hash : ℕ)
@@ -30,19 +31,25 @@ module _ {E K V P S W A N R I C X : Type 0} {e : EvictionGhosts E C X} {e1 : Clo
   kept_at core hash s there = kept_in (slice_get core.shards.items (shard_of (core_of core) hash))
       (sym (slice_get-map state_of core.shards.items (shard_of (core_of core) hash)) ∙ there)
     where
-      kept_in : (found : Option (Shard E K V P N R I C X e e1 e2 e3 e4 q h c p d i)) → option_map state_of found ≡ Some s → ∥ IsKept (meaning_of_core core) s ∥₁
+      kept_in : (found : Option (Shard E K V P N R I C X e e1 e2 e3 e4 q h c p d i)) → option_map state_of found
+          ≡ Some s → ∥ IsKept (meaning_of_core core) s ∥₁
       kept_in None is = absurd cc
-      kept_in (Some shard) is = (let same : state_of shard ≡ s = cc in ∥∥₁_map shard.store.kept (λ k. subst (IsKept (meaning_of_core core)) same k))
+      kept_in (Some shard) is =
+          (let same : state_of shard ≡ s = cc in ∥∥₁_map shard.store.kept
+          (λ k. subst (IsKept (meaning_of_core core)) same k))
 
   -- and the open fetches of each are sound
   pub open_at : (core : CacheCore E K V P S W A N R I C X e e1 e2 e3 e4 q h c p d b w f i) (shard : ℕ)
       (opens : Opens K N R) → slice_get (fetches_of core) shard ≡ Some opens → AreOpen q.eq opens
-  open_at core shard opens there = sound_in (slice_get core.shards.items shard) (sym (slice_get-map opens_of core.shards.items shard) ∙ there)
+  open_at core shard opens there = sound_in (slice_get core.shards.items shard)
+      (sym (slice_get-map opens_of core.shards.items shard) ∙ there)
     where
-      sound_in : (found : Option (Shard E K V P N R I C X e e1 e2 e3 e4 q h c p d i)) → option_map opens_of found ≡ Some opens → AreOpen q.eq opens
+      sound_in : (found : Option (Shard E K V P N R I C X e e1 e2 e3 e4 q h c p d i)) → option_map opens_of found
+          ≡ Some opens → AreOpen q.eq opens
       sound_in None is = absurd cc
       sound_in (Some it) is = (let same : opens_of it ≡ opens = cc in subst (AreOpen q.eq) same it.inflights.sound)
 
   -- there are as many lists of open fetches as shards
-  pub fetches_long : (core : CacheCore E K V P S W A N R I C X e e1 e2 e3 e4 q h c p d b w f i) → length (fetches_of core) ≡ length (core_of core).shards
+  pub fetches_long : (core : CacheCore E K V P S W A N R I C X e e1 e2 e3 e4 q h c p d b w f i) →
+      length (fetches_of core) ≡ length (core_of core).shards
   fetches_long core = length-map core.shards.items opens_of ∙ sym (length-map core.shards.items state_of)

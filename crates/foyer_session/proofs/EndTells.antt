@@ -15,9 +15,12 @@ use Rattle.foyer_session.specs.Waits.{AtMost}
 use Rattle.foyer_session.specs.Answering.{ClosedBy}
 use Rattle.foyer_session.proofs.WaitsLemmas.{closed_waiting, nothing_closes, still_waiting, taken_waits, waiting_counted}
 
-pub tells_end : {K V P View S W A : Type 0} (old new : SessionState K V P View S W A) (ended : Ending K V P (Unit {0})) (answer : Answer K V P) (leaves : List (Event × Gone K V P))
-    → (ended.found ≡ true → answer ≡ Answered (got_of (length old.handles) ended.outcome (numbers_of ended.waiters)) (first_told (entries_by ended.outcome)))
-    → (ended.found ≡ false → answer ≡ Lost) → (ended.found ≡ false → ended ≡ lost) → leaves ≡ ended.leaves → new.handles ≡ old.handles ++ map given (entries_by ended.outcome) → new.pieces ≡ old.pieces
+pub tells_end : {K V P View S W A : Type 0} (old new : SessionState K V P View S W A)
+    (ended : Ending K V P (Unit {0})) (answer : Answer K V P) (leaves : List (Event × Gone K V P))
+    → (ended.found ≡ true → answer ≡ Answered (got_of (length old.handles) ended.outcome (numbers_of ended.waiters))
+    (first_told (entries_by ended.outcome)))
+    → (ended.found ≡ false → answer ≡ Lost) → (ended.found ≡ false → ended ≡ lost) → leaves ≡ ended.leaves →
+    new.handles ≡ old.handles ++ map given (entries_by ended.outcome) → new.pieces ≡ old.pieces
     → TellsEnd old ended answer leaves new
 tells_end {K} {V} {P} old new ended answer leaves answered gone lost_is left handles pieces = go ended.found refl where
   go : (b : Bool) → ended.found ≡ b → TellsEnd old ended answer leaves new
@@ -27,7 +30,11 @@ tells_end {K} {V} {P} old new ended answer leaves answered gone lost_is left han
       rw (gone is) (
         none,
         left ∙ ap (λ (x : Ending K V P (Unit {0})). x.leaves) none,
-        (handles ∙ ap (λ (x : Ending K V P (Unit {0})). old.handles ++ map given (entries_by x.outcome)) none ∙ append-nil old.handles, pieces),
+        (
+          handles ∙ ap (λ (x : Ending K V P (Unit {0})). old.handles ++ map given (entries_by x.outcome)) none
+              ∙ append-nil old.handles,
+          pieces,
+        ),
       )
 
 module _ {N R : Type 0} where
@@ -38,39 +45,56 @@ module _ {N R : Type 0} where
     go true h = h
     go false h = absurd cc
 
-module _ {K N R : Type 0} (eq : K → K → Bool) (f : List (Opens K N R)) (sound : (i : ℕ) (x : Opens K N R) → slice_get f i ≡ Some x → AreOpen eq x) (k : ℕ × K) (fetch count : ℕ) where
+module _ {K N R : Type 0} (eq : K → K → Bool) (f : List (Opens K N R))
+    (sound : (i : ℕ) (x : Opens K N R) → slice_get f i ≡ Some x → AreOpen eq x) (k : ℕ × K) (fetch count : ℕ) where
   -- no more wait for an open fetch than wait
-  pub asked_counted : (p : Option (Place N R)) → asked (Some fetch) (place_in f k) ≡ p → ∥ AtMost f count ∥₁ → length (waiters_of p) ≤ count
+  pub asked_counted : (p : Option (Place N R)) → asked (Some fetch) (place_in f k) ≡ p → ∥ AtMost f count ∥₁ →
+      length (waiters_of p) ≤ count
   asked_counted None is most = omega arith
   asked_counted (Some o) is most =
-      subst (λ (x : Option (Place N R)). length (waiters_of x) ≤ count) (asked_some fetch (place_in f k) o is) (waiting_counted eq f sound k k.0 refl count most)
+      subst (λ (x : Option (Place N R)). length (waiters_of x) ≤ count) (asked_some fetch (place_in f k) o is)
+      (waiting_counted eq f sound k k.0 refl count most)
 
   -- and so many less once it has ended
-  pub ended_waiting : (p : Option (Place N R)) → asked (Some fetch) (place_in f k) ≡ p → (g : List (Opens K N R)) (left : ℕ) → ClosedBy p eq k f g → left + length (waiters_of p) ≡ count → ∥ AtMost f count ∥₁ → ∥ AtMost g left ∥₁
+  pub ended_waiting : (p : Option (Place N R)) → asked (Some fetch) (place_in f k) ≡ p →
+      (g : List (Opens K N R)) (left : ℕ) → ClosedBy p eq k f g → left + length (waiters_of p) ≡ count →
+      ∥ AtMost f count ∥₁ → ∥ AtMost g left ∥₁
   ended_waiting None is g left closes less most =
       let same : count ≡ left = omega (arith, less) in
       subst (λ (n : ℕ). ∥ AtMost g n ∥₁) same (still_waiting f g count closes most)
   ended_waiting (Some o) is g left closes less most =
-      closed_waiting eq f sound k k.0 refl count g left closes (ap (λ (x : Option (Place N R)). left + length (waiters_of x)) (asked_some fetch (place_in f k) o is) ∙ less) most
+      closed_waiting eq f sound k k.0 refl count g left closes
+      (ap (λ (x : Option (Place N R)). left + length (waiters_of x)) (asked_some fetch (place_in f k) o is)
+      ∙ less) most
 
   -- a fetch goes on with a builder that was kept: who waited still does
-  pub taken_waiting : (o : Place N R) (r : R) → asked (Some fetch) (place_in f k) ≡ Some o → o.later ≡ Some r → (g : List (Opens K N R)) → g ≡ at_hash (λ q. after_nothing eq q k) f k.0 → ∥ AtMost f count ∥₁ → ∥ AtMost g count ∥₁
+  pub taken_waiting : (o : Place N R) (r : R) → asked (Some fetch) (place_in f k) ≡ Some o → o.later ≡ Some r →
+      (g : List (Opens K N R)) → g ≡ at_hash (λ q. after_nothing eq q k) f k.0 → ∥ AtMost f count ∥₁ →
+      ∥ AtMost g count ∥₁
   taken_waiting o r is later g goes most = rw goes (go (slice_get f (k.0 % length f)) refl) where
-    go : (x : Option (Opens K N R)) → slice_get f (k.0 % length f) ≡ x → ∥ AtMost (replaced f (k.0 % length f) (λ q. after_nothing eq q k) x) count ∥₁
+    go : (x : Option (Opens K N R)) → slice_get f (k.0 % length f) ≡ x →
+        ∥ AtMost (replaced f (k.0 % length f) (λ q. after_nothing eq q k) x) count ∥₁
     go None there = most
     go (Some x) there =
-        let place : x.places k ≡ Some o = sym (ap (option_and_then (λ (y : Opens K N R). y.places k)) there) ∙ asked_some fetch (place_in f k) o is in
+        let place : x.places k ≡ Some o = sym (ap (option_and_then (λ (y : Opens K N R). y.places k)) there)
+        ∙ asked_some fetch (place_in f k) o is in
         ∥∥₁_map most (λ y. taken_waits f (k.0 % length f) x there eq k refl count o r place later y)
 
   -- a fetch that found nothing ends where no builder is kept
-  pub nothing_waiting : (o : Place N R) → asked (Some fetch) (place_in f k) ≡ Some o → o.later ≡ None → (g : List (Opens K N R)) (left : ℕ) → g ≡ at_hash (λ q. after_nothing eq q k) f k.0 → left + length o.tokens ≡ count
+  pub nothing_waiting : (o : Place N R) → asked (Some fetch) (place_in f k) ≡ Some o → o.later ≡ None →
+      (g : List (Opens K N R)) (left : ℕ) → g ≡ at_hash (λ q. after_nothing eq q k) f k.0 → left + length o.tokens
+      ≡ count
       → ∥ AtMost f count ∥₁ → ∥ AtMost g left ∥₁
-  nothing_waiting o is later g left goes less most = ended_waiting (Some o) is g left (goes ∙ go (slice_get f (k.0 % length f)) refl) less most where
-    go : (x : Option (Opens K N R)) → slice_get f (k.0 % length f) ≡ x → replaced f (k.0 % length f) (λ q. after_nothing eq q k) x ≡ replaced f (k.0 % length f) (λ q. closed eq q k) x
-    go None there = refl
-    go (Some x) there =
-        let place : x.places k ≡ Some o = sym (ap (option_and_then (λ (y : Opens K N R). y.places k)) there) ∙ asked_some fetch (place_in f k) o is in
-        ap (λ (y : Opens K N R). slice_set f (k.0 % length f) y) (nothing_closes f (k.0 % length f) x there eq k refl o place later)
+  nothing_waiting o is later g left goes less most =
+      ended_waiting (Some o) is g left (goes ∙ go (slice_get f (k.0 % length f)) refl) less most where
+        go : (x : Option (Opens K N R)) → slice_get f (k.0 % length f) ≡ x →
+            replaced f (k.0 % length f) (λ q. after_nothing eq q k) x ≡ replaced f (k.0 % length f) (λ q. closed eq q k) x
+        go None there = refl
+        go (Some x) there =
+            let place : x.places k ≡ Some o = sym (ap (option_and_then (λ (y : Opens K N R). y.places k)) there)
+            ∙ asked_some fetch (place_in f k) o is in
+            ap (λ (y : Opens K N R). slice_set f (k.0 % length f) y)
+            (nothing_closes f (k.0 % length f) x there eq k refl o place later)
 
 -- what there is, where there is something so
 pub some_so : {A : Type 0} {P : A → Type 0} (o : Option A) → IsSomeAnd o P → (x : A) × (o ≡ Some x) × P x

@@ -19,7 +19,8 @@ module _ {K V P View C : Type 0} (m : Meaning K P View C) (s : State K V P View)
     go (Some r) is = absurd (omega (arith, kept.fresh s.next r is))
 
   -- what a get finds has the hash that was asked for
-  pub found_hash : (k : ℕ × K) (entry : Held K V P) (t : State K V P View) → Gets m s k (Ok (Some entry)) t → entry.kept.hash ≡ k.0
+  pub found_hash : (k : ℕ × K) (entry : Held K V P) (t : State K V P View) → Gets m s k (Ok (Some entry)) t →
+      entry.kept.hash ≡ k.0
   found_hash k entry t h =
       let same : same_key m.same k (key_of h.0.kept) ≡ true = (kept.indexed k entry.id h.1).1 h.0 h.2 in
       let e : (k.0 == h.0.kept.hash) ≡ true = first_holds (k.0 == h.0.kept.hash) (m.same k.1 h.0.kept.key) same in
@@ -27,7 +28,8 @@ module _ {K V P View C : Type 0} (m : Meaning K P View C) (s : State K V P View)
       grind (arith, nat_tests)
 
   -- so has what a remove takes out
-  pub removed_hash : (k : ℕ × K) (entry : Held K V P) (gone : Gone K V P) (t : State K V P View) → Removes m s k (Ok (Some (entry, gone))) t → entry.kept.hash ≡ k.0
+  pub removed_hash : (k : ℕ × K) (entry : Held K V P) (gone : Gone K V P) (t : State K V P View) →
+      Removes m s k (Ok (Some (entry, gone))) t → entry.kept.hash ≡ k.0
   removed_hash k entry gone t h =
       let same : same_key m.same k (key_of h.0.kept) ≡ true = (kept.indexed k entry.id h.1).1 h.0 h.2 in
       let e : (k.0 == h.0.kept.hash) ≡ true = first_holds (k.0 == h.0.kept.hash) (m.same k.1 h.0.kept.key) same in

@@ -19,16 +19,20 @@ module _ {K V P : Type 0} where
   told_start (entry ∷ entries) = refl
 
   -- the last one is handed out
-  pub told_more : (told : Option (Gone K V P)) (all rest : List (Held K V P)) (entry : Held K V P) → all ≡ rest ++ entry ∷ [] → told_from (Some (record_of entry)) rest ≡ told_from told all
+  pub told_more : (told : Option (Gone K V P)) (all rest : List (Held K V P)) (entry : Held K V P) → all ≡ rest
+      ++ entry ∷ [] → told_from (Some (record_of entry)) rest ≡ told_from told all
   told_more told all [] entry is = sym (ap (told_from told) is)
   told_more told all (x ∷ rest) entry is = sym (ap (told_from told) is)
 
-  pub handed_more : (handles now : List (Option (Held K V P))) (all rest : List (Held K V P)) (entry : Held K V P) (goal : List (Option (Held K V P))) → all ≡ rest ++ entry ∷ [] → now ≡ handles ++ given entry ∷ []
+  pub handed_more : (handles now : List (Option (Held K V P))) (all rest : List (Held K V P)) (entry : Held K V P)
+      (goal : List (Option (Held K V P))) → all ≡ rest ++ entry ∷ [] → now ≡ handles ++ given entry ∷ []
       → handles ++ reverse (map given all) ≡ goal → now ++ reverse (map given rest) ≡ goal
   handed_more handles now all rest entry goal is pushed h =
       ap (λ (l : List (Option (Held K V P))). l ++ reverse (map given rest)) pushed
       ∙ append_assoc handles (given entry ∷ []) (reverse (map given rest))
-      ∙ ap (λ (l : List (Option (Held K V P))). handles ++ l) (sym (ap (λ (l : List (Held K V P)). reverse (map given l)) is ∙ ap reverse (map-append given rest (entry ∷ [])) ∙ reverse-append (map given rest) (given entry ∷ [])))
+      ∙ ap (λ (l : List (Option (Held K V P))). handles ++ l)
+      (sym (ap (λ (l : List (Held K V P)). reverse (map given l)) is
+      ∙ ap reverse (map-append given rest (entry ∷ [])) ∙ reverse-append (map given rest) (given entry ∷ [])))
       ∙ h
 
   pub untold_rest : (rest : List (Held K V P)) (entry : Held K V P) → AreUntold (rest ++ entry ∷ []) → AreUntold rest
@@ -56,18 +60,21 @@ module _ {K V P : Type 0} where
   back_all zero x = refl
   back_all (suc n) x =
       let next : n + 1 ≡ suc n = omega arith in
-      reverse-append (x ∷ []) (replicate n x) ∙ ap (λ (l : List (Option (Held K V P))). l ++ x ∷ []) (back_all n x) ∙ replicate_more n x ∙ ap (λ (m : ℕ). replicate m x) next
+      reverse-append (x ∷ []) (replicate n x) ∙ ap (λ (l : List (Option (Held K V P))). l ++ x ∷ []) (back_all n x)
+      ∙ replicate_more n x ∙ ap (λ (m : ℕ). replicate m x) next
 
   -- they are handed out in any order
   pub alike_back : (entries : List (Held K V P)) → AreAlike entries → reverse (map given entries) ≡ map given entries
   alike_back [] h = refl
   alike_back (entry ∷ entries) h =
       let n : ℕ = suc (length entries) in
-      let all : map given (entry ∷ entries) ≡ replicate n (given entry) = ap (λ (l : List (Held K V P)). map given (entry ∷ l)) h.1 ∙ given_all n entry in
+      let all : map given (entry ∷ entries) ≡ replicate n (given entry) =
+      ap (λ (l : List (Held K V P)). map given (entry ∷ l)) h.1 ∙ given_all n entry in
       ap reverse all ∙ back_all n (given entry) ∙ sym all
 
   -- so many that are alike
-  pub alike_of : (n : ℕ) (entry : Held K V P) (entries : List (Held K V P)) → entry.left ≡ true → entries ≡ replicate n entry → AreAlike entries
+  pub alike_of : (n : ℕ) (entry : Held K V P) (entries : List (Held K V P)) → entry.left ≡ true → entries
+      ≡ replicate n entry → AreAlike entries
   alike_of n entry entries untold is = subst AreAlike (sym is) (all n)
     where
       all : (m : ℕ) → AreAlike (replicate m entry)
@@ -75,20 +82,27 @@ module _ {K V P : Type 0} where
       all (suc m) = (untold, ap (λ (k : ℕ). replicate k entry) (sym (length-replicate m entry)))
 
   -- one more after them
-  pub one_after : (handles : List (Option (Held K V P))) (n : ℕ) (x : Option (Held K V P)) → (handles ++ replicate n x) ++ x ∷ [] ≡ handles ++ replicate (1 + n) x
+  pub one_after : (handles : List (Option (Held K V P))) (n : ℕ) (x : Option (Held K V P)) →
+      (handles ++ replicate n x) ++ x ∷ [] ≡ handles ++ replicate (1 + n) x
   one_after handles n x =
       let next : n + 1 ≡ 1 + n = omega arith in
-      append_assoc handles (replicate n x) (x ∷ []) ∙ ap (λ (l : List (Option (Held K V P))). handles ++ l) (replicate_more n x ∙ ap (λ (m : ℕ). replicate m x) next)
+      append_assoc handles (replicate n x) (x ∷ [])
+      ∙ ap (λ (l : List (Option (Held K V P))). handles ++ l)
+      (replicate_more n x ∙ ap (λ (m : ℕ). replicate m x) next)
 
   -- what an outcome of entries gives
-  pub entries_are : (o : Outcome K V P) (entries : List (Held K V P)) → entries_in o ≡ Some entries → outcome_of o ≡ Ok (Some entries)
+  pub entries_are : (o : Outcome K V P) (entries : List (Held K V P)) → entries_in o ≡ Some entries → outcome_of o
+      ≡ Ok (Some entries)
   entries_are (Entries made) entries h = ap (λ (e : Option (List (Held K V P))). Ok e) h
   entries_are Nothing entries h = absurd cc
   entries_are (Fault reason) entries h = absurd cc
 
   -- how many there are then
-  pub given_long : (handles : List (Option (Held K V P))) (n : ℕ) (entry : Held K V P) → length (handles ++ map given (replicate n entry)) ≡ length handles + n
-  given_long handles n entry = length-append handles (map given (replicate n entry)) ∙ ap (λ (x : ℕ). length handles + x) (length-map (replicate n entry) given ∙ length-replicate n entry)
+  pub given_long : (handles : List (Option (Held K V P))) (n : ℕ) (entry : Held K V P) →
+      length (handles ++ map given (replicate n entry)) ≡ length handles + n
+  given_long handles n entry = length-append handles (map given (replicate n entry))
+      ∙ ap (λ (x : ℕ). length handles + x) (length-map (replicate n entry) given ∙ length-replicate n entry)
 
-  pub one_longer : (handles : List (Option (Held K V P))) (x : Option (Held K V P)) → length (handles ++ x ∷ []) ≡ length handles + 1
+  pub one_longer : (handles : List (Option (Held K V P))) (x : Option (Held K V P)) → length (handles ++ x ∷ [])
+      ≡ length handles + 1
   one_longer handles x = length-append handles (x ∷ [])

@@ -15,32 +15,42 @@ StandsFor-trans xs ys zs h k = λ rest. h rest ∙ k rest
 
 -- the same bytes behind both
 pub StandsFor-append : (xs ys more : List ℕ) → StandsFor xs ys → StandsFor (xs ++ more) (ys ++ more)
-StandsFor-append xs ys more h = λ rest. ap line_of (append_assoc xs more rest) ∙ h (more ++ rest) ∙ ap line_of (sym (append_assoc ys more rest))
+StandsFor-append xs ys more h = λ rest. ap line_of (append_assoc xs more rest) ∙ h (more ++ rest)
+    ∙ ap line_of (sym (append_assoc ys more rest))
 
 -- two spaces do not meet, so each byte adds to the words or parts them
 tight_weight : (b : ℕ) (xs rest : List ℕ) → is_tight_after b xs ≡ true
-    → (b ≡ 32 → length xs ≤ weight_of (words (xs ++ rest))) × (b ≢ 32 → suc (length xs) ≤ weight_of (words (b ∷ xs ++ rest)))
-tight_weight b [] rest tight = (λ _. omega arith, λ ne. let (word, more, is) = words-begin b rest ne in omega (arith, ap weight_of is))
+    → (b ≡ 32 → length xs ≤ weight_of (words (xs ++ rest)))
+    × (b ≢ 32 → suc (length xs) ≤ weight_of (words (b ∷ xs ++ rest)))
+tight_weight b [] rest tight =
+    (λ _. omega arith, λ ne. let (word, more, is) = words-begin b rest ne in omega (arith, ap weight_of is))
 tight_weight b (c ∷ ys) rest tight =
     let (apart, later) = and_parts (not (eqb b 32 && eqb c 32)) (is_tight_after c ys) tight in
     let next = tight_weight c ys rest later in
     ⊎_elim (λ e. (
-      λ d. absurd (true≢false (sym (and_from (eqb b 32) (eqb c 32) (eq-eqb b 32 d) (eq-eqb c 32 e)) ∙ not-true (eqb b 32 && eqb c 32) apart)),
+      λ d. absurd
+          (true≢false
+          (sym (and_from (eqb b 32) (eqb c 32) (eq-eqb b 32 d) (eq-eqb c 32 e))
+          ∙ not-true (eqb b 32 && eqb c 32) apart)),
       λ ne.
-          let is : words (b ∷ c ∷ ys ++ rest) ≡ (b ∷ []) ∷ words (ys ++ rest) = ap (λ x. words (b ∷ x ∷ ys ++ rest)) e ∙ words-one b (ys ++ rest) ne in
+          let is : words (b ∷ c ∷ ys ++ rest) ≡ (b ∷ []) ∷ words (ys ++ rest) = ap (λ x. words (b ∷ x ∷ ys ++ rest)) e
+          ∙ words-one b (ys ++ rest) ne in
           omega (arith, ap weight_of is, next.0 e),
     )) (λ nf. (
       λ d. next.1 nf,
-      λ ne. let (word, more, is, goes) = words-go_on b c (ys ++ rest) ne nf in omega (arith, ap weight_of is, ap weight_of goes, next.1 nf),
+      λ ne. let (word, more, is, goes) = words-go_on b c (ys ++ rest) ne nf in
+          omega (arith, ap weight_of is, ap weight_of goes, next.1 nf),
     )) (cases_eq c 32)
 
 -- what is tight and long is bad, whatever follows
 pub tight-bad : (xs rest : List ℕ) → is_tight_after 32 xs ≡ true → 84 < length xs → line_of (xs ++ rest) ≡ Bad
-tight-bad xs rest tight long = line_of_words-long (words (xs ++ rest)) (omega (arith, (tight_weight 32 xs rest tight).0 refl))
+tight-bad xs rest tight long = line_of_words-long (words (xs ++ rest))
+    (omega (arith, (tight_weight 32 xs rest tight).0 refl))
 
 -- so another byte changes nothing
 pub StandsFor-full : (xs : List ℕ) (b : ℕ) → is_tight_after 32 xs ≡ true → 84 < length xs → StandsFor xs (xs ++ b ∷ [])
-StandsFor-full xs b tight long = λ rest. tight-bad xs rest tight long ∙ sym (ap line_of (append_assoc xs (b ∷ []) rest) ∙ tight-bad xs (b ∷ rest) tight long)
+StandsFor-full xs b tight long = λ rest. tight-bad xs rest tight long
+    ∙ sym (ap line_of (append_assoc xs (b ∷ []) rest) ∙ tight-bad xs (b ∷ rest) tight long)
 
 last_split : (b : ℕ) (xs : List ℕ) → (front : List ℕ) × (b ∷ xs ≡ front ++ last_after b xs ∷ [])
 last_split b [] = ([], refl)
@@ -48,8 +58,11 @@ last_split b (x ∷ xs) = let (front, is) = last_split x xs in (b ∷ front, ap 
 
 StandsFor-twice : (front : List ℕ) → StandsFor (front ++ 32 ∷ []) ((front ++ 32 ∷ []) ++ 32 ∷ [])
 StandsFor-twice front = λ rest. ap line_of_words (
-    ap words (append_assoc front (32 ∷ []) rest) ∙ words-append_space front rest ∙ ap (λ l. words front ++ l) (sym (words-space rest))
-    ∙ sym (words-append_space front (32 ∷ rest)) ∙ ap words (sym (append_assoc front (32 ∷ []) (32 ∷ rest)) ∙ sym (append_assoc (front ++ 32 ∷ []) (32 ∷ []) rest)))
+    ap words (append_assoc front (32 ∷ []) rest) ∙ words-append_space front rest
+    ∙ ap (λ l. words front ++ l) (sym (words-space rest))
+    ∙ sym (words-append_space front (32 ∷ rest))
+    ∙ ap words
+    (sym (append_assoc front (32 ∷ []) (32 ∷ rest)) ∙ sym (append_assoc (front ++ 32 ∷ []) (32 ∷ []) rest)))
 
 -- a space after a space, or in first place, changes nothing
 pub StandsFor-space : (xs : List ℕ) → last_after 32 xs ≡ 32 → StandsFor xs (xs ++ 32 ∷ [])
@@ -69,7 +82,8 @@ pub last_after-push : (last : ℕ) (xs : List ℕ) (b : ℕ) → last_after last
 last_after-push last [] b = refl
 last_after-push last (x ∷ xs) b = last_after-push x xs b
 
-pub is_tight_after-push : (last : ℕ) (xs : List ℕ) (b : ℕ) → is_tight_after last xs ≡ true → not (eqb (last_after last xs) 32 && eqb b 32) ≡ true → is_tight_after last (xs ++ b ∷ []) ≡ true
+pub is_tight_after-push : (last : ℕ) (xs : List ℕ) (b : ℕ) → is_tight_after last xs ≡ true →
+    not (eqb (last_after last xs) 32 && eqb b 32) ≡ true → is_tight_after last (xs ++ b ∷ []) ≡ true
 is_tight_after-push last [] b tight apart = and_from _ true apart refl
 is_tight_after-push last (x ∷ xs) b tight apart =
     let (first, later) = and_parts (not (eqb last 32 && eqb x 32)) (is_tight_after x xs) tight in

@@ -35,25 +35,31 @@ use Rattle.foyer_session.proofs.LedgerRuns.{answered_more}
 use Rattle.foyer_session.proofs.LedgerSteps.{ComesHome}
 use Rattle.foyer_session.proofs.PieceHome.{came_home}
 
-module _ {E K V P S W A N R I C X : Type 0} {e : EvictionGhosts E C X} {e1 : CloneGhosts C} {e2 : DefaultGhosts C} {e3 : _} {e4 : DefaultGhosts X}
+module _ {E K V P S W A N R I C X : Type 0} {e : EvictionGhosts E C X} {e1 : CloneGhosts C} {e2 : DefaultGhosts C}
+    {e3 : _} {e4 : DefaultGhosts X}
     {q : EqGhosts K} {h : HashGhosts K} {c : CloneGhosts K} {p : PropertiesGhosts P} {d : DefaultGhosts P}
     {b : HashBuilderGhosts S} {w : WeighterGhosts W K V} {f : FilterGhosts A K V} {i : FinderGhosts I K} where
   -- equal keys have one place in the open fetches of a shard
-  pub alike_at : IsEquivalence q.eq → (core : CacheCore E K V P S W A N R I C X e e1 e2 e3 e4 q h c p d b w f i) (n : ℕ) (o : Opens K N R)
+  pub alike_at : IsEquivalence q.eq → (core : CacheCore E K V P S W A N R I C X e e1 e2 e3 e4 q h c p d b w f i)
+      (n : ℕ) (o : Opens K N R)
       → slice_get (fetches_of core) n ≡ Some o
       → (x y : ℕ × K) → same_key q.eq x y ≡ true → o.places x ≡ o.places y
-  alike_at laws core n o there x y same = alike_in (slice_get core.shards.items n) (sym (slice_get-map opens_of core.shards.items n) ∙ there)
+  alike_at laws core n o there x y same = alike_in (slice_get core.shards.items n)
+      (sym (slice_get-map opens_of core.shards.items n) ∙ there)
     where
-      alike_in : (found : Option (Shard E K V P N R I C X e e1 e2 e3 e4 q h c p d i)) → option_map opens_of found ≡ Some o → o.places x ≡ o.places y
+      alike_in : (found : Option (Shard E K V P N R I C X e e1 e2 e3 e4 q h c p d i)) → option_map opens_of found
+          ≡ Some o → o.places x ≡ o.places y
       alike_in None is = absurd cc
       alike_in (Some shard) is = (let one : opens_of shard ≡ o = cc in subst
           (λ (g : Opens K N R). g.places x ≡ g.places y) one (places_alike laws shard.inflights x y same))
 
-module _ {E K V P S W A I C X : Type 0} {e : EvictionGhosts E C X} {e1 : CloneGhosts C} {e2 : DefaultGhosts C} {e3 : _} {e4 : DefaultGhosts X}
+module _ {E K V P S W A I C X : Type 0} {e : EvictionGhosts E C X} {e1 : CloneGhosts C} {e2 : DefaultGhosts C}
+    {e3 : _} {e4 : DefaultGhosts X}
     {q : EqGhosts K} {h : HashGhosts K} {c : CloneGhosts K} {p : PropertiesGhosts P} {d : DefaultGhosts P}
     {b : HashBuilderGhosts S} {w : WeighterGhosts W K V} {f : FilterGhosts A K V} {i : FinderGhosts I K} where
   -- a piece's record comes in in the shard of the piece's key
-  pub comes_home : (s : Session E K V P S W A I C X e e1 e2 e3 e4 q h c p d b w f i) (new : SessionState K V P e.View S W A)
+  pub comes_home : (s : Session E K V P S W A I C X e e1 e2 e3 e4 q h c p d b w f i)
+      (new : SessionState K V P e.View S W A)
       → ComesHome (terms_of s) (session_of s) new
   comes_home s new piece made at =
       let old = session_of s in
@@ -66,14 +72,16 @@ module _ {E K V P S W A I C X : Type 0} {e : EvictionGhosts E C X} {e1 : CloneGh
       → (s : Session E K V P S W A I C X e e1 e2 e3 e4 q h c p d b w f i) {Q : Type 0}
       (picks : Q → K → V → Bool → Type 0) (new : SessionState K V P e.View S W A) (command : Command K V P Q C)
       (reply : Reply K V P)
-      → Step (terms_of s) picks (session_of s) command reply.answer reply.leaves new → IsSettled (terms_of s) (session_of s) (command ∷ []) (reply ∷ []) new
+      → Step (terms_of s) picks (session_of s) command reply.answer reply.leaves new →
+      IsSettled (terms_of s) (session_of s) (command ∷ []) (reply ∷ []) new
   call_settled laws s picks new command reply step =
       step_settled (terms_of s) laws (session_of s) new (open_at s.core) (alike_at laws s.core) (fetches_long s.core)
       picks (comes_home s new) command reply step
 
   -- and none is settled without one
   pub call_settled_none : IsEquivalence q.eq
-      → (s : Session E K V P S W A I C X e e1 e2 e3 e4 q h c p d b w f i) (Q : Type 0) (new : SessionState K V P e.View S W A) → new ≡ session_of s
+      → (s : Session E K V P S W A I C X e e1 e2 e3 e4 q h c p d b w f i) (Q : Type 0)
+      (new : SessionState K V P e.View S W A) → new ≡ session_of s
       → IsSettled {Q = Q} (terms_of s) (session_of s) [] [] new
   call_settled_none laws s Q new same = settled_none (terms_of s) laws (session_of s) new (open_at s.core)
       (alike_at laws s.core) (fetches_long s.core) {Q = Q} same
@@ -83,8 +91,10 @@ module _ {E K V P S W A I C X : Type 0} {e : EvictionGhosts E C X} {e1 : CloneGh
       → (s : Session E K V P S W A I C X e e1 e2 e3 e4 q h c p d b w f i) {Q : Type 0}
       (picks : Q → K → V → Bool → Type 0) (new : SessionState K V P e.View S W A) (command : Command K V P Q C)
       (reply : Reply K V P)
-      → Step (terms_of s) picks (session_of s) command reply.answer reply.leaves new → IsAnswered (terms_of s) (session_of s) command reply.answer new
-  call_answered laws s {Q} picks new command reply step = any_answered Q (terms_of s) laws (session_of s) new picks command reply.answer reply.leaves step
+      → Step (terms_of s) picks (session_of s) command reply.answer reply.leaves new →
+      IsAnswered (terms_of s) (session_of s) command reply.answer new
+  call_answered laws s {Q} picks new command reply step =
+      any_answered Q (terms_of s) laws (session_of s) new picks command reply.answer reply.leaves step
 
   module _ (laws : IsEquivalence q.eq) (first now : Session E K V P S W A I C X e e1 e2 e3 e4 q h c p d b w f i)
       {Q : Type 0} (picks : Q → K → V → Bool → Type 0) {Y : Type 0} (from : Y → Command K V P Q C) (ys : List Y)
@@ -94,7 +104,8 @@ module _ {E K V P S W A I C X : Type 0} {e : EvictionGhosts E C X} {e1 : CloneGh
       (settled : IsSettled (terms_of first) (session_of first) (map from ys) replies (session_of now))
       (step : Step (terms_of now) picks (session_of now) (from y) reply.answer reply.leaves new) where
     -- a run's tokens are settled by one step more
-    pub call_settled_more : IsSettled (terms_of first) (session_of first) (map from (ys ++ y ∷ [])) (replies ++ reply ∷ []) new
+    pub call_settled_more : IsSettled (terms_of first) (session_of first) (map from (ys ++ y ∷ []))
+        (replies ++ reply ∷ []) new
     call_settled_more =
         settled_more (terms_of first) picks from (session_of first) (session_of now) new ys replies y reply run
         settled (call_settled laws now picks new (from y) reply step)

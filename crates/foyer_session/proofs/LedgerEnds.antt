@@ -31,7 +31,8 @@ who_got_all next (Ok None) tokens = who_got_each (Ok None) tokens
 who_got_all next (Err reason) tokens = who_got_each (Err reason) tokens
 
 -- Those who waited in this place are answered, and it is closed. The end of what is not open is not found.
-pub record EndsPlace {K V P N R : Type 0} (eq : K → K → Bool) (k : ℕ × K) (p : Option (Place N R)) (f g : List (Opens K N R)) (ended : Ending K V P N) : Type 0 where
+pub record EndsPlace {K V P N R : Type 0} (eq : K → K → Bool) (k : ℕ × K) (p : Option (Place N R))
+    (f g : List (Opens K N R)) (ended : Ending K V P N) : Type 0 where
   pub waiters : ended.waiters ≡ waiters_of p
   pub closes : ClosedBy p eq k f g
   pub found : (o : Place N R) → p ≡ Some o → ended.found ≡ true
@@ -40,24 +41,42 @@ module _ {K V P N R : Type 0} (eq : K → K → Bool) (k : ℕ × K) (f g : List
   none_some : (o : Place N R) → ◌≡◌ {A = Option (Place N R)} None (Some o) → ended.found ≡ true
   none_some o h = absurd cc
 
-  pub ends_place : (p : Option (Place N R)) (reason : Reason) → EndsIn p eq k reason f ended g → EndsPlace eq k p f g ended
-  ends_place None reason h = record { waiters = ap (λ (x : Ending K V P N). x.waiters) h.0; closes = h.1; found = none_some }
-  ends_place (Some o) reason h = record { waiters = ap (λ (x : Ending K V P N). x.waiters) h.0; closes = h.1; found = λ p is. ap (λ (x : Ending K V P N). x.found) h.0 }
+  pub ends_place : (p : Option (Place N R)) (reason : Reason) → EndsIn p eq k reason f ended g →
+      EndsPlace eq k p f g ended
+  ends_place None reason h =
+      record { waiters = ap (λ (x : Ending K V P N). x.waiters) h.0; closes = h.1; found = none_some }
+  ends_place (Some o) reason h =
+      record {
+        waiters = ap (λ (x : Ending K V P N). x.waiters) h.0;
+        closes = h.1;
+        found =
+            λ p is. ap (λ (x : Ending K V P N). x.found) h.0;
+      }
 
-module _ {K V P View C S W A N R : Type 0} (m : Meaning K P View C) (old new : Core K V P View S W A) (f g : List (Opens K N R)) (k : ℕ × K) (ended : Ending K V P N)
-    (hash : K → ℕ) (weighs : K → V → ℕ → Type 0) (admits : K → V → Bool → Type 0) (properties : P → Bool → P) (source : Source) where
+module _ {K V P View C S W A N R : Type 0} (m : Meaning K P View C) (old new : Core K V P View S W A)
+    (f g : List (Opens K N R)) (k : ℕ × K) (ended : Ending K V P N)
+    (hash : K → ℕ) (weighs : K → V → ℕ → Type 0) (admits : K → V → Bool → Type 0) (properties : P → Bool → P)
+    (source : Source) where
   none_found : (o : Place N R) → ◌≡◌ {A = Option (Place N R)} None (Some o) → ended.found ≡ true
   none_found o h = absurd cc
 
   piece_place : (b : Bool) (piece : Carried K V P) (o : Place N R)
       → PieceCompletes m b (weighs piece.kept.key piece.kept.value) (hash piece.kept.key) piece k o ended old f new g
       → EndsPlace m.same k (Some o) f g ended × StaysBuilt old new
-  piece_place true piece o h = (record { waiters = h.waiters; closes = h.closes; found = λ p is. h.found }, shard_built old new _ k.0 h.arrived)
+  piece_place true piece o h =
+      (record { waiters = h.waiters; closes = h.closes; found = λ p is. h.found }, shard_built old new _ k.0 h.arrived)
   piece_place false piece o h = (ends_place m.same k f g ended (Some o) _ h.0, same_built old new h.1)
 
-  pub completed_place : (target : FetchTarget K V P) (p : Option (Place N R)) → Completed m hash weighs admits properties source target k p ended old f new g
+  pub completed_place : (target : FetchTarget K V P) (p : Option (Place N R)) →
+      Completed m hash weighs admits properties source target k p ended old f new g
       → EndsPlace m.same k p f g ended × StaysBuilt old new
-  completed_place target None h = (record { waiters = ap (λ (x : Ending K V P N). x.waiters) h.0; closes = h.2; found = none_found }, same_built old new h.1)
-  completed_place (Entry value own) (Some o) h =
-      (record { waiters = h.completes.waiters; closes = h.completes.closes; found = λ p is. h.completes.found }, shard_built old new _ k.0 h.completes.arrived)
-  completed_place (PieceOf piece) (Some o) h = piece_place (is_of m old (hash piece.kept.key) piece k (shard_at old k.0)) piece o h
+  completed_place target None h = (
+    record { waiters = ap (λ (x : Ending K V P N). x.waiters) h.0; closes = h.2; found = none_found },
+    same_built old new h.1,
+  )
+  completed_place (Entry value own) (Some o) h = (
+    record { waiters = h.completes.waiters; closes = h.completes.closes; found = λ p is. h.completes.found },
+    shard_built old new _ k.0 h.completes.arrived,
+  )
+  completed_place (PieceOf piece) (Some o) h =
+      piece_place (is_of m old (hash piece.kept.key) piece k (shard_at old k.0)) piece o h

@@ -29,7 +29,8 @@ use Rattle.foyer_session.proofs.LedgerKeys.{Keyed, closed_keyed_at, enqueued_key
 use Rattle.foyer_session.proofs.LedgerSteps.{lead_token, wait_token}
 
 module _ {K V P View C S W A : Type 0} (t : Terms K V P View C S W A) (old new : SessionState K V P View S W A)
-    (alike : (i : ℕ) (f : Opens K (Unit {0}) ℕ) → slice_get old.fetches i ≡ Some f → (p q : ℕ × K) → same_key t.meaning.same p q ≡ true → f.places p ≡ f.places q) where
+    (alike : (i : ℕ) (f : Opens K (Unit {0}) ℕ) → slice_get old.fetches i ≡ Some f → (p q : ℕ × K) →
+    same_key t.meaning.same p q ≡ true → f.places p ≡ f.places q) where
   abbrev pub KeyedBy : Option (ℕ × K) → Answer K V P → Type 0
   KeyedBy key answer = Keyed t.meaning.same old.fetches new.fetches (of_key key (issues answer))
 
@@ -39,19 +40,23 @@ module _ {K V P View C S W A : Type 0} (t : Terms K V P View C S W A) (old new :
   unchanged : new ≡ old → Keyed t.meaning.same old.fetches new.fetches []
   unchanged is = same (ap (λ (s : SessionState K V P View S W A). s.fetches) is)
 
-  insert_keyed : (k : K) (v : V) (p : P) (answer : Answer K V P) (leaves : List (Event × Gone K V P)) → InsertStep t old k v p answer leaves new
+  insert_keyed : (k : K) (v : V) (p : P) (answer : Answer K V P) (leaves : List (Event × Gone K V P)) →
+      InsertStep t old k v p answer leaves new
       → KeyedBy (Some (hashed t old k)) answer
-  insert_keyed k v p (Entry number told answers) leaves h = closed_keyed_at t.meaning.same old.fetches alike (hashed t old k) (hash_in t old k) new.fetches h.7
+  insert_keyed k v p (Entry number told answers) leaves h =
+      closed_keyed_at t.meaning.same old.fetches alike (hashed t old k) (hash_in t old k) new.fetches h.7
   insert_keyed k v p (Refused reason) leaves h = same h.5.1
   insert_keyed k v p _ leaves h = absurd h
 
   -- one more waits for the key
   one_keyed : (k : K) (i : ℕ) (f : Opens K (Unit {0}) ℕ) → slice_get old.fetches i ≡ Some f → (later : Option ℕ)
-      → new.fetches ≡ slice_set old.fetches i (after_enqueue t.meaning.same f (hashed t old k) tt later) → (token : ℕ) → token ≡ f.next_token
+      → new.fetches ≡ slice_set old.fetches i (after_enqueue t.meaning.same f (hashed t old k) tt later) → (token : ℕ)
+      → token ≡ f.next_token
       → Keyed t.meaning.same old.fetches new.fetches ((hashed t old k, token) ∷ [])
   one_keyed k i f there later is token own =
       subst (λ (n : ℕ). Keyed t.meaning.same old.fetches new.fetches ((hashed t old k, n) ∷ [])) (sym own)
-      (subst (λ (g : List (Opens K (Unit {0}) ℕ)). Keyed t.meaning.same old.fetches g ((hashed t old k, f.next_token) ∷ [])) (sym is)
+      (subst (λ (g : List (Opens K (Unit {0}) ℕ)). Keyed t.meaning.same old.fetches g
+      ((hashed t old k, f.next_token) ∷ [])) (sym is)
       (enqueued_keyed t.meaning.same old.fetches i f there (alike i f there) (hashed t old k) tt later))
 
   get_or_fetch_keyed : (k : K) (later : Option ℕ) (answer : Answer K V P) (leaves : List (Event × Gone K V P))
@@ -61,18 +66,22 @@ module _ {K V P View C S W A : Type 0} (t : Terms K V P View C S W A) (old new :
       let at = h.1 in
       let i = shard_of old.core (hash_in t old k) in
       one_keyed k i at.open_before at.open_there later (at.open_rest ∙ ap (slice_set old.fetches i) at.stepped.4) token
-      (lead_token (at.open_before.places (hashed t old k)) fetch token at.open_before.next_fetch at.open_before.next_token h.0 later at.stepped.2)
+      (lead_token (at.open_before.places (hashed t old k)) fetch token at.open_before.next_fetch
+      at.open_before.next_token h.0 later at.stepped.2)
   get_or_fetch_keyed k later (Wait token) leaves h =
       let at = h.0 in
       let i = shard_of old.core (hash_in t old k) in
       one_keyed k i at.open_before at.open_there later (at.open_rest ∙ ap (slice_set old.fetches i) at.stepped.4) token
-      (wait_token (at.open_before.places (hashed t old k)) token at.open_before.next_fetch at.open_before.next_token later at.stepped.2)
+      (wait_token (at.open_before.places (hashed t old k)) token at.open_before.next_fetch at.open_before.next_token
+      later at.stepped.2)
   get_or_fetch_keyed k later (Refused reason) leaves h = unchanged h.2
   get_or_fetch_keyed k later _ leaves h = absurd h
 
-  insert_piece_keyed : (n : ℕ) (answer : Answer K V P) (leaves : List (Event × Gone K V P)) → InsertPieceStep t old n answer leaves new
+  insert_piece_keyed : (n : ℕ) (answer : Answer K V P) (leaves : List (Event × Gone K V P)) →
+      InsertPieceStep t old n answer leaves new
       → Keyed t.meaning.same old.fetches new.fetches []
-  insert_piece_keyed n (Entry number told answers) leaves h = closed_keyed_at t.meaning.same old.fetches alike (key_of h.1.kept) (hash_in t old h.0.kept.key) new.fetches h.5
+  insert_piece_keyed n (Entry number told answers) leaves h =
+      closed_keyed_at t.meaning.same old.fetches alike (key_of h.1.kept) (hash_in t old h.0.kept.key) new.fetches h.5
   insert_piece_keyed n (Refused reason) leaves h = elim h.2 [
     | inl x ↦ unchanged x.2
     | inr y ↦ same y.1.1
@@ -81,143 +90,175 @@ module _ {K V P View C S W A : Type 0} (t : Terms K V P View C S W A) (old new :
   insert_piece_keyed n _ leaves h = absurd h
 
   -- a fetch ends
-  closes_keyed : (k : K) (p : Option (Place (Unit {0}) ℕ)) → ClosedBy p t.meaning.same (hashed t old k) old.fetches new.fetches
+  closes_keyed : (k : K) (p : Option (Place (Unit {0}) ℕ)) →
+      ClosedBy p t.meaning.same (hashed t old k) old.fetches new.fetches
       → Keyed t.meaning.same old.fetches new.fetches []
   closes_keyed k None closes = same closes
-  closes_keyed k (Some o) closes = closed_keyed_at t.meaning.same old.fetches alike (hashed t old k) (hash_in t old k) new.fetches closes
+  closes_keyed k (Some o) closes = closed_keyed_at t.meaning.same old.fetches alike (hashed t old k) (hash_in t old k)
+      new.fetches closes
 
   -- what an end answers issues no token
-  no_more : (k : K) (x : Keyed t.meaning.same old.fetches new.fetches []) (answer : Answer K V P) → issues answer ≡ [] → KeyedBy (Some (hashed t old k)) answer
-  no_more k x answer none = subst (λ (ts : List ℕ). Keyed t.meaning.same old.fetches new.fetches (of_key (Some (hashed t old k)) ts)) (sym none) x
+  no_more : (k : K) (x : Keyed t.meaning.same old.fetches new.fetches []) (answer : Answer K V P) → issues answer ≡ []
+      → KeyedBy (Some (hashed t old k)) answer
+  no_more k x answer none = subst
+      (λ (ts : List ℕ). Keyed t.meaning.same old.fetches new.fetches (of_key (Some (hashed t old k)) ts)) (sym none) x
 
-  with_keyed : (k : K) (fetch : ℕ) (source : Source) (target : FetchTarget K V P) (answer : Answer K V P) (leaves : List (Event × Gone K V P))
+  with_keyed : (k : K) (fetch : ℕ) (source : Source) (target : FetchTarget K V P) (answer : Answer K V P)
+      (leaves : List (Event × Gone K V P))
       → CompletesWith t old k fetch source target answer leaves new → Keyed t.meaning.same old.fetches new.fetches []
   with_keyed k fetch source target answer leaves h =
       closes_keyed k (open_at t old k fetch)
       (completed_place t.meaning old.core new.core old.fetches new.fetches (hashed t old k) h.0 (hash_in t old)
-      (t.weighs old.core.weighter) (t.admits old.core.filter) (λ p admitted. t.incoming admitted p) source target (open_at t old k fetch) h.1).0.closes
+      (t.weighs old.core.weighter) (t.admits old.core.filter) (λ p admitted. t.incoming admitted p) source target
+      (open_at t old k fetch) h.1).0.closes
 
-  told_none : (ended : Ending K V P (Unit {0})) (answer : Answer K V P) (leaves : List (Event × Gone K V P)) → TellsEnd old ended answer leaves new
+  told_none : (ended : Ending K V P (Unit {0})) (answer : Answer K V P) (leaves : List (Event × Gone K V P)) →
+      TellsEnd old ended answer leaves new
       → issues answer ≡ []
   told_none ended (Lead fetch token) leaves h = absurd h
   told_none ended (Wait token) leaves h = absurd h
   told_none ended _ leaves h = refl
 
-  piece_keyed : (k : K) (fetch : ℕ) (piece : Option (Carried K V P)) (answer : Answer K V P) (leaves : List (Event × Gone K V P))
+  piece_keyed : (k : K) (fetch : ℕ) (piece : Option (Carried K V P)) (answer : Answer K V P)
+      (leaves : List (Event × Gone K V P))
       → CompletesPiece t old k fetch piece answer leaves new → KeyedBy (Some (hashed t old k)) answer
   piece_keyed k fetch None NotHeld leaves h = unchanged h.1
   piece_keyed k fetch None _ leaves h = absurd h
   piece_keyed k fetch (Some piece) (Refused NoMemory) leaves h = unchanged h.1
-  piece_keyed k fetch (Some piece) answer leaves h = no_more k (with_keyed k fetch Memory (PieceTarget piece) answer leaves h) answer (told_none h.0 answer leaves h.2)
+  piece_keyed k fetch (Some piece) answer leaves h =
+      no_more k (with_keyed k fetch Memory (PieceTarget piece) answer leaves h) answer (told_none h.0 answer leaves h.2)
 
   complete_keyed : (k : K) (fetch : ℕ) (end : End V P) (answer : Answer K V P) (leaves : List (Event × Gone K V P))
       → CompleteStep t old k fetch end answer leaves new → KeyedBy (Some (hashed t old k)) answer
-  complete_keyed k fetch (Value v p source) answer leaves h = no_more k (with_keyed k fetch source (ValueTarget v p) answer leaves h) answer (told_none h.0 answer leaves h.2)
+  complete_keyed k fetch (Value v p source) answer leaves h =
+      no_more k (with_keyed k fetch source (ValueTarget v p) answer leaves h) answer (told_none h.0 answer leaves h.2)
   complete_keyed k fetch (PieceEnd n) answer leaves h = piece_keyed k fetch (slice_get old.pieces n) answer leaves h
 
   end_keyed : (k : K) (fetch : ℕ) (reason : Reason) (answer : Answer K V P) (leaves : List (Event × Gone K V P))
       → EndStep t old k fetch reason answer leaves new → KeyedBy (Some (hashed t old k)) answer
   end_keyed k fetch reason answer leaves h =
-      no_more k (closes_keyed k (open_at t old k fetch) (ends_place t.meaning.same (hashed t old k) old.fetches new.fetches h.0 (open_at t old k fetch) reason h.1).closes) answer (told_none h.0 answer leaves h.3)
+      no_more k
+      (closes_keyed k (open_at t old k fetch)
+      (ends_place t.meaning.same (hashed t old k) old.fetches new.fetches h.0 (open_at t old k fetch) reason
+      h.1).closes) answer (told_none h.0 answer leaves h.3)
 
-  fetch_or_take_keyed : (k : K) (fetch : ℕ) (outcome : Option Reason) (answer : Answer K V P) (leaves : List (Event × Gone K V P))
+  fetch_or_take_keyed : (k : K) (fetch : ℕ) (outcome : Option Reason) (answer : Answer K V P)
+      (leaves : List (Event × Gone K V P))
       → FetchOrTakeStep t old k fetch outcome answer leaves new → KeyedBy (Some (hashed t old k)) answer
   fetch_or_take_keyed k fetch outcome (Later label) leaves h =
-      nothing_keyed_at t.meaning.same old.fetches alike (hashed t old k) (hash_in t old k) new.fetches (ap (λ (s : SessionState K V P View S W A). s.fetches) h.2)
+      nothing_keyed_at t.meaning.same old.fetches alike (hashed t old k) (hash_in t old k) new.fetches
+      (ap (λ (s : SessionState K V P View S W A). s.fetches) h.2)
   fetch_or_take_keyed k fetch outcome (Answered answers told) leaves h =
-      nothing_keyed_at t.meaning.same old.fetches alike (hashed t old k) (hash_in t old k) new.fetches (ap (λ (s : SessionState K V P View S W A). s.fetches) h.3)
+      nothing_keyed_at t.meaning.same old.fetches alike (hashed t old k) (hash_in t old k) new.fetches
+      (ap (λ (s : SessionState K V P View S W A). s.fetches) h.3)
   fetch_or_take_keyed k fetch outcome Lost leaves h = unchanged h.2
   fetch_or_take_keyed k fetch outcome _ leaves h = absurd h
 
-  get_keyed : (k : K) (answer : Answer K V P) (leaves : List (Event × Gone K V P)) → GetStep t old k answer leaves new → KeyedBy (Some (hashed t old k)) answer
+  get_keyed : (k : K) (answer : Answer K V P) (leaves : List (Event × Gone K V P)) → GetStep t old k answer leaves new
+      → KeyedBy (Some (hashed t old k)) answer
   get_keyed k (Found number told) leaves h = same h.2.fetches
   get_keyed k Missing leaves h = unchanged h.2
   get_keyed k (Refused reason) leaves h = unchanged h.2
   get_keyed k _ leaves h = absurd h
 
-  contains_keyed : (k : K) (answer : Answer K V P) (leaves : List (Event × Gone K V P)) → ContainsStep t old k answer leaves new
+  contains_keyed : (k : K) (answer : Answer K V P) (leaves : List (Event × Gone K V P)) →
+      ContainsStep t old k answer leaves new
       → KeyedBy (Some (hashed t old k)) answer
   contains_keyed k Yes leaves h = unchanged h.2
   contains_keyed k No leaves h = unchanged h.2
   contains_keyed k _ leaves h = absurd h
 
-  touch_keyed : (k : K) (answer : Answer K V P) (leaves : List (Event × Gone K V P)) → TouchStep t old k answer leaves new
+  touch_keyed : (k : K) (answer : Answer K V P) (leaves : List (Event × Gone K V P)) →
+      TouchStep t old k answer leaves new
       → KeyedBy (Some (hashed t old k)) answer
   touch_keyed k Yes leaves h = same h.2.1
   touch_keyed k No leaves h = unchanged h.2
   touch_keyed k (Refused reason) leaves h = unchanged h.2
   touch_keyed k _ leaves h = absurd h
 
-  remove_keyed : (k : K) (answer : Answer K V P) (leaves : List (Event × Gone K V P)) → RemoveStep t old k answer leaves new
+  remove_keyed : (k : K) (answer : Answer K V P) (leaves : List (Event × Gone K V P)) →
+      RemoveStep t old k answer leaves new
       → KeyedBy (Some (hashed t old k)) answer
   remove_keyed k (Found number told) leaves h = same h.3.fetches
   remove_keyed k Missing leaves h = unchanged h.2
   remove_keyed k (Refused reason) leaves h = unchanged h.2
   remove_keyed k _ leaves h = absurd h
 
-  clone_keyed : (n : ℕ) (answer : Answer K V P) (leaves : List (Event × Gone K V P)) → CloneStep t old n answer leaves new → KeyedBy None answer
+  clone_keyed : (n : ℕ) (answer : Answer K V P) (leaves : List (Event × Gone K V P)) →
+      CloneStep t old n answer leaves new → KeyedBy None answer
   clone_keyed n (Found number told) leaves h = same h.4.fetches
   clone_keyed n (Refused reason) leaves h = unchanged h.4
   clone_keyed n NotHeld leaves h = unchanged h.2
   clone_keyed n _ leaves h = absurd h
 
-  drop_keyed : (n : ℕ) (answer : Answer K V P) (leaves : List (Event × Gone K V P)) → DropStep t old n answer leaves new → KeyedBy None answer
+  drop_keyed : (n : ℕ) (answer : Answer K V P) (leaves : List (Event × Gone K V P)) →
+      DropStep t old n answer leaves new → KeyedBy None answer
   drop_keyed n Done leaves h = same h.6
   drop_keyed n NotHeld leaves h = unchanged h.2
   drop_keyed n _ leaves h = absurd h
 
-  take_piece_keyed : (n : ℕ) (answer : Answer K V P) (leaves : List (Event × Gone K V P)) → TakePieceStep t old n answer leaves new → KeyedBy None answer
+  take_piece_keyed : (n : ℕ) (answer : Answer K V P) (leaves : List (Event × Gone K V P)) →
+      TakePieceStep t old n answer leaves new → KeyedBy None answer
   take_piece_keyed n (PieceNo number) leaves h =
       same (ap (λ (s : SessionState K V P View S W A). s.fetches) h.4)
   take_piece_keyed n (Refused NoMemory) leaves h = unchanged h.3
   take_piece_keyed n NotHeld leaves h = unchanged h.2
   take_piece_keyed n _ leaves h = absurd h
 
-  refs_keyed : (n : ℕ) (answer : Answer K V P) (leaves : List (Event × Gone K V P)) → RefsStep t old n answer leaves new → KeyedBy None answer
+  refs_keyed : (n : ℕ) (answer : Answer K V P) (leaves : List (Event × Gone K V P)) →
+      RefsStep t old n answer leaves new → KeyedBy None answer
   refs_keyed n (Number count) leaves h = unchanged h.4
   refs_keyed n NotHeld leaves h = unchanged h.2
   refs_keyed n _ leaves h = absurd h
 
-  outdated_keyed : (n : ℕ) (answer : Answer K V P) (leaves : List (Event × Gone K V P)) → OutdatedStep t old n answer leaves new → KeyedBy None answer
+  outdated_keyed : (n : ℕ) (answer : Answer K V P) (leaves : List (Event × Gone K V P)) →
+      OutdatedStep t old n answer leaves new → KeyedBy None answer
   outdated_keyed n Yes leaves h = unchanged h.4
   outdated_keyed n No leaves h = unchanged h.4
   outdated_keyed n NotHeld leaves h = unchanged h.2
   outdated_keyed n _ leaves h = absurd h
 
-  is_open_keyed : (k : K) (fetch : ℕ) (answer : Answer K V P) (leaves : List (Event × Gone K V P)) → IsOpenStep t old k fetch answer leaves new
+  is_open_keyed : (k : K) (fetch : ℕ) (answer : Answer K V P) (leaves : List (Event × Gone K V P)) →
+      IsOpenStep t old k fetch answer leaves new
       → KeyedBy (Some (hashed t old k)) answer
   is_open_keyed k fetch Yes leaves h = unchanged h.2
   is_open_keyed k fetch No leaves h = unchanged h.2
   is_open_keyed k fetch _ leaves h = absurd h
 
-  clear_keyed : (answer : Answer K V P) (leaves : List (Event × Gone K V P)) → ClearStep t old answer leaves new → KeyedBy None answer
+  clear_keyed : (answer : Answer K V P) (leaves : List (Event × Gone K V P)) → ClearStep t old answer leaves new →
+      KeyedBy None answer
   clear_keyed Done leaves h = same h.1.1
   clear_keyed (Refused NoMemory) leaves h = unchanged h.1
   clear_keyed _ leaves h = absurd h
 
-  evict_all_keyed : (answer : Answer K V P) (leaves : List (Event × Gone K V P)) → EvictAllStep t old answer leaves new → KeyedBy None answer
+  evict_all_keyed : (answer : Answer K V P) (leaves : List (Event × Gone K V P)) →
+      EvictAllStep t old answer leaves new → KeyedBy None answer
   evict_all_keyed Done leaves h = same h.1.1
   evict_all_keyed (Refused NoMemory) leaves h = same h.1.1
   evict_all_keyed _ leaves h = absurd h
 
-  flush_if_keyed : (says : K → V → Bool → Type 0) (answer : Answer K V P) (leaves : List (Event × Gone K V P)) → FlushIfStep t old says answer leaves new
+  flush_if_keyed : (says : K → V → Bool → Type 0) (answer : Answer K V P) (leaves : List (Event × Gone K V P)) →
+      FlushIfStep t old says answer leaves new
       → KeyedBy None answer
   flush_if_keyed says Done leaves h = same h.1.1
   flush_if_keyed says (Refused NoMemory) leaves h = unchanged h.1
   flush_if_keyed says _ leaves h = absurd h
 
-  resize_keyed : (capacity : ℕ) (answer : Answer K V P) (leaves : List (Event × Gone K V P)) → ResizeStep t old capacity answer leaves new → KeyedBy None answer
+  resize_keyed : (capacity : ℕ) (answer : Answer K V P) (leaves : List (Event × Gone K V P)) →
+      ResizeStep t old capacity answer leaves new → KeyedBy None answer
   resize_keyed capacity Done leaves h = same h.1.1
   resize_keyed capacity (Refused NoMemory) leaves h = same h.1.1
   resize_keyed capacity _ leaves h = absurd h
 
-  reconfigure_keyed : (config : C) (answer : Answer K V P) (leaves : List (Event × Gone K V P)) → ReconfigureStep t old config answer leaves new
+  reconfigure_keyed : (config : C) (answer : Answer K V P) (leaves : List (Event × Gone K V P)) →
+      ReconfigureStep t old config answer leaves new
       → KeyedBy None answer
   reconfigure_keyed config Done leaves h = same h.3.1
   reconfigure_keyed config (Refused reason) leaves h = unchanged h.2
   reconfigure_keyed config _ leaves h = absurd h
 
-  number_keyed : (count : ℕ) (answer : Answer K V P) (leaves : List (Event × Gone K V P)) → NumberStep count old answer leaves new → KeyedBy None answer
+  number_keyed : (count : ℕ) (answer : Answer K V P) (leaves : List (Event × Gone K V P)) →
+      NumberStep count old answer leaves new → KeyedBy None answer
   number_keyed count (Number n) leaves h = unchanged h.2
   number_keyed count _ leaves h = absurd h
 
@@ -227,13 +268,15 @@ module _ {K V P View C S W A : Type 0} (t : Terms K V P View C S W A) (old new :
     piece_none n (Entry number told answers) x none = x
     piece_none n _ x none = x
 
-    piece_issues : (n : ℕ) (answer : Answer K V P) (leaves : List (Event × Gone K V P)) → InsertPieceStep t old n answer leaves new → issues answer ≡ []
+    piece_issues : (n : ℕ) (answer : Answer K V P) (leaves : List (Event × Gone K V P)) →
+        InsertPieceStep t old n answer leaves new → issues answer ≡ []
     piece_issues n (Lead fetch token) leaves h = absurd h
     piece_issues n (Wait token) leaves h = absurd h
     piece_issues n _ leaves h = refl
 
     -- who waits after a step waited before, or was issued a token for the key
-    pub any_keyed : (command : Command K V P Q C) (answer : Answer K V P) (leaves : List (Event × Gone K V P)) → Step t picks old command answer leaves new
+    pub any_keyed : (command : Command K V P Q C) (answer : Answer K V P) (leaves : List (Event × Gone K V P)) →
+        Step t picks old command answer leaves new
         → KeyedBy (key_by (hash_in t old) command answer) answer
     any_keyed (Insert k v p) answer leaves h = insert_keyed k v p answer leaves h
     any_keyed (Get k) answer leaves h = get_keyed k answer leaves h
@@ -243,14 +286,16 @@ module _ {K V P View C S W A : Type 0} (t : Terms K V P View C S W A) (old new :
     any_keyed (Clone n) answer leaves h = clone_keyed n answer leaves h
     any_keyed (Drop n) answer leaves h = drop_keyed n answer leaves h
     any_keyed (TakePiece n) answer leaves h = take_piece_keyed n answer leaves h
-    any_keyed (InsertPiece n) answer leaves h = piece_none n answer (insert_piece_keyed n answer leaves h) (piece_issues n answer leaves h)
+    any_keyed (InsertPiece n) answer leaves h =
+        piece_none n answer (insert_piece_keyed n answer leaves h) (piece_issues n answer leaves h)
     any_keyed (Refs n) answer leaves h = refs_keyed n answer leaves h
     any_keyed (Outdated n) answer leaves h = outdated_keyed n answer leaves h
     any_keyed (GetOrFetch k later) answer leaves h = get_or_fetch_keyed k later answer leaves h
     any_keyed (Complete k fetch end) answer leaves h = complete_keyed k fetch end answer leaves h
     any_keyed (Fail k fetch fault) answer leaves h = end_keyed k fetch (Fetch fault) answer leaves h
     any_keyed (Cancel k fetch) answer leaves h = end_keyed k fetch TaskCancelled answer leaves h
-    any_keyed (FetchOrTake k fetch outcome) answer leaves h = fetch_or_take_keyed k fetch (option_map Fetch outcome) answer leaves h
+    any_keyed (FetchOrTake k fetch outcome) answer leaves h =
+        fetch_or_take_keyed k fetch (option_map Fetch outcome) answer leaves h
     any_keyed (IsOpen k fetch) answer leaves h = is_open_keyed k fetch answer leaves h
     any_keyed Clear answer leaves h = clear_keyed answer leaves h
     any_keyed EvictAll answer leaves h = evict_all_keyed answer leaves h

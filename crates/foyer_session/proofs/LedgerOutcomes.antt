@@ -41,18 +41,21 @@ has_more t s ts h = go (nat_eq s t) where
 
 -- what holds of handles in their order
 handles_all : (G : ℕ × Result (Option ℕ) Reason → Type 0) (first : ℕ) (tokens : List ℕ)
-    → ((token number : ℕ) → has token tokens ≡ true → first ≤ number → number < first + length tokens → G (token, Ok (Some number))) → AllByRecursion G (handles_from first tokens)
+    → ((token number : ℕ) → has token tokens ≡ true → first ≤ number → number < first + length tokens →
+    G (token, Ok (Some number))) → AllByRecursion G (handles_from first tokens)
 handles_all G first [] h = tt
 handles_all G first (token ∷ tokens) h = (
   h token first (has_first token tokens) (omega arith) (omega arith),
-  handles_all G (suc first) tokens (λ t n there from to. h t n (has_more token t tokens there) (omega (arith, from)) (omega (arith, to))),
+  handles_all G (suc first) tokens
+      (λ t n there from to. h t n (has_more token t tokens there) (omega (arith, from)) (omega (arith, to))),
 )
 
 -- and of those who all get the same
 same_all : (G : ℕ × Result (Option ℕ) Reason → Type 0) (got : Result (Option ℕ) Reason) (tokens : List ℕ)
     → ((token : ℕ) → has token tokens ≡ true → G (token, got)) → AllByRecursion G (each_gets got tokens)
 same_all G got [] h = tt
-same_all G got (token ∷ tokens) h = (h token (has_first token tokens), same_all G got tokens (λ t there. h t (has_more token t tokens there)))
+same_all G got (token ∷ tokens) h =
+    (h token (has_first token tokens), same_all G got tokens (λ t there. h t (has_more token t tokens there)))
 
 module _ {K V P : Type 0} where
   copy_at : (n : ℕ) (x : Option (Held K V P)) (i : ℕ) → i < n → slice_get (replicate n x) i ≡ Some x
@@ -61,19 +64,23 @@ module _ {K V P : Type 0} where
   copy_at (suc n) x (suc i) h = copy_at n x i (omega (arith, h))
 
   -- a handle that was handed out
-  handed_at : (handles : List (Option (Held K V P))) (n : ℕ) (x : Option (Held K V P)) (i : ℕ) → length handles ≤ i → i < length handles + n
+  handed_at : (handles : List (Option (Held K V P))) (n : ℕ) (x : Option (Held K V P)) (i : ℕ) → length handles ≤ i →
+      i < length handles + n
       → slice_get (handles ++ replicate n x) i ≡ Some x
   handed_at [] n x i from to = copy_at n x i (omega (arith, to))
   handed_at (y ∷ handles) n x zero from to = absurd (omega (arith, from))
   handed_at (y ∷ handles) n x (suc i) from to = handed_at handles n x i (omega (arith, from)) (omega (arith, to))
 
   -- it is one of its record
-  is_handle : (handles : List (Option (Held K V P))) (entry : Held K V P) (told : Gone K V P) (i : ℕ) → slice_get handles i ≡ Some (given entry)
+  is_handle : (handles : List (Option (Held K V P))) (entry : Held K V P) (told : Gone K V P) (i : ℕ) →
+      slice_get handles i ≡ Some (given entry)
       → told ≡ record_of entry → IsHandleOf handles told i
   is_handle handles entry told i there is =
-      subst (λ (o : Option (Option (Held K V P))). IsSomeAnd (option_flatten o) (λ e. record_of e ≡ told)) (sym there) (sym is)
+      subst (λ (o : Option (Option (Held K V P))). IsSomeAnd (option_flatten o) (λ e. record_of e ≡ told)) (sym there)
+      (sym is)
 
-got_none : {K V P : Type 0} (next : ℕ) (outcome : Result (Option (List (Held K V P))) Reason) → got_of next outcome [] ≡ []
+got_none : {K V P : Type 0} (next : ℕ) (outcome : Result (Option (List (Held K V P))) Reason) → got_of next outcome []
+    ≡ []
 got_none next (Ok (Some entries)) = refl
 got_none next (Ok None) = refl
 got_none next (Err reason) = refl
@@ -88,66 +95,88 @@ waits_in : {N R : Type 0} (p : Option (Place N R)) (token : ℕ) → has token (
 waits_in None token h = absurd cc
 waits_in (Some o) token h = h
 
-module _ {K V P View C S W A : Type 0} (Q : Type 0) (t : Terms K V P View C S W A) (laws : IsEquivalence t.meaning.same) (old new : SessionState K V P View S W A) where
+module _ {K V P View C S W A : Type 0} (Q : Type 0) (t : Terms K V P View C S W A)
+    (laws : IsEquivalence t.meaning.same) (old new : SessionState K V P View S W A) where
   -- one who waited for a key is answered
   abbrev pub OneIs : Command K V P Q C → Option (Gone K V P) → ℕ × K → ℕ × Result (Option ℕ) Reason → Type 0
-  OneIs command came key got = WaitsFor old.fetches key got.0 × MayGet t.meaning.same (IsHandleOf new.handles) command came key.1 got.1
+  OneIs command came key got = WaitsFor old.fetches key got.0
+      × MayGet t.meaning.same (IsHandleOf new.handles) command came key.1 got.1
 
   -- all who waited get handles of the record that came in
-  pub all_handed : (command : Command K V P Q C) (key : ℕ × K) (entry : Held K V P) (told : Gone K V P) (n : ℕ) (answers : List (ℕ × Result (Option ℕ) Reason)) → told ≡ record_of entry → t.meaning.same key.1 entry.kept.key ≡ true
+  pub all_handed : (command : Command K V P Q C) (key : ℕ × K) (entry : Held K V P) (told : Gone K V P) (n : ℕ)
+      (answers : List (ℕ × Result (Option ℕ) Reason)) → told ≡ record_of entry → t.meaning.same key.1 entry.kept.key
+      ≡ true
       → new.handles ≡ old.handles ++ replicate n (given entry) → length (waiters_of (place_in old.fetches key)) ≤ n
-      → answers ≡ handles_from (length old.handles) (numbers_of (waiters_of (place_in old.fetches key))) → AllByRecursion (OneIs command (Some told) key) answers
+      → answers ≡ handles_from (length old.handles) (numbers_of (waiters_of (place_in old.fetches key))) →
+      AllByRecursion (OneIs command (Some told) key) answers
   all_handed command key entry told n answers is same handed few answered =
-      subst (AllByRecursion (OneIs command (Some told) key)) (sym answered) (handles_all (OneIs command (Some told) key) (length old.handles) tokens one) where
+      subst (AllByRecursion (OneIs command (Some told) key)) (sym answered)
+      (handles_all (OneIs command (Some told) key) (length old.handles) tokens one) where
         tokens : List ℕ
         tokens = numbers_of (waiters_of (place_in old.fetches key))
 
         long : length tokens ≡ length (waiters_of (place_in old.fetches key))
         long = length-map (waiters_of (place_in old.fetches key)) (λ (w : Waiting (Unit {0})). w.token)
 
-        one : (token number : ℕ) → has token tokens ≡ true → length old.handles ≤ number → number < length old.handles + length tokens
+        one : (token number : ℕ) → has token tokens ≡ true → length old.handles ≤ number →
+            number < length old.handles + length tokens
             → OneIs command (Some told) key (token, Ok (Some number))
         one token number there from to = (
           waits_in (place_in old.fetches key) token there,
           (
             ap (λ (g : Gone K V P). t.meaning.same key.1 g.kept.key) is ∙ same,
-            is_handle new.handles entry told number (ap (λ (l : List (Option (Held K V P))). slice_get l number) handed ∙ handed_at old.handles n (given entry) number from (omega (arith, to, few, long))) is,
+            is_handle new.handles entry told number
+                (ap (λ (l : List (Option (Held K V P))). slice_get l number) handed
+                ∙ handed_at old.handles n (given entry) number from (omega (arith, to, few, long))) is,
           ),
         )
 
   -- all who waited get the same
-  pub all_told : (command : Command K V P Q C) (came : Option (Gone K V P)) (key : ℕ × K) (got : Result (Option ℕ) Reason) (answers : List (ℕ × Result (Option ℕ) Reason))
-      → MayGet t.meaning.same (IsHandleOf new.handles) command came key.1 got → answers ≡ each_gets got (numbers_of (waiters_of (place_in old.fetches key))) → AllByRecursion (OneIs command came key) answers
+  pub all_told : (command : Command K V P Q C) (came : Option (Gone K V P)) (key : ℕ × K)
+      (got : Result (Option ℕ) Reason) (answers : List (ℕ × Result (Option ℕ) Reason))
+      → MayGet t.meaning.same (IsHandleOf new.handles) command came key.1 got → answers
+      ≡ each_gets got (numbers_of (waiters_of (place_in old.fetches key))) →
+      AllByRecursion (OneIs command came key) answers
   all_told command came key got answers may answered =
       subst (AllByRecursion (OneIs command came key)) (sym answered)
-      (same_all (OneIs command came key) got (numbers_of (waiters_of (place_in old.fetches key))) (λ token there. (waits_in (place_in old.fetches key) token there, may)))
+      (same_all (OneIs command came key) got (numbers_of (waiters_of (place_in old.fetches key)))
+      (λ token there. (waits_in (place_in old.fetches key) token there, may)))
 
-  pub insert_answered : (k : K) (v : V) (p : P) (answer : Answer K V P) (leaves : List (Event × Gone K V P)) → InsertStep t old k v p answer leaves new
+  pub insert_answered : (k : K) (v : V) (p : P) (answer : Answer K V P) (leaves : List (Event × Gone K V P)) →
+      InsertStep t old k v p answer leaves new
       → IsAnswered {Q = Q} t old (Insert k v p) answer new
   insert_answered k v p (Entry number told answers) leaves h =
       let n = length (waiting_at t old (hashed t old k)) in
       let d = data_of t old k v p h.0 h.1 in
       let at = h.5 in
-      let key : h.2.kept.key ≡ k = ap (λ (x : Held K V P). x.kept.key) (inserts_entry t.meaning Outer at.before (newcomer at.before d (1 + n)) leaves h.2 at.after (is_phantom_record t.meaning d) at.stepped) in
-      all_handed (Insert k v p) (hashed t old k) h.2 told (1 + n) answers h.6.tells (ap (t.meaning.same k) key ∙ laws.refl k) h.6.handles (omega arith) h.6.answered
+      let key : h.2.kept.key ≡ k = ap (λ (x : Held K V P). x.kept.key)
+      (inserts_entry t.meaning Outer at.before (newcomer at.before d (1 + n)) leaves h.2 at.after
+      (is_phantom_record t.meaning d) at.stepped) in
+      all_handed (Insert k v p) (hashed t old k) h.2 told (1 + n) answers h.6.tells
+      (ap (t.meaning.same k) key ∙ laws.refl k) h.6.handles (omega arith) h.6.answered
   insert_answered k v p (Refused reason) leaves h = tt
   insert_answered k v p _ leaves h = absurd h
 
-  pub insert_piece_answered : (n : ℕ) (answer : Answer K V P) (leaves : List (Event × Gone K V P)) → InsertPieceStep t old n answer leaves new
+  pub insert_piece_answered : (n : ℕ) (answer : Answer K V P) (leaves : List (Event × Gone K V P)) →
+      InsertPieceStep t old n answer leaves new
       → IsAnswered {Q = Q} t old (InsertPiece n) answer new
   insert_piece_answered n (Entry number told answers) leaves h =
       let entry = h.1 in
       let many = length (waiting_at t old (key_of entry.kept)) in
-      let all = all_handed (InsertPiece n) (key_of entry.kept) entry told (1 + many) answers h.4.tells (laws.refl entry.kept.key) h.4.handles (omega arith) h.4.answered in
-      subst (λ (g : Gone K V P). AllByRecursion (OneIs (InsertPiece n) (Some told) (key_of g.kept)) answers) (sym h.4.tells) all
+      let all = all_handed (InsertPiece n) (key_of entry.kept) entry told (1 + many) answers h.4.tells
+      (laws.refl entry.kept.key) h.4.handles (omega arith) h.4.answered in
+      subst (λ (g : Gone K V P). AllByRecursion (OneIs (InsertPiece n) (Some told) (key_of g.kept)) answers)
+      (sym h.4.tells) all
   insert_piece_answered n (Refused reason) leaves h = tt
   insert_piece_answered n NotHeld leaves h = tt
   insert_piece_answered n _ leaves h = absurd h
 
   -- the end of a fetch that is told so
-  told_all : (command : Command K V P Q C) (k : K) (answers : List (ℕ × Result (Option ℕ) Reason)) (told : Option (Gone K V P)) (outcome : Result (Option (List (Held K V P))) Reason)
+  told_all : (command : Command K V P Q C) (k : K) (answers : List (ℕ × Result (Option ℕ) Reason))
+      (told : Option (Gone K V P)) (outcome : Result (Option (List (Held K V P))) Reason)
       → AllAre (λ x. t.meaning.same k x ≡ true) (MayRefuse command) (length (waiting_at t old (hashed t old k))) outcome
-      → answers ≡ got_of (length old.handles) outcome (numbers_of (waiting_at t old (hashed t old k))) → told ≡ first_told (entries_by outcome) → new.handles ≡ old.handles ++ map given (entries_by outcome)
+      → answers ≡ got_of (length old.handles) outcome (numbers_of (waiting_at t old (hashed t old k))) → told
+      ≡ first_told (entries_by outcome) → new.handles ≡ old.handles ++ map given (entries_by outcome)
       → AllByRecursion (OneIs command told (hashed t old k)) answers
   told_all command k answers told (Ok (Some entries)) all answered first handles =
       by_count (length (waiting_at t old (hashed t old k))) refl
@@ -155,29 +184,44 @@ module _ {K V P View C S W A : Type 0} (Q : Type 0) (t : Terms K V P View C S W 
       alike : (n : ℕ) → entries ≡ replicate n all.0 → map given entries ≡ replicate n (given all.0)
       alike n is = ap (map given) is ∙ given_all n all.0
 
-      by_count : (n : ℕ) → length (waiting_at t old (hashed t old k)) ≡ n → AllByRecursion (OneIs command told (hashed t old k)) answers
+      by_count : (n : ℕ) → length (waiting_at t old (hashed t old k)) ≡ n →
+          AllByRecursion (OneIs command told (hashed t old k)) answers
       by_count zero none =
-          let nobody : numbers_of (waiting_at t old (hashed t old k)) ≡ [] = none_waits (waiting_at t old (hashed t old k)) none in
-          subst (AllByRecursion (OneIs command told (hashed t old k))) (sym (answered ∙ ap (handles_from (length old.handles)) nobody)) tt
+          let nobody : numbers_of (waiting_at t old (hashed t old k)) ≡ [] =
+          none_waits (waiting_at t old (hashed t old k)) none in
+          subst (AllByRecursion (OneIs command told (hashed t old k)))
+          (sym (answered ∙ ap (handles_from (length old.handles)) nobody)) tt
       by_count (suc n) is =
           let copies : entries ≡ replicate (suc n) all.0 = all.1 ∙ ap (λ (m : ℕ). replicate m all.0) is in
           let one : told ≡ Some (record_of all.0) = first ∙ ap first_told copies in
           subst (λ (o : Option (Gone K V P)). AllByRecursion (OneIs command o (hashed t old k)) answers) (sym one)
-          (all_handed command (hashed t old k) all.0 (record_of all.0) (suc n) answers refl all.2 (handles ∙ ap (λ (l : List (Option (Held K V P))). old.handles ++ l) (alike (suc n) copies)) (omega (arith, is)) answered)
+          (all_handed command (hashed t old k) all.0 (record_of all.0) (suc n) answers refl all.2
+          (handles ∙ ap (λ (l : List (Option (Held K V P))). old.handles ++ l) (alike (suc n) copies))
+          (omega (arith, is)) answered)
   told_all command k answers told (Ok None) all answered first handles = absurd all
-  told_all command k answers told (Err reason) all answered first handles = all_told command told (hashed t old k) (Err reason) answers all answered
+  told_all command k answers told (Err reason) all answered first handles =
+      all_told command told (hashed t old k) (Err reason) answers all answered
 
   -- nobody waits where nothing is open
-  pub open_all : (command : Command K V P Q C) (k : K) (fetch : ℕ) (ended : Ending K V P (Unit {0})) (answers : List (ℕ × Result (Option ℕ) Reason)) (told : Option (Gone K V P)) (p : Option (Place (Unit {0}) ℕ))
+  pub open_all : (command : Command K V P Q C) (k : K) (fetch : ℕ) (ended : Ending K V P (Unit {0}))
+      (answers : List (ℕ × Result (Option ℕ) Reason)) (told : Option (Gone K V P)) (p : Option (Place (Unit {0}) ℕ))
       → open_at t old k fetch ≡ p → ended.waiters ≡ waiters_of p
-      → ((o : Place (Unit {0}) ℕ) → p ≡ Some o → AllAre (λ x. t.meaning.same k x ≡ true) (MayRefuse command) (length o.tokens) ended.outcome)
-      → answers ≡ got_of (length old.handles) ended.outcome (numbers_of ended.waiters) → told ≡ first_told (entries_by ended.outcome) → new.handles ≡ old.handles ++ map given (entries_by ended.outcome)
+      → ((o : Place (Unit {0}) ℕ) → p ≡ Some o →
+      AllAre (λ x. t.meaning.same k x ≡ true) (MayRefuse command) (length o.tokens) ended.outcome)
+      → answers ≡ got_of (length old.handles) ended.outcome (numbers_of ended.waiters) → told
+      ≡ first_told (entries_by ended.outcome) → new.handles ≡ old.handles ++ map given (entries_by ended.outcome)
       → AllByRecursion (OneIs command told (hashed t old k)) answers
   open_all command k fetch ended answers told None is waited all answered first handles =
-      subst (AllByRecursion (OneIs command told (hashed t old k))) (sym (answered ∙ ap (λ (ws : List (Waiting (Unit {0}))). got_of (length old.handles) ended.outcome (numbers_of ws)) waited ∙ got_none (length old.handles) ended.outcome)) tt
+      subst (AllByRecursion (OneIs command told (hashed t old k)))
+      (sym (answered ∙
+      ap (λ (ws : List (Waiting (Unit {0}))). got_of (length old.handles) ended.outcome (numbers_of ws))
+      waited ∙ got_none (length old.handles) ended.outcome)) tt
   open_all command k fetch ended answers told (Some o) is waited all answered first handles =
-      let placed : place_in old.fetches (hashed t old k) ≡ Some o = asked_some fetch (place_in old.fetches (hashed t old k)) o is in
+      let placed : place_in old.fetches (hashed t old k) ≡ Some o =
+      asked_some fetch (place_in old.fetches (hashed t old k)) o is in
       let these : waiting_at t old (hashed t old k) ≡ o.tokens = ap waiters_of placed in
       told_all command k answers told ended.outcome
-      (subst (λ (ws : List (Waiting (Unit {0}))). AllAre (λ x. t.meaning.same k x ≡ true) (MayRefuse command) (length ws) ended.outcome) (sym these) (all o refl))
-      (answered ∙ ap (λ (ws : List (Waiting (Unit {0}))). got_of (length old.handles) ended.outcome (numbers_of ws)) (waited ∙ sym these)) first handles
+      (subst (λ (ws : List (Waiting (Unit {0}))). AllAre (λ x. t.meaning.same k x ≡ true) (MayRefuse command)
+      (length ws) ended.outcome) (sym these) (all o refl))
+      (answered ∙ ap (λ (ws : List (Waiting (Unit {0}))). got_of (length old.handles) ended.outcome (numbers_of ws))
+      (waited ∙ sym these)) first handles

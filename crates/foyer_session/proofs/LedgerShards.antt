@@ -33,21 +33,34 @@ or_true false b h = h
 itself : (n : ℕ) → nat_eq n n ≡ true
 itself n = grind (arith, nat_tests)
 
-module _ {K N R : Type 0} (eq : K → K → Bool) (fetches : List (Opens K N R)) (known : (shard token : ℕ) → WaitsIn fetches shard token → token < next_token_in fetches shard)
-    (i : ℕ) (f : Opens K N R) (there : slice_get fetches i ≡ Some f) (sound : AreOpen eq f) (alike : (p q : ℕ × K) → same_key eq p q ≡ true → f.places p ≡ f.places q)
+module _ {K N R : Type 0} (eq : K → K → Bool) (fetches : List (Opens K N R))
+    (known : (shard token : ℕ) → WaitsIn fetches shard token → token < next_token_in fetches shard)
+    (i : ℕ) (f : Opens K N R) (there : slice_get fetches i ≡ Some f) (sound : AreOpen eq f)
+    (alike : (p q : ℕ × K) → same_key eq p q ≡ true → f.places p ≡ f.places q)
     (k : ℕ × K) (home : k.0 % length fetches ≡ i) where
   abbrev Waits : Opens K N R → ℕ → Type 0
   Waits g token = WaitsAt (length fetches) i g token
 
   -- the place of another key stays
-  other_place : (w v : Option (Place N R)) (q : ℕ × K) (o : Place N R) → same_key eq k q ≡ false → cond (same_key eq k q) w v ≡ Some o → v ≡ Some o
+  other_place : (w v : Option (Place N R)) (q : ℕ × K) (o : Place N R) → same_key eq k q ≡ false →
+      cond (same_key eq k q) w v ≡ Some o → v ≡ Some o
   other_place w v q o apart h = sym (ap (λ (b : Bool). cond b w v) apart) ∙ h
 
-  own_place : (w v : Option (Place N R)) (q : ℕ × K) (o : Place N R) → same_key eq k q ≡ true → cond (same_key eq k q) w v ≡ Some o → w ≡ Some o
+  own_place : (w v : Option (Place N R)) (q : ℕ × K) (o : Place N R) → same_key eq k q ≡ true →
+      cond (same_key eq k q) w v ≡ Some o → w ≡ Some o
   own_place w v q o one h = sym (ap (λ (b : Bool). cond b w v) one) ∙ h
 
-  set_other : (w : Option (Place N R)) (token : ℕ) (x : Waits f token) → same_key eq k x.key ≡ false → Waits (with_place eq f k w) token
-  set_other w token x apart = record { key = x.key; home = x.home; place = x.place; placed = ap (λ (b : Bool). cond b w (f.places x.key)) apart ∙ x.placed; waits = x.waits }
+  set_other : (w : Option (Place N R)) (token : ℕ) (x : Waits f token) → same_key eq k x.key ≡ false →
+      Waits (with_place eq f k w) token
+  set_other w token x apart =
+      record {
+        key = x.key;
+        home = x.home;
+        place = x.place;
+        placed =
+            ap (λ (b : Bool). cond b w (f.places x.key)) apart ∙ x.placed;
+        waits = x.waits;
+      }
 
   -- who waits for an equal key waits in the one place
   in_place : (token : ℕ) (x : Waits f token) → same_key eq k x.key ≡ true → f.places k ≡ Some x.place
@@ -58,83 +71,119 @@ module _ {K N R : Type 0} (eq : K → K → Bool) (fetches : List (Opens K N R))
   no_place token x = go (same_key eq k x.key) refl where
     go : (b : Bool) → same_key eq k x.key ≡ b → Waits f token
     go true one = absurd (some_none (own_place None (f.places x.key) x.key x.place one x.placed))
-    go false apart = record { key = x.key; home = x.home; place = x.place; placed = other_place None (f.places x.key) x.key x.place apart x.placed; waits = x.waits }
+    go false apart =
+        record {
+          key = x.key;
+          home = x.home;
+          place = x.place;
+          placed =
+              other_place None (f.places x.key) x.key x.place apart x.placed;
+          waits = x.waits;
+        }
 
-  still : (token : ℕ) → ((o : Place N R) → f.places k ≡ Some o → has token (tokens_of o) ≡ false) → Waits f token → Waits (closed eq f k) token
+  still : (token : ℕ) → ((o : Place N R) → f.places k ≡ Some o → has token (tokens_of o) ≡ false) → Waits f token →
+      Waits (closed eq f k) token
   still token absent x = go (same_key eq k x.key) refl where
     go : (b : Bool) → same_key eq k x.key ≡ b → Waits (closed eq f k) token
     go true one = absurd (let e : false ≡ true = sym (absent x.place (in_place token x one)) ∙ x.waits in cc)
     go false apart = set_other None token x apart
 
-  gone : (token : ℕ) (o : Place N R) → f.places k ≡ Some o → has token (tokens_of o) ≡ true → Waits (closed eq f k) token → ⊥
+  gone : (token : ℕ) (o : Place N R) → f.places k ≡ Some o → has token (tokens_of o) ≡ true →
+      Waits (closed eq f k) token → ⊥
   gone token o is h x = go (same_key eq k x.key) refl where
     go : (b : Bool) → same_key eq k x.key ≡ b → ⊥
     go true one = some_none (own_place None (f.places x.key) x.key x.place one x.placed)
     go false apart =
-        let one = sound.one_place k x.key o x.place token is (other_place None (f.places x.key) x.key x.place apart x.placed) h x.waits in
+        let one = sound.one_place k x.key o x.place token is
+        (other_place None (f.places x.key) x.key x.place apart x.placed) h x.waits in
         absurd (let e : false ≡ true = sym apart ∙ one in cc)
 
-  pub closed_settled : Settles fetches (slice_set fetches i (closed eq f k)) [] (of_shard i (numbers_of (waiters_of (f.places k))))
-  closed_settled = shard_settled fetches i f there (closed eq f k) [] (numbers_of (waiters_of (f.places k))) known (omega arith) (λ token some. absurd (omega (arith, some))) even where
-    at_place : (p : Option (Place N R)) → f.places k ≡ p → (token n : ℕ) → IsCount (Waits f token) n → (b : Bool) → has token (numbers_of (waiters_of p)) ≡ b
-        → (after : ℕ) × IsCount (Waits (closed eq f k) token) after × (n + 0 ≡ after + times i token (of_shard i (numbers_of (waiters_of p)))) × (n + 0 ≤ 1)
-    at_place None is token n h b has_it =
-        let one = count_one n h in
-        (n, same_count n (still token (λ o there_is. absurd (some_none (sym is ∙ there_is)))) (no_place token) h, omega arith, omega (arith, one))
-    at_place (Some o) is token n h true has_it =
-        let one = count_there n (record { key = k; home = home; place = o; placed = is; waits = has_it }) h in
-        let handed = times_once i token (tokens_of o) (sound.once k o is) has_it in
-        (0, inr (gone token o is has_it, refl), omega (arith, one, handed), omega (arith, one))
-    at_place (Some o) is token n h false has_it =
-        let one = count_one n h in
-        let handed = times_absent i token (tokens_of o) has_it in
-        let absent : (p : Place N R) → f.places k ≡ Some p → has token (tokens_of p) ≡ false = λ p p_is. ap (λ (x : Place N R). has token (tokens_of x)) (some_one (sym p_is ∙ is)) ∙ has_it in
-        (n, same_count n (still token absent) (no_place token) h, omega (arith, handed), omega (arith, one))
+  pub closed_settled : Settles fetches (slice_set fetches i (closed eq f k)) []
+      (of_shard i (numbers_of (waiters_of (f.places k))))
+  closed_settled = shard_settled fetches i f there (closed eq f k) [] (numbers_of (waiters_of (f.places k))) known
+      (omega arith) (λ token some. absurd (omega (arith, some))) even where
+        at_place : (p : Option (Place N R)) → f.places k ≡ p → (token n : ℕ) → IsCount (Waits f token) n → (b : Bool) →
+            has token (numbers_of (waiters_of p)) ≡ b
+            → (after : ℕ) × IsCount (Waits (closed eq f k) token) after
+            × (n + 0 ≡ after + times i token (of_shard i (numbers_of (waiters_of p)))) × (n + 0 ≤ 1)
+        at_place None is token n h b has_it =
+            let one = count_one n h in (
+              n,
+              same_count n (still token (λ o there_is. absurd (some_none (sym is ∙ there_is)))) (no_place token) h,
+              omega arith,
+              omega (arith, one),
+            )
+        at_place (Some o) is token n h true has_it =
+            let one = count_there n (record { key = k; home = home; place = o; placed = is; waits = has_it }) h in
+            let handed = times_once i token (tokens_of o) (sound.once k o is) has_it in
+            (0, inr (gone token o is has_it, refl), omega (arith, one, handed), omega (arith, one))
+        at_place (Some o) is token n h false has_it =
+            let one = count_one n h in
+            let handed = times_absent i token (tokens_of o) has_it in
+            let absent : (p : Place N R) → f.places k ≡ Some p → has token (tokens_of p) ≡ false =
+            λ p p_is. ap (λ (x : Place N R). has token (tokens_of x)) (some_one (sym p_is ∙ is)) ∙ has_it in
+            (n, same_count n (still token absent) (no_place token) h, omega (arith, handed), omega (arith, one))
 
-    even : (token n : ℕ) → IsCount (Waits f token) n → IsEvenAt fetches i f there (closed eq f k) [] (numbers_of (waiters_of (f.places k))) token n
-    even token n h = at_place (f.places k) refl token n h (has token (numbers_of (waiters_of (f.places k)))) refl
+        even : (token n : ℕ) → IsCount (Waits f token) n →
+            IsEvenAt fetches i f there (closed eq f k) [] (numbers_of (waiters_of (f.places k))) token n
+        even token n h = at_place (f.places k) refl token n h (has token (numbers_of (waiters_of (f.places k)))) refl
 
   -- a builder is taken: who waited still does
-  pub taken_settled : (o : Place N R) → f.places k ≡ Some o → is_some o.later ≡ true → Settles fetches (slice_set fetches i (after_nothing eq f k)) [] []
-  taken_settled o is later = shard_settled fetches i f there (after_nothing eq f k) [] [] known (omega arith) (λ token some. absurd (omega (arith, some))) even where
-    left : Place N R
-    left = record { fetch = o.fetch; tokens = o.tokens; later = None }
+  pub taken_settled : (o : Place N R) → f.places k ≡ Some o → is_some o.later ≡ true →
+      Settles fetches (slice_set fetches i (after_nothing eq f k)) [] []
+  taken_settled o is later = shard_settled fetches i f there (after_nothing eq f k) [] [] known (omega arith)
+      (λ token some. absurd (omega (arith, some))) even where
+        left : Place N R
+        left = record { fetch = o.fetch; tokens = o.tokens; later = None }
 
-    left_is : option_and_then without_later (f.places k) ≡ Some left
-    left_is = ap (option_and_then without_later) is ∙ ap (λ (b : Bool). cond b (Some left) None) later
+        left_is : option_and_then without_later (f.places k) ≡ Some left
+        left_is = ap (option_and_then without_later) is ∙ ap (λ (b : Bool). cond b (Some left) None) later
 
-    to : (token : ℕ) → Waits f token → Waits (after_nothing eq f k) token
-    to token x = go (same_key eq k x.key) refl where
-      go : (b : Bool) → same_key eq k x.key ≡ b → Waits (after_nothing eq f k) token
-      go true one = record {
-        key = x.key;
-        home = x.home;
-        place = left;
-        placed = ap (λ (b : Bool). cond b (option_and_then without_later (f.places k)) (f.places x.key)) one ∙ left_is;
-        waits = ap (λ (y : Place N R). has token (tokens_of y)) (some_one (sym is ∙ in_place token x one)) ∙ x.waits;
-      }
-      go false apart = set_other (option_and_then without_later (f.places k)) token x apart
+        to : (token : ℕ) → Waits f token → Waits (after_nothing eq f k) token
+        to token x = go (same_key eq k x.key) refl where
+          go : (b : Bool) → same_key eq k x.key ≡ b → Waits (after_nothing eq f k) token
+          go true one = record {
+            key = x.key;
+            home = x.home;
+            place = left;
+            placed = ap (λ (b : Bool). cond b (option_and_then without_later (f.places k)) (f.places x.key)) one ∙ left_is;
+            waits = ap (λ (y : Place N R). has token (tokens_of y)) (some_one (sym is ∙ in_place token x one)) ∙ x.waits;
+          }
+          go false apart = set_other (option_and_then without_later (f.places k)) token x apart
 
-    from : (token : ℕ) → Waits (after_nothing eq f k) token → Waits f token
-    from token x = go (same_key eq k x.key) refl where
-      go : (b : Bool) → same_key eq k x.key ≡ b → Waits f token
-      go true one = record {
-        key = k;
-        home = home;
-        place = o;
-        placed = is;
-        waits = ap (λ (y : Place N R). has token (tokens_of y)) (some_one (sym left_is ∙ own_place (option_and_then without_later (f.places k)) (f.places x.key) x.key x.place one x.placed)) ∙ x.waits;
-      }
-      go false apart = record { key = x.key; home = x.home; place = x.place; placed = other_place (option_and_then without_later (f.places k)) (f.places x.key) x.key x.place apart x.placed; waits = x.waits }
+        from : (token : ℕ) → Waits (after_nothing eq f k) token → Waits f token
+        from token x = go (same_key eq k x.key) refl where
+          go : (b : Bool) → same_key eq k x.key ≡ b → Waits f token
+          go true one = record {
+            key = k;
+            home = home;
+            place = o;
+            placed = is;
+            waits = ap (λ (y : Place N R). has token (tokens_of y))
+                (some_one
+                (sym left_is ∙ own_place (option_and_then without_later (f.places k)) (f.places x.key) x.key x.place
+                one x.placed)) ∙ x.waits;
+          }
+          go false apart =
+              record {
+                key = x.key;
+                home = x.home;
+                place = x.place;
+                placed =
+                    other_place (option_and_then without_later (f.places k)) (f.places x.key) x.key x.place apart x.placed;
+                waits = x.waits;
+              }
 
-    even : (token n : ℕ) → IsCount (Waits f token) n → IsEvenAt fetches i f there (after_nothing eq f k) [] [] token n
-    even token n h = (let one = count_one n h in (n, same_count n (to token) (from token) h, refl, omega (arith, one)))
+        even : (token n : ℕ) → IsCount (Waits f token) n → IsEvenAt fetches i f there (after_nothing eq f k) [] [] token n
+        even token n h = (let one = count_one n h in (n, same_count n (to token) (from token) h, refl, omega (arith, one)))
 
   -- no builder is kept: the place is closed
   pub nothing_closed : (o : Place N R) → f.places k ≡ Some o → o.later ≡ None → after_nothing eq f k ≡ closed eq f k
   nothing_closed o is later =
       let none : option_and_then without_later (f.places k) ≡ None =
-      ap (option_and_then without_later) is ∙ ap (λ (x : Option R). cond (is_some x) (Some (record { fetch = o.fetch; tokens = o.tokens; later = None })) None) later in
+      ap (option_and_then without_later) is ∙
+      ap (λ (x : Option R). cond (is_some x) (Some (record { fetch = o.fetch; tokens = o.tokens; later = None }))
+      None) later in
       ap (λ (w : Option (Place N R)). with_place eq f k w) none
 
   module _ (laws : IsEquivalence eq) (waiter : N) (later : Option R) where
@@ -148,17 +197,21 @@ module _ {K N R : Type 0} (eq : K → K → Bool) (fetches : List (Opens K N R))
     at p = joined p f.next_fetch own later
 
     -- who waits in the place that was joined
-    has_joined : (token : ℕ) (o : Place N R) → has token (tokens_of (at (Some o))) ≡ (has token (tokens_of o) || nat_eq token f.next_token)
-    has_joined token o = ap (has token) (map-append (λ (w : Waiting N). w.token) o.tokens (own ∷ [])) ∙ has_end token f.next_token (tokens_of o)
+    has_joined : (token : ℕ) (o : Place N R) → has token (tokens_of (at (Some o)))
+        ≡ (has token (tokens_of o) || nat_eq token f.next_token)
+    has_joined token o = ap (has token) (map-append (λ (w : Waiting N). w.token) o.tokens (own ∷ []))
+        ∙ has_end token f.next_token (tokens_of o)
 
     has_own : (p : Option (Place N R)) → has f.next_token (tokens_of (at p)) ≡ true
     has_own None = ap (λ (b : Bool). b || false) (itself f.next_token)
-    has_own (Some o) = has_joined f.next_token o ∙ or_true (has f.next_token (tokens_of o)) (nat_eq f.next_token f.next_token) (itself f.next_token)
+    has_own (Some o) = has_joined f.next_token o
+        ∙ or_true (has f.next_token (tokens_of o)) (nat_eq f.next_token f.next_token) (itself f.next_token)
 
     -- one more waits
     pub enqueued_settled : Settles fetches (slice_set fetches i g) (of_shard i (f.next_token ∷ [])) []
     enqueued_settled = shard_settled fetches i f there g (f.next_token ∷ []) [] known (omega arith) fresh even where
-      fresh : (token : ℕ) → 0 < times i token (of_shard i (f.next_token ∷ [])) → (f.next_token ≤ token) × (token < g.next_token)
+      fresh : (token : ℕ) → 0 < times i token (of_shard i (f.next_token ∷ [])) → (f.next_token ≤ token)
+          × (token < g.next_token)
       fresh token some = (let one = times_alone i token f.next_token some in (omega (arith, one), omega (arith, one)))
 
       new : Waits g f.next_token
@@ -177,14 +230,25 @@ module _ {K N R : Type 0} (eq : K → K → Bool) (fetches : List (Opens K N R))
           key = x.key;
           home = x.home;
           place = at (Some x.place);
-          placed = ap (λ (b : Bool). cond b (Some (at (f.places k))) (f.places x.key)) one ∙ ap (λ (p : Option (Place N R)). Some (at p)) (in_place token x one);
+          placed = ap (λ (b : Bool). cond b (Some (at (f.places k))) (f.places x.key)) one
+              ∙ ap (λ (p : Option (Place N R)). Some (at p)) (in_place token x one);
           waits = has_joined token x.place ∙ ap (λ (b : Bool). b || nat_eq token f.next_token) x.waits;
         }
-        go false apart = record { key = x.key; home = x.home; place = x.place; placed = ap (λ (b : Bool). cond b (Some (at (f.places k))) (f.places x.key)) apart ∙ x.placed; waits = x.waits }
+        go false apart =
+            record {
+              key = x.key;
+              home = x.home;
+              place = x.place;
+              placed =
+                  ap (λ (b : Bool). cond b (Some (at (f.places k))) (f.places x.key)) apart ∙ x.placed;
+              waits = x.waits;
+            }
 
-      in_joined : (token : ℕ) → nat_eq token f.next_token ≡ false → (p : Option (Place N R)) → f.places k ≡ p → has token (tokens_of (at p)) ≡ true
+      in_joined : (token : ℕ) → nat_eq token f.next_token ≡ false → (p : Option (Place N R)) → f.places k ≡ p →
+          has token (tokens_of (at p)) ≡ true
           → Waits f token
-      in_joined token differs None is h = absurd (let e : false ≡ true = sym (ap (λ (b : Bool). b || false) differs) ∙ h in cc)
+      in_joined token differs None is h =
+          absurd (let e : false ≡ true = sym (ap (λ (b : Bool). b || false) differs) ∙ h in cc)
       in_joined token differs (Some o) is h = record {
         key = k;
         home = home;
@@ -198,19 +262,33 @@ module _ {K N R : Type 0} (eq : K → K → Bool) (fetches : List (Opens K N R))
         go : (b : Bool) → same_key eq k x.key ≡ b → Waits f token
         go true one =
             in_joined token differs (f.places k) refl
-            (ap (λ (y : Place N R). has token (tokens_of y)) (some_one (own_place (Some (at (f.places k))) (f.places x.key) x.key x.place one x.placed)) ∙ x.waits)
+            (ap (λ (y : Place N R). has token (tokens_of y))
+            (some_one (own_place (Some (at (f.places k))) (f.places x.key) x.key x.place one x.placed)) ∙ x.waits)
         go false apart =
-            record { key = x.key; home = x.home; place = x.place; placed = other_place (Some (at (f.places k))) (f.places x.key) x.key x.place apart x.placed; waits = x.waits }
+            record {
+              key = x.key;
+              home = x.home;
+              place = x.place;
+              placed =
+                  other_place (Some (at (f.places k))) (f.places x.key) x.key x.place apart x.placed;
+              waits = x.waits;
+            }
 
       older : (token : ℕ) → token ≡ f.next_token → Waits f token → ⊥
-      older token same x = (let below = sound.tokens_below x.key x.place token x.placed x.waits in omega (arith, below, same))
+      older token same x =
+          (let below = sound.tokens_below x.key x.place token x.placed x.waits in omega (arith, below, same))
 
       even : (token n : ℕ) → IsCount (Waits f token) n → IsEvenAt fetches i f there g (f.next_token ∷ []) [] token n
       even token n h = elim (eqb_tells token f.next_token) [
         | inl e ↦ (let none = count_none n (older token e.1) h in
-            let issued : times i token (of_shard i (f.next_token ∷ [])) ≡ 1 = times_itself i token f.next_token e.0 in
-            (1, inl (∣ subst (Waits g) (sym e.1) new ∣₁, refl), omega (arith, none, issued), omega (arith, none, issued)))
+            let issued : times i token (of_shard i (f.next_token ∷ [])) ≡ 1 = times_itself i token f.next_token e.0 in (
+              1,
+              inl (∣ subst (Waits g) (sym e.1) new ∣₁, refl),
+              omega (arith, none, issued),
+              omega (arith, none, issued),
+            ))
         | inr e ↦ (let one = count_one n h in
-            let issued : times i token (of_shard i (f.next_token ∷ [])) ≡ 0 = times_absent i token (f.next_token ∷ []) (ap (λ (b : Bool). b || false) e.0) in
+            let issued : times i token (of_shard i (f.next_token ∷ [])) ≡ 0 =
+            times_absent i token (f.next_token ∷ []) (ap (λ (b : Bool). b || false) e.0) in
             (n, same_count n (to token) (from token e.0) h, omega (arith, issued), omega (arith, issued, one)))
       ]

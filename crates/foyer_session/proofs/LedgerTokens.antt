@@ -27,7 +27,8 @@ other_token i j t x apart = elim (eqb_tells j i) [
 pub times_apart : (i j t : ℕ) (ts : List ℕ) → j ≢ i → times j t (of_shard i ts) ≡ 0
 times_apart i j t [] apart = refl
 times_apart i j t (x ∷ ts) apart =
-    let first : ◌≡◌ {A = ℕ} (cond (is_token j t (i, x)) 1 0) 0 = ap (λ (b : Bool). cond b 1 0) (other_token i j t x apart) in
+    let first : ◌≡◌ {A = ℕ} (cond (is_token j t (i, x)) 1 0) 0 =
+    ap (λ (b : Bool). cond b 1 0) (other_token i j t x apart) in
     omega (arith, first, times_apart i j t ts apart)
 
 or_false : (a b : Bool) → (a || b) ≡ false → (a ≡ false) × (b ≡ false)
@@ -38,7 +39,8 @@ pub times_absent : (i t : ℕ) (ts : List ℕ) → has t ts ≡ false → times 
 times_absent i t [] h = refl
 times_absent i t (x ∷ ts) h =
     let both = or_false (nat_eq t x) (has t ts) h in
-    let first : ◌≡◌ {A = ℕ} (cond (is_token i t (i, x)) 1 0) 0 = ap (λ (b : Bool). cond b 1 0) (own_token i t x ∙ both.0) in
+    let first : ◌≡◌ {A = ℕ} (cond (is_token i t (i, x)) 1 0) 0 =
+    ap (λ (b : Bool). cond b 1 0) (own_token i t x ∙ both.0) in
     omega (arith, first, times_absent i t ts both.1)
 
 absent_later : (t : ℕ) (ts : List ℕ) → AllByRecursion (λ y. nat_eq t y ≡ false) ts → has t ts ≡ false
@@ -48,10 +50,15 @@ absent_later t (x ∷ ts) h = ap (λ (b : Bool). b || has t ts) h.0 ∙ absent_l
 pub times_once : (i t : ℕ) (ts : List ℕ) → IsDistinct nat_eq ts → has t ts ≡ true → times i t (of_shard i ts) ≡ 1
 times_once i t [] once h = absurd cc
 times_once i t (x ∷ ts) once h = elim (eqb_tells t x) [
-  | inl e ↦ (let first : ◌≡◌ {A = ℕ} (cond (is_token i t (i, x)) 1 0) 1 = ap (λ (b : Bool). cond b 1 0) (own_token i t x ∙ e.0) in
-      let none : has t ts ≡ false = ap (λ (n : ℕ). has n ts) e.1 ∙ absent_later x ts (IsDistinct-head nat_eq x ts once) in
+  | inl e ↦
+      (let first : ◌≡◌ {A = ℕ} (cond (is_token i t (i, x)) 1 0) 1 =
+      ap (λ (b : Bool). cond b 1 0) (own_token i t x ∙ e.0) in
+      let none : has t ts ≡ false = ap (λ (n : ℕ). has n ts) e.1
+      ∙ absent_later x ts (IsDistinct-head nat_eq x ts once) in
       omega (arith, first, times_absent i t ts none))
-  | inr e ↦ (let first : ◌≡◌ {A = ℕ} (cond (is_token i t (i, x)) 1 0) 0 = ap (λ (b : Bool). cond b 1 0) (own_token i t x ∙ e.0) in
+  | inr e ↦
+      (let first : ◌≡◌ {A = ℕ} (cond (is_token i t (i, x)) 1 0) 0 =
+      ap (λ (b : Bool). cond b 1 0) (own_token i t x ∙ e.0) in
       let later : has t ts ≡ true = sym (ap (λ (b : Bool). b || has t ts) e.0) ∙ h in
       omega (arith, first, times_once i t ts (IsDistinct-tail nat_eq x ts once) later))
 ]
@@ -60,11 +67,14 @@ times_once i t (x ∷ ts) once h = elim (eqb_tells t x) [
 pub times_alone : (i t x : ℕ) → 0 < times i t (of_shard i (x ∷ [])) → t ≡ x
 times_alone i t x some = elim (eqb_tells t x) [
   | inl e ↦ e.1
-  | inr e ↦ (let none = times_absent i t (x ∷ []) (ap (λ (b : Bool). b || false) e.0) in absurd (omega (arith, none, some)))
+  | inr e ↦
+      (let none = times_absent i t (x ∷ []) (ap (λ (b : Bool). b || false) e.0) in absurd (omega (arith, none, some)))
 ]
 
 pub times_itself : (i t x : ℕ) → nat_eq t x ≡ true → times i t (of_shard i (x ∷ [])) ≡ 1
-times_itself i t x h = (let first : ◌≡◌ {A = ℕ} (cond (is_token i t (i, x)) 1 0) 1 = ap (λ (b : Bool). cond b 1 0) (own_token i t x ∙ h) in omega (arith, first))
+times_itself i t x h =
+    (let first : ◌≡◌ {A = ℕ} (cond (is_token i t (i, x)) 1 0) 1 =
+    ap (λ (b : Bool). cond b 1 0) (own_token i t x ∙ h) in omega (arith, first))
 
 -- a token at the end of a list
 or_last : (a : Bool) → (a || false) ≡ a
@@ -77,7 +87,8 @@ or_assoc false b c = refl
 
 pub has_end : (s t : ℕ) (ts : List ℕ) → has s (ts ++ t ∷ []) ≡ (has s ts || nat_eq s t)
 has_end s t [] = or_last (nat_eq s t)
-has_end s t (x ∷ ts) = ap (λ (b : Bool). nat_eq s x || b) (has_end s t ts) ∙ or_assoc (nat_eq s x) (has s ts) (nat_eq s t)
+has_end s t (x ∷ ts) = ap (λ (b : Bool). nat_eq s x || b) (has_end s t ts)
+    ∙ or_assoc (nat_eq s x) (has s ts) (nat_eq s t)
 
 -- a fact counts once where it holds, and else not
 abbrev pub IsCount : Type 0 → ℕ → Type 0

@@ -7,7 +7,8 @@ use Rattle.foyer_session.specs.Text.{number_of, numbers_of, line_with_none, line
 use Rattle.foyer_session.proofs.NumberLemmas.{number_of-short}
 
 bytes_eq-long : (word name : List ℕ) → length name < length word → bytes_eq word name ≡ false
-bytes_eq-long word name long = false_from_ne_true (bytes_eq word name) (λ e. omega (arith, ap length ((bytes_eq-Decides word name).0 e)))
+bytes_eq-long word name long = false_from_ne_true (bytes_eq word name)
+    (λ e. omega (arith, ap length ((bytes_eq-Decides word name).0 e)))
 
 -- no first word is longer than 8 bytes
 line_with_none-long : (verb : List ℕ) → 8 < length verb → line_with_none verb ≡ Bad
@@ -36,25 +37,32 @@ weight_of [] = 0
 weight_of (word ∷ more) = suc (length word) + weight_of more
 
 -- words that are numbers are short
-numbers_of-short : (more : List (List ℕ)) → IfSome (numbers_of more) (λ ns. (length ns ≡ length more) × (weight_of more ≤ 21 * length more))
+numbers_of-short : (more : List (List ℕ)) →
+    IfSome (numbers_of more) (λ ns. (length ns ≡ length more) × (weight_of more ≤ 21 * length more))
 numbers_of-short [] = (refl, omega arith)
 numbers_of-short (word ∷ more) = at (number_of word) (numbers_of more) (number_of-short word) (numbers_of-short more)
   where
-    at : (o : Option ℕ) (os : Option (List ℕ)) → IfSome o (λ _. length word ≤ 20) → IfSome os (λ ns. (length ns ≡ length more) × (weight_of more ≤ 21 * length more))
-        → IfSome (option_and_then (λ n. option_map (λ ns. n ∷ ns) os) o) (λ ns. (length ns ≡ suc (length more)) × (suc (length word) + weight_of more ≤ 21 * suc (length more)))
+    at : (o : Option ℕ) (os : Option (List ℕ)) → IfSome o (λ _. length word ≤ 20) →
+        IfSome os (λ ns. (length ns ≡ length more) × (weight_of more ≤ 21 * length more))
+        → IfSome (option_and_then (λ n. option_map (λ ns. n ∷ ns) os) o)
+        (λ ns. (length ns ≡ suc (length more)) × (suc (length word) + weight_of more ≤ 21 * suc (length more)))
     at None os h k = tt
     at (Some n) None h k = tt
     at (Some n) (Some ns) h k = (ap suc k.0, omega (arith, k.1))
 
-line_with-long : (verb : List ℕ) (o : Option (List ℕ)) (count weight : ℕ) → IfSome o (λ ns. (length ns ≡ count) × (weight ≤ 21 * count)) → 84 < suc (length verb) + weight → line_with verb o ≡ Bad
+line_with-long : (verb : List ℕ) (o : Option (List ℕ)) (count weight : ℕ) →
+    IfSome o (λ ns. (length ns ≡ count) × (weight ≤ 21 * count)) → 84 < suc (length verb) + weight → line_with verb o
+    ≡ Bad
 line_with-long verb None count weight h long = refl
 line_with-long verb (Some []) count weight h long = line_with_none-long verb (omega (arith, h.0, h.1))
 line_with-long verb (Some (n ∷ [])) count weight h long = line_with_one-long verb n (omega (arith, h.0, h.1))
 line_with-long verb (Some (m ∷ n ∷ [])) count weight h long = line_with_two-long verb m n (omega (arith, h.0, h.1))
-line_with-long verb (Some (k ∷ m ∷ n ∷ [])) count weight h long = line_with_three-long verb k m n (omega (arith, h.0, h.1))
+line_with-long verb (Some (k ∷ m ∷ n ∷ [])) count weight h long =
+    line_with_three-long verb k m n (omega (arith, h.0, h.1))
 line_with-long verb (Some (j ∷ k ∷ m ∷ n ∷ ns)) count weight h long = refl
 
 -- words of more than 84 bytes, with one more for each, are no good line
 pub line_of_words-long : (all : List (List ℕ)) → 84 < weight_of all → line_of_words all ≡ Bad
 line_of_words-long [] long = absurd (omega arith)
-line_of_words-long (verb ∷ more) long = line_with-long verb (numbers_of more) (length more) (weight_of more) (numbers_of-short more) long
+line_of_words-long (verb ∷ more) long = line_with-long verb (numbers_of more) (length more) (weight_of more)
+    (numbers_of-short more) long

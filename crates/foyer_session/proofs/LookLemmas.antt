@@ -18,50 +18,75 @@ use Rattle.foyer_session.proofs.OwnLemmas.{set_same}
 use Rattle.foyer_session.proofs.StepLemmas.{gets_refused}
 use Rattle.foyer_session.proofs.WaitsLemmas.{one_waits}
 
-module _ {K V P View C S W A : Type 0} (m : Meaning K P View C) (core : Core K V P View S W A) (f : List (Opens K (Unit {0}) ℕ)) (new : Core K V P View S W A) (g : List (Opens K (Unit {0}) ℕ)) (k : ℕ × K) (later : Option ℕ) where
+module _ {K V P View C S W A : Type 0} (m : Meaning K P View C) (core : Core K V P View S W A)
+    (f : List (Opens K (Unit {0}) ℕ)) (new : Core K V P View S W A) (g : List (Opens K (Unit {0}) ℕ)) (k : ℕ × K)
+    (later : Option ℕ) where
   -- where the shard and its open fetches stay, all does
-  core_stays : (step : State K V P View → Opens K (Unit {0}) ℕ → State K V P View → Opens K (Unit {0}) ℕ → Type 0) (at : AtOpen step k.0 core f new g) → at.after ≡ at.before → new ≡ core
+  core_stays : (step : State K V P View → Opens K (Unit {0}) ℕ → State K V P View → Opens K (Unit {0}) ℕ → Type 0)
+      (at : AtOpen step k.0 core f new g) → at.after ≡ at.before → new ≡ core
   core_stays step at same =
       at.rest ∙ ap (λ (l : List (State K V P View)). record core { shards = l })
-      (ap (λ (x : State K V P View). slice_set core.shards (shard_of core k.0) x) same ∙ set_same core.shards (shard_of core k.0) at.before at.there)
+      (ap (λ (x : State K V P View). slice_set core.shards (shard_of core k.0) x) same
+      ∙ set_same core.shards (shard_of core k.0) at.before at.there)
 
-  fetches_stay : (step : State K V P View → Opens K (Unit {0}) ℕ → State K V P View → Opens K (Unit {0}) ℕ → Type 0) (at : AtOpen step k.0 core f new g) → at.open_after ≡ at.open_before → g ≡ f
-  fetches_stay step at same = at.open_rest ∙ ap (λ (x : Opens K (Unit {0}) ℕ). slice_set f (shard_of core k.0) x) same ∙ set_same f (shard_of core k.0) at.open_before at.open_there
+  fetches_stay : (step : State K V P View → Opens K (Unit {0}) ℕ → State K V P View → Opens K (Unit {0}) ℕ → Type 0)
+      (at : AtOpen step k.0 core f new g) → at.open_after ≡ at.open_before → g ≡ f
+  fetches_stay step at same = at.open_rest ∙ ap (λ (x : Opens K (Unit {0}) ℕ). slice_set f (shard_of core k.0) x) same
+      ∙ set_same f (shard_of core k.0) at.open_before at.open_there
 
   -- a hit is a get, and the fetches stay
-  pub looked_hit : (entry : Held K V P) → AtOpen (λ s x t y. LooksUp m s x k tt later (Ok (Hit entry)) t y) k.0 core f new g → AtShard (λ s t. Gets m s k (Ok (Some entry)) t) k.0 core new × (g ≡ f)
-  looked_hit entry at =
-      (record { before = at.before; after = at.after; there = at.there; stepped = at.stepped.0; rest = at.rest }, fetches_stay (λ s x t y. LooksUp m s x k tt later (Ok (Hit entry)) t y) at at.stepped.1)
+  pub looked_hit : (entry : Held K V P) → AtOpen (λ s x t y. LooksUp m s x k tt later (Ok (Hit entry)) t y) k.0 core f
+      new g → AtShard (λ s t. Gets m s k (Ok (Some entry)) t) k.0 core new × (g ≡ f)
+  looked_hit entry at = (
+    record { before = at.before; after = at.after; there = at.there; stepped = at.stepped.0; rest = at.rest },
+    fetches_stay (λ s x t y. LooksUp m s x k tt later (Ok (Hit entry)) t y) at at.stepped.1,
+  )
 
   -- a miss leaves the core, and one more waits
-  enqueued_core : (answer : Enqueue ℕ) (at : AtOpen (λ s x t y. Enqueues m s x k tt later answer t y) k.0 core f new g) → new ≡ core
+  enqueued_core : (answer : Enqueue ℕ)
+      (at : AtOpen (λ s x t y. Enqueues m s x k tt later answer t y) k.0 core f new g) → new ≡ core
   enqueued_core answer at = core_stays (λ s x t y. Enqueues m s x k tt later answer t y) at at.stepped.3
 
-  enqueued_waits : (answer : Enqueue ℕ) (at : AtOpen (λ s x t y. Enqueues m s x k tt later answer t y) k.0 core f new g) → length f ≡ length core.shards → (count : ℕ) → AtMost f count → AtMost g (count + 1)
+  enqueued_waits : (answer : Enqueue ℕ)
+      (at : AtOpen (λ s x t y. Enqueues m s x k tt later answer t y) k.0 core f new g) → length f ≡ length core.shards
+      → (count : ℕ) → AtMost f count → AtMost g (count + 1)
   enqueued_waits answer at long count most =
-      let is : g ≡ slice_set f (shard_of core k.0) _ = at.open_rest ∙ ap (λ (x : Opens K (Unit {0}) ℕ). slice_set f (shard_of core k.0) x) at.stepped.4 in
+      let is : g ≡ slice_set f (shard_of core k.0) _ = at.open_rest
+      ∙ ap (λ (x : Opens K (Unit {0}) ℕ). slice_set f (shard_of core k.0) x) at.stepped.4 in
       subst (λ (l : List (Opens K (Unit {0}) ℕ)). AtMost l (count + 1)) (sym is)
-      (one_waits f (shard_of core k.0) at.open_before at.open_there m.same k (ap (λ (n : ℕ). k.0 % n) long) tt later count most)
+      (one_waits f (shard_of core k.0) at.open_before at.open_there m.same k (ap (λ (n : ℕ). k.0 % n) long) tt later
+      count most)
 
-  pub led_core : (fetch token : ℕ) (required : Option ℕ) → AtOpen (λ s x t y. LooksUp m s x k tt later (Ok (Lead fetch token required)) t y) k.0 core f new g → new ≡ core
+  pub led_core : (fetch token : ℕ) (required : Option ℕ) →
+      AtOpen (λ s x t y. LooksUp m s x k tt later (Ok (Lead fetch token required)) t y) k.0 core f new g → new ≡ core
   led_core fetch token required at = enqueued_core (LeadsFetch fetch token required) at
 
-  pub waited_core : (token : ℕ) → AtOpen (λ s x t y. LooksUp m s x k tt later (Ok (Wait token)) t y) k.0 core f new g → new ≡ core
+  pub waited_core : (token : ℕ) → AtOpen (λ s x t y. LooksUp m s x k tt later (Ok (Wait token)) t y) k.0 core f new g
+      → new ≡ core
   waited_core token at = enqueued_core (WaitsFetch token) at
 
   module _ (long : length f ≡ length core.shards) (count : ℕ) (most : ∥ AtMost f count ∥₁) where
-    pub led_waits : (fetch token : ℕ) (required : Option ℕ) → AtOpen (λ s x t y. LooksUp m s x k tt later (Ok (Lead fetch token required)) t y) k.0 core f new g → ∥ AtMost g (count + 1) ∥₁
-    led_waits fetch token required at = ∥∥₁_map most (λ x. enqueued_waits (LeadsFetch fetch token required) at long count x)
+    pub led_waits : (fetch token : ℕ) (required : Option ℕ) →
+        AtOpen (λ s x t y. LooksUp m s x k tt later (Ok (Lead fetch token required)) t y) k.0 core f new g →
+        ∥ AtMost g (count + 1) ∥₁
+    led_waits fetch token required at = ∥∥₁_map most
+        (λ x. enqueued_waits (LeadsFetch fetch token required) at long count x)
 
-    pub waited_waits : (token : ℕ) → AtOpen (λ s x t y. LooksUp m s x k tt later (Ok (Wait token)) t y) k.0 core f new g → ∥ AtMost g (count + 1) ∥₁
+    pub waited_waits : (token : ℕ) → AtOpen (λ s x t y. LooksUp m s x k tt later (Ok (Wait token)) t y) k.0 core f new
+        g → ∥ AtMost g (count + 1) ∥₁
     waited_waits token at = ∥∥₁_map most (λ x. enqueued_waits (WaitsFetch token) at long count x)
 
-  refused_stays : (o : Option ℕ) (s : State K V P View) (x : Opens K (Unit {0}) ℕ) (reason : Reason) (t : State K V P View) → RefusesLookUp m o s x k reason t → t ≡ s
+  refused_stays : (o : Option ℕ) (s : State K V P View) (x : Opens K (Unit {0}) ℕ) (reason : Reason)
+      (t : State K V P View) → RefusesLookUp m o s x k reason t → t ≡ s
   refused_stays None s x reason t h = h.1
   refused_stays (Some id) s x reason t h = gets_refused m core new k s t reason h
 
   -- a refusal changes nothing
-  pub looked_refused : (reason : Reason) → AtOpen (λ s x t y. LooksUp m s x k tt later (Err reason) t y) k.0 core f new g → (new ≡ core) × (g ≡ f)
+  pub looked_refused : (reason : Reason) → AtOpen (λ s x t y. LooksUp m s x k tt later (Err reason) t y) k.0 core f
+      new g → (new ≡ core) × (g ≡ f)
   looked_refused reason at =
-      let step = λ (s : State K V P View) (x : Opens K (Unit {0}) ℕ) (t : State K V P View) (y : Opens K (Unit {0}) ℕ). LooksUp m s x k tt later (Err reason) t y in
-      (core_stays step at (refused_stays (hit at.before k) at.before at.open_before reason at.after at.stepped.0), fetches_stay step at at.stepped.1)
+      let step = λ (s : State K V P View) (x : Opens K (Unit {0}) ℕ) (t : State K V P View)
+      (y : Opens K (Unit {0}) ℕ). LooksUp m s x k tt later (Err reason) t y in (
+        core_stays step at (refused_stays (hit at.before k) at.before at.open_before reason at.after at.stepped.0),
+        fetches_stay step at at.stepped.1,
+      )

@@ -22,7 +22,8 @@ use Rattle.foyer_session.proofs.CoreLemmas.{fetches_long, kept_at}
 use Rattle.foyer_session.proofs.FoundLemmas.{next_unused}
 use Rattle.foyer_session.proofs.PieceLemmas.{piece_gives}
 
-module _ {E K V P S W A N R I C X : Type 0} {e : EvictionGhosts E C X} {e1 : CloneGhosts C} {e2 : DefaultGhosts C} {e3 : _} {e4 : DefaultGhosts X}
+module _ {E K V P S W A N R I C X : Type 0} {e : EvictionGhosts E C X} {e1 : CloneGhosts C} {e2 : DefaultGhosts C}
+    {e3 : _} {e4 : DefaultGhosts X}
     {q : EqGhosts K} {h : HashGhosts K} {c : CloneGhosts K} {p : PropertiesGhosts P} {d : DefaultGhosts P}
     {b : HashBuilderGhosts S} {w : WeighterGhosts W K V} {f : FilterGhosts A K V} {i : FinderGhosts I K} where
   pub came_home : (s : CacheCore E K V P S W A N R I C X e e1 e2 e3 e4 q h c p d b w f i) (weighs : ℕ → Type 0)
@@ -38,4 +39,5 @@ module _ {E K V P S W A N R I C X : Type 0} {e : EvictionGhosts E C X} {e1 : Clo
       (piece_gives (meaning_of_core s) (length (core_of s).shards) place at.before at.after
       (s.belong place at.before at.there) weighs hash piece made (more at.before) at.stepped refl
       (next_unused (meaning_of_core s) at.before k)).placed) in
-      ap (λ (n : ℕ). hash % n) (fetches_long s) ∙ sym home ∙ ap (λ (n : ℕ). made.entry.kept.hash % n) (sym (fetches_long s))
+      ap (λ (n : ℕ). hash % n) (fetches_long s) ∙ sym home
+      ∙ ap (λ (n : ℕ). made.entry.kept.hash % n) (sym (fetches_long s))

@@ -12,7 +12,8 @@ use Rattle.foyer_session.specs.Printed.{more_pairs_text, pair_text, pairs_text}
 use Rattle.foyer_session.proofs.Joins.{AppendsFront-after, AppendsFront-append}
 
 -- what is left at an element is that one and the rest
-pub next-left : {X : Type 0} (xs : List X) (i : ℕ) (x : X) → i < length xs → x ≡ get_or xs i x → drop i xs ≡ x ∷ drop (i + 1) xs
+pub next-left : {X : Type 0} (xs : List X) (i : ℕ) (x : X) → i < length xs → x ≡ get_or xs i x → drop i xs
+    ≡ x ∷ drop (i + 1) xs
 next-left xs i x inside is = drop_more xs i x inside ∙ ap (λ y. y ∷ drop (i + 1) xs) (sym is)
 
 -- so at a place where an element stands
@@ -47,7 +48,8 @@ module _ {X : Type 0} (f : X → List ℕ) where
   Written-none old all = record { text = []; wrote = Appends-nil old; rest = refl }
 
   -- one more was written
-  pub Written-more : (old mid new : Option (List ℕ)) (all left more : List X) (x : X) → Written f old mid all left → left ≡ x ∷ more → Appends mid new (f x) → Written f old new all more
+  pub Written-more : (old mid new : Option (List ℕ)) (all left more : List X) (x : X) → Written f old mid all left →
+      left ≡ x ∷ more → Appends mid new (f x) → Written f old new all more
   Written-more old mid new all left more x w is h = record {
     text = w.text ++ f x;
     wrote = Appends-trans old mid new w.text (f x) w.wrote h;
@@ -55,16 +57,22 @@ module _ {X : Type 0} (f : X → List ℕ) where
   }
 
   -- a beginning of one more was written
-  pub Written-stops : (old mid new : Option (List ℕ)) (all left more : List X) (x : X) → Written f old mid all left → left ≡ x ∷ more → AppendsFront mid new (f x) → AppendsFront old new (flat_map f all)
+  pub Written-stops : (old mid new : Option (List ℕ)) (all left more : List X) (x : X) → Written f old mid all left →
+      left ≡ x ∷ more → AppendsFront mid new (f x) → AppendsFront old new (flat_map f all)
   Written-stops old mid new all left more x w is h =
       subst (AppendsFront old new) (ap (λ xs. w.text ++ flat_map f xs) (sym is) ∙ w.rest)
-      (AppendsFront-after old mid new w.text (f x ++ flat_map f more) w.wrote (AppendsFront-append mid new (f x) (flat_map f more) h))
+      (AppendsFront-after old mid new w.text (f x ++ flat_map f more) w.wrote
+      (AppendsFront-append mid new (f x) (flat_map f more) h))
 
   -- nothing is left
-  pub Written-ends : (old new : Option (List ℕ)) (all left : List X) → Written f old new all left → left ≡ [] → Appends old new (flat_map f all)
-  Written-ends old new all left w is = subst (Appends old new) (sym (append-nil w.text) ∙ ap (λ xs. w.text ++ flat_map f xs) (sym is) ∙ w.rest) w.wrote
+  pub Written-ends : (old new : Option (List ℕ)) (all left : List X) → Written f old new all left → left ≡ [] →
+      Appends old new (flat_map f all)
+  Written-ends old new all left w is = subst (Appends old new)
+      (sym (append-nil w.text) ∙ ap (λ xs. w.text ++ flat_map f xs) (sym is) ∙ w.rest) w.wrote
 
 -- the first of those who waited, and the rest
-pub pairs-split : (all : List (ℕ × Result (Option ℕ) Reason)) → (length all == 0) ≡ false → (pair : ℕ × Result (Option ℕ) Reason) × (slice_get all 0 ≡ Some pair) × (pairs_text all ≡ pair_text pair ++ more_pairs_text (drop 1 all))
+pub pairs-split : (all : List (ℕ × Result (Option ℕ) Reason)) → (length all == 0) ≡ false →
+    (pair : ℕ × Result (Option ℕ) Reason) × (slice_get all 0 ≡ Some pair)
+    × (pairs_text all ≡ pair_text pair ++ more_pairs_text (drop 1 all))
 pairs-split [] h = absurd cc
 pairs-split (pair ∷ pairs) h = (pair, refl, refl)

@@ -49,13 +49,19 @@ refusals_in (Err reason) = reason ∷ []
 
 -- the same token, which got an equal handle, nothing as well, or an equal refusal
 abbrev pub got_eq : (Reason → Reason → Bool) → ℕ × Result (Option ℕ) Reason → ℕ × Result (Option ℕ) Reason → Bool
-got_eq reasons = eq_of_both (on (λ got. got.0) nat_eq) (eq_of_both (on (λ got. handles_in got.1) (pointwise nat_eq)) (on (λ got. refusals_in got.1) (pointwise reasons)))
+got_eq reasons = eq_of_both (on (λ got. got.0) nat_eq)
+    (eq_of_both (on (λ got. handles_in got.1) (pointwise nat_eq)) (on (λ got. refusals_in got.1) (pointwise reasons)))
 
 -- the same tokens, in order, each of which got the same
-abbrev pub answers_eq : (Reason → Reason → Bool) → List (ℕ × Result (Option ℕ) Reason) → List (ℕ × Result (Option ℕ) Reason) → Bool
+abbrev pub answers_eq : (Reason → Reason → Bool) → List (ℕ × Result (Option ℕ) Reason) →
+    List (ℕ × Result (Option ℕ) Reason) → Bool
 answers_eq reasons = pointwise (got_eq reasons)
 
-pub answers_eq_per : {reasons : Reason → Reason → Bool} → IsPartialEquivalence reasons → IsPartialEquivalence (answers_eq reasons)
+pub answers_eq_per : {reasons : Reason → Reason → Bool} → IsPartialEquivalence reasons →
+    IsPartialEquivalence (answers_eq reasons)
 answers_eq_per laws =
     let numbers = partial_equiv_from_equiv nat_eq_equiv in
-    lists_per (and_per (on_per (λ got. got.0) numbers) (and_per (on_per (λ got. handles_in got.1) (lists_per numbers)) (on_per (λ got. refusals_in got.1) (lists_per laws))))
+    lists_per
+    (and_per (on_per (λ got. got.0) numbers)
+    (and_per (on_per (λ got. handles_in got.1) (lists_per numbers))
+    (on_per (λ got. refusals_in got.1) (lists_per laws))))

@@ -16,10 +16,13 @@ policy_of name = if bytes_eq name (codes "fifo") then Some Fifo
 
 -- a policy, a capacity and some shards
 abbrev pub args_with : SimPolicy → ℕ → ℕ → Option SimArgs
-args_with policy capacity shards = if shards == 0 then None else Some record { policy = policy; capacity = capacity; shards = shards }
+args_with policy capacity shards = if shards == 0 then None
+    else Some record { policy = policy; capacity = capacity; shards = shards }
 
 -- what these words ask for
 abbrev pub args_of : List (List ℕ) → Option SimArgs
 args_of (policy ∷ capacity ∷ shards ∷ []) =
-    option_and_then (λ p. option_and_then (λ c. option_and_then (args_with p c) (number_of shards)) (number_of capacity)) (policy_of policy)
+    option_and_then
+    (λ p. option_and_then (λ c. option_and_then (args_with p c) (number_of shards)) (number_of capacity))
+    (policy_of policy)
 args_of _ = None

@@ -22,7 +22,8 @@ use Rattle.foyer_session.specs.Waits.{WaitsIn, times}
 module _ {K N R : Type 0} where
   -- how often a token waits: once, or not
   abbrev pub IsWaiting : List (Opens K N R) → ℕ → ℕ → ℕ → Type 0
-  IsWaiting fetches shard token count = (∥ WaitsIn fetches shard token ∥₁ × (count ≡ 1)) ⊎ ((WaitsIn fetches shard token → ⊥) × (count ≡ 0))
+  IsWaiting fetches shard token count = (∥ WaitsIn fetches shard token ∥₁ × (count ≡ 1))
+      ⊎ ((WaitsIn fetches shard token → ⊥) × (count ≡ 0))
 
   -- the next token of a shard, where it is one
   abbrev pub next_token_of : Option (Opens K N R) → ℕ
@@ -41,10 +42,13 @@ module _ {K N R : Type 0} where
 
   -- what tokens were issued and handed out while some open fetches became others
   pub record Settles (old new : List (Opens K N R)) (issued handed : List (ℕ × ℕ)) : Type 0 where
-    -- each token that waited or was issued waits or was handed out: none is lost, and none is issued or handed out twice
-    pub even : (shard token before : ℕ) → IsWaiting old shard token before → IsEven old new issued handed shard token before
+    -- each token that waited or was issued waits or was handed out: none is lost, and none is issued or handed out
+    -- twice
+    pub even : (shard token before : ℕ) → IsWaiting old shard token before →
+        IsEven old new issued handed shard token before
     -- an issued token is new
-    pub fresh : (shard token : ℕ) → 0 < times shard token issued → (next_token_in old shard ≤ token) × (token < next_token_in new shard)
+    pub fresh : (shard token : ℕ) → 0 < times shard token issued → (next_token_in old shard ≤ token)
+        × (token < next_token_in new shard)
     -- one that waited is not
     pub known : (shard token : ℕ) → WaitsIn old shard token → token < next_token_in old shard
     -- the next tokens never fall
@@ -57,7 +61,8 @@ WaitsFor fetches key token = IsSomeAnd (place_in fetches key) (λ place. has tok
 -- a token was issued for this hashed key, where these were issued; `same` says when keys are equal
 abbrev pub IsIssuedFor : {K : Type 0} → (K → K → Bool) → List ((ℕ × K) × ℕ) → ℕ × K → ℕ → Type 0
 IsIssuedFor same [] key token = ⊥
-IsIssuedFor same (one ∷ others) key token = ((same_key same one.0 key ≡ true) × (one.1 ≡ token)) ⊎ IsIssuedFor same others key token
+IsIssuedFor same (one ∷ others) key token = ((same_key same one.0 key ≡ true) × (one.1 ≡ token))
+    ⊎ IsIssuedFor same others key token
 
 -- a token is one of this hashed key: it waited for it, or was issued for it since
 abbrev pub IsTokenOf : {K N R : Type 0} → (K → K → Bool) → List (Opens K N R) → List ((ℕ × K) × ℕ) → ℕ × K → ℕ → Type 0
@@ -96,7 +101,8 @@ module _ {K V P : Type 0} where
 
 -- `hash` gives each key its hash.
 module _ {K V P Q C : Type 0} (hash : K → ℕ) where
-  -- the hashed key whose tokens an answer issues and hands out: that of the command, or for an insert of a piece that of
+  -- the hashed key whose tokens an answer issues and hands out: that of the command, or for an insert of a piece that
+  -- of
   -- the record which came in
   abbrev pub key_by : Command K V P Q C → Answer K V P → Option (ℕ × K)
   key_by (Insert k v p) answer = Some (hash k, k)
@@ -115,7 +121,8 @@ module _ {K V P Q C : Type 0} (hash : K → ℕ) where
 
   -- the tokens that commands and their replies issue, in order, each with its hashed key
   abbrev pub issued_for : List (Command K V P Q C) → List (Reply K V P) → List ((ℕ × K) × ℕ)
-  issued_for (command ∷ commands) (reply ∷ replies) = of_key (key_by command reply.answer) (issues reply.answer) ++ issued_for commands replies
+  issued_for (command ∷ commands) (reply ∷ replies) = of_key (key_by command reply.answer) (issues reply.answer)
+      ++ issued_for commands replies
   issued_for _ _ = []
 
   -- `shards` is how many there are.
@@ -142,10 +149,13 @@ module _ {K V P View C S W A Q : Type 0} (t : Terms K V P View C S W A) where
   -- The tokens of commands and their replies are settled: each one that waited or was issued waits or was handed out,
   -- none twice, and each issued one is new. Who waits for a key waited for it before or was issued a token for it. The
   -- shards are as many as before, and keys have the hashes that they had.
-  pub record IsSettled (old : SessionState K V P View S W A) (commands : List (Command K V P Q C)) (replies : List (Reply K V P)) (new : SessionState K V P View S W A) : Type 0 where
+  pub record IsSettled (old : SessionState K V P View S W A) (commands : List (Command K V P Q C))
+      (replies : List (Reply K V P)) (new : SessionState K V P View S W A) : Type 0 where
     pub settles : Settles old.fetches new.fetches
-        (issued (hash_in t old) (length old.core.shards) commands replies) (handed (hash_in t old) (length old.core.shards) commands replies)
-    pub keyed : (key : ℕ × K) (token : ℕ) → WaitsFor new.fetches key token → IsTokenOf t.meaning.same old.fetches (issued_for (hash_in t old) commands replies) key token
+        (issued (hash_in t old) (length old.core.shards) commands replies)
+        (handed (hash_in t old) (length old.core.shards) commands replies)
+    pub keyed : (key : ℕ × K) (token : ℕ) → WaitsFor new.fetches key token →
+        IsTokenOf t.meaning.same old.fetches (issued_for (hash_in t old) commands replies) key token
     pub builder : new.core.hash_builder ≡ old.core.hash_builder
     pub shards : length new.core.shards ≡ length old.core.shards
 
@@ -162,7 +172,8 @@ module _ {K V P : Type 0} where
 
   -- a handle of this number was handed out, and while it is held it is one of this record
   abbrev pub WasHandleOf : List (Option (Held K V P)) → Gone K V P → ℕ → Type 0
-  WasHandleOf handles came number = (number < length handles) × IfSome (held_at handles number) (λ entry. record_of entry ≡ came)
+  WasHandleOf handles came number = (number < length handles)
+      × IfSome (held_at handles number) (λ entry. record_of entry ≡ came)
 
 -- why a record is refused that is to end a fetch
 abbrev pub IsRefusal : Reason → Type 0
@@ -189,33 +200,43 @@ module _ {K V P Q C : Type 0} where
 
   -- What one gets who waited for a key: a handle of the record that came in, which is of the key; nothing; or why not.
   -- `same` says when keys are equal, and `holds` what is known of the handles of a record.
-  abbrev pub MayGet : (K → K → Bool) → (Gone K V P → ℕ → Type 0) → Command K V P Q C → Option (Gone K V P) → K → Result (Option ℕ) Reason → Type 0
-  MayGet same holds command came k (Ok (Some number)) = IsSomeAnd came (λ gone. (same k gone.kept.key ≡ true) × holds gone number)
+  abbrev pub MayGet : (K → K → Bool) → (Gone K V P → ℕ → Type 0) → Command K V P Q C → Option (Gone K V P) → K →
+      Result (Option ℕ) Reason → Type 0
+  MayGet same holds command came k (Ok (Some number)) =
+      IsSomeAnd came (λ gone. (same k gone.kept.key ≡ true) × holds gone number)
   MayGet same holds command came k (Ok None) = FindsNothing command
   MayGet same holds command came k (Err reason) = MayRefuse command reason
 
 module _ {K V P View C S W A Q : Type 0} (t : Terms K V P View C S W A) where
-  -- The tokens of an answer are answered: each one that is handed out waited for the command's key. It gets a handle, held
+  -- The tokens of an answer are answered: each one that is handed out waited for the command's key. It gets a handle,
+  -- held
   -- now, of the record that came in with that very answer, which is of the key; or nothing, where nothing was found; or
   -- why its fetch ended.
-  abbrev pub IsAnswered : SessionState K V P View S W A → Command K V P Q C → Answer K V P → SessionState K V P View S W A → Type 0
+  abbrev pub IsAnswered : SessionState K V P View S W A → Command K V P Q C → Answer K V P →
+      SessionState K V P View S W A → Type 0
   IsAnswered old command answer new = AllByRecursion
       (λ got. IsSomeAnd (key_by (hash_in t old) command answer)
-      (λ key. WaitsFor old.fetches key got.0 × MayGet t.meaning.same (IsHandleOf new.handles) command (came_in answer) key.1 got.1))
+      (λ key. WaitsFor old.fetches key got.0 × MayGet t.meaning.same (IsHandleOf new.handles) command (came_in answer)
+      key.1 got.1))
       (outcomes answer)
 
-  -- So it is with commands and their replies, after others that issued these tokens: each one that is handed out is one of
-  -- the command's key, and a handle that it got is one of the record that came in with that very reply, while it is held.
-  abbrev pub AreAnsweredAfter : List ((ℕ × K) × ℕ) → SessionState K V P View S W A → List (Command K V P Q C) → List (Reply K V P) → SessionState K V P View S W A → Type 0
+  -- So it is with commands and their replies, after others that issued these tokens: each one that is handed out is
+  -- one of
+  -- the command's key, and a handle that it got is one of the record that came in with that very reply, while it is
+  -- held.
+  abbrev pub AreAnsweredAfter : List ((ℕ × K) × ℕ) → SessionState K V P View S W A → List (Command K V P Q C) →
+      List (Reply K V P) → SessionState K V P View S W A → Type 0
   AreAnsweredAfter before old (command ∷ commands) (reply ∷ replies) new =
       AllByRecursion
       (λ got. IsSomeAnd (key_by (hash_in t old) command reply.answer)
       (λ key. IsTokenOf t.meaning.same old.fetches before key got.0
       × MayGet t.meaning.same (WasHandleOf new.handles) command (came_in reply.answer) key.1 got.1))
       (outcomes reply.answer)
-      × AreAnsweredAfter (before ++ of_key (key_by (hash_in t old) command reply.answer) (issues reply.answer)) old commands replies new
+      × AreAnsweredAfter (before ++ of_key (key_by (hash_in t old) command reply.answer) (issues reply.answer)) old
+      commands replies new
   AreAnsweredAfter before old _ _ new = ⊤
 
   -- and from the first one on
-  abbrev pub AreAnswered : SessionState K V P View S W A → List (Command K V P Q C) → List (Reply K V P) → SessionState K V P View S W A → Type 0
+  abbrev pub AreAnswered : SessionState K V P View S W A → List (Command K V P Q C) → List (Reply K V P) →
+      SessionState K V P View S W A → Type 0
   AreAnswered old commands replies new = AreAnsweredAfter [] old commands replies new

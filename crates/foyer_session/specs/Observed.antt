@@ -13,8 +13,10 @@ use Rattle.foyer_session.specs.Terms.{Terms}
 module _ {K V P : Type 0} (same : K → K → Bool) (phantom : P → Option Bool) where
   -- what left, and then the record of an entry that an insert or the end of a fetch answered
   abbrev pub after_answer : (K → Option ℕ) → Answer K V P → List (Event × Gone K V P) → K → Option ℕ
-  after_answer ids (Entry number came answers) leaves = after_entry same phantom (after_leaves same ids leaves) came.id came.kept
-  after_answer ids (Answered answers (Some came)) leaves = after_entry same phantom (after_leaves same ids leaves) came.id came.kept
+  after_answer ids (Entry number came answers) leaves =
+      after_entry same phantom (after_leaves same ids leaves) came.id came.kept
+  after_answer ids (Answered answers (Some came)) leaves =
+      after_entry same phantom (after_leaves same ids leaves) came.id came.kept
   after_answer ids _ leaves = after_leaves same ids leaves
 
   -- replies, in their order

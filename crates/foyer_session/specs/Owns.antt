@@ -19,9 +19,11 @@ abbrev pub held_count : {K V P : Type 0} → ℕ → List (Option (Held K V P)) 
 held_count shards handles shard id = sum_by (held_in shards shard id) handles
 
 -- the core counts each held handle
-pub record OwnsHandles {K V P View S W A : Type 0} (core : Core K V P View S W A) (handles : List (Option (Held K V P))) : Type 0 where
+pub record OwnsHandles {K V P View S W A : Type 0} (core : Core K V P View S W A)
+    (handles : List (Option (Held K V P))) : Type 0 where
   -- a held handle has the number of its shard
   pub numbered : (n : ℕ) (entry : Held K V P) → held_at handles n ≡ Some entry
       → (s : State K V P View) × (shard_at core entry.kept.hash ≡ Some s) × (entry.number ≡ s.number)
   -- each shard counts the handles of its records
-  pub counts : (shard : ℕ) (s : State K V P View) → slice_get core.shards shard ≡ Some s → Counts s (held_count (length core.shards) handles shard)
+  pub counts : (shard : ℕ) (s : State K V P View) → slice_get core.shards shard ≡ Some s →
+      Counts s (held_count (length core.shards) handles shard)

@@ -16,6 +16,8 @@ StopsWithin old new = (part : List ℕ) × HasNoEnd part × Consumes old new par
 -- a part of the line was taken, and what was kept stands for that too
 abbrev pub TakesPart : Option (List ℕ) → Option (List ℕ) → List ℕ → List ℕ → Part → Type 0
 TakesPart old new kept next Nothing = Keeps old new × (next ≡ kept)
-TakesPart old new kept next Open = (text : List ℕ) × (0 < length text) × HasNoEnd text × Consumes old new text × StandsFor next (kept ++ text)
-TakesPart old new kept next Closed = (text : List ℕ) × HasNoEnd text × Consumes old new (text ++ 10 ∷ []) × StandsFor next (kept ++ text)
+TakesPart old new kept next Open = (text : List ℕ) × (0 < length text) × HasNoEnd text × Consumes old new text
+    × StandsFor next (kept ++ text)
+TakesPart old new kept next Closed = (text : List ℕ) × HasNoEnd text × Consumes old new (text ++ 10 ∷ [])
+    × StandsFor next (kept ++ text)
 TakesPart old new kept next End = IsAtEnd old × Keeps old new × (next ≡ kept)

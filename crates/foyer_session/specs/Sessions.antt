@@ -16,12 +16,14 @@ use Rattle.foyer_session.specs.declared.session.Session.{Session}
 use Rattle.foyer_session.specs.Step.{SessionState}
 use Rattle.foyer_session.specs.Terms.{Terms}
 
-module _ {E K V P S W A I C X : Type 0} {e : EvictionGhosts E C X} {e1 : CloneGhosts C} {e2 : DefaultGhosts C} {e3 : _} {e4 : DefaultGhosts X}
+module _ {E K V P S W A I C X : Type 0} {e : EvictionGhosts E C X} {e1 : CloneGhosts C} {e2 : DefaultGhosts C}
+    {e3 : _} {e4 : DefaultGhosts X}
     {q : EqGhosts K} {h : HashGhosts K} {c : CloneGhosts K} {p : PropertiesGhosts P} {d : DefaultGhosts P}
     {b : HashBuilderGhosts S} {w : WeighterGhosts W K V} {f : FilterGhosts A K V} {i : FinderGhosts I K} where
   -- what contracts see of a session
   abbrev pub session_of : Session E K V P S W A I C X e e1 e2 e3 e4 q h c p d b w f i → SessionState K V P e.View S W A
-  session_of s = record { core = core_of s.core; fetches = fetches_of s.core; handles = s.handles.items; pieces = s.pieces.items }
+  session_of s =
+      record { core = core_of s.core; fetches = fetches_of s.core; handles = s.handles.items; pieces = s.pieces.items }
 
   -- how many handles there are, and who waits for one
   abbrev pub taken : Session E K V P S W A I C X e e1 e2 e3 e4 q h c p d b w f i → ℕ

@@ -31,8 +31,17 @@ sim_admits filter key value admitted = admitted ≡ true
 
 -- what a session of a program is over: its records are to be nowhere, and come in with their own properties where
 -- they are admitted
-abbrev pub sim_terms : {View C S W A : Type 0} → Meaning ℕ Answered View C → (S → ℕ → ℕ) → Terms ℕ SimValue Answered View C S W A
-sim_terms m hash = record { meaning = m; hash = hash; weighs = sim_weighs; admits = sim_admits; incoming = coming_in (λ p. None) (λ p b. record p { phantom = Some b }) }
+abbrev pub sim_terms : {View C S W A : Type 0} → Meaning ℕ Answered View C → (S → ℕ → ℕ) →
+    Terms ℕ SimValue Answered View C S W A
+sim_terms m hash =
+    record {
+      meaning = m;
+      hash = hash;
+      weighs = sim_weighs;
+      admits = sim_admits;
+      incoming =
+          coming_in (λ p. None) (λ p b. record p { phantom = Some b });
+    }
 
 -- a program's commands have no predicate that picks
 abbrev pub no_picks : NoPredicate → ℕ → SimValue → Bool → Type 0
@@ -48,20 +57,24 @@ phantom = record { phantom = Some true; hint = Normal }
 
 module _ {View C S W A : Type 0} (m : Meaning ℕ Answered View C) where
   -- a printed line: the answer, what left, and usage and entries then
-  abbrev pub line_text : List ℕ → List (Event × Gone ℕ SimValue Answered) → SessionState ℕ SimValue Answered View S W A → List ℕ
+  abbrev pub line_text : List ℕ → List (Event × Gone ℕ SimValue Answered) →
+      SessionState ℕ SimValue Answered View S W A → List ℕ
   line_text answer leaves s = answer ++ rest_text leaves (usage_of_core m s.core) (entries_of_core m s.core)
 
 -- `hash` is what a hash builder gives a key.
 module _ {View C S W A : Type 0} (m : Meaning ℕ Answered View C) (hash : S → ℕ → ℕ) where
   -- a command is a step, or is refused for want of memory before it is made
-  abbrev pub CommandTold : SessionState ℕ SimValue Answered View S W A → Command ℕ SimValue Answered NoPredicate C → List ℕ → SessionState ℕ SimValue Answered View S W A → Type 0
+  abbrev pub CommandTold : SessionState ℕ SimValue Answered View S W A → Command ℕ SimValue Answered NoPredicate C →
+      List ℕ → SessionState ℕ SimValue Answered View S W A → Type 0
   CommandTold old command text new =
       ((answer : Answer ℕ SimValue Answered) × (leaves : List (Event × Gone ℕ SimValue Answered))
-      × Step (sim_terms m hash) no_picks old command answer leaves new × (text ≡ line_text m (answer_text answer) leaves new))
+      × Step (sim_terms m hash) no_picks old command answer leaves new
+      × (text ≡ line_text m (answer_text answer) leaves new))
       ⊎ ((text ≡ line_text m (refusal_text 7) [] new) × (new ≡ old))
 
   -- what a line asks for is told
-  abbrev pub AskedTold : SessionState ℕ SimValue Answered View S W A → Asked C → List ℕ → SessionState ℕ SimValue Answered View S W A → Type 0
+  abbrev pub AskedTold : SessionState ℕ SimValue Answered View S W A → Asked C → List ℕ →
+      SessionState ℕ SimValue Answered View S W A → Type 0
   AskedTold old Nothing text new = (text ≡ []) × (new ≡ old)
   AskedTold old NoLine text new = (text ≡ line_text m (codes "bad line") [] new) × (new ≡ old)
   AskedTold old NoPool text new = (text ≡ line_text m (refusal_text 17) [] new) × (new ≡ old)
@@ -90,10 +103,12 @@ module _ {C : Type 0} (config_of : Ratio → Option C) where
   asked_by (ResizeLine capacity) = Carry (Resize capacity)
   asked_by (HighLine ratio) = asked_of_pool (config_of ratio)
   asked_by (FetchLine key) = Carry (GetOrFetch key None)
-  asked_by (DoneLine key fetch value) = Carry (Complete key fetch (Value (record { value = value; weight = 1 }) plain Outer))
+  asked_by (DoneLine key fetch value) = Carry
+      (Complete key fetch (Value (record { value = value; weight = 1 }) plain Outer))
   asked_by (CancelLine key fetch) = Carry (Cancel key fetch)
 
 module _ {View C S W A : Type 0} (m : Meaning ℕ Answered View C) (hash : S → ℕ → ℕ) (config_of : Ratio → Option C) where
   -- the text of a line, and the state then
-  abbrev pub LineTold : SessionState ℕ SimValue Answered View S W A → Line → List ℕ → SessionState ℕ SimValue Answered View S W A → Type 0
+  abbrev pub LineTold : SessionState ℕ SimValue Answered View S W A → Line → List ℕ →
+      SessionState ℕ SimValue Answered View S W A → Type 0
   LineTold old line text new = AskedTold m hash old (asked_by config_of line) text new

@@ -14,5 +14,6 @@ pub record Terms (K V P View C S W A : Type 0) : Type 1 where
   pub incoming : Bool → P → P
 
 -- the same with this policy
-abbrev pub with_policy : {K V P View C S W A : Type 0} → Policy View C → Terms K V P View C S W A → Terms K V P View C S W A
+abbrev pub with_policy : {K V P View C S W A : Type 0} → Policy View C → Terms K V P View C S W A →
+    Terms K V P View C S W A
 with_policy policy t = record t { meaning = record t.meaning { policy = policy } }

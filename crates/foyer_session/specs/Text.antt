@@ -13,7 +13,8 @@ words bytes = filter (λ run. nat_lt 0 (length run)) (slice_split (λ b. b == 32
 
 -- the number that a word is, if it is one: 1 to 20 decimal digits with a value below 2^64
 unfoldable pub number_of : List ℕ → Option ℕ
-number_of word = if nat_lt 0 (length word) && nat_le (length word) 20 && all_ascii_digits word && nat_lt (digits_value 10 word) (2 ^ 64)
+number_of word = if nat_lt 0 (length word) && nat_le (length word) 20 && all_ascii_digits word
+    && nat_lt (digits_value 10 word) (2 ^ 64)
     then Some (digits_value 10 word) else None
 
 -- the numbers that the words are, if each is one

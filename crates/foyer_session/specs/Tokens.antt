@@ -42,7 +42,8 @@ got_by Nothing tokens = each_gets (Ok None) tokens
 got_by (Fault reason) tokens = each_gets (Err reason) tokens
 
 -- what the tokens get by the end of a fetch, where the next handle has this number
-abbrev pub got_of : {K V P : Type 0} → ℕ → Result (Option (List (Held K V P))) Reason → List ℕ → List (ℕ × Result (Option ℕ) Reason)
+abbrev pub got_of : {K V P : Type 0} → ℕ → Result (Option (List (Held K V P))) Reason → List ℕ →
+    List (ℕ × Result (Option ℕ) Reason)
 got_of next (Ok (Some entries)) tokens = handles_from next tokens
 got_of next (Ok None) tokens = each_gets (Ok None) tokens
 got_of next (Err reason) tokens = each_gets (Err reason) tokens

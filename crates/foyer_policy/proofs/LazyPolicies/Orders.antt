@@ -27,21 +27,28 @@ abbrev pub push_doubles : Policy (List Item) Plain
 push_doubles = record queue { push = λ v i. v ++ i ∷ i ∷ [] }
 
 pub not-push_doubles : IsPolicy push_doubles → ⊥
-not-push_doubles law = omega (arith, length_permutation (item 0 ∷ []) (item 0 ∷ item 0 ∷ []) (law.push_order [] (item 0)))
+not-push_doubles law =
+    omega (arith, length_permutation (item 0 ∷ []) (item 0 ∷ item 0 ∷ []) (law.push_order [] (item 0)))
 
 -- a push that makes room by itself
 abbrev pub push_evicts : Policy (List Item) Plain
 push_evicts = record queue { push = λ v i. i ∷ [] }
 
 pub not-push_evicts : IsPolicy push_evicts → ⊥
-not-push_evicts law = omega (arith, length_permutation (item 1 ∷ item 0 ∷ []) (item 1 ∷ []) (law.push_order (item 0 ∷ []) (item 1)))
+not-push_evicts law =
+    omega (arith, length_permutation (item 1 ∷ item 0 ∷ []) (item 1 ∷ []) (law.push_order (item 0 ∷ []) (item 1)))
 
 -- a push that takes the weight off
 abbrev pub push_lightens : Policy (List Item) Plain
 push_lightens = record queue { push = λ v i. v ++ record i { weight = 0 } ∷ [] }
 
 pub not-push_lightens : IsPolicy push_lightens → ⊥
-not-push_lightens law = omega (arith, sum_by-IsPermutation (λ (i : Item). i.weight) (item 0 ∷ []) (record (item 0) { weight = 0 } ∷ []) (law.push_order [] (item 0)))
+not-push_lightens law =
+    omega (
+      arith,
+      sum_by-IsPermutation (λ (i : Item). i.weight) (item 0 ∷ []) (record (item 0) { weight = 0 } ∷ [])
+          (law.push_order [] (item 0)),
+    )
 
 -- a pop that is always none
 abbrev pub pop_none_ever : Policy (List Item) Plain
@@ -72,14 +79,24 @@ abbrev pub pop_drops_two : Policy (List Item) Plain
 pop_drops_two = record queue { pop = drop_two }
 
 pub not-pop_drops_two : IsPolicy pop_drops_two → ⊥
-not-pop_drops_two law = omega (arith, length_permutation (item 0 ∷ item 1 ∷ []) (item 0 ∷ []) (law.pop_order (item 0 ∷ item 1 ∷ []) [] (item 0) refl))
+not-pop_drops_two law =
+    omega (
+      arith,
+      length_permutation (item 0 ∷ item 1 ∷ []) (item 0 ∷ [])
+          (law.pop_order (item 0 ∷ item 1 ∷ []) [] (item 0) refl),
+    )
 
 -- a pop that leaves its item in
 abbrev pub pop_leaves_in : Policy (List Item) Plain
 pop_leaves_in = record queue { pop = λ v. first_and (take_first v) (λ i rest. v) }
 
 pub not-pop_leaves_in : IsPolicy pop_leaves_in → ⊥
-not-pop_leaves_in law = omega (arith, length_permutation (item 0 ∷ []) (item 0 ∷ item 0 ∷ []) (law.pop_order (item 0 ∷ []) (item 0 ∷ []) (item 0) refl))
+not-pop_leaves_in law =
+    omega (
+      arith,
+      length_permutation (item 0 ∷ []) (item 0 ∷ item 0 ∷ [])
+          (law.pop_order (item 0 ∷ []) (item 0 ∷ []) (item 0) refl),
+    )
 
 -- a pop that gives an item that is not in
 abbrev pub pop_invents : Policy (List Item) Plain
@@ -97,7 +114,12 @@ abbrev pub pop_renames : Policy (List Item) Plain
 pop_renames = record queue { pop = λ v. renamed (take_first v) }
 
 pub not-pop_renames : IsPolicy pop_renames → ⊥
-not-pop_renames law = omega (arith, sum_by-IsPermutation (λ (i : Item). i.id) (item 0 ∷ []) (item 1 ∷ []) (law.pop_order (item 0 ∷ []) [] (item 1) refl))
+not-pop_renames law =
+    omega (
+      arith,
+      sum_by-IsPermutation (λ (i : Item). i.id) (item 0 ∷ []) (item 1 ∷ [])
+          (law.pop_order (item 0 ∷ []) [] (item 1) refl),
+    )
 
 -- a remove that takes out nothing
 abbrev pub remove_nothing : Policy (List Item) Plain
@@ -132,7 +154,8 @@ remove_reorders = record queue { remove = λ v id. reverse (remove_id id v) }
 
 pub not-remove_reorders : IsPolicy remove_reorders → ⊥
 not-remove_reorders law =
-    let e : ◌≡◌ {A = List Item} (item 2 ∷ item 1 ∷ []) (item 1 ∷ item 2 ∷ []) = law.remove_order (item 0 ∷ item 1 ∷ item 2 ∷ []) 0 in
+    let e : ◌≡◌ {A = List Item} (item 2 ∷ item 1 ∷ []) (item 1 ∷ item 2 ∷ []) =
+    law.remove_order (item 0 ∷ item 1 ∷ item 2 ∷ []) 0 in
     omega (arith, ap (λ (l : List Item). first_id l) e) where
       first_id : List Item → ℕ
       first_id [] = 0
@@ -143,7 +166,8 @@ abbrev pub acquire_drops : Policy (List Item) Plain
 acquire_drops = record queue { acquire = λ v id. remove_id id v }
 
 pub not-acquire_drops : IsPolicy acquire_drops → ⊥
-not-acquire_drops law = omega (arith, length_permutation (item 0 ∷ []) [] (law.acquire_order (item 0 ∷ []) 0 (once_alone (item 0))))
+not-acquire_drops law =
+    omega (arith, length_permutation (item 0 ∷ []) [] (law.acquire_order (item 0 ∷ []) 0 (once_alone (item 0))))
 
 -- an acquire that makes its item weightless
 abbrev weightless : List Item → List Item
@@ -154,21 +178,28 @@ abbrev pub acquire_lightens : Policy (List Item) Plain
 acquire_lightens = record queue { acquire = λ v id. weightless v }
 
 pub not-acquire_lightens : IsPolicy acquire_lightens → ⊥
-not-acquire_lightens law = omega (arith, sum_by-IsPermutation (λ (i : Item). i.weight) (item 0 ∷ []) (record (item 0) { weight = 0 } ∷ []) (law.acquire_order (item 0 ∷ []) 0 (once_alone (item 0))))
+not-acquire_lightens law =
+    omega (
+      arith,
+      sum_by-IsPermutation (λ (i : Item). i.weight) (item 0 ∷ []) (record (item 0) { weight = 0 } ∷ [])
+          (law.acquire_order (item 0 ∷ []) 0 (once_alone (item 0))),
+    )
 
 -- a release that drops its item
 abbrev pub release_drops : Policy (List Item) Plain
 release_drops = record queue { release = λ v id. remove_id id v }
 
 pub not-release_drops : IsPolicy release_drops → ⊥
-not-release_drops law = omega (arith, length_permutation (item 0 ∷ []) [] (law.release_order (item 0 ∷ []) 0 (once_alone (item 0))))
+not-release_drops law =
+    omega (arith, length_permutation (item 0 ∷ []) [] (law.release_order (item 0 ∷ []) 0 (once_alone (item 0))))
 
 -- an update that drops what passes the capacity
 abbrev pub update_drops : Policy (List Item) Plain
 update_drops = record queue { update = λ v capacity config. take capacity v }
 
 pub not-update_drops : IsPolicy update_drops → ⊥
-not-update_drops law = omega (arith, length_permutation (item 0 ∷ []) [] (law.update_order (item 0 ∷ []) 0 None (once_alone (item 0))))
+not-update_drops law =
+    omega (arith, length_permutation (item 0 ∷ []) [] (law.update_order (item 0 ∷ []) 0 None (once_alone (item 0))))
 
 -- a clear that keeps all
 abbrev pub clear_keeps : Policy (List Item) Plain
@@ -183,7 +214,8 @@ clear_feeds_nothing = record remembering { clear = λ v. ([], v.1) }
 
 pub not-clear_feeds_nothing : IsPolicy clear_feeds_nothing → ⊥
 not-clear_feeds_nothing law =
-    let e : ◌≡◌ {A = List Item} [] (item 0 ∷ []) = ap (λ (v : List Item × List Item). v.1) (law.clear_is (item 0 ∷ [], [])) in cc
+    let e : ◌≡◌ {A = List Item} [] (item 0 ∷ []) =
+    ap (λ (v : List Item × List Item). v.1) (law.clear_is (item 0 ∷ [], [])) in cc
 
 -- a clear that forgets what was remembered
 abbrev pub clear_forgets : Policy (List Item × List Item) Plain
@@ -191,4 +223,5 @@ clear_forgets = record remembering { clear = λ v. ([], []) }
 
 pub not-clear_forgets : IsPolicy clear_forgets → ⊥
 not-clear_forgets law =
-    let e : ◌≡◌ {A = List Item} [] (item 0 ∷ []) = ap (λ (v : List Item × List Item). v.1) (law.clear_is ([], item 0 ∷ [])) in cc
+    let e : ◌≡◌ {A = List Item} [] (item 0 ∷ []) =
+    ap (λ (v : List Item × List Item). v.1) (law.clear_is ([], item 0 ∷ [])) in cc

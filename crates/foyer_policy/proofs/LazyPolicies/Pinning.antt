@@ -13,17 +13,21 @@ use Rattle.foyer_policy.specs.ItemLaws.{one_if, count-same}
 use Rattle.foyer_policy.specs.PartLaws.{IsPermutation-remove_id, remove_id-none, find_id-front, remove_id-front, remove_id-back, find_id-one_part}
 use Rattle.foyer_policy.proofs.LazyPolicies.{pinning, or_stay}
 
-pop-is : (xs ps : List Item) (w : List Item × List Item) (i : Item) → pinning.pop (xs, ps) ≡ Some (i, w) → (xs ≡ i ∷ w.0) × (w.1 ≡ ps)
+pop-is : (xs ps : List Item) (w : List Item × List Item) (i : Item) → pinning.pop (xs, ps) ≡ Some (i, w) →
+    (xs ≡ i ∷ w.0) × (w.1 ≡ ps)
 pop-is [] ps w i h = absurd cc
 pop-is (x ∷ xs) ps w i h =
-    let e : ◌≡◌ {A = Item × (List Item × List Item)} (x, (xs, ps)) (i, w) = cc in
-    (ap (λ (p : Item × (List Item × List Item)). p.0 ∷ p.1.0) e, ap (λ (p : Item × (List Item × List Item)). p.1.1) (sym e))
+    let e : ◌≡◌ {A = Item × (List Item × List Item)} (x, (xs, ps)) (i, w) = cc in (
+      ap (λ (p : Item × (List Item × List Item)). p.0 ∷ p.1.0) e,
+      ap (λ (p : Item × (List Item × List Item)). p.1.1) (sym e),
+    )
 
 pop-none : (xs ps : List Item) → pinning.pop (xs, ps) ≡ None → IsWithin (xs ++ ps) ps
 pop-none [] ps h = λ f. omega arith
 pop-none (x ∷ xs) ps h = absurd cc
 
-pop-free : (xs ps : List Item) (w : List Item × List Item) (i : Item) → pinning.pop (xs, ps) ≡ Some (i, w) → HasIdsOnce (xs ++ ps) → IsNewIn i.id ps
+pop-free : (xs ps : List Item) (w : List Item × List Item) (i : Item) → pinning.pop (xs, ps) ≡ Some (i, w) →
+    HasIdsOnce (xs ++ ps) → IsNewIn i.id ps
 pop-free [] ps w i h once = absurd cc
 pop-free (x ∷ xs) ps w i h once =
     let e : ◌≡◌ {A = Item × (List Item × List Item)} (x, (xs, ps)) (i, w) = cc in
@@ -33,39 +37,50 @@ pop-free (x ∷ xs) ps w i h once =
 
 remove-order : (id : ℕ) (xs ps : List Item) → pinning.order (pinning.remove (xs, ps) id) ≡ remove_id id (xs ++ ps)
 remove-order id xs ps = go (find_id id xs) refl where
-  go : (o : Option Item) → find_id id xs ≡ o → pinning.order (or_stay o (xs, remove_id id ps) (λ i. (remove_id id xs, ps))) ≡ remove_id id (xs ++ ps)
+  go : (o : Option Item) → find_id id xs ≡ o →
+      pinning.order (or_stay o (xs, remove_id id ps) (λ i. (remove_id id xs, ps))) ≡ remove_id id (xs ++ ps)
   go None is = sym (remove_id-back id xs ps is)
   go (Some i) is = sym (remove_id-front id i xs ps is)
 
-remove-pinned : (id : ℕ) (xs ps : List Item) → HasIdsOnce (xs ++ ps) → pinning.pinned (pinning.remove (xs, ps) id) ≡ remove_id id ps
+remove-pinned : (id : ℕ) (xs ps : List Item) → HasIdsOnce (xs ++ ps) → pinning.pinned (pinning.remove (xs, ps) id)
+    ≡ remove_id id ps
 remove-pinned id xs ps once = go (find_id id xs) refl where
-  go : (o : Option Item) → find_id id xs ≡ o → pinning.pinned (or_stay o (xs, remove_id id ps) (λ i. (remove_id id xs, ps))) ≡ remove_id id ps
+  go : (o : Option Item) → find_id id xs ≡ o →
+      pinning.pinned (or_stay o (xs, remove_id id ps) (λ i. (remove_id id xs, ps))) ≡ remove_id id ps
   go None is = refl
   go (Some i) is = sym (remove_id-none id ps (find_id-one_part id i xs ps once is))
 
 acquire-order : (id : ℕ) (xs ps : List Item) → IsPermutation (xs ++ ps) (pinning.order (pinning.acquire (xs, ps) id))
 acquire-order id xs ps = go (find_id id xs) refl where
-  go : (o : Option Item) → find_id id xs ≡ o → IsPermutation (xs ++ ps) (pinning.order (or_stay o (xs, ps) (λ i. (remove_id id xs, ps ++ i ∷ []))))
+  go : (o : Option Item) → find_id id xs ≡ o →
+      IsPermutation (xs ++ ps) (pinning.order (or_stay o (xs, ps) (λ i. (remove_id id xs, ps ++ i ∷ []))))
   go None is = IsPermutation-refl (xs ++ ps)
   go (Some i) is =
-      IsPermutation-trans (xs ++ ps) (i ∷ (remove_id id xs ++ ps)) (remove_id id xs ++ (ps ++ i ∷ [])) (IsPermutation-append_left ps xs (i ∷ remove_id id xs) (IsPermutation-remove_id id i xs is))
-      (IsPermutation-sym (remove_id id xs ++ (ps ++ i ∷ [])) (i ∷ (remove_id id xs ++ ps)) (rw (← append_assoc) (IsPermutation-to_front (remove_id id xs ++ ps) i)))
+      IsPermutation-trans (xs ++ ps) (i ∷ (remove_id id xs ++ ps)) (remove_id id xs ++ (ps ++ i ∷ []))
+      (IsPermutation-append_left ps xs (i ∷ remove_id id xs) (IsPermutation-remove_id id i xs is))
+      (IsPermutation-sym (remove_id id xs ++ (ps ++ i ∷ [])) (i ∷ (remove_id id xs ++ ps))
+      (rw (← append_assoc) (IsPermutation-to_front (remove_id id xs ++ ps) i)))
 
 acquire-pinned : (id : ℕ) (xs ps : List Item) → PinsAtMost pinning (xs, ps) id (pinning.acquire (xs, ps) id)
 acquire-pinned id xs ps = go (find_id id xs) refl where
-  go : (o : Option Item) → find_id id xs ≡ o → PinsAtMost pinning (xs, ps) id (or_stay o (xs, ps) (λ i. (remove_id id xs, ps ++ i ∷ [])))
+  go : (o : Option Item) → find_id id xs ≡ o →
+      PinsAtMost pinning (xs, ps) id (or_stay o (xs, ps) (λ i. (remove_id id xs, ps ++ i ∷ [])))
   go None is = inl refl
-  go (Some i) is = inr (i, find_id-front id i xs ps is, IsPermutation-sym (ps ++ i ∷ []) (i ∷ ps) (IsPermutation-to_front ps i))
+  go (Some i) is =
+      inr (i, find_id-front id i xs ps is, IsPermutation-sym (ps ++ i ∷ []) (i ∷ ps) (IsPermutation-to_front ps i))
 
 release-order : (id : ℕ) (xs ps : List Item) → IsPermutation (xs ++ ps) (pinning.order (pinning.release (xs, ps) id))
 release-order id xs ps = go (find_id id ps) refl where
-  go : (o : Option Item) → find_id id ps ≡ o → IsPermutation (xs ++ ps) (pinning.order (or_stay o (xs, ps) (λ i. (xs ++ i ∷ [], remove_id id ps))))
+  go : (o : Option Item) → find_id id ps ≡ o →
+      IsPermutation (xs ++ ps) (pinning.order (or_stay o (xs, ps) (λ i. (xs ++ i ∷ [], remove_id id ps))))
   go None is = IsPermutation-refl (xs ++ ps)
-  go (Some i) is = rw append_assoc (IsPermutation-append_right xs ps (i ∷ remove_id id ps) (IsPermutation-remove_id id i ps is))
+  go (Some i) is = rw append_assoc
+      (IsPermutation-append_right xs ps (i ∷ remove_id id ps) (IsPermutation-remove_id id i ps is))
 
 release-pinned : (id : ℕ) (xs ps : List Item) → pinning.pinned (pinning.release (xs, ps) id) ≡ remove_id id ps
 release-pinned id xs ps = go (find_id id ps) refl where
-  go : (o : Option Item) → find_id id ps ≡ o → pinning.pinned (or_stay o (xs, ps) (λ i. (xs ++ i ∷ [], remove_id id ps))) ≡ remove_id id ps
+  go : (o : Option Item) → find_id id ps ≡ o →
+      pinning.pinned (or_stay o (xs, ps) (λ i. (xs ++ i ∷ [], remove_id id ps))) ≡ remove_id id ps
   go None is = sym (remove_id-none id ps is)
   go (Some i) is = refl
 
@@ -87,7 +102,8 @@ pinning_lawful = record {
   fault_kind = λ c reason h. absurd cc;
   opening_credit = λ capacity c accepted. refl;
   pinned_within = λ v f. omega (arith, sum_by-append f v.0 v.1);
-  push_order = λ v i. rw append_assoc (IsPermutation-sym (v.0 ++ (i ∷ v.1)) (i ∷ (v.0 ++ v.1)) (IsPermutation-middle v.0 i v.1));
+  push_order = λ v i. rw append_assoc
+      (IsPermutation-sym (v.0 ++ (i ∷ v.1)) (i ∷ (v.0 ++ v.1)) (IsPermutation-middle v.0 i v.1));
   push_pinned = λ v i. refl;
   push_credit = λ v i. omega arith;
   pop_order = λ v w i h. (let e = pop-is v.0 v.1 w i h in rw (e.0, e.1) (IsPermutation-refl (i ∷ (w.0 ++ v.1))));

@@ -34,21 +34,26 @@ abbrev pub pop_unpins : Policy (List Item × List Item) Plain
 pop_unpins = record pinning { pop = λ v. first_and (take_first v.0) (λ i rest. (rest ++ v.1, [])) }
 
 pub not-pop_unpins : IsPolicy pop_unpins → ⊥
-not-pop_unpins law = (let e : ◌≡◌ {A = List Item} [] (item 1 ∷ []) = law.pop_pinned (item 0 ∷ [], item 1 ∷ []) (item 1 ∷ [], []) (item 0) refl in cc)
+not-pop_unpins law =
+    (let e : ◌≡◌ {A = List Item} [] (item 1 ∷ []) =
+    law.pop_pinned (item 0 ∷ [], item 1 ∷ []) (item 1 ∷ [], []) (item 0) refl in cc)
 
 -- a pop that pins what it leaves
 abbrev pub pop_pins : Policy (List Item × List Item) Plain
 pop_pins = record pinning { pop = λ v. first_and (take_first v.0) (λ i rest. ([], rest ++ v.1)) }
 
 pub not-pop_pins : IsPolicy pop_pins → ⊥
-not-pop_pins law = (let e : ◌≡◌ {A = List Item} (item 1 ∷ []) [] = law.pop_pinned (item 0 ∷ item 1 ∷ [], []) ([], item 1 ∷ []) (item 0) refl in cc)
+not-pop_pins law =
+    (let e : ◌≡◌ {A = List Item} (item 1 ∷ []) [] =
+    law.pop_pinned (item 0 ∷ item 1 ∷ [], []) ([], item 1 ∷ []) (item 0) refl in cc)
 
 -- a pop that gives a pinned item
 abbrev pub pop_gives_pinned : Policy (List Item × List Item) Plain
 pop_gives_pinned = record pinning { pop = λ v. first_and (take_first v.1) (λ i rest. (v.0, rest)) }
 
 pub not-pop_gives_pinned : IsPolicy pop_gives_pinned → ⊥
-not-pop_gives_pinned law = (let e : ◌≡◌ {A = List Item} [] (item 0 ∷ []) = law.pop_pinned ([], item 0 ∷ []) ([], []) (item 0) refl in cc)
+not-pop_gives_pinned law =
+    (let e : ◌≡◌ {A = List Item} [] (item 0 ∷ []) = law.pop_pinned ([], item 0 ∷ []) ([], []) (item 0) refl in cc)
 
 -- a pop that gives none while anything is pinned
 abbrev unless_pinned : List Item → Option (Item × (List Item × List Item)) → Option (Item × (List Item × List Item))
@@ -66,14 +71,16 @@ abbrev pub remove_unpins : Policy (List Item × List Item) Plain
 remove_unpins = record pinning { remove = λ v id. (remove_id id (v.0 ++ v.1), []) }
 
 pub not-remove_unpins : IsPolicy remove_unpins → ⊥
-not-remove_unpins law = (let e : ◌≡◌ {A = List Item} [] (item 1 ∷ []) = law.remove_pinned (item 0 ∷ [], item 1 ∷ []) 0 once_pair in cc)
+not-remove_unpins law =
+    (let e : ◌≡◌ {A = List Item} [] (item 1 ∷ []) = law.remove_pinned (item 0 ∷ [], item 1 ∷ []) 0 once_pair in cc)
 
 -- a remove that spares what is pinned
 abbrev pub remove_spares_pinned : Policy (List Item × List Item) Plain
 remove_spares_pinned = record pinning { remove = λ v id. (remove_id id v.0, v.1) }
 
 pub not-remove_spares_pinned : IsPolicy remove_spares_pinned → ⊥
-not-remove_spares_pinned law = (let e : ◌≡◌ {A = List Item} (item 0 ∷ []) [] = law.remove_pinned ([], item 0 ∷ []) 0 (once_alone (item 0)) in cc)
+not-remove_spares_pinned law =
+    (let e : ◌≡◌ {A = List Item} (item 0 ∷ []) [] = law.remove_pinned ([], item 0 ∷ []) 0 (once_alone (item 0)) in cc)
 
 -- an acquire that pins all
 abbrev pub acquire_pins_all : Policy (List Item × List Item) Plain
@@ -87,7 +94,8 @@ not-acquire_pins_all law = elim (law.acquire_pinned (item 0 ∷ item 1 ∷ [], [
 
 -- an acquire that pins a neighbour
 abbrev pub acquire_pins_neighbour : Policy (List Item × List Item) Plain
-acquire_pins_neighbour = record pinning { acquire = λ v id. or_stay (find_id (id + 1) v.0) v (λ i. (remove_id (id + 1) v.0, v.1 ++ i ∷ [])) }
+acquire_pins_neighbour = record pinning
+    { acquire = λ v id. or_stay (find_id (id + 1) v.0) v (λ i. (remove_id (id + 1) v.0, v.1 ++ i ∷ [])) }
 
 pub not-acquire_pins_neighbour : IsPolicy acquire_pins_neighbour → ⊥
 not-acquire_pins_neighbour law = elim (law.acquire_pinned (item 0 ∷ item 1 ∷ [], []) 0 once_pair) [
@@ -112,21 +120,24 @@ abbrev pub release_unpins_all : Policy (List Item × List Item) Plain
 release_unpins_all = record pinning { release = λ v id. (v.0 ++ v.1, []) }
 
 pub not-release_unpins_all : IsPolicy release_unpins_all → ⊥
-not-release_unpins_all law = (let e : ◌≡◌ {A = List Item} [] (item 1 ∷ []) = law.release_pinned ([], item 0 ∷ item 1 ∷ []) 0 once_pair in cc)
+not-release_unpins_all law =
+    (let e : ◌≡◌ {A = List Item} [] (item 1 ∷ []) = law.release_pinned ([], item 0 ∷ item 1 ∷ []) 0 once_pair in cc)
 
 -- a release that never unpins
 abbrev pub release_nothing : Policy (List Item × List Item) Plain
 release_nothing = record pinning { release = λ v id. v }
 
 pub not-release_nothing : IsPolicy release_nothing → ⊥
-not-release_nothing law = (let e : ◌≡◌ {A = List Item} (item 0 ∷ []) [] = law.release_pinned ([], item 0 ∷ []) 0 (once_alone (item 0)) in cc)
+not-release_nothing law =
+    (let e : ◌≡◌ {A = List Item} (item 0 ∷ []) [] = law.release_pinned ([], item 0 ∷ []) 0 (once_alone (item 0)) in cc)
 
 -- an update that unpins all
 abbrev pub update_unpins : Policy (List Item × List Item) Plain
 update_unpins = record pinning { update = λ v capacity config. (v.0 ++ v.1, []) }
 
 pub not-update_unpins : IsPolicy update_unpins → ⊥
-not-update_unpins law = (let e : ◌≡◌ {A = List Item} [] (item 0 ∷ []) = law.update_pinned ([], item 0 ∷ []) 0 None in cc)
+not-update_unpins law =
+    (let e : ◌≡◌ {A = List Item} [] (item 0 ∷ []) = law.update_pinned ([], item 0 ∷ []) 0 None in cc)
 
 -- an update that pins all
 abbrev pub update_pins : Policy (List Item × List Item) Plain

@@ -36,7 +36,9 @@ module _ {V C : Type 0} (m : Policy V C) (law : IsPolicy m) (v : V) where
 
   pub clear-credit : m.credit (m.clear v) ≤ m.credit v
   clear-credit =
-      let popped : m.credit (after_all_pops m v) ≤ m.credit v = after_pops-keeps m (λ (u : V). m.credit u ≤ m.credit v) (λ u w i is h. omega (arith, law.pop_credit u w i is)) (length (m.order v)) v (omega arith) in
+      let popped : m.credit (after_all_pops m v) ≤ m.credit v =
+      after_pops-keeps m (λ (u : V). m.credit u ≤ m.credit v)
+      (λ u w i is h. omega (arith, law.pop_credit u w i is)) (length (m.order v)) v (omega arith) in
       rw (clear_is m law v) (omega (arith, removed-credit (m.order (after_all_pops m v)) (after_all_pops m v)))
 
   pub clear-empty : m.order v ≡ [] → m.clear v ≡ v
@@ -52,17 +54,21 @@ module _ {V C : Type 0} (m : Policy V C) (law : IsPolicy m) (v : V) where
 
   -- a clear leaves no pin
   pub clear-pinned : m.pinned (m.clear v) ≡ []
-  clear-pinned = within_nothing (m.pinned (m.clear v)) (subst (λ (l : List Item). IsWithin (m.pinned (m.clear v)) l) clear-order (law.pinned_within (m.clear v)))
+  clear-pinned = within_nothing (m.pinned (m.clear v))
+      (subst (λ (l : List Item). IsWithin (m.pinned (m.clear v)) l) clear-order (law.pinned_within (m.clear v)))
 
   -- where nothing is pinned, all pops leave nothing
   pub after_all_pops-order : m.pinned v ≡ [] → m.order (after_all_pops m v) ≡ []
   after_all_pops-order none =
       let left : m.pinned (after_all_pops m v) ≡ [] = after_pops-pinned m law (length (m.order v)) v ∙ none in
-      within_nothing (m.order (after_all_pops m v)) (subst (λ (l : List Item). IsWithin (m.order (after_all_pops m v)) l) left (law.pop_none (after_all_pops m v) (after_all_pops-none m law v)))
+      within_nothing (m.order (after_all_pops m v))
+      (subst (λ (l : List Item). IsWithin (m.order (after_all_pops m v)) l) left
+      (law.pop_none (after_all_pops m v) (after_all_pops-none m law v)))
 
   -- and a clear is all pops
   pub clear-is : m.pinned v ≡ [] → m.clear v ≡ after_all_pops m v
-  clear-is none = clear_is m law v ∙ ap (λ (l : List Item). removed m l (after_all_pops m v)) (after_all_pops-order none)
+  clear-is none = clear_is m law v ∙ ap (λ (l : List Item). removed m l (after_all_pops m v))
+      (after_all_pops-order none)
 
 module _ (C : Type 0) where
   -- a queue is its own pops

@@ -13,6 +13,10 @@ returns-clause-same c =
     let texts = c.args.texts.now in
     let name = c.args.name.now in
     let after = c.complete-answers.new.self in
-    served (meaning_of_core texts) (hashes_of texts) (λ _ text weight. weight ≡ string_len text) (λ _ _ admitted. admitted ≡ true) (λ p admitted. coming_in (λ _. None) (λ p b. record p { phantom = Some b }) admitted p) _
-    c.args.text c.default.result (hashes_of texts name, name) (ending_of c.complete-answers.result) (core_of texts) (fetches_of texts) (core_of after) (fetches_of after)
-    (asked (Some c.args.fetch) (place_in (fetches_of texts) (hashes_of texts name, name))) c.complete-answers.result.answers.outcome refl c.complete-answers.ensures.completed
+    served (meaning_of_core texts) (hashes_of texts) (λ _ text weight. weight ≡ string_len text)
+    (λ _ _ admitted. admitted ≡ true)
+    (λ p admitted. coming_in (λ _. None) (λ p b. record p { phantom = Some b }) admitted p) _
+    c.args.text c.default.result (hashes_of texts name, name) (ending_of c.complete-answers.result) (core_of texts)
+    (fetches_of texts) (core_of after) (fetches_of after)
+    (asked (Some c.args.fetch) (place_in (fetches_of texts) (hashes_of texts name, name)))
+    c.complete-answers.result.answers.outcome refl c.complete-answers.ensures.completed

@@ -6,5 +6,8 @@ use Rattle.examples_lru.proofs.texts.put_and_get.Goals as goal
 
 pub returns : goal.returns
 returns c =
-    let found = c.in_ok-entry.ensures.found (c.in_ok-entry.ensures.plain (λ p d. (ap (λ q. is_phantom q.phantom) d, refl)) (λ answer yes. yes)) c.args.name (search rules) (Ok c.in_ok-found.field-0) (core_of c.get-found.new.self) c.in_ok-found.ensures.gets in
+    let found = c.in_ok-entry.ensures.found
+    (c.in_ok-entry.ensures.plain (λ p d. (ap (λ q. is_phantom q.phantom) d, refl)) (λ answer yes. yes))
+    c.args.name (search rules) (Ok c.in_ok-found.field-0) (core_of c.get-found.new.self)
+    c.in_ok-found.ensures.gets in
     subst (λ o. IsSomeAnd o (λ entry. entry.kept.value ≡ c.args.text)) c.unwrap.ensures found

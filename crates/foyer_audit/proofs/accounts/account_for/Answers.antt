@@ -7,7 +7,8 @@ each_once-requires-clause-rise g c k d lt = ((c.all_agree.ensures.0 c.if-all_agr
 
 pub each_once-requires-clause-below : goal.each_once-requires-clause-below
 each_once-requires-clause-below g c =
-    let receipts = λ (s : Share g.row.G.Denot g.row.K.Denot g.row.V.Denot g.row.P.Denot g.row.Q.Denot g.row.C.Denot). s.receipts.items in
+    let receipts = λ (s : Share g.row.G.Denot g.row.K.Denot g.row.V.Denot g.row.P.Denot g.row.Q.Denot g.row.C.Denot).
+    s.receipts.items in
     below_from_agree receipts c.args.shares.now (c.all_agree.ensures.0 c.if-all_agree.true)
 
 pub returns-then-all_agree : goal.returns-then-all_agree

@@ -2,7 +2,8 @@ use Rattle.foyer_audit.proofs.accounts.agree.Goals as goal
 
 pub returns-then-each_stands : goal.returns-then-each_stands
 returns-then-each_stands g c = (
-  (λ yes. rw (← c.receipts-receipts.ensures) (record { stand = c.each_stands.ensures.0 c.if-each_stands.true; rise = c.numbers_rise.ensures.0 yes })),
+  (λ yes. rw (← c.receipts-receipts.ensures)
+      (record { stand = c.each_stands.ensures.0 c.if-each_stands.true; rise = c.numbers_rise.ensures.0 yes })),
   λ agreed. c.numbers_rise.ensures.1 (rw c.receipts-receipts.ensures agreed.rise),
 )
 

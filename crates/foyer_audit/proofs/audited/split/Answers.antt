@@ -14,6 +14,9 @@ loop-thread-preserved g c =
       left = omega arith;
       nothing = omega arith;
       many = rw pushed (omega (arith, length-append {A = a-share}));
-      parts = subst (All one-part) (sym pushed) (All-push one-part _ _ c.loop-thread.invariant.parts (ap (λ s. s.parts) c.of.ensures.mine ∙ c.split_off.ensures.parts));
-      receipts = subst (All no-receipt) (sym pushed) (All-push no-receipt _ _ c.loop-thread.invariant.receipts c.of.ensures.receipts);
+      parts = subst (All one-part) (sym pushed)
+          (All-push one-part _ _ c.loop-thread.invariant.parts
+          (ap (λ s. s.parts) c.of.ensures.mine ∙ c.split_off.ensures.parts));
+      receipts = subst (All no-receipt) (sym pushed)
+          (All-push no-receipt _ _ c.loop-thread.invariant.receipts c.of.ensures.receipts);
     }

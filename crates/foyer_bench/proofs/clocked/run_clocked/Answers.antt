@@ -25,7 +25,8 @@ loop-done-preserved g c =
     record {
       within = omega (arith, c.min.ensures, was.within);
       most = omega (arith, was.most, most, length-take count (drop done keys));
-      run = rw (take-add done count keys) (runs-append m hash old mid new (take done keys) part c.loop-done.hits c.in-Ok-drive.found was.run runs);
+      run = rw (take-add done count keys)
+          (runs-append m hash old mid new (take done keys) part c.loop-done.hits c.in-Ok-drive.found was.run runs);
       handles = less_then old mid new was.handles c.in-Ok-drive.ensures.handles;
       idle = c.drive.ensures.idle;
     }

@@ -10,7 +10,8 @@ abbrev pub invariant-loop-done : goal.invariant-loop-done
 invariant-loop-done g l = record {
   within : l.done ≤ length l.keys;
   most : l.hits ≤ l.done;
-  run : Runs (meaning_of_core l.fn.core) (λ builder key. g.S.HashBuilder.hash_of builder (u64_input key)) (core_of l.fn.core) (take l.done l.keys) l.hits (core_of l.core);
+  run : Runs (meaning_of_core l.fn.core) (λ builder key. g.S.HashBuilder.hash_of builder (u64_input key))
+      (core_of l.fn.core) (take l.done l.keys) l.hits (core_of l.core);
   handles : NoMoreHandles (core_of l.fn.core) (core_of l.core);
   idle : NoneOpen (fetches_of l.core);
 }

@@ -21,8 +21,11 @@ loop-key-preserved g c =
       | else-found w ↦ rw w.if-found.false (omega (arith, w.hits-is))
     ] in
     record {
-      run = rw (take_more keys i 0 c.loop-key-test.true, hits) (runs-more m hash old mid new (take i keys) c.loop-key.hits (get_or keys i 0) found c.loop-key.invariant.run c.in-Ok.ensures.looks_up);
-      handles = less_then old mid new c.loop-key.invariant.handles (looks-less m hash mid new (get_or keys i 0) found c.in-Ok.ensures.looks_up);
+      run = rw (take_more keys i 0 c.loop-key-test.true, hits)
+          (runs-more m hash old mid new (take i keys) c.loop-key.hits (get_or keys i 0) found c.loop-key.invariant.run
+          c.in-Ok.ensures.looks_up);
+      handles = less_then old mid new c.loop-key.invariant.handles
+          (looks-less m hash mid new (get_or keys i 0) found c.in-Ok.ensures.looks_up);
       idle = c.look_up.ensures.idle;
     }
 
@@ -30,5 +33,6 @@ pub returns-in-Err-clause-stops : goal.returns-in-Err-clause-stops
 returns-in-Err-clause-stops g c =
     let m = meaning_of_core c.args.core.now in
     let hash = λ (builder : _) (key : ℕ). g.S.HashBuilder.hash_of builder (u64_input key) in
-    stops-at m hash (core_of c.args.core.now) (core_of c.loop-key.core) (core_of c.look_up.new.core) c.args.keys.now c.loop-key.key-index c.loop-key.hits c.in-Err.error
+    stops-at m hash (core_of c.args.core.now) (core_of c.loop-key.core) (core_of c.look_up.new.core) c.args.keys.now
+    c.loop-key.key-index c.loop-key.hits c.in-Err.error
     c.loop-key-test.true c.loop-key.invariant.run c.in-Err.ensures.refused

@@ -8,7 +8,8 @@ use Rattle.foyer_bench.proofs.drive.drive.Given as goal
 
 abbrev pub invariant-loop-key : goal.invariant-loop-key
 invariant-loop-key g l = record {
-  run : Runs (meaning_of_core l.fn.core) (λ builder key. g.S.HashBuilder.hash_of builder (u64_input key)) (core_of l.fn.core) (take l.key-index l.keys) l.hits (core_of l.core);
+  run : Runs (meaning_of_core l.fn.core) (λ builder key. g.S.HashBuilder.hash_of builder (u64_input key))
+      (core_of l.fn.core) (take l.key-index l.keys) l.hits (core_of l.core);
   handles : NoMoreHandles (core_of l.fn.core) (core_of l.core);
   idle : NoneOpen (fetches_of l.core);
 }

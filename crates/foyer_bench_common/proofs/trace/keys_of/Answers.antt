@@ -20,7 +20,8 @@ loop-key-preserved c =
     let n = c.loop-key._key in
     let was = c.loop-key.invariant in
     let added = c.push_reserved.ensures in
-    let state : c.next_number.new.self ≡ state_after seed (n + 1) = c.next_number.ensures.state ∙ ap next_state was.state ∙ sym (state_after-more seed n) in
+    let state : c.next_number.new.self ≡ state_after seed (n + 1) = c.next_number.ensures.state
+    ∙ ap next_state was.state ∙ sym (state_after-more seed n) in
     let key : c.mix.result ≡ mixed (rank (number_at (state_after seed (n + 1)))) =
     c.mix.ensures ∙ ap mixed (c.rank.ensures ∙ ap rank (c.next_number.ensures.number ∙ ap number_at state)) in
     record {

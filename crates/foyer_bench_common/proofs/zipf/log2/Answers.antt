@@ -18,22 +18,26 @@ loop-place-preserved c =
 
 pub overflow_mul-places : goal.overflow_mul-places
 overflow_mul-places c =
-    let fit = places_fit (c.args.number * 2 ^ leading_zeros w64 c.args.number % 2 ^ 64) c.loop-place._place (omega arith) in
+    let fit = places_fit (c.args.number * 2 ^ leading_zeros w64 c.args.number % 2 ^ 64) c.loop-place._place
+    (omega arith) in
     omega (arith, fit, c.loop-place.invariant.1)
 
 pub overflow_add-places : goal.overflow_add-places
 overflow_add-places c =
-    let fit = places_fit (c.args.number * 2 ^ leading_zeros w64 c.args.number % 2 ^ 64) c.loop-place._place (omega arith) in
+    let fit = places_fit (c.args.number * 2 ^ leading_zeros w64 c.args.number % 2 ^ 64) c.loop-place._place
+    (omega arith) in
     omega (arith, fit, c.loop-place.invariant.1, c.next_place-place.ensures.place, next_place_le c.loop-place.rest)
 
 pub overflow_add-result : goal.overflow_add-result
 overflow_add-result c =
-    let fit = places_fit (c.args.number * 2 ^ leading_zeros w64 c.args.number % 2 ^ 64) c.loop-place._place (omega arith) in
+    let fit = places_fit (c.args.number * 2 ^ leading_zeros w64 c.args.number % 2 ^ 64) c.loop-place._place
+    (omega arith) in
     omega (arith, fit, c.loop-place.invariant.1)
 
 pub returns : goal.returns
 returns c =
     let move = moved c.args.number (omega arith) (omega arith) in
     let all : c.loop-place._place ≡ 32 = omega arith in
-    let up : (63 - leading_zeros w64 c.args.number) * 2 ^ 32 % 2 ^ 64 ≡ (63 - leading_zeros w64 c.args.number) * 2 ^ 32 = omega (arith, move.0) in
+    let up : (63 - leading_zeros w64 c.args.number) * 2 ^ 32 % 2 ^ 64
+    ≡ (63 - leading_zeros w64 c.args.number) * 2 ^ 32 = omega (arith, move.0) in
     ap₂ (λ (a b : ℕ). a + b) up (c.loop-place.invariant.1 ∙ ap₂ places move.1 all)

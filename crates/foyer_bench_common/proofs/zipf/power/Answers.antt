@@ -14,8 +14,11 @@ loop-place-preserved c =
     let was = c.loop-place.invariant in
     elim c.if-exponent-place-eq1.branch [
       | then-exponent-place-eq1 w ↦ (
-        w.power-is ∙ ap (λ (k : ℕ). k * slice_index factors n / 2 ^ 63) was.0 ∙ sym (power_by-yes factors c.args.exponent n w.if-exponent-place-eq1.true),
-        rw w.power-is (lowered_le c.loop-place.power (slice_index factors n) was.1 (factor_le factors c.requires.factors n c.loop-place-test.true)),
+        w.power-is ∙ ap (λ (k : ℕ). k * slice_index factors n / 2 ^ 63) was.0
+            ∙ sym (power_by-yes factors c.args.exponent n w.if-exponent-place-eq1.true),
+        rw w.power-is
+            (lowered_le c.loop-place.power (slice_index factors n) was.1
+            (factor_le factors c.requires.factors n c.loop-place-test.true)),
       )
       | else-exponent-place-eq1 w ↦ (
         w.power-is ∙ was.0 ∙ sym (power_by-no factors c.args.exponent n w.if-exponent-place-eq1.false),

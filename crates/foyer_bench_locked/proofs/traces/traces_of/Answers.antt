@@ -8,7 +8,8 @@ use Rattle.foyer_bench_locked.proofs.traces.traces_of.Goals as goal
 pub loop-thread-init : goal.loop-thread-init
 loop-thread-init c =
     let args = c.args.args.now.bench in
-    ap (map (λ (keys : Vec ℕ Global). keys.items)) c.new-traces.ensures.items ∙ sym (traces_of-none (rank_of c.args.ranks.now) args.seed args.ops)
+    ap (map (λ (keys : Vec ℕ Global). keys.items)) c.new-traces.ensures.items
+    ∙ sym (traces_of-none (rank_of c.args.ranks.now) args.seed args.ops)
 
 pub loop-thread-preserved : goal.loop-thread-preserved
 loop-thread-preserved c =

@@ -11,7 +11,8 @@ abbrev pub invariant-loop-left : goal.invariant-loop-left
 invariant-loop-left l = record {
   weight : l.left ≡ ghost_weight l.pairs.items;
   pairs : fit pair_weight l.most l.pairs.items ≡ fit pair_weight l.most l.fn.pairs.items;
-  hashes : without_hashes (set_of l.hashes.keys) (over pair_weight l.most l.pairs.items) ≡ without_hashes (set_of l.fn.hashes.keys) (over pair_weight l.most l.fn.pairs.items);
+  hashes : without_hashes (set_of l.hashes.keys) (over pair_weight l.most l.pairs.items)
+      ≡ without_hashes (set_of l.fn.hashes.keys) (over pair_weight l.most l.fn.pairs.items);
   capacity : deque_capacity l.pairs ≡ deque_capacity l.fn.pairs;
   len : deque_len l.pairs ≤ deque_len l.fn.pairs;
   spare : spare l.fn.hashes ≤ spare l.hashes;

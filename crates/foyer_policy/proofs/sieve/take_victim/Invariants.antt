@@ -8,7 +8,9 @@ use Rattle.foyer_policy.proofs.sieve.take_victim.Given as goal
 -- what the pop gives, and its looks, are those from where it began; only bits have changed
 abbrev pub invariant-loop-queue : goal.invariant-loop-queue
 invariant-loop-queue l = record {
-  stands : (xs ys : List (ℕ × Node)) (n : Node) → list_at l.fn.queue.lists 0 ≡ xs ++ (l.fn.start, n) ∷ ys → Stand l.looks l.at (list_at l.queue.lists 0) (turn (entries xs) (entries ((l.fn.start, n) ∷ ys))) (looks_at (entries ((l.fn.start, n) ∷ ys) ++ entries xs));
+  stands : (xs ys : List (ℕ × Node)) (n : Node) → list_at l.fn.queue.lists 0 ≡ xs ++ (l.fn.start, n) ∷ ys →
+      Stand l.looks l.at (list_at l.queue.lists 0) (turn (entries xs) (entries ((l.fn.start, n) ∷ ys)))
+      (looks_at (entries ((l.fn.start, n) ∷ ys) ++ entries xs));
   there : IsSome (find l.at l.queue.lists);
   apart : AreLists 1 l.queue.lists;
   placed : (p : ℕ) → item_at l.queue.lists p ≡ item_at l.fn.queue.lists p;

@@ -8,4 +8,5 @@ use Rattle.foyer_policy.proofs.sketch.count.Given as goal
 abbrev pub invariant-loop-row : goal.invariant-loop-row
 invariant-loop-row l =
     (l.number ≡ mixed l.hash l.row)
-    × (counted_on l.buckets l.hash l.row (first_chunks l.buckets l.rows l.counters) ≡ counted l.buckets l.hash 0 (first_chunks l.buckets l.rows l.fn.counters))
+    × (counted_on l.buckets l.hash l.row (first_chunks l.buckets l.rows l.counters)
+    ≡ counted l.buckets l.hash 0 (first_chunks l.buckets l.rows l.fn.counters))

@@ -11,5 +11,6 @@ returns c =
     let v = chunk at 32 xs in
     let there : c.args.i < length xs / 32 = omega arith in
     let loaded : get_or c.as_chunks.result.0.now c.args.i [] ≡ v =
-    ap (λ (chunks : List (List ℕ)). get_or chunks c.args.i []) c.as_chunks.ensures.front ∙ get_or-first_chunks 32 (length xs / 32) c.args.i xs there in
+    ap (λ (chunks : List (List ℕ)). get_or chunks c.args.i []) c.as_chunks.ensures.front
+    ∙ get_or-first_chunks 32 (length xs / 32) c.args.i xs there in
     rw loaded (ap (put_chunk at xs) (zip2_splat _ v 32 1 (length-chunk at 32 xs c.requires)))

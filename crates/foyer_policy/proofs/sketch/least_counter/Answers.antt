@@ -20,14 +20,18 @@ loop-row-preserved c =
     let b : c.bucket_in-bucket.result ≡ bucket buckets hash k = c.bucket_in-bucket.ensures.bucket hash was in
     let below : bucket buckets hash k < buckets = omega arith in
     let e : k + 1 ≡ suc k = omega arith in
-    let mix : c.mixed_next-number.result ≡ mixed hash (k + 1) = c.mixed_next-number.ensures hash k was ∙ ap (mixed hash) (sym e) in
+    let mix : c.mixed_next-number.result ≡ mixed hash (k + 1) = c.mixed_next-number.ensures hash k was
+    ∙ ap (mixed hash) (sym e) in
     let there : k < length all = omega (arith, length-first_chunks buckets rows xs) in
     let read : c.min-least.result ≡ min c.loop-row.least (get_or (get_or all k []) (bucket buckets hash k) 0) =
-    c.min-least.ensures ∙ ap (min c.loop-row.least) (ap (λ n. get_or xs (k * buckets + n) 0) b ∙ sym (get_or-in_chunk buckets rows k (bucket buckets hash k) xs 0 c.loop-row-test.true below)) in
+    c.min-least.ensures ∙ ap (min c.loop-row.least)
+    (ap (λ n. get_or xs (k * buckets + n) 0) b
+    ∙ sym (get_or-in_chunk buckets rows k (bucket buckets hash k) xs 0 c.loop-row-test.true below)) in
     (mix, omega arith, rw read (least_on-next buckets hash k c.loop-row.least all there ∙ c.loop-row.invariant.2))
 
 pub returns : goal.returns
 returns c =
     let all = first_chunks c.args.buckets c.args.rows c.args.counters.now in
     let n : length all ≡ c.args.rows = length-first_chunks c.args.buckets c.args.rows c.args.counters.now in
-    sym (least_on-end c.args.buckets c.args.hash c.loop-row.row c.loop-row.least all (omega arith) c.loop-row.invariant.1) ∙ c.loop-row.invariant.2
+    sym (least_on-end c.args.buckets c.args.hash c.loop-row.row c.loop-row.least all (omega arith)
+    c.loop-row.invariant.1) ∙ c.loop-row.invariant.2

@@ -6,52 +6,89 @@ use Rattle.foyer_session.proofs.sim.simulate.Goals as goal
 
 pub loop-turn-init : goal.loop-turn-init
 loop-turn-init g c =
-    let answers = LineTold (meaning_of_session c.args.session.now) (λ builder key. g.S.HashBuilder.hash_of builder (u64_input key)) (g.H.HighRatio.config_of c.args.high.now) in
-    SoFar-none answers (session_of c.args.session.now) (g.R.Read.remaining c.args.reader.now) (g.W.Write.contents c.args.writer.now)
+    let answers = LineTold (meaning_of_session c.args.session.now)
+    (λ builder key. g.S.HashBuilder.hash_of builder (u64_input key)) (g.H.HighRatio.config_of c.args.high.now) in
+    SoFar-none answers (session_of c.args.session.now) (g.R.Read.remaining c.args.reader.now)
+    (g.W.Write.contents c.args.writer.now)
 
 pub returns-in_err-line-clause-part : goal.returns-in_err-line-clause-part
 returns-in_err-line-clause-part g c =
-    let answers = LineTold (meaning_of_session c.args.session.now) (λ builder key. g.S.HashBuilder.hash_of builder (u64_input key)) (g.H.HighRatio.config_of c.args.high.now) in
-    let so_far = SoFar-flushed answers (session_of c.args.session.now) (session_of c.loop-turn.session) (g.R.Read.remaining c.args.reader.now) (g.R.Read.remaining c.loop-turn.reader) (g.W.Write.contents c.args.writer.now) (g.W.Write.contents c.loop-turn.writer) (g.W.Write.contents c.read.new.writer) c.loop-turn.invariant c.read.ensures.written in
-    OnErr-always c.from_residual.result (SoFar-stops answers (session_of c.args.session.now) (session_of c.loop-turn.session)
-    (g.R.Read.remaining c.args.reader.now) (g.R.Read.remaining c.loop-turn.reader) (g.W.Write.contents c.args.writer.now) (g.W.Write.contents c.read.new.writer) so_far)
+    let answers = LineTold (meaning_of_session c.args.session.now)
+    (λ builder key. g.S.HashBuilder.hash_of builder (u64_input key)) (g.H.HighRatio.config_of c.args.high.now) in
+    let so_far = SoFar-flushed answers (session_of c.args.session.now) (session_of c.loop-turn.session)
+    (g.R.Read.remaining c.args.reader.now) (g.R.Read.remaining c.loop-turn.reader)
+    (g.W.Write.contents c.args.writer.now) (g.W.Write.contents c.loop-turn.writer)
+    (g.W.Write.contents c.read.new.writer) c.loop-turn.invariant c.read.ensures.written in
+    OnErr-always c.from_residual.result
+    (SoFar-stops answers (session_of c.args.session.now) (session_of c.loop-turn.session)
+    (g.R.Read.remaining c.args.reader.now) (g.R.Read.remaining c.loop-turn.reader)
+    (g.W.Write.contents c.args.writer.now) (g.W.Write.contents c.read.new.writer) so_far)
 
 pub returns-in_default-clause-all : goal.returns-in_default-clause-all
 returns-in_default-clause-all g c =
-    let answers = LineTold (meaning_of_session c.args.session.now) (λ builder key. g.S.HashBuilder.hash_of builder (u64_input key)) (g.H.HighRatio.config_of c.args.high.now) in
-    let so_far = SoFar-flushed answers (session_of c.args.session.now) (session_of c.loop-turn.session) (g.R.Read.remaining c.args.reader.now) (g.R.Read.remaining c.loop-turn.reader) (g.W.Write.contents c.args.writer.now) (g.W.Write.contents c.loop-turn.writer) (g.W.Write.contents c.read.new.writer) c.loop-turn.invariant c.read.ensures.written in
+    let answers = LineTold (meaning_of_session c.args.session.now)
+    (λ builder key. g.S.HashBuilder.hash_of builder (u64_input key)) (g.H.HighRatio.config_of c.args.high.now) in
+    let so_far = SoFar-flushed answers (session_of c.args.session.now) (session_of c.loop-turn.session)
+    (g.R.Read.remaining c.args.reader.now) (g.R.Read.remaining c.loop-turn.reader)
+    (g.W.Write.contents c.args.writer.now) (g.W.Write.contents c.loop-turn.writer)
+    (g.W.Write.contents c.read.new.writer) c.loop-turn.invariant c.read.ensures.written in
     SoFar-ends answers (session_of c.args.session.now) (session_of c.loop-turn.session)
-    (g.R.Read.remaining c.args.reader.now) (g.R.Read.remaining c.loop-turn.reader) (g.W.Write.contents c.args.writer.now) (g.W.Write.contents c.read.new.writer) so_far
+    (g.R.Read.remaining c.args.reader.now) (g.R.Read.remaining c.loop-turn.reader)
+    (g.W.Write.contents c.args.writer.now) (g.W.Write.contents c.read.new.writer) so_far
     (rw c.in_default.is at c.in_ok-line.ensures.line)
 
 pub returns-in_default-clause-at_end : goal.returns-in_default-clause-at_end
 returns-in_default-clause-at_end g c =
-    let answers = LineTold (meaning_of_session c.args.session.now) (λ builder key. g.S.HashBuilder.hash_of builder (u64_input key)) (g.H.HighRatio.config_of c.args.high.now) in
-    let so_far = SoFar-flushed answers (session_of c.args.session.now) (session_of c.loop-turn.session) (g.R.Read.remaining c.args.reader.now) (g.R.Read.remaining c.loop-turn.reader) (g.W.Write.contents c.args.writer.now) (g.W.Write.contents c.loop-turn.writer) (g.W.Write.contents c.read.new.writer) c.loop-turn.invariant c.read.ensures.written in
+    let answers = LineTold (meaning_of_session c.args.session.now)
+    (λ builder key. g.S.HashBuilder.hash_of builder (u64_input key)) (g.H.HighRatio.config_of c.args.high.now) in
+    let so_far = SoFar-flushed answers (session_of c.args.session.now) (session_of c.loop-turn.session)
+    (g.R.Read.remaining c.args.reader.now) (g.R.Read.remaining c.loop-turn.reader)
+    (g.W.Write.contents c.args.writer.now) (g.W.Write.contents c.loop-turn.writer)
+    (g.W.Write.contents c.read.new.writer) c.loop-turn.invariant c.read.ensures.written in
     SoFar-at-end answers (session_of c.args.session.now) (session_of c.loop-turn.session)
-    (g.R.Read.remaining c.args.reader.now) (g.R.Read.remaining c.loop-turn.reader) (g.R.Read.remaining c.read.new.reader) (g.W.Write.contents c.args.writer.now) (g.W.Write.contents c.read.new.writer) so_far
+    (g.R.Read.remaining c.args.reader.now) (g.R.Read.remaining c.loop-turn.reader)
+    (g.R.Read.remaining c.read.new.reader) (g.W.Write.contents c.args.writer.now)
+    (g.W.Write.contents c.read.new.writer) so_far
     (rw c.in_default.is at c.in_ok-line.ensures.line) c.in_ok-line.ensures.rest
 
 pub returns-in_err-tell-clause-part : goal.returns-in_err-tell-clause-part
 returns-in_err-tell-clause-part g c =
-    let answers = LineTold (meaning_of_session c.args.session.now) (λ builder key. g.S.HashBuilder.hash_of builder (u64_input key)) (g.H.HighRatio.config_of c.args.high.now) in
-    let so_far = SoFar-flushed answers (session_of c.args.session.now) (session_of c.loop-turn.session) (g.R.Read.remaining c.args.reader.now) (g.R.Read.remaining c.loop-turn.reader) (g.W.Write.contents c.args.writer.now) (g.W.Write.contents c.loop-turn.writer) (g.W.Write.contents c.read.new.writer) c.loop-turn.invariant c.read.ensures.written in
-    OnErr-always c.from_residual-in_err-tell.result (SoFar-breaks answers (session_of c.args.session.now) (session_of c.loop-turn.session) (session_of c.tell.new.session)
-    (g.R.Read.remaining c.args.reader.now) (g.R.Read.remaining c.loop-turn.reader) (g.R.Read.remaining c.read.new.reader)
-    (g.W.Write.contents c.args.writer.now) (g.W.Write.contents c.read.new.writer) (g.W.Write.contents c.tell.new.writer) c.in-Some.line c.in_err-tell.ensures.0
-    so_far (rw c.in-Some.is at c.in_ok-line.ensures.line) c.in_ok-line.ensures.rest c.in_err-tell.ensures.1 c.in_err-tell.ensures.2)
+    let answers = LineTold (meaning_of_session c.args.session.now)
+    (λ builder key. g.S.HashBuilder.hash_of builder (u64_input key)) (g.H.HighRatio.config_of c.args.high.now) in
+    let so_far = SoFar-flushed answers (session_of c.args.session.now) (session_of c.loop-turn.session)
+    (g.R.Read.remaining c.args.reader.now) (g.R.Read.remaining c.loop-turn.reader)
+    (g.W.Write.contents c.args.writer.now) (g.W.Write.contents c.loop-turn.writer)
+    (g.W.Write.contents c.read.new.writer) c.loop-turn.invariant c.read.ensures.written in
+    OnErr-always c.from_residual-in_err-tell.result
+    (SoFar-breaks answers (session_of c.args.session.now) (session_of c.loop-turn.session)
+    (session_of c.tell.new.session)
+    (g.R.Read.remaining c.args.reader.now) (g.R.Read.remaining c.loop-turn.reader)
+    (g.R.Read.remaining c.read.new.reader)
+    (g.W.Write.contents c.args.writer.now) (g.W.Write.contents c.read.new.writer)
+    (g.W.Write.contents c.tell.new.writer) c.in-Some.line c.in_err-tell.ensures.0
+    so_far (rw c.in-Some.is at c.in_ok-line.ensures.line) c.in_ok-line.ensures.rest c.in_err-tell.ensures.1
+    c.in_err-tell.ensures.2)
 
 pub loop-turn-preserved : goal.loop-turn-preserved
 loop-turn-preserved g c =
-    let answers = LineTold (meaning_of_session c.args.session.now) (λ builder key. g.S.HashBuilder.hash_of builder (u64_input key)) (g.H.HighRatio.config_of c.args.high.now) in
-    let so_far = SoFar-flushed answers (session_of c.args.session.now) (session_of c.loop-turn.session) (g.R.Read.remaining c.args.reader.now) (g.R.Read.remaining c.loop-turn.reader) (g.W.Write.contents c.args.writer.now) (g.W.Write.contents c.loop-turn.writer) (g.W.Write.contents c.read.new.writer) c.loop-turn.invariant c.read.ensures.written in
+    let answers = LineTold (meaning_of_session c.args.session.now)
+    (λ builder key. g.S.HashBuilder.hash_of builder (u64_input key)) (g.H.HighRatio.config_of c.args.high.now) in
+    let so_far = SoFar-flushed answers (session_of c.args.session.now) (session_of c.loop-turn.session)
+    (g.R.Read.remaining c.args.reader.now) (g.R.Read.remaining c.loop-turn.reader)
+    (g.W.Write.contents c.args.writer.now) (g.W.Write.contents c.loop-turn.writer)
+    (g.W.Write.contents c.read.new.writer) c.loop-turn.invariant c.read.ensures.written in
     SoFar-more answers (session_of c.args.session.now) (session_of c.loop-turn.session) (session_of c.tell.new.session)
-    (g.R.Read.remaining c.args.reader.now) (g.R.Read.remaining c.loop-turn.reader) (g.R.Read.remaining c.read.new.reader)
-    (g.W.Write.contents c.args.writer.now) (g.W.Write.contents c.read.new.writer) (g.W.Write.contents c.tell.new.writer) c.in-Some.line c.in_ok-tell.ensures.0
-    so_far (rw c.in-Some.is at c.in_ok-line.ensures.line) c.in_ok-line.ensures.rest c.in_ok-tell.ensures.1 c.in_ok-tell.ensures.2
+    (g.R.Read.remaining c.args.reader.now) (g.R.Read.remaining c.loop-turn.reader)
+    (g.R.Read.remaining c.read.new.reader)
+    (g.W.Write.contents c.args.writer.now) (g.W.Write.contents c.read.new.writer)
+    (g.W.Write.contents c.tell.new.writer) c.in-Some.line c.in_ok-tell.ensures.0
+    so_far (rw c.in-Some.is at c.in_ok-line.ensures.line) c.in_ok-line.ensures.rest c.in_ok-tell.ensures.1
+    c.in_ok-tell.ensures.2
 
 pub returns-clause-part : goal.returns-clause-part
 returns-clause-part g c =
-    let answers = LineTold (meaning_of_session c.args.session.now) (λ builder key. g.S.HashBuilder.hash_of builder (u64_input key)) (g.H.HighRatio.config_of c.args.high.now) in
+    let answers = LineTold (meaning_of_session c.args.session.now)
+    (λ builder key. g.S.HashBuilder.hash_of builder (u64_input key)) (g.H.HighRatio.config_of c.args.high.now) in
     SoFar-stops answers (session_of c.args.session.now) (session_of c.loop-turn.session)
-    (g.R.Read.remaining c.args.reader.now) (g.R.Read.remaining c.loop-turn.reader) (g.W.Write.contents c.args.writer.now) (g.W.Write.contents c.loop-turn.writer) c.loop-turn.invariant
+    (g.R.Read.remaining c.args.reader.now) (g.R.Read.remaining c.loop-turn.reader)
+    (g.W.Write.contents c.args.writer.now) (g.W.Write.contents c.loop-turn.writer) c.loop-turn.invariant

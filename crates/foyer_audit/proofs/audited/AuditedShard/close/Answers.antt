@@ -13,5 +13,10 @@ returns-clause-counts g c parts =
 
 pub returns-clause-legal : goal.returns-clause-legal
 returns-clause-legal g c =
-    let book = c.into_inner-book.result.book in
-    (book.opening.value, book.shard, session_of book.session, subst (λ n. book.shard < n) book.sharded book.within, c.into_history-history.ensures.legal)
+    let book = c.into_inner-book.result.book in (
+      book.opening.value,
+      book.shard,
+      session_of book.session,
+      subst (λ n. book.shard < n) book.sharded book.within,
+      c.into_history-history.ensures.legal,
+    )

@@ -9,13 +9,17 @@ pub invariant_of-self-2 : goal.invariant_of-self-2
 invariant_of-self-2 g c =
     let s = c.args.self.now in
     let new = session_of c.carry_out.new.session in
-    let called = subst (λ n. Call (terms_of s.session) g.Q.Predicate.picks g.Q.Compared.same n s.shard (session_of s.session) c.args.command c.in_ok-reply.reply new)
+    let called = subst
+    (λ n. Call (terms_of s.session) g.Q.Predicate.picks g.Q.Compared.same n s.shard (session_of s.session)
+    c.args.command c.in_ok-reply.reply new)
     s.sharded c.in_ok-reply.ensures.call in
     record {
       within = s.within;
       sharded = s.sharded;
       legal = rw (c.push_reserved.ensures.items, c.reserve.ensures.items)
-          (∥∥₁_map s.legal (λ h. history-snoc (terms_of s.session) g.Q.Predicate.picks g.Q.Compared.same s.opening.value s.shard s.history.items
+          (∥∥₁_map s.legal
+          (λ h. history-snoc (terms_of s.session) g.Q.Predicate.picks g.Q.Compared.same s.opening.value s.shard
+          s.history.items
           (session_of s.session) (c.args.command, c.in_ok-reply.reply) new h called));
     }
 
@@ -24,6 +28,7 @@ returns-clause-applied g c =
     let s = c.args.self.now in (
       c.in_ok-reply.reply,
       rw (c.push_reserved.ensures.items, c.reserve.ensures.items) refl,
-      subst (λ n. Call (terms_of s.session) g.Q.Predicate.picks g.Q.Compared.same n s.shard (session_of s.session) c.args.command c.in_ok-reply.reply (session_of c.carry_out.new.session))
+      subst (λ n. Call (terms_of s.session) g.Q.Predicate.picks g.Q.Compared.same n s.shard (session_of s.session)
+          c.args.command c.in_ok-reply.reply (session_of c.carry_out.new.session))
           s.sharded c.in_ok-reply.ensures.call,
     )

@@ -30,8 +30,10 @@ loop-rank-preserved c =
       counted = rw added.items (length_push c.loop-rank.sums.items c.in-Some.more ∙ ap (λ (n : ℕ). n + 1) was.counted);
       room = rw added.capacity was.room;
       sum = sum;
-      each = rw added.items (sums-more by c.loop-rank.sums.items c.loop-rank.rank c.in-Some.more was.counted was.each sum);
+      each = rw added.items
+          (sums-more by c.loop-rank.sums.items c.loop-rank.rank c.in-Some.more was.counted was.each sum);
     }
 
 pub invariant_of-result : goal.invariant_of-result
-invariant_of-result c = sums-rise (weight c.factors-factors.result c.args.skew) c.loop-rank.sums.items c.loop-rank.rank c.loop-rank.invariant.counted c.loop-rank.invariant.each
+invariant_of-result c = sums-rise (weight c.factors-factors.result c.args.skew) c.loop-rank.sums.items
+    c.loop-rank.rank c.loop-rank.invariant.counted c.loop-rank.invariant.each

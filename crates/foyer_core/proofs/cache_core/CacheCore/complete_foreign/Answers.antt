@@ -19,28 +19,40 @@ invariant_of-self-clause-belong g c =
     let s = c.args.self.now in
     let x = c.index_mut.result.now in
     let y = c.complete_new-ended.new.self in
-    let d : Data g.row.K.Denot g.row.V.Denot g.row.P.Denot = record c.args.piece.kept { hash = c.args.hash; weight = c.weigh-weight.result } in
-    belongs_over state_of s.shards.items c.args.hash (vec_len s.shards) c.place-place.result x s.shards.ok.0 c.place-place.ensures.within c.place-place.ensures.place c.index_mut.ensures.value
-    y (completes_from (λ e. e.hash ≡ c.args.hash) (meaning_of x) (state_of x) (opens_of x) (key_of d) (ending_of c.complete_new-ended.result) (state_of y) (opens_of y) (asked (Some c.args.fetch) ((opens_of x).places (key_of d))) Memory d c.complete_new-ended.ensures.completed refl) s.belong
+    let d : Data g.row.K.Denot g.row.V.Denot g.row.P.Denot =
+    record c.args.piece.kept { hash = c.args.hash; weight = c.weigh-weight.result } in
+    belongs_over state_of s.shards.items c.args.hash (vec_len s.shards) c.place-place.result x s.shards.ok.0
+    c.place-place.ensures.within c.place-place.ensures.place c.index_mut.ensures.value
+    y (completes_from (λ e. e.hash ≡ c.args.hash) (meaning_of x) (state_of x) (opens_of x) (key_of d)
+    (ending_of c.complete_new-ended.result) (state_of y) (opens_of y)
+    (asked (Some c.args.fetch) ((opens_of x).places (key_of d))) Memory d
+    c.complete_new-ended.ensures.completed refl) s.belong
 
 pub invariant_of-self-clause-hashed : goal.invariant_of-self-clause-hashed
 invariant_of-self-clause-hashed g c =
     let s = c.args.self.now in
     let x = c.index_mut.result.now in
     let y = c.complete_new-ended.new.self in
-    let d : Data g.row.K.Denot g.row.V.Denot g.row.P.Denot = record c.args.piece.kept { hash = c.args.hash; weight = c.weigh-weight.result } in
-    hashed_over (hashes_of s) state_of s.shards.items (vec_len s.shards) c.place-place.result x s.shards.ok.0 c.place-place.ensures.within c.index_mut.ensures.value
-    y (completes_from (IsHashed (hashes_of s)) (meaning_of x) (state_of x) (opens_of x) (key_of d) (ending_of c.complete_new-ended.result) (state_of y) (opens_of y) (asked (Some c.args.fetch) ((opens_of x).places (key_of d))) Memory d c.complete_new-ended.ensures.completed c.requires.hashed) s.hashed
+    let d : Data g.row.K.Denot g.row.V.Denot g.row.P.Denot =
+    record c.args.piece.kept { hash = c.args.hash; weight = c.weigh-weight.result } in
+    hashed_over (hashes_of s) state_of s.shards.items (vec_len s.shards) c.place-place.result x s.shards.ok.0
+    c.place-place.ensures.within c.index_mut.ensures.value
+    y (completes_from (IsHashed (hashes_of s)) (meaning_of x) (state_of x) (opens_of x) (key_of d)
+    (ending_of c.complete_new-ended.result) (state_of y) (opens_of y)
+    (asked (Some c.args.fetch) ((opens_of x).places (key_of d))) Memory d
+    c.complete_new-ended.ensures.completed c.requires.hashed) s.hashed
 
 pub invariant_of-self-clause-summed : goal.invariant_of-self-clause-summed
 invariant_of-self-clause-summed g c =
     let s = c.args.self.now in
     let before = c.of-before in
     let after = c.of-after in
-    sums_set (meaning_of_core s) state_of s.shards.items (vec_len s.shards) c.place-place.result c.index.result.now s.load.usage s.load.entries
+    sums_set (meaning_of_core s) state_of s.shards.items (vec_len s.shards) c.place-place.result c.index.result.now
+    s.load.usage s.load.entries
     s.shards.ok.0 (omega (arith, s.shards.ok.1, s.shards.small)) c.place-place.ensures.within c.index.ensures s.summed
     before.result.usage before.result.entries before.ensures.usage before.ensures.entries
-    c.complete_new-ended.new.self c.index-2.result.now c.index-2.ensures after.result.usage after.result.entries after.ensures.usage after.ensures.entries after.ensures.small
+    c.complete_new-ended.new.self c.index-2.result.now c.index-2.ensures after.result.usage after.result.entries
+    after.ensures.usage after.ensures.entries after.ensures.small
     c.replace.new.self.usage c.replace.new.self.entries c.replace.ensures.usage c.replace.ensures.entries
 
 pub replace-requires-clause-usage : goal.replace-requires-clause-usage
@@ -48,20 +60,24 @@ replace-requires-clause-usage g c =
     let s = c.args.self.now in
     let before = c.of-before in
     let after = c.of-after in
-    usage_fits (meaning_of_core s) state_of s.shards.items (vec_len s.shards) c.place-place.result c.index.result.now s.load.usage s.load.entries
+    usage_fits (meaning_of_core s) state_of s.shards.items (vec_len s.shards) c.place-place.result c.index.result.now
+    s.load.usage s.load.entries
     s.shards.ok.0 (omega (arith, s.shards.ok.1, s.shards.small)) c.place-place.ensures.within c.index.ensures s.summed
     before.result.usage before.result.entries before.ensures.usage before.ensures.entries
-    c.complete_new-ended.new.self c.index-2.result.now c.index-2.ensures after.result.usage after.result.entries after.ensures.usage after.ensures.entries after.ensures.small
+    c.complete_new-ended.new.self c.index-2.result.now c.index-2.ensures after.result.usage after.result.entries
+    after.ensures.usage after.ensures.entries after.ensures.small
 
 pub replace-requires-clause-entries : goal.replace-requires-clause-entries
 replace-requires-clause-entries g c =
     let s = c.args.self.now in
     let before = c.of-before in
     let after = c.of-after in
-    entries_fit (meaning_of_core s) state_of s.shards.items (vec_len s.shards) c.place-place.result c.index.result.now s.load.usage s.load.entries
+    entries_fit (meaning_of_core s) state_of s.shards.items (vec_len s.shards) c.place-place.result c.index.result.now
+    s.load.usage s.load.entries
     s.shards.ok.0 (omega (arith, s.shards.ok.1, s.shards.small)) c.place-place.ensures.within c.index.ensures s.summed
     before.result.usage before.result.entries before.ensures.usage before.ensures.entries
-    c.complete_new-ended.new.self c.index-2.result.now c.index-2.ensures after.result.usage after.result.entries after.ensures.usage after.ensures.entries after.ensures.small
+    c.complete_new-ended.new.self c.index-2.result.now c.index-2.ensures after.result.usage after.result.entries
+    after.ensures.usage after.ensures.entries after.ensures.small
 
 pub returns : goal.returns
 returns g c =
@@ -70,10 +86,15 @@ returns g c =
     let y = c.complete_new-ended.new.self in
     let weighs = g.W.Weighter.weighs s.weighter c.args.piece.kept.key c.args.piece.kept.value in
     let k : ℕ × g.row.K.Denot = (c.args.hash, c.args.piece.kept.key) in
-    let of : ℕ → Data g.row.K.Denot g.row.V.Denot g.row.P.Denot = λ (n : ℕ). record c.args.piece.kept { hash = c.args.hash; weight = n } in
+    let of : ℕ → Data g.row.K.Denot g.row.V.Denot g.row.P.Denot =
+    λ (n : ℕ). record c.args.piece.kept { hash = c.args.hash; weight = n } in
     let weighed : weighs c.weigh-weight.result = rw (← c.key.ensures, ← c.value.ensures) c.weigh-weight.ensures in
     let did = c.complete_new-ended.ensures.completed in
     record {
-      completed = open_over state_of opens_of s.capacity s.hash_builder s.weighter s.filter s.shards.items c.args.hash (vec_len s.shards) c.place-place.result x s.shards.ok.0 c.place-place.ensures.within c.place-place.ensures.place c.index_mut.ensures.value y
-          (λ a f b h. (weight : ℕ) × weighs weight × CompletesBy (meaning_of_core s) (asked (Some c.args.fetch) (f.places k)) Memory a f k (of weight) (ending_of c.complete_new-ended.result) b h) (c.weigh-weight.result, weighed, did);
+      completed = open_over state_of opens_of s.capacity s.hash_builder s.weighter s.filter s.shards.items c.args.hash
+          (vec_len s.shards) c.place-place.result x s.shards.ok.0 c.place-place.ensures.within
+          c.place-place.ensures.place c.index_mut.ensures.value y
+          (λ a f b h. (weight : ℕ) × weighs weight
+          × CompletesBy (meaning_of_core s) (asked (Some c.args.fetch) (f.places k)) Memory a f k (of weight)
+          (ending_of c.complete_new-ended.result) b h) (c.weigh-weight.result, weighed, did);
     }

@@ -14,23 +14,34 @@ use Rattle.foyer_core.proofs.cache_core.CacheCore.complete_known.Goals as goal
 pub complete_back-ended-requires-clause-given : goal.complete_back-ended-requires-clause-given
 complete_back-ended-requires-clause-given g c κs within =
     let s = c.args.self.now in
-    let equal : (a b : g.row.K.Denot) → g.K.PartialEq.eq a b ≡ true → hashes_of s a ≡ hashes_of s b = λ a b same. ap (g.S.HashBuilder.hash_of s.hash_builder) (g.met.K.Hash.respects_eq a b same) in
-    given_over g.K.PartialEq.eq (hashes_of s) equal state_of s.capacity s.hash_builder s.weighter s.filter s.shards.items (vec_len s.shards) c.place-place.result c.index_mut.result.now s.shards.ok.0 c.place-place.ensures.within c.index_mut.ensures.value s.belong s.hashed
+    let equal : (a b : g.row.K.Denot) → g.K.PartialEq.eq a b ≡ true → hashes_of s a ≡ hashes_of s b =
+    λ a b same. ap (g.S.HashBuilder.hash_of s.hash_builder) (g.met.K.Hash.respects_eq a b same) in
+    given_over g.K.PartialEq.eq (hashes_of s) equal state_of s.capacity s.hash_builder s.weighter s.filter
+    s.shards.items (vec_len s.shards) c.place-place.result c.index_mut.result.now s.shards.ok.0
+    c.place-place.ensures.within c.index_mut.ensures.value s.belong s.hashed
     c.args.key.now c.args.hash c.requires.hashed c.place-place.ensures.place c.args.piece c.requires.known
 
 pub complete_back-ended-requires-clause-hashed : goal.complete_back-ended-requires-clause-hashed
 complete_back-ended-requires-clause-hashed g c κs within =
     let s = c.args.self.now in
-    let equal : (a b : g.row.K.Denot) → g.K.PartialEq.eq a b ≡ true → hashes_of s a ≡ hashes_of s b = λ a b same. ap (g.S.HashBuilder.hash_of s.hash_builder) (g.met.K.Hash.respects_eq a b same) in
-    hash_over g.K.PartialEq.eq (hashes_of s) equal state_of s.capacity s.hash_builder s.weighter s.filter s.shards.items (vec_len s.shards) c.place-place.result c.index_mut.result.now s.shards.ok.0 c.place-place.ensures.within c.index_mut.ensures.value s.belong s.hashed
-    c.args.key.now c.args.hash c.requires.hashed c.place-place.ensures.place c.args.piece c.requires.known c.requires.same
+    let equal : (a b : g.row.K.Denot) → g.K.PartialEq.eq a b ≡ true → hashes_of s a ≡ hashes_of s b =
+    λ a b same. ap (g.S.HashBuilder.hash_of s.hash_builder) (g.met.K.Hash.respects_eq a b same) in
+    hash_over g.K.PartialEq.eq (hashes_of s) equal state_of s.capacity s.hash_builder s.weighter s.filter
+    s.shards.items (vec_len s.shards) c.place-place.result c.index_mut.result.now s.shards.ok.0
+    c.place-place.ensures.within c.index_mut.ensures.value s.belong s.hashed
+    c.args.key.now c.args.hash c.requires.hashed c.place-place.ensures.place c.args.piece c.requires.known
+    c.requires.same
 
 pub complete_back-ended-requires-clause-same : goal.complete_back-ended-requires-clause-same
 complete_back-ended-requires-clause-same g c κs within =
     let s = c.args.self.now in
-    let equal : (a b : g.row.K.Denot) → g.K.PartialEq.eq a b ≡ true → hashes_of s a ≡ hashes_of s b = λ a b same. ap (g.S.HashBuilder.hash_of s.hash_builder) (g.met.K.Hash.respects_eq a b same) in
-    alike_over g.K.PartialEq.eq (hashes_of s) equal state_of s.capacity s.hash_builder s.weighter s.filter s.shards.items (vec_len s.shards) c.place-place.result c.index_mut.result.now s.shards.ok.0 c.place-place.ensures.within c.index_mut.ensures.value s.belong s.hashed
-    c.args.key.now c.args.hash c.requires.hashed c.place-place.ensures.place c.args.piece c.requires.known c.requires.same
+    let equal : (a b : g.row.K.Denot) → g.K.PartialEq.eq a b ≡ true → hashes_of s a ≡ hashes_of s b =
+    λ a b same. ap (g.S.HashBuilder.hash_of s.hash_builder) (g.met.K.Hash.respects_eq a b same) in
+    alike_over g.K.PartialEq.eq (hashes_of s) equal state_of s.capacity s.hash_builder s.weighter s.filter
+    s.shards.items (vec_len s.shards) c.place-place.result c.index_mut.result.now s.shards.ok.0
+    c.place-place.ensures.within c.index_mut.ensures.value s.belong s.hashed
+    c.args.key.now c.args.hash c.requires.hashed c.place-place.ensures.place c.args.piece c.requires.known
+    c.requires.same
 
 pub invariant_of-self-clause-belong : goal.invariant_of-self-clause-belong
 invariant_of-self-clause-belong g c =
@@ -38,11 +49,19 @@ invariant_of-self-clause-belong g c =
     let x = c.index_mut.result.now in
     let y = c.complete_back-ended.new.self in
     let k : ℕ × g.row.K.Denot = (c.args.hash, c.args.key.now) in
-    let equal : (a b : g.row.K.Denot) → g.K.PartialEq.eq a b ≡ true → hashes_of s a ≡ hashes_of s b = λ a b same. ap (g.S.HashBuilder.hash_of s.hash_builder) (g.met.K.Hash.respects_eq a b same) in
-    let own = hash_over g.K.PartialEq.eq (hashes_of s) equal state_of s.capacity s.hash_builder s.weighter s.filter s.shards.items (vec_len s.shards) c.place-place.result x s.shards.ok.0 c.place-place.ensures.within c.index_mut.ensures.value s.belong s.hashed
-    c.args.key.now c.args.hash c.requires.hashed c.place-place.ensures.place c.args.piece c.requires.known c.requires.same in
-    belongs_over state_of s.shards.items c.args.hash (vec_len s.shards) c.place-place.result x s.shards.ok.0 c.place-place.ensures.within c.place-place.ensures.place c.index_mut.ensures.value
-    y (completes_back_from (λ e. e.hash ≡ c.args.hash) (meaning_of x) (state_of x) (opens_of x) k (ending_of c.complete_back-ended.result) (state_of y) (opens_of y) (asked (Some c.args.fetch) ((opens_of x).places k)) c.args.piece c.complete_back-ended.ensures.completed (sym own)) s.belong
+    let equal : (a b : g.row.K.Denot) → g.K.PartialEq.eq a b ≡ true → hashes_of s a ≡ hashes_of s b =
+    λ a b same. ap (g.S.HashBuilder.hash_of s.hash_builder) (g.met.K.Hash.respects_eq a b same) in
+    let own = hash_over g.K.PartialEq.eq (hashes_of s) equal state_of s.capacity s.hash_builder s.weighter s.filter
+    s.shards.items (vec_len s.shards) c.place-place.result x s.shards.ok.0 c.place-place.ensures.within
+    c.index_mut.ensures.value s.belong s.hashed
+    c.args.key.now c.args.hash c.requires.hashed c.place-place.ensures.place c.args.piece c.requires.known
+    c.requires.same in
+    belongs_over state_of s.shards.items c.args.hash (vec_len s.shards) c.place-place.result x s.shards.ok.0
+    c.place-place.ensures.within c.place-place.ensures.place c.index_mut.ensures.value
+    y (completes_back_from (λ e. e.hash ≡ c.args.hash) (meaning_of x) (state_of x) (opens_of x) k
+    (ending_of c.complete_back-ended.result) (state_of y) (opens_of y)
+    (asked (Some c.args.fetch) ((opens_of x).places k)) c.args.piece c.complete_back-ended.ensures.completed
+    (sym own)) s.belong
 
 pub invariant_of-self-clause-hashed : goal.invariant_of-self-clause-hashed
 invariant_of-self-clause-hashed g c =
@@ -50,21 +69,31 @@ invariant_of-self-clause-hashed g c =
     let x = c.index_mut.result.now in
     let y = c.complete_back-ended.new.self in
     let k : ℕ × g.row.K.Denot = (c.args.hash, c.args.key.now) in
-    let equal : (a b : g.row.K.Denot) → g.K.PartialEq.eq a b ≡ true → hashes_of s a ≡ hashes_of s b = λ a b same. ap (g.S.HashBuilder.hash_of s.hash_builder) (g.met.K.Hash.respects_eq a b same) in
-    let own = held_over g.K.PartialEq.eq (hashes_of s) equal state_of s.capacity s.hash_builder s.weighter s.filter s.shards.items (vec_len s.shards) c.place-place.result x s.shards.ok.0 c.place-place.ensures.within c.index_mut.ensures.value s.belong s.hashed
-    c.args.key.now c.args.hash c.requires.hashed c.place-place.ensures.place c.args.piece c.requires.known c.requires.same in
-    hashed_over (hashes_of s) state_of s.shards.items (vec_len s.shards) c.place-place.result x s.shards.ok.0 c.place-place.ensures.within c.index_mut.ensures.value
-    y (completes_back_from (IsHashed (hashes_of s)) (meaning_of x) (state_of x) (opens_of x) k (ending_of c.complete_back-ended.result) (state_of y) (opens_of y) (asked (Some c.args.fetch) ((opens_of x).places k)) c.args.piece c.complete_back-ended.ensures.completed own) s.hashed
+    let equal : (a b : g.row.K.Denot) → g.K.PartialEq.eq a b ≡ true → hashes_of s a ≡ hashes_of s b =
+    λ a b same. ap (g.S.HashBuilder.hash_of s.hash_builder) (g.met.K.Hash.respects_eq a b same) in
+    let own = held_over g.K.PartialEq.eq (hashes_of s) equal state_of s.capacity s.hash_builder s.weighter s.filter
+    s.shards.items (vec_len s.shards) c.place-place.result x s.shards.ok.0 c.place-place.ensures.within
+    c.index_mut.ensures.value s.belong s.hashed
+    c.args.key.now c.args.hash c.requires.hashed c.place-place.ensures.place c.args.piece c.requires.known
+    c.requires.same in
+    hashed_over (hashes_of s) state_of s.shards.items (vec_len s.shards) c.place-place.result x s.shards.ok.0
+    c.place-place.ensures.within c.index_mut.ensures.value
+    y (completes_back_from (IsHashed (hashes_of s)) (meaning_of x) (state_of x) (opens_of x) k
+    (ending_of c.complete_back-ended.result) (state_of y) (opens_of y)
+    (asked (Some c.args.fetch) ((opens_of x).places k)) c.args.piece c.complete_back-ended.ensures.completed
+    own) s.hashed
 
 pub invariant_of-self-clause-summed : goal.invariant_of-self-clause-summed
 invariant_of-self-clause-summed g c =
     let s = c.args.self.now in
     let before = c.of-before in
     let after = c.of-after in
-    sums_set (meaning_of_core s) state_of s.shards.items (vec_len s.shards) c.place-place.result c.index.result.now s.load.usage s.load.entries
+    sums_set (meaning_of_core s) state_of s.shards.items (vec_len s.shards) c.place-place.result c.index.result.now
+    s.load.usage s.load.entries
     s.shards.ok.0 (omega (arith, s.shards.ok.1, s.shards.small)) c.place-place.ensures.within c.index.ensures s.summed
     before.result.usage before.result.entries before.ensures.usage before.ensures.entries
-    c.complete_back-ended.new.self c.index-2.result.now c.index-2.ensures after.result.usage after.result.entries after.ensures.usage after.ensures.entries after.ensures.small
+    c.complete_back-ended.new.self c.index-2.result.now c.index-2.ensures after.result.usage after.result.entries
+    after.ensures.usage after.ensures.entries after.ensures.small
     c.replace.new.self.usage c.replace.new.self.entries c.replace.ensures.usage c.replace.ensures.entries
 
 pub replace-requires-clause-usage : goal.replace-requires-clause-usage
@@ -72,20 +101,24 @@ replace-requires-clause-usage g c =
     let s = c.args.self.now in
     let before = c.of-before in
     let after = c.of-after in
-    usage_fits (meaning_of_core s) state_of s.shards.items (vec_len s.shards) c.place-place.result c.index.result.now s.load.usage s.load.entries
+    usage_fits (meaning_of_core s) state_of s.shards.items (vec_len s.shards) c.place-place.result c.index.result.now
+    s.load.usage s.load.entries
     s.shards.ok.0 (omega (arith, s.shards.ok.1, s.shards.small)) c.place-place.ensures.within c.index.ensures s.summed
     before.result.usage before.result.entries before.ensures.usage before.ensures.entries
-    c.complete_back-ended.new.self c.index-2.result.now c.index-2.ensures after.result.usage after.result.entries after.ensures.usage after.ensures.entries after.ensures.small
+    c.complete_back-ended.new.self c.index-2.result.now c.index-2.ensures after.result.usage after.result.entries
+    after.ensures.usage after.ensures.entries after.ensures.small
 
 pub replace-requires-clause-entries : goal.replace-requires-clause-entries
 replace-requires-clause-entries g c =
     let s = c.args.self.now in
     let before = c.of-before in
     let after = c.of-after in
-    entries_fit (meaning_of_core s) state_of s.shards.items (vec_len s.shards) c.place-place.result c.index.result.now s.load.usage s.load.entries
+    entries_fit (meaning_of_core s) state_of s.shards.items (vec_len s.shards) c.place-place.result c.index.result.now
+    s.load.usage s.load.entries
     s.shards.ok.0 (omega (arith, s.shards.ok.1, s.shards.small)) c.place-place.ensures.within c.index.ensures s.summed
     before.result.usage before.result.entries before.ensures.usage before.ensures.entries
-    c.complete_back-ended.new.self c.index-2.result.now c.index-2.ensures after.result.usage after.result.entries after.ensures.usage after.ensures.entries after.ensures.small
+    c.complete_back-ended.new.self c.index-2.result.now c.index-2.ensures after.result.usage after.result.entries
+    after.ensures.usage after.ensures.entries after.ensures.small
 
 pub returns : goal.returns
 returns g c =
@@ -94,6 +127,9 @@ returns g c =
     let y = c.complete_back-ended.new.self in
     let k : ℕ × g.row.K.Denot = (c.args.hash, c.args.key.now) in
     record {
-      completed = open_over state_of opens_of s.capacity s.hash_builder s.weighter s.filter s.shards.items c.args.hash (vec_len s.shards) c.place-place.result x s.shards.ok.0 c.place-place.ensures.within c.place-place.ensures.place c.index_mut.ensures.value y
-          (λ a f b h. CompletesBackBy (meaning_of_core s) (asked (Some c.args.fetch) (f.places k)) a f k c.args.piece (ending_of c.complete_back-ended.result) b h) c.complete_back-ended.ensures.completed;
+      completed = open_over state_of opens_of s.capacity s.hash_builder s.weighter s.filter s.shards.items c.args.hash
+          (vec_len s.shards) c.place-place.result x s.shards.ok.0 c.place-place.ensures.within
+          c.place-place.ensures.place c.index_mut.ensures.value y
+          (λ a f b h. CompletesBackBy (meaning_of_core s) (asked (Some c.args.fetch) (f.places k)) a f k c.args.piece
+          (ending_of c.complete_back-ended.result) b h) c.complete_back-ended.ensures.completed;
     }

@@ -12,7 +12,8 @@ invariant_of-self-clause-belong g c =
     let s = c.args.self.now in
     let x = c.index_mut.result.now in
     let y = c.fetch_or_take.new.self in
-    let same = map-write state_of s.shards.items (vec_len s.shards) c.place-place.result x y s.shards.ok.0 c.place-place.ensures.within c.index_mut.ensures.value c.fetch_or_take.ensures.state in
+    let same = map-write state_of s.shards.items (vec_len s.shards) c.place-place.result x y s.shards.ok.0
+    c.place-place.ensures.within c.index_mut.ensures.value c.fetch_or_take.ensures.state in
     rw same s.belong
 
 pub invariant_of-self-clause-hashed : goal.invariant_of-self-clause-hashed
@@ -20,7 +21,8 @@ invariant_of-self-clause-hashed g c =
     let s = c.args.self.now in
     let x = c.index_mut.result.now in
     let y = c.fetch_or_take.new.self in
-    let same = map-write state_of s.shards.items (vec_len s.shards) c.place-place.result x y s.shards.ok.0 c.place-place.ensures.within c.index_mut.ensures.value c.fetch_or_take.ensures.state in
+    let same = map-write state_of s.shards.items (vec_len s.shards) c.place-place.result x y s.shards.ok.0
+    c.place-place.ensures.within c.index_mut.ensures.value c.fetch_or_take.ensures.state in
     rw same s.hashed
 
 pub invariant_of-self-clause-summed : goal.invariant_of-self-clause-summed
@@ -28,7 +30,8 @@ invariant_of-self-clause-summed g c =
     let s = c.args.self.now in
     let x = c.index_mut.result.now in
     let y = c.fetch_or_take.new.self in
-    let same = map-write state_of s.shards.items (vec_len s.shards) c.place-place.result x y s.shards.ok.0 c.place-place.ensures.within c.index_mut.ensures.value c.fetch_or_take.ensures.state in
+    let same = map-write state_of s.shards.items (vec_len s.shards) c.place-place.result x y s.shards.ok.0
+    c.place-place.ensures.within c.index_mut.ensures.value c.fetch_or_take.ensures.state in
     rw same s.summed
 
 pub returns-clause-core : goal.returns-clause-core
@@ -36,8 +39,10 @@ returns-clause-core g c =
     let s = c.args.self.now in
     let x = c.index_mut.result.now in
     let y = c.fetch_or_take.new.self in
-    same_over state_of s.capacity s.hash_builder s.weighter s.filter s.shards.items c.hash-hash.result (vec_len s.shards) c.place-place.result x
-    s.shards.ok.0 c.place-place.ensures.within c.place-place.ensures.place c.index_mut.ensures.value y c.fetch_or_take.ensures.state
+    same_over state_of s.capacity s.hash_builder s.weighter s.filter s.shards.items c.hash-hash.result
+    (vec_len s.shards) c.place-place.result x
+    s.shards.ok.0 c.place-place.ensures.within c.place-place.ensures.place c.index_mut.ensures.value y
+    c.fetch_or_take.ensures.state
 
 pub returns-clause-answer : goal.returns-clause-answer
 returns-clause-answer g c =
@@ -46,7 +51,8 @@ returns-clause-answer g c =
     let y = c.fetch_or_take.new.self in
     let hash = hashes_of s c.args.key.now in
     let at = c.place-place.ensures.place ∙ ap (λ (n : ℕ). n % vec_len s.shards) c.hash-hash.ensures.hash in
-    let placed = place_over opens_of s.shards.items hash (vec_len s.shards) c.place-place.result x s.shards.ok.0 c.place-place.ensures.within at c.index_mut.ensures.value c.args.key.now in
+    let placed = place_over opens_of s.shards.items hash (vec_len s.shards) c.place-place.result x s.shards.ok.0
+    c.place-place.ensures.within at c.index_mut.ensures.value c.args.key.now in
     rw placed (rw c.hash-hash.ensures.hash at c.fetch_or_take.ensures.answer)
 
 pub returns-clause-none : goal.returns-clause-none
@@ -56,7 +62,8 @@ returns-clause-none g c =
     let y = c.fetch_or_take.new.self in
     let hash = hashes_of s c.args.key.now in
     let at = c.place-place.ensures.place ∙ ap (λ (n : ℕ). n % vec_len s.shards) c.hash-hash.ensures.hash in
-    let placed = place_over opens_of s.shards.items hash (vec_len s.shards) c.place-place.result x s.shards.ok.0 c.place-place.ensures.within at c.index_mut.ensures.value c.args.key.now in
+    let placed = place_over opens_of s.shards.items hash (vec_len s.shards) c.place-place.result x s.shards.ok.0
+    c.place-place.ensures.within at c.index_mut.ensures.value c.args.key.now in
     rw placed (rw c.hash-hash.ensures.hash at c.fetch_or_take.ensures.none)
 
 pub returns-clause-opens : goal.returns-clause-opens
@@ -66,7 +73,11 @@ returns-clause-opens g c =
     let y = c.fetch_or_take.new.self in
     let hash = hashes_of s c.args.key.now in
     let at = c.place-place.ensures.place ∙ ap (λ (n : ℕ). n % vec_len s.shards) c.hash-hash.ensures.hash in
-    on_some_weaker c.fetch_or_take.result (fetches_become opens_of s.shards.items hash (vec_len s.shards) c.place-place.result x s.shards.ok.0 c.place-place.ensures.within at c.index_mut.ensures.value (λ f. after_nothing g.K.PartialEq.eq f (hash, c.args.key.now)) y) (rw c.hash-hash.ensures.hash at c.fetch_or_take.ensures.opens)
+    on_some_weaker c.fetch_or_take.result
+    (fetches_become opens_of s.shards.items hash (vec_len s.shards) c.place-place.result x s.shards.ok.0
+    c.place-place.ensures.within at c.index_mut.ensures.value
+    (λ f. after_nothing g.K.PartialEq.eq f (hash, c.args.key.now)) y)
+    (rw c.hash-hash.ensures.hash at c.fetch_or_take.ensures.opens)
 
 pub returns-clause-same : goal.returns-clause-same
 returns-clause-same g c =
@@ -75,4 +86,6 @@ returns-clause-same g c =
     let y = c.fetch_or_take.new.self in
     let hash = hashes_of s c.args.key.now in
     let at = c.place-place.ensures.place ∙ ap (λ (n : ℕ). n % vec_len s.shards) c.hash-hash.ensures.hash in
-    if_none_weaker c.fetch_or_take.result (fetches_stay opens_of s.shards.items hash (vec_len s.shards) c.place-place.result x s.shards.ok.0 c.place-place.ensures.within at c.index_mut.ensures.value y) c.fetch_or_take.ensures.same
+    if_none_weaker c.fetch_or_take.result
+    (fetches_stay opens_of s.shards.items hash (vec_len s.shards) c.place-place.result x s.shards.ok.0
+    c.place-place.ensures.within at c.index_mut.ensures.value y) c.fetch_or_take.ensures.same

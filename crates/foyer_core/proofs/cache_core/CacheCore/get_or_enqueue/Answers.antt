@@ -21,24 +21,33 @@ invariant_of-self-clause-belong g c =
     let s = c.args.self.now in
     let x = c.index_mut.result.now in
     let y = c.get_or_enqueue.new.self in
-    belongs_over state_of s.shards.items c.hash-hash.result (vec_len s.shards) c.place-place.result x s.shards.ok.0 c.place-place.ensures.within c.place-place.ensures.place c.index_mut.ensures.value
-    y (looks_from (meaning_of x) (state_of x) (opens_of x) (c.hash-hash.result, c.args.key.now) c.args.waiter c.args.required (state_of y) (opens_of y) c.get_or_enqueue.result c.get_or_enqueue.ensures.looked_up (λ d. d.hash ≡ c.hash-hash.result)) s.belong
+    belongs_over state_of s.shards.items c.hash-hash.result (vec_len s.shards) c.place-place.result x s.shards.ok.0
+    c.place-place.ensures.within c.place-place.ensures.place c.index_mut.ensures.value
+    y (looks_from (meaning_of x) (state_of x) (opens_of x) (c.hash-hash.result, c.args.key.now) c.args.waiter
+    c.args.required (state_of y) (opens_of y) c.get_or_enqueue.result c.get_or_enqueue.ensures.looked_up
+    (λ d. d.hash ≡ c.hash-hash.result)) s.belong
 
 pub invariant_of-self-clause-hashed : goal.invariant_of-self-clause-hashed
 invariant_of-self-clause-hashed g c =
     let s = c.args.self.now in
     let x = c.index_mut.result.now in
     let y = c.get_or_enqueue.new.self in
-    hashed_over (hashes_of s) state_of s.shards.items (vec_len s.shards) c.place-place.result x s.shards.ok.0 c.place-place.ensures.within c.index_mut.ensures.value
-    y (looks_from (meaning_of x) (state_of x) (opens_of x) (c.hash-hash.result, c.args.key.now) c.args.waiter c.args.required (state_of y) (opens_of y) c.get_or_enqueue.result c.get_or_enqueue.ensures.looked_up (IsHashed (hashes_of s))) s.hashed
+    hashed_over (hashes_of s) state_of s.shards.items (vec_len s.shards) c.place-place.result x s.shards.ok.0
+    c.place-place.ensures.within c.index_mut.ensures.value
+    y (looks_from (meaning_of x) (state_of x) (opens_of x) (c.hash-hash.result, c.args.key.now) c.args.waiter
+    c.args.required (state_of y) (opens_of y) c.get_or_enqueue.result c.get_or_enqueue.ensures.looked_up
+    (IsHashed (hashes_of s))) s.hashed
 
 pub invariant_of-self-clause-summed : goal.invariant_of-self-clause-summed
 invariant_of-self-clause-summed g c =
     let s = c.args.self.now in
     let x = c.index_mut.result.now in
     let y = c.get_or_enqueue.new.self in
-    sums_same (meaning_of_core s) state_of s.shards.items (vec_len s.shards) c.place-place.result x s.load.usage s.load.entries s.shards.ok.0 c.place-place.ensures.within c.index_mut.ensures.value s.summed
-    y (looks_load (meaning_of x) (state_of x) (opens_of x) (c.hash-hash.result, c.args.key.now) c.args.waiter c.args.required (state_of y) (opens_of y) c.get_or_enqueue.result c.get_or_enqueue.ensures.looked_up g.met.E.Eviction.lawful x.store.kept)
+    sums_same (meaning_of_core s) state_of s.shards.items (vec_len s.shards) c.place-place.result x s.load.usage
+    s.load.entries s.shards.ok.0 c.place-place.ensures.within c.index_mut.ensures.value s.summed
+    y (looks_load (meaning_of x) (state_of x) (opens_of x) (c.hash-hash.result, c.args.key.now) c.args.waiter
+    c.args.required (state_of y) (opens_of y) c.get_or_enqueue.result c.get_or_enqueue.ensures.looked_up
+    g.met.E.Eviction.lawful x.store.kept)
 
 pub returns : goal.returns
 returns g c =
@@ -49,14 +58,27 @@ returns g c =
     let hash = hashes_of s c.args.key.now in
     let did = rw c.hash-hash.ensures.hash at c.get_or_enqueue.ensures.looked_up in
     let at = c.place-place.ensures.place ∙ ap (λ (n : ℕ). n % vec_len s.shards) c.hash-hash.ensures.hash in
-    let over = at_over state_of s.capacity s.hash_builder s.weighter s.filter s.shards.items hash (vec_len s.shards) c.place-place.result x s.shards.ok.0 c.place-place.ensures.within at c.index_mut.ensures.value in
-    let equal : (a b : g.row.K.Denot) → g.K.PartialEq.eq a b ≡ true → hashes_of s a ≡ hashes_of s b = λ a b same. ap (g.S.HashBuilder.hash_of s.hash_builder) (g.met.K.Hash.respects_eq a b same) in
+    let over = at_over state_of s.capacity s.hash_builder s.weighter s.filter s.shards.items hash (vec_len s.shards)
+    c.place-place.result x s.shards.ok.0 c.place-place.ensures.within at c.index_mut.ensures.value in
+    let equal : (a b : g.row.K.Denot) → g.K.PartialEq.eq a b ≡ true → hashes_of s a ≡ hashes_of s b =
+    λ a b same. ap (g.S.HashBuilder.hash_of s.hash_builder) (g.met.K.Hash.respects_eq a b same) in
     let sound = core_sound s g.met.K.Eq.laws g.met.E.Eviction.lawful equal in
-    let new = core_over state_of s.capacity s.hash_builder s.weighter s.filter (slice_set s.shards.items c.place-place.result y) in
-    let index = over (λ s t. SameIndex s t) y (looks_index (meaning_of x) (state_of x) (opens_of x) (c.hash-hash.result, c.args.key.now) c.args.waiter c.args.required (state_of y) (opens_of y) c.get_or_enqueue.result c.get_or_enqueue.ensures.looked_up) in
+    let new = core_over state_of s.capacity s.hash_builder s.weighter s.filter
+    (slice_set s.shards.items c.place-place.result y) in
+    let index = over (λ s t. SameIndex s t) y
+    (looks_index (meaning_of x) (state_of x) (opens_of x) (c.hash-hash.result, c.args.key.now) c.args.waiter
+    c.args.required (state_of y) (opens_of y) c.get_or_enqueue.result c.get_or_enqueue.ensures.looked_up) in
     record {
-      looked_up = open_over state_of opens_of s.capacity s.hash_builder s.weighter s.filter s.shards.items hash (vec_len s.shards) c.place-place.result x s.shards.ok.0 c.place-place.ensures.within at c.index_mut.ensures.value y
-          (λ s f t g. LooksUp m s f (hash, c.args.key.now) c.args.waiter c.args.required c.get_or_enqueue.result t g) did;
-      stay = stays_at (core_of s) _ hash (over (RecordsStay nothing) y (looks_stay (meaning_of x) (state_of x) (opens_of x) (c.hash-hash.result, c.args.key.now) c.args.waiter c.args.required (state_of y) (opens_of y) c.get_or_enqueue.result c.get_or_enqueue.ensures.looked_up));
-      told = stays_so m g.met.K.Eq.laws g.met.E.Eviction.lawful (hashes_of s) equal (core_of s) new sound (λ s t. SameIndex s t) hash index index.stepped;
+      looked_up = open_over state_of opens_of s.capacity s.hash_builder s.weighter s.filter s.shards.items hash
+          (vec_len s.shards) c.place-place.result x s.shards.ok.0 c.place-place.ensures.within at
+          c.index_mut.ensures.value y
+          (λ s f t g. LooksUp m s f (hash, c.args.key.now) c.args.waiter c.args.required c.get_or_enqueue.result t g)
+          did;
+      stay = stays_at (core_of s) _ hash
+          (over (RecordsStay nothing) y
+          (looks_stay (meaning_of x) (state_of x) (opens_of x) (c.hash-hash.result, c.args.key.now) c.args.waiter
+          c.args.required (state_of y) (opens_of y) c.get_or_enqueue.result
+          c.get_or_enqueue.ensures.looked_up));
+      told = stays_so m g.met.K.Eq.laws g.met.E.Eviction.lawful (hashes_of s) equal (core_of s) new sound
+          (λ s t. SameIndex s t) hash index index.stepped;
     }

@@ -11,7 +11,8 @@ returns-clause-is_open g c =
     let x = c.index.result.now in
     let hash = hashes_of s c.args.key.now in
     let at = c.place.ensures.place ∙ ap (λ (n : ℕ). n % vec_len s.shards) c.hash-hash.ensures.hash in
-    let placed = λ (key : g.row.K.Denot). place_over opens_of s.shards.items hash (vec_len s.shards) c.place.result x s.shards.ok.0 c.place.ensures.within at c.index.ensures key in
+    let placed = λ (key : g.row.K.Denot). place_over opens_of s.shards.items hash (vec_len s.shards) c.place.result x
+    s.shards.ok.0 c.place.ensures.within at c.index.ensures key in
     rw (placed c.args.key.now) (rw c.hash-hash.ensures.hash at c.is_open.ensures.is_open)
 
 pub returns-clause-equal_keys : goal.returns-clause-equal_keys
@@ -20,8 +21,10 @@ returns-clause-equal_keys g c other same =
     let x = c.index.result.now in
     let hash = hashes_of s c.args.key.now in
     let at = c.place.ensures.place ∙ ap (λ (n : ℕ). n % vec_len s.shards) c.hash-hash.ensures.hash in
-    let placed = λ (key : g.row.K.Denot). place_over opens_of s.shards.items hash (vec_len s.shards) c.place.result x s.shards.ok.0 c.place.ensures.within at c.index.ensures key in
-    placed other ∙ (rw c.hash-hash.ensures.hash at c.is_open.ensures.equal_keys) other same ∙ sym (placed c.args.key.now)
+    let placed = λ (key : g.row.K.Denot). place_over opens_of s.shards.items hash (vec_len s.shards) c.place.result x
+    s.shards.ok.0 c.place.ensures.within at c.index.ensures key in
+    placed other ∙ (rw c.hash-hash.ensures.hash at c.is_open.ensures.equal_keys) other same
+    ∙ sym (placed c.args.key.now)
 
 pub returns-clause-apart : goal.returns-clause-apart
 returns-clause-apart g c id known =
@@ -29,6 +32,8 @@ returns-clause-apart g c id known =
     let x = c.index.result.now in
     let hash = hashes_of s c.args.key.now in
     let at = c.place.ensures.place ∙ ap (λ (n : ℕ). n % vec_len s.shards) c.hash-hash.ensures.hash in
-    let placed = λ (key : g.row.K.Denot). place_over opens_of s.shards.items hash (vec_len s.shards) c.place.result x s.shards.ok.0 c.place.ensures.within at c.index.ensures key in
-    let there = shard_over state_of s.capacity s.hash_builder s.weighter s.filter s.shards.items hash (vec_len s.shards) c.place.result x s.shards.ok.0 c.place.ensures.within at c.index.ensures in
+    let placed = λ (key : g.row.K.Denot). place_over opens_of s.shards.items hash (vec_len s.shards) c.place.result x
+    s.shards.ok.0 c.place.ensures.within at c.index.ensures key in
+    let there = shard_over state_of s.capacity s.hash_builder s.weighter s.filter s.shards.items hash
+    (vec_len s.shards) c.place.result x s.shards.ok.0 c.place.ensures.within at c.index.ensures in
     placed c.args.key.now ∙ (rw c.hash-hash.ensures.hash at c.is_open.ensures.apart) id (rw there at known)

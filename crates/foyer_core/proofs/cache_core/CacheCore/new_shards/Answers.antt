@@ -12,7 +12,9 @@ pub returns-in_err-shard-clause-refused : goal.returns-in_err-shard-clause-refus
 returns-in_err-shard-clause-refused g c =
     err_is c.from_residual.result c.in_err-shard.field-0.0
     (λ r. IfSome (g.E.Eviction.model.fault c.args.config.now.eviction_config) (λ reason. r ≡ Err reason))
-    c.from_residual.ensures.1 (refused_by _ _ (g.E.Eviction.model.fault c.args.config.now.eviction_config) c.in_err-shard.field-0.0 c.in_err-shard.ensures.refused)
+    c.from_residual.ensures.1
+    (refused_by _ _ (g.E.Eviction.model.fault c.args.config.now.eviction_config) c.in_err-shard.field-0.0
+    c.in_err-shard.ensures.refused)
 
 pub loop-number-preserved : goal.loop-number-preserved
 loop-number-preserved g c =
@@ -21,7 +23,8 @@ loop-number-preserved g c =
     let made = c.in_ok-shard.ensures in
     record {
       made = rw (c.push_reserved.ensures.items, c.reserve.ensures.items, map-append)
-          (new_pushed m config c.loop-number.number _ (state_of c.in_ok-shard.shard) c.loop-number.invariant.made record {
+          (new_pushed m config c.loop-number.number _ (state_of c.in_ok-shard.shard) c.loop-number.invariant.made
+          record {
             numbered = made.number;
             capacity_is = made.capacity ∙ c.shard_capacity.ensures;
             limits_are = made.limits;
@@ -30,6 +33,8 @@ loop-number-preserved g c =
             no_records = made.records;
             starts = made.next;
           });
-      opens = opens_pushed opens_of c.loop-number.shards.items c.reserve.new.self.items c.push_reserved.new.self.items c.in_ok-shard.shard c.reserve.ensures.items c.push_reserved.ensures.items c.loop-number.invariant.opens made.opens;
+      opens = opens_pushed opens_of c.loop-number.shards.items c.reserve.new.self.items c.push_reserved.new.self.items
+          c.in_ok-shard.shard c.reserve.ensures.items c.push_reserved.ensures.items c.loop-number.invariant.opens
+          made.opens;
       accepted = λ some. made.accepted;
     }

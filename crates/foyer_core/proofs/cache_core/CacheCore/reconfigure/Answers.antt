@@ -12,17 +12,21 @@ use Rattle.foyer_core.proofs.cache_core.CacheCore.reconfigure.Goals as goal
 pub invariant_of-self-clause-belong : goal.invariant_of-self-clause-belong
 invariant_of-self-clause-belong g c =
     let s = c.args.self.now in
-    configured_belong (meaning_of_core s) c.args.config.now (map state_of s.shards.items) (map state_of c.configure_each.new.shards.items) c.configure_each.ensures.configured s.belong
+    configured_belong (meaning_of_core s) c.args.config.now (map state_of s.shards.items)
+    (map state_of c.configure_each.new.shards.items) c.configure_each.ensures.configured s.belong
 
 pub invariant_of-self-clause-hashed : goal.invariant_of-self-clause-hashed
 invariant_of-self-clause-hashed g c =
     let s = c.args.self.now in
-    configured_hashed (hashes_of s) (meaning_of_core s) c.args.config.now (map state_of s.shards.items) (map state_of c.configure_each.new.shards.items) c.configure_each.ensures.configured s.hashed
+    configured_hashed (hashes_of s) (meaning_of_core s) c.args.config.now (map state_of s.shards.items)
+    (map state_of c.configure_each.new.shards.items) c.configure_each.ensures.configured s.hashed
 
 pub invariant_of-self-clause-summed : goal.invariant_of-self-clause-summed
 invariant_of-self-clause-summed g c =
     let s = c.args.self.now in
-    configured_sums (meaning_of_core s) g.met.E.Eviction.lawful state_of s.shards.items (map state_of c.configure_each.new.shards.items) (λ x. x.store.kept) c.args.config.now c.configure_each.ensures.configured
+    configured_sums (meaning_of_core s) g.met.E.Eviction.lawful state_of s.shards.items
+    (map state_of c.configure_each.new.shards.items) (λ x. x.store.kept) c.args.config.now
+    c.configure_each.ensures.configured
     s.load.usage s.load.entries s.summed
 
 pub returns-in_err-check-clause-stay : goal.returns-in_err-check-clause-stay
@@ -31,12 +35,16 @@ returns-in_err-check-clause-stay g c = (let core = core_of c.args.self.now in st
 pub returns-clause-stay : goal.returns-clause-stay
 returns-clause-stay g c =
     let s = c.args.self.now in
-    configured_stay (meaning_of_core s) c.args.config.now (core_of s) (core_over state_of s.capacity s.hash_builder s.weighter s.filter c.configure_each.new.shards.items)
+    configured_stay (meaning_of_core s) c.args.config.now (core_of s)
+    (core_over state_of s.capacity s.hash_builder s.weighter s.filter c.configure_each.new.shards.items)
     record { shards = c.configure_each.ensures.configured; rest = refl }
 
 pub returns-clause-told : goal.returns-clause-told
 returns-clause-told g c =
     let s = c.args.self.now in
-    let equal : (a b : g.row.K.Denot) → g.K.PartialEq.eq a b ≡ true → hashes_of s a ≡ hashes_of s b = λ a b same. ap (g.S.HashBuilder.hash_of s.hash_builder) (g.met.K.Hash.respects_eq a b same) in
-    configured_told (meaning_of_core s) g.met.K.Eq.laws g.met.E.Eviction.lawful (hashes_of s) equal c.args.config.now (core_of s)
-    (core_over state_of s.capacity s.hash_builder s.weighter s.filter c.configure_each.new.shards.items) record { shards = c.configure_each.ensures.configured; rest = refl }
+    let equal : (a b : g.row.K.Denot) → g.K.PartialEq.eq a b ≡ true → hashes_of s a ≡ hashes_of s b =
+    λ a b same. ap (g.S.HashBuilder.hash_of s.hash_builder) (g.met.K.Hash.respects_eq a b same) in
+    configured_told (meaning_of_core s) g.met.K.Eq.laws g.met.E.Eviction.lawful (hashes_of s) equal c.args.config.now
+    (core_of s)
+    (core_over state_of s.capacity s.hash_builder s.weighter s.filter c.configure_each.new.shards.items)
+    record { shards = c.configure_each.ensures.configured; rest = refl }

@@ -19,8 +19,10 @@ invariant_of-self-clause-belong g c =
     let ss = map state_of c.share_out.new.shards.items in
     let done = c.evict_each_to_capacity-done in
     let ts = map state_of done.new.shards.items in
-    told_belong done.result ss ts c.new-evicted.result.items done.new.leaves.items (InTurn (EvictsToCapacity m)) (InTurnUntil (EvictsToCapacity m) (EvictingToCapacity m))
-    done.ensures.done done.ensures.refused (λ ls. all_evicted_belong m ss ls ts) (λ ls. all_evicted_until_belong m ss ls ts)
+    told_belong done.result ss ts c.new-evicted.result.items done.new.leaves.items (InTurn (EvictsToCapacity m))
+    (InTurnUntil (EvictsToCapacity m) (EvictingToCapacity m))
+    done.ensures.done done.ensures.refused (λ ls. all_evicted_belong m ss ls ts)
+    (λ ls. all_evicted_until_belong m ss ls ts)
     (shared_belong m c.args.capacity (map state_of s.shards.items) ss c.share_out.ensures.shares s.belong)
 
 pub invariant_of-self-clause-hashed : goal.invariant_of-self-clause-hashed
@@ -31,8 +33,10 @@ invariant_of-self-clause-hashed g c =
     let ss = map state_of c.share_out.new.shards.items in
     let done = c.evict_each_to_capacity-done in
     let ts = map state_of done.new.shards.items in
-    told_hashed hash done.result ss ts c.new-evicted.result.items done.new.leaves.items (InTurn (EvictsToCapacity m)) (InTurnUntil (EvictsToCapacity m) (EvictingToCapacity m))
-    done.ensures.done done.ensures.refused (λ ls. all_evicted_hashed hash m ss ls ts) (λ ls. all_evicted_until_hashed hash m ss ls ts)
+    told_hashed hash done.result ss ts c.new-evicted.result.items done.new.leaves.items (InTurn (EvictsToCapacity m))
+    (InTurnUntil (EvictsToCapacity m) (EvictingToCapacity m))
+    done.ensures.done done.ensures.refused (λ ls. all_evicted_hashed hash m ss ls ts)
+    (λ ls. all_evicted_until_hashed hash m ss ls ts)
     (shared_hashed hash m c.args.capacity (map state_of s.shards.items) ss c.share_out.ensures.shares s.hashed)
 
 pub invariant_of-self-clause-summed : goal.invariant_of-self-clause-summed
@@ -44,7 +48,8 @@ returns-in-Ok-clause-done g c =
     let shared = map state_of c.share_out.new.shards.items in
     let new = c.evict_each_to_capacity-done.new.shards in
     let ls = c.evict_each_to_capacity-done.new.leaves.items in
-    let done = goes_all ls (λ l. InTurn (EvictsToCapacity m) shared l (map state_of new.items)) (rw (c.new-evicted.ensures.items, c.in-Ok.is) at c.evict_each_to_capacity-done.ensures.done) in
+    let done = goes_all ls (λ l. InTurn (EvictsToCapacity m) shared l (map state_of new.items))
+    (rw (c.new-evicted.ensures.items, c.in-Ok.is) at c.evict_each_to_capacity-done.ensures.done) in
     record { shared = shared; shares = c.share_out.ensures.shares; evicted = record { stepped = done; rest = refl } }
 
 pub returns-in-Ok-clause-fits : goal.returns-in-Ok-clause-fits
@@ -54,8 +59,10 @@ returns-in-Ok-clause-fits g c =
     let shared = map state_of c.share_out.new.shards.items in
     let new = c.evict_each_to_capacity-done.new.shards in
     let ls = c.evict_each_to_capacity-done.new.leaves.items in
-    let done = goes_all ls (λ l. InTurn (EvictsToCapacity m) shared l (map state_of new.items)) (rw (c.new-evicted.ensures.items, c.in-Ok.is) at c.evict_each_to_capacity-done.ensures.done) in
-    all_fit m g.met.E.Eviction.lawful (core_of s) ls (core_over state_of c.args.capacity s.hash_builder s.weighter s.filter new.items) c.args.capacity
+    let done = goes_all ls (λ l. InTurn (EvictsToCapacity m) shared l (map state_of new.items))
+    (rw (c.new-evicted.ensures.items, c.in-Ok.is) at c.evict_each_to_capacity-done.ensures.done) in
+    all_fit m g.met.E.Eviction.lawful (core_of s) ls
+    (core_over state_of c.args.capacity s.hash_builder s.weighter s.filter new.items) c.args.capacity
     record { shared = shared; shares = c.share_out.ensures.shares; evicted = record { stepped = done; rest = refl } }
 
 pub returns-in-Ok-clause-stay : goal.returns-in-Ok-clause-stay
@@ -65,8 +72,10 @@ returns-in-Ok-clause-stay g c =
     let shared = map state_of c.share_out.new.shards.items in
     let new = c.evict_each_to_capacity-done.new.shards in
     let ls = c.evict_each_to_capacity-done.new.leaves.items in
-    let done = goes_all ls (λ l. InTurn (EvictsToCapacity m) shared l (map state_of new.items)) (rw (c.new-evicted.ensures.items, c.in-Ok.is) at c.evict_each_to_capacity-done.ensures.done) in
-    resized_stay m c.args.capacity (core_of s) ls (core_over state_of c.args.capacity s.hash_builder s.weighter s.filter new.items)
+    let done = goes_all ls (λ l. InTurn (EvictsToCapacity m) shared l (map state_of new.items))
+    (rw (c.new-evicted.ensures.items, c.in-Ok.is) at c.evict_each_to_capacity-done.ensures.done) in
+    resized_stay m c.args.capacity (core_of s) ls
+    (core_over state_of c.args.capacity s.hash_builder s.weighter s.filter new.items)
     record { shared = shared; shares = c.share_out.ensures.shares; evicted = record { stepped = done; rest = refl } }
 
 pub returns-in-Err-clause-refused : goal.returns-in-Err-clause-refused
@@ -75,7 +84,9 @@ returns-in-Err-clause-refused g c =
     let shared = map state_of c.share_out.new.shards.items in
     let new = c.evict_each_to_capacity-done.new.shards in
     let ls = c.evict_each_to_capacity-done.new.leaves.items in
-    let part = goes_all ls (λ l. InTurnUntil (EvictsToCapacity m) (EvictingToCapacity m) shared l (map state_of new.items)) (rw (c.new-evicted.ensures.items, c.in-Err.is) at c.evict_each_to_capacity-done.ensures.refused) in
+    let part = goes_all ls
+    (λ l. InTurnUntil (EvictsToCapacity m) (EvictingToCapacity m) shared l (map state_of new.items))
+    (rw (c.new-evicted.ensures.items, c.in-Err.is) at c.evict_each_to_capacity-done.ensures.refused) in
     record { shared = shared; shares = c.share_out.ensures.shares; evicted = record { stepped = part; rest = refl } }
 
 pub returns-in-Err-clause-stay : goal.returns-in-Err-clause-stay
@@ -85,32 +96,42 @@ returns-in-Err-clause-stay g c =
     let shared = map state_of c.share_out.new.shards.items in
     let new = c.evict_each_to_capacity-done.new.shards in
     let ls = c.evict_each_to_capacity-done.new.leaves.items in
-    let part = goes_all ls (λ l. InTurnUntil (EvictsToCapacity m) (EvictingToCapacity m) shared l (map state_of new.items)) (rw (c.new-evicted.ensures.items, c.in-Err.is) at c.evict_each_to_capacity-done.ensures.refused) in
-    resized_until_stay m c.args.capacity (core_of s) ls (core_over state_of c.args.capacity s.hash_builder s.weighter s.filter new.items)
+    let part = goes_all ls
+    (λ l. InTurnUntil (EvictsToCapacity m) (EvictingToCapacity m) shared l (map state_of new.items))
+    (rw (c.new-evicted.ensures.items, c.in-Err.is) at c.evict_each_to_capacity-done.ensures.refused) in
+    resized_until_stay m c.args.capacity (core_of s) ls
+    (core_over state_of c.args.capacity s.hash_builder s.weighter s.filter new.items)
     record { shared = shared; shares = c.share_out.ensures.shares; evicted = record { stepped = part; rest = refl } }
 
 pub returns-in-Ok-clause-told : goal.returns-in-Ok-clause-told
 returns-in-Ok-clause-told g c =
     let s = c.args.self.now in
     let m = meaning_of_core s in
-    let equal : (a b : g.row.K.Denot) → g.K.PartialEq.eq a b ≡ true → hashes_of s a ≡ hashes_of s b = λ a b same. ap (g.S.HashBuilder.hash_of s.hash_builder) (g.met.K.Hash.respects_eq a b same) in
+    let equal : (a b : g.row.K.Denot) → g.K.PartialEq.eq a b ≡ true → hashes_of s a ≡ hashes_of s b =
+    λ a b same. ap (g.S.HashBuilder.hash_of s.hash_builder) (g.met.K.Hash.respects_eq a b same) in
     let sound = core_sound s g.met.K.Eq.laws g.met.E.Eviction.lawful equal in
     let shared = map state_of c.share_out.new.shards.items in
     let new = c.evict_each_to_capacity-done.new.shards in
     let ls = c.evict_each_to_capacity-done.new.leaves.items in
-    let done = goes_all ls (λ l. InTurn (EvictsToCapacity m) shared l (map state_of new.items)) (rw (c.new-evicted.ensures.items, c.in-Ok.is) at c.evict_each_to_capacity-done.ensures.done) in
-    resized_core m g.met.K.Eq.laws g.met.E.Eviction.lawful (hashes_of s) equal (core_of s) (core_over state_of c.args.capacity s.hash_builder s.weighter s.filter new.items) sound c.args.capacity ls
+    let done = goes_all ls (λ l. InTurn (EvictsToCapacity m) shared l (map state_of new.items))
+    (rw (c.new-evicted.ensures.items, c.in-Ok.is) at c.evict_each_to_capacity-done.ensures.done) in
+    resized_core m g.met.K.Eq.laws g.met.E.Eviction.lawful (hashes_of s) equal (core_of s)
+    (core_over state_of c.args.capacity s.hash_builder s.weighter s.filter new.items) sound c.args.capacity ls
     record { shared = shared; shares = c.share_out.ensures.shares; evicted = record { stepped = done; rest = refl } }
 
 pub returns-in-Err-clause-told : goal.returns-in-Err-clause-told
 returns-in-Err-clause-told g c =
     let s = c.args.self.now in
     let m = meaning_of_core s in
-    let equal : (a b : g.row.K.Denot) → g.K.PartialEq.eq a b ≡ true → hashes_of s a ≡ hashes_of s b = λ a b same. ap (g.S.HashBuilder.hash_of s.hash_builder) (g.met.K.Hash.respects_eq a b same) in
+    let equal : (a b : g.row.K.Denot) → g.K.PartialEq.eq a b ≡ true → hashes_of s a ≡ hashes_of s b =
+    λ a b same. ap (g.S.HashBuilder.hash_of s.hash_builder) (g.met.K.Hash.respects_eq a b same) in
     let sound = core_sound s g.met.K.Eq.laws g.met.E.Eviction.lawful equal in
     let shared = map state_of c.share_out.new.shards.items in
     let new = c.evict_each_to_capacity-done.new.shards in
     let ls = c.evict_each_to_capacity-done.new.leaves.items in
-    let part = goes_all ls (λ l. InTurnUntil (EvictsToCapacity m) (EvictingToCapacity m) shared l (map state_of new.items)) (rw (c.new-evicted.ensures.items, c.in-Err.is) at c.evict_each_to_capacity-done.ensures.refused) in
-    resized_until_core m g.met.K.Eq.laws g.met.E.Eviction.lawful (hashes_of s) equal (core_of s) (core_over state_of c.args.capacity s.hash_builder s.weighter s.filter new.items) sound c.args.capacity ls
+    let part = goes_all ls
+    (λ l. InTurnUntil (EvictsToCapacity m) (EvictingToCapacity m) shared l (map state_of new.items))
+    (rw (c.new-evicted.ensures.items, c.in-Err.is) at c.evict_each_to_capacity-done.ensures.refused) in
+    resized_until_core m g.met.K.Eq.laws g.met.E.Eviction.lawful (hashes_of s) equal (core_of s)
+    (core_over state_of c.args.capacity s.hash_builder s.weighter s.filter new.items) sound c.args.capacity ls
     record { shared = shared; shares = c.share_out.ensures.shares; evicted = record { stepped = part; rest = refl } }

@@ -12,7 +12,10 @@ pub loop-place-init : goal.loop-place-init
 loop-place-init g c =
     let shards = c.reserve_each.new.shards in
     let lists = c.in_ok-held.held in
-    let long = AllZip-long (λ s list. g.E.Eviction.can_clear s.store.eviction × (list.items ≡ g.E.Eviction.model.order (g.E.Eviction.view s.store.eviction))) shards.items lists.items c.in_ok-held.ensures.ready in
+    let long = AllZip-long
+    (λ s list. g.E.Eviction.can_clear s.store.eviction
+    × (list.items ≡ g.E.Eviction.model.order (g.E.Eviction.view s.store.eviction))) shards.items lists.items
+    c.in_ok-held.ensures.ready in
     record {
       begun = (c.in_ok-leaves.ensures.empty, c.in_ok-held.ensures.same);
       opens = c.in_ok-held.ensures.opens;
@@ -35,19 +38,32 @@ loop-place-preserved g c =
     let told = c.clear.ensures.told in
     let less : n < length now.items = omega (arith, now.ok.0) in
     let less' : n < length lists.items = omega (arith, lists.ok.0, c.loop-place.invariant.long) in
-    let next = zip-next (λ s l. g.E.Eviction.can_clear s.store.eviction × (l.items ≡ g.E.Eviction.model.order (g.E.Eviction.view s.store.eviction))) now.items lists.items n x list less less'
+    let next = zip-next
+    (λ s l. g.E.Eviction.can_clear s.store.eviction
+    × (l.items ≡ g.E.Eviction.model.order (g.E.Eviction.view s.store.eviction))) now.items lists.items n x
+    list less less'
     c.index_mut.ensures.value c.index.ensures c.loop-place.invariant.ready in
     record {
       begun = rw told.told
-          (over-more state_of (Clears m) ss c.loop-place.leaves.items now.items (vec_len now) n x y told.more now.ok.0 (omega arith) c.index_mut.ensures.value c.loop-place.invariant.begun told.so);
-      opens = map-write opens_of c.loop-place.shards.items (vec_len c.loop-place.shards) c.loop-place.place c.index_mut.result.now c.clear.new.self c.loop-place.shards.ok.0 (omega arith) c.index_mut.ensures.value c.clear.ensures.opens ∙ c.loop-place.invariant.opens;
+          (over-more state_of (Clears m) ss c.loop-place.leaves.items now.items (vec_len now) n x y told.more now.ok.0
+          (omega arith) c.index_mut.ensures.value c.loop-place.invariant.begun told.so);
+      opens = map-write opens_of c.loop-place.shards.items (vec_len c.loop-place.shards) c.loop-place.place
+          c.index_mut.result.now c.clear.new.self c.loop-place.shards.ok.0 (omega arith) c.index_mut.ensures.value
+          c.clear.ensures.opens ∙ c.loop-place.invariant.opens;
       len = c.loop-place.invariant.len;
       ready = rw (drop-set-lt (n + 1) now.items n y (omega arith)) next.1;
       long = c.loop-place.invariant.long;
-      room = omega (arith, sum-next (λ l. vec_len l) lists.items n list less' c.index.ensures, c.clear.ensures.len, c.clear.ensures.capacity, c.loop-place.invariant.room);
+      room = omega (
+        arith,
+        sum-next (λ l. vec_len l) lists.items n list less' c.index.ensures,
+        c.clear.ensures.len,
+        c.clear.ensures.capacity,
+        c.loop-place.invariant.room,
+      );
     }
 
 pub returns-clause-done : goal.returns-clause-done
 returns-clause-done g c =
     let m = meaning g.K.PartialEq.eq g.E.Eviction.model g.P.Properties.hint_of g.P.Properties.phantom_of in
-    over-all state_of (Clears m) c.args.shards.now.items c.loop-place.leaves.items (map state_of c.loop-place.shards.items) c.loop-place.place (omega arith) c.loop-place.invariant.begun
+    over-all state_of (Clears m) c.args.shards.now.items c.loop-place.leaves.items
+    (map state_of c.loop-place.shards.items) c.loop-place.place (omega arith) c.loop-place.invariant.begun

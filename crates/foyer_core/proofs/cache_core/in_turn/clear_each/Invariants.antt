@@ -9,10 +9,15 @@ use Rattle.foyer_core.proofs.cache_core.in_turn.clear_each.Given as goal
 -- the shards so far are clear, and the others are ready
 abbrev pub invariant-loop-place : goal.invariant-loop-place
 invariant-loop-place g l = record {
-  begun : InFirst (Clears (meaning g.K.PartialEq.eq g.E.Eviction.model g.P.Properties.hint_of g.P.Properties.phantom_of)) l.place (map state_of l.fn.shards.items) l.leaves.items (map state_of l.shards.items);
+  begun : InFirst
+      (Clears (meaning g.K.PartialEq.eq g.E.Eviction.model g.P.Properties.hint_of g.P.Properties.phantom_of)) l.place
+      (map state_of l.fn.shards.items) l.leaves.items (map state_of l.shards.items);
   opens : map opens_of l.shards.items ≡ map opens_of l.fn.shards.items;
   len : vec_len l.shards ≡ vec_len l.fn.shards;
-  ready : AllZip (λ s list. g.E.Eviction.can_clear s.store.eviction × (list.items ≡ g.E.Eviction.model.order (g.E.Eviction.view s.store.eviction))) (drop l.place l.shards.items) (drop l.place l.held.items);
+  ready : AllZip
+      (λ s list. g.E.Eviction.can_clear s.store.eviction
+      × (list.items ≡ g.E.Eviction.model.order (g.E.Eviction.view s.store.eviction)))
+      (drop l.place l.shards.items) (drop l.place l.held.items);
   long : vec_len l.held ≡ vec_len l.fn.shards;
   room : vec_len l.leaves + sum_by (λ list. vec_len list) (drop l.place l.held.items) ≤ vec_capacity l.leaves;
 }

@@ -11,13 +11,18 @@ loop-place-preserved g c =
     let now = c.loop-place.shards in
     let x = c.index_mut.result.now in
     record {
-      begun = updated-over m (λ i s. s.capacity) (Some c.args.config.now) state_of (map state_of c.args.shards.now.items) now.items c.loop-place.place x c.configure.new.self (vec_len now) (state_of x).capacity
-          now.ok.0 (omega arith) c.index_mut.ensures.value c.loop-place.invariant.begun c.configure.ensures.configured refl;
-      opens = map-write opens_of now.items (vec_len now) c.loop-place.place x c.configure.new.self now.ok.0 (omega arith) c.index_mut.ensures.value c.configure.ensures.opens ∙ c.loop-place.invariant.opens;
+      begun = updated-over m (λ i s. s.capacity) (Some c.args.config.now) state_of
+          (map state_of c.args.shards.now.items) now.items c.loop-place.place x c.configure.new.self (vec_len now)
+          (state_of x).capacity
+          now.ok.0 (omega arith) c.index_mut.ensures.value c.loop-place.invariant.begun c.configure.ensures.configured
+          refl;
+      opens = map-write opens_of now.items (vec_len now) c.loop-place.place x c.configure.new.self now.ok.0
+          (omega arith) c.index_mut.ensures.value c.configure.ensures.opens ∙ c.loop-place.invariant.opens;
       len = c.loop-place.invariant.len;
     }
 
 pub returns-clause-configured : goal.returns-clause-configured
 returns-clause-configured g c =
     let m = meaning g.K.PartialEq.eq g.E.Eviction.model g.P.Properties.hint_of g.P.Properties.phantom_of in
-    over-configured m state_of c.args.shards.now.items (map state_of c.loop-place.shards.items) c.loop-place.place (omega arith) c.args.config.now c.loop-place.invariant.begun
+    over-configured m state_of c.args.shards.now.items (map state_of c.loop-place.shards.items) c.loop-place.place
+    (omega arith) c.args.config.now c.loop-place.invariant.begun

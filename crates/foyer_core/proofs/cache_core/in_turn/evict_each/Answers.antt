@@ -19,17 +19,23 @@ returns-in_err-evict_unpinned-clause-refused g c =
     let x = c.index_mut.result.now in
     let y = c.evict_unpinned.new.self in
     err_is c.from_residual.result c.in_err-evict_unpinned.field-0.0
-    (λ r. OnErr r (GoesOn c.args.leaves.now.items c.evict_unpinned.new.leaves.items (λ ls. InTurnUntil (EvictsUnpinned m) (EvictingUnpinned m) ss ls (map state_of (slice_set now.items n y)))))
+    (λ r. OnErr r
+    (GoesOn c.args.leaves.now.items c.evict_unpinned.new.leaves.items
+    (λ ls. InTurnUntil (EvictsUnpinned m) (EvictingUnpinned m) ss ls (map state_of (slice_set now.items n y)))))
     c.from_residual.ensures.1
-    (goes_on c.args.leaves.now.items c.loop-place.leaves.items c.evict_unpinned.new.leaves.items (λ ls. InFirst (EvictsUnpinned m) n ss ls (map state_of now.items)) (λ ls. EvictingUnpinned m (state_of x) ls (state_of y))
+    (goes_on c.args.leaves.now.items c.loop-place.leaves.items c.evict_unpinned.new.leaves.items
+    (λ ls. InFirst (EvictsUnpinned m) n ss ls (map state_of now.items))
+    (λ ls. EvictingUnpinned m (state_of x) ls (state_of y))
     (λ ls. InTurnUntil (EvictsUnpinned m) (EvictingUnpinned m) ss ls (map state_of (slice_set now.items n y)))
-    (λ ls more h did. over-until state_of (EvictsUnpinned m) ss ls now.items (vec_len now) n x y more now.ok.0 (omega arith) c.index_mut.ensures.value (EvictingUnpinned m) h did)
+    (λ ls more h did. over-until state_of (EvictsUnpinned m) ss ls now.items (vec_len now) n x y more now.ok.0
+    (omega arith) c.index_mut.ensures.value (EvictingUnpinned m) h did)
     c.loop-place.invariant.begun c.in_err-evict_unpinned.ensures.refused)
 
 pub returns-in_err-evict_unpinned-clause-opens : goal.returns-in_err-evict_unpinned-clause-opens
 returns-in_err-evict_unpinned-clause-opens g c =
     let now = c.loop-place.shards in
-    map-write opens_of now.items (vec_len now) c.loop-place.place c.index_mut.result.now c.evict_unpinned.new.self now.ok.0 (omega arith) c.index_mut.ensures.value c.evict_unpinned.ensures.opens ∙ c.loop-place.invariant.opens
+    map-write opens_of now.items (vec_len now) c.loop-place.place c.index_mut.result.now c.evict_unpinned.new.self
+    now.ok.0 (omega arith) c.index_mut.ensures.value c.evict_unpinned.ensures.opens ∙ c.loop-place.invariant.opens
 
 pub loop-place-preserved : goal.loop-place-preserved
 loop-place-preserved g c =
@@ -40,11 +46,16 @@ loop-place-preserved g c =
     let x = c.index_mut.result.now in
     let y = c.evict_unpinned.new.self in
     record {
-      begun = goes_on c.args.leaves.now.items c.loop-place.leaves.items c.evict_unpinned.new.leaves.items (λ ls. InFirst (EvictsUnpinned m) n ss ls (map state_of now.items)) (λ ls. EvictsUnpinned m (state_of x) ls (state_of y))
+      begun = goes_on c.args.leaves.now.items c.loop-place.leaves.items c.evict_unpinned.new.leaves.items
+          (λ ls. InFirst (EvictsUnpinned m) n ss ls (map state_of now.items))
+          (λ ls. EvictsUnpinned m (state_of x) ls (state_of y))
           (λ ls. InFirst (EvictsUnpinned m) (n + 1) ss ls (map state_of (slice_set now.items n y)))
-          (λ ls more h did. over-more state_of (EvictsUnpinned m) ss ls now.items (vec_len now) n x y more now.ok.0 (omega arith) c.index_mut.ensures.value h did)
+          (λ ls more h did. over-more state_of (EvictsUnpinned m) ss ls now.items (vec_len now) n x y more now.ok.0
+          (omega arith) c.index_mut.ensures.value h did)
           c.loop-place.invariant.begun c.in_ok-evict_unpinned.ensures.done;
-      opens = map-write opens_of c.loop-place.shards.items (vec_len c.loop-place.shards) c.loop-place.place c.index_mut.result.now c.evict_unpinned.new.self c.loop-place.shards.ok.0 (omega arith) c.index_mut.ensures.value c.evict_unpinned.ensures.opens ∙ c.loop-place.invariant.opens;
+      opens = map-write opens_of c.loop-place.shards.items (vec_len c.loop-place.shards) c.loop-place.place
+          c.index_mut.result.now c.evict_unpinned.new.self c.loop-place.shards.ok.0 (omega arith)
+          c.index_mut.ensures.value c.evict_unpinned.ensures.opens ∙ c.loop-place.invariant.opens;
       len = c.loop-place.invariant.len;
     }
 
@@ -53,5 +64,8 @@ returns-clause-done g c =
     let m = meaning g.K.PartialEq.eq g.E.Eviction.model g.P.Properties.hint_of g.P.Properties.phantom_of in
     let old = c.args.shards.now in
     let ss = map state_of c.loop-place.shards.items in
-    goes_so c.args.leaves.now.items c.loop-place.leaves.items (λ ls. InFirst (EvictsUnpinned m) c.loop-place.place (map state_of old.items) ls ss) (λ ls. InTurn (EvictsUnpinned m) (map state_of old.items) ls ss)
-    (λ ls h. over-all state_of (EvictsUnpinned m) old.items ls ss c.loop-place.place (omega arith) h) c.loop-place.invariant.begun
+    goes_so c.args.leaves.now.items c.loop-place.leaves.items
+    (λ ls. InFirst (EvictsUnpinned m) c.loop-place.place (map state_of old.items) ls ss)
+    (λ ls. InTurn (EvictsUnpinned m) (map state_of old.items) ls ss)
+    (λ ls h. over-all state_of (EvictsUnpinned m) old.items ls ss c.loop-place.place (omega arith) h)
+    c.loop-place.invariant.begun

@@ -9,7 +9,10 @@ use Rattle.foyer_core.proofs.cache_core.in_turn.evict_each_to_capacity.Given as 
 -- the shards so far made their steps
 abbrev pub invariant-loop-place : goal.invariant-loop-place
 invariant-loop-place g l = record {
-  begun : GoesOn l.fn.leaves.items l.leaves.items (λ ls. InFirst (EvictsToCapacity (meaning g.K.PartialEq.eq g.E.Eviction.model g.P.Properties.hint_of g.P.Properties.phantom_of)) l.place
+  begun : GoesOn l.fn.leaves.items l.leaves.items
+      (λ ls. InFirst
+      (EvictsToCapacity
+      (meaning g.K.PartialEq.eq g.E.Eviction.model g.P.Properties.hint_of g.P.Properties.phantom_of)) l.place
       (map state_of l.fn.shards.items) ls (map state_of l.shards.items));
   opens : map opens_of l.shards.items ≡ map opens_of l.fn.shards.items;
   len : vec_len l.shards ≡ vec_len l.fn.shards;

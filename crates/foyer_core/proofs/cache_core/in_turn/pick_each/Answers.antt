@@ -11,8 +11,11 @@ loop-shard-preserved g c =
     let m = meaning g.K.PartialEq.eq g.E.Eviction.model g.P.Properties.hint_of g.P.Properties.phantom_of in
     record {
       picked = rw c.push_reserved.ensures.items
-          (zip-read (λ s list. Picks m (Says g.F.Fn c.args.predicate.now) (state_of s) list.items × IsWithin list.items (g.E.Eviction.model.order (g.E.Eviction.view s.store.eviction)))
-          c.args.shards.now c.loop-shard.lists.items c.loop-shard.shard-index c.shard-item.result c.in_ok-pick.field-0 c.loop-shard-test.true c.shard-item.is
+          (zip-read
+          (λ s list. Picks m (Says g.F.Fn c.args.predicate.now) (state_of s) list.items
+          × IsWithin list.items (g.E.Eviction.model.order (g.E.Eviction.view s.store.eviction)))
+          c.args.shards.now c.loop-shard.lists.items c.loop-shard.shard-index c.shard-item.result c.in_ok-pick.field-0
+          c.loop-shard-test.true c.shard-item.is
           c.loop-shard.invariant.picked (c.in_ok-pick.ensures.picks, c.in_ok-pick.ensures.within));
       many = omega (arith, c.push_reserved.ensures.len, c.loop-shard.invariant.many);
       room = c.push_reserved.ensures.capacity ∙ c.loop-shard.invariant.room;

@@ -11,9 +11,14 @@ loop-place-preserved g c =
     let m = meaning g.K.PartialEq.eq g.E.Eviction.model g.P.Properties.hint_of g.P.Properties.phantom_of in
     let now = c.loop-place.shards in
     record {
-      begun = updated-over m (λ i s. share_of c.args.capacity c.len-count.result i) None state_of (map state_of c.args.shards.now.items) now.items c.loop-place.place c.index_mut.result.now c.set_capacity.new.self (vec_len now) c.shard_capacity.result
-          now.ok.0 (omega arith) c.index_mut.ensures.value c.loop-place.invariant.begun c.set_capacity.ensures.set c.shard_capacity.ensures;
-      opens = map-write opens_of c.loop-place.shards.items (vec_len c.loop-place.shards) c.loop-place.place c.index_mut.result.now c.set_capacity.new.self c.loop-place.shards.ok.0 (omega arith) c.index_mut.ensures.value c.set_capacity.ensures.opens ∙ c.loop-place.invariant.opens;
+      begun = updated-over m (λ i s. share_of c.args.capacity c.len-count.result i) None state_of
+          (map state_of c.args.shards.now.items) now.items c.loop-place.place c.index_mut.result.now
+          c.set_capacity.new.self (vec_len now) c.shard_capacity.result
+          now.ok.0 (omega arith) c.index_mut.ensures.value c.loop-place.invariant.begun c.set_capacity.ensures.set
+          c.shard_capacity.ensures;
+      opens = map-write opens_of c.loop-place.shards.items (vec_len c.loop-place.shards) c.loop-place.place
+          c.index_mut.result.now c.set_capacity.new.self c.loop-place.shards.ok.0 (omega arith)
+          c.index_mut.ensures.value c.set_capacity.ensures.opens ∙ c.loop-place.invariant.opens;
       len = c.loop-place.invariant.len;
     }
 
@@ -21,4 +26,5 @@ pub returns-clause-shares : goal.returns-clause-shares
 returns-clause-shares g c =
     let m = meaning g.K.PartialEq.eq g.E.Eviction.model g.P.Properties.hint_of g.P.Properties.phantom_of in
     let old = c.args.shards.now in
-    over-shared m state_of old.items (map state_of c.loop-place.shards.items) c.loop-place.place (omega arith) c.args.capacity c.len-count.result (omega arith) c.loop-place.invariant.begun
+    over-shared m state_of old.items (map state_of c.loop-place.shards.items) c.loop-place.place (omega arith)
+    c.args.capacity c.len-count.result (omega arith) c.loop-place.invariant.begun

@@ -5,4 +5,5 @@ use Rattle.foyer_core.proofs.Masks.{masked}
 use Rattle.foyer_core.proofs.cache_core.shards.part_of.Goals as goal
 
 pub returns-then-is_power_of_two : goal.returns-then-is_power_of_two
-returns-then-is_power_of_two c = masked c.args.hash c.args.shards (eqb-true (count_ones c.args.shards) 1 (sym c.is_power_of_two.ensures ∙ c.if-is_power_of_two.true))
+returns-then-is_power_of_two c = masked c.args.hash c.args.shards
+    (eqb-true (count_ones c.args.shards) 1 (sym c.is_power_of_two.ensures ∙ c.if-is_power_of_two.true))

@@ -9,7 +9,8 @@ invariant-loop-place g l =
     let rest = walk nexts (length nexts) l.link in
     record {
       path : IsPath nexts l.link rest;
-      passed : IsPassed g.K.PartialEq.eq (l.hash, l.key) (entries_of l.pairs) (chain_of l.heads nexts (home l.shift l.hash)) rest;
+      passed : IsPassed g.K.PartialEq.eq (l.hash, l.key) (entries_of l.pairs)
+          (chain_of l.heads nexts (home l.shift l.hash)) rest;
     }
 
 abbrev pub decreases-loop-place : goal.decreases-loop-place

@@ -11,7 +11,8 @@ invariant-loop-at g l =
     record {
       path : IsPath nexts l.link rest;
       within : IfSome l.before (λ b. b < length l.pairs);
-      same : before_in l.before l.place rest ≡ before_in None l.place (chain_of l.heads nexts (home l.shift (slice_index_or (hashes_of l.pairs) l.place 0)));
+      same : before_in l.before l.place rest ≡ before_in None l.place
+          (chain_of l.heads nexts (home l.shift (slice_index_or (hashes_of l.pairs) l.place 0)));
     }
 
 abbrev pub decreases-loop-at : goal.decreases-loop-at

@@ -8,13 +8,15 @@ pub returns-in-None-clause-closed : goal.returns-in-None-clause-closed
 returns-in-None-clause-closed g c =
     let s = c.args.self.now in
     let k : ℕ × g.row.K.Denot = (c.args.hash, c.args.key.now) in
-    c.in-None.ensures.same ∙ closed_already g.K.PartialEq.eq (opens_of s) k (λ q h. places_alike g.met.K.Eq.laws s k q h) (none_asked ((opens_of s).places k) c.in-None.ensures.none)
+    c.in-None.ensures.same ∙ closed_already g.K.PartialEq.eq (opens_of s) k
+    (λ q h. places_alike g.met.K.Eq.laws s k q h) (none_asked ((opens_of s).places k) c.in-None.ensures.none)
 
 pub returns-then-is_empty-clause-closed : goal.returns-then-is_empty-clause-closed
 returns-then-is_empty-clause-closed g c =
     let s = c.args.self.now in
     let k : ℕ × g.row.K.Denot = (c.args.hash, c.args.key.now) in
-    closed_already g.K.PartialEq.eq (opens_of s) k (λ q h. places_alike g.met.K.Eq.laws s k q h) (c.is_empty.ensures.0 c.if-is_empty.true k)
+    closed_already g.K.PartialEq.eq (opens_of s) k (λ q h. places_alike g.met.K.Eq.laws s k q h)
+    (c.is_empty.ensures.0 c.if-is_empty.true k)
 
 pub returns-then-is_empty-clause-waiters : goal.returns-then-is_empty-clause-waiters
 returns-then-is_empty-clause-waiters g c =

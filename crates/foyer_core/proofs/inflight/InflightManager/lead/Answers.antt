@@ -15,7 +15,8 @@ invariant_of-self g c =
     let slots : (n : ℕ) → get c.reserve.new.self n ≡ get s.inflights n = λ n. ap
     (λ (x : Slots (Place g.row.N.Denot g.row.R.Denot)). get x n) c.reserve.ensures.rest_kept in
     record {
-      linked = linked_same (numbers_in s.index) (numbers_in s.index) (get s.inflights) (get c.reserve.new.self) (λ q. refl) slots s.linked;
+      linked = linked_same (numbers_in s.index) (numbers_in s.index) (get s.inflights) (get c.reserve.new.self)
+          (λ q. refl) slots s.linked;
       sound = open_same (opens_of s) (opens_by (numbers_in s.index) (get c.reserve.new.self) s.next_fetch
           s.next_token) (places_same (numbers_in s.index) (numbers_in s.index) (get s.inflights)
           (get c.reserve.new.self) (λ q. refl) slots) refl refl s.sound;
@@ -27,7 +28,8 @@ invariant_of-self-in-Err-insert g c =
     let slots : (n : ℕ) → get c.reserve.new.self n ≡ get s.inflights n = λ n. ap
     (λ (x : Slots (Place g.row.N.Denot g.row.R.Denot)). get x n) c.reserve.ensures.rest_kept in
     record {
-      linked = linked_same (numbers_in s.index) (numbers_in c.insert.new.self) (get s.inflights) (get c.reserve.new.self) c.in-Err.ensures.err slots s.linked;
+      linked = linked_same (numbers_in s.index) (numbers_in c.insert.new.self) (get s.inflights)
+          (get c.reserve.new.self) c.in-Err.ensures.err slots s.linked;
       sound = open_same (opens_of s) (opens_by (numbers_in c.insert.new.self) (get c.reserve.new.self) s.next_fetch
           s.next_token) (places_same (numbers_in s.index) (numbers_in c.insert.new.self) (get s.inflights)
           (get c.reserve.new.self) c.in-Err.ensures.err slots) refl refl s.sound;
@@ -39,7 +41,8 @@ returns-in-Err-clause-err g c =
     let slots : (n : ℕ) → get c.reserve.new.self n ≡ get s.inflights n = λ n. ap
     (λ (x : Slots (Place g.row.N.Denot g.row.R.Denot)). get x n) c.reserve.ensures.rest_kept in
     same_opens (opens_by (numbers_in c.insert.new.self) (get c.reserve.new.self) s.next_fetch s.next_token) (opens_of s)
-    (places_same (numbers_in s.index) (numbers_in c.insert.new.self) (get s.inflights) (get c.reserve.new.self) c.in-Err.ensures.err slots) refl refl
+    (places_same (numbers_in s.index) (numbers_in c.insert.new.self) (get s.inflights) (get c.reserve.new.self)
+    c.in-Err.ensures.err slots) refl refl
 
 pub invariant_of-self-2 : goal.invariant_of-self-2
 invariant_of-self-2 g c =
@@ -83,4 +86,5 @@ returns-clause-opens g c =
     c.in_default-insert.ensures.view write q
     ∙ ap (λ (o : Option (Place g.row.N.Denot g.row.R.Denot)). update (same_key g.K.PartialEq.eq) (opens_of s).places k
     (Some (joined o s.next_fetch w c.args.required_fetch_builder)) q) (sym absent))
-    (ap (λ (o : Option (Place g.row.N.Denot g.row.R.Denot)). if is_some o then s.next_fetch else s.next_fetch + 1) (sym absent)) refl
+    (ap (λ (o : Option (Place g.row.N.Denot g.row.R.Denot)). if is_some o then s.next_fetch else s.next_fetch + 1)
+    (sym absent)) refl

@@ -20,10 +20,15 @@ invariant_of-self g c =
     let there = sym c.in_ok-number.ensures in
     let here = sym c.in-Some.ensures.value in
     let write = write_at s.inflights n old c.take_later.new.self here in
-    let respects : (p q : ℕ × g.row.K.Denot) → same_key g.K.PartialEq.eq p q ≡ true → numbers_in s.index p ≡ numbers_in s.index q = λ p q same. lookup_same g.met.K.Eq.laws p q same (entries_of s.index.pairs.items) in
+    let respects : (p q : ℕ × g.row.K.Denot) → same_key g.K.PartialEq.eq p q ≡ true → numbers_in s.index p
+    ≡ numbers_in s.index q = λ p q same. lookup_same g.met.K.Eq.laws p q same (entries_of s.index.pairs.items) in
     record {
-      linked = write_linked g.met.K.Eq.laws (numbers_in s.index) (numbers_in s.index) (get s.inflights) (get (with_value s.inflights n c.take_later.new.self)) k n s.linked there respects c.take_later.new.self write;
-      sound = later_open g.met.K.Eq.laws (numbers_in s.index) (numbers_in s.index) (get s.inflights) (get (with_value s.inflights n c.take_later.new.self)) k n s.linked there respects c.take_later.new.self write s.next_fetch s.next_token old None here c.take_later.ensures.taken s.sound;
+      linked = write_linked g.met.K.Eq.laws (numbers_in s.index) (numbers_in s.index) (get s.inflights)
+          (get (with_value s.inflights n c.take_later.new.self)) k n s.linked there respects c.take_later.new.self
+          write;
+      sound = later_open g.met.K.Eq.laws (numbers_in s.index) (numbers_in s.index) (get s.inflights)
+          (get (with_value s.inflights n c.take_later.new.self)) k n s.linked there respects c.take_later.new.self
+          write s.next_fetch s.next_token old None here c.take_later.ensures.taken s.sound;
     }
 
 pub returns-clause-opens : goal.returns-clause-opens
@@ -35,10 +40,15 @@ returns-clause-opens g c o was =
     let there = sym c.in_ok-number.ensures in
     let here = sym c.in-Some.ensures.value in
     let write = write_at s.inflights n old c.take_later.new.self here in
-    let respects : (p q : ℕ × g.row.K.Denot) → same_key g.K.PartialEq.eq p q ≡ true → numbers_in s.index p ≡ numbers_in s.index q = λ p q same. lookup_same g.met.K.Eq.laws p q same (entries_of s.index.pairs.items) in
+    let respects : (p q : ℕ × g.row.K.Denot) → same_key g.K.PartialEq.eq p q ≡ true → numbers_in s.index p
+    ≡ numbers_in s.index q = λ p q same. lookup_same g.met.K.Eq.laws p q same (entries_of s.index.pairs.items) in
     let same : old ≡ o = one old o (sym (ap (option_and_then (get s.inflights)) there ∙ here) ∙ was) in
-    same_opens (opens_by (numbers_in s.index) (get (with_value s.inflights n c.take_later.new.self)) s.next_fetch s.next_token)
+    same_opens
+    (opens_by (numbers_in s.index) (get (with_value s.inflights n c.take_later.new.self)) s.next_fetch s.next_token)
     (with_place g.K.PartialEq.eq (opens_of s) k (Some (record { fetch = o.fetch; tokens = o.tokens; later = None })))
-    (λ q. write_places g.met.K.Eq.laws (numbers_in s.index) (numbers_in s.index) (get s.inflights) (get (with_value s.inflights n c.take_later.new.self)) k n s.linked there respects c.take_later.new.self write q
-    ∙ ap (λ (x : Place g.row.N.Denot g.row.R.Denot). update (same_key g.K.PartialEq.eq) (opens_of s).places k (Some x) q) c.take_later.ensures.taken
-    ∙ ap (λ (x : Place g.row.N.Denot g.row.R.Denot). update (same_key g.K.PartialEq.eq) (opens_of s).places k (Some (record { fetch = x.fetch; tokens = x.tokens; later = None })) q) same) refl refl
+    (λ q. write_places g.met.K.Eq.laws (numbers_in s.index) (numbers_in s.index) (get s.inflights)
+    (get (with_value s.inflights n c.take_later.new.self)) k n s.linked there respects c.take_later.new.self write q
+    ∙ ap (λ (x : Place g.row.N.Denot g.row.R.Denot). update (same_key g.K.PartialEq.eq) (opens_of s).places k (Some x)
+    q) c.take_later.ensures.taken
+    ∙ ap (λ (x : Place g.row.N.Denot g.row.R.Denot). update (same_key g.K.PartialEq.eq) (opens_of s).places k
+    (Some (record { fetch = x.fetch; tokens = x.tokens; later = None })) q) same) refl refl

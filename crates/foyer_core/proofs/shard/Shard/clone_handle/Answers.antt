@@ -11,9 +11,14 @@ invariant_of-self g c =
     let f = opens_of s.inflights in
     let old = state_of s.store in
     let new = state_of c.clone_handle.new.self in
-    record { apart = within_apart f old new (within_same old new (clones_index old c.args.entry.now c.clone_handle.result new c.clone_handle.ensures.clones)) s.apart }
+    record {
+      apart = within_apart f old new
+          (within_same old new
+          (clones_index old c.args.entry.now c.clone_handle.result new c.clone_handle.ensures.clones)) s.apart;
+    }
 
 pub returns-clause-kept : goal.returns-clause-kept
 returns-clause-kept g c =
     let s = c.args.self.now in
-    cloned_data (state_of s.store) c.args.entry.now c.clone_handle.result (state_of c.clone_handle.new.self) c.clone_handle.ensures.clones
+    cloned_data (state_of s.store) c.args.entry.now c.clone_handle.result (state_of c.clone_handle.new.self)
+    c.clone_handle.ensures.clones

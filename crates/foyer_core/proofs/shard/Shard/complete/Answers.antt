@@ -16,7 +16,10 @@ invariant_of-self g c =
     let index = (state_of s.store).index in
     let k : ℕ × g.row.K.Denot = (c.args.kept.hash, c.args.kept.key) in
     let shut = closed g.K.PartialEq.eq f k in
-    record { apart = step_apart index f (opens_of c.take.new.self) shut c.take.result c.take.ensures.opens c.take.ensures.same s.apart (closed_apart g.K.PartialEq.eq index f k s.apart) }
+    record {
+      apart = step_apart index f (opens_of c.take.new.self) shut c.take.result c.take.ensures.opens
+          c.take.ensures.same s.apart (closed_apart g.K.PartialEq.eq index f k s.apart);
+    }
 
 pub invariant_of-self-2 : goal.invariant_of-self-2
 invariant_of-self-2 g c =
@@ -28,9 +31,12 @@ invariant_of-self-2 g c =
     let k : ℕ × g.row.K.Denot = (c.args.kept.hash, c.args.kept.key) in
     let i = newcomer old c.args.kept (1 + (c.len.result - 1)) in
     record {
-      apart = subst (λ (x : Opens g.row.K.Denot g.row.N.Denot g.row.R.Denot). Apart new.index x) (sym c.in-Some.ensures.opens)
-          (either_way c.emplace.result c.emplace.ensures.inserted (λ made h. inserts_apart m f c.args.source old i made.leaves.items made.entry new h s.apart)
-          (λ refused h. closed_apart g.K.PartialEq.eq new.index f k (refuses_apart m f old i refused.error refused.leaves.items new h s.apart)));
+      apart = subst (λ (x : Opens g.row.K.Denot g.row.N.Denot g.row.R.Denot). Apart new.index x)
+          (sym c.in-Some.ensures.opens)
+          (either_way c.emplace.result c.emplace.ensures.inserted
+          (λ made h. inserts_apart m f c.args.source old i made.leaves.items made.entry new h s.apart)
+          (λ refused h. closed_apart g.K.PartialEq.eq new.index f k
+          (refuses_apart m f old i refused.error refused.leaves.items new h s.apart)));
     }
 
 pub returns-in-Ok : goal.returns-in-Ok
@@ -39,9 +45,12 @@ returns-in-Ok g c =
     let f = opens_of s.inflights in
     let k : ℕ × g.row.K.Denot = (c.args.kept.hash, c.args.kept.key) in
     let made = c.in-Ok.made in
-    let len : length c.in-Some.waiters.items ≡ 1 + (c.len.result - 1) = omega (arith, c.len.ensures, c.in-Some.ensures.waited, c.in-Some.waiters.ok.0) in
+    let len : length c.in-Some.waiters.items ≡ 1 + (c.len.result - 1) =
+    omega (arith, c.len.ensures, c.in-Some.ensures.waited, c.in-Some.waiters.ok.0) in
     record {
-      completed = completed (meaning_of s.store) c.args.source (state_of s.store) (state_of c.emplace.new.self) f (opens_of c.take.new.self) k c.args.kept c.in-Some.ensures.opens
-          (asked (Some c.args.fetch) (f.places k)) c.in-Some.waiters.items c.in-Some.ensures.taken (c.len.result - 1) len made.entry made.others.items made.leaves.items (ending_of c.ending.result) c.ending.ensures
+      completed = completed (meaning_of s.store) c.args.source (state_of s.store) (state_of c.emplace.new.self) f
+          (opens_of c.take.new.self) k c.args.kept c.in-Some.ensures.opens
+          (asked (Some c.args.fetch) (f.places k)) c.in-Some.waiters.items c.in-Some.ensures.taken (c.len.result - 1)
+          len made.entry made.others.items made.leaves.items (ending_of c.ending.result) c.ending.ensures
           c.in-Ok.ensures.others c.in-Ok.ensures.inserted;
     }

@@ -15,7 +15,10 @@ invariant_of-self g c =
     let index = (state_of s.store).index in
     let k : ℕ × g.row.K.Denot = (c.args.hash, c.args.key.now) in
     let shut = closed g.K.PartialEq.eq f k in
-    record { apart = step_apart index f (opens_of c.take.new.self) shut c.take.result c.take.ensures.opens c.take.ensures.same s.apart (closed_apart g.K.PartialEq.eq index f k s.apart) }
+    record {
+      apart = step_apart index f (opens_of c.take.new.self) shut c.take.result c.take.ensures.opens
+          c.take.ensures.same s.apart (closed_apart g.K.PartialEq.eq index f k s.apart);
+    }
 
 pub invariant_of-self-2 : goal.invariant_of-self-2
 invariant_of-self-2 g c =
@@ -27,10 +30,13 @@ invariant_of-self-2 g c =
     let new = state_of c.take_back.new.self in
     let more = 1 + (c.len.result - 1) in
     record {
-      apart = subst (λ (x : Opens g.row.K.Denot g.row.N.Denot g.row.R.Denot). Apart new.index x) (sym c.in-Some.ensures.opens)
+      apart = subst (λ (x : Opens g.row.K.Denot g.row.N.Denot g.row.R.Denot). Apart new.index x)
+          (sym c.in-Some.ensures.opens)
           (either_way c.take_back.result c.take_back.ensures.returned
-          (λ made h. back_shut m laws f old new c.args.piece more c.args.hash c.args.key.now c.requires.hashed c.requires.same s.apart made.leaves.items made.entry h)
-          (λ refused h. refused_shut m laws f old new c.args.piece more c.args.hash c.args.key.now c.requires.hashed c.requires.same s.apart refused.error refused.leaves.items h));
+          (λ made h. back_shut m laws f old new c.args.piece more c.args.hash c.args.key.now c.requires.hashed
+          c.requires.same s.apart made.leaves.items made.entry h)
+          (λ refused h. refused_shut m laws f old new c.args.piece more c.args.hash c.args.key.now c.requires.hashed
+          c.requires.same s.apart refused.error refused.leaves.items h));
     }
 
 pub returns-in-Ok : goal.returns-in-Ok
@@ -39,9 +45,13 @@ returns-in-Ok g c =
     let f = opens_of s.inflights in
     let k : ℕ × g.row.K.Denot = (c.args.hash, c.args.key.now) in
     let made = c.in-Ok.made in
-    let len : length c.in-Some.waiters.items ≡ 1 + (c.len.result - 1) = omega (arith, c.len.ensures, c.in-Some.ensures.waited, c.in-Some.waiters.ok.0) in
+    let len : length c.in-Some.waiters.items ≡ 1 + (c.len.result - 1) =
+    omega (arith, c.len.ensures, c.in-Some.ensures.waited, c.in-Some.waiters.ok.0) in
     record {
-      completed = back_ends (meaning_of s.store) (state_of s.store) (state_of c.take_back.new.self) f (opens_of c.take.new.self) k c.args.piece c.in-Some.ensures.opens
-          c.in-Some.waiters.items (c.len.result - 1) len (asked (Some c.args.fetch) (f.places k)) c.in-Some.ensures.taken made.leaves.items (ending_of c.ending.result) made.entry made.others.items c.ending.ensures
+      completed = back_ends (meaning_of s.store) (state_of s.store) (state_of c.take_back.new.self) f
+          (opens_of c.take.new.self) k c.args.piece c.in-Some.ensures.opens
+          c.in-Some.waiters.items (c.len.result - 1) len (asked (Some c.args.fetch) (f.places k))
+          c.in-Some.ensures.taken made.leaves.items (ending_of c.ending.result) made.entry made.others.items
+          c.ending.ensures
           c.in-Ok.ensures.others c.in-Ok.ensures.returned;
     }

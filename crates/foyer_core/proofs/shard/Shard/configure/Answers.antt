@@ -11,4 +11,9 @@ invariant_of-self g c =
     let f = opens_of s.inflights in
     let old = state_of s.store in
     let new = state_of c.configure.new.self in
-    record { apart = within_apart f old new (λ q id is. sym (ap (λ (x : State g.row.K.Denot g.row.V.Denot g.row.P.Denot g.E.Eviction.View). x.index q) c.configure.ensures) ∙ is) s.apart }
+    record {
+      apart = within_apart f old new
+          (λ q id is.
+          sym (ap (λ (x : State g.row.K.Denot g.row.V.Denot g.row.P.Denot g.E.Eviction.View). x.index q)
+          c.configure.ensures) ∙ is) s.apart;
+    }

@@ -23,12 +23,15 @@ invariant_of-self g c =
     let k : ℕ × g.row.K.Denot = (c.args.kept.hash, c.args.kept.key) in
     let i = newcomer old c.args.kept 1 in
     let went = c.emplace_one.ensures.inserted in
-    let shut = closed_already g.K.PartialEq.eq f k (λ q h. places_alike g.met.K.Eq.laws s.inflights k q h) (c.is_empty.ensures.0 c.if-not-is_empty.false k) in
+    let shut = closed_already g.K.PartialEq.eq f k (λ q h. places_alike g.met.K.Eq.laws s.inflights k q h)
+    (c.is_empty.ensures.0 c.if-not-is_empty.false k) in
     record {
       apart = either_way c.emplace_one.result went.so
-          (λ entry h. let kept = ap (λ (e : Held g.row.K.Denot g.row.V.Denot g.row.P.Denot). e.kept) (inserted_entry m c.args.source old i went.more entry new h) in
+          (λ entry h. let kept = ap (λ (e : Held g.row.K.Denot g.row.V.Denot g.row.P.Denot). e.kept)
+          (inserted_entry m c.args.source old i went.more entry new h) in
           arrived_apart m f c.args.source old i went.more entry new h c.args.kept.hash c.args.kept.key
-          (ap (λ (d : Data g.row.K.Denot g.row.V.Denot g.row.P.Denot). d.hash) (sym kept)) (ap (λ (d : Data g.row.K.Denot g.row.V.Denot g.row.P.Denot). d.key) (sym kept)) f shut s.apart)
+          (ap (λ (d : Data g.row.K.Denot g.row.V.Denot g.row.P.Denot). d.hash) (sym kept))
+          (ap (λ (d : Data g.row.K.Denot g.row.V.Denot g.row.P.Denot). d.key) (sym kept)) f shut s.apart)
           (λ error h. refuses_apart m f old i error went.more new h s.apart);
     }
 
@@ -39,7 +42,11 @@ returns-in-Ok-clause-inserted g c =
     let old = state_of s.store in
     let k : ℕ × g.row.K.Denot = (c.args.kept.hash, c.args.kept.key) in
     let none : f.places k ≡ None = c.is_empty.ensures.0 c.if-not-is_empty.false k in
-    subst (λ (o : Option (Place g.row.N.Denot g.row.R.Denot)). GoesOn c.args.leaves.now.items c.emplace_one.new.leaves.items (λ ls. Inserts (meaning_of s.store) c.args.source old (newcomer old c.args.kept (1 + length (waiters_of o))) ls c.in-Ok.entry (state_of c.emplace_one.new.self)))
+    subst (λ (o : Option (Place g.row.N.Denot g.row.R.Denot)). GoesOn c.args.leaves.now.items
+    c.emplace_one.new.leaves.items
+    (λ ls. Inserts (meaning_of s.store) c.args.source old
+    (newcomer old c.args.kept (1 + length (waiters_of o))) ls c.in-Ok.entry
+    (state_of c.emplace_one.new.self)))
     (sym none) c.in-Ok.ensures.inserted
 
 pub returns-in-Ok-clause-given : goal.returns-in-Ok-clause-given
@@ -47,7 +54,9 @@ returns-in-Ok-clause-given g c =
     let s = c.args.self.now in
     let old = state_of s.store in
     let went = c.in-Ok.ensures.inserted in
-    ap (λ (e : Held g.row.K.Denot g.row.V.Denot g.row.P.Denot). e.kept) (inserted_entry (meaning_of s.store) c.args.source old (newcomer old c.args.kept 1) went.more c.in-Ok.entry (state_of c.emplace_one.new.self) went.so)
+    ap (λ (e : Held g.row.K.Denot g.row.V.Denot g.row.P.Denot). e.kept)
+    (inserted_entry (meaning_of s.store) c.args.source old (newcomer old c.args.kept 1) went.more c.in-Ok.entry
+    (state_of c.emplace_one.new.self) went.so)
 
 pub returns-in-Ok-clause-answers : goal.returns-in-Ok-clause-answers
 returns-in-Ok-clause-answers g c =
@@ -60,7 +69,8 @@ pub returns-in-Ok-clause-closed : goal.returns-in-Ok-clause-closed
 returns-in-Ok-clause-closed g c =
     let s = c.args.self.now in
     let k : ℕ × g.row.K.Denot = (c.args.kept.hash, c.args.kept.key) in
-    closed_already g.K.PartialEq.eq (opens_of s.inflights) k (λ q h. places_alike g.met.K.Eq.laws s.inflights k q h) (c.is_empty.ensures.0 c.if-not-is_empty.false k)
+    closed_already g.K.PartialEq.eq (opens_of s.inflights) k (λ q h. places_alike g.met.K.Eq.laws s.inflights k q h)
+    (c.is_empty.ensures.0 c.if-not-is_empty.false k)
 
 pub returns-in-Err-clause-inserted : goal.returns-in-Err-clause-inserted
 returns-in-Err-clause-inserted g c =
@@ -69,5 +79,8 @@ returns-in-Err-clause-inserted g c =
     let old = state_of s.store in
     let k : ℕ × g.row.K.Denot = (c.args.kept.hash, c.args.kept.key) in
     let none : f.places k ≡ None = c.is_empty.ensures.0 c.if-not-is_empty.false k in
-    subst (λ (o : Option (Place g.row.N.Denot g.row.R.Denot)). GoesOn c.args.leaves.now.items c.emplace_one.new.leaves.items (λ ls. RefusesInsert (meaning_of s.store) old (newcomer old c.args.kept (1 + length (waiters_of o))) c.in-Err.error ls (state_of c.emplace_one.new.self)))
+    subst (λ (o : Option (Place g.row.N.Denot g.row.R.Denot)). GoesOn c.args.leaves.now.items
+    c.emplace_one.new.leaves.items
+    (λ ls. RefusesInsert (meaning_of s.store) old (newcomer old c.args.kept (1 + length (waiters_of o)))
+    c.in-Err.error ls (state_of c.emplace_one.new.self)))
     (sym none) c.in-Err.ensures.inserted

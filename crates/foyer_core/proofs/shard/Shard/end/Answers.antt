@@ -12,4 +12,7 @@ invariant_of-self g c =
     let index = (state_of s.store).index in
     let k : ℕ × g.row.K.Denot = (c.args.hash, c.args.key.now) in
     let shut = closed g.K.PartialEq.eq f k in
-    record { apart = step_apart index f (opens_of c.take.new.self) shut c.take.result c.take.ensures.opens c.take.ensures.same s.apart (closed_apart g.K.PartialEq.eq index f k s.apart) }
+    record {
+      apart = step_apart index f (opens_of c.take.new.self) shut c.take.result c.take.ensures.opens
+          c.take.ensures.same s.apart (closed_apart g.K.PartialEq.eq index f k s.apart);
+    }

@@ -16,14 +16,17 @@ invariant_of-self g c =
     let f = opens_of s.inflights in
     let k : ℕ × g.row.K.Denot = (c.args.hash, c.args.key.now) in
     let own : ℕ × g.row.K.Denot = (c.args.hash, c.in-Ok.own) in
-    let same : same_key eq own k ≡ true = rw (eq-eqb c.args.hash c.args.hash refl) (c.requires.clones c.args.key.now c.in-Ok.own c.in-Ok.ensures.cases) in
+    let same : same_key eq own k ≡ true = rw (eq-eqb c.args.hash c.args.hash refl)
+    (c.requires.clones c.args.key.now c.in-Ok.own c.in-Ok.ensures.cases) in
     let m = meaning_of s.store in
     let index = (state_of s.store).index in
     let missing : index own ≡ None = index_alike m (state_of s.store) s.store.kept own k same ∙ c.requires.missing in
     let to = after_enqueue eq f own c.args.waiter c.args.required in
     record {
-      apart = asked_apart index f (opens_of c.enqueue.new.self) to c.enqueue.result c.enqueue.ensures.opens c.enqueue.ensures.err s.apart
-          (enqueued_apart eq index f own c.args.waiter c.args.required (λ q h. index_alike m (state_of s.store) s.store.kept own q h) missing s.apart);
+      apart = asked_apart index f (opens_of c.enqueue.new.self) to c.enqueue.result c.enqueue.ensures.opens
+          c.enqueue.ensures.err s.apart
+          (enqueued_apart eq index f own c.args.waiter c.args.required
+          (λ q h. index_alike m (state_of s.store) s.store.kept own q h) missing s.apart);
     }
 
 pub returns-in-Ok-Lead : goal.returns-in-Ok-Lead
@@ -33,14 +36,18 @@ returns-in-Ok-Lead g c =
     let f = opens_of s.inflights in
     let k : ℕ × g.row.K.Denot = (c.args.hash, c.args.key.now) in
     let own : ℕ × g.row.K.Denot = (c.args.hash, c.in-Ok.own) in
-    let same : same_key eq own k ≡ true = rw (eq-eqb c.args.hash c.args.hash refl) (c.requires.clones c.args.key.now c.in-Ok.own c.in-Ok.ensures.cases) in
+    let same : same_key eq own k ≡ true = rw (eq-eqb c.args.hash c.args.hash refl)
+    (c.requires.clones c.args.key.now c.in-Ok.own c.in-Ok.ensures.cases) in
     let alike : f.places own ≡ f.places k = places_alike g.met.K.Eq.laws s.inflights own k same in
-    let numbers : HasNumbers s.store.limits.ids f k = subst (λ (n : ℕ). HasNumbers n f k) c.ids-ids.ensures (c.lacks.ensures.no c.if-lacks.false) in
+    let numbers : HasNumbers s.store.limits.ids f k =
+    subst (λ (n : ℕ). HasNumbers n f k) c.ids-ids.ensures (c.lacks.ensures.no c.if-lacks.false) in
     record {
       looked_up = (
         c.requires.missing,
         numbers,
-        sym c.in-Ok-Lead.field-0-is ∙ c.in-Ok-Lead.ensures.answer ∙ ap (λ (o : Option (Place g.row.N.Denot g.row.R.Denot)). enqueued o s.inflights.next_fetch s.inflights.next_token c.args.required) alike,
+        sym c.in-Ok-Lead.field-0-is ∙ c.in-Ok-Lead.ensures.answer
+            ∙ ap (λ (o : Option (Place g.row.N.Denot g.row.R.Denot)). enqueued o s.inflights.next_fetch
+            s.inflights.next_token c.args.required) alike,
         refl,
         c.in-Ok-Lead.ensures.opens ∙ enqueued_alike g.met.K.Eq.laws f own k same alike c.args.waiter c.args.required,
       );
@@ -53,14 +60,18 @@ returns-in-Ok-Wait g c =
     let f = opens_of s.inflights in
     let k : ℕ × g.row.K.Denot = (c.args.hash, c.args.key.now) in
     let own : ℕ × g.row.K.Denot = (c.args.hash, c.in-Ok.own) in
-    let same : same_key eq own k ≡ true = rw (eq-eqb c.args.hash c.args.hash refl) (c.requires.clones c.args.key.now c.in-Ok.own c.in-Ok.ensures.cases) in
+    let same : same_key eq own k ≡ true = rw (eq-eqb c.args.hash c.args.hash refl)
+    (c.requires.clones c.args.key.now c.in-Ok.own c.in-Ok.ensures.cases) in
     let alike : f.places own ≡ f.places k = places_alike g.met.K.Eq.laws s.inflights own k same in
-    let numbers : HasNumbers s.store.limits.ids f k = subst (λ (n : ℕ). HasNumbers n f k) c.ids-ids.ensures (c.lacks.ensures.no c.if-lacks.false) in
+    let numbers : HasNumbers s.store.limits.ids f k =
+    subst (λ (n : ℕ). HasNumbers n f k) c.ids-ids.ensures (c.lacks.ensures.no c.if-lacks.false) in
     record {
       looked_up = (
         c.requires.missing,
         numbers,
-        sym c.in-Ok-Wait.field-0-is ∙ c.in-Ok-Wait.ensures.answer ∙ ap (λ (o : Option (Place g.row.N.Denot g.row.R.Denot)). enqueued o s.inflights.next_fetch s.inflights.next_token c.args.required) alike,
+        sym c.in-Ok-Wait.field-0-is ∙ c.in-Ok-Wait.ensures.answer
+            ∙ ap (λ (o : Option (Place g.row.N.Denot g.row.R.Denot)). enqueued o s.inflights.next_fetch
+            s.inflights.next_token c.args.required) alike,
         refl,
         c.in-Ok-Wait.ensures.opens ∙ enqueued_alike g.met.K.Eq.laws f own k same alike c.args.waiter c.args.required,
       );

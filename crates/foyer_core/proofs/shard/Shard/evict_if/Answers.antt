@@ -11,5 +11,6 @@ invariant_of-self g c =
     let new = state_of c.evict_if.new.self in
     record {
       apart = answer_apart f old new c.evict_if.result c.evict_if.ensures.done c.evict_if.ensures.err
-          (λ leaves h. leave_within (meaning_of s.store) _ _ old leaves.items _ new h.leave) (λ h. within_equal old new h) s.apart;
+          (λ leaves h. leave_within (meaning_of s.store) _ _ old leaves.items _ new h.leave)
+          (λ h. within_equal old new h) s.apart;
     }

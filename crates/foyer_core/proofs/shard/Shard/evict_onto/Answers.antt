@@ -10,6 +10,8 @@ invariant_of-self g c =
     let old = state_of s.store in
     let new = state_of c.evict_onto.new.self in
     record {
-      apart = goes_apart f old new c.args.leaves.now.items c.evict_onto.new.leaves.items c.evict_onto.result c.evict_onto.ensures.done c.evict_onto.ensures.refused
-          (λ ls h. leave_apart (meaning_of s.store) f _ _ old ls _ new h s.apart) (λ ls h. leave_apart (meaning_of s.store) f _ _ old ls _ new h.leave s.apart);
+      apart = goes_apart f old new c.args.leaves.now.items c.evict_onto.new.leaves.items c.evict_onto.result
+          c.evict_onto.ensures.done c.evict_onto.ensures.refused
+          (λ ls h. leave_apart (meaning_of s.store) f _ _ old ls _ new h s.apart)
+          (λ ls h. leave_apart (meaning_of s.store) f _ _ old ls _ new h.leave s.apart);
     }

@@ -9,4 +9,7 @@ invariant_of-self g c =
     let f = opens_of s.inflights in
     let old = state_of s.store in
     let new = state_of c.evict_picked.new.self in
-    record { apart = leave_apart (meaning_of s.store) f _ _ old c.evict_picked.ensures.told.more _ new c.evict_picked.ensures.told.so s.apart }
+    record {
+      apart = leave_apart (meaning_of s.store) f _ _ old c.evict_picked.ensures.told.more _ new
+          c.evict_picked.ensures.told.so s.apart;
+    }

@@ -11,5 +11,6 @@ invariant_of-self g c =
     let new = state_of c.evict_to.new.self in
     record {
       apart = option_apart f new c.evict_to.result c.evict_to.ensures.done c.evict_to.ensures.refused
-          (λ leaves h. leave_apart (meaning_of s.store) f _ _ old leaves.items _ new h s.apart) (λ leaves h. leave_apart (meaning_of s.store) f _ _ old leaves.items _ new h.leave s.apart);
+          (λ leaves h. leave_apart (meaning_of s.store) f _ _ old leaves.items _ new h s.apart)
+          (λ leaves h. leave_apart (meaning_of s.store) f _ _ old leaves.items _ new h.leave s.apart);
     }

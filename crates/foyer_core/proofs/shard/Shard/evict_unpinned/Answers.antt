@@ -10,6 +10,8 @@ invariant_of-self g c =
     let old = state_of s.store in
     let new = state_of c.evict_unpinned.new.self in
     record {
-      apart = goes_apart f old new c.args.leaves.now.items c.evict_unpinned.new.leaves.items c.evict_unpinned.result c.evict_unpinned.ensures.done c.evict_unpinned.ensures.refused
-          (λ ls h. leave_apart (meaning_of s.store) f _ _ old ls _ new h s.apart) (λ ls h. leave_apart (meaning_of s.store) f _ _ old ls _ new h.leave s.apart);
+      apart = goes_apart f old new c.args.leaves.now.items c.evict_unpinned.new.leaves.items c.evict_unpinned.result
+          c.evict_unpinned.ensures.done c.evict_unpinned.ensures.refused
+          (λ ls h. leave_apart (meaning_of s.store) f _ _ old ls _ new h s.apart)
+          (λ ls h. leave_apart (meaning_of s.store) f _ _ old ls _ new h.leave s.apart);
     }

@@ -14,6 +14,8 @@ invariant_of-self g c =
     let k : ℕ × g.row.K.Denot = (c.args.hash, c.args.key.now) in
     let to = after_nothing g.K.PartialEq.eq f k in
     record {
-      apart = step_apart index f (opens_of c.fetch_or_take.new.self) to c.fetch_or_take.result c.fetch_or_take.ensures.opens c.fetch_or_take.ensures.same s.apart
-          (nothing_apart g.K.PartialEq.eq index f k (λ q same. places_alike g.met.K.Eq.laws s.inflights k q same) s.apart);
+      apart = step_apart index f (opens_of c.fetch_or_take.new.self) to c.fetch_or_take.result
+          c.fetch_or_take.ensures.opens c.fetch_or_take.ensures.same s.apart
+          (nothing_apart g.K.PartialEq.eq index f k (λ q same. places_alike g.met.K.Eq.laws s.inflights k q same)
+          s.apart);
     }

@@ -11,9 +11,15 @@ invariant_of-self g c =
     let f = opens_of s.inflights in
     let old = state_of s.store in
     let new = state_of c.get.new.self in
-    record { apart = within_apart f old new (within_same old new (gets_index (meaning_of s.store) old (c.args.hash, c.args.key.now) c.get.result new c.get.ensures.gets)) s.apart }
+    record {
+      apart = within_apart f old new
+          (within_same old new
+          (gets_index (meaning_of s.store) old (c.args.hash, c.args.key.now) c.get.result new c.get.ensures.gets))
+          s.apart;
+    }
 
 pub returns-clause-asked : goal.returns-clause-asked
 returns-clause-asked g c =
     let s = c.args.self.now in
-    got_key (meaning_of s.store) (state_of s.store) s.store.kept (c.args.hash, c.args.key.now) (state_of c.get.new.self) c.get.result c.get.ensures.gets
+    got_key (meaning_of s.store) (state_of s.store) s.store.kept (c.args.hash, c.args.key.now)
+    (state_of c.get.new.self) c.get.result c.get.ensures.gets

@@ -12,5 +12,6 @@ invariant_of-self g c =
     let new = state_of c.give_back.new.self in
     record {
       apart = answer_apart f old new c.give_back.result c.give_back.ensures.taken c.give_back.ensures.err
-          (λ leave h. within_same old new (back_index (meaning_of s.store) old c.args.entry.id leave new h.1)) (λ h. within_equal old new h) s.apart;
+          (λ leave h. within_same old new (back_index (meaning_of s.store) old c.args.entry.id leave new h.1))
+          (λ h. within_equal old new h) s.apart;
     }

@@ -19,7 +19,10 @@ invariant_of-self g c =
     let index = (state_of s.store).index in
     let k : ℕ × g.row.K.Denot = (c.args.hash, c.args.key.now) in
     let shut = closed g.K.PartialEq.eq f k in
-    record { apart = step_apart index f (opens_of c.take.new.self) shut c.take.result c.take.ensures.opens c.take.ensures.same s.apart (closed_apart g.K.PartialEq.eq index f k s.apart) }
+    record {
+      apart = step_apart index f (opens_of c.take.new.self) shut c.take.result c.take.ensures.opens
+          c.take.ensures.same s.apart (closed_apart g.K.PartialEq.eq index f k s.apart);
+    }
 
 pub returns-clause-completed : goal.returns-clause-completed
 returns-clause-completed g c source value =
@@ -28,12 +31,33 @@ returns-clause-completed g c source value =
     let f = opens_of s.inflights in
     let old = state_of s.store in
     let k : ℕ × g.row.K.Denot = (c.args.hash, c.args.key.now) in
-    let of : g.row.V.Denot → Data g.row.K.Denot g.row.V.Denot g.row.P.Denot = λ (v : g.row.V.Denot). record { key = c.args.key.now; value = v; properties = c.args.properties.now; hash = c.args.hash; weight = c.args.weight } in
+    let of : g.row.V.Denot → Data g.row.K.Denot g.row.V.Denot g.row.P.Denot =
+    λ (v : g.row.V.Denot).
+    record {
+      key = c.args.key.now;
+      value = v;
+      properties = c.args.properties.now;
+      hash = c.args.hash;
+      weight =
+          c.args.weight;
+    } in
     let count = c.len-further.result - 1 in
-    let many : length c.in-Some.waiters.items ≡ 1 + count = omega (arith, c.len-further.ensures, c.in-Some.ensures.waited, c.in-Some.waiters.ok.0) in
+    let many : length c.in-Some.waiters.items ≡ 1 + count =
+    omega (arith, c.len-further.ensures, c.in-Some.ensures.waited, c.in-Some.waiters.ok.0) in
     let reason : Reason = unwrap_or c.new_refusal-refusal.result NoMemory in
     let why : c.new.result ≡ reason = c.new.ensures ∙ c.unwrap_or-reason.ensures in
-    let ended : Ending g.row.K.Denot g.row.V.Denot g.row.P.Denot g.row.N.Denot = record { found = true; waiters = c.in-Some.waiters.items; outcome = Err reason; leaves = [] } in
-    let is : ending_of c.refused.result ≡ ended = c.refused.ensures ∙ (λ j. record { found = true; waiters = c.in-Some.waiters.items; outcome = Err (why j); leaves = c.new-2.ensures.items j }) in
-    refused_ends m source old old f (opens_of c.take.new.self) k (of value) c.in-Some.ensures.opens (asked (Some c.args.fetch) (f.places k)) c.in-Some.waiters.items c.in-Some.ensures.taken
-    (1 + count) many reason [] (ending_of c.refused.result) is (refusal_is m old (λ v. newcomer old (of v) (1 + count)) c.new_refusal-refusal.result c.new_refusal-refusal.ensures.some c.new_refusal-refusal.ensures.none value)
+    let ended : Ending g.row.K.Denot g.row.V.Denot g.row.P.Denot g.row.N.Denot =
+    record { found = true; waiters = c.in-Some.waiters.items; outcome = Err reason; leaves = [] } in
+    let is : ending_of c.refused.result ≡ ended = c.refused.ensures
+    ∙ (λ j. record {
+      found = true;
+      waiters = c.in-Some.waiters.items;
+      outcome = Err (why j);
+      leaves =
+          c.new-2.ensures.items j;
+    }) in
+    refused_ends m source old old f (opens_of c.take.new.self) k (of value) c.in-Some.ensures.opens
+    (asked (Some c.args.fetch) (f.places k)) c.in-Some.waiters.items c.in-Some.ensures.taken
+    (1 + count) many reason [] (ending_of c.refused.result) is
+    (refusal_is m old (λ v. newcomer old (of v) (1 + count)) c.new_refusal-refusal.result
+    c.new_refusal-refusal.ensures.some c.new_refusal-refusal.ensures.none value)

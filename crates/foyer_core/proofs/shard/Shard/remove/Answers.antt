@@ -10,9 +10,13 @@ invariant_of-self g c =
     let f = opens_of s.inflights in
     let old = state_of s.store in
     let new = state_of c.remove.new.self in
-    record { apart = removes_apart (meaning_of s.store) f old (c.args.hash, c.args.key.now) c.remove.result new c.remove.ensures.removes s.apart }
+    record {
+      apart = removes_apart (meaning_of s.store) f old (c.args.hash, c.args.key.now) c.remove.result new
+          c.remove.ensures.removes s.apart;
+    }
 
 pub returns-clause-asked : goal.returns-clause-asked
 returns-clause-asked g c =
     let s = c.args.self.now in
-    removed_key (meaning_of s.store) (state_of s.store) s.store.kept (c.args.hash, c.args.key.now) (state_of c.remove.new.self) c.remove.result c.remove.ensures.removes
+    removed_key (meaning_of s.store) (state_of s.store) s.store.kept (c.args.hash, c.args.key.now)
+    (state_of c.remove.new.self) c.remove.result c.remove.ensures.removes

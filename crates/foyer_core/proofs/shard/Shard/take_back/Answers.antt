@@ -13,8 +13,11 @@ invariant_of-self g c =
     let s = c.args.self.now in
     let made = c.in-Ok.made in
     record {
-      apart = back_apart (meaning_of s.store) (opens_of s.inflights) (state_of s.store) c.args.piece (1 + c.further_of-further.result.count) made.leaves.items made.entry (state_of c.take_back.new.self) c.in-Ok.ensures.returned
-          made.entry.kept.hash made.entry.kept.key refl refl (opens_of c.answer.new.self) c.answer.ensures.closed s.apart;
+      apart = back_apart (meaning_of s.store) (opens_of s.inflights) (state_of s.store) c.args.piece
+          (1 + c.further_of-further.result.count) made.leaves.items made.entry (state_of c.take_back.new.self)
+          c.in-Ok.ensures.returned
+          made.entry.kept.hash made.entry.kept.key refl refl (opens_of c.answer.new.self) c.answer.ensures.closed
+          s.apart;
     }
 
 pub invariant_of-self-in-Err-1 : goal.invariant_of-self-in-Err-1
@@ -22,7 +25,8 @@ invariant_of-self-in-Err-1 g c =
     let s = c.args.self.now in
     let refused = c.in-Err.refused in
     record {
-      apart = refuses_return_apart (meaning_of s.store) (opens_of s.inflights) (state_of s.store) c.args.piece (1 + c.further_of-further.result.count) refused.error refused.leaves.items (state_of c.take_back.new.self)
+      apart = refuses_return_apart (meaning_of s.store) (opens_of s.inflights) (state_of s.store) c.args.piece
+          (1 + c.further_of-further.result.count) refused.error refused.leaves.items (state_of c.take_back.new.self)
           c.in-Err.ensures.returned s.apart;
     }
 
@@ -32,7 +36,9 @@ returns-in-Ok-clause-answers g c =
     let f = opens_of s.inflights in
     let made = c.in-Ok.made in
     let k : ℕ × g.row.K.Denot = key_of (held_or c.args.piece.kept ((state_of s.store).records c.args.piece.id)) in
-    let named : key_of made.entry.kept ≡ k = returned_key (meaning_of s.store) (state_of s.store) c.args.piece (1 + c.further_of-further.result.count) made.leaves.items made.entry (state_of c.take_back.new.self) c.in-Ok.ensures.returned
+    let named : key_of made.entry.kept ≡ k = returned_key (meaning_of s.store) (state_of s.store) c.args.piece
+    (1 + c.further_of-further.result.count) made.leaves.items made.entry (state_of c.take_back.new.self)
+    c.in-Ok.ensures.returned
     made.entry.kept.hash made.entry.kept.key refl refl in
     rw (c.answer.ensures.waiters, c.answer.ensures.entries, c.answer.ensures.entry) (
       ap (λ (q : ℕ × g.row.K.Denot). waiters_of (f.places q)) named,
@@ -45,6 +51,8 @@ returns-in-Ok-clause-closed g c =
     let f = opens_of s.inflights in
     let made = c.in-Ok.made in
     let k : ℕ × g.row.K.Denot = key_of (held_or c.args.piece.kept ((state_of s.store).records c.args.piece.id)) in
-    let named : key_of made.entry.kept ≡ k = returned_key (meaning_of s.store) (state_of s.store) c.args.piece (1 + c.further_of-further.result.count) made.leaves.items made.entry (state_of c.take_back.new.self) c.in-Ok.ensures.returned
+    let named : key_of made.entry.kept ≡ k = returned_key (meaning_of s.store) (state_of s.store) c.args.piece
+    (1 + c.further_of-further.result.count) made.leaves.items made.entry (state_of c.take_back.new.self)
+    c.in-Ok.ensures.returned
     made.entry.kept.hash made.entry.kept.key refl refl in
     c.answer.ensures.closed ∙ ap (λ (q : ℕ × g.row.K.Denot). closed g.K.PartialEq.eq f q) named

@@ -10,4 +10,9 @@ invariant_of-self g c =
     let f = opens_of s.inflights in
     let old = state_of s.store in
     let new = state_of c.touch.new.self in
-    record { apart = within_apart f old new (within_same old new (touches_index (meaning_of s.store) old (c.args.hash, c.args.key.now) c.touch.result new c.touch.ensures.touches)) s.apart }
+    record {
+      apart = within_apart f old new
+          (within_same old new
+          (touches_index (meaning_of s.store) old (c.args.hash, c.args.key.now) c.touch.result new
+          c.touch.ensures.touches)) s.apart;
+    }

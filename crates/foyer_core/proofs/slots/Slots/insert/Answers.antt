@@ -23,7 +23,8 @@ pub returns-in_default-clause-free : goal.returns-in_default-clause-free
 returns-in_default-clause-free g c =
     let s = c.self.inside in
     rw (← c.self.view_is)
-    (next_free s.cells.items s.vacant s.free c.len-slot.result c.self.invariant (rw (← c.in_default.ensures) (omega arith)))
+    (next_free s.cells.items s.vacant s.free c.len-slot.result c.self.invariant
+    (rw (← c.in_default.ensures) (omega arith)))
 
 pub returns-in_default-clause-slots : goal.returns-in_default-clause-slots
 returns-in_default-clause-slots g c n =
@@ -46,7 +47,8 @@ pub invariant_of-self-in-Free : goal.invariant_of-self-in-Free
 invariant_of-self-in-Free g c =
     let s = c.self.inside in
     let sound = rw (← c.in-Some.ensures) at c.self.invariant in
-    let read = first_read s.cells.items s.vacant c.in-Some.slot c.index_mut.result.now sound c.index_mut.ensures.value in
+    let read = first_read s.cells.items s.vacant c.in-Some.slot c.index_mut.result.now sound
+    c.index_mut.ensures.value in
     let was = read ∙ ap Some (sym c.replace.ensures.value ∙ c.in-Free.is) in
     rw c.replace.ensures.after
     (AreCells-fill s.cells.items s.vacant c.in-Some.slot c.in-Free.next c.args.value sound was)
@@ -55,7 +57,8 @@ pub unreachable-requires : goal.unreachable-requires
 unreachable-requires g c =
     let s = c.self.inside in
     let sound = rw (← c.in-Some.ensures) at c.self.invariant in
-    let read = first_read s.cells.items s.vacant c.in-Some.slot c.index_mut.result.now sound c.index_mut.ensures.value in
+    let read = first_read s.cells.items s.vacant c.in-Some.slot c.index_mut.result.now sound
+    c.index_mut.ensures.value in
     let taken = read ∙ ap Some (sym c.replace.ensures.value ∙ c.in-Taken.is) in
     let there = (first_free s.cells.items s.vacant c.in-Some.slot sound).1 in
     cc

@@ -45,9 +45,11 @@ put_back-requires-clause-alike g c x y is stood =
     let n = c.put-number.result.0 in
     let unled = led_not m g.met.K.Eq.laws g.met.E.Eviction.lawful (holding s) n c.put-number.result.1
     c.put-number.ensures.stood (λ r h. c.requires.out r (c.put-number.ensures.was ∙ h)) in
-    let there : Some c.args.slot ≡ Some x = sym (c.put-number.ensures.slots n ∙ update_here (slot_in s.records) n (Some c.args.slot)) ∙ is in
+    let there : Some c.args.slot ≡ Some x =
+    sym (c.put-number.ensures.slots n ∙ update_here (slot_in s.records) n (Some c.args.slot)) ∙ is in
     let same : c.args.slot ≡ x = cc (there) in
-    ap (λ (z : Kept g.row.K.Denot g.row.V.Denot g.row.P.Denot). z.id) (sym same) ∙ sym (c.put-number.ensures.alike y stood)
+    ap (λ (z : Kept g.row.K.Denot g.row.V.Denot g.row.P.Denot). z.id) (sym same)
+    ∙ sym (c.put-number.ensures.alike y stood)
 
 pub invariant_of-self : goal.invariant_of-self
 invariant_of-self g c =
@@ -57,8 +59,10 @@ invariant_of-self g c =
     let m = meaning_of s in
     let inc : Incoming g.row.K.Denot g.row.V.Denot g.row.P.Denot = incoming_of c.args.slot in
     let n = c.put-number.result.0 in
-    let unled = led_not m laws lawful (holding s) n c.put-number.result.1 c.put-number.ensures.stood (λ r h. c.requires.out r (c.put-number.ensures.was ∙ h)) in
-    let there : slot_in c.put-number.new.self n ≡ Some c.args.slot = c.put-number.ensures.slots n ∙ update_here (slot_in s.records) n (Some c.args.slot) in
+    let unled = led_not m laws lawful (holding s) n c.put-number.result.1 c.put-number.ensures.stood
+    (λ r h. c.requires.out r (c.put-number.ensures.was ∙ h)) in
+    let there : slot_in c.put-number.new.self n ≡ Some c.args.slot = c.put-number.ensures.slots n
+    ∙ update_here (slot_in s.records) n (Some c.args.slot) in
     let back = unput m laws lawful (holding s) n c.put-number.result.1 c.put-number.ensures.stood
     c.put-number.new.self c.args.slot c.put-number.ensures.slots c.put-number.ensures.records
     c.put-number.ensures.was c.put_back.new.self (g.I.Finder.view c.put.new.self) c.put_back.ensures.slots
@@ -73,8 +77,10 @@ returns-in-Err-clause-err g c =
     let m = meaning_of s in
     let inc : Incoming g.row.K.Denot g.row.V.Denot g.row.P.Denot = incoming_of c.args.slot in
     let n = c.put-number.result.0 in
-    let unled = led_not m laws lawful (holding s) n c.put-number.result.1 c.put-number.ensures.stood (λ r h. c.requires.out r (c.put-number.ensures.was ∙ h)) in
-    let there : slot_in c.put-number.new.self n ≡ Some c.args.slot = c.put-number.ensures.slots n ∙ update_here (slot_in s.records) n (Some c.args.slot) in
+    let unled = led_not m laws lawful (holding s) n c.put-number.result.1 c.put-number.ensures.stood
+    (λ r h. c.requires.out r (c.put-number.ensures.was ∙ h)) in
+    let there : slot_in c.put-number.new.self n ≡ Some c.args.slot = c.put-number.ensures.slots n
+    ∙ update_here (slot_in s.records) n (Some c.args.slot) in
     let back = unput m laws lawful (holding s) n c.put-number.result.1 c.put-number.ensures.stood
     c.put-number.new.self c.args.slot c.put-number.ensures.slots c.put-number.ensures.records
     c.put-number.ensures.was c.put_back.new.self (g.I.Finder.view c.put.new.self) c.put_back.ensures.slots
@@ -89,13 +95,15 @@ give_way-gone-requires-after_bounds g c κs within =
     let m = meaning_of s in
     let inc : Incoming g.row.K.Denot g.row.V.Denot g.row.P.Denot = incoming_of c.args.slot in
     let n = c.put-number.result.0 in
-    let unled = led_not m laws lawful (holding s) n c.put-number.result.1 c.put-number.ensures.stood (λ r h. c.requires.out r (c.put-number.ensures.was ∙ h)) in
+    let unled = led_not m laws lawful (holding s) n c.put-number.result.1 c.put-number.ensures.stood
+    (λ r h. c.requires.out r (c.put-number.ensures.was ∙ h)) in
     let hash : c.hash-hash.result ≡ inc.kept.hash = c.hash-hash.ensures in
     let was : c.slot_under-was.result ≡ g.I.Finder.view s.index (key_of inc.kept) = c.slot_under-was.ensures ∙ ap
     (λ (h : ℕ). g.I.Finder.view s.index (h, c.args.key)) hash ∙ g.met.I.Finder.respects s.index
     (inc.kept.hash, c.args.key) (key_of inc.kept) (alike_key g.K.PartialEq.eq inc.kept.hash c.args.key inc.kept.key
     c.requires.same) in
-    may_give_way m laws lawful (holding s) inc n unled c.requires.out c.put-number.new.self c.args.slot c.put-number.ensures.slots c.slot_under-was.result was
+    may_give_way m laws lawful (holding s) inc n unled c.requires.out c.put-number.new.self c.args.slot
+    c.put-number.ensures.slots c.slot_under-was.result was
 
 pub overflow_sub-self : goal.overflow_sub-self
 overflow_sub-self g c =
@@ -105,7 +113,8 @@ overflow_sub-self g c =
     let m = meaning_of s in
     let inc : Incoming g.row.K.Denot g.row.V.Denot g.row.P.Denot = incoming_of c.args.slot in
     let n = c.put-number.result.0 in
-    let unled = led_not m laws lawful (holding s) n c.put-number.result.1 c.put-number.ensures.stood (λ r h. c.requires.out r (c.put-number.ensures.was ∙ h)) in
+    let unled = led_not m laws lawful (holding s) n c.put-number.result.1 c.put-number.ensures.stood
+    (λ r h. c.requires.out r (c.put-number.ensures.was ∙ h)) in
     let hash : c.hash-hash.result ≡ inc.kept.hash = c.hash-hash.ensures in
     let was : c.slot_under-was.result ≡ g.I.Finder.view s.index (key_of inc.kept) = c.slot_under-was.ensures ∙ ap
     (λ (h : ℕ). g.I.Finder.view s.index (h, c.args.key)) hash ∙ g.met.I.Finder.respects s.index
@@ -132,7 +141,8 @@ overflow_sub-self-2 g c =
     let m = meaning_of s in
     let inc : Incoming g.row.K.Denot g.row.V.Denot g.row.P.Denot = incoming_of c.args.slot in
     let n = c.put-number.result.0 in
-    let unled = led_not m laws lawful (holding s) n c.put-number.result.1 c.put-number.ensures.stood (λ r h. c.requires.out r (c.put-number.ensures.was ∙ h)) in
+    let unled = led_not m laws lawful (holding s) n c.put-number.result.1 c.put-number.ensures.stood
+    (λ r h. c.requires.out r (c.put-number.ensures.was ∙ h)) in
     let hash : c.hash-hash.result ≡ inc.kept.hash = c.hash-hash.ensures in
     let was : c.slot_under-was.result ≡ g.I.Finder.view s.index (key_of inc.kept) = c.slot_under-was.ensures ∙ ap
     (λ (h : ℕ). g.I.Finder.view s.index (h, c.args.key)) hash ∙ g.met.I.Finder.respects s.index
@@ -159,7 +169,8 @@ push-place-requires-clause-new_id g c κs within =
     let m = meaning_of s in
     let inc : Incoming g.row.K.Denot g.row.V.Denot g.row.P.Denot = incoming_of c.args.slot in
     let n = c.put-number.result.0 in
-    let unled = led_not m laws lawful (holding s) n c.put-number.result.1 c.put-number.ensures.stood (λ r h. c.requires.out r (c.put-number.ensures.was ∙ h)) in
+    let unled = led_not m laws lawful (holding s) n c.put-number.result.1 c.put-number.ensures.stood
+    (λ r h. c.requires.out r (c.put-number.ensures.was ∙ h)) in
     let hash : c.hash-hash.result ≡ inc.kept.hash = c.hash-hash.ensures in
     let was : c.slot_under-was.result ≡ g.I.Finder.view s.index (key_of inc.kept) = c.slot_under-was.ensures ∙ ap
     (λ (h : ℕ). g.I.Finder.view s.index (h, c.args.key)) hash ∙ g.met.I.Finder.respects s.index
@@ -186,7 +197,8 @@ push-place-requires-clause-fits g c κs within =
     let m = meaning_of s in
     let inc : Incoming g.row.K.Denot g.row.V.Denot g.row.P.Denot = incoming_of c.args.slot in
     let n = c.put-number.result.0 in
-    let unled = led_not m laws lawful (holding s) n c.put-number.result.1 c.put-number.ensures.stood (λ r h. c.requires.out r (c.put-number.ensures.was ∙ h)) in
+    let unled = led_not m laws lawful (holding s) n c.put-number.result.1 c.put-number.ensures.stood
+    (λ r h. c.requires.out r (c.put-number.ensures.was ∙ h)) in
     let hash : c.hash-hash.result ≡ inc.kept.hash = c.hash-hash.ensures in
     let was : c.slot_under-was.result ≡ g.I.Finder.view s.index (key_of inc.kept) = c.slot_under-was.ensures ∙ ap
     (λ (h : ℕ). g.I.Finder.view s.index (h, c.args.key)) hash ∙ g.met.I.Finder.respects s.index
@@ -213,7 +225,8 @@ set_place-requires g c =
     let m = meaning_of s in
     let inc : Incoming g.row.K.Denot g.row.V.Denot g.row.P.Denot = incoming_of c.args.slot in
     let n = c.put-number.result.0 in
-    let unled = led_not m laws lawful (holding s) n c.put-number.result.1 c.put-number.ensures.stood (λ r h. c.requires.out r (c.put-number.ensures.was ∙ h)) in
+    let unled = led_not m laws lawful (holding s) n c.put-number.result.1 c.put-number.ensures.stood
+    (λ r h. c.requires.out r (c.put-number.ensures.was ∙ h)) in
     let hash : c.hash-hash.result ≡ inc.kept.hash = c.hash-hash.ensures in
     let was : c.slot_under-was.result ≡ g.I.Finder.view s.index (key_of inc.kept) = c.slot_under-was.ensures ∙ ap
     (λ (h : ℕ). g.I.Finder.view s.index (h, c.args.key)) hash ∙ g.met.I.Finder.respects s.index
@@ -240,7 +253,8 @@ overflow_add-self g c =
     let m = meaning_of s in
     let inc : Incoming g.row.K.Denot g.row.V.Denot g.row.P.Denot = incoming_of c.args.slot in
     let n = c.put-number.result.0 in
-    let unled = led_not m laws lawful (holding s) n c.put-number.result.1 c.put-number.ensures.stood (λ r h. c.requires.out r (c.put-number.ensures.was ∙ h)) in
+    let unled = led_not m laws lawful (holding s) n c.put-number.result.1 c.put-number.ensures.stood
+    (λ r h. c.requires.out r (c.put-number.ensures.was ∙ h)) in
     let hash : c.hash-hash.result ≡ inc.kept.hash = c.hash-hash.ensures in
     let was : c.slot_under-was.result ≡ g.I.Finder.view s.index (key_of inc.kept) = c.slot_under-was.ensures ∙ ap
     (λ (h : ℕ). g.I.Finder.view s.index (h, c.args.key)) hash ∙ g.met.I.Finder.respects s.index
@@ -267,7 +281,8 @@ overflow_add-self-2 g c =
     let m = meaning_of s in
     let inc : Incoming g.row.K.Denot g.row.V.Denot g.row.P.Denot = incoming_of c.args.slot in
     let n = c.put-number.result.0 in
-    let unled = led_not m laws lawful (holding s) n c.put-number.result.1 c.put-number.ensures.stood (λ r h. c.requires.out r (c.put-number.ensures.was ∙ h)) in
+    let unled = led_not m laws lawful (holding s) n c.put-number.result.1 c.put-number.ensures.stood
+    (λ r h. c.requires.out r (c.put-number.ensures.was ∙ h)) in
     let hash : c.hash-hash.result ≡ inc.kept.hash = c.hash-hash.ensures in
     let was : c.slot_under-was.result ≡ g.I.Finder.view s.index (key_of inc.kept) = c.slot_under-was.ensures ∙ ap
     (λ (h : ℕ). g.I.Finder.view s.index (h, c.args.key)) hash ∙ g.met.I.Finder.respects s.index
@@ -291,10 +306,12 @@ overflow_add-self-2 g c =
     (λ q. c.set_place.ensures.slots x0 there2 q ∙ ap (λ (x : Kept g.row.K.Denot g.row.V.Denot g.row.P.Denot). let y :
     Kept g.row.K.Denot g.row.V.Denot g.row.P.Denot = record x { place = Some c.push-place.result } in update nat_eq
     (slot_in c.give_way-gone.new.records) n (Some y) q) c.requires.coming) in
-    let recs1 : (i : ℕ) → record_in c.put-number.new.self i ≡ update nat_eq (record_in s.records) inc.id (Some (coming_rec inc)) i =
+    let recs1 : (i : ℕ) → record_in c.put-number.new.self i
+    ≡ update nat_eq (record_in s.records) inc.id (Some (coming_rec inc)) i =
     (λ i. c.put-number.ensures.records i ∙ ap (λ (x : Kept g.row.K.Denot g.row.V.Denot g.row.P.Denot). update nat_eq
     (record_in s.records) x.id (Some (rec_of x)) i) c.requires.coming) in
-    let led1 : (q : _) → g.I.Finder.view c.put.new.self q ≡ update (same_key g.K.PartialEq.eq) (g.I.Finder.view s.index) (key_of inc.kept) (Some n) q =
+    let led1 : (q : _) → g.I.Finder.view c.put.new.self q
+    ≡ update (same_key g.K.PartialEq.eq) (g.I.Finder.view s.index) (key_of inc.kept) (Some n) q =
     update_alike (same_key g.K.PartialEq.eq) (same_key_laws g.K.PartialEq.eq laws) (g.I.Finder.view s.index)
     (g.I.Finder.view c.put.new.self) (inc.kept.hash, c.args.key) (key_of inc.kept) (Some n)
     (alike_key g.K.PartialEq.eq inc.kept.hash c.args.key inc.kept.key c.requires.same)
@@ -345,7 +362,8 @@ invariant_of-self-2 g c =
     let m = meaning_of s in
     let inc : Incoming g.row.K.Denot g.row.V.Denot g.row.P.Denot = incoming_of c.args.slot in
     let n = c.put-number.result.0 in
-    let unled = led_not m laws lawful (holding s) n c.put-number.result.1 c.put-number.ensures.stood (λ r h. c.requires.out r (c.put-number.ensures.was ∙ h)) in
+    let unled = led_not m laws lawful (holding s) n c.put-number.result.1 c.put-number.ensures.stood
+    (λ r h. c.requires.out r (c.put-number.ensures.was ∙ h)) in
     let hash : c.hash-hash.result ≡ inc.kept.hash = c.hash-hash.ensures in
     let was : c.slot_under-was.result ≡ g.I.Finder.view s.index (key_of inc.kept) = c.slot_under-was.ensures ∙ ap
     (λ (h : ℕ). g.I.Finder.view s.index (h, c.args.key)) hash ∙ g.met.I.Finder.respects s.index
@@ -369,10 +387,12 @@ invariant_of-self-2 g c =
     (λ q. c.set_place.ensures.slots x0 there2 q ∙ ap (λ (x : Kept g.row.K.Denot g.row.V.Denot g.row.P.Denot). let y :
     Kept g.row.K.Denot g.row.V.Denot g.row.P.Denot = record x { place = Some c.push-place.result } in update nat_eq
     (slot_in c.give_way-gone.new.records) n (Some y) q) c.requires.coming) in
-    let recs1 : (i : ℕ) → record_in c.put-number.new.self i ≡ update nat_eq (record_in s.records) inc.id (Some (coming_rec inc)) i =
+    let recs1 : (i : ℕ) → record_in c.put-number.new.self i
+    ≡ update nat_eq (record_in s.records) inc.id (Some (coming_rec inc)) i =
     (λ i. c.put-number.ensures.records i ∙ ap (λ (x : Kept g.row.K.Denot g.row.V.Denot g.row.P.Denot). update nat_eq
     (record_in s.records) x.id (Some (rec_of x)) i) c.requires.coming) in
-    let led1 : (q : _) → g.I.Finder.view c.put.new.self q ≡ update (same_key g.K.PartialEq.eq) (g.I.Finder.view s.index) (key_of inc.kept) (Some n) q =
+    let led1 : (q : _) → g.I.Finder.view c.put.new.self q
+    ≡ update (same_key g.K.PartialEq.eq) (g.I.Finder.view s.index) (key_of inc.kept) (Some n) q =
     update_alike (same_key g.K.PartialEq.eq) (same_key_laws g.K.PartialEq.eq laws) (g.I.Finder.view s.index)
     (g.I.Finder.view c.put.new.self) (inc.kept.hash, c.args.key) (key_of inc.kept) (Some n)
     (alike_key g.K.PartialEq.eq inc.kept.hash c.args.key inc.kept.key c.requires.same)
@@ -427,7 +447,8 @@ returns-clause-admitted g c =
     let m = meaning_of s in
     let inc : Incoming g.row.K.Denot g.row.V.Denot g.row.P.Denot = incoming_of c.args.slot in
     let n = c.put-number.result.0 in
-    let unled = led_not m laws lawful (holding s) n c.put-number.result.1 c.put-number.ensures.stood (λ r h. c.requires.out r (c.put-number.ensures.was ∙ h)) in
+    let unled = led_not m laws lawful (holding s) n c.put-number.result.1 c.put-number.ensures.stood
+    (λ r h. c.requires.out r (c.put-number.ensures.was ∙ h)) in
     let hash : c.hash-hash.result ≡ inc.kept.hash = c.hash-hash.ensures in
     let was : c.slot_under-was.result ≡ g.I.Finder.view s.index (key_of inc.kept) = c.slot_under-was.ensures ∙ ap
     (λ (h : ℕ). g.I.Finder.view s.index (h, c.args.key)) hash ∙ g.met.I.Finder.respects s.index
@@ -451,10 +472,12 @@ returns-clause-admitted g c =
     (λ q. c.set_place.ensures.slots x0 there2 q ∙ ap (λ (x : Kept g.row.K.Denot g.row.V.Denot g.row.P.Denot). let y :
     Kept g.row.K.Denot g.row.V.Denot g.row.P.Denot = record x { place = Some c.push-place.result } in update nat_eq
     (slot_in c.give_way-gone.new.records) n (Some y) q) c.requires.coming) in
-    let recs1 : (i : ℕ) → record_in c.put-number.new.self i ≡ update nat_eq (record_in s.records) inc.id (Some (coming_rec inc)) i =
+    let recs1 : (i : ℕ) → record_in c.put-number.new.self i
+    ≡ update nat_eq (record_in s.records) inc.id (Some (coming_rec inc)) i =
     (λ i. c.put-number.ensures.records i ∙ ap (λ (x : Kept g.row.K.Denot g.row.V.Denot g.row.P.Denot). update nat_eq
     (record_in s.records) x.id (Some (rec_of x)) i) c.requires.coming) in
-    let led1 : (q : _) → g.I.Finder.view c.put.new.self q ≡ update (same_key g.K.PartialEq.eq) (g.I.Finder.view s.index) (key_of inc.kept) (Some n) q =
+    let led1 : (q : _) → g.I.Finder.view c.put.new.self q
+    ≡ update (same_key g.K.PartialEq.eq) (g.I.Finder.view s.index) (key_of inc.kept) (Some n) q =
     update_alike (same_key g.K.PartialEq.eq) (same_key_laws g.K.PartialEq.eq laws) (g.I.Finder.view s.index)
     (g.I.Finder.view c.put.new.self) (inc.kept.hash, c.args.key) (key_of inc.kept) (Some n)
     (alike_key g.K.PartialEq.eq inc.kept.hash c.args.key inc.kept.key c.requires.same)

@@ -13,10 +13,15 @@ returns-then-unwrap_or g c =
     let s = c.args.self.now in
     let m = meaning_of s in
     let inc : Incoming g.row.K.Denot g.row.V.Denot g.row.P.Denot = incoming_of c.args.slot in
-    let phantom : is_phantom_record m inc.kept ≡ true = sym (c.unwrap_or.ensures ∙ ap is_phantom (c.phantom.ensures ∙ ap m.phantom c.properties.ensures)) ∙ c.if-unwrap_or.true in
+    let phantom : is_phantom_record m inc.kept ≡ true =
+    sym (c.unwrap_or.ensures ∙ ap is_phantom (c.phantom.ensures ∙ ap m.phantom c.properties.ensures))
+    ∙ c.if-unwrap_or.true in
     record {
-      inserted = subst (λ (b : Bool). GoesOn c.args.leaves.now.items c.hold_in.new.leaves.items (λ ls. MatchResult c.hold_in.result
-          (λ entry. InsertsBy m b c.args.source (state_of s) inc ls entry (state_of c.hold_in.new.self)) (λ error. RefusesBy m b (state_of s) inc error ls (state_of c.hold_in.new.self)))) (sym phantom) c.hold_in.ensures.inserted;
+      inserted = subst
+          (λ (b : Bool). GoesOn c.args.leaves.now.items c.hold_in.new.leaves.items (λ ls. MatchResult c.hold_in.result
+          (λ entry. InsertsBy m b c.args.source (state_of s) inc ls entry (state_of c.hold_in.new.self))
+          (λ error. RefusesBy m b (state_of s) inc error ls (state_of c.hold_in.new.self)))) (sym phantom)
+          c.hold_in.ensures.inserted;
     }
 
 pub returns : goal.returns
@@ -24,8 +29,13 @@ returns g c =
     let s = c.args.self.now in
     let m = meaning_of s in
     let inc : Incoming g.row.K.Denot g.row.V.Denot g.row.P.Denot = incoming_of c.args.slot in
-    let plain : is_phantom_record m inc.kept ≡ false = sym (c.unwrap_or.ensures ∙ ap is_phantom (c.phantom.ensures ∙ ap m.phantom c.properties.ensures)) ∙ c.if-unwrap_or.false in
+    let plain : is_phantom_record m inc.kept ≡ false =
+    sym (c.unwrap_or.ensures ∙ ap is_phantom (c.phantom.ensures ∙ ap m.phantom c.properties.ensures))
+    ∙ c.if-unwrap_or.false in
     record {
-      inserted = subst (λ (b : Bool). GoesOn c.args.leaves.now.items c.bring_in.new.leaves.items (λ ls. MatchResult c.bring_in.result
-          (λ entry. InsertsBy m b c.args.source (state_of s) inc ls entry (state_of c.bring_in.new.self)) (λ error. RefusesBy m b (state_of s) inc error ls (state_of c.bring_in.new.self)))) (sym plain) c.bring_in.ensures.inserted;
+      inserted = subst
+          (λ (b : Bool). GoesOn c.args.leaves.now.items c.bring_in.new.leaves.items (λ ls. MatchResult c.bring_in.result
+          (λ entry. InsertsBy m b c.args.source (state_of s) inc ls entry (state_of c.bring_in.new.self))
+          (λ error. RefusesBy m b (state_of s) inc error ls (state_of c.bring_in.new.self)))) (sym plain)
+          c.bring_in.ensures.inserted;
     }

@@ -15,12 +15,18 @@ invariant_of-self g c =
     let t = c.leave_all.new.records in
     let view = g.E.Eviction.view c.clear.new.self in
     let all = sym c.requires.items in
-    let left = c.leave_all.ensures.told (line m g.met.K.Eq.laws g.met.E.Eviction.lawful (holding s) c.args.items.now all keys t view c.clear.ensures.view) in
+    let left = c.leave_all.ensures.told
+    (line m g.met.K.Eq.laws g.met.E.Eviction.lawful (holding s) c.args.items.now all keys t view
+    c.clear.ensures.view) in
     record {
-      kept = cleared_kept m g.met.K.Eq.laws g.met.E.Eviction.lawful (holding s) c.args.items.now all keys t view c.clear.ensures.view left.more left.so;
-      stored = cleared_stored m g.met.K.Eq.laws g.met.E.Eviction.lawful (holding s) c.args.items.now all keys t view c.clear.ensures.view left.more left.so (g.E.Eviction.at c.clear.new.self);
-      weighed = cleared_weight m g.met.K.Eq.laws g.met.E.Eviction.lawful (holding s) c.args.items.now all keys t view c.clear.ensures.view;
-      counted = cleared_length m g.met.K.Eq.laws g.met.E.Eviction.lawful (holding s) c.args.items.now all keys t view c.clear.ensures.view;
+      kept = cleared_kept m g.met.K.Eq.laws g.met.E.Eviction.lawful (holding s) c.args.items.now all keys t view
+          c.clear.ensures.view left.more left.so;
+      stored = cleared_stored m g.met.K.Eq.laws g.met.E.Eviction.lawful (holding s) c.args.items.now all keys t view
+          c.clear.ensures.view left.more left.so (g.E.Eviction.at c.clear.new.self);
+      weighed = cleared_weight m g.met.K.Eq.laws g.met.E.Eviction.lawful (holding s) c.args.items.now all keys t view
+          c.clear.ensures.view;
+      counted = cleared_length m g.met.K.Eq.laws g.met.E.Eviction.lawful (holding s) c.args.items.now all keys t view
+          c.clear.ensures.view;
       numbered = omega arith;
     }
 
@@ -32,7 +38,10 @@ returns-clause-told g c =
     let t = c.leave_all.new.records in
     let view = g.E.Eviction.view c.clear.new.self in
     let all = sym c.requires.items in
-    let line' = line m g.met.K.Eq.laws g.met.E.Eviction.lawful (holding s) c.args.items.now all keys t view c.clear.ensures.view in
+    let line' = line m g.met.K.Eq.laws g.met.E.Eviction.lawful (holding s) c.args.items.now all keys t view
+    c.clear.ensures.view in
     goes_so c.args.leaves.now.items c.leave_all.new.leaves.items (λ ls. Passes m line' c.args.items.now [] ls keys t)
-    (λ ls. Clears m (state_of s) ls (state s.number s.capacity s.limits view keys t s.next)) (λ ls p. clears m g.met.K.Eq.laws g.met.E.Eviction.lawful (holding s) c.args.items.now all keys t view c.clear.ensures.view ls p)
+    (λ ls. Clears m (state_of s) ls (state s.number s.capacity s.limits view keys t s.next))
+    (λ ls p. clears m g.met.K.Eq.laws g.met.E.Eviction.lawful (holding s) c.args.items.now all keys t view
+    c.clear.ensures.view ls p)
     (c.leave_all.ensures.told line')

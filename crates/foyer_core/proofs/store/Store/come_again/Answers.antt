@@ -17,7 +17,8 @@ returns-in_default-share-clause-inserted g c y is =
     let x = c.in-Some.found.now in
     let there : slot_in s.records c.args.slot ≡ Some x = sym (rw c.in-Some.is at c.get.ensures) in
     let same : x ≡ y = one x y (sym there ∙ is) in
-    let inc : Incoming g.row.K.Denot g.row.V.Denot g.row.P.Denot = record { id = x.id; kept = x.kept; handles = x.handles + 1 + c.args.further.count } in
+    let inc : Incoming g.row.K.Denot g.row.V.Denot g.row.P.Denot =
+    record { id = x.id; kept = x.kept; handles = x.handles + 1 + c.args.further.count } in
     let may : MayBy m (is_phantom_record m x.kept) (state_of s) inc = subst
     (λ (n : ℕ). let i : Incoming g.row.K.Denot g.row.V.Denot g.row.P.Denot = record
     { id = x.id; kept = x.kept; handles = n + 1 + c.args.further.count } in MayBy m (is_phantom_record m x.kept)
@@ -37,7 +38,8 @@ come_by-requires-clause-out g c κs within r is =
     let there : slot_in s.records c.args.slot ≡ Some x = sym (rw c.in-Some.is at c.get.ensures) in
     let rec : (state_of s).records x.id ≡ Some (rec_of x) = slot_record m (g.E.Eviction.at s.eviction)
     (g.I.Finder.view s.index) s.records c.args.slot x there in
-    let id : c.outside-slot.result.id ≡ x.id = ap (λ (z : Kept g.row.K.Denot g.row.V.Denot g.row.P.Denot). z.id) c.outside-slot.ensures ∙ c.id-id.ensures in
+    let id : c.outside-slot.result.id ≡ x.id =
+    ap (λ (z : Kept g.row.K.Denot g.row.V.Denot g.row.P.Denot). z.id) c.outside-slot.ensures ∙ c.id-id.ensures in
     let same : rec_of x ≡ r = one (rec_of x) r (sym rec ∙ ap (state_of s).records (sym id) ∙ is) in
     let needs : (x.id < s.next) × (x.resident ≡ false) = rw there at c.requires.there in
     ap (λ (q : Rec g.row.K.Denot g.row.V.Denot g.row.P.Denot). q.resident) (sym same) ∙ needs.1

@@ -11,4 +11,6 @@ returns-in_default-clause-inserted g c =
     let s = c.args.self.now in
     let m = meaning_of s in
     let inc : Incoming g.row.K.Denot g.row.V.Denot g.row.P.Denot = incoming_of c.args.slot in
-    rw c.new.ensures (goes_start c.args.leaves.now.items (λ ls. RefusesInsert m (state_of s) inc NoMemory ls (state_of s)) (memory_refuses m (state_of s) inc c.requires.may))
+    rw c.new.ensures
+    (goes_start c.args.leaves.now.items (λ ls. RefusesInsert m (state_of s) inc NoMemory ls (state_of s))
+    (memory_refuses m (state_of s) inc c.requires.may))

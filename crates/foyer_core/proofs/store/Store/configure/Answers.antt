@@ -14,8 +14,11 @@ invariant_of-self g c =
     let same = c.tell_config.ensures.view in
     record {
       kept = update_kept m g.met.K.Eq.laws g.met.E.Eviction.lawful (holding s) s.capacity config v same;
-      stored = still_stored m g.met.K.Eq.laws g.met.E.Eviction.lawful (holding s) (g.E.Eviction.view s.eviction) refl (g.E.Eviction.at c.tell_config.new.eviction) c.tell_config.ensures.places;
-      weighed = update_weighed m g.met.K.Eq.laws g.met.E.Eviction.lawful (holding s) s.capacity config v same s.usage s.weighed;
-      counted = update_counted m g.met.K.Eq.laws g.met.E.Eviction.lawful (holding s) s.capacity config v same s.entries s.counted;
+      stored = still_stored m g.met.K.Eq.laws g.met.E.Eviction.lawful (holding s) (g.E.Eviction.view s.eviction) refl
+          (g.E.Eviction.at c.tell_config.new.eviction) c.tell_config.ensures.places;
+      weighed = update_weighed m g.met.K.Eq.laws g.met.E.Eviction.lawful (holding s) s.capacity config v same s.usage
+          s.weighed;
+      counted = update_counted m g.met.K.Eq.laws g.met.E.Eviction.lawful (holding s) s.capacity config v same
+          s.entries s.counted;
       numbered = s.numbered;
     }

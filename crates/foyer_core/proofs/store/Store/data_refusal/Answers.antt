@@ -7,7 +7,8 @@ none_weaker None f h = f h
 none_weaker (Some a) f h = tt
 
 pub returns-clause-some : goal.returns-clause-some
-returns-clause-some g c = IfSome_then c.new_refusal.result c.new_refusal.ensures.some (λ reason h. h c.args.kept.now.value)
+returns-clause-some g c = IfSome_then c.new_refusal.result c.new_refusal.ensures.some
+    (λ reason h. h c.args.kept.now.value)
 
 pub returns-clause-none : goal.returns-clause-none
 returns-clause-none g c = none_weaker c.new_refusal.result (λ h. h c.args.kept.now.value) c.new_refusal.ensures.none

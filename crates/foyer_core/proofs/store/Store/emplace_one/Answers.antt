@@ -14,7 +14,9 @@ returns-in-Some g c =
     let s = c.args.self.now in
     record {
       inserted = rw c.new.ensures
-          (goes_start c.args.leaves.now.items (λ ls. RefusesInsert (meaning_of s) (state_of s) (newcomer (state_of s) c.args.kept 1) c.in-Some.reason ls (state_of s)) c.in-Some.ensures.some);
+          (goes_start c.args.leaves.now.items
+          (λ ls. RefusesInsert (meaning_of s) (state_of s) (newcomer (state_of s) c.args.kept 1) c.in-Some.reason
+          ls (state_of s)) c.in-Some.ensures.some);
     }
 
 pub returns-in_default-new : goal.returns-in_default-new
@@ -23,10 +25,14 @@ returns-in_default-new g c =
     let i = newcomer (state_of s) c.args.kept 1 in
     record {
       inserted = rw c.new-in_default-new.ensures
-          (goes_start c.args.leaves.now.items (λ ls. RefusesInsert (meaning_of s) (state_of s) i NoMemory ls (state_of s)) (memory_refuses (meaning_of s) (state_of s) i c.in_default.ensures.none));
+          (goes_start c.args.leaves.now.items
+          (λ ls. RefusesInsert (meaning_of s) (state_of s) i NoMemory ls (state_of s))
+          (memory_refuses (meaning_of s) (state_of s) i c.in_default.ensures.none));
     }
 
 pub arrive-requires-clause-out : goal.arrive-requires-clause-out
 arrive-requires-clause-out g c κs within =
-    let id : c.outside-slot.result.id ≡ c.args.self.now.next = ap (λ (x : Kept g.row.K.Denot g.row.V.Denot g.row.P.Denot). x.id) c.outside-slot.ensures in
-    new_out (meaning_of c.args.self.now) g.met.K.Eq.laws g.met.E.Eviction.lawful (holding c.args.self.now) c.outside-slot.result.id (omega arith)
+    let id : c.outside-slot.result.id ≡ c.args.self.now.next =
+    ap (λ (x : Kept g.row.K.Denot g.row.V.Denot g.row.P.Denot). x.id) c.outside-slot.ensures in
+    new_out (meaning_of c.args.self.now) g.met.K.Eq.laws g.met.E.Eviction.lawful (holding c.args.self.now)
+    c.outside-slot.result.id (omega arith)

@@ -33,11 +33,14 @@ invariant_of-self g c =
     let lawful = g.met.E.Eviction.lawful in
     let laws = g.met.K.Eq.laws in
     record {
-      kept = still_kept (meaning_of s) laws lawful (holding s) (g.E.Eviction.view c.pop.new.self) c.in_err-item.ensures.err_view;
+      kept = still_kept (meaning_of s) laws lawful (holding s) (g.E.Eviction.view c.pop.new.self)
+          c.in_err-item.ensures.err_view;
       stored = still_stored (meaning_of s) laws lawful (holding s) (g.E.Eviction.view c.pop.new.self)
           c.in_err-item.ensures.err_view (g.E.Eviction.at c.pop.new.self) c.in_err-item.ensures.err_places;
-      weighed = still_weighed (meaning_of s) laws lawful (holding s) (g.E.Eviction.view c.pop.new.self) c.in_err-item.ensures.err_view s.usage s.weighed;
-      counted = still_counted (meaning_of s) laws lawful (holding s) (g.E.Eviction.view c.pop.new.self) c.in_err-item.ensures.err_view s.entries s.counted;
+      weighed = still_weighed (meaning_of s) laws lawful (holding s) (g.E.Eviction.view c.pop.new.self)
+          c.in_err-item.ensures.err_view s.usage s.weighed;
+      counted = still_counted (meaning_of s) laws lawful (holding s) (g.E.Eviction.view c.pop.new.self)
+          c.in_err-item.ensures.err_view s.entries s.counted;
       numbered = s.numbered;
     }
 
@@ -46,13 +49,17 @@ invariant_of-self-in_default g c =
     let s = c.args.self.now in
     let lawful = g.met.E.Eviction.lawful in
     let laws = g.met.K.Eq.laws in
-    let p : Pops g.E.Eviction.model (g.E.Eviction.view s.eviction) None (g.E.Eviction.view c.pop.new.self) = rw c.in_default.is at c.in_ok-item.ensures.pops in
+    let p : Pops g.E.Eviction.model (g.E.Eviction.view s.eviction) None (g.E.Eviction.view c.pop.new.self) =
+    rw c.in_default.is at c.in_ok-item.ensures.pops in
     let places = rw c.in_default.is at c.in_ok-item.ensures.none in
     record {
       kept = still_kept (meaning_of s) laws lawful (holding s) (g.E.Eviction.view c.pop.new.self) p.1;
-      stored = still_stored (meaning_of s) laws lawful (holding s) (g.E.Eviction.view c.pop.new.self) p.1 (g.E.Eviction.at c.pop.new.self) places;
-      weighed = still_weighed (meaning_of s) laws lawful (holding s) (g.E.Eviction.view c.pop.new.self) p.1 s.usage s.weighed;
-      counted = still_counted (meaning_of s) laws lawful (holding s) (g.E.Eviction.view c.pop.new.self) p.1 s.entries s.counted;
+      stored = still_stored (meaning_of s) laws lawful (holding s) (g.E.Eviction.view c.pop.new.self) p.1
+          (g.E.Eviction.at c.pop.new.self) places;
+      weighed = still_weighed (meaning_of s) laws lawful (holding s) (g.E.Eviction.view c.pop.new.self) p.1 s.usage
+          s.weighed;
+      counted = still_counted (meaning_of s) laws lawful (holding s) (g.E.Eviction.view c.pop.new.self) p.1 s.entries
+          s.counted;
       numbered = s.numbered;
     }
 
@@ -80,7 +87,8 @@ take-requires-after_bounds g c κs within =
     let s = c.args.self.now in
     let p : g.E.Eviction.model.pop (g.E.Eviction.view s.eviction) ≡ Some
     (c.in-Some.item, g.E.Eviction.view c.pop.new.self) = rw c.in-Some.is at c.in_ok-item.ensures.pops in
-    let there : slot_in s.records c.in-Some-find.slot ≡ Some c.in-Some-get.found.now = sym (rw c.in-Some-get.is at c.get.ensures) in
+    let there : slot_in s.records c.in-Some-find.slot ≡ Some c.in-Some-get.found.now =
+    sym (rw c.in-Some-get.is at c.get.ensures) in
     rw (c.hash.ensures, c.key.ensures) (victim_led (meaning_of s) g.met.K.Eq.laws g.met.E.Eviction.lawful (holding s)
     c.in-Some.item (g.E.Eviction.view c.pop.new.self) p c.in-Some-find.slot c.in-Some-get.found.now
     (sym c.find.ensures ∙ c.in-Some-find.is) there)
@@ -90,7 +98,8 @@ overflow_sub-self g c =
     let s = c.args.self.now in
     let p : g.E.Eviction.model.pop (g.E.Eviction.view s.eviction) ≡ Some
     (c.in-Some.item, g.E.Eviction.view c.pop.new.self) = rw c.in-Some.is at c.in_ok-item.ensures.pops in
-    victim_lighter (meaning_of s) g.met.K.Eq.laws g.met.E.Eviction.lawful (holding s) c.in-Some.item (g.E.Eviction.view c.pop.new.self) p s.usage s.weighed
+    victim_lighter (meaning_of s) g.met.K.Eq.laws g.met.E.Eviction.lawful (holding s) c.in-Some.item
+    (g.E.Eviction.view c.pop.new.self) p s.usage s.weighed
 
 pub overflow_sub-self-2 : goal.overflow_sub-self-2
 overflow_sub-self-2 g c =
@@ -105,11 +114,13 @@ leave-requires g c =
     let s = c.args.self.now in
     let p : g.E.Eviction.model.pop (g.E.Eviction.view s.eviction) ≡ Some
     (c.in-Some.item, g.E.Eviction.view c.pop.new.self) = rw c.in-Some.is at c.in_ok-item.ensures.pops in
-    let there : slot_in s.records c.in-Some-find.slot ≡ Some c.in-Some-get.found.now = sym (rw c.in-Some-get.is at c.get.ensures) in
+    let there : slot_in s.records c.in-Some-find.slot ≡ Some c.in-Some-get.found.now =
+    sym (rw c.in-Some-get.is at c.get.ensures) in
     let res = victim_resident (meaning_of s) g.met.K.Eq.laws g.met.E.Eviction.lawful (holding s) c.in-Some.item
     (g.E.Eviction.view c.pop.new.self) p c.in-Some-find.slot c.in-Some-get.found.now
     (sym c.find.ensures ∙ c.in-Some-find.is) there in
-    subst (λ (o : Option (Kept g.row.K.Denot g.row.V.Denot g.row.P.Denot)). IsSomeAnd o (λ x. x.resident ≡ true)) (sym there) res
+    subst (λ (o : Option (Kept g.row.K.Denot g.row.V.Denot g.row.P.Denot)). IsSomeAnd o (λ x. x.resident ≡ true))
+    (sym there) res
 
 pub invariant_of-self-2 : goal.invariant_of-self-2
 invariant_of-self-2 g c =
@@ -118,9 +129,11 @@ invariant_of-self-2 g c =
     let laws = g.met.K.Eq.laws in
     let v = g.E.Eviction.view c.pop.new.self in
     let x = c.in-Some-get.found.now in
-    let p : g.E.Eviction.model.pop (g.E.Eviction.view s.eviction) ≡ Some (c.in-Some.item, v) = rw c.in-Some.is at c.in_ok-item.ensures.pops in
+    let p : g.E.Eviction.model.pop (g.E.Eviction.view s.eviction) ≡ Some (c.in-Some.item, v) =
+    rw c.in-Some.is at c.in_ok-item.ensures.pops in
     let there : slot_in s.records c.in-Some-find.slot ≡ Some x = sym (rw c.in-Some-get.is at c.get.ensures) in
-    let known : number_of s.records c.in-Some.item.id ≡ Some c.in-Some-find.slot = sym c.find.ensures ∙ c.in-Some-find.is in
+    let known : number_of s.records c.in-Some.item.id ≡ Some c.in-Some-find.slot = sym c.find.ensures
+    ∙ c.in-Some-find.is in
     let places : (q : ℕ) → g.E.Eviction.at c.pop.new.self q ≡ without c.in-Some.item.id (g.E.Eviction.at s.eviction q)
     = rw c.in-Some.is at c.in_ok-item.ensures.places in
     let gone = rw (c.hash.ensures, c.key.ensures) at c.take.ensures in
@@ -145,9 +158,11 @@ returns-clause-some g c =
     let laws = g.met.K.Eq.laws in
     let v = g.E.Eviction.view c.pop.new.self in
     let x = c.in-Some-get.found.now in
-    let p : g.E.Eviction.model.pop (g.E.Eviction.view s.eviction) ≡ Some (c.in-Some.item, v) = rw c.in-Some.is at c.in_ok-item.ensures.pops in
+    let p : g.E.Eviction.model.pop (g.E.Eviction.view s.eviction) ≡ Some (c.in-Some.item, v) =
+    rw c.in-Some.is at c.in_ok-item.ensures.pops in
     let there : slot_in s.records c.in-Some-find.slot ≡ Some x = sym (rw c.in-Some-get.is at c.get.ensures) in
-    let known : number_of s.records c.in-Some.item.id ≡ Some c.in-Some-find.slot = sym c.find.ensures ∙ c.in-Some-find.is in
+    let known : number_of s.records c.in-Some.item.id ≡ Some c.in-Some-find.slot = sym c.find.ensures
+    ∙ c.in-Some-find.is in
     let places : (q : ℕ) → g.E.Eviction.at c.pop.new.self q ≡ without c.in-Some.item.id (g.E.Eviction.at s.eviction q)
     = rw c.in-Some.is at c.in_ok-item.ensures.places in
     let gone = rw (c.hash.ensures, c.key.ensures) at c.take.ensures in
@@ -159,7 +174,8 @@ returns-clause-some g c =
       there = victim_record (meaning_of s) laws lawful (holding s) c.in-Some.item v p c.in-Some-find.slot x known
           there c.leave.new.self (c.leave.ensures.slots x there) (c.leave.ensures.records x there)
           (g.E.Eviction.at c.pop.new.self) places (g.I.Finder.view c.take.new.self) gone;
-      gone_is = c.leave.ensures.left x there ∙ victim_gone (meaning_of s) laws lawful (holding s) c.in-Some.item v p c.in-Some-find.slot x known there;
+      gone_is = c.leave.ensures.left x there ∙ victim_gone (meaning_of s) laws lawful (holding s) c.in-Some.item v p
+          c.in-Some-find.slot x known there;
       after = victim_after (meaning_of s) laws lawful (holding s) c.in-Some.item v p c.in-Some-find.slot x known there
           c.leave.new.self (c.leave.ensures.slots x there) (c.leave.ensures.records x there)
           (g.E.Eviction.at c.pop.new.self) places (g.I.Finder.view c.take.new.self) gone;

@@ -12,7 +12,8 @@ loop-self-init g c =
     let s = c.args.self.now in
     let m = meaning_of s in
     record {
-      begun = goes_start c.args.leaves.now.items (λ ls. Begun m c.args.target (state_of s) ls (state_of s)) (begun-start m c.args.target (state_of s));
+      begun = goes_start c.args.leaves.now.items (λ ls. Begun m c.args.target (state_of s) ls (state_of s))
+          (begun-start m c.args.target (state_of s));
       one_more = λ h. h;
       room = λ h. h;
       policy_room = omega arith;
@@ -21,7 +22,8 @@ loop-self-init g c =
 pub loop-self-smaller : goal.loop-self-smaller
 loop-self-smaller g c =
     let m = meaning_of c.args.self.now in
-    let e : EvictsOne m (state_of c.loop-self.self) c.in-Ok-Some.left (state_of c.evict_one.new.self) = rw c.in-Ok-Some.field-0-is at c.in-Ok-Some.ensures.some in
+    let e : EvictsOne m (state_of c.loop-self.self) c.in-Ok-Some.left (state_of c.evict_one.new.self) =
+    rw c.in-Ok-Some.field-0-is at c.in-Ok-Some.ensures.some in
     let shorter = popped_shorter m g.met.E.Eviction.lawful (state_of c.loop-self.self) e.item e.view e.popped in
     let view : (state_of c.evict_one.new.self).view ≡ e.view = ap (λ s. s.view) e.after in
     rw view (omega arith)
@@ -34,11 +36,14 @@ loop-self-preserved g c =
     let new = state_of c.evict_one.new.self in
     let e : EvictsOne m mid c.in-Ok-Some.left new = rw c.in-Ok-Some.field-0-is at c.in-Ok-Some.ensures.some in
     let inv = c.loop-self.invariant in
-    let above : c.args.target < usage_of m mid = subst (λ (n : ℕ). c.args.target < n) c.loop-self.self.weighed c.loop-self-test.true in
+    let above : c.args.target < usage_of m mid =
+    subst (λ (n : ℕ). c.args.target < n) c.loop-self.self.weighed c.loop-self-test.true in
     record {
       begun = rw (c.push_reserved.ensures.items, c.in-Ok.ensures.items)
-          (goes_more c.args.leaves.now.items c.loop-self.leaves.items (λ ls. Begun m c.args.target old ls mid) (λ ls. Begun m c.args.target old ls new) (Evict, c.in-Ok-Some.left)
-          (λ ls h. begun-evicts m g.met.E.Eviction.lawful c.args.target old ls mid h above c.in-Ok-Some.left new e) inv.begun);
+          (goes_more c.args.leaves.now.items c.loop-self.leaves.items (λ ls. Begun m c.args.target old ls mid)
+          (λ ls. Begun m c.args.target old ls new) (Evict, c.in-Ok-Some.left)
+          (λ ls h. begun-evicts m g.met.E.Eviction.lawful c.args.target old ls mid h above c.in-Ok-Some.left new e)
+          inv.begun);
       one_more = λ h. omega (arith, c.in-Ok.ensures.ok, c.push_reserved.ensures.len, c.push_reserved.ensures.capacity);
       room = λ r. c.in-Ok-Some.ensures.room (inv.room r);
       policy_room = omega (arith, c.in-Ok-Some.ensures.policy_room, inv.policy_room);
@@ -50,7 +55,9 @@ returns-in-Ok-None-clause-done g c =
     let old = state_of c.args.self.now in
     let mid = state_of c.loop-self.self in
     let none = rw c.in-Ok-None.field-0-is at c.in-Ok-None.ensures.none in
-    rw (c.in-Ok.ensures.items, none.1) (goes_so c.args.leaves.now.items c.loop-self.leaves.items (λ ls. Begun m c.args.target old ls mid) (λ ls. Evicts m c.args.target old ls mid)
+    rw (c.in-Ok.ensures.items, none.1)
+    (goes_so c.args.leaves.now.items c.loop-self.leaves.items (λ ls. Begun m c.args.target old ls mid)
+    (λ ls. Evicts m c.args.target old ls mid)
     (λ ls h. begun-none m c.args.target old ls mid h none.0) c.loop-self.invariant.begun)
 
 pub returns-clause-done : goal.returns-clause-done
@@ -58,6 +65,8 @@ returns-clause-done g c =
     let m = meaning_of c.args.self.now in
     let old = state_of c.args.self.now in
     let mid = state_of c.loop-self.self in
-    let low : usage_of m mid ≤ c.args.target = subst (λ (n : ℕ). n ≤ c.args.target) c.loop-self.self.weighed c.loop-self-test.false in
-    goes_so c.args.leaves.now.items c.loop-self.leaves.items (λ ls. Begun m c.args.target old ls mid) (λ ls. Evicts m c.args.target old ls mid)
+    let low : usage_of m mid ≤ c.args.target =
+    subst (λ (n : ℕ). n ≤ c.args.target) c.loop-self.self.weighed c.loop-self-test.false in
+    goes_so c.args.leaves.now.items c.loop-self.leaves.items (λ ls. Begun m c.args.target old ls mid)
+    (λ ls. Evicts m c.args.target old ls mid)
     (λ ls h. begun-low m c.args.target old ls mid h low) c.loop-self.invariant.begun

@@ -8,7 +8,8 @@ use Rattle.foyer_core.proofs.store.Store.evict_onto.Given as goal
 -- what left so far is a beginning of the evictions
 abbrev pub invariant-loop-self : goal.invariant-loop-self
 invariant-loop-self g l = record {
-  begun : GoesOn l.fn.leaves.items l.leaves.items (λ ls. Begun (meaning_of l.fn.self) l.target (state_of l.fn.self) ls (state_of l.self));
+  begun : GoesOn l.fn.leaves.items l.leaves.items
+      (λ ls. Begun (meaning_of l.fn.self) l.target (state_of l.fn.self) ls (state_of l.self));
   one_more : vec_len l.fn.leaves < vec_capacity l.fn.leaves → vec_len l.leaves < vec_capacity l.leaves;
   room : HasRoom l.fn.self.records → HasRoom l.self.records;
   policy_room : g.E.Eviction.room l.fn.self.eviction ≤ g.E.Eviction.room l.self.eviction;

@@ -7,7 +7,9 @@ use Rattle.foyer_core.proofs.store.Store.evict_picked.Given as goal
 
 abbrev pub invariant-loop-item : goal.invariant-loop-item
 invariant-loop-item g l = record {
-  begun : GoesOn l.fn.leaves.items l.leaves.items (λ ls. OutSoFar (meaning_of l.fn.self) Evict (state_of l.fn.self) (take l.item-index l.picked) (drop l.item-index l.picked) ls (state_of l.self));
+  begun : GoesOn l.fn.leaves.items l.leaves.items
+      (λ ls. OutSoFar (meaning_of l.fn.self) Evict (state_of l.fn.self) (take l.item-index l.picked)
+      (drop l.item-index l.picked) ls (state_of l.self));
   len : vec_len l.leaves + length (drop l.item-index l.picked) ≡ vec_len l.fn.leaves + length l.picked;
   capacity : vec_capacity l.leaves ≡ vec_capacity l.fn.leaves;
 }

@@ -11,20 +11,24 @@ use Rattle.foyer_core.proofs.store.Store.evict_unpinned.Goals as goal
 pub loop-self-init : goal.loop-self-init
 loop-self-init g c =
     let s = c.args.self.now in
-    goes_start c.args.leaves.now.items (λ ls. BegunAll (meaning_of s) (state_of s) ls (state_of s)) (all-start (meaning_of s) (state_of s))
+    goes_start c.args.leaves.now.items (λ ls. BegunAll (meaning_of s) (state_of s) ls (state_of s))
+    (all-start (meaning_of s) (state_of s))
 
 pub returns-in_default-clause-refused : goal.returns-in_default-clause-refused
 returns-in_default-clause-refused g c =
     let m = meaning_of c.args.self.now in
     let old = state_of c.args.self.now in
     let mid = state_of c.loop-self.self in
-    rw c.reserve.ensures.items (goes_so c.args.leaves.now.items c.loop-self.leaves.items (λ ls. BegunAll m old ls mid) (λ ls. EvictingUnpinned m old ls mid)
+    rw c.reserve.ensures.items
+    (goes_so c.args.leaves.now.items c.loop-self.leaves.items (λ ls. BegunAll m old ls mid)
+    (λ ls. EvictingUnpinned m old ls mid)
     (λ ls h. all-refused m old ls mid h) c.loop-self.invariant)
 
 pub loop-self-smaller : goal.loop-self-smaller
 loop-self-smaller g c =
     let m = meaning_of c.args.self.now in
-    let e : EvictsOne m (state_of c.loop-self.self) c.in-Ok-Some.left (state_of c.evict_one.new.self) = rw c.in-Ok-Some.field-0-is at c.in-Ok-Some.ensures.some in
+    let e : EvictsOne m (state_of c.loop-self.self) c.in-Ok-Some.left (state_of c.evict_one.new.self) =
+    rw c.in-Ok-Some.field-0-is at c.in-Ok-Some.ensures.some in
     let shorter = popped_shorter m g.met.E.Eviction.lawful (state_of c.loop-self.self) e.item e.view e.popped in
     let view : (state_of c.evict_one.new.self).view ≡ e.view = ap (λ s. s.view) e.after in
     rw view (omega arith)
@@ -37,7 +41,8 @@ loop-self-preserved g c =
     let new = state_of c.evict_one.new.self in
     let e : EvictsOne m mid c.in-Ok-Some.left new = rw c.in-Ok-Some.field-0-is at c.in-Ok-Some.ensures.some in
     rw (c.push_reserved.ensures.items, c.reserve.ensures.items)
-    (goes_more c.args.leaves.now.items c.loop-self.leaves.items (λ ls. BegunAll m old ls mid) (λ ls. BegunAll m old ls new) (Evict, c.in-Ok-Some.left)
+    (goes_more c.args.leaves.now.items c.loop-self.leaves.items (λ ls. BegunAll m old ls mid)
+    (λ ls. BegunAll m old ls new) (Evict, c.in-Ok-Some.left)
     (λ ls h. all-evicts m g.met.E.Eviction.lawful old ls mid h c.in-Ok-Some.left new e) c.loop-self.invariant)
 
 pub returns-in-Ok-None-clause-done : goal.returns-in-Ok-None-clause-done
@@ -46,7 +51,9 @@ returns-in-Ok-None-clause-done g c =
     let old = state_of c.args.self.now in
     let mid = state_of c.loop-self.self in
     let none = rw c.in-Ok-None.field-0-is at c.in-Ok-None.ensures.none in
-    rw (c.reserve.ensures.items, none.1) (goes_so c.args.leaves.now.items c.loop-self.leaves.items (λ ls. BegunAll m old ls mid) (λ ls. EvictsUnpinned m old ls mid)
+    rw (c.reserve.ensures.items, none.1)
+    (goes_so c.args.leaves.now.items c.loop-self.leaves.items (λ ls. BegunAll m old ls mid)
+    (λ ls. EvictsUnpinned m old ls mid)
     (λ ls h. all-none m old ls mid h none.0) c.loop-self.invariant)
 
 pub returns-in-Err-clause-refused : goal.returns-in-Err-clause-refused
@@ -54,5 +61,7 @@ returns-in-Err-clause-refused g c =
     let m = meaning_of c.args.self.now in
     let old = state_of c.args.self.now in
     let mid = state_of c.loop-self.self in
-    rw (c.reserve.ensures.items, c.in-Err.ensures.err) (goes_so c.args.leaves.now.items c.loop-self.leaves.items (λ ls. BegunAll m old ls mid) (λ ls. EvictingUnpinned m old ls mid)
+    rw (c.reserve.ensures.items, c.in-Err.ensures.err)
+    (goes_so c.args.leaves.now.items c.loop-self.leaves.items (λ ls. BegunAll m old ls mid)
+    (λ ls. EvictingUnpinned m old ls mid)
     (λ ls h. all-refused m old ls mid h) c.loop-self.invariant)

@@ -6,7 +6,8 @@ use Rattle.foyer_core.proofs.store.Store.evict_unpinned.Given as goal
 
 -- what left so far is a beginning of the pops
 abbrev pub invariant-loop-self : goal.invariant-loop-self
-invariant-loop-self g l = GoesOn l.fn.leaves.items l.leaves.items (λ ls. BegunAll (meaning_of l.fn.self) (state_of l.fn.self) ls (state_of l.self))
+invariant-loop-self g l = GoesOn l.fn.leaves.items l.leaves.items
+    (λ ls. BegunAll (meaning_of l.fn.self) (state_of l.fn.self) ls (state_of l.self))
 
 abbrev pub decreases-loop-self : goal.decreases-loop-self
 decreases-loop-self g l = length (g.E.Eviction.model.order (g.E.Eviction.view l.self.eviction))

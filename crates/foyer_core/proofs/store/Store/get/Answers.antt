@@ -12,7 +12,8 @@ pub unreachable-requires : goal.unreachable-requires
 unreachable-requires g c =
     let s = c.args.self.now in
     let none : slot_in s.records c.in-Some.slot ≡ None = sym (rw c.in_default-get.is at c.get.ensures) in
-    none_not (slot_in s.records c.in-Some.slot) (s.stored.led (c.args.hash, c.args.key.now) c.in-Some.slot (sym c.slot_under.ensures ∙ c.in-Some.is)) none
+    none_not (slot_in s.records c.in-Some.slot)
+    (s.stored.led (c.args.hash, c.args.key.now) c.in-Some.slot (sym c.slot_under.ensures ∙ c.in-Some.is)) none
 
 pub returns-then-handles-self : goal.returns-then-handles-self
 returns-then-handles-self g c =
@@ -24,8 +25,10 @@ returns-then-handles-self g c =
       gets = (
         x.id,
         rec_of x,
-        hits (meaning_of s) g.met.K.Eq.laws g.met.E.Eviction.lawful (holding s) (c.args.hash, c.args.key.now) c.in-Some.slot led x there,
-        found (meaning_of s) g.met.K.Eq.laws g.met.E.Eviction.lawful (holding s) (c.args.hash, c.args.key.now) c.in-Some.slot led x there,
+        hits (meaning_of s) g.met.K.Eq.laws g.met.E.Eviction.lawful (holding s) (c.args.hash, c.args.key.now)
+            c.in-Some.slot led x there,
+        found (meaning_of s) g.met.K.Eq.laws g.met.E.Eviction.lawful (holding s) (c.args.hash, c.args.key.now)
+            c.in-Some.slot led x there,
         omega (arith, c.handles.ensures, c.if-handles-self.true),
         refl,
       );
@@ -83,7 +86,8 @@ invariant_of-self g c =
     let led = sym c.slot_under.ensures ∙ c.in-Some.is in
     let at = placed m laws lawful (holding s) (c.args.hash, c.args.key.now) c.in-Some.slot led x there
     c.in-Some-place.place (sym c.place.ensures ∙ c.in-Some-place.is) in
-    let viewed : g.E.Eviction.view c.acquire.new.self ≡ m.policy.acquire (g.E.Eviction.view s.eviction) x.id = rw at at c.acquire.ensures.view in
+    let viewed : g.E.Eviction.view c.acquire.new.self ≡ m.policy.acquire (g.E.Eviction.view s.eviction) x.id =
+    rw at at c.acquire.ensures.view in
     let write = c.add_handle.ensures.slots x there in
     record {
       kept = got_kept m laws lawful (holding s) (c.args.hash, c.args.key.now) c.in-Some.slot led x there
@@ -112,7 +116,8 @@ returns g c =
     let led = sym c.slot_under.ensures ∙ c.in-Some.is in
     let at = placed m laws lawful (holding s) (c.args.hash, c.args.key.now) c.in-Some.slot led x there
     c.in-Some-place.place (sym c.place.ensures ∙ c.in-Some-place.is) in
-    let viewed : g.E.Eviction.view c.acquire.new.self ≡ m.policy.acquire (g.E.Eviction.view s.eviction) x.id = rw at at c.acquire.ensures.view in
+    let viewed : g.E.Eviction.view c.acquire.new.self ≡ m.policy.acquire (g.E.Eviction.view s.eviction) x.id =
+    rw at at c.acquire.ensures.view in
     let write = c.add_handle.ensures.slots x there in
     rw c.in_ok-entry.ensures.entry record {
       gets = (

@@ -11,7 +11,8 @@ pub unreachable-requires : goal.unreachable-requires
 unreachable-requires g c =
     let s = c.args.self.now in
     let none : slot_in s.records c.in-Some.slot ≡ None = sym (rw c.in_default-get.is at c.get.ensures) in
-    none_not (slot_in s.records c.in-Some.slot) (s.stored.led (c.args.hash, c.args.key.now) c.in-Some.slot (sym c.slot_under.ensures ∙ c.in-Some.is)) none
+    none_not (slot_in s.records c.in-Some.slot)
+    (s.stored.led (c.args.hash, c.args.key.now) c.in-Some.slot (sym c.slot_under.ensures ∙ c.in-Some.is)) none
 
 pub returns-then-handles-self-clause-some : goal.returns-then-handles-self-clause-some
 returns-then-handles-self-clause-some g c =
@@ -23,8 +24,10 @@ returns-then-handles-self-clause-some g c =
       (
         x.id,
         rec_of x,
-        hits (meaning_of s) g.met.K.Eq.laws g.met.E.Eviction.lawful (holding s) (c.args.hash, c.args.key.now) c.in-Some.slot led x there,
-        found (meaning_of s) g.met.K.Eq.laws g.met.E.Eviction.lawful (holding s) (c.args.hash, c.args.key.now) c.in-Some.slot led x there,
+        hits (meaning_of s) g.met.K.Eq.laws g.met.E.Eviction.lawful (holding s) (c.args.hash, c.args.key.now)
+            c.in-Some.slot led x there,
+        found (meaning_of s) g.met.K.Eq.laws g.met.E.Eviction.lawful (holding s) (c.args.hash, c.args.key.now)
+            c.in-Some.slot led x there,
         omega (arith, c.handles.ensures, c.if-handles-self.true),
         refl,
       ),

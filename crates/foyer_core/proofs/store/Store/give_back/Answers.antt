@@ -37,7 +37,8 @@ invariant_of-self g c =
     record {
       kept = took_kept m laws lawful (holding s) c.in-Some.slot x there t write c.take_handle.ensures.ids
           (omega (arith, c.handles-handles.ensures, c.if-handles-gt1.true));
-      stored = took_stored m laws lawful (holding s) c.in-Some.slot x there t write c.take_handle.ensures.ids (g.E.Eviction.at s.eviction) (λ p. refl);
+      stored = took_stored m laws lawful (holding s) c.in-Some.slot x there t write c.take_handle.ensures.ids
+          (g.E.Eviction.at s.eviction) (λ p. refl);
       weighed = s.weighed;
       counted = s.counted;
       numbered = s.numbered;
@@ -47,7 +48,8 @@ pub returns-then-handles-gt1-clause-taken : goal.returns-then-handles-gt1-clause
 returns-then-handles-gt1-clause-taken g c =
     let s = c.args.self.now in
     let m = meaning_of s in
-    let named : number_of s.records c.args.entry.id ≡ Some c.in-Some.slot = sym (ap (number_of s.records) c.id.ensures) ∙ sym c.find.ensures ∙ c.in-Some.is in
+    let named : number_of s.records c.args.entry.id ≡ Some c.in-Some.slot =
+    sym (ap (number_of s.records) c.id.ensures) ∙ sym c.find.ensures ∙ c.in-Some.is in
     let x = c.in-Some-get.found.now in
     let there : slot_in s.records c.in-Some.slot ≡ Some x = sym (rw c.in-Some-get.is at c.get.ensures) in
     let t = c.take_handle.new.self in
@@ -61,7 +63,8 @@ returns-then-handles-gt1-clause-taken g c =
 pub returns-then-not-is_resident-clause-taken : goal.returns-then-not-is_resident-clause-taken
 returns-then-not-is_resident-clause-taken g c =
     let s = c.args.self.now in
-    let named : number_of s.records c.args.entry.id ≡ Some c.in-Some.slot = sym (ap (number_of s.records) c.id.ensures) ∙ sym c.find.ensures ∙ c.in-Some.is in
+    let named : number_of s.records c.args.entry.id ≡ Some c.in-Some.slot =
+    sym (ap (number_of s.records) c.id.ensures) ∙ sym c.find.ensures ∙ c.in-Some.is in
     let x = c.in-Some-get.found.now in
     let there : slot_in s.records c.in-Some.slot ≡ Some x = sym (rw c.in-Some-get.is at c.get.ensures) in (
       omega (arith, c.number.ensures, c.if-number-self.false),
@@ -97,7 +100,8 @@ invariant_of-self-2 g c =
     let x = c.in-Some-get.found.now in
     let there : slot_in s.records c.in-Some.slot ≡ Some x = sym (rw c.in-Some-get.is at c.get.ensures) in
     let res : x.resident ≡ true = sym c.is_resident.ensures ∙ c.if-not-is_resident.false in
-    let one : x.handles ≡ 1 = omega (arith, c.handles-handles.ensures, c.if-handles-eq0.false, c.if-handles-gt1.false) in
+    let one : x.handles ≡ 1 =
+    omega (arith, c.handles-handles.ensures, c.if-handles-eq0.false, c.if-handles-gt1.false) in
     let at = place_there m (g.E.Eviction.at s.eviction) (g.I.Finder.view s.index) s.records s.stored c.in-Some.slot x
     c.in-Some-place.place there res (sym c.place.ensures ∙ c.in-Some-place.is) in
     let view = g.E.Eviction.view c.release.new.self in
@@ -105,11 +109,14 @@ invariant_of-self-2 g c =
     let t = c.take_handle-2.new.self in
     let write = c.take_handle-2.ensures.slots x there in
     record {
-      kept = released_kept m laws lawful (holding s) c.in-Some.slot x there t write c.take_handle-2.ensures.ids one res view viewed;
+      kept = released_kept m laws lawful (holding s) c.in-Some.slot x there t write c.take_handle-2.ensures.ids one
+          res view viewed;
       stored = took_stored m laws lawful (holding s) c.in-Some.slot x there t write c.take_handle-2.ensures.ids
           (g.E.Eviction.at c.release.new.self) c.release.ensures.places;
-      weighed = released_weight m laws lawful (holding s) c.in-Some.slot x there t write c.take_handle-2.ensures.ids one res view viewed s.usage s.weighed;
-      counted = released_entries m laws lawful (holding s) c.in-Some.slot x there t write c.take_handle-2.ensures.ids one res view viewed s.entries s.counted;
+      weighed = released_weight m laws lawful (holding s) c.in-Some.slot x there t write c.take_handle-2.ensures.ids
+          one res view viewed s.usage s.weighed;
+      counted = released_entries m laws lawful (holding s) c.in-Some.slot x there t write c.take_handle-2.ensures.ids
+          one res view viewed s.entries s.counted;
       numbered = s.numbered;
     }
 
@@ -117,11 +124,13 @@ pub returns-clause-taken : goal.returns-clause-taken
 returns-clause-taken g c =
     let s = c.args.self.now in
     let m = meaning_of s in
-    let named : number_of s.records c.args.entry.id ≡ Some c.in-Some.slot = sym (ap (number_of s.records) c.id.ensures) ∙ sym c.find.ensures ∙ c.in-Some.is in
+    let named : number_of s.records c.args.entry.id ≡ Some c.in-Some.slot =
+    sym (ap (number_of s.records) c.id.ensures) ∙ sym c.find.ensures ∙ c.in-Some.is in
     let x = c.in-Some-get.found.now in
     let there : slot_in s.records c.in-Some.slot ≡ Some x = sym (rw c.in-Some-get.is at c.get.ensures) in
     let res : x.resident ≡ true = sym c.is_resident.ensures ∙ c.if-not-is_resident.false in
-    let one : x.handles ≡ 1 = omega (arith, c.handles-handles.ensures, c.if-handles-eq0.false, c.if-handles-gt1.false) in
+    let one : x.handles ≡ 1 =
+    omega (arith, c.handles-handles.ensures, c.if-handles-eq0.false, c.if-handles-gt1.false) in
     let at = place_there m (g.E.Eviction.at s.eviction) (g.I.Finder.view s.index) s.records s.stored c.in-Some.slot x
     c.in-Some-place.place there res (sym c.place.ensures ∙ c.in-Some-place.is) in
     let view = g.E.Eviction.view c.release.new.self in

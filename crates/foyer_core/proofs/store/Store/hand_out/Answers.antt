@@ -24,7 +24,8 @@ invariant_of-self g c =
       kept = gained_kept m laws lawful (holding s) c.args.slot x there (1 + c.args.further.count) t write
           c.add_handles.ensures.ids (omega arith) (omega
           (arith, c.handles.ensures, c.passes_limit.ensures.within c.if-passes_limit.false));
-      stored = gained_stored m laws lawful (holding s) c.args.slot x there (1 + c.args.further.count) t write c.add_handles.ensures.ids;
+      stored = gained_stored m laws lawful (holding s) c.args.slot x there (1 + c.args.further.count) t write
+          c.add_handles.ensures.ids;
       weighed = s.weighed;
       counted = s.counted;
       numbered = s.numbered;

@@ -15,11 +15,16 @@ invariant_of-self g c =
     let m = meaning_of s in
     let inc : Incoming g.row.K.Denot g.row.V.Denot g.row.P.Denot = incoming_of c.args.slot in
     let n = c.put-place.result.0 in
-    let unled = led_not m g.met.K.Eq.laws g.met.E.Eviction.lawful (holding s) n c.put-place.result.1 c.put-place.ensures.stood (λ r h. c.requires.out r (c.put-place.ensures.was ∙ h)) in
-    let next : c.above-self.result ≡ max s.next (inc.id + 1) = c.above-self.ensures ∙ ap (λ (a : ℕ). max s.next (a + 1)) c.id-id.ensures in
+    let unled = led_not m g.met.K.Eq.laws g.met.E.Eviction.lawful (holding s) n c.put-place.result.1
+    c.put-place.ensures.stood (λ r h. c.requires.out r (c.put-place.ensures.was ∙ h)) in
+    let next : c.above-self.result ≡ max s.next (inc.id + 1) = c.above-self.ensures
+    ∙ ap (λ (a : ℕ). max s.next (a + 1)) c.id-id.ensures in
     record {
-      kept = held_kept m (holding s) inc n unled c.args.slot c.requires.apart c.put-place.new.self c.put-place.ensures.slots c.put-place.ensures.records c.above-self.result next c.requires.out c.requires.held c.requires.handles;
-      stored = held_stored m (holding s) inc n unled c.args.slot c.requires.apart c.put-place.new.self c.put-place.ensures.slots c.put-place.ensures.records;
+      kept = held_kept m (holding s) inc n unled c.args.slot c.requires.apart c.put-place.new.self
+          c.put-place.ensures.slots c.put-place.ensures.records c.above-self.result next c.requires.out
+          c.requires.held c.requires.handles;
+      stored = held_stored m (holding s) inc n unled c.args.slot c.requires.apart c.put-place.new.self
+          c.put-place.ensures.slots c.put-place.ensures.records;
       weighed = s.weighed;
       counted = s.counted;
       numbered = rw next (omega (arith, s.numbered));
@@ -31,6 +36,9 @@ returns g c =
     let m = meaning_of s in
     let inc : Incoming g.row.K.Denot g.row.V.Denot g.row.P.Denot = incoming_of c.args.slot in
     let n = c.put-place.result.0 in
-    let unled = led_not m g.met.K.Eq.laws g.met.E.Eviction.lawful (holding s) n c.put-place.result.1 c.put-place.ensures.stood (λ r h. c.requires.out r (c.put-place.ensures.was ∙ h)) in
-    let next : c.above-self.result ≡ max s.next (inc.id + 1) = c.above-self.ensures ∙ ap (λ (a : ℕ). max s.next (a + 1)) c.id-id.ensures in
-    held_after m (holding s) inc n unled c.args.slot c.requires.apart c.put-place.new.self c.put-place.ensures.slots c.put-place.ensures.records c.above-self.result next
+    let unled = led_not m g.met.K.Eq.laws g.met.E.Eviction.lawful (holding s) n c.put-place.result.1
+    c.put-place.ensures.stood (λ r h. c.requires.out r (c.put-place.ensures.was ∙ h)) in
+    let next : c.above-self.result ≡ max s.next (inc.id + 1) = c.above-self.ensures
+    ∙ ap (λ (a : ℕ). max s.next (a + 1)) c.id-id.ensures in
+    held_after m (holding s) inc n unled c.args.slot c.requires.apart c.put-place.new.self c.put-place.ensures.slots
+    c.put-place.ensures.records c.above-self.result next

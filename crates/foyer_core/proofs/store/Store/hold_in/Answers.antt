@@ -16,18 +16,26 @@ hold-requires-clause-out g c κs within =
     let s = c.args.self.now in
     let m = meaning_of s in
     let inc : Incoming g.row.K.Denot g.row.V.Denot g.row.P.Denot = incoming_of c.args.slot in
-    let way : GivesWay m ((state_of s).index (key_of inc.kept)) (state_of s) (replaced_leaves c.make_way.result) (state_of c.make_way.new.self) =
-    subst (λ st. GivesWay m (st.index (key_of inc.kept)) st (replaced_leaves c.make_way.result) (state_of c.make_way.new.self)) c.in-Ok.ensures.same (rw (c.hash.ensures, c.key.ensures) at c.make_way.ensures.gives_way) in
-    way-out m ((state_of s).index (key_of inc.kept)) (state_of s) (replaced_leaves c.make_way.result) (state_of c.make_way.new.self) way inc.id c.requires.out
+    let way : GivesWay m ((state_of s).index (key_of inc.kept)) (state_of s) (replaced_leaves c.make_way.result)
+    (state_of c.make_way.new.self) =
+    subst (λ st. GivesWay m (st.index (key_of inc.kept)) st (replaced_leaves c.make_way.result)
+    (state_of c.make_way.new.self)) c.in-Ok.ensures.same
+    (rw (c.hash.ensures, c.key.ensures) at c.make_way.ensures.gives_way) in
+    way-out m ((state_of s).index (key_of inc.kept)) (state_of s) (replaced_leaves c.make_way.result)
+    (state_of c.make_way.new.self) way inc.id c.requires.out
 
 pub hold-requires-clause-handles : goal.hold-requires-clause-handles
 hold-requires-clause-handles g c κs within =
     let s = c.args.self.now in
     let m = meaning_of s in
     let inc : Incoming g.row.K.Denot g.row.V.Denot g.row.P.Denot = incoming_of c.args.slot in
-    let way : GivesWay m ((state_of s).index (key_of inc.kept)) (state_of s) (replaced_leaves c.make_way.result) (state_of c.make_way.new.self) =
-    subst (λ st. GivesWay m (st.index (key_of inc.kept)) st (replaced_leaves c.make_way.result) (state_of c.make_way.new.self)) c.in-Ok.ensures.same (rw (c.hash.ensures, c.key.ensures) at c.make_way.ensures.gives_way) in
-    let rests = way_rests m (state_of s) inc c.make_way.result (state_of c.make_way.new.self) way g.met.K.Eq.laws g.met.E.Eviction.lawful in
+    let way : GivesWay m ((state_of s).index (key_of inc.kept)) (state_of s) (replaced_leaves c.make_way.result)
+    (state_of c.make_way.new.self) =
+    subst (λ st. GivesWay m (st.index (key_of inc.kept)) st (replaced_leaves c.make_way.result)
+    (state_of c.make_way.new.self)) c.in-Ok.ensures.same
+    (rw (c.hash.ensures, c.key.ensures) at c.make_way.ensures.gives_way) in
+    let rests = way_rests m (state_of s) inc c.make_way.result (state_of c.make_way.new.self) way g.met.K.Eq.laws
+    g.met.E.Eviction.lawful in
     rw rests.limits c.requires.may.1
 
 pub returns : goal.returns
@@ -35,21 +43,42 @@ returns g c =
     let s = c.args.self.now in
     let m = meaning_of s in
     let inc : Incoming g.row.K.Denot g.row.V.Denot g.row.P.Denot = incoming_of c.args.slot in
-    let way : GivesWay m ((state_of s).index (key_of inc.kept)) (state_of s) (replaced_leaves c.make_way.result) (state_of c.make_way.new.self) =
-    subst (λ st. GivesWay m (st.index (key_of inc.kept)) st (replaced_leaves c.make_way.result) (state_of c.make_way.new.self)) c.in-Ok.ensures.same (rw (c.hash.ensures, c.key.ensures) at c.make_way.ensures.gives_way) in
+    let way : GivesWay m ((state_of s).index (key_of inc.kept)) (state_of s) (replaced_leaves c.make_way.result)
+    (state_of c.make_way.new.self) =
+    subst (λ st. GivesWay m (st.index (key_of inc.kept)) st (replaced_leaves c.make_way.result)
+    (state_of c.make_way.new.self)) c.in-Ok.ensures.same
+    (rw (c.hash.ensures, c.key.ensures) at c.make_way.ensures.gives_way) in
     let old = c.args.leaves.now.items in
-    let first : c.match-make_way.leaves.items ≡ old ++ replaced_leaves c.make_way.result = elim c.match-make_way.branch [
+    let first : c.match-make_way.leaves.items ≡ old ++ replaced_leaves c.make_way.result =
+    elim c.match-make_way.branch [
       | in-Some w ↦ rw (w.leaves-is, w.push_reserved.ensures.items, w.in-Some.is, c.in-Ok.ensures.leaves) refl
-      | in_default-make_way w ↦ rw (w.leaves-is, w.in_default-make_way.is, c.in-Ok.ensures.leaves) (sym (append-nil old))
+      | in_default-make_way w ↦ rw (w.leaves-is, w.in_default-make_way.is, c.in-Ok.ensures.leaves)
+          (sym (append-nil old))
     ] in
-    let more = replaced_leaves c.make_way.result ++ (Remove, record { number = s.number; id = inc.id; kept = inc.kept }) ∷ [] in
+    let more = replaced_leaves c.make_way.result
+    ++ (Remove, record { number = s.number; id = inc.id; kept = inc.kept }) ∷ [] in
     let leaves : c.push_reserved-2.new.self.items ≡ old ++ more =
-    rw (c.push_reserved-2.ensures.items, first, c.in-Ok.ensures.gone) (append_assoc old (replaced_leaves c.make_way.result) ((Remove, record { number = s.number; id = inc.id; kept = inc.kept }) ∷ [])) in
-    record { inserted = rw (c.set_slot.ensures, c.in-Ok.ensures.entry, c.hold.ensures) (record { more = more; told = leaves; so = phantom_came m (state_of s) inc c.make_way.result (state_of c.make_way.new.self) way c.args.source c.requires.may more refl }) }
+    rw (c.push_reserved-2.ensures.items, first, c.in-Ok.ensures.gone)
+    (append_assoc old (replaced_leaves c.make_way.result)
+    ((Remove, record { number = s.number; id = inc.id; kept = inc.kept }) ∷ [])) in
+    record {
+      inserted = rw (c.set_slot.ensures, c.in-Ok.ensures.entry, c.hold.ensures)
+          (record {
+            more = more;
+            told = leaves;
+            so =
+                phantom_came m (state_of s) inc c.make_way.result (state_of c.make_way.new.self) way c.args.source
+                c.requires.may more refl;
+          });
+    }
 
 pub returns-in_default : goal.returns-in_default
 returns-in_default g c =
     let s = c.args.self.now in
     let m = meaning_of s in
     let inc : Incoming g.row.K.Denot g.row.V.Denot g.row.P.Denot = incoming_of c.args.slot in
-    record { inserted = rw (c.new.ensures, c.in_default.ensures.leaves, c.in_default.ensures.same) (goes_start c.args.leaves.now.items (λ ls. RefusesPhantom m (state_of s) inc NoMemory ls (state_of s)) (c.requires.may, refl, refl)) }
+    record {
+      inserted = rw (c.new.ensures, c.in_default.ensures.leaves, c.in_default.ensures.same)
+          (goes_start c.args.leaves.now.items (λ ls. RefusesPhantom m (state_of s) inc NoMemory ls (state_of s))
+          (c.requires.may, refl, refl));
+    }

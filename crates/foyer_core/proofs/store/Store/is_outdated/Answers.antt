@@ -11,8 +11,13 @@ use Rattle.foyer_core.proofs.store.Store.is_outdated.Goals as goal
 pub returns : goal.returns
 returns g c =
     let s = c.args.self.now in
-    let named : number_of s.records c.args.entry.now.id ≡ Some c.in-Some.slot = rw c.id.ensures at (sym c.find.ensures ∙ c.in-Some.is) in
+    let named : number_of s.records c.args.entry.now.id ≡ Some c.in-Some.slot =
+    rw c.id.ensures at (sym c.find.ensures ∙ c.in-Some.is) in
     let x = c.in-Some-get.found.now in
     let there : slot_in s.records c.in-Some.slot ≡ Some x = sym (rw c.in-Some-get.is at c.get.ensures) in
-    let tells = outdated_tells (meaning_of s) g.met.K.Eq.laws g.met.E.Eviction.lawful (holding s) c.in-Some.slot x there in
-    rw c.is_resident.ensures (subst (λ (id : ℕ). not x.resident ≡ true ↔ IsOutdated (state_of s) id) (named_id s.records c.args.entry.now.id c.in-Some.slot named x there) (tells_not x.resident (IsOutdated (state_of s) x.id) tells))
+    let tells = outdated_tells (meaning_of s) g.met.K.Eq.laws g.met.E.Eviction.lawful (holding s) c.in-Some.slot x
+    there in
+    rw c.is_resident.ensures
+    (subst (λ (id : ℕ). not x.resident ≡ true ↔ IsOutdated (state_of s) id)
+    (named_id s.records c.args.entry.now.id c.in-Some.slot named x there)
+    (tells_not x.resident (IsOutdated (state_of s) x.id) tells))

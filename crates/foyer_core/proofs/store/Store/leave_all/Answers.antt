@@ -21,7 +21,8 @@ loop-item-init g c =
     let m = meaning g.K.PartialEq.eq g.E.Eviction.model g.P.Properties.hint_of g.P.Properties.phantom_of in
     let is = c.args.items.now in
     record {
-      begun = λ o. goes_start c.args.leaves.now.items (λ ls. Passes m o [] is ls (g.I.Finder.view c.args.index.now) c.args.records.now) (passes-start m o);
+      begun = λ o. goes_start c.args.leaves.now.items
+          (λ ls. Passes m o [] is ls (g.I.Finder.view c.args.index.now) c.args.records.now) (passes-start m o);
       len = refl;
       capacity = refl;
     }
@@ -41,7 +42,8 @@ unreachable-requires g c =
     (λ (l : List Item). Passes m c.requires.lined (take k is) l begun.more keys t) more begun.so in
     let inside = first_in m i (drop (k + 1) is) p.after in
     let h = lined_holding m p.after in
-    none_not (number_of t i.id) (out_known m g.met.K.Eq.laws g.met.E.Eviction.lawful h i.id inside) (sym c.find.ensures ∙ c.in_default.is)
+    none_not (number_of t i.id) (out_known m g.met.K.Eq.laws g.met.E.Eviction.lawful h i.id inside)
+    (sym c.find.ensures ∙ c.in_default.is)
 
 pub leave_slot-left-requires-after_bounds : goal.leave_slot-left-requires-after_bounds
 leave_slot-left-requires-after_bounds g c κs within =
@@ -59,7 +61,8 @@ leave_slot-left-requires-after_bounds g c κs within =
     let inside = first_in m i (drop (k + 1) is) p.after in
     let h = lined_holding m p.after in
     let known : number_of t i.id ≡ Some c.in-Some.slot = sym c.find.ensures ∙ c.in-Some.is in
-    let x = some_of (slot_in t c.in-Some.slot) (out_there m g.met.K.Eq.laws g.met.E.Eviction.lawful h i.id inside c.in-Some.slot known) in
+    let x = some_of (slot_in t c.in-Some.slot)
+    (out_there m g.met.K.Eq.laws g.met.E.Eviction.lawful h i.id inside c.in-Some.slot known) in
     let led = out_led m g.met.K.Eq.laws g.met.E.Eviction.lawful h i.id inside c.in-Some.slot known x.0 x.1 in
     let res = resident m g.met.K.Eq.laws g.met.E.Eviction.lawful h (key_of x.0.kept) c.in-Some.slot led x.0 x.1 in
     subst (λ (o : Option (Kept g.row.K.Denot g.row.V.Denot g.row.P.Denot)). IsSomeAnd o
@@ -81,7 +84,8 @@ loop-item-preserved g c =
     let inside = first_in m i (drop (k + 1) is) p.after in
     let h = lined_holding m p.after in
     let known : number_of t i.id ≡ Some c.in-Some.slot = sym c.find.ensures ∙ c.in-Some.is in
-    let x = some_of (slot_in t c.in-Some.slot) (out_there m g.met.K.Eq.laws g.met.E.Eviction.lawful h i.id inside c.in-Some.slot known) in
+    let x = some_of (slot_in t c.in-Some.slot)
+    (out_there m g.met.K.Eq.laws g.met.E.Eviction.lawful h i.id inside c.in-Some.slot known) in
     let further : take (k + 1) is ≡ take k is ++ i ∷ [] = take_more is k none c.loop-item-test.true in
     let keys' = g.I.Finder.view c.leave_slot-left.new.index in
     let t' = c.leave_slot-left.new.records in
@@ -90,8 +94,10 @@ loop-item-preserved g c =
     let left = c.leave_slot-left.ensures.left x.0 x.1 in
     record {
       begun = λ o. rw (c.push_reserved.ensures.items, further, left)
-          (goes_more c.args.leaves.now.items c.loop-item.leaves.items (λ ls. Passes m o (take k is) (drop k is) ls keys t)
-          (λ ls. Passes m o (take k is ++ i ∷ []) (drop (k + 1) is) ls keys' t') (Clear, record { number = c.args.number; id = x.0.id; kept = x.0.kept })
+          (goes_more c.args.leaves.now.items c.loop-item.leaves.items
+          (λ ls. Passes m o (take k is) (drop k is) ls keys t)
+          (λ ls. Passes m o (take k is ++ i ∷ []) (drop (k + 1) is) ls keys' t')
+          (Clear, record { number = c.args.number; id = x.0.id; kept = x.0.kept })
           (λ ls q. passes-more m g.met.K.Eq.laws g.met.E.Eviction.lawful o (take k is) i (drop (k + 1) is) ls keys t
           (subst (λ (l : List Item). Passes m o (take k is) l ls keys t) more q)
           c.in-Some.slot known x.0 x.1 t' (c.leave_slot-left.ensures.slots x.0 x.1)
@@ -110,7 +116,8 @@ returns-clause-told g c o =
     let t = c.loop-item.records in
     let all : take k is ≡ is = take_all k is (omega (arith, c.loop-item-test.false)) in
     let over : drop k is ≡ [] = drop_all k is (omega (arith, c.loop-item-test.false)) in
-    goes_so c.args.leaves.now.items c.loop-item.leaves.items (λ ls. Passes m o (take k is) (drop k is) ls keys t) (λ ls. Passes m o is [] ls keys t)
+    goes_so c.args.leaves.now.items c.loop-item.leaves.items (λ ls. Passes m o (take k is) (drop k is) ls keys t)
+    (λ ls. Passes m o is [] ls keys t)
     (λ ls q. subst₂ (λ (l r : List Item). Passes m o l r ls keys t) all over q) (c.loop-item.invariant.begun o)
 
 pub returns-clause-len : goal.returns-clause-len

@@ -15,9 +15,11 @@ use Rattle.foyer_core.proofs.store.Store.pick.Goals.{then-says, else-says}
 pub loop-item-init : goal.loop-item-init
 loop-item-init g c =
     let s = c.args.self.now in
-    let all : c.deref-item-items.result.now ≡ g.E.Eviction.model.order (g.E.Eviction.view s.eviction) = c.deref-item-items.ensures.value ∙ c.in_ok-items.ensures.items in
+    let all : c.deref-item-items.result.now ≡ g.E.Eviction.model.order (g.E.Eviction.view s.eviction) =
+    c.deref-item-items.ensures.value ∙ c.in_ok-items.ensures.items in
     record {
-      picked = rw (c.reserve.ensures.items, c.new-picked.ensures.items) (picked-start (Says g.F.Fn c.args.predicate.now) (state_of s));
+      picked = rw (c.reserve.ensures.items, c.new-picked.ensures.items)
+          (picked-start (Says g.F.Fn c.args.predicate.now) (state_of s));
       rest = λ id. rw all (omega arith);
       room = omega (arith, c.in-Ok.ensures.ok, c.len.ensures, c.deref-item-items.ensures.len);
     }
@@ -43,7 +45,8 @@ loop-item-preserved g c =
     let more : drop k is ≡ i ∷ drop (k + 1) is = drop_more is k none c.loop-item-test.true in
     let further : take (k + 1) is ≡ take k is ++ i ∷ [] = take_more is k none c.loop-item-test.true in
     let room = c.loop-item.invariant.room in
-    let picked : c.if-says.picked.items ≡ c.loop-item.picked.items ++ (if c.says.result then i ∷ [] else []) = elim c.if-says.branch [
+    let picked : c.if-says.picked.items ≡ c.loop-item.picked.items ++ (if c.says.result then i ∷ [] else []) =
+    elim c.if-says.branch [
       | then-says w ↦ rw (w.picked-is, w.push_reserved.ensures.items, w.if-says.true) refl
       | else-says w ↦ rw (w.picked-is, w.if-says.false) (sym (append-nil c.loop-item.picked.items))
     ] in
@@ -56,8 +59,11 @@ loop-item-preserved g c =
       | else-says w ↦ rw w.picked-is refl
     ] in
     record {
-      picked = rw (picked, further) (picked-more (Says g.F.Fn c.args.predicate.now) (state_of s) (take k is) c.loop-item.picked.items i c.says.result c.loop-item.invariant.picked c.says.ensures);
-      rest = λ id. omega (arith, c.loop-item.invariant.rest id, ap (count_of id) more, count-cons id i (drop (k + 1) is));
+      picked = rw (picked, further)
+          (picked-more (Says g.F.Fn c.args.predicate.now) (state_of s) (take k is) c.loop-item.picked.items i
+          c.says.result c.loop-item.invariant.picked c.says.ensures);
+      rest = λ id.
+          omega (arith, c.loop-item.invariant.rest id, ap (count_of id) more, count-cons id i (drop (k + 1) is));
       room = omega (arith, ap length more, room, len, capacity);
     }
 
@@ -66,6 +72,10 @@ returns-clause-within g c =
     let s = c.args.self.now in
     let is = c.deref-item-items.result.now in
     let k = c.loop-item.item-index in
-    let all : is ≡ g.E.Eviction.model.order (g.E.Eviction.view s.eviction) = c.deref-item-items.ensures.value ∙ c.in_ok-items.ensures.items in
-    let over : take k is ≡ g.E.Eviction.model.order (g.E.Eviction.view s.eviction) = take_all k is (omega (arith, c.loop-item-test.false)) ∙ all in
-    subst (λ (l : List Item). IsWithin c.loop-item.picked.items l) over (picked_within (Says g.F.Fn c.args.predicate.now) (state_of s) (take k is) c.loop-item.picked.items c.loop-item.invariant.picked)
+    let all : is ≡ g.E.Eviction.model.order (g.E.Eviction.view s.eviction) = c.deref-item-items.ensures.value
+    ∙ c.in_ok-items.ensures.items in
+    let over : take k is ≡ g.E.Eviction.model.order (g.E.Eviction.view s.eviction) =
+    take_all k is (omega (arith, c.loop-item-test.false)) ∙ all in
+    subst (λ (l : List Item). IsWithin c.loop-item.picked.items l) over
+    (picked_within (Says g.F.Fn c.args.predicate.now) (state_of s) (take k is) c.loop-item.picked.items
+    c.loop-item.invariant.picked)

@@ -8,6 +8,7 @@ use Rattle.foyer_core.proofs.store.Store.pick.Given as goal
 abbrev pub invariant-loop-item : goal.invariant-loop-item
 invariant-loop-item g l = record {
   picked : PickedSoFar (Says g.F.Fn l.predicate) (state_of l.self) (take l.item-index l.item-items) l.picked.items;
-  rest : (id : ℕ) → count_of id (drop l.item-index l.item-items) ≤ count_of id (g.E.Eviction.model.order (g.E.Eviction.view l.self.eviction));
+  rest : (id : ℕ) → count_of id (drop l.item-index l.item-items) ≤ count_of id
+      (g.E.Eviction.model.order (g.E.Eviction.view l.self.eviction));
   room : vec_len l.picked + length (drop l.item-index l.item-items) ≤ vec_capacity l.picked;
 }

@@ -10,7 +10,8 @@ invariant_of-self g c =
     let m = meaning_of s in
     let t = c.reserve.new.self in
     record {
-      kept = reserved_kept m (holding s) t c.reserve.ensures.slots c.reserve.ensures.ids (g.E.Eviction.view s.eviction) refl;
+      kept = reserved_kept m (holding s) t c.reserve.ensures.slots c.reserve.ensures.ids
+          (g.E.Eviction.view s.eviction) refl;
       stored = reserved_stored m (holding s) t c.reserve.ensures.slots (g.E.Eviction.at s.eviction) (λ p. refl);
       weighed = s.weighed;
       counted = s.counted;
@@ -24,7 +25,8 @@ invariant_of-self-2 g c =
     let t = c.reserve.new.self in
     let e = c.reserve-2.new.self in
     record {
-      kept = reserved_kept m (holding s) t c.reserve.ensures.slots c.reserve.ensures.ids (g.E.Eviction.view e) c.reserve-2.ensures.view;
+      kept = reserved_kept m (holding s) t c.reserve.ensures.slots c.reserve.ensures.ids (g.E.Eviction.view e)
+          c.reserve-2.ensures.view;
       stored = reserved_stored m (holding s) t c.reserve.ensures.slots (g.E.Eviction.at e) c.reserve-2.ensures.places;
       weighed = rw c.reserve-2.ensures.view s.weighed;
       counted = rw c.reserve-2.ensures.view s.counted;
@@ -32,7 +34,10 @@ invariant_of-self-2 g c =
     }
 
 pub returns-in_err-entry-clause-same : goal.returns-in_err-entry-clause-same
-returns-in_err-entry-clause-same g c = reserved_same (meaning_of c.args.self.now) (holding c.args.self.now) c.reserve.new.self c.reserve.ensures.slots c.reserve.ensures.ids (g.E.Eviction.view c.reserve-2.new.self) c.reserve-2.ensures.view
+returns-in_err-entry-clause-same g c = reserved_same (meaning_of c.args.self.now) (holding c.args.self.now)
+    c.reserve.new.self c.reserve.ensures.slots c.reserve.ensures.ids (g.E.Eviction.view c.reserve-2.new.self)
+    c.reserve-2.ensures.view
 
 pub returns-clause-same : goal.returns-clause-same
-returns-clause-same g c = reserved_same (meaning_of c.args.self.now) (holding c.args.self.now) c.reserve.new.self c.reserve.ensures.slots c.reserve.ensures.ids (g.E.Eviction.view c.reserve-2.new.self) c.reserve-2.ensures.view
+returns-clause-same g c = reserved_same (meaning_of c.args.self.now) (holding c.args.self.now) c.reserve.new.self
+    c.reserve.ensures.slots c.reserve.ensures.ids (g.E.Eviction.view c.reserve-2.new.self) c.reserve-2.ensures.view

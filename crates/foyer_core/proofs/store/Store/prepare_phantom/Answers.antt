@@ -10,7 +10,8 @@ invariant_of-self g c =
     let m = meaning_of s in
     let t = c.reserve-2.new.self in
     record {
-      kept = reserved_kept m (holding s) t c.reserve-2.ensures.slots c.reserve-2.ensures.ids (g.E.Eviction.view s.eviction) refl;
+      kept = reserved_kept m (holding s) t c.reserve-2.ensures.slots c.reserve-2.ensures.ids
+          (g.E.Eviction.view s.eviction) refl;
       stored = reserved_stored m (holding s) t c.reserve-2.ensures.slots (g.E.Eviction.at s.eviction) (λ p. refl);
       weighed = s.weighed;
       counted = s.counted;
@@ -18,7 +19,10 @@ invariant_of-self g c =
     }
 
 pub returns-in_err-entry-clause-same : goal.returns-in_err-entry-clause-same
-returns-in_err-entry-clause-same g c = reserved_same (meaning_of c.args.self.now) (holding c.args.self.now) c.reserve-2.new.self c.reserve-2.ensures.slots c.reserve-2.ensures.ids (g.E.Eviction.view c.args.self.now.eviction) refl
+returns-in_err-entry-clause-same g c = reserved_same (meaning_of c.args.self.now) (holding c.args.self.now)
+    c.reserve-2.new.self c.reserve-2.ensures.slots c.reserve-2.ensures.ids
+    (g.E.Eviction.view c.args.self.now.eviction) refl
 
 pub returns-clause-same : goal.returns-clause-same
-returns-clause-same g c = reserved_same (meaning_of c.args.self.now) (holding c.args.self.now) c.reserve-2.new.self c.reserve-2.ensures.slots c.reserve-2.ensures.ids (g.E.Eviction.view c.args.self.now.eviction) refl
+returns-clause-same g c = reserved_same (meaning_of c.args.self.now) (holding c.args.self.now) c.reserve-2.new.self
+    c.reserve-2.ensures.slots c.reserve-2.ensures.ids (g.E.Eviction.view c.args.self.now.eviction) refl

@@ -17,7 +17,8 @@ pub unreachable-requires : goal.unreachable-requires
 unreachable-requires g c =
     let s = c.args.self.now in
     let none : slot_in s.records c.in-Some.slot ≡ None = sym (rw c.in_default-get.is at c.get.ensures) in
-    none_not (slot_in s.records c.in-Some.slot) (s.stored.led (c.args.hash, c.args.key.now) c.in-Some.slot (sym c.slot_under.ensures ∙ c.in-Some.is)) none
+    none_not (slot_in s.records c.in-Some.slot)
+    (s.stored.led (c.args.hash, c.args.key.now) c.in-Some.slot (sym c.slot_under.ensures ∙ c.in-Some.is)) none
 
 pub returns-then-handles-self : goal.returns-then-handles-self
 returns-then-handles-self g c =
@@ -32,7 +33,12 @@ returns-then-handles-self g c =
       removes = (
         x.id,
         hits (meaning_of s) laws lawful (holding s) k c.in-Some.slot led x there,
-        (rec_of x, found (meaning_of s) laws lawful (holding s) k c.in-Some.slot led x there, omega (arith, c.handles.ensures, c.if-handles-self.true), refl),
+        (
+          rec_of x,
+          found (meaning_of s) laws lawful (holding s) k c.in-Some.slot led x there,
+          omega (arith, c.handles.ensures, c.if-handles-self.true),
+          refl,
+        ),
       );
     }
 
@@ -42,7 +48,8 @@ unreachable-requires-in_default-place g c =
     let k : ℕ × g.row.K.Denot = (c.args.hash, c.args.key.now) in
     let x = c.in-Some-get.found.now in
     let there : slot_in s.records c.in-Some.slot ≡ Some x = sym (rw c.in-Some-get.is at c.get.ensures) in
-    let res = resident (meaning_of s) g.met.K.Eq.laws g.met.E.Eviction.lawful (holding s) k c.in-Some.slot (sym c.slot_under.ensures ∙ c.in-Some.is) x there in
+    let res = resident (meaning_of s) g.met.K.Eq.laws g.met.E.Eviction.lawful (holding s) k c.in-Some.slot
+    (sym c.slot_under.ensures ∙ c.in-Some.is) x there in
     none_not x.place (place_is (meaning_of s) (g.E.Eviction.at s.eviction) (g.I.Finder.view s.index) s.records
     s.stored c.in-Some.slot x there res) (sym c.place.ensures ∙ c.in_default-place.is)
 
@@ -56,7 +63,8 @@ returns-in_err-entry g c =
     let there : slot_in s.records c.in-Some.slot ≡ Some x = sym (rw c.in-Some-get.is at c.get.ensures) in
     let led = sym c.slot_under.ensures ∙ c.in-Some.is in
     record {
-      removes = err_is c.from_residual.result c.in_err-entry.field-0.0 (λ r. Removes (meaning_of s) (state_of s) k r (state_of s)) c.from_residual.ensures.1
+      removes = err_is c.from_residual.result c.in_err-entry.field-0.0
+          (λ r. Removes (meaning_of s) (state_of s) k r (state_of s)) c.from_residual.ensures.1
           (rw c.in_err-entry.ensures.refused (
             x.id,
             hits (meaning_of s) laws lawful (holding s) k c.in-Some.slot led x there,
@@ -90,7 +98,8 @@ overflow_sub-self g c =
     let x = c.in-Some-get.found.now in
     let there : slot_in s.records c.in-Some.slot ≡ Some x = sym (rw c.in-Some-get.is at c.get.ensures) in
     let led = sym c.slot_under.ensures ∙ c.in-Some.is in
-    let at = placed (meaning_of s) laws lawful (holding s) k c.in-Some.slot led x there c.in-Some-place.place (sym c.place.ensures ∙ c.in-Some-place.is) in
+    let at = placed (meaning_of s) laws lawful (holding s) k c.in-Some.slot led x there c.in-Some-place.place
+    (sym c.place.ensures ∙ c.in-Some-place.is) in
     let item = some_item (sym c.remove-item.ensures.item ∙ at) in
     rw item (removed_lighter (meaning_of s) laws lawful (holding s) k c.in-Some.slot led x there s.usage s.weighed)
 
@@ -100,9 +109,11 @@ leave-requires g c =
     let k : ℕ × g.row.K.Denot = (c.args.hash, c.args.key.now) in
     let x = c.in-Some-get.found.now in
     let there : slot_in s.records c.in-Some.slot ≡ Some x = sym (rw c.in-Some-get.is at c.get.ensures) in
-    let res = resident (meaning_of s) g.met.K.Eq.laws g.met.E.Eviction.lawful (holding s) k c.in-Some.slot (sym c.slot_under.ensures ∙ c.in-Some.is) x there in
+    let res = resident (meaning_of s) g.met.K.Eq.laws g.met.E.Eviction.lawful (holding s) k c.in-Some.slot
+    (sym c.slot_under.ensures ∙ c.in-Some.is) x there in
     let there1 = more_there s.records c.add_handle.new.self c.in-Some.slot x (c.add_handle.ensures.slots x there) in
-    subst (λ (o : Option (Kept g.row.K.Denot g.row.V.Denot g.row.P.Denot)). IsSomeAnd o (λ y. y.resident ≡ true)) (sym there1) res
+    subst (λ (o : Option (Kept g.row.K.Denot g.row.V.Denot g.row.P.Denot)). IsSomeAnd o (λ y. y.resident ≡ true))
+    (sym there1) res
 
 pub invariant_of-self : goal.invariant_of-self
 invariant_of-self g c =
@@ -114,7 +125,8 @@ invariant_of-self g c =
     let x = c.in-Some-get.found.now in
     let there : slot_in s.records c.in-Some.slot ≡ Some x = sym (rw c.in-Some-get.is at c.get.ensures) in
     let led = sym c.slot_under.ensures ∙ c.in-Some.is in
-    let at = placed m laws lawful (holding s) k c.in-Some.slot led x there c.in-Some-place.place (sym c.place.ensures ∙ c.in-Some-place.is) in
+    let at = placed m laws lawful (holding s) k c.in-Some.slot led x there c.in-Some-place.place
+    (sym c.place.ensures ∙ c.in-Some-place.is) in
     let item = some_item (sym c.remove-item.ensures.item ∙ at) in
     let view = g.E.Eviction.view c.remove-item.new.self in
     let viewed : view ≡ m.policy.remove (g.E.Eviction.view s.eviction) x.id = c.remove-item.ensures.view ∙ ap
@@ -133,7 +145,8 @@ invariant_of-self g c =
           c.leave.new.self write1 c.add_handle.ensures.ids (c.leave.ensures.slots _ there1)
           (c.leave.ensures.records _ there1) (g.I.Finder.view c.take.new.self) c.take.ensures
           (g.E.Eviction.at c.remove-item.new.self) places view viewed;
-      weighed = rw (item, viewed) (removed_usage m laws lawful (holding s) k c.in-Some.slot led x there s.usage s.weighed);
+      weighed = rw (item, viewed)
+          (removed_usage m laws lawful (holding s) k c.in-Some.slot led x there s.usage s.weighed);
       counted = rw viewed (removed_entries m laws lawful (holding s) k c.in-Some.slot led x there s.entries s.counted);
       numbered = omega (arith, s.numbered);
     }
@@ -148,7 +161,8 @@ returns g c =
     let x = c.in-Some-get.found.now in
     let there : slot_in s.records c.in-Some.slot ≡ Some x = sym (rw c.in-Some-get.is at c.get.ensures) in
     let led = sym c.slot_under.ensures ∙ c.in-Some.is in
-    let at = placed m laws lawful (holding s) k c.in-Some.slot led x there c.in-Some-place.place (sym c.place.ensures ∙ c.in-Some-place.is) in
+    let at = placed m laws lawful (holding s) k c.in-Some.slot led x there c.in-Some-place.place
+    (sym c.place.ensures ∙ c.in-Some-place.is) in
     let item = some_item (sym c.remove-item.ensures.item ∙ at) in
     let view = g.E.Eviction.view c.remove-item.new.self in
     let viewed : view ≡ m.policy.remove (g.E.Eviction.view s.eviction) x.id = c.remove-item.ensures.view ∙ ap

@@ -11,7 +11,8 @@ invariant_of-self g c =
     let same = c.reserve_clear.ensures.view in
     record {
       kept = still_kept m g.met.K.Eq.laws g.met.E.Eviction.lawful (holding s) view same;
-      stored = still_stored m g.met.K.Eq.laws g.met.E.Eviction.lawful (holding s) view same (g.E.Eviction.at c.reserve_clear.new.self) c.reserve_clear.ensures.places;
+      stored = still_stored m g.met.K.Eq.laws g.met.E.Eviction.lawful (holding s) view same
+          (g.E.Eviction.at c.reserve_clear.new.self) c.reserve_clear.ensures.places;
       weighed = still_weighed m g.met.K.Eq.laws g.met.E.Eviction.lawful (holding s) view same s.usage s.weighed;
       counted = still_counted m g.met.K.Eq.laws g.met.E.Eviction.lawful (holding s) view same s.entries s.counted;
       numbered = s.numbered;

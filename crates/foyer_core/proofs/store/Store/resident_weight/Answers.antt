@@ -10,5 +10,6 @@ loop-slot-init g c =
     let s = c.args.self.now in
     let all = c.into_iter-slot-iterator.ensures.into_iter_gives ∙ c.iter-slot-items.ensures in
     let sum : sum_by weight_in c.into_iter-slot-iterator.result ≡ s.usage =
-    ap (sum_by weight_in) all ∙ slots_weigh (meaning_of s) g.met.K.Eq.laws g.met.E.Eviction.lawful (holding s) ∙ sym s.weighed in
+    ap (sum_by weight_in) all ∙ slots_weigh (meaning_of s) g.met.K.Eq.laws g.met.E.Eviction.lawful (holding s)
+    ∙ sym s.weighed in
     omega (arith, sum)

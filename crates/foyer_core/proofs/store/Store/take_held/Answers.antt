@@ -21,10 +21,13 @@ returns-then-is_resident-clause-returned g c y is piece named =
     let res : x.resident ≡ true = sym c.is_resident.ensures ∙ c.if-is_resident.true in
     let new = state_of c.hand_out.new.self in
     let same : x ≡ y = one x y (sym there ∙ is) in
-    let named' : piece.id ≡ x.id = named ∙ ap (λ (z : Kept g.row.K.Denot g.row.V.Denot g.row.P.Denot). z.id) (sym same) in
+    let named' : piece.id ≡ x.id = named ∙ ap (λ (z : Kept g.row.K.Denot g.row.V.Denot g.row.P.Denot). z.id)
+    (sym same) in
     match_so c.hand_out.result
-    (λ made h. in_returns m (state_of s) x rec piece named' (1 + c.args.further.count) res made.leaves.items made.entry new h)
-    (λ refused h. in_refuses m (state_of s) x rec piece named' (1 + c.args.further.count) res refused.error refused.leaves.items new h)
+    (λ made h. in_returns m (state_of s) x rec piece named' (1 + c.args.further.count) res made.leaves.items
+    made.entry new h)
+    (λ refused h. in_refuses m (state_of s) x rec piece named' (1 + c.args.further.count) res refused.error
+    refused.leaves.items new h)
     (c.hand_out.ensures.handed x there)
 
 pub returns-clause-returned : goal.returns-clause-returned
@@ -38,8 +41,11 @@ returns-clause-returned g c y is piece named =
     let out : x.resident ≡ false = sym c.is_resident.ensures ∙ c.if-is_resident.false in
     let new = state_of c.come_again.new.self in
     let same : x ≡ y = one x y (sym there ∙ is) in
-    let named' : piece.id ≡ x.id = named ∙ ap (λ (z : Kept g.row.K.Denot g.row.V.Denot g.row.P.Denot). z.id) (sym same) in
-    let make = λ (n : ℕ). (let i : Incoming g.row.K.Denot g.row.V.Denot g.row.P.Denot = record { id = x.id; kept = x.kept; handles = n } in i) in
+    let named' : piece.id ≡ x.id = named ∙ ap (λ (z : Kept g.row.K.Denot g.row.V.Denot g.row.P.Denot). z.id)
+    (sym same) in
+    let make = λ (n : ℕ).
+    (let i : Incoming g.row.K.Denot g.row.V.Denot g.row.P.Denot =
+    record { id = x.id; kept = x.kept; handles = n } in i) in
     let count : x.handles + 1 + c.args.further.count ≡ x.handles + (1 + c.args.further.count) = omega arith in
     match_so c.come_again.result
     (λ made h. out_returns m (state_of s) x rec piece named' (1 + c.args.further.count) out made.leaves.items

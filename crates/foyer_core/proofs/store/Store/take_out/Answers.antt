@@ -27,7 +27,8 @@ unreachable-requires-in_default-get g c =
     let m = meaning_of s in
     let known : number_of s.records c.args.id ≡ Some c.in-Some.slot = sym c.find.ensures ∙ c.in-Some.is in
     let none : slot_in s.records c.in-Some.slot ≡ None = sym (rw c.in_default-get.is at c.get.ensures) in
-    none_not (slot_in s.records c.in-Some.slot) (out_there m g.met.K.Eq.laws g.met.E.Eviction.lawful (holding s) c.args.id c.requires c.in-Some.slot known) none
+    none_not (slot_in s.records c.in-Some.slot)
+    (out_there m g.met.K.Eq.laws g.met.E.Eviction.lawful (holding s) c.args.id c.requires c.in-Some.slot known) none
 
 pub unreachable-requires-in_default-place : goal.unreachable-requires-in_default-place
 unreachable-requires-in_default-place g c =
@@ -53,7 +54,8 @@ remove-item-requires-after_bounds g c κs within =
     let x = c.in-Some-get.found.now in
     let there : slot_in s.records c.in-Some.slot ≡ Some x = sym (rw c.in-Some-get.is at c.get.ensures) in
     let led = out_led m laws lawful (holding s) c.args.id c.requires c.in-Some.slot known x there in
-    let at = placed m laws lawful (holding s) (key_of x.kept) c.in-Some.slot led x there c.in-Some-place.place (sym c.place.ensures ∙ c.in-Some-place.is) in
+    let at = placed m laws lawful (holding s) (key_of x.kept) c.in-Some.slot led x there c.in-Some-place.place
+    (sym c.place.ensures ∙ c.in-Some-place.is) in
     rw at (search rules)
 
 pub overflow_sub-self : goal.overflow_sub-self
@@ -66,7 +68,8 @@ overflow_sub-self g c =
     let x = c.in-Some-get.found.now in
     let there : slot_in s.records c.in-Some.slot ≡ Some x = sym (rw c.in-Some-get.is at c.get.ensures) in
     let led = out_led m laws lawful (holding s) c.args.id c.requires c.in-Some.slot known x there in
-    let at = placed m laws lawful (holding s) (key_of x.kept) c.in-Some.slot led x there c.in-Some-place.place (sym c.place.ensures ∙ c.in-Some-place.is) in
+    let at = placed m laws lawful (holding s) (key_of x.kept) c.in-Some.slot led x there c.in-Some-place.place
+    (sym c.place.ensures ∙ c.in-Some-place.is) in
     let item = some_item (sym c.remove-item.ensures.item ∙ at) in
     rw item (removed_lighter m laws lawful (holding s) (key_of x.kept) c.in-Some.slot led x there s.usage s.weighed)
 
@@ -95,13 +98,15 @@ invariant_of-self g c =
     let x = c.in-Some-get.found.now in
     let there : slot_in s.records c.in-Some.slot ≡ Some x = sym (rw c.in-Some-get.is at c.get.ensures) in
     let led = out_led m laws lawful (holding s) c.args.id c.requires c.in-Some.slot known x there in
-    let at = placed m laws lawful (holding s) (key_of x.kept) c.in-Some.slot led x there c.in-Some-place.place (sym c.place.ensures ∙ c.in-Some-place.is) in
+    let at = placed m laws lawful (holding s) (key_of x.kept) c.in-Some.slot led x there c.in-Some-place.place
+    (sym c.place.ensures ∙ c.in-Some-place.is) in
     let item = some_item (sym c.remove-item.ensures.item ∙ at) in
     let id = out_id m laws lawful (holding s) c.args.id c.requires c.in-Some.slot known x there in
     let view = g.E.Eviction.view c.remove-item.new.self in
     let viewed : view ≡ m.policy.remove (g.E.Eviction.view s.eviction) x.id = c.remove-item.ensures.view ∙ ap
     (λ (i : Item). m.policy.remove (g.E.Eviction.view s.eviction) i.id) item in
-    let viewed_id : view ≡ m.policy.remove (g.E.Eviction.view s.eviction) c.args.id = viewed ∙ ap (m.policy.remove (g.E.Eviction.view s.eviction)) id in
+    let viewed_id : view ≡ m.policy.remove (g.E.Eviction.view s.eviction) c.args.id = viewed
+    ∙ ap (m.policy.remove (g.E.Eviction.view s.eviction)) id in
     let places : (p : ℕ) → g.E.Eviction.at c.remove-item.new.self p ≡ without x.id (g.E.Eviction.at s.eviction p) =
     λ p. c.remove-item.ensures.places p ∙ ap (λ (i : Item). without i.id (g.E.Eviction.at s.eviction p)) item in
     record {
@@ -113,8 +118,10 @@ invariant_of-self g c =
           c.leave_slot.new.records (c.leave_slot.ensures.slots x there) (c.leave_slot.ensures.records x there)
           (g.E.Eviction.at c.remove-item.new.self) places (g.I.Finder.view c.leave_slot.new.index)
           (c.leave_slot.ensures.index x there) view viewed_id;
-      weighed = rw (item, viewed) (removed_usage m laws lawful (holding s) (key_of x.kept) c.in-Some.slot led x there s.usage s.weighed);
-      counted = rw viewed (removed_entries m laws lawful (holding s) (key_of x.kept) c.in-Some.slot led x there s.entries s.counted);
+      weighed = rw (item, viewed)
+          (removed_usage m laws lawful (holding s) (key_of x.kept) c.in-Some.slot led x there s.usage s.weighed);
+      counted = rw viewed
+          (removed_entries m laws lawful (holding s) (key_of x.kept) c.in-Some.slot led x there s.entries s.counted);
       numbered = omega (arith, s.numbered);
     }
 
@@ -128,16 +135,20 @@ returns-clause-taken g c =
     let x = c.in-Some-get.found.now in
     let there : slot_in s.records c.in-Some.slot ≡ Some x = sym (rw c.in-Some-get.is at c.get.ensures) in
     let led = out_led m laws lawful (holding s) c.args.id c.requires c.in-Some.slot known x there in
-    let at = placed m laws lawful (holding s) (key_of x.kept) c.in-Some.slot led x there c.in-Some-place.place (sym c.place.ensures ∙ c.in-Some-place.is) in
+    let at = placed m laws lawful (holding s) (key_of x.kept) c.in-Some.slot led x there c.in-Some-place.place
+    (sym c.place.ensures ∙ c.in-Some-place.is) in
     let item = some_item (sym c.remove-item.ensures.item ∙ at) in
     let id = out_id m laws lawful (holding s) c.args.id c.requires c.in-Some.slot known x there in
     let view = g.E.Eviction.view c.remove-item.new.self in
     let viewed : view ≡ m.policy.remove (g.E.Eviction.view s.eviction) x.id = c.remove-item.ensures.view ∙ ap
     (λ (i : Item). m.policy.remove (g.E.Eviction.view s.eviction) i.id) item in
-    let viewed_id : view ≡ m.policy.remove (g.E.Eviction.view s.eviction) c.args.id = viewed ∙ ap (m.policy.remove (g.E.Eviction.view s.eviction)) id in
+    let viewed_id : view ≡ m.policy.remove (g.E.Eviction.view s.eviction) c.args.id = viewed
+    ∙ ap (m.policy.remove (g.E.Eviction.view s.eviction)) id in
     let places : (p : ℕ) → g.E.Eviction.at c.remove-item.new.self p ≡ without x.id (g.E.Eviction.at s.eviction p) =
     λ p. c.remove-item.ensures.places p ∙ ap (λ (i : Item). without i.id (g.E.Eviction.at s.eviction p)) item in
-    let gone = λ (id : ℕ). (let y : Gone g.row.K.Denot g.row.V.Denot g.row.P.Denot = record { number = s.number; id = id; kept = x.kept } in y) in
+    let gone = λ (id : ℕ).
+    (let y : Gone g.row.K.Denot g.row.V.Denot g.row.P.Denot =
+    record { number = s.number; id = id; kept = x.kept } in y) in
     record {
       rec = rec_of x;
       there = out_record m laws lawful (holding s) c.args.id c.requires c.in-Some.slot known x there;

@@ -13,14 +13,18 @@ use Rattle.foyer_core.proofs.store.Store.tell.Goals as goal
 pub unreachable-requires : goal.unreachable-requires
 unreachable-requires g c =
     let s = c.args.self.now in
-    none_not (number_of s.records c.args.id) (out_known (meaning_of s) g.met.K.Eq.laws g.met.E.Eviction.lawful (holding s) c.args.id c.requires.there) (sym c.find.ensures ∙ c.in_default.is)
+    none_not (number_of s.records c.args.id)
+    (out_known (meaning_of s) g.met.K.Eq.laws g.met.E.Eviction.lawful (holding s) c.args.id c.requires.there)
+    (sym c.find.ensures ∙ c.in_default.is)
 
 pub unreachable-requires-in_default-get : goal.unreachable-requires-in_default-get
 unreachable-requires-in_default-get g c =
     let s = c.args.self.now in
     let known : number_of s.records c.args.id ≡ Some c.in-Some.slot = sym c.find.ensures ∙ c.in-Some.is in
     let none : slot_in s.records c.in-Some.slot ≡ None = sym (rw c.in_default-get.is at c.get.ensures) in
-    none_not (slot_in s.records c.in-Some.slot) (out_there (meaning_of s) g.met.K.Eq.laws g.met.E.Eviction.lawful (holding s) c.args.id c.requires.there c.in-Some.slot known) none
+    none_not (slot_in s.records c.in-Some.slot)
+    (out_there (meaning_of s) g.met.K.Eq.laws g.met.E.Eviction.lawful (holding s) c.args.id c.requires.there
+    c.in-Some.slot known) none
 
 pub returns : goal.returns
 returns g c r is =
@@ -29,8 +33,11 @@ returns g c r is =
     let x = c.in-Some-get.found.now in
     let there : slot_in s.records c.in-Some.slot ≡ Some x = sym (rw c.in-Some-get.is at c.get.ensures) in
     let same : rec_of x ≡ r =
-    one_record ((state_of s).records c.args.id) (rec_of x) r (out_record (meaning_of s) g.met.K.Eq.laws g.met.E.Eviction.lawful (holding s) c.args.id c.requires.there c.in-Some.slot known x there) is in
-    subst (λ (q : Rec g.row.K.Denot g.row.V.Denot g.row.P.Denot). IsTold g.F.Fn c.args.tell.now q.kept.key q.kept.value) same
+    one_record ((state_of s).records c.args.id) (rec_of x) r
+    (out_record (meaning_of s) g.met.K.Eq.laws g.met.E.Eviction.lawful (holding s) c.args.id c.requires.there
+    c.in-Some.slot known x there) is in
+    subst (λ (q : Rec g.row.K.Denot g.row.V.Denot g.row.P.Denot). IsTold g.F.Fn c.args.tell.now q.kept.key
+    q.kept.value) same
     record {
       shown_key = _;
       shown_value = _;

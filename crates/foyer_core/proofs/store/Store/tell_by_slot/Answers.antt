@@ -19,14 +19,19 @@ loop-slot-preserved-then-is_resident g c n x there res =
       shows = (c.key.ensures, c.value.ensures);
       ends = record { met = c.tell.ensures };
     } in
-    passed (λ (y : Kept g.row.K.Denot g.row.V.Denot g.row.P.Denot). IsTold g.F.Fn c.args.tell.now y.kept.key y.kept.value)
-    c.loop-slot.slot-iterator c.next.new.self (c.in-Some.field-0-0, c.in-Some.slot.now) c.in-Some.ensures.steps n x told (c.loop-slot.invariant n x there res)
+    passed (λ (y : Kept g.row.K.Denot g.row.V.Denot g.row.P.Denot). IsTold g.F.Fn c.args.tell.now y.kept.key
+    y.kept.value)
+    c.loop-slot.slot-iterator c.next.new.self (c.in-Some.field-0-0, c.in-Some.slot.now) c.in-Some.ensures.steps n x
+    told (c.loop-slot.invariant n x there res)
 
 pub loop-slot-preserved : goal.loop-slot-preserved
 loop-slot-preserved g c n x there res =
-    passed_by (λ (y : Kept g.row.K.Denot g.row.V.Denot g.row.P.Denot). IsTold g.F.Fn c.args.tell.now y.kept.key y.kept.value)
-    c.loop-slot.slot-iterator c.next.new.self (c.in-Some.field-0-0, c.in-Some.slot.now) c.in-Some.ensures.steps n x res (sym c.is_resident.ensures ∙ c.if-is_resident.false) (c.loop-slot.invariant n x there res)
+    passed_by
+    (λ (y : Kept g.row.K.Denot g.row.V.Denot g.row.P.Denot). IsTold g.F.Fn c.args.tell.now y.kept.key y.kept.value)
+    c.loop-slot.slot-iterator c.next.new.self (c.in-Some.field-0-0, c.in-Some.slot.now) c.in-Some.ensures.steps n x
+    res (sym c.is_resident.ensures ∙ c.if-is_resident.false) (c.loop-slot.invariant n x there res)
 
 pub returns : goal.returns
 returns g c n x there res =
-    none_listed (IsTold g.F.Fn c.args.tell.now x.kept.key x.kept.value) c.loop-slot.slot-iterator (n, x) c.in-None.ensures.steps.0 (c.loop-slot.invariant n x there res)
+    none_listed (IsTold g.F.Fn c.args.tell.now x.kept.key x.kept.value) c.loop-slot.slot-iterator (n, x)
+    c.in-None.ensures.steps.0 (c.loop-slot.invariant n x there res)

@@ -42,9 +42,17 @@ loop-item-preserved g c =
         | inl e ↦ c.tell.ensures r (ap (state_of c.args.self.now).records e.1 ∙ there)
         | inr e ↦ c.loop-item.invariant.told id r (
             let none_here : one_if id i ≡ 0 = rw e.0 refl in
-            omega (arith, counted, ap (count_of id) further, sum_by-append (one_if id) (take k is) (i ∷ []), count-cons id i [], none_here)) there
+            omega (
+              arith,
+              counted,
+              ap (count_of id) further,
+              sum_by-append (one_if id) (take k is) (i ∷ []),
+              count-cons id i [],
+              none_here,
+            )) there
       ];
-      rest = λ id. omega (arith, c.loop-item.invariant.rest id, ap (count_of id) more, count-cons id i (drop (k + 1) is));
+      rest = λ id.
+          omega (arith, c.loop-item.invariant.rest id, ap (count_of id) more, count-cons id i (drop (k + 1) is));
     }
 
 pub returns : goal.returns
@@ -52,6 +60,7 @@ returns g c id r there res =
     let s = c.args.self.now in
     let is = c.args.items.now in
     let k = c.loop-item.item-index in
-    let over : take k is ≡ g.E.Eviction.model.order (g.E.Eviction.view s.eviction) = take_all k is (omega (arith, c.loop-item-test.false)) ∙ c.requires.all in
+    let over : take k is ≡ g.E.Eviction.model.order (g.E.Eviction.view s.eviction) =
+    take_all k is (omega (arith, c.loop-item-test.false)) ∙ c.requires.all in
     let counted = resident_counted (meaning_of s) g.met.K.Eq.laws g.met.E.Eviction.lawful (holding s) id r there res in
     c.loop-item.invariant.told id r (omega (arith, counted, ap (count_of id) over)) there

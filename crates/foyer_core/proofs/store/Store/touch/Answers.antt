@@ -12,7 +12,8 @@ pub unreachable-requires : goal.unreachable-requires
 unreachable-requires g c =
     let s = c.args.self.now in
     let none : slot_in s.records c.in-Some.slot ≡ None = sym (rw c.in_default-get.is at c.get.ensures) in
-    none_not (slot_in s.records c.in-Some.slot) (s.stored.led (c.args.hash, c.args.key.now) c.in-Some.slot (sym c.slot_under.ensures ∙ c.in-Some.is)) none
+    none_not (slot_in s.records c.in-Some.slot)
+    (s.stored.led (c.args.hash, c.args.key.now) c.in-Some.slot (sym c.slot_under.ensures ∙ c.in-Some.is)) none
 
 pub returns-then-handles-self : goal.returns-then-handles-self
 returns-then-handles-self g c =
@@ -24,8 +25,10 @@ returns-then-handles-self g c =
       touches = (
         x.id,
         rec_of x,
-        hits (meaning_of s) g.met.K.Eq.laws g.met.E.Eviction.lawful (holding s) (c.args.hash, c.args.key.now) c.in-Some.slot led x there,
-        found (meaning_of s) g.met.K.Eq.laws g.met.E.Eviction.lawful (holding s) (c.args.hash, c.args.key.now) c.in-Some.slot led x there,
+        hits (meaning_of s) g.met.K.Eq.laws g.met.E.Eviction.lawful (holding s) (c.args.hash, c.args.key.now)
+            c.in-Some.slot led x there,
+        found (meaning_of s) g.met.K.Eq.laws g.met.E.Eviction.lawful (holding s) (c.args.hash, c.args.key.now)
+            c.in-Some.slot led x there,
         omega (arith, c.handles-handles.ensures, c.if-handles-self.true),
         refl,
       );
@@ -61,7 +64,8 @@ invariant_of-self g c =
     let x = c.in-Some-get.found.now in
     let there : slot_in s.records c.in-Some.slot ≡ Some x = sym (rw c.in-Some-get.is at c.get.ensures) in
     let led = sym c.slot_under.ensures ∙ c.in-Some.is in
-    let at = placed m laws lawful (holding s) k c.in-Some.slot led x there c.in-Some-place.place (sym c.place.ensures ∙ c.in-Some-place.is) in
+    let at = placed m laws lawful (holding s) k c.in-Some.slot led x there c.in-Some-place.place
+    (sym c.place.ensures ∙ c.in-Some-place.is) in
     let view = g.E.Eviction.view c.acquire.new.self in
     let viewed : view ≡ m.policy.acquire (g.E.Eviction.view s.eviction) x.id = rw at at c.acquire.ensures.view in
     let is : view ≡ used m laws lawful (holding s) x.id x.handles = viewed ∙ used_held m laws lawful (holding s) x.id
@@ -69,7 +73,8 @@ invariant_of-self g c =
     let room : x.handles < s.limits.handles = omega (arith, c.handles-handles.ensures, c.if-handles-self.false) in
     record {
       kept = touched_kept m laws lawful (holding s) k c.in-Some.slot led x there room view is;
-      stored = touched_stored m laws lawful (holding s) k c.in-Some.slot led x there room view is (g.E.Eviction.at c.acquire.new.self) c.acquire.ensures.places;
+      stored = touched_stored m laws lawful (holding s) k c.in-Some.slot led x there room view is
+          (g.E.Eviction.at c.acquire.new.self) c.acquire.ensures.places;
       weighed = touched_weight m laws lawful (holding s) k c.in-Some.slot led x there room view is s.usage s.weighed;
       counted = touched_entries m laws lawful (holding s) k c.in-Some.slot led x there room view is s.entries s.counted;
       numbered = s.numbered;
@@ -85,7 +90,8 @@ returns-then-handles-gt0 g c =
     let x = c.in-Some-get.found.now in
     let there : slot_in s.records c.in-Some.slot ≡ Some x = sym (rw c.in-Some-get.is at c.get.ensures) in
     let led = sym c.slot_under.ensures ∙ c.in-Some.is in
-    let at = placed m laws lawful (holding s) k c.in-Some.slot led x there c.in-Some-place.place (sym c.place.ensures ∙ c.in-Some-place.is) in
+    let at = placed m laws lawful (holding s) k c.in-Some.slot led x there c.in-Some-place.place
+    (sym c.place.ensures ∙ c.in-Some-place.is) in
     let view = g.E.Eviction.view c.acquire.new.self in
     let viewed : view ≡ m.policy.acquire (g.E.Eviction.view s.eviction) x.id = rw at at c.acquire.ensures.view in
     let is : view ≡ used m laws lawful (holding s) x.id x.handles = viewed ∙ used_held m laws lawful (holding s) x.id
@@ -113,11 +119,14 @@ invariant_of-self-2 g c =
     let x = c.in-Some-get.found.now in
     let there : slot_in s.records c.in-Some.slot ≡ Some x = sym (rw c.in-Some-get.is at c.get.ensures) in
     let led = sym c.slot_under.ensures ∙ c.in-Some.is in
-    let at = placed m laws lawful (holding s) k c.in-Some.slot led x there c.in-Some-place.place (sym c.place.ensures ∙ c.in-Some-place.is) in
+    let at = placed m laws lawful (holding s) k c.in-Some.slot led x there c.in-Some-place.place
+    (sym c.place.ensures ∙ c.in-Some-place.is) in
     let at2 = c.acquire.ensures.places c.in-Some-place.place ∙ at in
     let view = g.E.Eviction.view c.release.new.self in
-    let viewed : g.E.Eviction.view c.acquire.new.self ≡ m.policy.acquire (g.E.Eviction.view s.eviction) x.id = rw at at c.acquire.ensures.view in
-    let released : view ≡ m.policy.release (g.E.Eviction.view c.acquire.new.self) x.id = rw at2 at c.release.ensures.view in
+    let viewed : g.E.Eviction.view c.acquire.new.self ≡ m.policy.acquire (g.E.Eviction.view s.eviction) x.id =
+    rw at at c.acquire.ensures.view in
+    let released : view ≡ m.policy.release (g.E.Eviction.view c.acquire.new.self) x.id =
+    rw at2 at c.release.ensures.view in
     let is : view ≡ used m laws lawful (holding s) x.id x.handles =
     released ∙ ap (λ (v : g.E.Eviction.View). m.policy.release v x.id) viewed ∙ used_last m laws lawful (holding s)
     x.id x.handles (omega (arith, c.handles-handles.ensures, c.if-handles-gt0.false)) in
@@ -141,11 +150,14 @@ returns g c =
     let x = c.in-Some-get.found.now in
     let there : slot_in s.records c.in-Some.slot ≡ Some x = sym (rw c.in-Some-get.is at c.get.ensures) in
     let led = sym c.slot_under.ensures ∙ c.in-Some.is in
-    let at = placed m laws lawful (holding s) k c.in-Some.slot led x there c.in-Some-place.place (sym c.place.ensures ∙ c.in-Some-place.is) in
+    let at = placed m laws lawful (holding s) k c.in-Some.slot led x there c.in-Some-place.place
+    (sym c.place.ensures ∙ c.in-Some-place.is) in
     let at2 = c.acquire.ensures.places c.in-Some-place.place ∙ at in
     let view = g.E.Eviction.view c.release.new.self in
-    let viewed : g.E.Eviction.view c.acquire.new.self ≡ m.policy.acquire (g.E.Eviction.view s.eviction) x.id = rw at at c.acquire.ensures.view in
-    let released : view ≡ m.policy.release (g.E.Eviction.view c.acquire.new.self) x.id = rw at2 at c.release.ensures.view in
+    let viewed : g.E.Eviction.view c.acquire.new.self ≡ m.policy.acquire (g.E.Eviction.view s.eviction) x.id =
+    rw at at c.acquire.ensures.view in
+    let released : view ≡ m.policy.release (g.E.Eviction.view c.acquire.new.self) x.id =
+    rw at2 at c.release.ensures.view in
     let is : view ≡ used m laws lawful (holding s) x.id x.handles =
     released ∙ ap (λ (v : g.E.Eviction.View). m.policy.release v x.id) viewed ∙ used_last m laws lawful (holding s)
     x.id x.handles (omega (arith, c.handles-handles.ensures, c.if-handles-gt0.false)) in

@@ -24,7 +24,8 @@ is_named : (c : In-Some)
 is_named c =
     let yes = c.in-Some.ensures.yes in
     let same : (c.in-Some.found.slot == c.args.slot) ≡ true = search rules in
-    subst (λ (s : ℕ). IsNamed (tag_in c.args.self.now.buckets) c.fingerprint_of-fingerprint.result c.in-Some.found.bucket s)
+    subst (λ (s : ℕ). IsNamed (tag_in c.args.self.now.buckets) c.fingerprint_of-fingerprint.result
+    c.in-Some.found.bucket s)
     (same_slot c.in-Some.found.slot c.args.slot same) c.in-Some.ensures.found
 
 -- under the fingerprint of the tag that comes

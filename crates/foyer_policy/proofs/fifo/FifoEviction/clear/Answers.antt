@@ -4,6 +4,7 @@ use Rattle.foyer_policy.proofs.fifo.FifoEviction.clear.Goals as goal
 
 pub loop-self-preserved : goal.loop-self-preserved
 loop-self-preserved c = record {
-  once = pop-keeps c.loop-self.self-inside.queue.lists c.pop_front.new.self.lists c.pop_front.ensures.apart c.pop_front.ensures.lists c.loop-self.invariant.once;
+  once = pop-keeps c.loop-self.self-inside.queue.lists c.pop_front.new.self.lists c.pop_front.ensures.apart
+      c.pop_front.ensures.lists c.loop-self.invariant.once;
   room = omega arith;
 }

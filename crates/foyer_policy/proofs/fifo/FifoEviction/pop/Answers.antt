@@ -2,7 +2,10 @@ use Rattle.foyer_policy.proofs.FifoLemmas.{pop-places, pop-keeps}
 use Rattle.foyer_policy.proofs.fifo.FifoEviction.pop.Goals as goal
 
 pub invariant_of-self : goal.invariant_of-self
-invariant_of-self c = pop-keeps c.self.inside.queue.lists c.pop_front.new.self.lists c.pop_front.ensures.apart c.pop_front.ensures.lists c.self.invariant
+invariant_of-self c = pop-keeps c.self.inside.queue.lists c.pop_front.new.self.lists c.pop_front.ensures.apart
+    c.pop_front.ensures.lists c.self.invariant
 
 pub returns-clause-places : goal.returns-clause-places
-returns-clause-places c = rw (← c.self.view_is) (pop-places c.self.inside.queue.lists c.pop_front.new.self.lists c.pop_front.ensures.apart c.pop_front.ensures.lists c.self.invariant c.pop_front.result c.pop_front.ensures.value)
+returns-clause-places c = rw (← c.self.view_is)
+    (pop-places c.self.inside.queue.lists c.pop_front.new.self.lists c.pop_front.ensures.apart
+    c.pop_front.ensures.lists c.self.invariant c.pop_front.result c.pop_front.ensures.value)

@@ -10,14 +10,18 @@ overflow_sub-self c =
     let i = c.self.inside in
     let e = c.in-Some.ensures in
     let p = popped i.lists.lists c.next_list-list.result c.in-Some.item e.apart e.value in
-    (IsLfu-removed (lfu_view (the_view i)) i.lists.lists e.apart c.self.invariant.once p.place c.in-Some.item c.next_list-list.result _ _ _ _ c.next_list-list.ensures.within p.there c.self.invariant c.weight_if.ensures refl).0
+    (IsLfu-removed (lfu_view (the_view i)) i.lists.lists e.apart c.self.invariant.once p.place c.in-Some.item
+    c.next_list-list.result _ _ _ _ c.next_list-list.ensures.within p.there c.self.invariant c.weight_if.ensures
+    refl).0
 
 pub overflow_sub-self-2 : goal.overflow_sub-self-2
 overflow_sub-self-2 c =
     let i = c.self.inside in
     let e = c.in-Some.ensures in
     let p = popped i.lists.lists c.next_list-list.result c.in-Some.item e.apart e.value in
-    (IsLfu-removed (lfu_view (the_view i)) i.lists.lists e.apart c.self.invariant.once p.place c.in-Some.item c.next_list-list.result _ _ _ _ c.next_list-list.ensures.within p.there c.self.invariant refl c.weight_if-2.ensures).1
+    (IsLfu-removed (lfu_view (the_view i)) i.lists.lists e.apart c.self.invariant.once p.place c.in-Some.item
+    c.next_list-list.result _ _ _ _ c.next_list-list.ensures.within p.there c.self.invariant refl
+    c.weight_if-2.ensures).1
 
 pub invariant_of-self-2 : goal.invariant_of-self-2
 invariant_of-self-2 c =
@@ -25,7 +29,9 @@ invariant_of-self-2 c =
     let e = c.in-Some.ensures in
     let p = popped i.lists.lists c.next_list-list.result c.in-Some.item e.apart e.value in
     let kept =
-    (IsLfu-removed (lfu_view (the_view i)) i.lists.lists e.apart c.self.invariant.once p.place c.in-Some.item c.next_list-list.result _ _ _ _ c.next_list-list.ensures.within p.there c.self.invariant c.weight_if.ensures c.weight_if-2.ensures).2 in
+    (IsLfu-removed (lfu_view (the_view i)) i.lists.lists e.apart c.self.invariant.once p.place c.in-Some.item
+    c.next_list-list.result _ _ _ _ c.next_list-list.ensures.within p.there c.self.invariant c.weight_if.ensures
+    c.weight_if-2.ensures).2 in
     rw (e.lists ∙ p.gone) kept
 
 pub returns-clause-places : goal.returns-clause-places
@@ -33,4 +39,6 @@ returns-clause-places c =
     let i = c.self.inside in
     let e = c.in-Some.ensures in
     let p = popped i.lists.lists c.next_list-list.result c.in-Some.item e.apart e.value in
-    rw (← c.self.view_is, e.lists ∙ p.gone) (dropped-places (lfu_view (the_view i)) i.lists.lists e.apart c.self.invariant.once p.place c.in-Some.item c.next_list-list.result c.next_list-list.ensures.within p.there)
+    rw (← c.self.view_is, e.lists ∙ p.gone)
+    (dropped-places (lfu_view (the_view i)) i.lists.lists e.apart c.self.invariant.once p.place c.in-Some.item
+    c.next_list-list.result c.next_list-list.ensures.within p.there)

@@ -2,10 +2,13 @@ use Rattle.foyer_policy.proofs.SegmentLemmas.{demoted-probation, demoted-others,
 use Rattle.foyer_policy.proofs.lfu.segments.demote.Goals as goal
 
 pub returns-clause-probation : goal.returns-clause-probation
-returns-clause-probation c = demoted-probation c.args.lists.now.lists c.front.ensures.apart c.args.from c.in-Some.place c.in-Some.ensures.place c.move_back.new.self.lists c.move_back.ensures.lists c.requires.other
+returns-clause-probation c = demoted-probation c.args.lists.now.lists c.front.ensures.apart c.args.from
+    c.in-Some.place c.in-Some.ensures.place c.move_back.new.self.lists c.move_back.ensures.lists c.requires.other
 
 pub returns-clause-weight : goal.returns-clause-weight
-returns-clause-weight c = first-weight c.args.lists.now.lists c.front.ensures.apart c.args.from c.in-Some.place c.in-Some.ensures.place c.get.result.now c.get.ensures.value
+returns-clause-weight c = first-weight c.args.lists.now.lists c.front.ensures.apart c.args.from c.in-Some.place
+    c.in-Some.ensures.place c.get.result.now c.get.ensures.value
 
 pub returns-clause-others : goal.returns-clause-others
-returns-clause-others c = demoted-others c.args.lists.now.lists c.front.ensures.apart c.args.from c.in-Some.place c.in-Some.ensures.place c.move_back.new.self.lists c.move_back.ensures.lists c.requires.other
+returns-clause-others c = demoted-others c.args.lists.now.lists c.front.ensures.apart c.args.from c.in-Some.place
+    c.in-Some.ensures.place c.move_back.new.self.lists c.move_back.ensures.lists c.requires.other

@@ -11,7 +11,8 @@ invariant-loop-left l =
     let old = l.fn.lists.lists in
     record {
       weight : l.left ≡ weight_of (items_in now l.from);
-      probation : items_in now 1 ++ over (λ i. i.weight) l.limit (items_in now l.from) ≡ items_in old 1 ++ over (λ i. i.weight) l.limit (items_in old l.from);
+      probation : items_in now 1 ++ over (λ i. i.weight) l.limit (items_in now l.from) ≡ items_in old 1
+          ++ over (λ i. i.weight) l.limit (items_in old l.from);
       from : fit (λ i. i.weight) l.limit (items_in now l.from) ≡ fit (λ i. i.weight) l.limit (items_in old l.from);
       others : (k : ℕ) → k ≢ l.from → k ≢ 1 → items_in now k ≡ items_in old k;
       places : (q : ℕ) → find q now ≡ find q old;

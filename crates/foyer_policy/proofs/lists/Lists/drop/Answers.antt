@@ -13,6 +13,7 @@ destroy_empty-requires g c =
       (
         h.arena,
         sym h.count ∙ none_left (lists_of i.nodes i.heads) (λ k less.
-            ap (λ ls. list_at ls k) same ∙ c.loop-list.invariant.done k (omega (arith, less, count, c.loop-list-test.false, c.count-list-end.ensures.count))),
+            ap (λ ls. list_at ls k) same ∙ c.loop-list.invariant.done k
+            (omega (arith, less, count, c.loop-list-test.false, c.count-list-end.ensures.count))),
       ),
     )

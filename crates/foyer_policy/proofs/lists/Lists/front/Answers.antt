@@ -12,7 +12,8 @@ returns-clause-there g c =
     let lt : c.args.list < length (lists_of i.nodes i.heads) = omega (arith, c.self.invariant.linked.heads_len) in
     let lh : c.args.list < length i.heads = omega (arith, c.self.invariant.linked.heads_len) in
     let at_head = get_or_default i.heads c.args.list None c.index-self-list.result lh ∙ sym c.place.ensures in
-    let f = front_found (get i.nodes) i.heads i.tails (lists_of i.nodes i.heads) c.args.list c.in_ok-node.node c.self.invariant.linked lt (at_head ∙ c.in_ok-node.was) in
+    let f = front_found (get i.nodes) i.heads i.tails (lists_of i.nodes i.heads) c.args.list c.in_ok-node.node
+    c.self.invariant.linked lt (at_head ∙ c.in_ok-node.was) in
     rw (← c.self.view_is, f.there) (search rules)
 
 pub returns-clause-apart : goal.returns-clause-apart

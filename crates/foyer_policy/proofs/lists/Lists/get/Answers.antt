@@ -10,15 +10,22 @@ use Rattle.foyer_policy.proofs.lists.Lists.get.Goals as goal
 pub get-requires : goal.get-requires
 get-requires g c =
     let i = c.self.inside in
-    let there : IsSome (find c.place.inside.node (lists_of i.nodes i.heads)) = search rules in
-    (omega arith, (c.self.invariant.arena, contains_found i.nodes i.heads i.tails (lists_of i.nodes i.heads) c.place.inside.node c.self.invariant.linked there))
+    let there : IsSome (find c.place.inside.node (lists_of i.nodes i.heads)) = search rules in (
+      omega arith,
+      (
+        c.self.invariant.arena,
+        contains_found i.nodes i.heads i.tails (lists_of i.nodes i.heads) c.place.inside.node
+            c.self.invariant.linked there,
+      ),
+    )
 
 pub returns-clause-value : goal.returns-clause-value
 returns-clause-value g c =
     let i = c.self.inside in
     let there : IsSome (find c.place.inside.node (lists_of i.nodes i.heads)) = search rules in
     rw (← c.self.view_is, ← c.place.view_is)
-    (sym (find-value (get i.nodes) i.heads i.tails (lists_of i.nodes i.heads) c.place.inside.node c.self.invariant.linked there) ∙ c.get.ensures)
+    (sym (find-value (get i.nodes) i.heads i.tails (lists_of i.nodes i.heads) c.place.inside.node
+    c.self.invariant.linked there) ∙ c.get.ensures)
 
 pub returns-clause-apart : goal.returns-clause-apart
 returns-clause-apart g c = AreLists-told c.self.view_is c.self.invariant c.self.told

@@ -14,7 +14,8 @@ take_out-requires g c =
     let lt : c.args.list < length (lists_of i.nodes i.heads) = omega (arith, c.self.invariant.linked.heads_len) in
     let lh : c.args.list < length i.heads = omega (arith, c.self.invariant.linked.heads_len) in
     let at_head = get_or_default i.heads c.args.list None c.index-self-list.result lh ∙ sym c.place.ensures in
-    let f = front_found (get i.nodes) i.heads i.tails (lists_of i.nodes i.heads) c.args.list c.in-Some.node c.self.invariant.linked lt (at_head ∙ c.in-Some.is) in
+    let f = front_found (get i.nodes) i.heads i.tails (lists_of i.nodes i.heads) c.args.list c.in-Some.node
+    c.self.invariant.linked lt (at_head ∙ c.in-Some.is) in
     (omega arith, (c.self.invariant, rw f.there (search rules)))
 
 pub returns-in-Some-clause-value : goal.returns-in-Some-clause-value
@@ -23,7 +24,8 @@ returns-in-Some-clause-value g c =
     let lt : c.args.list < length (lists_of i.nodes i.heads) = omega (arith, c.self.invariant.linked.heads_len) in
     let lh : c.args.list < length i.heads = omega (arith, c.self.invariant.linked.heads_len) in
     let at_head = get_or_default i.heads c.args.list None c.index-self-list.result lh ∙ sym c.place.ensures in
-    let f = front_found (get i.nodes) i.heads i.tails (lists_of i.nodes i.heads) c.args.list c.in-Some.node c.self.invariant.linked lt (at_head ∙ c.in-Some.is) in
+    let f = front_found (get i.nodes) i.heads i.tails (lists_of i.nodes i.heads) c.args.list c.in-Some.node
+    c.self.invariant.linked lt (at_head ∙ c.in-Some.is) in
     rw (← c.self.view_is) (sym c.take_out.ensures.value ∙ f.there ∙ sym f.first)
 
 pub returns-in-Some-clause-lists : goal.returns-in-Some-clause-lists
@@ -32,7 +34,8 @@ returns-in-Some-clause-lists g c =
     let lt : c.args.list < length (lists_of i.nodes i.heads) = omega (arith, c.self.invariant.linked.heads_len) in
     let lh : c.args.list < length i.heads = omega (arith, c.self.invariant.linked.heads_len) in
     let at_head = get_or_default i.heads c.args.list None c.index-self-list.result lh ∙ sym c.place.ensures in
-    let f = front_found (get i.nodes) i.heads i.tails (lists_of i.nodes i.heads) c.args.list c.in-Some.node c.self.invariant.linked lt (at_head ∙ c.in-Some.is) in
+    let f = front_found (get i.nodes) i.heads i.tails (lists_of i.nodes i.heads) c.args.list c.in-Some.node
+    c.self.invariant.linked lt (at_head ∙ c.in-Some.is) in
     rw (← c.self.view_is) (c.take_out.ensures.lists ∙ f.gone)
 
 pub returns-in-Some-clause-others : goal.returns-in-Some-clause-others

@@ -8,13 +8,17 @@ pub returns-clause-here : goal.returns-clause-here
 returns-clause-here g c =
     let i = c.self.inside in
     let lt : c.args.list < length (lists_of i.nodes i.heads) = omega (arith, c.self.invariant.linked.heads_len) in
-    rw c.link_back-node.ensures.lists (find-push_same c.link_back-node.result c.args.value (lists_of i.nodes i.heads) c.args.list c.link_back-node.ensures.free lt)
+    rw c.link_back-node.ensures.lists
+    (find-push_same c.link_back-node.result c.args.value (lists_of i.nodes i.heads) c.args.list
+    c.link_back-node.ensures.free lt)
 
 pub returns-clause-others : goal.returns-clause-others
 returns-clause-others g c = λ q ne.
     let i = c.self.inside in
     let lt : c.args.list < length (lists_of i.nodes i.heads) = omega (arith, c.self.invariant.linked.heads_len) in
-    rw (← c.self.view_is, c.link_back-node.ensures.lists) (find-push_other c.link_back-node.result q c.args.value (lists_of i.nodes i.heads) c.args.list c.link_back-node.ensures.free lt ne)
+    rw (← c.self.view_is, c.link_back-node.ensures.lists)
+    (find-push_other c.link_back-node.result q c.args.value (lists_of i.nodes i.heads) c.args.list
+    c.link_back-node.ensures.free lt ne)
 
 pub returns-clause-apart : goal.returns-clause-apart
 returns-clause-apart g c = AreLists-told c.self.view_is c.self.invariant c.self.told

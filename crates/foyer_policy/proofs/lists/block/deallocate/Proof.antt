@@ -1,4 +1,5 @@
--- `deallocate` makes the block of its empty nodes, and hands it back with the allocator's token. Of no nodes there is no block. Assumes `Logic`.
+-- `deallocate` makes the block of its empty nodes, and hands it back with the allocator's token. Of no nodes there is
+-- no block. Assumes `Logic`.
 use mathlib.Core.Path.{◌≡◌, refl, sym, ap, subst, ◌∙◌}
 use Prim.Native.Nat.{ℕ, ◌+◌, ◌*◌, ◌<◌, ◌^◌}
 use native.Mathlib.Omega.{arith}
@@ -74,13 +75,26 @@ module _ (E : Two) (Z : Al) where
   clauses 𝓛 = F.clauses E.links E.value Z.row Z.g Z.d Z.drops 𝓛
 
   abbrev stayed : Stays ended.signature.params ended.kept
-  stayed = (stay_dropped (RefOf (0 ∷ []) tt (plain (λ _. RA E Z)) (λ _. tt)) yes, (stay_dropped (plain (λ _. Bs E)) no, (stay_dropped (plain (λ _. usize)) yes, (stay_dropped (plain (λ _. Nr E)) no, (stay_dropped (plain (λ _. Dd E Z)) no, tt)))))
+  stayed = (
+    stay_dropped (RefOf (0 ∷ []) tt (plain (λ _. RA E Z)) (λ _. tt)) yes,
+    (
+      stay_dropped (plain (λ _. Bs E)) no,
+      (
+        stay_dropped (plain (λ _. usize)) yes,
+        (stay_dropped (plain (λ _. Nr E)) no, (stay_dropped (plain (λ _. Dd E Z)) no, tt)),
+      ),
+    ),
+  )
 
   abbrev Asks : Z.row.Denot → (Bs E).Denot → ℕ → (Nr E).Denot → (Dd E Z).Denot → Type 0
-  Asks a base len nodes deed = (nodes.at ≡ base.ptr) × (length nodes.links ≡ len) × (nodes.values ≡ replicate len None) × (deed.at ≡ base.ptr) × (deed.len ≡ len) × (deed.alloc ≡ a)
+  Asks a base len nodes deed = (nodes.at ≡ base.ptr) × (length nodes.links ≡ len)
+      × (nodes.values ≡ replicate len None) × (deed.at ≡ base.ptr) × (deed.len ≡ len) × (deed.alloc ≡ a)
 
-module _ (E : Two) (Z : Al) {M : Type 1} {𝓤 : Ura M} (𝓛 : Logic 𝓤) (at_mem : Memory → SProp 𝓤) (run : Routine → Fun 𝓤) (C : Calls 𝓤 𝓛.H) (Λ : Loops 𝓤 𝓛.H) (fm : FmC 𝓤 𝓛.H 𝓛.laws C)
-    (callee : Triple 𝓤 (C (gives_key Z)) (Gives Z 𝓛 at_mem run)) (κ κ₁ κ₂ κ₃ : Lft) (q q₁ q₂ q₃ : Share) (short : κ ⊑ κ₃) (within : κ₃ ⊑ Z.row.lives) (rb ro : ℕ) (a : Z.row.Denot) (base : (Bs E).Denot) (len : ℕ) (nodes : (Nr E).Denot) (deed : (Dd E Z).Denot) (us0 us1 us2 us3 us4 : List Val) where
+module _ (E : Two) (Z : Al) {M : Type 1} {𝓤 : Ura M} (𝓛 : Logic 𝓤) (at_mem : Memory → SProp 𝓤) (run : Routine → Fun 𝓤)
+    (C : Calls 𝓤 𝓛.H) (Λ : Loops 𝓤 𝓛.H) (fm : FmC 𝓤 𝓛.H 𝓛.laws C)
+    (callee : Triple 𝓤 (C (gives_key Z)) (Gives Z 𝓛 at_mem run)) (κ κ₁ κ₂ κ₃ : Lft) (q q₁ q₂ q₃ : Share)
+    (short : κ ⊑ κ₃) (within : κ₃ ⊑ Z.row.lives) (rb ro : ℕ) (a : Z.row.Denot) (base : (Bs E).Denot) (len : ℕ)
+    (nodes : (Nr E).Denot) (deed : (Dd E Z).Denot) (us0 us1 us2 us3 us4 : List Val) where
   open 𝓛 use {H, A}
 
   abbrev self : Bor Z.row.Denot
@@ -90,7 +104,16 @@ module _ (E : Two) (Z : Al) {M : Type 1} {𝓤 : Ura M} (𝓛 : Logic 𝓤) (at_
   others = ‵ (flft κ₁ q₁) ⊛ ‵ (flft κ₂ q₂) ⊛ ‵ (flft κ₃ q₃) ⊛ ‵ ftrue
 
   abbrev bound : (walk_of 𝓛 (ended E Z) (stayed E Z) (clauses E Z 𝓛 at_mem run)).Ghost
-  bound = (((κ, (κ₁, (κ₂, (κ₃, tt)))), (q, (q₁, (q₂, (q₃, tt)))), (short, tt), (self, (base, (len, (nodes, (deed, tt))))), (us0, (us1, (us2, (us3, (us4, tt)))))), tt)
+  bound = (
+    (
+      (κ, (κ₁, (κ₂, (κ₃, tt)))),
+      (q, (q₁, (q₂, (q₃, tt)))),
+      (short, tt),
+      (self, (base, (len, (nodes, (deed, tt))))),
+      (us0, (us1, (us2, (us3, (us4, tt))))),
+    ),
+    tt,
+  )
 
   abbrev Post : Val → SProp 𝓤
   Post = (walk_of 𝓛 (ended E Z) (stayed E Z) (clauses E Z 𝓛 at_mem run)).post bound
@@ -98,59 +121,118 @@ module _ (E : Two) (Z : Al) {M : Type 1} {𝓤 : Ura M} (𝓛 : Logic 𝓤) (at_
   exits : ent 𝓤 (⋆ 𝓛 (‵ (flft κ q) ∷ others ∷ [])) (Post vunit)
   exits =
       qed 𝓛 (‵ (flft κ q) ∷ others ∷ []) ∵
-      suffices ! _ (ends_at 𝓛 (ended E Z) (stayed E Z) (clauses E Z 𝓛 at_mem run) bound vunit tt (tt, (tt, (tt, (tt, (tt, tt))))) (tt, (tt, (tt, (tt, (tt, tt)))))) $
-      join ! $ feq_i ! (List Val) (vunit ∷ []) (vunit ∷ []) refl $ nothing ! $ nothing ! $ fjoin ! $ nothing ! $ fjoin ! $ nothing ! $ fjoin ! $ nothing ! $ fjoin ! $ nothing ! $ fjoin ! $ join ! $
+      suffices ! _
+      (ends_at 𝓛 (ended E Z) (stayed E Z) (clauses E Z 𝓛 at_mem run) bound vunit tt
+      (tt, (tt, (tt, (tt, (tt, tt))))) (tt, (tt, (tt, (tt, (tt, tt)))))) $
+      join ! $ feq_i ! (List Val) (vunit ∷ []) (vunit ∷ []) refl $ nothing ! $ nothing ! $ fjoin ! $ nothing ! $ fjoin
+      ! $ nothing ! $ fjoin ! $ nothing ! $ fjoin ! $ nothing ! $ fjoin ! $ join ! $
       move ! (1 ∷ 0 ∷ []) $ join ! $ nothing ! $ move ! (1 ∷ 0 ∷ []) $ done !
 
   abbrev Had : List (Item 𝓤)
-  Had = ‵ (nodes_own (RL E) (RV E) nodes.at nodes.links nodes.values) ∷ ‵ (deed_owns (RL E) (RV E) (token Z deed.alloc) deed.at deed.len) ∷ ‵ (hidden_shr (RA E Z) κ a rb ro) ∷ ‵ (flft κ q) ∷ others ∷ []
+  Had = ‵ (nodes_own (RL E) (RV E) nodes.at nodes.links nodes.values) ∷ ‵
+      (deed_owns (RL E) (RV E) (token Z deed.alloc) deed.at deed.len) ∷ ‵ (hidden_shr (RA E Z) κ a rb ro) ∷ ‵
+      (flft κ q) ∷ others ∷ []
 
-  walk : Asks E Z a base len nodes deed → len < 2 ^ 64 → ent 𝓤 (⋆ 𝓛 Had) (WpFn 𝓤 H C Λ (function E Z) (vptr rb ro ∷ word base.ptr ∷ vint w64 len ∷ mark ∷ mark ∷ []) Post)
+  walk : Asks E Z a base len nodes deed → len < 2 ^ 64 →
+      ent 𝓤 (⋆ 𝓛 Had) (WpFn 𝓤 H C Λ (function E Z) (vptr rb ro ∷ word base.ptr ∷ vint w64 len ∷ mark ∷ mark ∷ []) Post)
   walk asked fits =
       qed 𝓛 Had ∵ enter ! C Λ (function E Z) (vptr rb ro ∷ word base.ptr ∷ vint w64 len ∷ mark ∷ mark ∷ []) _ $
-      alloc_all ! (λ l. pass_all ! refl ((tt, tt), (word-Good [] base.ptr, ((tt, record { fits = fits }), ((tt, (tt, tt)), ((tt, (tt, tt)), tt))))) $
+      alloc_all !
+      (λ l. pass_all ! refl (
+        (tt, tt),
+        (word-Good [] base.ptr, ((tt, record { fits = fits }), ((tt, (tt, tt)), ((tt, (tt, tt)), tt)))),
+      ) $
       let En : Env 𝓤 H = env (function E Z).locals l in
       let s = sz E in let al : ℕ = capped (align (written E)) in let block : Ty = block_type (RL E) (RV E) len in
-      rewrite ! 0 (λ (c : Ptr × List (Option E.value.Denot)). ‵ (nodes_own (RL E) (RV E) c.0 nodes.links c.1)) (λ i. (asked.0 i, asked.2 i)) refl $
-      in_a_block ! base.ptr (λ p. nodes_own (RL E) (RV E) p nodes.links (replicate len None)) (id⊢ 𝓤 (never 𝓤)) (λ b o e. fsplit ! $ fsplit ! $ flt_l ! (λ fit.
-      let small : len * s < 2 ^ 63 = subst (λ k. k * s < 2 ^ 63) asked.1 fit in let bytes : len * s < 2 ^ 64 = omega arith in
+      rewrite ! 0 (λ (c : Ptr × List (Option E.value.Denot)). ‵ (nodes_own (RL E) (RV E) c.0 nodes.links c.1))
+      (λ i. (asked.0 i, asked.2 i)) refl $
+      in_a_block ! base.ptr (λ p. nodes_own (RL E) (RV E) p nodes.links (replicate len None)) (id⊢ 𝓤 (never 𝓤))
+      (λ b o e. fsplit ! $ fsplit ! $ flt_l ! (λ fit.
+      let small : len * s < 2 ^ 63 = subst (λ k. k * s < 2 ^ 63) asked.1 fit in let bytes : len * s < 2 ^ 64 =
+      omega arith in
       let y : (Gives Z 𝓛 at_mem run).Ghost = at_gives Z 𝓛 at_mem run κ q (rb, ro) a b o (len * s) al block in
-      use1 𝓛 (‵ (column (RL E) s b (o + lo E) (replicate (length nodes.links) None))) (links_blank E 𝓛 b nodes.links (o + lo E)) $
+      use1 𝓛 (‵ (column (RL E) s b (o + lo E) (replicate (length nodes.links) None)))
+      (links_blank E 𝓛 b nodes.links (o + lo E)) $
       rewrite ! 0 (λ (k : ℕ). ‵ (column (RL E) s b (o + lo E) (replicate k None))) asked.1 refl $
       move ! (1 ∷ []) $ fsplit ! $ flt_l ! (λ _. move ! (1 ∷ 0 ∷ []) $ fjoin ! $
-      rewrite ! 1 (λ (d : Z.row.Denot × Ptr × ℕ). ‵ (deed_owns (RL E) (RV E) (token Z d.0) d.1 d.2)) (λ i. (asked.5 i, (asked.3 ∙ e) i, asked.4 i)) refl $
+      rewrite ! 1 (λ (d : Z.row.Denot × Ptr × ℕ). ‵ (deed_owns (RL E) (RV E) (token Z d.0) d.1 d.2))
+      (λ i. (asked.5 i, (asked.3 ∙ e) i, asked.4 i)) refl $
       -- [the blank nodes; the deed; the allocator; the lifetime; the others]
       sets ! (bin ! (get ! refl) (lit ! tt) tt) refl (tt, tt) $ first ! $ branches ! (get ! refl)
       (λ yes.
-      rewrite ! 1 (λ (b' : Bool). ‵ (owns_if b' (fsep (token Z a block (block_ptr b o)) (block_joins (RL E) (RV E) (block_ptr b o) len)))) (has_one len yes) refl $
-      move ! (1 ∷ []) $ fsplit ! $ move ! (2 ∷ 1 ∷ []) $ use2 𝓛 (‵ (froom block b o)) (block_glue E 𝓛 b len o) $ blocks ! $
+      rewrite ! 1
+      (λ (b' : Bool). ‵
+      (owns_if b' (fsep (token Z a block (block_ptr b o)) (block_joins (RL E) (RV E) (block_ptr b o) len))))
+      (has_one len yes) refl $
+      move ! (1 ∷ []) $ fsplit ! $ move ! (2 ∷ 1 ∷ []) $ use2 𝓛 (‵ (froom block b o)) (block_glue E 𝓛 b len o) $
+      blocks ! $
       sets ! (is ! (of_opd ! (get_in ! (fld ! refl (stop !)) (sub ! 0 refl (whole !)))) (ap ptr_val e)) refl (tt, tt) $
-      sets ! (is ! (bin ! (get ! refl) (size_word !) (record { fits = subst (λ (k : ℕ). k < 2 ^ 64) (sym (uncapped len s bytes)) bytes })) (ap (vint w64) (uncapped len s bytes))) refl (tt, record { fits = bytes }) $
-      group ! 4 $ use1 𝓛 (raw ((Gives Z 𝓛 at_mem run).pre y)) (Gives-goes Z 𝓛 at_mem run κ q (rb, ro) a (Incl-trans short within) b o (len * s) al block (block_size E len bytes) (block_align E len) bytes (capped_fits (align (written E)))) $
-      calls_at_last ! fm (Gives Z 𝓛 at_mem run) callee y (and_then ! (get ! refl) (and_then ! (get ! refl) (and_then ! (get ! refl) (and_then ! (align_word !) (no_more !))))) (λ v.
-      use1 𝓛 (later (given (v ≡ vunit) (‵ (flft κ q)))) (Gives-Gives Z 𝓛 at_mem run κ q (rb, ro) a b o (len * s) al block v) $ await ! tt $ learn ! (λ done_with.
-      lands_last ! refl (subst (λ (z : Val). T (has_ty ty_unit z) × WT z) (sym done_with) (tt, tt)) $ exec ! C Λ En (after 2 (function E Z).body) (at_ret En Post) $
-      sets ! (of_opd ! (unit_lit !)) refl (tt, tt) $ returns ! (look_at ! 0 refl) $ free_all ! refl $ keep ! (0 ∷ 1 ∷ []) $ by ! exits)))
+      sets ! (is !
+      (bin ! (get ! refl) (size_word !)
+      (record { fits = subst (λ (k : ℕ). k < 2 ^ 64) (sym (uncapped len s bytes)) bytes }))
+      (ap (vint w64) (uncapped len s bytes))) refl (tt, record { fits = bytes }) $
+      group ! 4 $ use1 𝓛 (raw ((Gives Z 𝓛 at_mem run).pre y))
+      (Gives-goes Z 𝓛 at_mem run κ q (rb, ro) a (Incl-trans short within) b o (len * s) al block
+      (block_size E len bytes) (block_align E len) bytes (capped_fits (align (written E)))) $
+      calls_at_last ! fm (Gives Z 𝓛 at_mem run) callee y
+      (and_then ! (get ! refl)
+      (and_then ! (get ! refl) (and_then ! (get ! refl) (and_then ! (align_word !) (no_more !))))) (λ v.
+      use1 𝓛 (later (given (v ≡ vunit) (‵ (flft κ q))))
+      (Gives-Gives Z 𝓛 at_mem run κ q (rb, ro) a b o (len * s) al block v) $ await ! tt $ learn ! (λ done_with.
+      lands_last ! refl (subst (λ (z : Val). T (has_ty ty_unit z) × WT z) (sym done_with) (tt, tt)) $ exec ! C Λ En
+      (after 2 (function E Z).body) (at_ret En Post) $
+      sets ! (of_opd ! (unit_lit !)) refl (tt, tt) $ returns ! (look_at ! 0 refl) $ free_all ! refl $ keep !
+      (0 ∷ 1 ∷ []) $ by ! exits)))
       (λ no. skips ! $ exec ! C Λ En (after 2 (function E Z).body) (at_ret En Post) $
-      sets ! (of_opd ! (unit_lit !)) refl (tt, tt) $ returns ! (look_at ! 0 refl) $ free_all ! refl $ keep ! (3 ∷ 4 ∷ []) $ by ! exits)))))
+      sets ! (of_opd ! (unit_lit !)) refl (tt, tt) $ returns ! (look_at ! 0 refl) $ free_all ! refl $ keep !
+      (3 ∷ 4 ∷ []) $ by ! exits)))))
 
-  entry : Asks E Z a base len nodes deed → ent 𝓤 (on_entry 𝓛 (ended E Z).signature (κ, (κ₁, (κ₂, (κ₃, tt)))) (q, (q₁, (q₂, (q₃, tt)))) (self, (base, (len, (nodes, (deed, tt))))) (us0, (us1, (us2, (us3, (us4, tt)))))) (WpFn 𝓤 H C Λ (function E Z) (us0 ++ (us1 ++ (us2 ++ (us3 ++ (us4 ++ []))))) Post)
+  entry : Asks E Z a base len nodes deed → ent 𝓤
+      (on_entry 𝓛 (ended E Z).signature (κ, (κ₁, (κ₂, (κ₃, tt)))) (q, (q₁, (q₂, (q₃, tt))))
+      (self, (base, (len, (nodes, (deed, tt))))) (us0, (us1, (us2, (us3, (us4, tt))))))
+      (WpFn 𝓤 H C Λ (function E Z) (us0 ++ (us1 ++ (us2 ++ (us3 ++ (us4 ++ []))))) Post)
   entry asked =
-      qed 𝓛 ((‵ (flft κ q) ⊛ others) ∷ ‵ (owns (ShrRef (named 0) κ (RA E Z) ∷ Bs E ∷ usize ∷ Nr E ∷ Dd E Z ∷ []) (self, (base, (len, (nodes, (deed, tt))))) (us0, (us1, (us2, (us3, (us4, tt)))))) ∷ []) ∵ split ! $ move ! (2 ∷ []) $ fsplit3 ! $ fsplit ! $ feq_l ! (λ e0.
-      move ! (1 ∷ []) $ word_had ! base.ptr us1 (λ e1. move ! (1 ∷ []) $ fsplit3 ! $ fsplit ! $ feq_l ! (λ e2. flt_l ! (λ fits.
-      fsplit ! $ mark_had ! E us3 (λ e3. move ! (1 ∷ []) $ fsplit ! $ fsplit ! $ mark_had ! E us4 (λ e4. keep ! (2 ∷ 0 ∷ 3 ∷ 4 ∷ 5 ∷ []) $
-      by ! (subst (λ (ws : List Val × List Val × List Val × List Val × List Val). ent 𝓤 (⋆ 𝓛 Had) (WpFn 𝓤 H C Λ (function E Z) (ws.0 ++ (ws.1 ++ (ws.2 ++ (ws.3 ++ (ws.4 ++ []))))) Post))
+      qed 𝓛 ((‵ (flft κ q) ⊛ others) ∷ ‵
+      (owns (ShrRef (named 0) κ (RA E Z) ∷ Bs E ∷ usize ∷ Nr E ∷ Dd E Z ∷ [])
+      (self, (base, (len, (nodes, (deed, tt))))) (us0, (us1, (us2, (us3, (us4, tt)))))) ∷ []) ∵ split ! $ move
+      ! (2 ∷ []) $ fsplit3 ! $ fsplit ! $ feq_l ! (λ e0.
+      move ! (1 ∷ []) $ word_had ! base.ptr us1
+      (λ e1. move ! (1 ∷ []) $ fsplit3 ! $ fsplit ! $ feq_l ! (λ e2. flt_l ! (λ fits.
+      fsplit ! $ mark_had ! E us3
+      (λ e3. move ! (1 ∷ []) $ fsplit ! $ fsplit ! $ mark_had ! E us4 (λ e4. keep ! (2 ∷ 0 ∷ 3 ∷ 4 ∷ 5 ∷ []) $
+      by ! (subst
+      (λ (ws : List Val × List Val × List Val × List Val × List Val). ent 𝓤 (⋆ 𝓛 Had)
+      (WpFn 𝓤 H C Λ (function E Z) (ws.0 ++ (ws.1 ++ (ws.2 ++ (ws.3 ++ (ws.4 ++ []))))) Post))
       (λ j. (sym e0 j, sym e1 j, sym e2 j, sym e3 j, sym e4 j)) (walk asked fits))))))))
 
-meets : (E : Two) (Z : Al) {M : Type 1} {𝓤 : Ura M} (𝓛 : Logic 𝓤) (at_mem : Memory → SProp 𝓤) (run : Routine → Fun 𝓤) (𝓣 : Tables 𝓤 𝓛.H) → Triple 𝓤 (𝓣.C (gives_key Z)) (Gives Z 𝓛 at_mem run)
-    → Meets 𝓛 (ended E Z).signature (WpFn 𝓤 𝓛.H 𝓣.C 𝓣.Λ (function E Z)) (closing 𝓛 (ended E Z) (clauses E Z 𝓛 at_mem run))
+meets : (E : Two) (Z : Al) {M : Type 1} {𝓤 : Ura M} (𝓛 : Logic 𝓤) (at_mem : Memory → SProp 𝓤) (run : Routine → Fun 𝓤)
+    (𝓣 : Tables 𝓤 𝓛.H) → Triple 𝓤 (𝓣.C (gives_key Z)) (Gives Z 𝓛 at_mem run)
+    → Meets 𝓛 (ended E Z).signature (WpFn 𝓤 𝓛.H 𝓣.C 𝓣.Λ (function E Z))
+    (closing 𝓛 (ended E Z) (clauses E Z 𝓛 at_mem run))
 meets E Z {𝓤 = 𝓤} 𝓛 at_mem run 𝓣 callee =
-    walk_Meets 𝓛 (ended E Z) (stayed E Z) (Goes-dropped 𝓛 4 (RefOf (0 ∷ []) tt (plain (λ _. RA E Z)) (λ _. tt)) yes (λ κs x f. refl), (Goes-dropped 𝓛 4 (plain (λ _. Bs E)) no (λ κs x f. refl), (Goes-dropped 𝓛 4 (plain (λ _. usize)) yes (λ κs x f. refl), (Goes-blank 𝓛 4 (plain (λ _. Nr E)) no (λ κs x f. tt), (Goes-blank 𝓛 4 (plain (λ _. Dd E Z)) no (λ κs x f. tt), tt)))))
+    walk_Meets 𝓛 (ended E Z) (stayed E Z) (
+      Goes-dropped 𝓛 4 (RefOf (0 ∷ []) tt (plain (λ _. RA E Z)) (λ _. tt)) yes (λ κs x f. refl),
+      (
+        Goes-dropped 𝓛 4 (plain (λ _. Bs E)) no (λ κs x f. refl),
+        (
+          Goes-dropped 𝓛 4 (plain (λ _. usize)) yes (λ κs x f. refl),
+          (
+            Goes-blank 𝓛 4 (plain (λ _. Nr E)) no (λ κs x f. tt),
+            (Goes-blank 𝓛 4 (plain (λ _. Dd E Z)) no (λ κs x f. tt), tt),
+          ),
+        ),
+      ),
+    )
     (clauses E Z 𝓛 at_mem run) (WpFn 𝓤 𝓛.H 𝓣.C 𝓣.Λ (function E Z)) (WpFn-mono 𝓤 𝓛.H 𝓛.laws 𝓣 (function E Z))
-    (λ z. let κs = z.0.0 in let qs = z.0.1 in let a = z.0.3 in let vss = z.0.4 in let On : SProp 𝓤 = on_entry 𝓛 (ended E Z).signature κs qs a vss in
+    (λ z. let κs = z.0.0 in let qs = z.0.1 in let a = z.0.3 in let vss = z.0.4 in let On : SProp 𝓤 =
+    on_entry 𝓛 (ended E Z).signature κs qs a vss in
     let asks = Asks E Z a.0.now a.1.0 a.1.1.0 a.1.1.1.0 a.1.1.1.1.0 in
-    past_fact 𝓤 (κs.1.0 ⊑ E.links.lives) On (sep 𝓤 (fact 𝓤 (κs.1.1.0 ⊑ E.value.lives)) (sep 𝓤 (fact 𝓤 (κs.1.1.1.0 ⊑ Z.row.lives)) (fact 𝓤 asks))) (second 𝓤 (κs.1.1.0 ⊑ E.value.lives) (κs.1.1.1.0 ⊑ Z.row.lives) On (fact 𝓤 asks) (λ within. needs 𝓤 asks On
-    (entry E Z 𝓛 at_mem run 𝓣.C 𝓣.Λ (fm_of 𝓤 𝓛.H 𝓛.laws 𝓣) callee κs.0 κs.1.0 κs.1.1.0 κs.1.1.1.0 qs.0 qs.1.0 qs.1.1.0 qs.1.1.1.0 z.0.2.0 within a.0.ref_ptr.0 a.0.ref_ptr.1 a.0.now a.1.0 a.1.1.0 a.1.1.1.0 a.1.1.1.1.0 vss.0 vss.1.0 vss.1.1.0 vss.1.1.1.0 vss.1.1.1.1.0))))
+    past_fact 𝓤 (κs.1.0 ⊑ E.links.lives) On
+    (sep 𝓤 (fact 𝓤 (κs.1.1.0 ⊑ E.value.lives)) (sep 𝓤 (fact 𝓤 (κs.1.1.1.0 ⊑ Z.row.lives)) (fact 𝓤 asks)))
+    (second 𝓤 (κs.1.1.0 ⊑ E.value.lives) (κs.1.1.1.0 ⊑ Z.row.lives) On (fact 𝓤 asks) (λ within. needs 𝓤 asks On
+    (entry E Z 𝓛 at_mem run 𝓣.C 𝓣.Λ (fm_of 𝓤 𝓛.H 𝓛.laws 𝓣) callee κs.0 κs.1.0 κs.1.1.0 κs.1.1.1.0 qs.0 qs.1.0 qs.1.1.0
+    qs.1.1.1.0 z.0.2.0 within a.0.ref_ptr.0 a.0.ref_ptr.1 a.0.now a.1.0 a.1.1.0 a.1.1.1.0 a.1.1.1.1.0 vss.0
+    vss.1.0 vss.1.1.0 vss.1.1.1.0 vss.1.1.1.1.0))))
 
 pub deallocate_spec : {M : Type 1} → stated.statement M
 unfolding tables_of
@@ -158,5 +240,6 @@ deallocate_spec 𝓤 𝓛 𝓜 𝓡 wired X Y W LX LY LW g d dd met md =
     let E : Two = record { links = X; links_laws = LX; value = Y; value_laws = LY } in
     let Z : Al = record { row = W; laws = LW; g = g; d = d; drops = dd } in
     let 𝓣 : Tables 𝓤 𝓛.H = tables_of 𝓤 𝓛.H 𝓜 (tables 𝓤 𝓛.H 𝓜 𝓡 𝓡.env) in
-    entered 𝓤 𝓛.H (triple_of 𝓛 (ended E Z).signature (F.spec X Y W g d dd 𝓛 𝓜.mem 𝓡.returns)) 𝓣.C 𝓣.Λ (#self (all_args E Z)) (function E Z) (code.unfolded 𝓤 𝓛.H 𝓜 𝓡 wired (X, (Y, (W, tt))) d dd)
+    entered 𝓤 𝓛.H (triple_of 𝓛 (ended E Z).signature (F.spec X Y W g d dd 𝓛 𝓜.mem 𝓡.returns)) 𝓣.C 𝓣.Λ
+    (#self (all_args E Z)) (function E Z) (code.unfolded 𝓤 𝓛.H 𝓜 𝓡 wired (X, (Y, (W, tt))) d dd)
     (meets E Z 𝓛 𝓜.mem 𝓡.returns 𝓣 (met.deallocate dd))

@@ -13,5 +13,8 @@ returns-clause-items c =
     let pin = items_of (list_at ls 2) in
     let first : c.append_items.new.items.items ≡ low = search rules in
     let all : c.append_items-3.new.items.items ≡ (low ++ high) ++ pin =
-    c.in_ok-append_items-3.ensures.items ∙ ap (λ (l : List Item). l ++ pin) (c.in_ok-append_items-2.ensures.items ∙ ap (λ (l : List Item). l ++ high) first) in
-    rw (← c.self.view_is) (all ∙ append_assoc low high pin ∙ ap (λ (l : List Item). low ++ (high ++ l)) (sym (items_of-pins (list_at ls 2))))
+    c.in_ok-append_items-3.ensures.items ∙ ap (λ (l : List Item). l ++ pin)
+    (c.in_ok-append_items-2.ensures.items ∙ ap (λ (l : List Item). l ++ high) first) in
+    rw (← c.self.view_is)
+    (all ∙ append_assoc low high pin ∙ ap (λ (l : List Item). low ++ (high ++ l))
+    (sym (items_of-pins (list_at ls 2))))

@@ -14,11 +14,16 @@ invariant_of-self c =
     let i = c.self.inside in
     let ls = i.lists.lists in
     let n : Node = c.in-Some.node in
-    let p = popped_low ls c.pop_front.new.self.lists c.pop_front.ensures.apart n (sym c.in-Some.is ∙ c.pop_front.ensures.value) c.pop_front.ensures.lists in
-    let is : n.state ≡ state false false = state_at (λ s. s ≡ state false false) p.place n (list_at ls 0) c.self.invariant.tell.low p.there in
-    let high : i.high_weight + cond n.state.pinned 0 (cond n.state.high n.item.weight 0) ≡ i.high_weight = rw (ap (λ (s : LruState). s.pinned) is, ap (λ (s : LruState). s.high) is) (omega arith) in
-    let pinned : i.pinned_weight + cond n.state.pinned n.item.weight 0 ≡ i.pinned_weight = rw (ap (λ (s : LruState). s.pinned) is) (omega arith) in
-    removed_is ls i.lists.room i.limit i.ratio i.high_weight i.pinned_weight c.self.invariant c.pop_front.ensures.apart p.place n p.found
+    let p = popped_low ls c.pop_front.new.self.lists c.pop_front.ensures.apart n
+    (sym c.in-Some.is ∙ c.pop_front.ensures.value) c.pop_front.ensures.lists in
+    let is : n.state ≡ state false false = state_at (λ s. s ≡ state false false) p.place n (list_at ls 0)
+    c.self.invariant.tell.low p.there in
+    let high : i.high_weight + cond n.state.pinned 0 (cond n.state.high n.item.weight 0) ≡ i.high_weight =
+    rw (ap (λ (s : LruState). s.pinned) is, ap (λ (s : LruState). s.high) is) (omega arith) in
+    let pinned : i.pinned_weight + cond n.state.pinned n.item.weight 0 ≡ i.pinned_weight =
+    rw (ap (λ (s : LruState). s.pinned) is) (omega arith) in
+    removed_is ls i.lists.room i.limit i.ratio i.high_weight i.pinned_weight c.self.invariant
+    c.pop_front.ensures.apart p.place n p.found
     c.pop_front.new.self.lists c.pop_front.new.self.room p.dropped i.high_weight i.pinned_weight high pinned
 
 pub returns-in-Some-clause-places : goal.returns-in-Some-clause-places
@@ -26,8 +31,11 @@ returns-in-Some-clause-places c =
     let i = c.self.inside in
     let ls = i.lists.lists in
     let n : Node = c.in-Some.node in
-    let p = popped_low ls c.pop_front.new.self.lists c.pop_front.ensures.apart n (sym c.in-Some.is ∙ c.pop_front.ensures.value) c.pop_front.ensures.lists in
-    rw (← c.self.view_is) (removed_places ls i.lists.room i.limit i.ratio i.high_weight i.pinned_weight c.self.invariant c.pop_front.ensures.apart p.place n p.found
+    let p = popped_low ls c.pop_front.new.self.lists c.pop_front.ensures.apart n
+    (sym c.in-Some.is ∙ c.pop_front.ensures.value) c.pop_front.ensures.lists in
+    rw (← c.self.view_is)
+    (removed_places ls i.lists.room i.limit i.ratio i.high_weight i.pinned_weight c.self.invariant
+    c.pop_front.ensures.apart p.place n p.found
     c.pop_front.new.self.lists c.pop_front.new.self.room p.dropped)
 
 pub overflow_sub-self : goal.overflow_sub-self
@@ -35,12 +43,20 @@ overflow_sub-self c =
     let i = c.self.inside in
     let ls = c.pop_front.new.self.lists in
     let n : Node = c.in-Some-pop_front.node in
-    let same : ls ≡ i.lists.lists = popped_nothing i.lists.lists ls c.pop_front.ensures.apart n (sym c.in_default.is ∙ c.pop_front.ensures.value) c.pop_front.ensures.lists in
-    let old : IsLru (record { lists = ls; room = i.lists.room; limit = i.limit; ratio = i.ratio }) i.high_weight i.pinned_weight =
-    subst (λ (x : List (List (ℕ × Node))). IsLru (record { lists = x; room = i.lists.room; limit = i.limit; ratio = i.ratio }) i.high_weight i.pinned_weight) (sym same) c.self.invariant in
-    let p = popped_high ls c.pop_front-2.new.self.lists c.pop_front-2.ensures.apart n (sym c.in-Some-pop_front.is ∙ c.pop_front-2.ensures.value) c.pop_front-2.ensures.lists in
-    let is : n.state ≡ state true false = state_at (λ s. s ≡ state true false) p.place n (list_at ls 1) old.tell.high p.there in
-    let less = high_weighs ls i.lists.room i.limit i.ratio i.high_weight i.pinned_weight old c.pop_front-2.ensures.apart p.place n p.found (ap (λ (s : LruState). s.pinned) is) (ap (λ (s : LruState). s.high) is) in
+    let same : ls ≡ i.lists.lists = popped_nothing i.lists.lists ls c.pop_front.ensures.apart n
+    (sym c.in_default.is ∙ c.pop_front.ensures.value) c.pop_front.ensures.lists in
+    let old : IsLru (record { lists = ls; room = i.lists.room; limit = i.limit; ratio = i.ratio }) i.high_weight
+    i.pinned_weight =
+    subst (λ (x : List (List (ℕ × Node))). IsLru
+    (record { lists = x; room = i.lists.room; limit = i.limit; ratio = i.ratio }) i.high_weight i.pinned_weight)
+    (sym same) c.self.invariant in
+    let p = popped_high ls c.pop_front-2.new.self.lists c.pop_front-2.ensures.apart n
+    (sym c.in-Some-pop_front.is ∙ c.pop_front-2.ensures.value) c.pop_front-2.ensures.lists in
+    let is : n.state ≡ state true false = state_at (λ s. s ≡ state true false) p.place n (list_at ls 1) old.tell.high
+    p.there in
+    let less = high_weighs ls i.lists.room i.limit i.ratio i.high_weight i.pinned_weight old
+    c.pop_front-2.ensures.apart p.place n p.found (ap (λ (s : LruState). s.pinned) is)
+    (ap (λ (s : LruState). s.high) is) in
     less
 
 pub invariant_of-self-2 : goal.invariant_of-self-2
@@ -48,27 +64,46 @@ invariant_of-self-2 c =
     let i = c.self.inside in
     let ls = c.pop_front.new.self.lists in
     let n : Node = c.in-Some-pop_front.node in
-    let same : ls ≡ i.lists.lists = popped_nothing i.lists.lists ls c.pop_front.ensures.apart n (sym c.in_default.is ∙ c.pop_front.ensures.value) c.pop_front.ensures.lists in
-    let old : IsLru (record { lists = ls; room = i.lists.room; limit = i.limit; ratio = i.ratio }) i.high_weight i.pinned_weight =
-    subst (λ (x : List (List (ℕ × Node))). IsLru (record { lists = x; room = i.lists.room; limit = i.limit; ratio = i.ratio }) i.high_weight i.pinned_weight) (sym same) c.self.invariant in
-    let p = popped_high ls c.pop_front-2.new.self.lists c.pop_front-2.ensures.apart n (sym c.in-Some-pop_front.is ∙ c.pop_front-2.ensures.value) c.pop_front-2.ensures.lists in
-    let is : n.state ≡ state true false = state_at (λ s. s ≡ state true false) p.place n (list_at ls 1) old.tell.high p.there in
-    let less = high_weighs ls i.lists.room i.limit i.ratio i.high_weight i.pinned_weight old c.pop_front-2.ensures.apart p.place n p.found (ap (λ (s : LruState). s.pinned) is) (ap (λ (s : LruState). s.high) is) in
-    let high : i.high_weight - n.item.weight + cond n.state.pinned 0 (cond n.state.high n.item.weight 0) ≡ i.high_weight = rw (ap (λ (s : LruState). s.pinned) is, ap (λ (s : LruState). s.high) is) (omega arith) in
-    let pinned : i.pinned_weight + cond n.state.pinned n.item.weight 0 ≡ i.pinned_weight = rw (ap (λ (s : LruState). s.pinned) is) (omega arith) in
-    removed_is ls i.lists.room i.limit i.ratio i.high_weight i.pinned_weight old c.pop_front-2.ensures.apart p.place n p.found
-    c.pop_front-2.new.self.lists c.pop_front-2.new.self.room p.dropped (i.high_weight - n.item.weight) i.pinned_weight high pinned
+    let same : ls ≡ i.lists.lists = popped_nothing i.lists.lists ls c.pop_front.ensures.apart n
+    (sym c.in_default.is ∙ c.pop_front.ensures.value) c.pop_front.ensures.lists in
+    let old : IsLru (record { lists = ls; room = i.lists.room; limit = i.limit; ratio = i.ratio }) i.high_weight
+    i.pinned_weight =
+    subst (λ (x : List (List (ℕ × Node))). IsLru
+    (record { lists = x; room = i.lists.room; limit = i.limit; ratio = i.ratio }) i.high_weight i.pinned_weight)
+    (sym same) c.self.invariant in
+    let p = popped_high ls c.pop_front-2.new.self.lists c.pop_front-2.ensures.apart n
+    (sym c.in-Some-pop_front.is ∙ c.pop_front-2.ensures.value) c.pop_front-2.ensures.lists in
+    let is : n.state ≡ state true false = state_at (λ s. s ≡ state true false) p.place n (list_at ls 1) old.tell.high
+    p.there in
+    let less = high_weighs ls i.lists.room i.limit i.ratio i.high_weight i.pinned_weight old
+    c.pop_front-2.ensures.apart p.place n p.found (ap (λ (s : LruState). s.pinned) is)
+    (ap (λ (s : LruState). s.high) is) in
+    let high : i.high_weight - n.item.weight + cond n.state.pinned 0 (cond n.state.high n.item.weight 0)
+    ≡ i.high_weight = rw (ap (λ (s : LruState). s.pinned) is, ap (λ (s : LruState). s.high) is) (omega arith) in
+    let pinned : i.pinned_weight + cond n.state.pinned n.item.weight 0 ≡ i.pinned_weight =
+    rw (ap (λ (s : LruState). s.pinned) is) (omega arith) in
+    removed_is ls i.lists.room i.limit i.ratio i.high_weight i.pinned_weight old c.pop_front-2.ensures.apart p.place n
+    p.found
+    c.pop_front-2.new.self.lists c.pop_front-2.new.self.room p.dropped (i.high_weight - n.item.weight) i.pinned_weight
+    high pinned
 
 pub returns-clause-places : goal.returns-clause-places
 returns-clause-places c =
     let i = c.self.inside in
     let ls = c.pop_front.new.self.lists in
     let n : Node = c.in-Some-pop_front.node in
-    let same : ls ≡ i.lists.lists = popped_nothing i.lists.lists ls c.pop_front.ensures.apart n (sym c.in_default.is ∙ c.pop_front.ensures.value) c.pop_front.ensures.lists in
-    let old : IsLru (record { lists = ls; room = i.lists.room; limit = i.limit; ratio = i.ratio }) i.high_weight i.pinned_weight =
-    subst (λ (x : List (List (ℕ × Node))). IsLru (record { lists = x; room = i.lists.room; limit = i.limit; ratio = i.ratio }) i.high_weight i.pinned_weight) (sym same) c.self.invariant in
-    let p = popped_high ls c.pop_front-2.new.self.lists c.pop_front-2.ensures.apart n (sym c.in-Some-pop_front.is ∙ c.pop_front-2.ensures.value) c.pop_front-2.ensures.lists in
-    rw (← c.self.view_is, ← same) (removed_places ls i.lists.room i.limit i.ratio i.high_weight i.pinned_weight old c.pop_front-2.ensures.apart p.place n p.found
+    let same : ls ≡ i.lists.lists = popped_nothing i.lists.lists ls c.pop_front.ensures.apart n
+    (sym c.in_default.is ∙ c.pop_front.ensures.value) c.pop_front.ensures.lists in
+    let old : IsLru (record { lists = ls; room = i.lists.room; limit = i.limit; ratio = i.ratio }) i.high_weight
+    i.pinned_weight =
+    subst (λ (x : List (List (ℕ × Node))). IsLru
+    (record { lists = x; room = i.lists.room; limit = i.limit; ratio = i.ratio }) i.high_weight i.pinned_weight)
+    (sym same) c.self.invariant in
+    let p = popped_high ls c.pop_front-2.new.self.lists c.pop_front-2.ensures.apart n
+    (sym c.in-Some-pop_front.is ∙ c.pop_front-2.ensures.value) c.pop_front-2.ensures.lists in
+    rw (← c.self.view_is, ← same)
+    (removed_places ls i.lists.room i.limit i.ratio i.high_weight i.pinned_weight old c.pop_front-2.ensures.apart
+    p.place n p.found
     c.pop_front-2.new.self.lists c.pop_front-2.new.self.room p.dropped)
 
 pub returns-in-Some-clause-unpinned : goal.returns-in-Some-clause-unpinned
@@ -76,18 +111,30 @@ returns-in-Some-clause-unpinned c =
     let i = c.self.inside in
     let ls = i.lists.lists in
     let n : Node = c.in-Some.node in
-    let p = popped_low ls c.pop_front.new.self.lists c.pop_front.ensures.apart n (sym c.in-Some.is ∙ c.pop_front.ensures.value) c.pop_front.ensures.lists in
-    let is : n.state ≡ state false false = state_at (λ s. s ≡ state false false) p.place n (list_at ls 0) c.self.invariant.tell.low p.there in
-    rw (← c.self.view_is) (unpinned-new ls i.limit i.ratio c.self.invariant.once c.pop_front.ensures.apart p.place n c.self.invariant.tell p.found (ap (λ (s : LruState). s.pinned) is))
+    let p = popped_low ls c.pop_front.new.self.lists c.pop_front.ensures.apart n
+    (sym c.in-Some.is ∙ c.pop_front.ensures.value) c.pop_front.ensures.lists in
+    let is : n.state ≡ state false false = state_at (λ s. s ≡ state false false) p.place n (list_at ls 0)
+    c.self.invariant.tell.low p.there in
+    rw (← c.self.view_is)
+    (unpinned-new ls i.limit i.ratio c.self.invariant.once c.pop_front.ensures.apart p.place n
+    c.self.invariant.tell p.found (ap (λ (s : LruState). s.pinned) is))
 
 pub returns-clause-unpinned : goal.returns-clause-unpinned
 returns-clause-unpinned c =
     let i = c.self.inside in
     let ls = c.pop_front.new.self.lists in
     let n : Node = c.in-Some-pop_front.node in
-    let same : ls ≡ i.lists.lists = popped_nothing i.lists.lists ls c.pop_front.ensures.apart n (sym c.in_default.is ∙ c.pop_front.ensures.value) c.pop_front.ensures.lists in
-    let old : IsLru (record { lists = ls; room = i.lists.room; limit = i.limit; ratio = i.ratio }) i.high_weight i.pinned_weight =
-    subst (λ (x : List (List (ℕ × Node))). IsLru (record { lists = x; room = i.lists.room; limit = i.limit; ratio = i.ratio }) i.high_weight i.pinned_weight) (sym same) c.self.invariant in
-    let p = popped_high ls c.pop_front-2.new.self.lists c.pop_front-2.ensures.apart n (sym c.in-Some-pop_front.is ∙ c.pop_front-2.ensures.value) c.pop_front-2.ensures.lists in
-    let is : n.state ≡ state true false = state_at (λ s. s ≡ state true false) p.place n (list_at ls 1) old.tell.high p.there in
-    rw (← c.self.view_is, ← same) (unpinned-new ls i.limit i.ratio old.once c.pop_front-2.ensures.apart p.place n old.tell p.found (ap (λ (s : LruState). s.pinned) is))
+    let same : ls ≡ i.lists.lists = popped_nothing i.lists.lists ls c.pop_front.ensures.apart n
+    (sym c.in_default.is ∙ c.pop_front.ensures.value) c.pop_front.ensures.lists in
+    let old : IsLru (record { lists = ls; room = i.lists.room; limit = i.limit; ratio = i.ratio }) i.high_weight
+    i.pinned_weight =
+    subst (λ (x : List (List (ℕ × Node))). IsLru
+    (record { lists = x; room = i.lists.room; limit = i.limit; ratio = i.ratio }) i.high_weight i.pinned_weight)
+    (sym same) c.self.invariant in
+    let p = popped_high ls c.pop_front-2.new.self.lists c.pop_front-2.ensures.apart n
+    (sym c.in-Some-pop_front.is ∙ c.pop_front-2.ensures.value) c.pop_front-2.ensures.lists in
+    let is : n.state ≡ state true false = state_at (λ s. s ≡ state true false) p.place n (list_at ls 1) old.tell.high
+    p.there in
+    rw (← c.self.view_is, ← same)
+    (unpinned-new ls i.limit i.ratio old.once c.pop_front-2.ensures.apart p.place n old.tell p.found
+    (ap (λ (s : LruState). s.pinned) is))

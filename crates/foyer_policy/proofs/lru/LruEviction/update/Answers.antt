@@ -15,16 +15,26 @@ invariant_of-self c =
     let ratio : Ratio = c.match-config.ratio in
     let divides : 0 < ratio.den =
     elim c.match-config.branch [
-      | in-Some+in_ok-check-in-Some w ↦ rw w.ratio-is (accepted-divides Closed HighPriorityPool w.in-Some.config.now.high_priority_pool_ratio w.in_ok-check-in-Some.field-0 (sym w.check.ensures ∙ w.in_ok-check-in-Some.was))
+      | in-Some+in_ok-check-in-Some w ↦ rw w.ratio-is
+          (accepted-divides Closed HighPriorityPool w.in-Some.config.now.high_priority_pool_ratio
+          w.in_ok-check-in-Some.field-0 (sym w.check.ensures ∙ w.in_ok-check-in-Some.was))
       | in-None w ↦ rw w.ratio-is c.self.invariant.divides
     ] in
-    updated_is i.lists.lists i.lists.room i.limit i.ratio i.high_weight i.pinned_weight c.self.invariant c.limit_of-self-inside.result ratio c.settle-self-inside.new.lists.lists c.settle-self-inside.new.lists.room
-    c.settle-self-inside.ensures.low c.settle-self-inside.ensures.high c.settle-self-inside.ensures.pin divides c.settle-self-inside.result c.settle-self-inside.ensures.weight
+    updated_is i.lists.lists i.lists.room i.limit i.ratio i.high_weight i.pinned_weight c.self.invariant
+    c.limit_of-self-inside.result ratio c.settle-self-inside.new.lists.lists c.settle-self-inside.new.lists.room
+    c.settle-self-inside.ensures.low c.settle-self-inside.ensures.high c.settle-self-inside.ensures.pin divides
+    c.settle-self-inside.result c.settle-self-inside.ensures.weight
 
 pub returns-clause-view : goal.returns-clause-view
 returns-clause-view c =
     let i = c.self.inside in
-    let same : limits_by c.args.capacity c.match-config.ratio ≡ limits_or i.ratio c.args.capacity (option_copied c.args.config) =
-    elim c.match-config.branch [ in-Some+in_ok-check-in-Some w ↦ rw w.in-Some.is (ap (limits_by c.args.capacity) w.ratio-is) | in-None w ↦ rw w.in-None.is (ap (limits_by c.args.capacity) w.ratio-is) ] in
-    let to = settled-view i.lists.lists c.settle-self-inside.new.lists.lists c.limit_of-self-inside.result c.settle-self-inside.ensures.low c.settle-self-inside.ensures.high c.settle-self-inside.ensures.pin c.match-config.ratio in
+    let same : limits_by c.args.capacity c.match-config.ratio
+    ≡ limits_or i.ratio c.args.capacity (option_copied c.args.config) =
+    elim c.match-config.branch [
+      | in-Some+in_ok-check-in-Some w ↦ rw w.in-Some.is (ap (limits_by c.args.capacity) w.ratio-is)
+      | in-None w ↦ rw w.in-None.is (ap (limits_by c.args.capacity) w.ratio-is)
+    ] in
+    let to = settled-view i.lists.lists c.settle-self-inside.new.lists.lists c.limit_of-self-inside.result
+    c.settle-self-inside.ensures.low c.settle-self-inside.ensures.high c.settle-self-inside.ensures.pin
+    c.match-config.ratio in
     rw (← c.self.view_is, ← same, ← c.limit_of-self-inside.ensures) to

@@ -8,10 +8,17 @@ use Rattle.foyer_policy.proofs.lru.pools.relist.Goals as goal
 
 pub move_back-requires : goal.move_back-requires
 move_back-requires c =
-    let n : Held LruState = c.get_mut.result.now in
-    (lit< tt, (c.requires.list, write_found c.args.place c.args.place (record { item = n.item; state = c.args.state }) c.args.lists.now.lists c.requires.there))
+    let n : Held LruState = c.get_mut.result.now in (
+      lit< tt,
+      (
+        c.requires.list,
+        write_found c.args.place c.args.place (record { item = n.item; state = c.args.state })
+            c.args.lists.now.lists c.requires.there,
+      ),
+    )
 
 pub returns-clause-places : goal.returns-clause-places
 returns-clause-places c = λ q.
     let n : Held LruState = c.get_mut.result.now in
-    ap (option_map item_of) (c.move_back.ensures.places q) ∙ held-write c.args.place q n c.args.state c.args.lists.now.lists c.get_mut.ensures.value
+    ap (option_map item_of) (c.move_back.ensures.places q)
+    ∙ held-write c.args.place q n c.args.state c.args.lists.now.lists c.get_mut.ensures.value

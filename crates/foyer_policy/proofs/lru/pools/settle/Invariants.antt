@@ -12,7 +12,8 @@ invariant-loop-left l =
     let old = l.fn.lists.lists in
     record {
       weight : l.left ≡ sum_by weight_at (list_at now 1);
-      low : list_at now 0 ++ map low_entry (over weight_at l.limit (list_at now 1)) ≡ list_at old 0 ++ map low_entry (over weight_at l.limit (list_at old 1));
+      low : list_at now 0 ++ map low_entry (over weight_at l.limit (list_at now 1)) ≡ list_at old 0
+          ++ map low_entry (over weight_at l.limit (list_at old 1));
       high : fit weight_at l.limit (list_at now 1) ≡ fit weight_at l.limit (list_at old 1);
       pin : list_at now 2 ≡ list_at old 2;
       places : (q : ℕ) → held_at q now ≡ held_at q old;

@@ -10,10 +10,21 @@ use Rattle.foyer_policy.proofs.s3fifo.S3FifoEviction.acquire.Goals as goal
 use Rattle.foyer_policy.proofs.s3fifo.S3FifoEviction.acquire.Goals.{After-min-node}
 
 abbrev setting : After-min-node → Setting
-setting c = record { small_ratio = c.self.inside.small_ratio; ghost_ratio = c.self.inside.ghost_ratio; threshold = c.self.inside.threshold }
+setting c =
+    record {
+      small_ratio = c.self.inside.small_ratio;
+      ghost_ratio = c.self.inside.ghost_ratio;
+      threshold =
+          c.self.inside.threshold;
+    }
 
 abbrev used_node : After-min-node → Node
-used_node c = record { item = c.get_mut-node.result.now.item; state = record { frequency = c.min-node.result; is_main = c.get_mut-node.result.now.state.is_main } }
+used_node c =
+    record {
+      item = c.get_mut-node.result.now.item;
+      state =
+          record { frequency = c.min-node.result; is_main = c.get_mut-node.result.now.state.is_main };
+    }
 
 more : (c : After-min-node) → c.min-node.result ≡ min (c.get_mut-node.result.now.state.frequency + 1) 3
 more c = omega (arith, c.min-node.ensures, c.saturating_add.ensures)
@@ -25,8 +36,11 @@ invariant_of-self c =
     let ls = c.self.inside.queues.lists in
     let v = c.get_mut-node.result.now in
     record {
-      queues = used-queues ls c.get_mut-node.ensures.apart i.queues c.args.place v c.get_mut-node.ensures.value (ghost_of c.self.inside.ghost_queue) (setting k) (used_node k) refl (more k) refl;
-      weight = i.weight ∙ sym (use-weight ls c.get_mut-node.ensures.apart i.queues c.args.place v c.get_mut-node.ensures.value (used_node k) refl);
+      queues = used-queues ls c.get_mut-node.ensures.apart i.queues c.args.place v c.get_mut-node.ensures.value
+          (ghost_of c.self.inside.ghost_queue) (setting k) (used_node k) refl (more k) refl;
+      weight = i.weight ∙
+          sym (use-weight ls c.get_mut-node.ensures.apart i.queues c.args.place v c.get_mut-node.ensures.value
+          (used_node k) refl);
       small_denominator = i.small_denominator;
       ghost_denominator = i.ghost_denominator;
     }
@@ -37,11 +51,15 @@ returns-clause-view c =
     let ls = c.self.inside.queues.lists in
     let v = c.get_mut-node.result.now in
     let at : item_at ls c.args.place ≡ Some v.item = ap (option_map item_of) c.get_mut-node.ensures.value in
-    rw (← c.self.view_is, at) (use-view ls c.get_mut-node.ensures.apart c.self.invariant.queues c.args.place v c.get_mut-node.ensures.value (ghost_of c.self.inside.ghost_queue) c.self.inside.limit (setting k) (used_node k) refl (more k))
+    rw (← c.self.view_is, at)
+    (use-view ls c.get_mut-node.ensures.apart c.self.invariant.queues c.args.place v c.get_mut-node.ensures.value
+    (ghost_of c.self.inside.ghost_queue) c.self.inside.limit (setting k) (used_node k) refl (more k))
 
 pub returns-clause-places : goal.returns-clause-places
 returns-clause-places c =
     let k = (goal.at.returns-clause-places c).After-min-node in
     let ls = c.self.inside.queues.lists in
     let v = c.get_mut-node.result.now in
-    rw (← c.self.view_is) (write-places ls c.get_mut-node.ensures.apart c.self.invariant.queues c.args.place v c.get_mut-node.ensures.value (used_node k) refl)
+    rw (← c.self.view_is)
+    (write-places ls c.get_mut-node.ensures.apart c.self.invariant.queues c.args.place v
+    c.get_mut-node.ensures.value (used_node k) refl)

@@ -7,7 +7,9 @@ use Rattle.foyer_policy.proofs.s3fifo.S3FifoEviction.clear.Given as goal
 -- what is still to be popped leaves what was to be left
 abbrev pub invariant-loop : goal.invariant-loop
 invariant-loop l = record {
-  pops : pop_times s3fifo_pop (length (view_of l.self).small + length (view_of l.self).main) (view_of l.self) ≡ pop_times s3fifo_pop (length (view_of l.initial.self).small + length (view_of l.initial.self).main) (view_of l.initial.self);
+  pops : pop_times s3fifo_pop (length (view_of l.self).small + length (view_of l.self).main) (view_of l.self)
+      ≡ pop_times s3fifo_pop (length (view_of l.initial.self).small + length (view_of l.initial.self).main)
+      (view_of l.initial.self);
   can_clear : CanClear l.self;
   room : l.initial.self.nodes.room ≤ l.self.nodes.room;
 }

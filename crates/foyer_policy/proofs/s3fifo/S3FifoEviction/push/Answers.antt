@@ -10,13 +10,23 @@ invariant_of-self c =
     let i = c.self.invariant in
     let ls = c.self.inside.queues.lists in
     let left = c.push_back.new.self.lists in
-    let w : Node = record { item = c.args.item; state = record { frequency = c.default.result.frequency; is_main = c.contains-is_main.result } } in
+    let w : Node =
+    record {
+      item = c.args.item;
+      state =
+          record { frequency = c.default.result.frequency; is_main = c.contains-is_main.result };
+    } in
     let sound = c.push_back.ensures.apart in
-    let new : IsNewIn c.args.item.id (items (small_of ls) ++ items (main_of ls)) = rw (← c.self.view_is) at c.requires.new_id in
+    let new : IsNewIn c.args.item.id (items (small_of ls) ++ items (main_of ls)) =
+    rw (← c.self.view_is) at c.requires.new_id in
     let young : c.default.result.frequency ≡ 0 = search rules in
     record {
-      queues = pushed-main ls left sound i.queues c.push_back.result w young new c.push_back.ensures.lists c.if-is_main.true;
-      weight = i.weight ∙ sym (ap (λ l. weight_of (items l)) (pushed-same ls left sound i.queues c.push_back.result w young new c.push_back.ensures.lists c.if-is_main.true));
+      queues = pushed-main ls left sound i.queues c.push_back.result w young new c.push_back.ensures.lists
+          c.if-is_main.true;
+      weight = i.weight ∙
+          sym (ap (λ l. weight_of (items l))
+          (pushed-same ls left sound i.queues c.push_back.result w young new c.push_back.ensures.lists
+          c.if-is_main.true));
       small_denominator = i.small_denominator;
       ghost_denominator = i.ghost_denominator;
     }
@@ -26,13 +36,25 @@ invariant_of-self-2 c =
     let i = c.self.invariant in
     let ls = c.self.inside.queues.lists in
     let left = c.push_back-2.new.self.lists in
-    let w : Node = record { item = c.args.item; state = record { frequency = c.default.result.frequency; is_main = c.contains-is_main.result } } in
+    let w : Node =
+    record {
+      item = c.args.item;
+      state =
+          record { frequency = c.default.result.frequency; is_main = c.contains-is_main.result };
+    } in
     let sound = c.push_back-2.ensures.apart in
-    let new : IsNewIn c.args.item.id (items (small_of ls) ++ items (main_of ls)) = rw (← c.self.view_is) at c.requires.new_id in
+    let new : IsNewIn c.args.item.id (items (small_of ls) ++ items (main_of ls)) =
+    rw (← c.self.view_is) at c.requires.new_id in
     let young : c.default.result.frequency ≡ 0 = search rules in
     record {
-      queues = pushed-small ls left sound i.queues c.push_back-2.result w young new c.push_back-2.ensures.lists c.if-is_main.false;
-      weight = omega (arith, i.weight, pushed-weight ls left sound i.queues c.push_back-2.result w young new c.push_back-2.ensures.lists c.if-is_main.false);
+      queues = pushed-small ls left sound i.queues c.push_back-2.result w young new c.push_back-2.ensures.lists
+          c.if-is_main.false;
+      weight = omega (
+        arith,
+        i.weight,
+        pushed-weight ls left sound i.queues c.push_back-2.result w young new
+            c.push_back-2.ensures.lists c.if-is_main.false,
+      );
       small_denominator = i.small_denominator;
       ghost_denominator = i.ghost_denominator;
     }

@@ -9,12 +9,23 @@ use Rattle.foyer_policy.proofs.s3fifo.S3FifoEviction.remove.Goals as goal
 use Rattle.foyer_policy.proofs.s3fifo.S3FifoEviction.remove.Goals.{After-remove}
 
 abbrev setting : After-remove → Setting
-setting c = record { small_ratio = c.self.inside.small_ratio; ghost_ratio = c.self.inside.ghost_ratio; threshold = c.self.inside.threshold }
+setting c =
+    record {
+      small_ratio = c.self.inside.small_ratio;
+      ghost_ratio = c.self.inside.ghost_ratio;
+      threshold =
+          c.self.inside.threshold;
+    }
 
 pub overflow_sub-self : goal.overflow_sub-self
 overflow_sub-self c =
     let i = c.self.invariant in
-    omega (arith, i.weight, small-weight c.self.inside.queues.lists c.remove.ensures.apart i.queues c.args.place c.remove.result c.remove.ensures.value (not-true c.remove.result.state.is_main c.if-not-state.true))
+    omega (
+      arith,
+      i.weight,
+      small-weight c.self.inside.queues.lists c.remove.ensures.apart i.queues c.args.place
+          c.remove.result c.remove.ensures.value (not-true c.remove.result.state.is_main c.if-not-state.true),
+    )
 
 pub invariant_of-self : goal.invariant_of-self
 invariant_of-self c =
@@ -23,8 +34,14 @@ invariant_of-self c =
     let sound = c.remove.ensures.apart in
     let k = (goal.at.invariant_of-self c).After-remove in
     rw c.remove.ensures.lists record {
-      queues = removed-queues ls sound i.queues c.args.place c.remove.result c.remove.ensures.value (ghost_of c.self.inside.ghost_queue) (setting k);
-      weight = omega (arith, i.weight, small-weight ls sound i.queues c.args.place c.remove.result c.remove.ensures.value (not-true c.remove.result.state.is_main c.if-not-state.true));
+      queues = removed-queues ls sound i.queues c.args.place c.remove.result c.remove.ensures.value
+          (ghost_of c.self.inside.ghost_queue) (setting k);
+      weight = omega (
+        arith,
+        i.weight,
+        small-weight ls sound i.queues c.args.place c.remove.result c.remove.ensures.value
+            (not-true c.remove.result.state.is_main c.if-not-state.true),
+      );
       small_denominator = i.small_denominator;
       ghost_denominator = i.ghost_denominator;
     }
@@ -36,32 +53,52 @@ invariant_of-self-else-not-state c =
     let sound = c.remove.ensures.apart in
     let k = (goal.at.invariant_of-self-else-not-state c).After-remove in
     rw c.remove.ensures.lists record {
-      queues = removed-queues ls sound i.queues c.args.place c.remove.result c.remove.ensures.value (ghost_of c.self.inside.ghost_queue) (setting k);
-      weight = i.weight ∙ sym (ap (λ l. weight_of (items l)) (main-weight ls sound i.queues c.args.place c.remove.result c.remove.ensures.value (not-false c.remove.result.state.is_main c.if-not-state.false)));
+      queues = removed-queues ls sound i.queues c.args.place c.remove.result c.remove.ensures.value
+          (ghost_of c.self.inside.ghost_queue) (setting k);
+      weight = i.weight ∙
+          sym (ap (λ l. weight_of (items l))
+          (main-weight ls sound i.queues c.args.place c.remove.result c.remove.ensures.value
+          (not-false c.remove.result.state.is_main c.if-not-state.false)));
       small_denominator = i.small_denominator;
       ghost_denominator = i.ghost_denominator;
     }
 
 pub returns-then-not-state-clause-member : goal.returns-then-not-state-clause-member
-returns-then-not-state-clause-member c = rw (← c.self.view_is) (member c.self.inside.queues.lists c.remove.ensures.apart c.self.invariant.queues c.args.place c.remove.result c.remove.ensures.value)
+returns-then-not-state-clause-member c = rw (← c.self.view_is)
+    (member c.self.inside.queues.lists c.remove.ensures.apart c.self.invariant.queues c.args.place c.remove.result
+    c.remove.ensures.value)
 
 pub returns-then-not-state-clause-view : goal.returns-then-not-state-clause-view
 returns-then-not-state-clause-view c =
     let g = ghost_of c.self.inside.ghost_queue in
     let s = setting (goal.at.returns-then-not-state-clause-view c).After-remove in
-    rw (← c.self.view_is) (ap (λ l. view_with l g c.self.inside.limit s) c.remove.ensures.lists ∙ remove-view c.self.inside.queues.lists c.remove.ensures.apart c.self.invariant.queues c.args.place c.remove.result c.remove.ensures.value g c.self.inside.limit s)
+    rw (← c.self.view_is)
+    (ap (λ l. view_with l g c.self.inside.limit s) c.remove.ensures.lists
+    ∙ remove-view c.self.inside.queues.lists c.remove.ensures.apart c.self.invariant.queues c.args.place
+    c.remove.result c.remove.ensures.value g c.self.inside.limit s)
 
 pub returns-then-not-state-clause-places : goal.returns-then-not-state-clause-places
-returns-then-not-state-clause-places c = rw (← c.self.view_is) (λ q. ap (λ l. item_at l q) c.remove.ensures.lists ∙ out-places c.self.inside.queues.lists c.remove.ensures.apart c.self.invariant.queues c.args.place c.remove.result c.remove.ensures.value q)
+returns-then-not-state-clause-places c = rw (← c.self.view_is)
+    (λ q. ap (λ l. item_at l q) c.remove.ensures.lists
+    ∙ out-places c.self.inside.queues.lists c.remove.ensures.apart c.self.invariant.queues c.args.place
+    c.remove.result c.remove.ensures.value q)
 
 pub returns-else-not-state-clause-member : goal.returns-else-not-state-clause-member
-returns-else-not-state-clause-member c = rw (← c.self.view_is) (member c.self.inside.queues.lists c.remove.ensures.apart c.self.invariant.queues c.args.place c.remove.result c.remove.ensures.value)
+returns-else-not-state-clause-member c = rw (← c.self.view_is)
+    (member c.self.inside.queues.lists c.remove.ensures.apart c.self.invariant.queues c.args.place c.remove.result
+    c.remove.ensures.value)
 
 pub returns-else-not-state-clause-view : goal.returns-else-not-state-clause-view
 returns-else-not-state-clause-view c =
     let g = ghost_of c.self.inside.ghost_queue in
     let s = setting (goal.at.returns-else-not-state-clause-view c).After-remove in
-    rw (← c.self.view_is) (ap (λ l. view_with l g c.self.inside.limit s) c.remove.ensures.lists ∙ remove-view c.self.inside.queues.lists c.remove.ensures.apart c.self.invariant.queues c.args.place c.remove.result c.remove.ensures.value g c.self.inside.limit s)
+    rw (← c.self.view_is)
+    (ap (λ l. view_with l g c.self.inside.limit s) c.remove.ensures.lists
+    ∙ remove-view c.self.inside.queues.lists c.remove.ensures.apart c.self.invariant.queues c.args.place
+    c.remove.result c.remove.ensures.value g c.self.inside.limit s)
 
 pub returns-else-not-state-clause-places : goal.returns-else-not-state-clause-places
-returns-else-not-state-clause-places c = rw (← c.self.view_is) (λ q. ap (λ l. item_at l q) c.remove.ensures.lists ∙ out-places c.self.inside.queues.lists c.remove.ensures.apart c.self.invariant.queues c.args.place c.remove.result c.remove.ensures.value q)
+returns-else-not-state-clause-places c = rw (← c.self.view_is)
+    (λ q. ap (λ l. item_at l q) c.remove.ensures.lists
+    ∙ out-places c.self.inside.queues.lists c.remove.ensures.apart c.self.invariant.queues c.args.place
+    c.remove.result c.remove.ensures.value q)

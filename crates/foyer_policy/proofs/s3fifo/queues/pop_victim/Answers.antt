@@ -12,8 +12,10 @@ returns-in-None-clause-pops c = λ s same.
     let v : S3FifoView = view_with c.args.queues.now.lists g c.args.limit s in
     let t = c.in-None.ensures.takes in
     let middle : view_with c.take_small.new.queues.lists g c.args.limit s ≡ promoted v = rw (t.1, t.2) refl in
-    let rare : from_rare s.threshold (small_of c.args.queues.now.lists) ≡ [] = ap (λ n. from_rare n (small_of c.args.queues.now.lists)) same ∙ t.0 in
+    let rare : from_rare s.threshold (small_of c.args.queues.now.lists) ≡ [] =
+    ap (λ n. from_rare n (small_of c.args.queues.now.lists)) same ∙ t.0 in
     let given = c.pop_main-in-None.ensures.gives g c.args.limit s in
     let w : S3FifoView = view_with c.pop_main-in-None.new.queues.lists g c.args.limit s in
     let r = option_map (λ x. x.item) c.pop_main-in-None.result in
-    over-none v w r (omega (arith, c.if-weight-limit.false, c.requires.weight)) rare (subst (λ (u : S3FifoView). Gives (from_main u) r u w) middle given)
+    over-none v w r (omega (arith, c.if-weight-limit.false, c.requires.weight)) rare
+    (subst (λ (u : S3FifoView). Gives (from_main u) r u w) middle given)

@@ -18,8 +18,10 @@ returns-then-state-threshold-clause-takes c =
     let f = front ls c.get.ensures.apart 0 p v c.in-Some.ensures.place c.get.ensures.value in
     let t = c.args.threshold in
     let head = small-head ls c.get.ensures.apart i.queues p v c.get.ensures.value f in
-    let out = ap (λ l. small_of l) c.remove.ensures.lists ∙ out-small ls c.get.ensures.apart i.queues p v c.get.ensures.value f in
-    let main = ap (λ l. main_of l) c.remove.ensures.lists ∙ ap (λ l. entries l) (out-main ls c.get.ensures.apart i.queues p v c.get.ensures.value f) in
+    let out = ap (λ l. small_of l) c.remove.ensures.lists
+    ∙ out-small ls c.get.ensures.apart i.queues p v c.get.ensures.value f in
+    let main = ap (λ l. main_of l) c.remove.ensures.lists
+    ∙ ap (λ l. entries l) (out-main ls c.get.ensures.apart i.queues p v c.get.ensures.value f) in
     let below = c.if-state-threshold.true in
     let stops = rare-stops t (small_of ls) (entry (p, v)) (entries f.back) head below in
     let none = front-stops t (small_of ls) (entry (p, v)) (entries f.back) head below in (
@@ -43,7 +45,9 @@ returns-then-state-threshold-clause-places c = λ q.
     let i = c.loop-front.invariant in
     let ls = c.loop-front.queues.lists in
     let v = c.get.result.now in
-    ap (λ l. item_at l q) c.remove.ensures.lists ∙ out-places ls c.get.ensures.apart i.queues c.in-Some.front v c.get.ensures.value q ∙ ap (without v.item.id) (i.placed q)
+    ap (λ l. item_at l q) c.remove.ensures.lists
+    ∙ out-places ls c.get.ensures.apart i.queues c.in-Some.front v c.get.ensures.value q
+    ∙ ap (without v.item.id) (i.placed q)
 
 pub returns-then-state-threshold-clause-weight : goal.returns-then-state-threshold-clause-weight
 returns-then-state-threshold-clause-weight c =
@@ -53,8 +57,14 @@ returns-then-state-threshold-clause-weight c =
     let p = c.in-Some.front in
     let f = front ls c.get.ensures.apart 0 p v c.in-Some.ensures.place c.get.ensures.value in
     let head = small-head ls c.get.ensures.apart i.queues p v c.get.ensures.value f in
-    let out = ap (λ l. small_of l) c.remove.ensures.lists ∙ out-small ls c.get.ensures.apart i.queues p v c.get.ensures.value f in
-    omega (arith, i.weight, weight-head (small_of ls) (entry (p, v)) (entries f.back) head, ap (λ l. weight_of (items l)) out)
+    let out = ap (λ l. small_of l) c.remove.ensures.lists
+    ∙ out-small ls c.get.ensures.apart i.queues p v c.get.ensures.value f in
+    omega (
+      arith,
+      i.weight,
+      weight-head (small_of ls) (entry (p, v)) (entries f.back) head,
+      ap (λ l. weight_of (items l)) out,
+    )
 
 pub loop-front-preserved : goal.loop-front-preserved
 loop-front-preserved c =
@@ -66,23 +76,39 @@ loop-front-preserved c =
     let f = front ls sound 0 p v c.in-Some.ensures.place c.get.ensures.value in
     let t = c.args.threshold in
     let same : c.get_mut.result.now ≡ v = (let e = sym c.get_mut.ensures.value ∙ c.get.ensures.value in cc) in
-    let w : Node = record { item = c.get_mut.result.now.item; state = record { frequency = c.get_mut.result.now.state.frequency; is_main = true } } in
+    let w : Node =
+    record {
+      item = c.get_mut.result.now.item;
+      state =
+          record { frequency = c.get_mut.result.now.state.frequency; is_main = true };
+    } in
     let item : w.item ≡ v.item = ap (λ n. n.item) same in
     let frequency : w.state.frequency ≡ v.state.frequency = ap (λ n. n.state.frequency) same in
     let now = c.move_back.new.self.lists in
     let is : now ≡ moved p 1 (map (with_value p w) ls) = c.move_back.ensures.lists in
     let head = small-head ls sound i.queues p v c.get.ensures.value f in
-    let small = ap (λ l. small_of l) is ∙ promote-small ls sound i.queues p v c.get.ensures.value f w item frequency refl in
-    let main = ap (λ l. main_of l) is ∙ promote-main ls sound i.queues p v c.get.ensures.value f w item frequency refl in
+    let small = ap (λ l. small_of l) is ∙ promote-small ls sound i.queues p v c.get.ensures.value f w item
+    frequency refl in
+    let main = ap (λ l. main_of l) is ∙ promote-main ls sound i.queues p v c.get.ensures.value f w item
+    frequency refl in
     let reaches = c.if-state-threshold.false in
     record {
-      rare = ap (from_rare t) small ∙ sym (rare-goes t (small_of ls) (entry (p, v)) (entries f.back) head reaches) ∙ i.rare;
+      rare = ap (from_rare t) small ∙ sym (rare-goes t (small_of ls) (entry (p, v)) (entries f.back) head reaches)
+          ∙ i.rare;
       moved =
           rw (main, small) (append_assoc (main_of ls) (entry (p, v) ∷ []) (frequent_front t (entries f.back)))
-          ∙ ap (λ l. main_of ls ++ l) (sym (front-goes t (small_of ls) (entry (p, v)) (entries f.back) head reaches)) ∙ i.moved;
-      whole = rw (main, small) (append_assoc (main_of ls) (entry (p, v) ∷ []) (entries f.back)) ∙ ap (λ l. main_of ls ++ l) (sym head) ∙ i.whole;
+          ∙ ap (λ l. main_of ls ++ l) (sym (front-goes t (small_of ls) (entry (p, v)) (entries f.back) head reaches))
+          ∙ i.moved;
+      whole = rw (main, small) (append_assoc (main_of ls) (entry (p, v) ∷ []) (entries f.back))
+          ∙ ap (λ l. main_of ls ++ l) (sym head) ∙ i.whole;
       queues = rw is (promote-queues ls sound i.queues p v c.get.ensures.value f w item frequency refl);
-      placed = λ q. ap (option_map item_of) (c.move_back.ensures.places q) ∙ write-places ls sound i.queues p v c.get.ensures.value w item q ∙ i.placed q;
-      weight = omega (arith, i.weight, weight-head (small_of ls) (entry (p, v)) (entries f.back) head, ap (λ l. weight_of (items l)) small);
+      placed = λ q. ap (option_map item_of) (c.move_back.ensures.places q)
+          ∙ write-places ls sound i.queues p v c.get.ensures.value w item q ∙ i.placed q;
+      weight = omega (
+        arith,
+        i.weight,
+        weight-head (small_of ls) (entry (p, v)) (entries f.back) head,
+        ap (λ l. weight_of (items l)) small,
+      );
       room = c.move_back.ensures.room ∙ i.room;
     }

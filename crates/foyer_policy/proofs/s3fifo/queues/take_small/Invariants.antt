@@ -9,7 +9,8 @@ use Rattle.foyer_policy.proofs.s3fifo.queues.take_small.Given as goal
 abbrev pub invariant-loop-front : goal.invariant-loop-front
 invariant-loop-front l = record {
   rare : from_rare l.threshold (small_of l.queues.lists) ≡ from_rare l.threshold (small_of l.fn.queues.lists);
-  moved : main_of l.queues.lists ++ frequent_front l.threshold (small_of l.queues.lists) ≡ main_of l.fn.queues.lists ++ frequent_front l.threshold (small_of l.fn.queues.lists);
+  moved : main_of l.queues.lists ++ frequent_front l.threshold (small_of l.queues.lists) ≡ main_of l.fn.queues.lists
+      ++ frequent_front l.threshold (small_of l.fn.queues.lists);
   whole : main_of l.queues.lists ++ small_of l.queues.lists ≡ main_of l.fn.queues.lists ++ small_of l.fn.queues.lists;
   queues : AreQueues l.queues.lists;
   placed : (p : ℕ) → item_at l.queues.lists p ≡ item_at l.fn.queues.lists p;

@@ -12,7 +12,8 @@ invariant_of-self c =
     let w : Node = record { item = v.item; state = record { visited = true } } in
     record {
       once = set-once ls c.get_mut.ensures.apart c.args.place v w c.get_mut.ensures.value refl c.self.invariant.once;
-      there = set-there ls c.get_mut.ensures.apart c.args.place v w c.get_mut.ensures.value refl c.self.inside.hand c.self.invariant.there;
+      there = set-there ls c.get_mut.ensures.apart c.args.place v w c.get_mut.ensures.value refl c.self.inside.hand
+          c.self.invariant.there;
     }
 
 pub returns-clause-view : goal.returns-clause-view

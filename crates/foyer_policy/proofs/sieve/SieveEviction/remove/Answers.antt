@@ -10,11 +10,14 @@ invariant_of-self c =
     let sound = c.remove.ensures.apart in
     rw (c.remove.ensures.lists, c.hand_beside-self-inside.ensures) record {
       once = out-once ls sound c.self.invariant.once c.args.place c.remove.result c.remove.ensures.value;
-      there = out-there ls sound c.self.invariant.once c.args.place c.remove.result c.remove.ensures.value c.self.inside.hand c.self.invariant.there;
+      there = out-there ls sound c.self.invariant.once c.args.place c.remove.result c.remove.ensures.value
+          c.self.inside.hand c.self.invariant.there;
     }
 
 pub returns-clause-member : goal.returns-clause-member
-returns-clause-member c = rw (← c.self.view_is) (out-member c.self.inside.queue.lists c.remove.ensures.apart c.self.invariant.once c.args.place c.remove.result c.remove.ensures.value)
+returns-clause-member c = rw (← c.self.view_is)
+    (out-member c.self.inside.queue.lists c.remove.ensures.apart c.self.invariant.once c.args.place c.remove.result
+    c.remove.ensures.value)
 
 pub returns-clause-view : goal.returns-clause-view
 returns-clause-view c =
@@ -22,10 +25,14 @@ returns-clause-view c =
     let sound = c.remove.ensures.apart in
     let once = c.self.invariant.once in
     rw (← c.self.view_is) (same_view _ _ _ _
-    (ap (λ l. entries (list_at l 0)) c.remove.ensures.lists ∙ out-queue ls sound once c.args.place c.remove.result c.remove.ensures.value)
-    (ap (λ l. hand_id l c.hand_beside-self-inside.result) c.remove.ensures.lists ∙ ap (hand_id (map (drop_place c.args.place) ls)) c.hand_beside-self-inside.ensures
-    ∙ out-hand ls sound once c.args.place c.remove.result c.remove.ensures.value c.self.inside.hand c.self.invariant.there))
+    (ap (λ l. entries (list_at l 0)) c.remove.ensures.lists
+    ∙ out-queue ls sound once c.args.place c.remove.result c.remove.ensures.value)
+    (ap (λ l. hand_id l c.hand_beside-self-inside.result) c.remove.ensures.lists
+    ∙ ap (hand_id (map (drop_place c.args.place) ls)) c.hand_beside-self-inside.ensures
+    ∙ out-hand ls sound once c.args.place c.remove.result c.remove.ensures.value c.self.inside.hand
+    c.self.invariant.there))
 
 pub returns-clause-places : goal.returns-clause-places
 returns-clause-places c = rw (← c.self.view_is) (λ q. ap (λ l. item_at l q) c.remove.ensures.lists
-    ∙ out-places c.self.inside.queue.lists c.remove.ensures.apart c.self.invariant.once c.args.place c.remove.result c.remove.ensures.value q)
+    ∙ out-places c.self.inside.queue.lists c.remove.ensures.apart c.self.invariant.once c.args.place c.remove.result
+    c.remove.ensures.value q)

@@ -10,7 +10,9 @@ pub invariant_of-result : goal.invariant_of-result
 invariant_of-result c =
     let r : 0 < c.args.rows = omega arith in
     let b : 0 < c.args.buckets = omega arith in
-    subst (λ (xs : List ℕ). IsSketch c.args.rows c.args.buckets xs 0) (sym (zeros c)) (IsSketch-new c.args.rows c.args.buckets r b)
+    subst (λ (xs : List ℕ). IsSketch c.args.rows c.args.buckets xs 0) (sym (zeros c))
+    (IsSketch-new c.args.rows c.args.buckets r b)
 
 pub returns-clause-made : goal.returns-clause-made
-returns-clause-made c = ap (λ (xs : List ℕ). sketch_of c.args.rows c.args.buckets xs 0) (zeros c) ∙ sketch_of-new c.args.rows c.args.buckets
+returns-clause-made c = ap (λ (xs : List ℕ). sketch_of c.args.rows c.args.buckets xs 0) (zeros c)
+    ∙ sketch_of-new c.args.rows c.args.buckets

@@ -3,4 +3,5 @@ use Rattle.foyer_session.proofs.AnswerLemmas.{got-many}
 use Rattle.foyer_session.proofs.answers.Answers.len.Goals as goal
 
 pub returns : goal.returns
-returns c = c.len.ensures ∙ c.self.inside.waiters.ok.0 ∙ sym (ap length (sym c.self.view_is) ∙ got-many c.self.inside.gets c.self.inside.waiters.items)
+returns c = c.len.ensures ∙ c.self.inside.waiters.ok.0
+    ∙ sym (ap length (sym c.self.view_is) ∙ got-many c.self.inside.gets c.self.inside.waiters.items)

@@ -12,11 +12,15 @@ invariant_of-self-clause-owns g c =
     let s = c.args.self.now in
     let new = core_of c.clear.new.self in
     of_either c.clear.result c.clear.ensures.done c.clear.ensures.err
-    (λ leaves done. ∥∥₁_map s.owns (λ o. cleared_owns (meaning_of_session s) (core_of s.core) leaves.items new s.handles.items done o))
+    (λ leaves done. ∥∥₁_map s.owns
+    (λ o. cleared_owns (meaning_of_session s) (core_of s.core) leaves.items new s.handles.items done o))
     (λ same. owns_still (core_of s.core) new s.handles.items same s.owns)
 
 pub invariant_of-self-clause-waits : goal.invariant_of-self-clause-waits
-invariant_of-self-clause-waits g c = (let s = c.args.self.now in still_waiting (fetches_of s.core) (fetches_of c.clear.new.self) s.waiting c.clear.ensures.fetches s.waits)
+invariant_of-self-clause-waits g c =
+    (let s = c.args.self.now in still_waiting (fetches_of s.core) (fetches_of c.clear.new.self) s.waiting
+    c.clear.ensures.fetches s.waits)
 
 pub returns-in-Ok-clause-step : goal.returns-in-Ok-clause-step
-returns-in-Ok-clause-step g c = rw (c.new.ensures.answer, c.new.ensures.leaves) (c.in-Ok.ensures.done, ((refl, refl), c.clear.ensures.fetches))
+returns-in-Ok-clause-step g c = rw (c.new.ensures.answer, c.new.ensures.leaves)
+    (c.in-Ok.ensures.done, ((refl, refl), c.clear.ensures.fetches))

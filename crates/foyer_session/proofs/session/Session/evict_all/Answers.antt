@@ -11,14 +11,22 @@ invariant_of-self-clause-owns g c =
     let s = c.args.self.now in
     let new = core_of c.evict_all.new.self in
     of_both c.evict_all.result c.evict_all.ensures.done c.evict_all.ensures.refused
-    (λ leaves done. ∥∥₁_map s.owns (λ o. evicted_owns (meaning_of_session s) (core_of s.core) leaves.items new s.handles.items done o))
-    (λ refused some. ∥∥₁_map s.owns (λ o. some_evicted_owns (meaning_of_session s) (core_of s.core) refused.leaves.items new s.handles.items some o))
+    (λ leaves done. ∥∥₁_map s.owns
+    (λ o. evicted_owns (meaning_of_session s) (core_of s.core) leaves.items new s.handles.items done o))
+    (λ refused some. ∥∥₁_map s.owns
+    (λ o. some_evicted_owns (meaning_of_session s) (core_of s.core) refused.leaves.items new s.handles.items some
+    o))
 
 pub invariant_of-self-clause-waits : goal.invariant_of-self-clause-waits
-invariant_of-self-clause-waits g c = (let s = c.args.self.now in still_waiting (fetches_of s.core) (fetches_of c.evict_all.new.self) s.waiting c.evict_all.ensures.fetches s.waits)
+invariant_of-self-clause-waits g c =
+    (let s = c.args.self.now in still_waiting (fetches_of s.core) (fetches_of c.evict_all.new.self) s.waiting
+    c.evict_all.ensures.fetches s.waits)
 
 pub returns-in-Ok-clause-step : goal.returns-in-Ok-clause-step
-returns-in-Ok-clause-step g c = rw (c.new.ensures.answer, c.new.ensures.leaves) (c.in-Ok.ensures.done, ((refl, refl), c.evict_all.ensures.fetches))
+returns-in-Ok-clause-step g c = rw (c.new.ensures.answer, c.new.ensures.leaves)
+    (c.in-Ok.ensures.done, ((refl, refl), c.evict_all.ensures.fetches))
 
 pub returns-in-Err-clause-step : goal.returns-in-Err-clause-step
-returns-in-Err-clause-step g c = rw (c.new-in-Err.ensures.answer, c.new-in-Err.ensures.leaves, c.in-Err.ensures.reason) (c.in-Err.ensures.refused, ((refl, refl), c.evict_all.ensures.fetches))
+returns-in-Err-clause-step g c = rw
+    (c.new-in-Err.ensures.answer, c.new-in-Err.ensures.leaves, c.in-Err.ensures.reason)
+    (c.in-Err.ensures.refused, ((refl, refl), c.evict_all.ensures.fetches))

@@ -15,10 +15,12 @@ invariant_of-self-in-Fetch-1 g c =
     let s = c.args.self.now in
     let k : ℕ × g.row.K.Denot = (hashes_of s.core c.args.key.now, c.args.key.now) in
     let t = c.fetch_or_take.new.self in
-    let so = some_so (asked (Some c.args.fetch) (place_in (fetches_of s.core) k)) (rw c.in-Some-Fetch.field-0-is at c.in-Some-Fetch.ensures.answer) in
+    let so = some_so (asked (Some c.args.fetch) (place_in (fetches_of s.core) k))
+    (rw c.in-Some-Fetch.field-0-is at c.in-Some-Fetch.ensures.answer) in
     record {
       owns = owns_still (core_of s.core) (core_of t) s.handles.items c.fetch_or_take.ensures.«core» s.owns;
-      waits = taken_waiting g.K.PartialEq.eq (fetches_of s.core) (open_at s.core) k c.args.fetch s.waiting so.0 c.in-Some-Fetch.label so.1 so.2 (fetches_of t) c.in-Some-Fetch.ensures.opens s.waits;
+      waits = taken_waiting g.K.PartialEq.eq (fetches_of s.core) (open_at s.core) k c.args.fetch s.waiting so.0
+          c.in-Some-Fetch.label so.1 so.2 (fetches_of t) c.in-Some-Fetch.ensures.opens s.waits;
       room = s.room;
     }
 
@@ -26,8 +28,10 @@ pub overflow_sub-self : goal.overflow_sub-self
 overflow_sub-self g c =
     let s = c.args.self.now in
     let k : ℕ × g.row.K.Denot = (hashes_of s.core c.args.key.now, c.args.key.now) in
-    let so = some_so (asked (Some c.args.fetch) (place_in (fetches_of s.core) k)) (rw c.in-Some-Notifiers.field-0-is at c.in-Some-Notifiers.ensures.answer) in
-    let few = asked_counted g.K.PartialEq.eq (fetches_of s.core) (open_at s.core) k c.args.fetch s.waiting (Some so.0) so.1 s.waits in
+    let so = some_so (asked (Some c.args.fetch) (place_in (fetches_of s.core) k))
+    (rw c.in-Some-Notifiers.field-0-is at c.in-Some-Notifiers.ensures.answer) in
+    let few = asked_counted g.K.PartialEq.eq (fetches_of s.core) (open_at s.core) k c.args.fetch s.waiting (Some so.0)
+    so.1 s.waits in
     omega (arith, few, ap length so.2.1, c.in-Some-Notifiers.waiters.ok.0)
 
 pub invariant_of-self-in-Some-Notifiers : goal.invariant_of-self-in-Some-Notifiers
@@ -35,11 +39,14 @@ invariant_of-self-in-Some-Notifiers g c =
     let s = c.args.self.now in
     let k : ℕ × g.row.K.Denot = (hashes_of s.core c.args.key.now, c.args.key.now) in
     let t = c.fetch_or_take.new.self in
-    let so = some_so (asked (Some c.args.fetch) (place_in (fetches_of s.core) k)) (rw c.in-Some-Notifiers.field-0-is at c.in-Some-Notifiers.ensures.answer) in
-    let few = asked_counted g.K.PartialEq.eq (fetches_of s.core) (open_at s.core) k c.args.fetch s.waiting (Some so.0) so.1 s.waits in
+    let so = some_so (asked (Some c.args.fetch) (place_in (fetches_of s.core) k))
+    (rw c.in-Some-Notifiers.field-0-is at c.in-Some-Notifiers.ensures.answer) in
+    let few = asked_counted g.K.PartialEq.eq (fetches_of s.core) (open_at s.core) k c.args.fetch s.waiting (Some so.0)
+    so.1 s.waits in
     record {
       owns = owns_still (core_of s.core) (core_of t) s.handles.items c.fetch_or_take.ensures.«core» s.owns;
-      waits = nothing_waiting g.K.PartialEq.eq (fetches_of s.core) (open_at s.core) k c.args.fetch s.waiting so.0 so.1 so.2.0 (fetches_of t) _ c.in-Some-Notifiers.ensures.opens
+      waits = nothing_waiting g.K.PartialEq.eq (fetches_of s.core) (open_at s.core) k c.args.fetch s.waiting so.0 so.1
+          so.2.0 (fetches_of t) _ c.in-Some-Notifiers.ensures.opens
           (omega (arith, few, ap length so.2.1, c.in-Some-Notifiers.waiters.ok.0)) s.waits;
       room = omega (arith, s.room);
     }

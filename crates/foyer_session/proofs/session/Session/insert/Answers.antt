@@ -23,14 +23,16 @@ pub tell_inserted-requires-clause-counted : goal.tell_inserted-requires-clause-c
 tell_inserted-requires-clause-counted g c =
     let s = c.args.self.now in
     let hash = hashes_of s.core c.args.key in
-    let few = waiting_counted g.K.PartialEq.eq (fetches_of s.core) (open_at s.core) (hash, c.args.key) hash refl s.waiting s.waits in
+    let few = waiting_counted g.K.PartialEq.eq (fetches_of s.core) (open_at s.core) (hash, c.args.key) hash refl
+    s.waiting s.waits in
     omega (arith, few, ap length c.in-Ok.ensures.answers.0, c.in-Ok.inserted.answers.waiters.ok.0)
 
 pub tell_inserted-requires-clause-room : goal.tell_inserted-requires-clause-room
 tell_inserted-requires-clause-room g c =
     let s = c.args.self.now in
     let hash = hashes_of s.core c.args.key in
-    let few = waiting_counted g.K.PartialEq.eq (fetches_of s.core) (open_at s.core) (hash, c.args.key) hash refl s.waiting s.waits in
+    let few = waiting_counted g.K.PartialEq.eq (fetches_of s.core) (open_at s.core) (hash, c.args.key) hash refl
+    s.waiting s.waits in
     omega (arith, few, ap length c.in-Ok.ensures.answers.0, c.in-Ok.inserted.answers.waiters.ok.0, c.requires.room)
 
 pub tell_inserted-requires-clause-each : goal.tell_inserted-requires-clause-each
@@ -48,17 +50,27 @@ invariant_of-self-clause-owns g c =
     let hash = hashes_of s.core c.args.key in
     let n : ℕ = 1 + length (waiters_of (place_in (fetches_of s.core) (hash, c.args.key))) in
     let d = data_of (terms_of s) (session_of s) c.args.key c.args.value c.args.properties did.weight did.admitted in
-    rw (told.handles, each) (∥∥₁_elim (kept_at s.core hash did.inserts.before did.inserts.there) (hlevel props) (λ k. ∥∥₁_map s.owns (λ o.
-    given_owns m (core_of s.core) new s.handles.items o (λ a b. InsertsAnswering m Outer a (newcomer a d n) (Ok (made_of made)) b) hash did.inserts made.entry n
-    (inserts_gives m (length (core_of s.core).shards) (shard_of (core_of s.core) hash) did.inserts.before did.inserts.after (s.core.belong (shard_of (core_of s.core) hash) did.inserts.before did.inserts.there)
-    Outer (newcomer did.inserts.before d n) made.leaves.items made.entry n did.inserts.stepped (let none = next_unused m did.inserts.before k in omega (arith, none)) refl))))
+    rw (told.handles, each)
+    (∥∥₁_elim (kept_at s.core hash did.inserts.before did.inserts.there) (hlevel props) (λ k. ∥∥₁_map s.owns (λ o.
+    given_owns m (core_of s.core) new s.handles.items o
+    (λ a b. InsertsAnswering m Outer a (newcomer a d n) (Ok (made_of made)) b) hash did.inserts made.entry n
+    (inserts_gives m (length (core_of s.core).shards) (shard_of (core_of s.core) hash) did.inserts.before
+    did.inserts.after (s.core.belong (shard_of (core_of s.core) hash) did.inserts.before did.inserts.there)
+    Outer (newcomer did.inserts.before d n) made.leaves.items made.entry n did.inserts.stepped
+    (let none = next_unused m did.inserts.before k in omega (arith, none)) refl))))
 
 pub invariant_of-self-clause-waits : goal.invariant_of-self-clause-waits
 invariant_of-self-clause-waits g c =
     let s = c.args.self.now in
     let hash = hashes_of s.core c.args.key in
-    closed_waiting g.K.PartialEq.eq (fetches_of s.core) (open_at s.core) (hash, c.args.key) hash refl s.waiting (fetches_of c.insert_with_properties.new.self) c.tell_inserted.new.waiting c.in-Ok.ensures.closed
-    (omega (arith, c.tell_inserted.ensures.waiting, ap length c.in-Ok.ensures.answers.0, c.in-Ok.inserted.answers.waiters.ok.0)) s.waits
+    closed_waiting g.K.PartialEq.eq (fetches_of s.core) (open_at s.core) (hash, c.args.key) hash refl s.waiting
+    (fetches_of c.insert_with_properties.new.self) c.tell_inserted.new.waiting c.in-Ok.ensures.closed
+    (omega (
+      arith,
+      c.tell_inserted.ensures.waiting,
+      ap length c.in-Ok.ensures.answers.0,
+      c.in-Ok.inserted.answers.waiters.ok.0,
+    )) s.waits
 
 pub invariant_of-self-in-Err-1 : goal.invariant_of-self-in-Err-1
 invariant_of-self-in-Err-1 g c =
@@ -71,9 +83,13 @@ invariant_of-self-in-Err-1 g c =
     let n : ℕ = 1 + length (waiters_of (place_in (fetches_of s.core) (hash, c.args.key))) in
     let d = data_of (terms_of s) (session_of s) c.args.key c.args.value c.args.properties did.weight did.admitted in
     record {
-      owns = ∥∥₁_map s.owns (λ o. stayed_owns m (core_of s.core) new s.handles.items o (λ a b. InsertsAnswering m Outer a (newcomer a d n) (Err (denied_of refused)) b) hash did.inserts
-          (refused_by_alike m _ did.inserts.before (newcomer did.inserts.before d n) refused.error refused.leaves.items did.inserts.after did.inserts.stepped));
-      waits = (let s = c.args.self.now in still_waiting (fetches_of s.core) (fetches_of c.insert_with_properties.new.self) s.waiting c.in-Err.ensures.fetches s.waits);
+      owns = ∥∥₁_map s.owns
+          (λ o. stayed_owns m (core_of s.core) new s.handles.items o
+          (λ a b. InsertsAnswering m Outer a (newcomer a d n) (Err (denied_of refused)) b) hash did.inserts
+          (refused_by_alike m _ did.inserts.before (newcomer did.inserts.before d n) refused.error
+          refused.leaves.items did.inserts.after did.inserts.stepped));
+      waits = (let s = c.args.self.now in still_waiting (fetches_of s.core)
+          (fetches_of c.insert_with_properties.new.self) s.waiting c.in-Err.ensures.fetches s.waits);
       room = s.room;
     }
 
@@ -104,4 +120,5 @@ returns-in-Ok-clause-step g c =
 pub returns-in-Err-clause-step : goal.returns-in-Err-clause-step
 returns-in-Err-clause-step g c =
     let did = c.in-Err.ensures.inserted in
-    rw (c.tell_refused.ensures.answer, c.tell_refused.ensures.leaves) (did.weight, did.admitted, did.weighed, did.answered, did.inserts, ((refl, refl), c.in-Err.ensures.fetches))
+    rw (c.tell_refused.ensures.answer, c.tell_refused.ensures.leaves)
+    (did.weight, did.admitted, did.weighed, did.answered, did.inserts, ((refl, refl), c.in-Err.ensures.fetches))

@@ -25,7 +25,8 @@ tell_inserted-requires-clause-counted g c =
     let s = c.args.self.now in
     let made = c.in-Ok-insert_piece.inserted in
     let hash = hashes_of s.core c.in-Ok.piece.kept.key in
-    let few = waiting_counted g.K.PartialEq.eq (fetches_of s.core) (open_at s.core) (key_of made.entry.kept) hash (came_home s.core _ c.in-Ok.piece (made_of made) _ _ c.in-Ok-insert_piece.ensures.inserted) s.waiting s.waits in
+    let few = waiting_counted g.K.PartialEq.eq (fetches_of s.core) (open_at s.core) (key_of made.entry.kept) hash
+    (came_home s.core _ c.in-Ok.piece (made_of made) _ _ c.in-Ok-insert_piece.ensures.inserted) s.waiting s.waits in
     omega (arith, few, ap length c.in-Ok-insert_piece.ensures.answers.0, made.answers.waiters.ok.0)
 
 pub tell_inserted-requires-clause-room : goal.tell_inserted-requires-clause-room
@@ -33,7 +34,8 @@ tell_inserted-requires-clause-room g c =
     let s = c.args.self.now in
     let made = c.in-Ok-insert_piece.inserted in
     let hash = hashes_of s.core c.in-Ok.piece.kept.key in
-    let few = waiting_counted g.K.PartialEq.eq (fetches_of s.core) (open_at s.core) (key_of made.entry.kept) hash (came_home s.core _ c.in-Ok.piece (made_of made) _ _ c.in-Ok-insert_piece.ensures.inserted) s.waiting s.waits in
+    let few = waiting_counted g.K.PartialEq.eq (fetches_of s.core) (open_at s.core) (key_of made.entry.kept) hash
+    (came_home s.core _ c.in-Ok.piece (made_of made) _ _ c.in-Ok-insert_piece.ensures.inserted) s.waiting s.waits in
     omega (arith, few, ap length c.in-Ok-insert_piece.ensures.answers.0, made.answers.waiters.ok.0, c.requires.room)
 
 pub tell_inserted-requires-clause-each : goal.tell_inserted-requires-clause-each
@@ -54,19 +56,30 @@ invariant_of-self-clause-owns g c =
     let n : ℕ = 1 + length (waiters_of (place_in (fetches_of s.core) (coming_under at.before hash piece))) in
     let each = c.in-Ok-insert_piece.ensures.answers.0 in
     let key = piece_key m at.before at.after weighs hash piece (made_of made) n at.stepped in
-    let shape = told.handles ∙ ap (λ ws. s.handles.items ++ replicate (1 + length ws) (given made.entry)) (each ∙ ap (λ q. waiters_of (place_in (fetches_of s.core) q)) key) in
+    let shape = told.handles ∙ ap (λ ws. s.handles.items ++ replicate (1 + length ws) (given made.entry))
+    (each ∙ ap (λ q. waiters_of (place_in (fetches_of s.core) q)) key) in
     rw shape (∥∥₁_elim (kept_at s.core hash at.before at.there) (hlevel props) (λ k. ∥∥₁_map s.owns (λ o.
-    given_owns m (core_of s.core) new s.handles.items o (λ a b. InsertsPiece m weighs hash piece (1 + length (waiters_of (place_in (fetches_of s.core) (coming_under a hash piece)))) (Ok (made_of made)) a b) hash at made.entry n
-    (piece_gives m (length (core_of s.core).shards) place at.before at.after (s.core.belong place at.before at.there) weighs hash piece (made_of made) n at.stepped refl (next_unused m at.before k)))))
+    given_owns m (core_of s.core) new s.handles.items o
+    (λ a b. InsertsPiece m weighs hash piece
+    (1 + length (waiters_of (place_in (fetches_of s.core) (coming_under a hash piece)))) (Ok (made_of made)) a
+    b) hash at made.entry n
+    (piece_gives m (length (core_of s.core).shards) place at.before at.after (s.core.belong place at.before at.there)
+    weighs hash piece (made_of made) n at.stepped refl (next_unused m at.before k)))))
 
 pub invariant_of-self-clause-waits : goal.invariant_of-self-clause-waits
 invariant_of-self-clause-waits g c =
     let s = c.args.self.now in
     let made = c.in-Ok-insert_piece.inserted in
     let hash = hashes_of s.core c.in-Ok.piece.kept.key in
-    closed_waiting g.K.PartialEq.eq (fetches_of s.core) (open_at s.core) (key_of made.entry.kept) hash (came_home s.core _ c.in-Ok.piece (made_of made) _ _ c.in-Ok-insert_piece.ensures.inserted) s.waiting
+    closed_waiting g.K.PartialEq.eq (fetches_of s.core) (open_at s.core) (key_of made.entry.kept) hash
+    (came_home s.core _ c.in-Ok.piece (made_of made) _ _ c.in-Ok-insert_piece.ensures.inserted) s.waiting
     (fetches_of c.insert_piece.new.self) c.tell_inserted.new.waiting c.in-Ok-insert_piece.ensures.closed
-    (omega (arith, c.tell_inserted.ensures.waiting, ap length c.in-Ok-insert_piece.ensures.answers.0, made.answers.waiters.ok.0)) s.waits
+    (omega (
+      arith,
+      c.tell_inserted.ensures.waiting,
+      ap length c.in-Ok-insert_piece.ensures.answers.0,
+      made.answers.waiters.ok.0,
+    )) s.waits
 
 pub invariant_of-self-in-Err-insert_piece : goal.invariant_of-self-in-Err-insert_piece
 invariant_of-self-in-Err-insert_piece g c =
@@ -80,16 +93,22 @@ invariant_of-self-in-Err-insert_piece g c =
     let n : ℕ = 1 + length (waiters_of (place_in (fetches_of s.core) (coming_under at.before hash piece))) in
     record {
       owns = ∥∥₁_map s.owns (λ o. stayed_owns m (core_of s.core) new s.handles.items o
-          (λ a b. InsertsPiece m weighs hash piece (1 + length (waiters_of (place_in (fetches_of s.core) (coming_under a hash piece)))) (Err (denied_of c.in-Err.refused)) a b) hash at
+          (λ a b. InsertsPiece m weighs hash piece
+          (1 + length (waiters_of (place_in (fetches_of s.core) (coming_under a hash piece))))
+          (Err (denied_of c.in-Err.refused)) a b) hash at
           (piece_alike m at.before at.after weighs hash piece (denied_of c.in-Err.refused) n at.stepped));
-      waits = (let s = c.args.self.now in still_waiting (fetches_of s.core) (fetches_of c.insert_piece.new.self) s.waiting c.in-Err.ensures.fetches s.waits);
+      waits = (let s = c.args.self.now in still_waiting (fetches_of s.core) (fetches_of c.insert_piece.new.self)
+          s.waiting c.in-Err.ensures.fetches s.waits);
       room = s.room;
     }
 
 pub returns-in_default-clone-clause-step : goal.returns-in_default-clone-clause-step
 returns-in_default-clone-clause-step g c =
-    rw (c.new-in_default-clone-2.ensures.answer, c.new-in_default-clone-2.ensures.leaves)
-    (c.in-Some.piece.now, rw c.as_slice.ensures.value at c.in-Some.ensures.some, inl (c.new-error.ensures, c.new-in_default-clone.ensures.items, refl))
+    rw (c.new-in_default-clone-2.ensures.answer, c.new-in_default-clone-2.ensures.leaves) (
+      c.in-Some.piece.now,
+      rw c.as_slice.ensures.value at c.in-Some.ensures.some,
+      inl (c.new-error.ensures, c.new-in_default-clone.ensures.items, refl),
+    )
 
 pub returns-in-Ok-insert_piece-clause-step : goal.returns-in-Ok-insert_piece-clause-step
 returns-in-Ok-insert_piece-clause-step g c =
@@ -98,7 +117,8 @@ returns-in-Ok-insert_piece-clause-step g c =
     let made = c.in-Ok-insert_piece.inserted in
     let told = c.tell_inserted.ensures in
     let each = c.in-Ok-insert_piece.ensures.answers.0 in
-    let there : slice_get s.pieces.items c.args.number ≡ Some piece = rw (c.as_slice.ensures.value, sym c.in-Ok.ensures.cases) at c.in-Some.ensures.some in
+    let there : slice_get s.pieces.items c.args.number ≡ Some piece =
+    rw (c.as_slice.ensures.value, sym c.in-Ok.ensures.cases) at c.in-Some.ensures.some in
     rw (told.answer, told.leaves) (
       piece,
       made.entry,
@@ -117,5 +137,7 @@ returns-in-Ok-insert_piece-clause-step g c =
 pub returns-in-Err-clause-step : goal.returns-in-Err-clause-step
 returns-in-Err-clause-step g c =
     let s = c.args.self.now in
-    let there : slice_get s.pieces.items c.args.number ≡ Some c.in-Ok.piece = rw (c.as_slice.ensures.value, sym c.in-Ok.ensures.cases) at c.in-Some.ensures.some in
-    rw (c.tell_refused.ensures.answer, c.tell_refused.ensures.leaves) (c.in-Ok.piece, there, inr (c.in-Err.ensures.inserted, ((refl, refl), c.in-Err.ensures.fetches)))
+    let there : slice_get s.pieces.items c.args.number ≡ Some c.in-Ok.piece =
+    rw (c.as_slice.ensures.value, sym c.in-Ok.ensures.cases) at c.in-Some.ensures.some in
+    rw (c.tell_refused.ensures.answer, c.tell_refused.ensures.leaves)
+    (c.in-Ok.piece, there, inr (c.in-Err.ensures.inserted, ((refl, refl), c.in-Err.ensures.fetches)))

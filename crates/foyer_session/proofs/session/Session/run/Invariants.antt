@@ -11,8 +11,10 @@ invariant-loop-ready g l = record {
   run : Run (terms_of l.fn.self) g.Q.Predicate.picks (session_of l.fn.self)
       (map (λ ready. ready.command) l.yielded) l.replies.items (session_of l.self);
   told : IsTold (terms_of l.fn.self) (session_of l.fn.self) l.replies.items (session_of l.self);
-  settled : IsSettled (terms_of l.fn.self) (session_of l.fn.self) (map (λ ready. ready.command) l.yielded) l.replies.items (session_of l.self);
-  answered : AreAnswered (terms_of l.fn.self) (session_of l.fn.self) (map (λ ready. ready.command) l.yielded) l.replies.items (session_of l.self);
+  settled : IsSettled (terms_of l.fn.self) (session_of l.fn.self) (map (λ ready. ready.command) l.yielded)
+      l.replies.items (session_of l.self);
+  answered : AreAnswered (terms_of l.fn.self) (session_of l.fn.self) (map (λ ready. ready.command) l.yielded)
+      l.replies.items (session_of l.self);
   commands : map (λ ready. ready.command) (l.yielded ++ l.ready-iterator.rest.items) ≡ l.fn.commands.items;
   handles : taken l.self + 2 * length l.ready-iterator.rest.items ≤ vec_capacity l.self.handles;
   pieces : vec_len l.self.pieces + length l.ready-iterator.rest.items ≤ vec_capacity l.self.pieces;

@@ -14,16 +14,22 @@ returns-clause-step g c = rw (c.in_ok-ready.ensures.command, c.make_room.ensures
 pub returns-clause-told : goal.returns-clause-told
 returns-clause-told g c =
     let s = c.args.self.now in
-    let equal : (a b : g.row.K.Denot) → g.K.PartialEq.eq a b ≡ true → hashes_of s.core a ≡ hashes_of s.core b = λ a b same. ap (g.S.HashBuilder.hash_of s.core.hash_builder) (g.met.K.Hash.respects_eq a b same) in
-    step_told (terms_of s) g.met.K.Eq.laws g.met.E.Eviction.lawful (session_of s) (session_of c.carry_out.new.self) equal (core_sound s.core g.met.K.Eq.laws g.met.E.Eviction.lawful equal) (place_waits g.K.PartialEq.eq (fetches_of s.core) (open_at s.core))
-    g.Q.Predicate.picks c.in_ok-ready.ready.command c.carry_out.result (rw c.make_room.ensures.session at c.carry_out.ensures.step)
+    let equal : (a b : g.row.K.Denot) → g.K.PartialEq.eq a b ≡ true → hashes_of s.core a ≡ hashes_of s.core b =
+    λ a b same. ap (g.S.HashBuilder.hash_of s.core.hash_builder) (g.met.K.Hash.respects_eq a b same) in
+    step_told (terms_of s) g.met.K.Eq.laws g.met.E.Eviction.lawful (session_of s) (session_of c.carry_out.new.self)
+    equal (core_sound s.core g.met.K.Eq.laws g.met.E.Eviction.lawful equal)
+    (place_waits g.K.PartialEq.eq (fetches_of s.core) (open_at s.core))
+    g.Q.Predicate.picks c.in_ok-ready.ready.command c.carry_out.result
+    (rw c.make_room.ensures.session at c.carry_out.ensures.step)
 
 pub returns-clause-settled : goal.returns-clause-settled
 returns-clause-settled g c =
-    call_settled g.met.K.Eq.laws c.args.self.now g.Q.Predicate.picks (session_of c.carry_out.new.self) c.args.command c.carry_out.result
+    call_settled g.met.K.Eq.laws c.args.self.now g.Q.Predicate.picks (session_of c.carry_out.new.self) c.args.command
+    c.carry_out.result
     (rw (c.in_ok-ready.ensures.command, c.make_room.ensures.session) at c.carry_out.ensures.step)
 
 pub returns-clause-answered : goal.returns-clause-answered
 returns-clause-answered g c =
-    call_answered g.met.K.Eq.laws c.args.self.now g.Q.Predicate.picks (session_of c.carry_out.new.self) c.args.command c.carry_out.result
+    call_answered g.met.K.Eq.laws c.args.self.now g.Q.Predicate.picks (session_of c.carry_out.new.self) c.args.command
+    c.carry_out.result
     (rw (c.in_ok-ready.ensures.command, c.make_room.ensures.session) at c.carry_out.ensures.step)

@@ -9,4 +9,6 @@ returns-clause-commands g c =
     let xs = c.loop-command.yielded in
     let to = c.loop-command.command-iterator in
     let none = nil_from_length to.rest.items (sym to.rest.ok.0 ∙ c.in-None.ensures.steps.0) in
-    c.loop-command.invariant ∙ sym (append-nil xs) ∙ ap (λ l. xs ++ l) (sym none) ∙ sym (taken_front from xs to c.loop-command.yielded_by) ∙ c.into_iter-command-iterator.ensures.into_iter_gives.0
+    c.loop-command.invariant ∙ sym (append-nil xs) ∙ ap (λ l. xs ++ l) (sym none)
+    ∙ sym (taken_front from xs to c.loop-command.yielded_by)
+    ∙ c.into_iter-command-iterator.ensures.into_iter_gives.0

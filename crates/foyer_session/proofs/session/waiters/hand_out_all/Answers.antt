@@ -22,8 +22,11 @@ loop-entry-preserved g c =
     let inv = c.loop-entry.invariant in
     let out = c.hand_out-record.ensures in
     record {
-      handles = handed_more c.loop-entry.handles.items c.hand_out-record.new.handles.items c.loop-entry.entries.items c.pop.new.self.items c.in-Some.entry _ c.in-Some.ensures.items out.handles inv.handles;
-      told = ap (λ t. told_from (Some t) c.pop.new.self.items) out.«record» ∙ told_more c.loop-entry.told c.loop-entry.entries.items c.pop.new.self.items c.in-Some.entry c.in-Some.ensures.items ∙ inv.told;
+      handles = handed_more c.loop-entry.handles.items c.hand_out-record.new.handles.items c.loop-entry.entries.items
+          c.pop.new.self.items c.in-Some.entry _ c.in-Some.ensures.items out.handles inv.handles;
+      told = ap (λ t. told_from (Some t) c.pop.new.self.items) out.«record»
+          ∙ told_more c.loop-entry.told c.loop-entry.entries.items c.pop.new.self.items c.in-Some.entry
+          c.in-Some.ensures.items ∙ inv.told;
       untold = untold_rest c.pop.new.self.items c.in-Some.entry (rw c.in-Some.ensures.items at inv.untold);
       room = omega (
         arith,
@@ -44,9 +47,12 @@ loop-entry-preserved g c =
 pub returns : goal.returns
 returns g c =
     let inv = c.loop-entry.invariant in
-    let none : c.loop-entry.entries.items ≡ [] = nil_from_length c.loop-entry.entries.items (omega (arith, c.loop-entry.entries.ok.0, c.in_default.ensures.cases.0)) in
+    let none : c.loop-entry.entries.items ≡ [] =
+    nil_from_length c.loop-entry.entries.items
+    (omega (arith, c.loop-entry.entries.ok.0, c.in_default.ensures.cases.0)) in
     record {
       told = sym (ap (told_from c.loop-entry.told) none) ∙ inv.told;
-      handles = sym (append-nil c.loop-entry.handles.items) ∙ ap (λ es. c.loop-entry.handles.items ++ reverse (map given es)) (sym none) ∙ inv.handles;
+      handles = sym (append-nil c.loop-entry.handles.items)
+          ∙ ap (λ es. c.loop-entry.handles.items ++ reverse (map given es)) (sym none) ∙ inv.handles;
       capacity = inv.capacity;
     }

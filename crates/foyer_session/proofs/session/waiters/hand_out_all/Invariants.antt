@@ -7,7 +7,8 @@ use Rattle.foyer_session.proofs.session.waiters.hand_out_all.Given as goal
 
 abbrev pub invariant-loop-entry : goal.invariant-loop-entry
 invariant-loop-entry g l = record {
-  handles : l.handles.items ++ reverse (map given l.entries.items) ≡ l.fn.handles.items ++ reverse (map given l.fn.entries.items);
+  handles : l.handles.items ++ reverse (map given l.entries.items) ≡ l.fn.handles.items
+      ++ reverse (map given l.fn.entries.items);
   told : told_from l.told l.entries.items ≡ first_told l.fn.entries.items;
   untold : AreUntold l.entries.items;
   room : vec_len l.handles + vec_len l.entries ≤ vec_capacity l.handles;

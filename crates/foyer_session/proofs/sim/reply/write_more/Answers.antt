@@ -17,7 +17,8 @@ returns-in_err-write_next g c =
     let all = c.args.leaves.now in
     let x = c.leave-item.result in
     WritesText-stops a d c.from_residual.result (more_text all) c.from_residual.ensures.0
-    (Written-stops next_text a b d all (drop i all) (drop (i + 1) all) x c.loop-leave.invariant (next-left all i x c.loop-leave-test.true c.leave-item.is) c.in_err-write_next.ensures)
+    (Written-stops next_text a b d all (drop i all) (drop (i + 1) all) x c.loop-leave.invariant
+    (next-left all i x c.loop-leave-test.true c.leave-item.is) c.in_err-write_next.ensures)
 
 pub loop-leave-preserved : goal.loop-leave-preserved
 loop-leave-preserved g c =
@@ -27,10 +28,12 @@ loop-leave-preserved g c =
     let i = c.loop-leave.leave-index in
     let all = c.args.leaves.now in
     let x = c.leave-item.result in
-    Written-more next_text a b d all (drop i all) (drop (i + 1) all) x c.loop-leave.invariant (next-left all i x c.loop-leave-test.true c.leave-item.is) c.in_ok-write_next.ensures
+    Written-more next_text a b d all (drop i all) (drop (i + 1) all) x c.loop-leave.invariant
+    (next-left all i x c.loop-leave-test.true c.leave-item.is) c.in_ok-write_next.ensures
 
 pub returns : goal.returns
 returns g c =
     let i = c.loop-leave.leave-index in
     let all = c.args.leaves.now in
-    Written-ends next_text (g.W.Write.contents c.args.writer.now) (g.W.Write.contents c.loop-leave.writer) all (drop i all) c.loop-leave.invariant (drop_all i all (omega arith))
+    Written-ends next_text (g.W.Write.contents c.args.writer.now) (g.W.Write.contents c.loop-leave.writer) all
+    (drop i all) c.loop-leave.invariant (drop_all i all (omega arith))

@@ -9,7 +9,8 @@ pub returns-in_err-write_out : goal.returns-in_err-write_out
 returns-in_err-write_out g c =
     let a = g.W.Write.contents c.args.writer.now in
     let b = g.W.Write.contents c.write_out.new.writer in
-    if_some (slice_get c.args.answers.now c.args.at) (λ pair. WritesText a b c.from_residual.result (next_pair_text pair))
+    if_some (slice_get c.args.answers.now c.args.at)
+    (λ pair. WritesText a b c.from_residual.result (next_pair_text pair))
     (λ pair is. WritesText-stops a b c.from_residual.result _ c.from_residual.ensures.0 (AppendsFront-append a b (codes " ") (pair_text pair) c.in_err-write_out.ensures.text))
 
 pub returns : goal.returns

@@ -6,11 +6,13 @@ pub returns-in_err-write_out : goal.returns-in_err-write_out
 returns-in_err-write_out g c =
     let a = g.W.Write.contents c.args.writer.now in
     let b = g.W.Write.contents c.write_out.new.writer in
-    WritesText-stops a b c.from_residual.result _ c.from_residual.ensures.0 (AppendsFront-append a b c.args.word.now (decimal c.args.number) c.in_err-write_out.ensures.text)
+    WritesText-stops a b c.from_residual.result _ c.from_residual.ensures.0
+    (AppendsFront-append a b c.args.word.now (decimal c.args.number) c.in_err-write_out.ensures.text)
 
 pub returns : goal.returns
 returns g c =
     let a = g.W.Write.contents c.args.writer.now in
     let b = g.W.Write.contents c.write_out.new.writer in
     let d = g.W.Write.contents c.write_number.new.writer in
-    WritesText-after a b d c.write_number.result c.args.word.now (decimal c.args.number) c.in_ok-write_out.ensures.text c.write_number.ensures.text
+    WritesText-after a b d c.write_number.result c.args.word.now (decimal c.args.number)
+    c.in_ok-write_out.ensures.text c.write_number.ensures.text

@@ -13,8 +13,10 @@ returns-in_err-write_pair g c =
     let b = g.W.Write.contents c.write_pair.new.writer in
     let all = c.args.answers.now in
     let (x, is, text) = pairs-split all (sym c.is_empty.ensures ∙ c.if-is_empty.false) in
-    subst (WritesText a b c.from_residual.result) (sym text) (WritesText-stops a b c.from_residual.result _ c.from_residual.ensures.0
-    (AppendsFront-append a b (pair_text x) (more_pairs_text (drop 1 all)) (of_some (slice_get all 0) x (λ pair. AppendsFront a b (pair_text pair)) is c.in_err-write_pair.ensures)))
+    subst (WritesText a b c.from_residual.result) (sym text)
+    (WritesText-stops a b c.from_residual.result _ c.from_residual.ensures.0
+    (AppendsFront-append a b (pair_text x) (more_pairs_text (drop 1 all))
+    (of_some (slice_get all 0) x (λ pair. AppendsFront a b (pair_text pair)) is c.in_err-write_pair.ensures)))
 
 pub returns : goal.returns
 returns g c =
@@ -23,5 +25,7 @@ returns g c =
     let d = g.W.Write.contents c.write_pairs_from.new.writer in
     let all = c.args.answers.now in
     let (x, is, text) = pairs-split all (sym c.is_empty.ensures ∙ c.if-is_empty.false) in
-    subst (WritesText a d c.write_pairs_from.result) (sym text) (WritesText-after a b d c.write_pairs_from.result (pair_text x) (more_pairs_text (drop 1 all))
-    (of_some (slice_get all 0) x (λ pair. Appends a b (pair_text pair)) is c.in_ok-write_pair.ensures) c.write_pairs_from.ensures)
+    subst (WritesText a d c.write_pairs_from.result) (sym text)
+    (WritesText-after a b d c.write_pairs_from.result (pair_text x) (more_pairs_text (drop 1 all))
+    (of_some (slice_get all 0) x (λ pair. Appends a b (pair_text pair)) is c.in_ok-write_pair.ensures)
+    c.write_pairs_from.ensures)

@@ -6,7 +6,8 @@ pub returns-in_err-write_answer : goal.returns-in_err-write_answer
 returns-in_err-write_answer g c =
     let a = g.W.Write.contents c.args.writer.now in
     let b = g.W.Write.contents c.write_answer.new.writer in
-    WritesText-stops a b c.from_residual.result _ c.from_residual.ensures.0 (AppendsFront-append a b (answer_text c.args.reply.now.answer) _ c.in_err-write_answer.ensures)
+    WritesText-stops a b c.from_residual.result _ c.from_residual.ensures.0
+    (AppendsFront-append a b (answer_text c.args.reply.now.answer) _ c.in_err-write_answer.ensures)
 
 pub returns : goal.returns
 returns g c =

@@ -14,10 +14,13 @@ loop-turn-preserved g c =
           let e = rw (take_rest text at) at w.in-Ok.ensures in
           rw w.at-is record {
             within = omega (arith, e.bound, length-drop at text, so_far.within);
-            written = rw (take-add at w.in-Ok.n text) (Appends-trans (g.W.Write.contents c.args.writer.now) (g.W.Write.contents c.loop-turn.writer) (g.W.Write.contents c.write.new.self) _ _ so_far.written e.bytes);
+            written = rw (take-add at w.in-Ok.n text)
+                (Appends-trans (g.W.Write.contents c.args.writer.now) (g.W.Write.contents c.loop-turn.writer)
+                (g.W.Write.contents c.write.new.self) _ _ so_far.written e.bytes);
           }
       | in-Err+else-ne w ↦ rw w.at-is record {
         within = so_far.within;
-        written = Appends-kept (g.W.Write.contents c.args.writer.now) (g.W.Write.contents c.loop-turn.writer) (g.W.Write.contents c.write.new.self) _ so_far.written w.in-Err.ensures.bytes;
+        written = Appends-kept (g.W.Write.contents c.args.writer.now) (g.W.Write.contents c.loop-turn.writer)
+            (g.W.Write.contents c.write.new.self) _ so_far.written w.in-Err.ensures.bytes;
       }
     ]

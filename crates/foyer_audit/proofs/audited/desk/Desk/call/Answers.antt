@@ -19,7 +19,8 @@ returns-clause-recorded g c =
     let calls = c.args.self.now.book.history.items in
     let told = c.copies-told.result in
     let there = slice_get-push calls (made, applied.0) in
-    let stands = ap (λ n. slice_get c.apply.new.self.history.items n) c.in_ok-number.ensures.number ∙ (ap (λ xs. slice_get xs (length calls)) applied.1 ∙ there) in (
+    let stands = ap (λ n. slice_get c.apply.new.self.history.items n) c.in_ok-number.ensures.number
+    ∙ (ap (λ xs. slice_get xs (length calls)) applied.1 ∙ there) in (
       made,
       applied.0,
       c.requires.commands c.args.command made c.in-Ok-clone.ensures.cases,

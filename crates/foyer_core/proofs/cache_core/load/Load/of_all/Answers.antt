@@ -11,7 +11,8 @@ loop-shard-preserved g c =
     let load = c.of-load in
     let so_far = c.loop-shard.invariant in
     record {
-      summed = sums_more m state_of c.args.shards.now c.loop-shard.shard-index c.shard-item.result sum.usage sum.entries load.result.usage load.result.entries c.loop-shard-test.true c.shard-item.is
+      summed = sums_more m state_of c.args.shards.now c.loop-shard.shard-index c.shard-item.result sum.usage
+          sum.entries load.result.usage load.result.entries c.loop-shard-test.true c.shard-item.is
           so_far.summed load.ensures.usage load.ensures.entries load.ensures.small;
       usage = omega (arith, so_far.usage, load.ensures.small.0);
       entries = omega (arith, so_far.entries, load.ensures.small.1);
@@ -20,4 +21,5 @@ loop-shard-preserved g c =
 pub returns : goal.returns
 returns g c =
     let m = meaning g.K.PartialEq.eq g.E.Eviction.model g.P.Properties.hint_of g.P.Properties.phantom_of in
-    sums_all m state_of c.args.shards.now c.loop-shard.shard-index c.loop-shard.sum.usage c.loop-shard.sum.entries (omega (arith, c.loop-shard-test.false)) c.loop-shard.invariant.summed
+    sums_all m state_of c.args.shards.now c.loop-shard.shard-index c.loop-shard.sum.usage c.loop-shard.sum.entries
+    (omega (arith, c.loop-shard-test.false)) c.loop-shard.invariant.summed

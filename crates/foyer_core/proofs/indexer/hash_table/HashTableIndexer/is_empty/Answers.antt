@@ -6,5 +6,6 @@ use Rattle.foyer_core.proofs.indexer.hash_table.HashTableIndexer.is_empty.Goals 
 pub returns : goal.returns
 returns g c =
     let pairs = c.args.self.now.pairs.items in
-    let counted : c.is_empty.result ≡ (length pairs == 0) = c.is_empty.ensures ∙ ap (λ ps. length ps == 0) c.as_slice.ensures.value in
+    let counted : c.is_empty.result ≡ (length pairs == 0) = c.is_empty.ensures
+    ∙ ap (λ ps. length ps == 0) c.as_slice.ensures.value in
     (λ yes. empty_in g.K.PartialEq.eq pairs (sym counted ∙ yes), λ none. counted ∙ none_in g.met.K.Eq.laws pairs none)

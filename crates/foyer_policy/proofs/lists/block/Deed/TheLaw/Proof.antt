@@ -13,5 +13,8 @@ use Rattle.foyer_policy.proofs.lists.block.Deed.TheLaw.Statement.{statement}
 
 pub shares : (K V A : RattleType) (g : Ghosts A.Denot) (L : Laws K) (N : Laws V) (P : Laws A) → statement K V A g L N P
 shares K V A g L N P =
-    of_Lends (C.struct K V A g) (C.the_codes K.Denot V.Denot A.Denot K.coded V.coded A.coded (marker.the_row RawPtr).coded) (C.the_heap K V A g) (C.the_lent K V A g) (λ d p. nothing_shr_laws)
-    (copy_shared (marker.the_field RawPtr) (field_copy (marker.the_type RawPtr) tt), tt) (λ M 𝓤 𝓛 d p. Lends-nothing 𝓛 (C.the_heap K V A g d) (C.the_row K V A g).lives)
+    of_Lends (C.struct K V A g)
+    (C.the_codes K.Denot V.Denot A.Denot K.coded V.coded A.coded (marker.the_row RawPtr).coded)
+    (C.the_heap K V A g) (C.the_lent K V A g) (λ d p. nothing_shr_laws)
+    (copy_shared (marker.the_field RawPtr) (field_copy (marker.the_type RawPtr) tt), tt)
+    (λ M 𝓤 𝓛 d p. Lends-nothing 𝓛 (C.the_heap K V A g d) (C.the_row K V A g).lives)

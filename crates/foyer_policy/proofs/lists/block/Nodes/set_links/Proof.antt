@@ -56,21 +56,47 @@ module _ (E : Two) where
   function = inst_fn (args E) code.function
 
   abbrev ended : Ended
-  ended = record { signature = record { lifetimes = 1; outlives = []; params = RefMutOf (0 ∷ []) tt (plain (λ _. Nr E)) (λ _. tt) ∷ plain (λ _. Bs E) ∷ plain (λ _. usize) ∷ plain (λ _. RL E) ∷ []; result = plain (λ _. unit) }; kept = (yes, (no, (no, (no, tt)))) }
+  ended = record {
+    signature =
+        record {
+          lifetimes = 1;
+          outlives = [];
+          params =
+              RefMutOf (0 ∷ []) tt (plain (λ _. Nr E)) (λ _. tt) ∷ plain (λ _. Bs E) ∷ plain (λ _. usize) ∷ plain
+              (λ _. RL E) ∷ [];
+          result = plain (λ _. unit);
+        };
+    kept = (yes, (no, (no, (no, tt))));
+  }
 
   abbrev stayed : Stays ended.signature.params ended.kept
-  stayed = (stay_ref (0 ∷ []) tt (plain (λ _. Nr E)), (stay_dropped (plain (λ _. Bs E)) no, (stay_dropped (plain (λ _. usize)) no, (stay_dropped (plain (λ _. RL E)) no, tt))))
+  stayed = (
+    stay_ref (0 ∷ []) tt (plain (λ _. Nr E)),
+    (
+      stay_dropped (plain (λ _. Bs E)) no,
+      (stay_dropped (plain (λ _. usize)) no, (stay_dropped (plain (λ _. RL E)) no, tt)),
+    ),
+  )
 
   abbrev Asks : (Nr E).Denot → (Bs E).Denot → (usize).Denot → (RL E).Denot → Type 0
   Asks d base index item = (base.ptr ≡ d.at) × (index < length d.links)
 
   abbrev Gives0 : (Nr E).Denot → (Bs E).Denot → (usize).Denot → (RL E).Denot → (unit).Denot → (Nr E).Denot → Type 0
-  Gives0 d base index item r new = (new.at ≡ d.at) × (new.links ≡ set d.links index (Some item)) × (new.values ≡ d.values)
+  Gives0 d base index item r new = (new.at ≡ d.at) × (new.links ≡ set d.links index (Some item))
+      × (new.values ≡ d.values)
 
   abbrev spec : {M : Type 1} {𝓤 : Ura M} (𝓛 : Logic 𝓤) → Clauses 𝓤 ended
-  spec {𝓤 = 𝓤} 𝓛 κs a = record { ghost = Unit {0}; requires = λ _. fact 𝓤 (Asks a.0.now a.1.0 a.1.1.0 a.1.1.1.0); ensures = λ _ r w. fact 𝓤 (Gives0 a.0.now a.1.0 a.1.1.0 a.1.1.1.0 r w.0.now) }
+  spec {𝓤 = 𝓤} 𝓛 κs a =
+      record {
+        ghost = Unit {0};
+        requires = λ _. fact 𝓤 (Asks a.0.now a.1.0 a.1.1.0 a.1.1.1.0);
+        ensures =
+            λ _ r w. fact 𝓤 (Gives0 a.0.now a.1.0 a.1.1.0 a.1.1.1.0 r w.0.now);
+      }
 
-module _ (E : Two) {M : Type 1} {𝓤 : Ura M} (𝓛 : Logic 𝓤) (C : Calls 𝓤 𝓛.H) (Λ : Loops 𝓤 𝓛.H) (κ : Lft) (q : Share) (rb ro : ℕ) (γ : GName) (d : (Nr E).Denot) (base : (Bs E).Denot) (index : (usize).Denot) (item : (RL E).Denot) (us0 us1 us2 us3 : List Val) where
+module _ (E : Two) {M : Type 1} {𝓤 : Ura M} (𝓛 : Logic 𝓤) (C : Calls 𝓤 𝓛.H) (Λ : Loops 𝓤 𝓛.H) (κ : Lft) (q : Share)
+    (rb ro : ℕ) (γ : GName) (d : (Nr E).Denot) (base : (Bs E).Denot) (index : (usize).Denot) (item : (RL E).Denot)
+    (us0 us1 us2 us3 : List Val) where
   open 𝓛 use {H, A}
 
   abbrev self : MutBor (Nr E).Denot
@@ -82,45 +108,80 @@ module _ (E : Two) {M : Type 1} {𝓤 : Ura M} (𝓛 : Logic 𝓤) (C : Calls �
   abbrev Post : Val → SProp 𝓤
   Post = (walk_of 𝓛 (ended E) (stayed E) (spec E 𝓛)).post bound
 
-  exits : us0 ≡ vptr rb ro ∷ [] → (r : (unit).Denot) (v : Val) (new : (Nr E).Denot) → Gives0 E d base index item r new → ent 𝓤 (⋆ 𝓛 (‵ (fobs γ ((Nr E).coded.code new)) ∷ ‵ (fbor κ (Borrowed (mem (Nr E)) rb ro γ)) ∷ ‵ (flft κ q) ∷ ‵ ((unit).own_val r (v ∷ [])) ∷ [])) (Post v)
+  exits : us0 ≡ vptr rb ro ∷ [] → (r : (unit).Denot) (v : Val) (new : (Nr E).Denot) → Gives0 E d base index item r new
+      → ent 𝓤 (⋆ 𝓛
+      (‵ (fobs γ ((Nr E).coded.code new)) ∷ ‵ (fbor κ (Borrowed (mem (Nr E)) rb ro γ)) ∷ ‵ (flft κ q) ∷ ‵
+      ((unit).own_val r (v ∷ [])) ∷ [])) (Post v)
   exits passed r v new g0 =
-      qed 𝓛 (‵ (fobs γ ((Nr E).coded.code new)) ∷ ‵ (fbor κ (Borrowed (mem (Nr E)) rb ro γ)) ∷ ‵ (flft κ q) ∷ ‵ ((unit).own_val r (v ∷ [])) ∷ []) ∵
-      suffices ! _ (ends_at 𝓛 (ended E) (stayed E) (spec E 𝓛) bound v r (new, (tt, (tt, (tt, tt)))) (tt, (tt, (tt, (tt, tt))))) $ says ! g0 $
-      nothing ! $ move ! (3 ∷ 0 ∷ []) $ join ! $ frame ! $ feq_i ! (List Val) us0 (vptr rb ro ∷ []) passed $ fjoin3 ! $ nothing ! $ nothing ! $ fjoin ! $ nothing ! $ fjoin ! $ nothing ! $ fjoin ! $ move ! (1 ∷ 0 ∷ []) $ fjoin ! $ done !
+      qed 𝓛 (‵ (fobs γ ((Nr E).coded.code new)) ∷ ‵ (fbor κ (Borrowed (mem (Nr E)) rb ro γ)) ∷ ‵ (flft κ q) ∷ ‵
+      ((unit).own_val r (v ∷ [])) ∷ []) ∵
+      suffices ! _
+      (ends_at 𝓛 (ended E) (stayed E) (spec E 𝓛) bound v r (new, (tt, (tt, (tt, tt)))) (tt, (tt, (tt, (tt, tt)))))
+      $ says ! g0 $
+      nothing ! $ move ! (3 ∷ 0 ∷ []) $ join ! $ frame ! $ feq_i ! (List Val) us0 (vptr rb ro ∷ []) passed $ fjoin3 !
+      $ nothing ! $ nothing ! $ fjoin ! $ nothing ! $ fjoin ! $ nothing ! $ fjoin ! $ move ! (1 ∷ 0 ∷ []) $ fjoin
+      ! $ done !
 
   abbrev Had : Val → List (Item 𝓤)
-  Had v_item = ‵ (fobs γ ((Nr E).coded.code d)) ∷ ‵ (fbor κ (Borrowed (mem (Nr E)) rb ro γ)) ∷ ‵ (flft κ q) ∷ ‵ ((RL E).own_val item (v_item ∷ [])) ∷ []
+  Had v_item = ‵ (fobs γ ((Nr E).coded.code d)) ∷ ‵ (fbor κ (Borrowed (mem (Nr E)) rb ro γ)) ∷ ‵ (flft κ q) ∷ ‵
+      ((RL E).own_val item (v_item ∷ [])) ∷ []
 
-  walk : us0 ≡ vptr rb ro ∷ [] → Asks E d base index item → index < 2 ^ 64 → (v_item : Val) → Good (layout (RL E)) v_item → ent 𝓤 (⋆ 𝓛 (Had v_item)) (WpFn 𝓤 H C Λ (function E) (vptr rb ro ∷ word base.ptr ∷ vint w64 index ∷ v_item ∷ []) Post)
+  walk : us0 ≡ vptr rb ro ∷ [] → Asks E d base index item → index < 2 ^ 64 → (v_item : Val) →
+      Good (layout (RL E)) v_item → ent 𝓤 (⋆ 𝓛 (Had v_item))
+      (WpFn 𝓤 H C Λ (function E) (vptr rb ro ∷ word base.ptr ∷ vint w64 index ∷ v_item ∷ []) Post)
   walk passed asked fits_index v_item good_item =
       let within = asked.1 in
-      let new : (Nr E).Denot = record { mark = d.mark; at = d.at; links = set d.links index (Some item); values = d.values } in
-      qed 𝓛 (Had v_item) ∵ enter ! C Λ (function E) (vptr rb ro ∷ word base.ptr ∷ vint w64 index ∷ v_item ∷ []) _ $ alloc_all ! (λ l. pass_all ! refl ((tt, tt), (word-Good [] base.ptr, ((tt, record { fits = fits_index }), (good_item, tt)))) $
+      let new : (Nr E).Denot =
+      record { mark = d.mark; at = d.at; links = set d.links index (Some item); values = d.values } in
+      qed 𝓛 (Had v_item) ∵ enter ! C Λ (function E) (vptr rb ro ∷ word base.ptr ∷ vint w64 index ∷ v_item ∷ []) _ $
+      alloc_all !
+      (λ l. pass_all ! refl
+      ((tt, tt), (word-Good [] base.ptr, ((tt, record { fits = fits_index }), (good_item, tt)))) $
       let En : Env 𝓤 H = env (function E).locals l in
       opens ! tt (Nr E) {h = d} rb ro (λ vs. move ! (1 ∷ []) $ fsplit ! $ move ! (1 ∷ []) $
-      in_a_block ! d.at (λ p. nodes_own (RL E) (RV E) p d.links d.values) (id⊢ 𝓤 (never 𝓤)) (λ b o e. fsplit ! $ fsplit ! $ flt_l ! (λ small.
-      let s = sz E in let tiny : s < 2 ^ 64 = omega (arith, one_below (length d.links) s (2 ^ 63) (omega arith) small) in
+      in_a_block ! d.at (λ p. nodes_own (RL E) (RV E) p d.links d.values) (id⊢ 𝓤 (never 𝓤))
+      (λ b o e. fsplit ! $ fsplit ! $ flt_l ! (λ small.
+      let s = sz E in let tiny : s < 2 ^ 64 =
+      omega (arith, one_below (length d.links) s (2 ^ 63) (omega arith) small) in
       let far : index * s < 2 ^ 64 = omega (arith, times_below index (length d.links) s (2 ^ 63) (omega arith) small) in
       let at = index * s + o + lo E in
-      take_at ! 2 $ rewrite ! 0 (λ (p : Ptr). ‵ (fat full_share (layout (Bs E)) (l 2) 0 (word p))) (asked.0 ∙ e) refl $ give_at ! 2 $ first ! $ blocks ! $
-      sets ! (bin ! (get ! refl) (size_lit ! (record { fits = tiny })) (record { fits = far })) refl (tt, record { fits = far }) $
+      take_at ! 2 $ rewrite ! 0 (λ (p : Ptr). ‵ (fat full_share (layout (Bs E)) (l 2) 0 (word p))) (asked.0 ∙ e) refl
+      $ give_at ! 2 $ first ! $ blocks ! $
+      sets ! (bin ! (get ! refl) (size_lit ! (record { fits = tiny })) (record { fits = far })) refl
+      (tt, record { fits = far }) $
       sets ! (bin ! (get_in ! (fld ! refl (stop !)) (sub ! 0 refl (whole !))) (get ! refl) tt) refl (tt, tt) $
-      use1 𝓛 (‵ (cell (RL E) b (index * s + (o + lo E)) (get_or d.links index None)) ⊛ ‵ (Besides (RL E) s 𝓛 b (o + lo E) d.links index)) (cell_out (RL E) s 𝓛 b (o + lo E) d.links index within) $ split ! $
-      use1 𝓛 (‵ (cell (RL E) b (index * s + (o + lo E)) None)) (cell_room 0 E.links E.links_laws 𝓛 (get_or d.links index None) b (index * s + (o + lo E))) $ rewrite ! 0 (λ (k : ℕ). ‵ (cell (RL E) b k None)) (far_field (index * s) o (lo E)) refl $ as_written ! (layout E.links) b at $
-      -- [the room; the other cells; the other column; the mark; its cell; the open borrow; obs; auth; what the item owns]
-      sets ! (addr ! (through ! refl (fld ! refl (stop !)))) refl (tt, tt) $ sets ! (of_opd ! (get ! refl)) refl good_item $ assigns_last ! (of_opd ! (get ! refl)) (through ! refl (stop !)) (init ! 0 refl good_item) $
+      use1 𝓛 (‵ (cell (RL E) b (index * s + (o + lo E)) (get_or d.links index None)) ⊛ ‵
+      (Besides (RL E) s 𝓛 b (o + lo E) d.links index)) (cell_out (RL E) s 𝓛 b (o + lo E) d.links index within) $
+      split ! $
+      use1 𝓛 (‵ (cell (RL E) b (index * s + (o + lo E)) None))
+      (cell_room 0 E.links E.links_laws 𝓛 (get_or d.links index None) b (index * s + (o + lo E))) $ rewrite ! 0
+      (λ (k : ℕ). ‵ (cell (RL E) b k None)) (far_field (index * s) o (lo E)) refl $ as_written !
+      (layout E.links) b at $
+      -- [the room; the other cells; the other column; the mark; its cell; the open borrow; obs; auth; what the item
+      -- owns]
+      sets ! (addr ! (through ! refl (fld ! refl (stop !)))) refl (tt, tt) $ sets ! (of_opd ! (get ! refl)) refl
+      good_item $ assigns_last ! (of_opd ! (get ! refl)) (through ! refl (stop !)) (init ! 0 refl good_item) $
       exec ! C Λ En (after 1 (function E).body) (at_ret En Post) $ sets ! (of_opd ! (unit_lit !)) refl (tt, tt) $
-      move ! (0 ∷ 8 ∷ []) $ use2 𝓛 (‵ (cell (RL E) b at (Some item))) (value_in 0 E.links E.links_laws 𝓛 item b at v_item) $
+      move ! (0 ∷ 8 ∷ []) $ use2 𝓛 (‵ (cell (RL E) b at (Some item)))
+      (value_in 0 E.links E.links_laws 𝓛 item b at v_item) $
       rewrite ! 0 (λ (k : ℕ). ‵ (cell (RL E) b k (Some item))) (sym (far_field (index * s) o (lo E))) refl $
-      use2 𝓛 (‵ (column (RL E) s b (o + lo E) new.links)) (cell_in (RL E) s 𝓛 b (o + lo E) d.links index within (Some item)) $
-      flt_i ! (length new.links * s) (2 ^ 63) (subst (λ k. k * s < 2 ^ 63) (sym (length-set d.links index (Some item))) small) $ fjoin ! $ fjoin ! $
-      rewrite ! 0 (λ (p : Ptr). ‵ (nodes_own (RL E) (RV E) p new.links new.values)) (sym e) refl $ move ! (1 ∷ 0 ∷ []) $ fjoin ! $ move ! (1 ∷ 0 ∷ []) $ closes ! tt (Nr E) new vs rb ro $
-      returns ! (look_at ! 0 refl) $ free_all ! refl $ keep ! (0 ∷ 1 ∷ 2 ∷ []) $ feq_i ! (List Val) (vunit ∷ []) (vunit ∷ []) refl $ move ! (1 ∷ 2 ∷ 3 ∷ 0 ∷ []) $
+      use2 𝓛 (‵ (column (RL E) s b (o + lo E) new.links))
+      (cell_in (RL E) s 𝓛 b (o + lo E) d.links index within (Some item)) $
+      flt_i ! (length new.links * s) (2 ^ 63)
+      (subst (λ k. k * s < 2 ^ 63) (sym (length-set d.links index (Some item))) small) $ fjoin ! $ fjoin ! $
+      rewrite ! 0 (λ (p : Ptr). ‵ (nodes_own (RL E) (RV E) p new.links new.values)) (sym e) refl $ move ! (1 ∷ 0 ∷ [])
+      $ fjoin ! $ move ! (1 ∷ 0 ∷ []) $ closes ! tt (Nr E) new vs rb ro $
+      returns ! (look_at ! 0 refl) $ free_all ! refl $ keep ! (0 ∷ 1 ∷ 2 ∷ []) $ feq_i ! (List Val) (vunit ∷ [])
+      (vunit ∷ []) refl $ move ! (1 ∷ 2 ∷ 3 ∷ 0 ∷ []) $
       by ! (exits passed tt vunit new (refl, refl, refl))))))
 
-  entry : Asks E d base index item → ent 𝓤 (on_entry 𝓛 (ended E).signature (κ, tt) (q, tt) (self, (base, (index, (item, tt)))) (us0, (us1, (us2, (us3, tt))))) (WpFn 𝓤 H C Λ (function E) (us0 ++ (us1 ++ (us2 ++ (us3 ++ [])))) Post)
+  entry : Asks E d base index item → ent 𝓤
+      (on_entry 𝓛 (ended E).signature (κ, tt) (q, tt) (self, (base, (index, (item, tt))))
+      (us0, (us1, (us2, (us3, tt))))) (WpFn 𝓤 H C Λ (function E) (us0 ++ (us1 ++ (us2 ++ (us3 ++ [])))) Post)
   entry asked =
-      qed 𝓛 ((‵ (flft κ q) ⊛ ‵ ftrue) ∷ ‵ (owns (MutRef (named 0) κ (Nr E) ∷ Bs E ∷ usize ∷ RL E ∷ []) (self, (base, (index, (item, tt)))) (us0, (us1, (us2, (us3, tt))))) ∷ []) ∵
+      qed 𝓛 ((‵ (flft κ q) ⊛ ‵ ftrue) ∷ ‵
+      (owns (MutRef (named 0) κ (Nr E) ∷ Bs E ∷ usize ∷ RL E ∷ []) (self, (base, (index, (item, tt))))
+      (us0, (us1, (us2, (us3, tt))))) ∷ []) ∵
       split ! $ move ! (2 ∷ []) $
       fsplit ! $
       fsplit3 ! $ feq_l ! (λ e0.
@@ -132,13 +193,28 @@ module _ (E : Two) {M : Type 1} {𝓤 : Ura M} (𝓛 : Logic 𝓤) (C : Calls �
       fsplit ! $
       tells E.links E.links_laws ! item us3 (λ v_item e3 good_item.
       keep ! (2 ∷ 3 ∷ 4 ∷ 0 ∷ []) $
-      by ! (subst (λ (ws : List Val × List Val × List Val × List Val). ent 𝓤 (⋆ 𝓛 (Had v_item)) (WpFn 𝓤 H C Λ (function E) (ws.0 ++ (ws.1 ++ (ws.2 ++ (ws.3 ++ [])))) Post)) (λ j. (sym e0 j, sym e1 j, sym e2 j, sym e3 j)) (walk e0 asked fits_index v_item good_item)))))))
+      by ! (subst
+      (λ (ws : List Val × List Val × List Val × List Val). ent 𝓤 (⋆ 𝓛 (Had v_item))
+      (WpFn 𝓤 H C Λ (function E) (ws.0 ++ (ws.1 ++ (ws.2 ++ (ws.3 ++ [])))) Post))
+      (λ j. (sym e0 j, sym e1 j, sym e2 j, sym e3 j)) (walk e0 asked fits_index v_item good_item)))))))
 
 meets : (E : Two) {M : Type 1} {𝓤 : Ura M} (𝓛 : Logic 𝓤) (𝓣 : Tables 𝓤 𝓛.H)
     → Meets 𝓛 (ended E).signature (WpFn 𝓤 𝓛.H 𝓣.C 𝓣.Λ (function E)) (closing 𝓛 (ended E) (spec E 𝓛))
 meets E {𝓤 = 𝓤} 𝓛 𝓣 =
-    walk_Meets 𝓛 (ended E) (stayed E) (Goes-ref 𝓛 1 0 tt (plain (λ _. Nr E)), (Goes-dropped 𝓛 1 (plain (λ _. Bs E)) no (λ κs x f. refl), (Goes-dropped 𝓛 1 (plain (λ _. usize)) no (λ κs x f. refl), (Goes-dropped 𝓛 1 (plain (λ _. RL E)) no (λ κs x f. refl), tt)))) (spec E 𝓛) (WpFn 𝓤 𝓛.H 𝓣.C 𝓣.Λ (function E)) (WpFn-mono 𝓤 𝓛.H 𝓛.laws 𝓣 (function E))
-    (λ z. needs 𝓤 (Asks E z.0.3.0.now z.0.3.1.0 z.0.3.1.1.0 z.0.3.1.1.1.0) _ (entry E 𝓛 𝓣.C 𝓣.Λ z.0.0.0 z.0.1.0 z.0.3.0.ref_ptr.0 z.0.3.0.ref_ptr.1 z.0.3.0.ghost_name z.0.3.0.now z.0.3.1.0 z.0.3.1.1.0 z.0.3.1.1.1.0 z.0.4.0 z.0.4.1.0 z.0.4.1.1.0 z.0.4.1.1.1.0))
+    walk_Meets 𝓛 (ended E) (stayed E) (
+      Goes-ref 𝓛 1 0 tt (plain (λ _. Nr E)),
+      (
+        Goes-dropped 𝓛 1 (plain (λ _. Bs E)) no (λ κs x f. refl),
+        (
+          Goes-dropped 𝓛 1 (plain (λ _. usize)) no (λ κs x f. refl),
+          (Goes-dropped 𝓛 1 (plain (λ _. RL E)) no (λ κs x f. refl), tt),
+        ),
+      ),
+    ) (spec E 𝓛)
+    (WpFn 𝓤 𝓛.H 𝓣.C 𝓣.Λ (function E)) (WpFn-mono 𝓤 𝓛.H 𝓛.laws 𝓣 (function E))
+    (λ z. needs 𝓤 (Asks E z.0.3.0.now z.0.3.1.0 z.0.3.1.1.0 z.0.3.1.1.1.0) _
+    (entry E 𝓛 𝓣.C 𝓣.Λ z.0.0.0 z.0.1.0 z.0.3.0.ref_ptr.0 z.0.3.0.ref_ptr.1 z.0.3.0.ghost_name z.0.3.0.now
+    z.0.3.1.0 z.0.3.1.1.0 z.0.3.1.1.1.0 z.0.4.0 z.0.4.1.0 z.0.4.1.1.0 z.0.4.1.1.1.0))
 
 pub set_links_spec : {M : Type 1} → stated.statement M
 unfolding tables_of
@@ -146,6 +222,8 @@ set_links_spec 𝓤 𝓛 𝓜 𝓡 wired X Y LX LY y =
     let E : Two = record { links = X; links_laws = LX; value = Y; value_laws = LY } in
     let 𝓣 : Tables 𝓤 𝓛.H = tables_of 𝓤 𝓛.H 𝓜 (tables 𝓤 𝓛.H 𝓜 𝓡 𝓡.env) in
     let k = #self (args E) in
-    spared 𝓛 (ended E).signature (𝓡.run (𝓡.env k)) (run_framed 𝓤 𝓛.H 𝓜 𝓡 (𝓡.env k)) 2 (X.lives, (Y.lives, tt)) (closing 𝓛 (ended E) (spec E 𝓛))
-    (entered 𝓤 𝓛.H (triple_of 𝓛 (ended E).signature (closing 𝓛 (ended E) (spec E 𝓛))) 𝓣.C 𝓣.Λ k (function E) (code.unfolded 𝓤 𝓛.H 𝓜 𝓡 wired (X, (Y, tt))) (meets E 𝓛 𝓣))
+    spared 𝓛 (ended E).signature (𝓡.run (𝓡.env k)) (run_framed 𝓤 𝓛.H 𝓜 𝓡 (𝓡.env k)) 2 (X.lives, (Y.lives, tt))
+    (closing 𝓛 (ended E) (spec E 𝓛))
+    (entered 𝓤 𝓛.H (triple_of 𝓛 (ended E).signature (closing 𝓛 (ended E) (spec E 𝓛))) 𝓣.C 𝓣.Λ k (function E)
+    (code.unfolded 𝓤 𝓛.H 𝓜 𝓡 wired (X, (Y, tt))) (meets E 𝓛 𝓣))
     ((y.0.0, y.0.1, tt, y.0.3, y.0.4), y.1)

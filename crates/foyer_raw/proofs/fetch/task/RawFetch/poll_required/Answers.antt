@@ -7,10 +7,12 @@ pub returns-in-Ready-Ok-clause-leads : goal.returns-in-Ready-Ok-clause-leads
 returns-in-Ready-Ok-clause-leads g c =
     let first = c.step-in-Ready-Ok.ensures.later (search rules) in
     let second = c.step-in-Ready-Ok-2.ensures.later (search rules) in
-    subst (λ s. Leads 2 s c.step-in-Ready-Ok-2.new.self.state) c.take_required.ensures.state (Leads-then 1 1 _ _ _ first second)
+    subst (λ s. Leads 2 s c.step-in-Ready-Ok-2.new.self.state) c.take_required.ensures.state
+    (Leads-then 1 1 _ _ _ first second)
 
 pub returns-clause-leads : goal.returns-clause-leads
 returns-clause-leads g c =
     let first = c.step-in-Ready-Err.ensures.later (search rules) in
     let second = c.step-in-Ready-Err-2.ensures.later (search rules) in
-    subst (λ s. Leads 2 s c.step-in-Ready-Err-2.new.self.state) c.take_required.ensures.state (Leads-then 1 1 _ _ _ first second)
+    subst (λ s. Leads 2 s c.step-in-Ready-Err-2.new.self.state) c.take_required.ensures.state
+    (Leads-then 1 1 _ _ _ first second)

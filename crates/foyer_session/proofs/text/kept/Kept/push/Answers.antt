@@ -8,7 +8,8 @@ use Rattle.foyer_session.proofs.text.kept.Kept.push.Goals.{else-byte-eq32-via-th
 pub returns-then-self-eq32 : goal.returns-then-self-eq32
 returns-then-self-eq32 c =
     let kept = c.args.self.now in
-    let last : last_after 32 kept ≡ 32 = ap (last_after 32) (sym c.self.view_is) ∙ sym c.self.invariant.1 ∙ c.if-self-eq32.true in
+    let last : last_after 32 kept ≡ 32 = ap (last_after 32) (sym c.self.view_is) ∙ sym c.self.invariant.1
+    ∙ c.if-self-eq32.true in
     subst (λ b. StandsFor kept (kept ++ b ∷ [])) (sym c.if-byte-eq32.true) (StandsFor-space kept last)
 
 pub invariant_of-self : goal.invariant_of-self
@@ -16,7 +17,8 @@ invariant_of-self c =
     let old = take c.self.inside.len c.self.inside.bytes in
     let more = take_more_set c.self.inside.bytes c.self.inside.len c.args.byte (omega (arith, c.self.told)) in
     let apart : not (eqb (last_after 32 old) 32 && eqb c.args.byte 32) ≡ true = elim c.else-byte-eq32.branch [
-      | else-byte-eq32-via-then-byte-eq32+else-self-eq32 w ↦ apart_by_last (last_after 32 old) c.args.byte (λ e. w.if-self-eq32.false (c.self.invariant.1 ∙ e))
+      | else-byte-eq32-via-then-byte-eq32+else-self-eq32 w ↦ apart_by_last (last_after 32 old) c.args.byte
+          (λ e. w.if-self-eq32.false (c.self.invariant.1 ∙ e))
       | else-byte-eq32-via-else-byte-eq32 w ↦ apart_by_byte (last_after 32 old) c.args.byte w.if-byte-eq32.false
     ] in (
       omega (arith, c.if-self-lt-MOST.true),
