@@ -7,7 +7,7 @@ import traceback
 from concurrent.futures import FIRST_COMPLETED, ThreadPoolExecutor, wait
 
 from machine import free_memory, processors, rt
-from minutes import longest_chain
+from minutes import lanes, longest_chain
 from proving import Proof
 from repository import PARTS, Crates, files_below
 
@@ -69,22 +69,23 @@ class Gate:
                 self.tell_failure(f"{name}'s layout", "run rt fmt in its folder", log)
 
     def prove_and_test(self):
-        """Proves every crate, lowest first, and runs all tests beside that. Two crates are proved side by side: of
-        those whose turn has come the one with the longest chain of work above it gets all jobs but one, and the others
-        one after another get that one. Where only one is ready it gets all."""
+        """Proves every crate, lowest first, and runs all tests beside that. Of the crates whose turn has come, the one
+        with the longest chain of work above it is proved by as many processes as there are processors. Others are proved
+        beside it, by one process each, which yields to those: they fill the time in which it waits for its last
+        functions."""
         lowest, tests = self.crates.lowest_first(), self.tested()
         left = sorted(lowest, key=lambda it: (-longest_chain(self.crates, it), not self.is_program(it)))
         running, proved = {}, set()
+        jobs, fillers = lanes(processors(), free_memory())
         with ThreadPoolExecutor() as pool:
             while left or tests or running:
                 ready = [it for it in left if {*self.crates.uses[it]} <= proved]
-                lanes = {lane for lane, _ in running.values()}
-                for lane in [it for it in ("first", "second") if it not in lanes][: len(ready)]:
+                taken = {lane for lane, _ in running.values()}
+                for lane in [it for it in range(1 + fillers) if it not in taken][: len(ready)]:
                     name = ready.pop(0)
                     left.remove(name)
-                    jobs = 1 if lane == "second" else max(1, self.jobs() - bool(ready or "second" in lanes))
-                    running[pool.submit(self.prove, name, jobs)] = lane, name
-                if tests and "tests" not in lanes:
+                    running[pool.submit(self.prove, name, 1 if lane else jobs, bool(lane))] = lane, name
+                if tests and "tests" not in taken:
                     name = tests.pop(0)
                     running[pool.submit(self.test, name)] = "tests", name
                 if not running:
@@ -97,10 +98,6 @@ class Gate:
             self.progress.say(f"FAILED {name}: not tried, since a crate below it is not proved")
             self.count("crates", 0, 1)
 
-    def jobs(self):
-        """The jobs of a proof: as many as processors, where each has two gigabytes and four are left."""
-        return max(1, min(processors(), 4, int((free_memory() - 4) / 2)))
-
     def is_program(self, name):
         return os.path.isfile(f"{self.crates.folder(name)}/src/main.rt")
 
@@ -112,9 +109,9 @@ class Gate:
                 found.append(name)
         return found
 
-    def prove(self, name, jobs):
+    def prove(self, name, jobs, yields):
         began = self.progress.minutes()
-        proof = Proof(self.crates, name, jobs, self.log(f"{name}-proof"), self.over_kept_work)
+        proof = Proof(self.crates, name, jobs, self.log(f"{name}-proof"), self.over_kept_work, yields)
         self.progress.at(name, "begun")
         is_well = proof.run(lambda where: self.progress.at(name, where))
         self.progress.at(name, "")

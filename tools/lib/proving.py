@@ -54,11 +54,13 @@ def handles_of(root):
 
 
 class Proof:
-    """The proof of one crate, from nothing or over the work that its out/ keeps."""
+    """The proof of one crate, from nothing or over the work that its out/ keeps. One that yields takes the processors
+    that others leave free."""
 
-    def __init__(self, crates, name, jobs, log, over_kept_work=False):
+    def __init__(self, crates, name, jobs, log, over_kept_work=False, yields=False):
         self.crates, self.name, self.jobs, self.log = crates, name, jobs, log
         self.over_kept_work = over_kept_work
+        self.before = ["nice", "-n", "10"] if yields else []
         self.functions, self.why = 0, None
 
     def run(self, at):
@@ -85,7 +87,7 @@ class Proof:
         """Calls rt, and follows how many functions it has checked."""
         how = {"cwd": folder, "stdin": subprocess.DEVNULL, "stdout": subprocess.PIPE, "stderr": subprocess.STDOUT}
         said = []
-        with subprocess.Popen([rt(), *words], **how, text=True, errors="replace") as ran:
+        with subprocess.Popen([*self.before, rt(), *words], **how, text=True, errors="replace") as ran:
             for line in ran.stdout:
                 said.append(line)
                 log.write(line)
@@ -100,7 +102,7 @@ class Proof:
         arguments = read(f"{given}/args", "").splitlines()
         try:
             ran = subprocess.run(
-                [rt(), "run", "--jobs", str(self.jobs), "--", *arguments],
+                [*self.before, rt(), "run", "--jobs", str(self.jobs), "--", *arguments],
                 cwd=folder,
                 input=read(f"{given}/stdin", ""),
                 capture_output=True,
