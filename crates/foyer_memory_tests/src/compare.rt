@@ -1,6 +1,6 @@
 //! A cache beside a core of one thread: random calls, which both answer alike.
 
-use crate::testing::{Ear, Note, Notes};
+use crate::testing::{Ear, Note, Notes, Once};
 use foyer_core::{
     AdmitAll, CacheCore, CoreEntry, Ended, FetchTarget, Inserted, Leave, Limits, Lookup,
     RawCacheConfig, UnitWeighter,
@@ -10,10 +10,8 @@ use foyer_memory::{
 };
 use foyer_policy::{Event, Fault, Fifo, Lfu, Lru, ModHasher, S3Fifo, Sieve, Source};
 use foyer_raw::{Direct, ListSpawner, NoopPipe};
-use futures::Future;
 use futures::executor::block_on;
 use futures::future::{Ready, ready};
-use futures::task::{Context, Poll};
 use log::Log;
 use std::alloc::Global;
 use std::random::RandomSource;
@@ -92,20 +90,6 @@ struct Both<H: Wait + Drop, E: Eviction> {
     heard: Notes,
     left: Vec<Note>,
     held: Vec<(TwoEntry<H>, Kept)>,
-}
-
-/// Polls the tasks once, and answers how many remain.
-#[derive(Drop)]
-struct Once<H: Wait + Drop> {
-    tasks: Tasks<H>,
-}
-
-impl<H: Wait + Drop> Future for Once<H> {
-    type Output = usize;
-
-    fn poll(&mut self, cx: &mut Context<'_>) -> Poll<usize> {
-        Poll::Ready(self.tasks.poll_all(cx))
-    }
 }
 
 fn target(value: u64) -> Target {
@@ -204,10 +188,14 @@ impl<H: Wait + RandomSource + Alloc<A = Global> + Copy + Drop, E: Eviction> Both
 
     // Two look-ups that fetch, and the fetch.
     fn fetch(&mut self, rt: H, alloc: Global, key: u64, value: u64) -> Result<bool, Fail> {
-        let mut tasks: Tasks<H> = ListSpawner::new(alloc);
-        let first = self.cache.get_or_fetch(&key, || given(value), &mut tasks)?;
-        let second = self.cache.get_or_fetch(&key, || given(value), &mut tasks)?;
-        if block_on(&rt, Once { tasks })? != 0 {
+        let mut spawner: Tasks<H> = ListSpawner::new(alloc);
+        let first = self
+            .cache
+            .get_or_fetch(&key, || given(value), &mut spawner)?;
+        let second = self
+            .cache
+            .get_or_fetch(&key, || given(value), &mut spawner)?;
+        if block_on(&rt, Once { spawner })? != 0 {
             return Ok(false);
         }
         let first = block_on(&rt, first)??;

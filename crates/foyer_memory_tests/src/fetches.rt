@@ -2,6 +2,7 @@
 
 ghost use Rattle.std.specs.Prelude.{◌≡◌, IsSome};
 
+use crate::testing::Once;
 use foyer_core::{AdmitAll, UnitWeighter};
 use foyer_memory::{
     Cache, CacheBuilder, CacheProperties, EvictionConfig, FetchTarget, FetchTask, FifoConfig,
@@ -87,20 +88,6 @@ impl FetchTypes<u64, u64, CacheProperties> for Trial {
     type Optional = May;
 
     type Required = Given<Ready<Surely>>;
-}
-
-/// Polls the tasks once, and answers how many remain.
-#[derive(Drop)]
-struct Once<X: Future<Output = ()>> {
-    spawner: ListSpawner<X>,
-}
-
-impl<X: Future<Output = ()>> Future for Once<X> {
-    type Output = usize;
-
-    fn poll(&mut self, cx: &mut Context<'_>) -> Poll<usize> {
-        Poll::Ready(self.spawner.poll_all(cx))
-    }
 }
 
 /// Polls a look-up twice: the value of the first answer, and the number of the second one's refusal.

@@ -1,13 +1,16 @@
 //! What the tests have in common.
 
-ghost use Rattle.std.specs.Prelude.{◌≡◌};
+ghost use Rattle.std.specs.Prelude.{◌≡◌, IsSome};
 
 use foyer_core::{AdmitAll, UnitWeighter};
 use foyer_memory::{
     Cache, CacheBuilder, CacheProperties, EvictionConfig, LruConfig, Piece, Pipe, Weighter,
 };
 use foyer_policy::{Event, EventListener, ModHasher, Ratio};
+use foyer_raw::ListSpawner;
+use futures::Future;
 use futures::future::{Ready, ready};
+use futures::task::{Context, Poll};
 use log::Log;
 use std::alloc::{AllocError, Global};
 use std::cell::RefCell;
@@ -118,12 +121,28 @@ impl Pipe for Tube {
         self.0.write(Note::Piece(*piece.key(), *piece.value()));
     }
 
-    fn flush(&self, pieces: Vec<Piece<u64, u64, CacheProperties>>) -> Ready<()> {
+    fn flush(&self, pieces: Vec<Piece<u64, u64, CacheProperties>>) -> Ready<()>
+        ensures { IsSome result.0 }
+    {
         for piece in pieces.as_slice() {
             self.0.write(Note::Piece(*piece.key(), *piece.value()));
         }
         self.0.write(Note::Flush(pieces.len()));
         ready(())
+    }
+}
+
+/// Polls the tasks once, and answers how many remain.
+#[derive(Drop)]
+pub(crate) struct Once<X: Future<Output = ()>> {
+    pub(crate) spawner: ListSpawner<X>,
+}
+
+impl<X: Future<Output = ()>> Future for Once<X> {
+    type Output = usize;
+
+    fn poll(&mut self, cx: &mut Context<'_>) -> Poll<usize> {
+        Poll::Ready(self.spawner.poll_all(cx))
     }
 }
 

@@ -1,6 +1,6 @@
 //! What the tests have in common.
 
-ghost use Rattle.std.specs.Prelude.{◌≡◌};
+ghost use Rattle.std.specs.Prelude.{◌≡◌, IsSome};
 
 use foyer_core::{AdmitAll, CacheProperties, Limits, Piece, RawCacheConfig, UnitWeighter};
 use foyer_policy::{Event, EventListener, FifoConfig, ModHasher};
@@ -106,7 +106,9 @@ impl Pipe for Tube {
         self.0.write(Note::Piece(*piece.key(), *piece.value()));
     }
 
-    fn flush(&self, pieces: Vec<Piece<u64, u64, CacheProperties>>) -> Ready<()> {
+    fn flush(&self, pieces: Vec<Piece<u64, u64, CacheProperties>>) -> Ready<()>
+        ensures { IsSome result.0 }
+    {
         for piece in pieces.as_slice() {
             self.0.write(Note::Piece(*piece.key(), *piece.value()));
         }
