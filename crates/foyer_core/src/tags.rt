@@ -30,6 +30,8 @@ pub struct Tags {
     // behind all homes and all tags
     end: usize,
     len: usize,
+    // for so many slots these homes are enough
+    limit: usize,
     alloc: Global,
     ghost few: { bits ≤ 32 },
     ghost homes: { 2 ^ bits ≤ end },
@@ -72,6 +74,7 @@ impl Tags {
             bits,
             end: homes_of(bits),
             len: 0,
+            limit: limit_of(bits),
             alloc,
         }
     }
@@ -87,6 +90,32 @@ impl Tags {
     /// Makes room for so many more slots. Where that is refused, for want of memory, nothing changes.
     #[inline(always)]
     pub fn reserve(&mut self, more: usize) -> Result<(), AllocError>
+        ensures room { OnOk result (HasRoomForTags self.new more) }
+        ensures slots { (s : ℕ) → slots_of self.new s ≡ slots_of self.old s }
+        ensures len { len_of self.new ≡ len_of self.old }
+        ensures err { OnErr result ((n : ℕ) → HasRoomForTags self.old n → HasRoomForTags self.new n) }
+    {
+        if self.has_room(more) {
+            return Ok(());
+        }
+        self.make_room(more)
+    }
+
+    // Whether so many more slots have room in these buckets, and these homes are enough for them.
+    #[inline(always)]
+    fn has_room(&self, more: usize) -> bool
+        ensures { OnTrue result (HasRoomForTags self.now more) }
+    {
+        let Some(wanted) = self.end.checked_add(more) else {
+            return false;
+        };
+        wanted <= self.buckets.len() && more <= self.limit.saturating_sub(self.len)
+    }
+
+    // The same where there are more buckets, or more homes.
+    #[cold]
+    #[inline(never)]
+    fn make_room(&mut self, more: usize) -> Result<(), AllocError>
         ensures room { OnOk result (HasRoomForTags self.new more) }
         ensures slots { (s : ℕ) → slots_of self.new s ≡ slots_of self.old s }
         ensures len { len_of self.new ≡ len_of self.old }
@@ -250,14 +279,23 @@ fn homes_of(bits: u32) -> usize
     1 << bits
 }
 
-// How many bits so many slots want, at least as many as there are: of the homes a quarter is left over.
+// For how many slots the homes of so many bits are enough: a quarter of them is left over.
+#[inline(always)]
+fn limit_of(bits: u32) -> usize
+    requires { bits ≤ 32 }
+    ensures { result ≤ 2 ^ bits }
+{
+    homes_of(bits) / 4 * 3
+}
+
+// How many bits so many slots want, at least as many as there are.
 #[inline(always)]
 fn bits_for(bits: u32, slots: usize) -> u32
     requires { bits ≤ 32 }
     ensures { result ≤ 32 }
 {
     let mut wanted = bits;
-    while wanted < 32 && homes_of(wanted) / 4 * 3 < slots {
+    while wanted < 32 && limit_of(wanted) < slots {
         wanted += 1;
     }
     wanted

@@ -41,11 +41,12 @@ impl<K: Key, I: Indexer<K>> TagFinder<K, I> {
         ensures err { OnErr result ((q : ℕ × K) → either (led K.eq self.new.near.trail) (I.view self.new.far) q
             ≡ either (led K.eq self.old.near.trail) (I.view self.old.far) q) }
     {
-        if let Some(was) = was {
-            if was < FAR {
-                self.near.replace(hash, Snapshot::of(key), was, slot);
-                return Ok(());
-            }
+        let Some(was) = was else {
+            return self.near.insert(hash, Snapshot::of(key), slot);
+        };
+        if was < FAR {
+            self.near.replace(hash, Snapshot::of(key), was, slot);
+            return Ok(());
         }
         self.near.insert(hash, Snapshot::of(key), slot)?;
         let _ = self.far.remove(hash, key);

@@ -101,6 +101,10 @@ impl<K: Key> Indexer<K> for HashTableIndexer<K> {
 
     #[inline(always)]
     fn get(&self, hash: u64, key: &K) -> Option<u64> {
+        // An index beside another one is mostly empty.
+        if self.is_empty() {
+            return None;
+        }
         let place = find(&self.heads, self.shift, &self.pairs, hash, key)?;
         Some(self.pairs[place].number)
     }
