@@ -26,6 +26,7 @@ pub mod Stored
 pub mod Shards
 pub mod Stores
 pub mod Steps
+pub mod Settled
 pub mod Laws
 pub mod Observed
 pub mod Onto

@@ -68,7 +68,9 @@ impl Ids {
         ensures room { OnOk result (HasRoomForId self.new) }
         ensures ids { (id : ℕ) → slot_of self.new id ≡ slot_of self.old id }
     {
-        self.far.reserve(1)?;
+        if self.far.capacity() == self.far.len() {
+            self.far.reserve(1)?;
+        }
         if self.near.len() <= records && self.bits < 63 {
             return self.widen();
         }

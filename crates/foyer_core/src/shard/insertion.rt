@@ -102,6 +102,7 @@ impl<E: Eviction, K: Key, V: Value, P: Properties, N: Drop, R: Drop, I: Finder<K
 
     // The same where some may wait.
     #[cold]
+    #[inline(never)]
     fn emplace_answering(
         &mut self,
         alloc: Global,

@@ -2,6 +2,7 @@
 
 ghost use Rattle.std.specs.Prelude.{◌≡◌, ◌+◌, ◌<◌, ◌≤◌, ◌^◌, Some, None, OnOk, IfOk, MatchResult, replicate, true, false, vec_len, vec_capacity};
 ghost use Rattle.foyer_policy.specs.Properties.{is_phantom};
+ghost use Rattle.foyer_policy.specs.declared.types.Source.{Source};
 ghost use Rattle.foyer_core.specs.Values.{Rec, incoming_of};
 ghost use Rattle.foyer_core.specs.Records.{HasRoom};
 
@@ -19,7 +20,8 @@ impl<E: Eviction, K: Key, V: Value, P: Properties, I: Finder<K>> Store<E, K, V, 
     ghost use Rattle.foyer_core.specs.Stores.{state_of, meaning_of};
     ghost use Rattle.foyer_core.specs.State.{is_phantom_record};
     ghost use Rattle.foyer_core.specs.Bulk.{GoesOn};
-    ghost use Rattle.foyer_core.specs.Steps.{Inserts, RefusesInsert, InsertsPlain, RefusesPlain, MayBy, MayInsert, entry_of, newcomer};
+    ghost use Rattle.foyer_core.specs.Steps.{Inserts, RefusesInsert, RefusesPlain, MayBy, MayInsert, newcomer};
+    ghost use Rattle.foyer_core.specs.Settled.{Settles, SettlesPlain};
 
     /// Takes a record in, and answers an entry of it, with this source, as many further ones as are said, and what
     /// left. A clone of the key must equal it.
@@ -181,7 +183,7 @@ impl<E: Eviction, K: Key, V: Value, P: Properties, I: Finder<K>> Store<E, K, V, 
         }
     }
 
-    // A record comes in that is not refused but for want of memory.
+    // A record comes in that is not refused but for want of memory, and an entry of it is made.
     #[inline(always)]
     fn arrive(
         &mut self,
@@ -199,10 +201,38 @@ impl<E: Eviction, K: Key, V: Value, P: Properties, I: Finder<K>> Store<E, K, V, 
             (λ entry. Inserts (meaning_of self.old) source (state_of self.old) (incoming_of slot) ls entry (state_of self.new))
             (λ error. RefusesInsert (meaning_of self.old) (state_of self.old) (incoming_of slot) error ls (state_of self.new))) }
     {
-        if slot.properties().phantom().unwrap_or(false) {
-            return self.hold_in(slot, source, leaves);
+        let Ok(mut entry) = slot.entry(self.number, 0, source) else {
+            return Err(Error::new(Reason::NoMemory));
+        };
+        match self.settle(slot, leaves) {
+            Ok(place) => {
+                entry.set_slot(place);
+                Ok(entry)
+            }
+            Err(error) => {
+                entry.discard();
+                Err(error)
+            }
         }
-        self.bring_in(slot, source, leaves)
+    }
+
+    // The same with no entry: it answers the slot where the record is. An entry with any source would be of it.
+    #[inline(always)]
+    fn settle(&mut self, slot: Slot<K, V, P>, leaves: &mut Vec<Leave<K, V, P>>) -> Result<usize>
+        requires clones { (k c : K) → K.is_clone k c → K.eq c k ≡ true }
+        requires apart { slot ≡ record slot { resident = false; place = None } }
+        requires out { (r : Rec K V P) → (state_of self.old).records slot.id ≡ Some r → r.resident ≡ false }
+        requires number { slot.id + 1 < 2 ^ 64 }
+        requires held { 0 < slot.handles }
+        requires may { MayBy (meaning_of self.old) (is_phantom_record (meaning_of self.old) slot.kept) (state_of self.old) (incoming_of slot) }
+        ensures inserted { (source : Source) → GoesOn leaves.old.items leaves.new.items (λ ls. MatchResult result
+            (λ _. Settles (meaning_of self.old) source (state_of self.old) (incoming_of slot) ls (state_of self.new))
+            (λ error. RefusesInsert (meaning_of self.old) (state_of self.old) (incoming_of slot) error ls (state_of self.new))) }
+    {
+        if slot.properties().phantom().unwrap_or(false) {
+            return self.hold_in(slot, leaves);
+        }
+        self.bring_in(slot, leaves)
     }
 
     // Brings a plain record in, which is not refused but for want of memory: one with a new id, or one that
@@ -211,55 +241,42 @@ impl<E: Eviction, K: Key, V: Value, P: Properties, I: Finder<K>> Store<E, K, V, 
     fn bring_in(
         &mut self,
         mut slot: Slot<K, V, P>,
-        source: Source,
         leaves: &mut Vec<Leave<K, V, P>>,
-    ) -> Result<CoreEntry<K, V, P>>
+    ) -> Result<usize>
         requires clones { (k c : K) → K.is_clone k c → K.eq c k ≡ true }
         requires plain { is_phantom (P.phantom_of slot.kept.properties) ≡ false }
         requires apart { slot ≡ record slot { resident = false; place = None } }
         requires out { (r : Rec K V P) → (state_of self.old).records slot.id ≡ Some r → r.resident ≡ false }
         requires held { 0 < slot.handles }
         requires may { MayInsert (meaning_of self.old) (state_of self.old) (incoming_of slot) }
-        ensures inserted { GoesOn leaves.old.items leaves.new.items (λ ls. MatchResult result
-            (λ entry. InsertsPlain (meaning_of self.old) source (state_of self.old) (incoming_of slot) ls entry (state_of self.new))
+        ensures inserted { (source : Source) → GoesOn leaves.old.items leaves.new.items (λ ls. MatchResult result
+            (λ _. SettlesPlain (meaning_of self.old) source (state_of self.old) (incoming_of slot) ls (state_of self.new))
             (λ error. RefusesPlain (meaning_of self.old) (state_of self.old) (incoming_of slot) error ls (state_of self.new))) }
     {
         let target = self.capacity.saturating_sub(slot.weight());
-        let Ok((key, mut entry)) = self.prepare(&mut slot, source, leaves) else {
+        let Ok(key) = self.prepare(&mut slot, leaves) else {
             return Err(Error::new(Reason::NoMemory));
         };
         let Ok(()) = self.evict_onto(leaves, target) else {
-            entry.discard();
             return Err(Error::new(Reason::NoMemory));
         };
         match self.admit(key, slot) {
             Ok((place, replaced)) => {
-                entry.set_slot(place);
                 if let Some(left) = replaced {
                     leaves.push_reserved((Event::Replace, left));
                 }
-                Ok(entry)
+                Ok(place)
             }
-            Err(_) => {
-                entry.discard();
-                Err(Error::new(Reason::NoMemory))
-            }
+            Err(_) => Err(Error::new(Reason::NoMemory)),
         }
     }
 
-    // Makes room for one record and for what leaves, and makes a clone of the record's key and an entry of it. The
-    // slot is to come in.
+    // Makes room for one record and for what leaves, and makes a clone of the record's key. The slot is to come in.
     #[inline(always)]
-    fn prepare(
-        &mut self,
-        slot: &mut Slot<K, V, P>,
-        source: Source,
-        leaves: &mut Vec<Leave<K, V, P>>,
-    ) -> Result<(K, CoreEntry<K, V, P>)>
+    fn prepare(&mut self, slot: &mut Slot<K, V, P>, leaves: &mut Vec<Leave<K, V, P>>) -> Result<K>
         ensures same { state_of self.new ≡ state_of self.old }
-        ensures key { IfOk result (λ made. K.is_clone slot.old.kept.key made.0) }
+        ensures key { IfOk result (λ key. K.is_clone slot.old.kept.key key) }
         ensures slot { OnOk result (slot.new ≡ record slot.old { resident = true }) }
-        ensures entry { IfOk result (λ made. made.1 ≡ entry_of (state_of self.old) slot.old.id slot.old.kept source) }
         ensures leaves { leaves.new.items ≡ leaves.old.items }
         ensures leaves_room { OnOk result (vec_len leaves.new < vec_capacity leaves.new) }
         ensures room { OnOk result (HasRoom self.new.records) }
@@ -271,7 +288,6 @@ impl<E: Eviction, K: Key, V: Value, P: Properties, I: Finder<K>> Store<E, K, V, 
         // Mostly one leaves, and one more may be replaced.
         leaves.reserve(2)?;
         slot.come_in()?;
-        let entry = slot.entry(self.number, 0, source)?;
-        Ok((key, entry))
+        Ok(key)
     }
 }

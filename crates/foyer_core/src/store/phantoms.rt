@@ -1,68 +1,66 @@
 //! Phantom records, which are held and never in the index.
 
 ghost use Rattle.std.specs.Prelude.{◌≡◌, ◌+◌, ◌<◌, ◌≤◌, ◌^◌, Some, None, OnOk, IfOk, MatchResult, false, vec_len, vec_capacity};
+ghost use Rattle.foyer_policy.specs.declared.types.Source.{Source};
 ghost use Rattle.foyer_core.specs.Records.{HasRoom};
 ghost use Rattle.foyer_core.specs.Values.{Rec, incoming_of};
 
 use super::Store;
 use super::admission::above;
-use crate::entry::{CoreEntry, Leave, Left};
+use crate::entry::{Leave, Left};
 use crate::finder::Finder;
 use crate::slot::Slot;
-use foyer_policy::{Error, Event, Eviction, Key, Properties, Reason, Result, Source, Value};
+use foyer_policy::{Error, Event, Eviction, Key, Properties, Reason, Result, Value};
 
 impl<E: Eviction, K: Key, V: Value, P: Properties, I: Finder<K>> Store<E, K, V, P, I> {
     ghost use Rattle.foyer_core.specs.Stores.{state_of, meaning_of};
     ghost use Rattle.foyer_core.specs.Bulk.{GoesOn};
-    ghost use Rattle.foyer_core.specs.Steps.{InsertsPhantom, RefusesPhantom, GivesWay, MayHold, after_hold, entry_of, replaced_leaves};
+    ghost use Rattle.foyer_core.specs.Steps.{RefusesPhantom, GivesWay, MayHold, after_hold, replaced_leaves};
+    ghost use Rattle.foyer_core.specs.Settled.{SettlesPhantom};
 
     // Holds a phantom record, which is not refused but for want of memory: its key's record gives way, and it is
     // held by its entries alone. It has a new id, or comes back under its own.
+    #[cold]
+    #[inline(never)]
     pub(super) fn hold_in(
         &mut self,
         slot: Slot<K, V, P>,
-        source: Source,
         leaves: &mut Vec<Leave<K, V, P>>,
-    ) -> Result<CoreEntry<K, V, P>>
+    ) -> Result<usize>
         requires apart { slot ≡ record slot { resident = false; place = None } }
         requires out { (r : Rec K V P) → (state_of self.old).records slot.id ≡ Some r → r.resident ≡ false }
         requires number { slot.id + 1 < 2 ^ 64 }
         requires held { 0 < slot.handles }
         requires may { MayHold (meaning_of self.old) (state_of self.old) (incoming_of slot) }
-        ensures inserted { GoesOn leaves.old.items leaves.new.items (λ ls. MatchResult result
-            (λ entry. InsertsPhantom (meaning_of self.old) source (state_of self.old) (incoming_of slot) ls entry (state_of self.new))
+        ensures inserted { (source : Source) → GoesOn leaves.old.items leaves.new.items (λ ls. MatchResult result
+            (λ _. SettlesPhantom (meaning_of self.old) source (state_of self.old) (incoming_of slot) ls (state_of self.new))
             (λ error. RefusesPhantom (meaning_of self.old) (state_of self.old) (incoming_of slot) error ls (state_of self.new))) }
     {
-        let Ok((mut entry, gone)) = self.prepare_phantom(&slot, source, leaves) else {
+        let Ok(gone) = self.prepare_phantom(&slot, leaves) else {
             return Err(Error::new(Reason::NoMemory));
         };
         if let Some(left) = self.make_way(slot.hash(), slot.key()) {
             leaves.push_reserved((Event::Replace, left));
         }
         leaves.push_reserved((Event::Remove, gone));
-        entry.set_slot(self.hold(slot));
-        Ok(entry)
+        Ok(self.hold(slot))
     }
 
-    // Makes room for one record that is not indexed and for two leaves, and makes an entry of it and what is told of it.
+    // Makes room for one record that is not indexed and for two leaves, and makes what is told of it.
     fn prepare_phantom(
         &mut self,
         slot: &Slot<K, V, P>,
-        source: Source,
         leaves: &mut Vec<Leave<K, V, P>>,
-    ) -> Result<(CoreEntry<K, V, P>, Left<K, V, P>)>
+    ) -> Result<Left<K, V, P>>
         ensures same { state_of self.new ≡ state_of self.old }
-        ensures entry { IfOk result (λ made. made.0 ≡ entry_of (state_of self.old) slot.now.id slot.now.kept source) }
-        ensures gone { IfOk result (λ made. made.1 ≡ record { number = self.old.number; id = slot.now.id; kept = slot.now.kept }) }
+        ensures gone { IfOk result (λ gone. gone ≡ record { number = self.old.number; id = slot.now.id; kept = slot.now.kept }) }
         ensures leaves { leaves.new.items ≡ leaves.old.items }
         ensures leaves_room { OnOk result (vec_len leaves.new + 2 ≤ vec_capacity leaves.new) }
         ensures room { OnOk result (HasRoom self.new.records) }
     {
         leaves.reserve(2)?;
         self.records.reserve()?;
-        let gone = slot.left(self.number)?;
-        let entry = slot.entry(self.number, 0, source)?;
-        Ok((entry, gone))
+        slot.left(self.number)
     }
 
     // The key's record, where it has one, gives way.

@@ -1,41 +1,26 @@
-use Rattle.std.proofs.Common.{◌≡◌, Bool, true, false, sym, ◌∙◌, ap, subst}
-use Rattle.std.specs.Prelude.{MatchResult}
-use Rattle.foyer_policy.specs.Properties.{is_phantom}
-use Rattle.foyer_core.specs.Bulk.{GoesOn}
+use Rattle.foyer_policy.specs.declared.error.Reason.TheVariants.{NoMemory}
 use Rattle.foyer_core.specs.Values.{Incoming, incoming_of}
-use Rattle.foyer_core.specs.State.{is_phantom_record}
-use Rattle.foyer_core.specs.Steps.{InsertsBy, RefusesBy}
+use Rattle.foyer_core.specs.Steps.{RefusesInsert}
 use Rattle.foyer_core.specs.Stores.{meaning_of, state_of}
+use Rattle.foyer_core.proofs.Returning.{memory_refuses}
+use Rattle.foyer_core.proofs.Told.{goes_start}
 use Rattle.foyer_core.proofs.store.Store.arrive.Goals as goal
 
-pub returns-then-unwrap_or : goal.returns-then-unwrap_or
-returns-then-unwrap_or g c =
+pub returns-in_default : goal.returns-in_default
+returns-in_default g c =
     let s = c.args.self.now in
     let m = meaning_of s in
     let inc : Incoming g.row.K.Denot g.row.V.Denot g.row.P.Denot = incoming_of c.args.slot in
-    let phantom : is_phantom_record m inc.kept ≡ true =
-    sym (c.unwrap_or.ensures ∙ ap is_phantom (c.phantom.ensures ∙ ap m.phantom c.properties.ensures))
-    ∙ c.if-unwrap_or.true in
     record {
-      inserted = subst
-          (λ (b : Bool). GoesOn c.args.leaves.now.items c.hold_in.new.leaves.items (λ ls. MatchResult c.hold_in.result
-          (λ entry. InsertsBy m b c.args.source (state_of s) inc ls entry (state_of c.hold_in.new.self))
-          (λ error. RefusesBy m b (state_of s) inc error ls (state_of c.hold_in.new.self)))) (sym phantom)
-          c.hold_in.ensures.inserted;
+      inserted = rw c.new.ensures
+          (goes_start c.args.leaves.now.items (λ ls. RefusesInsert m (state_of s) inc NoMemory ls (state_of s))
+          (memory_refuses m (state_of s) inc c.requires.may));
     }
 
-pub returns : goal.returns
-returns g c =
-    let s = c.args.self.now in
-    let m = meaning_of s in
-    let inc : Incoming g.row.K.Denot g.row.V.Denot g.row.P.Denot = incoming_of c.args.slot in
-    let plain : is_phantom_record m inc.kept ≡ false =
-    sym (c.unwrap_or.ensures ∙ ap is_phantom (c.phantom.ensures ∙ ap m.phantom c.properties.ensures))
-    ∙ c.if-unwrap_or.false in
-    record {
-      inserted = subst
-          (λ (b : Bool). GoesOn c.args.leaves.now.items c.bring_in.new.leaves.items (λ ls. MatchResult c.bring_in.result
-          (λ entry. InsertsBy m b c.args.source (state_of s) inc ls entry (state_of c.bring_in.new.self))
-          (λ error. RefusesBy m b (state_of s) inc error ls (state_of c.bring_in.new.self)))) (sym plain)
-          c.bring_in.ensures.inserted;
-    }
+pub returns-in-Ok-settle : goal.returns-in-Ok-settle
+returns-in-Ok-settle g c = record {
+  inserted = rw (c.set_slot.ensures, c.in-Ok.ensures.entry) (c.in-Ok-settle.ensures.inserted c.args.source);
+}
+
+pub returns-in-Err : goal.returns-in-Err
+returns-in-Err g c = record { inserted = c.in-Err.ensures.inserted c.args.source }

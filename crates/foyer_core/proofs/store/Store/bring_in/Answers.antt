@@ -2,6 +2,7 @@ use Rattle.std.proofs.Common.{◌≡◌, ◌-◌, ℕ, ◌++◌, Some, None, tru
 use Rattle.std.proofs.Math.Logic.{∥∥₁_elim}
 use Rattle.std.proofs.Props.{props}
 use Rattle.foyer_policy.specs.declared.error.Reason.TheVariants.{NoMemory}
+use Rattle.foyer_policy.specs.declared.types.Source.{Source}
 use Rattle.foyer_core.specs.declared.record.Data.{Data}
 use Rattle.foyer_core.specs.Values.{Kept, Incoming, incoming_of}
 use Rattle.foyer_core.specs.State.{key_of}
@@ -20,7 +21,7 @@ returns-in_default g c =
     let m = meaning_of s in
     let inc : Incoming g.row.K.Denot g.row.V.Denot g.row.P.Denot = incoming_of c.args.slot in
     record {
-      inserted = rw (c.new.ensures, c.in_default.ensures.leaves, c.in_default.ensures.same)
+      inserted = λ _. rw (c.new.ensures, c.in_default.ensures.leaves, c.in_default.ensures.same)
           (goes_start c.args.leaves.now.items (λ ls. RefusesPlain m (state_of s) inc NoMemory ls (state_of s))
           (wants_memory_first m (state_of s) inc c.requires.may));
     }
@@ -39,7 +40,7 @@ returns-in_default-evict_onto g c =
     (λ ls. Evicting m c.saturating_sub-target.result st ls (state_of c.evict_onto.new.self))) c.in-Ok.ensures.same
     c.in_default-evict_onto.ensures.refused) in
     record {
-      inserted = rw (c.new-in_default-evict_onto.ensures, sym c.in-Ok.ensures.leaves)
+      inserted = λ _. rw (c.new-in_default-evict_onto.ensures, sym c.in-Ok.ensures.leaves)
           (goes_so c.prepare.new.leaves.items c.evict_onto.new.leaves.items
           (λ ls. Evicting m (s.capacity - inc.kept.weight) (state_of s) ls (state_of c.evict_onto.new.self))
           (λ ls. RefusesPlain m (state_of s) inc NoMemory ls (state_of c.evict_onto.new.self))
@@ -162,16 +163,16 @@ returns-in-Ok-admit g c =
       | in-Some w ↦ rw (w.leaves-is, w.push_reserved.ensures.items, w.in-Some.is) refl
       | in_default-replaced w ↦ rw (w.leaves-is, w.in_default-replaced.is) (sym (append-nil mid))
     ] in
-    let done = goes_on c.prepare.new.leaves.items mid c.match-replaced.leaves.items
+    let done = λ (source : Source). goes_on c.prepare.new.leaves.items mid c.match-replaced.leaves.items
     (λ ls. Evicts m (s.capacity - inc.kept.weight) (state_of s) ls (state_of c.evict_onto.new.self))
     (λ more. more ≡ gone)
-    (λ ls. InsertsPlain m c.args.source (state_of s) inc ls (entry_of (state_of s) inc.id inc.kept c.args.source)
+    (λ ls. InsertsPlain m source (state_of s) inc ls (entry_of (state_of s) inc.id inc.kept source)
     (state_of c.admit.new.self))
     (λ ls more evicts is. rw is
-    (emplaced m (state_of s) inc c.requires.may c.args.source ls (state_of c.evict_onto.new.self) evicts
+    (emplaced m (state_of s) inc c.requires.may source ls (state_of c.evict_onto.new.self) evicts
     c.in-Ok-admit.replaced (state_of c.admit.new.self) (rw came at c.in-Ok-admit.ensures.admitted)))
     went (record { more = gone; told = leaves; so = refl }) in
-    record { inserted = rw (sym c.in-Ok.ensures.leaves, c.set_slot.ensures, c.in-Ok.ensures.entry) done }
+    record { inserted = λ source. rw (sym c.in-Ok.ensures.leaves) (done source) }
 
 pub returns : goal.returns
 returns g c =
@@ -187,7 +188,7 @@ returns g c =
     (λ ls. Evicts m c.saturating_sub-target.result st ls (state_of c.evict_onto.new.self))) c.in-Ok.ensures.same
     c.in-Ok-evict_onto.ensures.done) in
     record {
-      inserted = rw (c.new-in-Err.ensures, c.in-Err.ensures.err, sym c.in-Ok.ensures.leaves)
+      inserted = λ _. rw (c.new-in-Err.ensures, c.in-Err.ensures.err, sym c.in-Ok.ensures.leaves)
           (goes_so c.prepare.new.leaves.items c.evict_onto.new.leaves.items
           (λ ls. Evicts m (s.capacity - inc.kept.weight) (state_of s) ls (state_of c.evict_onto.new.self))
           (λ ls. RefusesPlain m (state_of s) inc NoMemory ls (state_of c.evict_onto.new.self))

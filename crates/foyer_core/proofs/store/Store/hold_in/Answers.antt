@@ -62,12 +62,12 @@ returns g c =
     (append_assoc old (replaced_leaves c.make_way.result)
     ((Remove, record { number = s.number; id = inc.id; kept = inc.kept }) ∷ [])) in
     record {
-      inserted = rw (c.set_slot.ensures, c.in-Ok.ensures.entry, c.hold.ensures)
+      inserted = λ source. rw c.hold.ensures
           (record {
             more = more;
             told = leaves;
             so =
-                phantom_came m (state_of s) inc c.make_way.result (state_of c.make_way.new.self) way c.args.source
+                phantom_came m (state_of s) inc c.make_way.result (state_of c.make_way.new.self) way source
                 c.requires.may more refl;
           });
     }
@@ -78,7 +78,7 @@ returns-in_default g c =
     let m = meaning_of s in
     let inc : Incoming g.row.K.Denot g.row.V.Denot g.row.P.Denot = incoming_of c.args.slot in
     record {
-      inserted = rw (c.new.ensures, c.in_default.ensures.leaves, c.in_default.ensures.same)
+      inserted = λ _. rw (c.new.ensures, c.in_default.ensures.leaves, c.in_default.ensures.same)
           (goes_start c.args.leaves.now.items (λ ls. RefusesPhantom m (state_of s) inc NoMemory ls (state_of s))
           (c.requires.may, refl, refl));
     }

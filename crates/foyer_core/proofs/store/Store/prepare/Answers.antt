@@ -33,8 +33,8 @@ invariant_of-self-2 g c =
       numbered = s.numbered;
     }
 
-pub returns-in_err-entry-clause-same : goal.returns-in_err-entry-clause-same
-returns-in_err-entry-clause-same g c = reserved_same (meaning_of c.args.self.now) (holding c.args.self.now)
+pub returns-in_err-come_in-clause-same : goal.returns-in_err-come_in-clause-same
+returns-in_err-come_in-clause-same g c = reserved_same (meaning_of c.args.self.now) (holding c.args.self.now)
     c.reserve.new.self c.reserve.ensures.slots c.reserve.ensures.ids (g.E.Eviction.view c.reserve-2.new.self)
     c.reserve-2.ensures.view
 

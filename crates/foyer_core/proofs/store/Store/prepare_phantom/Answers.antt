@@ -18,11 +18,6 @@ invariant_of-self g c =
       numbered = s.numbered;
     }
 
-pub returns-in_err-entry-clause-same : goal.returns-in_err-entry-clause-same
-returns-in_err-entry-clause-same g c = reserved_same (meaning_of c.args.self.now) (holding c.args.self.now)
-    c.reserve-2.new.self c.reserve-2.ensures.slots c.reserve-2.ensures.ids
-    (g.E.Eviction.view c.args.self.now.eviction) refl
-
 pub returns-clause-same : goal.returns-clause-same
 returns-clause-same g c = reserved_same (meaning_of c.args.self.now) (holding c.args.self.now) c.reserve-2.new.self
     c.reserve-2.ensures.slots c.reserve-2.ensures.ids (g.E.Eviction.view c.args.self.now.eviction) refl
