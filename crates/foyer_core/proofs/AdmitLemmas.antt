@@ -464,45 +464,19 @@ module _ {K V P View C : Type 0} (m : Meaning K P View C) (laws : IsEquivalence 
                   let u = old_entries old led y there at2 places2 entries he in omega (arith, u.0, u.1));
             }
 
-  -- a record that was put in, over what stood there, and is taken out again
-  pub record Unput (t' : Records K V P) (keys' : ℕ × K → Option ℕ) : Type 0 where
-    pub same0 : state number capacity limits view keys' t' next ≡ now
-    pub kept0 : ∥ IsKept m (state number capacity limits view keys' t' next) ∥₁
-    pub stored0 : IsStored m at keys' t'
+  -- an index that leads as before
+  pub record Reindexed (keys' : ℕ × K → Option ℕ) : Type 0 where
+    pub same0 : state number capacity limits view keys' t next ≡ now
+    pub kept0 : ∥ IsKept m (state number capacity limits view keys' t next) ∥₁
+    pub stored0 : IsStored m at keys' t
 
-  pub unput : (n : ℕ) (before : Option (Kept K V P)) → slot_in t n ≡ before → (t1 : Records K V P) (x0 : Kept K V P) →
-      ((q : ℕ) → slot_in t1 q ≡ update nat_eq (slot_in t) n (Some x0) q)
-      → ((id : ℕ) → record_in t1 id ≡ update nat_eq (record_in t) x0.id (Some (rec_of x0)) id) → record_in t x0.id
-      ≡ option_map rec_of before
-      → (t' : Records K V P) (keys' : ℕ × K → Option ℕ) →
-      ((q : ℕ) → slot_in t' q ≡ update nat_eq (slot_in t1) n before q)
-      → ((id : ℕ) → record_in t' id ≡ update nat_eq (record_in t1) x0.id (option_map rec_of before) id) →
-      ((q : ℕ × K) → keys' q ≡ keys q) → Unput t' keys'
-  unput n before stood t1 x0 slots1 recs1 was t' keys' slots recs same =
-      let records : (i : ℕ) → record_in t' i ≡ record_in t i = (λ i. recs i ∙ elim (eqb_tells i x0.id) [
-        | inl e ↦ subst (λ (a : ℕ). update nat_eq (record_in t1) x0.id (option_map rec_of before) a ≡ record_in t a)
-            (sym e.1) (update_here (record_in t1) x0.id (option_map rec_of before) ∙ sym was)
-        | inr e ↦ update_apart (record_in t1) x0.id (option_map rec_of before) i e.1 ∙ recs1 i
-            ∙ update_apart (record_in t) x0.id (Some (rec_of x0)) i e.1
-      ]) in
-      let state_same : state number capacity limits view keys' t' next ≡ now =
-      same_state (state number capacity limits view keys' t' next) now refl refl refl refl
-      (λ q. ap (option_and_then (id_in t')) (same q) ∙ ids q (keys q)) records refl in
+  pub reindexed : (keys' : ℕ × K → Option ℕ) → ((q : ℕ × K) → keys' q ≡ keys q) → Reindexed keys'
+  reindexed keys' same =
+      let state_same : state number capacity limits view keys' t next ≡ now =
+      same_state (state number capacity limits view keys' t next) now refl refl refl refl
+      (λ q. ap (option_and_then (id_in t)) (same q)) (λ i. refl) refl in
       record {
         same0 = state_same;
         kept0 = subst (λ (s : State K V P View). ∥ IsKept m s ∥₁) (sym state_same) kept;
-        stored0 = record {
-          led = λ q j h. ap is_some (whole j) ∙ stored.led q j (sym (same q) ∙ h);
-          placed = λ j y h res. stored.placed j y (sym (whole j) ∙ h) res;
-        };
-      } where
-        whole : (q : ℕ) → slot_in t' q ≡ slot_in t q
-        whole q = slots q ∙ elim (eqb_tells q n) [
-          | inl e ↦ subst (λ (a : ℕ). update nat_eq (slot_in t1) n before a ≡ slot_in t a) (sym e.1)
-              (update_here (slot_in t1) n before ∙ sym stood)
-          | inr e ↦ update_apart (slot_in t1) n before q e.1 ∙ slots1 q ∙ update_apart (slot_in t) n (Some x0) q e.1
-        ]
-
-        ids : (q : ℕ × K) (w : Option ℕ) → option_and_then (id_in t') w ≡ option_and_then (id_in t) w
-        ids q None = refl
-        ids q (Some j) = ap (option_map (λ (s : Kept K V P). s.id)) (whole j)
+        stored0 = record { led = λ q j h. stored.led q j (sym (same q) ∙ h); placed = stored.placed };
+      }

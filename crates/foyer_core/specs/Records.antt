@@ -1,5 +1,5 @@
 -- What contracts see of a shard's records.
-use Rattle.std.specs.Prelude.{ℕ, Option}
+use Rattle.std.specs.Prelude.{ℕ, Option, unwrap_or}
 use Rattle.foyer_core.specs.Slots.{get, HasRoomFor}
 use Rattle.foyer_core.specs.declared.records.Records.{Records}
 use Rattle.foyer_core.specs.Values.{Kept, Rec}
@@ -22,6 +22,10 @@ module _ {K V P : Type 0} where
   -- the id of a slot's record
   abbrev pub id_in : Records K V P → ℕ → Option ℕ
   id_in t = id_by (slot_in t)
+
+  -- the slot for a record whose id stands in this one, or nowhere
+  abbrev pub slot_to : Records K V P → Option ℕ → ℕ
+  slot_to t stands = unwrap_or stands t.slots.next
 
   -- one more record fits with no allocation
   abbrev pub HasRoom : Records K V P → Type 0

@@ -29,7 +29,7 @@ pub struct Records<K: Drop, V: Drop, P: Drop> {
 }
 
 impl<K: Drop, V: Drop, P: Drop> Records<K, V, P> {
-    ghost use Rattle.foyer_core.specs.Records.{slot_in, number_of, record_in, id_in, HasRoom};
+    ghost use Rattle.foyer_core.specs.Records.{slot_in, number_of, record_in, id_in, slot_to, HasRoom};
 
     pub fn new(alloc: Global) -> Self
         ensures slots { (n : ℕ) → slot_in result n ≡ None }
@@ -73,6 +73,14 @@ impl<K: Drop, V: Drop, P: Drop> Records<K, V, P> {
         self.slots.iter()
     }
 
+    /// The slot where an id stands.
+    #[inline(always)]
+    pub fn stands(&self, id: u64) -> Option<usize>
+        ensures { result ≡ number_of self.now id }
+    {
+        self.ids.get(id)
+    }
+
     /// The slot of an id, which may be the one that is hinted.
     #[inline(always)]
     pub fn find(&self, id: u64, hint: usize) -> Option<usize>
@@ -83,7 +91,19 @@ impl<K: Drop, V: Drop, P: Drop> Records<K, V, P> {
                 return Some(hint);
             }
         }
-        self.ids.get(id)
+        self.stands(id)
+    }
+
+    /// The slot for a record whose id stands in this one, or nowhere: what is in it is of this id, if anything.
+    #[inline(always)]
+    pub fn slot_for(&self, stands: Option<usize>) -> usize
+        ensures slot { result ≡ slot_to self.now stands }
+        ensures here { (id : ℕ) → stands ≡ number_of self.now id → record_in self.now id ≡ option_map rec_of (slot_in self.now result) }
+    {
+        match stands {
+            Some(slot) => slot,
+            None => self.slots.next_slot(),
+        }
     }
 
     /// Puts a record in where its id stands, or in a new slot where it does not, and answers the slot and what
@@ -96,6 +116,7 @@ impl<K: Drop, V: Drop, P: Drop> Records<K, V, P> {
     ) -> (usize, Option<Slot<K, V, P>>)
         requires room { HasRoom self.old }
         requires stands { stands ≡ number_of self.old slot.id }
+        ensures slot { result.0 ≡ slot_to self.old stands }
         ensures stood { slot_in self.old result.0 ≡ result.1 }
         ensures was { record_in self.old slot.id ≡ option_map rec_of result.1 }
         ensures alike { (x : Kept K V P) → result.1 ≡ Some x → x.id ≡ slot.id }
@@ -116,6 +137,7 @@ impl<K: Drop, V: Drop, P: Drop> Records<K, V, P> {
     fn put_new(&mut self, slot: Slot<K, V, P>) -> usize
         requires room { HasRoom self.old }
         requires new { number_of self.old slot.id ≡ None }
+        ensures slot { result ≡ slot_to self.old None }
         ensures free { slot_in self.old result ≡ None }
         ensures slots { (n : ℕ) → slot_in self.new n ≡ update nat_eq (slot_in self.old) result (Some slot) n }
         ensures records { (id : ℕ) → record_in self.new id ≡ update nat_eq (record_in self.old) slot.id (Some (rec_of slot)) id }
@@ -138,23 +160,6 @@ impl<K: Drop, V: Drop, P: Drop> Records<K, V, P> {
             unreachable!();
         };
         mem::replace(found, slot)
-    }
-
-    /// Takes what was put in a slot out again, and puts back what stood there.
-    pub fn put_back(&mut self, place: usize, stood: Option<Slot<K, V, P>>)
-        requires there { IsSome (slot_in self.old place) }
-        requires alike { (x y : Kept K V P) → slot_in self.old place ≡ Some x → stood ≡ Some y → x.id ≡ y.id }
-        ensures slots { (n : ℕ) → slot_in self.new n ≡ update nat_eq (slot_in self.old) place stood n }
-        ensures records { (x : Kept K V P) → slot_in self.old place ≡ Some x → (id : ℕ) → record_in self.new id ≡ update nat_eq (record_in self.old) x.id (option_map rec_of stood) id }
-    {
-        match stood {
-            Some(slot) => {
-                let _ = self.replace(place, slot);
-            }
-            None => {
-                let _ = self.forget(place);
-            }
-        }
     }
 
     /// Counts so many handles more.

@@ -50,14 +50,9 @@ impl<E: Eviction, K: Key, V: Value, P: Properties, I: Finder<K>> Store<E, K, V, 
         let id = slot.id();
         let was = self.slot_under(hash, &key);
         let stands = self.stands(id);
-        let (number, stood) = self.records.put(slot, stands);
-        match self.index.put(hash, key, was, number) {
-            Ok(()) => (),
-            Err(error) => {
-                self.records.put_back(number, stood);
-                return Err(error);
-            }
-        }
+        let number = self.records.slot_for(stands);
+        self.index.put(hash, key, was, number)?;
+        let _ = self.records.put(slot, stands);
         let (gone, replaced) = give_way(&mut self.eviction, &mut self.records, self.number, was);
         self.usage -= gone;
         self.entries -= replaced.is_some() as u64;
@@ -82,7 +77,7 @@ impl<E: Eviction, K: Key, V: Value, P: Properties, I: Finder<K>> Store<E, K, V, 
         if id >= self.next {
             return None;
         }
-        self.records.find(id, 0)
+        self.records.stands(id)
     }
 }
 

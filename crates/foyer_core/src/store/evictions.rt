@@ -27,7 +27,7 @@ impl<E: Eviction, K: Key, V: Value, P: Properties, I: Finder<K>> Store<E, K, V, 
         let Some(item) = self.eviction.pop()? else {
             return Ok(None);
         };
-        let Some(slot) = self.records.find(item.id, 0) else {
+        let Some(slot) = self.records.stands(item.id) else {
             unreachable!();
         };
         let Some(found) = self.records.get(slot) else {

@@ -1,4 +1,4 @@
-use Rattle.std.proofs.Common.{◌≡◌, Some, sym, ◌∙◌, ap}
+use Rattle.std.proofs.Common.{◌≡◌, Some, refl, sym, ◌∙◌, ap}
 use Rattle.foyer_core.specs.Values.{Kept}
 use Rattle.foyer_core.specs.Records.{slot_in, number_of}
 use Rattle.foyer_core.proofs.TableLemmas.{named_there}
@@ -20,3 +20,6 @@ returns-in-Some-clause-alike g c x is =
     (s.agree.named c.args.slot.id c.in-Some.place known)) in
     let same : c.replace-stood.result ≡ x = cc (is) in
     ap (λ (y : Kept g.row.K.Denot g.row.V.Denot g.row.P.Denot). y.id) (sym same) ∙ named
+
+pub returns-in-Some-clause-slot : goal.returns-in-Some-clause-slot
+returns-in-Some-clause-slot g c = rw c.in-Some.is refl

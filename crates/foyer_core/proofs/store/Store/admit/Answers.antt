@@ -1,9 +1,9 @@
-use Rattle.std.proofs.Common.{◌≡◌, ◌+◌, ◌-◌, ℕ, Some, cond, max, nat_eq, refl, sym, ◌∙◌, ap, arith, rules}
+use Rattle.std.proofs.Common.{◌≡◌, ◌+◌, ◌-◌, ℕ, Some, cond, max, nat_eq, refl, sym, ◌∙◌, ap, subst, arith, rules}
 use Rattle.std.proofs.Math.Logic.{∥∥₁_elim}
 use Rattle.std.proofs.Props.{props}
+use Rattle.std.proofs.lemmas.Result.{err_from_is_err_and}
 use Rattle.std.specs.Prelude.{is_some}
 use Rattle.std.specs.Map.{update}
-use Rattle.std.proofs.lemmas.Map.{update_here}
 use Rattle.foyer_policy.specs.declared.types.Item.{Item}
 use Rattle.foyer_core.specs.Values.{Kept, Incoming, incoming_of}
 use Rattle.foyer_core.specs.Indexer.{same_key}
@@ -11,11 +11,11 @@ use Rattle.foyer_core.specs.Stores.{meaning_of}
 use Rattle.foyer_core.specs.State.{key_of, item_of}
 use Rattle.foyer_core.specs.Stored.{state}
 use Rattle.foyer_core.specs.Table.{rec_of}
-use Rattle.foyer_core.specs.Records.{slot_in, record_in}
+use Rattle.foyer_core.specs.Records.{slot_in, number_of, record_in}
 use Rattle.foyer_core.proofs.Counting.{entries_below}
 use Rattle.foyer_core.proofs.Holdings.{holding}
 use Rattle.foyer_core.proofs.Keys.{update_alike, same_key_laws}
-use Rattle.foyer_core.proofs.AdmitLemmas.{Admitted, coming_slot, coming_rec, led_not, unput}
+use Rattle.foyer_core.proofs.AdmitLemmas.{Admitted, coming_slot, coming_rec, led_not, reindexed}
 use Rattle.foyer_core.proofs.GaveLemmas.{Gave, byte_is, alike_key, may_give_way, gave, new_there, gave_push, gave_lighter, gave_fits, gave_admitted}
 use Rattle.foyer_core.proofs.store.Store.admit.Goals as goal
 
@@ -23,69 +23,25 @@ pub put-requires-clause-new : goal.put-requires-clause-new
 put-requires-clause-new g c κs within q led =
     let s = c.args.self.now in
     let m = meaning_of s in
-    led_not m g.met.K.Eq.laws g.met.E.Eviction.lawful (holding s) c.put-number.result.0 c.put-number.result.1
-    c.put-number.ensures.stood (λ r h. c.requires.out r (c.put-number.ensures.was ∙ h))
-    q c.put-number.result.0 led refl
-
-pub put_back-requires-clause-there : goal.put_back-requires-clause-there
-put_back-requires-clause-there g c =
-    let s = c.args.self.now in
-    let m = meaning_of s in
-    let inc : Incoming g.row.K.Denot g.row.V.Denot g.row.P.Denot = incoming_of c.args.slot in
-    let n = c.put-number.result.0 in
-    let unled = led_not m g.met.K.Eq.laws g.met.E.Eviction.lawful (holding s) n c.put-number.result.1
-    c.put-number.ensures.stood (λ r h. c.requires.out r (c.put-number.ensures.was ∙ h)) in
-    rw (c.put-number.ensures.slots n ∙ update_here (slot_in s.records) n (Some c.args.slot)) (search rules)
-
-pub put_back-requires-clause-alike : goal.put_back-requires-clause-alike
-put_back-requires-clause-alike g c x y is stood =
-    let s = c.args.self.now in
-    let m = meaning_of s in
-    let inc : Incoming g.row.K.Denot g.row.V.Denot g.row.P.Denot = incoming_of c.args.slot in
-    let n = c.put-number.result.0 in
-    let unled = led_not m g.met.K.Eq.laws g.met.E.Eviction.lawful (holding s) n c.put-number.result.1
-    c.put-number.ensures.stood (λ r h. c.requires.out r (c.put-number.ensures.was ∙ h)) in
-    let there : Some c.args.slot ≡ Some x =
-    sym (c.put-number.ensures.slots n ∙ update_here (slot_in s.records) n (Some c.args.slot)) ∙ is in
-    let same : c.args.slot ≡ x = cc (there) in
-    ap (λ (z : Kept g.row.K.Denot g.row.V.Denot g.row.P.Denot). z.id) (sym same)
-    ∙ sym (c.put-number.ensures.alike y stood)
+    let n = c.slot_for-number.result in
+    led_not m g.met.K.Eq.laws g.met.E.Eviction.lawful (holding s) n (slot_in s.records n) refl
+    (λ r h. c.requires.out r (c.slot_for-number.ensures.here c.args.slot.id (c.stands-stands.ensures
+    ∙ ap (number_of s.records) c.id-id.ensures) ∙ h)) q n led refl
 
 pub invariant_of-self : goal.invariant_of-self
 invariant_of-self g c =
     let s = c.args.self.now in
-    let lawful = g.met.E.Eviction.lawful in
-    let laws = g.met.K.Eq.laws in
-    let m = meaning_of s in
-    let inc : Incoming g.row.K.Denot g.row.V.Denot g.row.P.Denot = incoming_of c.args.slot in
-    let n = c.put-number.result.0 in
-    let unled = led_not m laws lawful (holding s) n c.put-number.result.1 c.put-number.ensures.stood
-    (λ r h. c.requires.out r (c.put-number.ensures.was ∙ h)) in
-    let there : slot_in c.put-number.new.self n ≡ Some c.args.slot = c.put-number.ensures.slots n
-    ∙ update_here (slot_in s.records) n (Some c.args.slot) in
-    let back = unput m laws lawful (holding s) n c.put-number.result.1 c.put-number.ensures.stood
-    c.put-number.new.self c.args.slot c.put-number.ensures.slots c.put-number.ensures.records
-    c.put-number.ensures.was c.put_back.new.self (g.I.Finder.view c.put.new.self) c.put_back.ensures.slots
-    (c.put_back.ensures.records c.args.slot there) c.in-Err.ensures.err in
+    let back = reindexed (meaning_of s) g.met.K.Eq.laws g.met.E.Eviction.lawful (holding s)
+    (g.I.Finder.view c.put.new.self) c.in_err-put.ensures.err in
     record { kept = back.kept0; stored = back.stored0; weighed = s.weighed; counted = s.counted; numbered = s.numbered }
 
-pub returns-in-Err-clause-err : goal.returns-in-Err-clause-err
-returns-in-Err-clause-err g c =
+pub returns-in_err-put-clause-err : goal.returns-in_err-put-clause-err
+returns-in_err-put-clause-err g c =
     let s = c.args.self.now in
-    let lawful = g.met.E.Eviction.lawful in
-    let laws = g.met.K.Eq.laws in
-    let m = meaning_of s in
-    let inc : Incoming g.row.K.Denot g.row.V.Denot g.row.P.Denot = incoming_of c.args.slot in
-    let n = c.put-number.result.0 in
-    let unled = led_not m laws lawful (holding s) n c.put-number.result.1 c.put-number.ensures.stood
-    (λ r h. c.requires.out r (c.put-number.ensures.was ∙ h)) in
-    let there : slot_in c.put-number.new.self n ≡ Some c.args.slot = c.put-number.ensures.slots n
-    ∙ update_here (slot_in s.records) n (Some c.args.slot) in
-    let back = unput m laws lawful (holding s) n c.put-number.result.1 c.put-number.ensures.stood
-    c.put-number.new.self c.args.slot c.put-number.ensures.slots c.put-number.ensures.records
-    c.put-number.ensures.was c.put_back.new.self (g.I.Finder.view c.put.new.self) c.put_back.ensures.slots
-    (c.put_back.ensures.records c.args.slot there) c.in-Err.ensures.err in
-    back.same0
+    let back = reindexed (meaning_of s) g.met.K.Eq.laws g.met.E.Eviction.lawful (holding s)
+    (g.I.Finder.view c.put.new.self) c.in_err-put.ensures.err in
+    let failed = err_from_is_err_and c.from_residual.result c.from_residual.ensures.1 in
+    rw failed.1 back.same0
 
 pub give_way-gone-requires-after_bounds : goal.give_way-gone-requires-after_bounds
 give_way-gone-requires-after_bounds g c κs within =
@@ -94,16 +50,20 @@ give_way-gone-requires-after_bounds g c κs within =
     let laws = g.met.K.Eq.laws in
     let m = meaning_of s in
     let inc : Incoming g.row.K.Denot g.row.V.Denot g.row.P.Denot = incoming_of c.args.slot in
-    let n = c.put-number.result.0 in
-    let unled = led_not m laws lawful (holding s) n c.put-number.result.1 c.put-number.ensures.stood
-    (λ r h. c.requires.out r (c.put-number.ensures.was ∙ h)) in
+    let n = c.slot_for-number.result in
+    let unled = led_not m laws lawful (holding s) n (slot_in s.records n) refl
+    (λ r h. c.requires.out r (c.slot_for-number.ensures.here inc.id (c.stands-stands.ensures
+    ∙ ap (number_of s.records) c.id-id.ensures) ∙ h)) in
+    let slots1 : (q : ℕ) → slot_in c.put-2.new.self q ≡ update nat_eq (slot_in s.records) n (Some c.args.slot) q =
+    subst (λ (x : ℕ). (q : ℕ) → slot_in c.put-2.new.self q ≡ update nat_eq (slot_in s.records) x (Some c.args.slot) q)
+    (c.put-2.ensures.slot ∙ sym c.slot_for-number.ensures.slot) c.put-2.ensures.slots in
     let hash : c.hash-hash.result ≡ inc.kept.hash = c.hash-hash.ensures in
     let was : c.slot_under-was.result ≡ g.I.Finder.view s.index (key_of inc.kept) = c.slot_under-was.ensures ∙ ap
     (λ (h : ℕ). g.I.Finder.view s.index (h, c.args.key)) hash ∙ g.met.I.Finder.respects s.index
     (inc.kept.hash, c.args.key) (key_of inc.kept) (alike_key g.K.PartialEq.eq inc.kept.hash c.args.key inc.kept.key
     c.requires.same) in
-    may_give_way m laws lawful (holding s) inc n unled c.requires.out c.put-number.new.self c.args.slot
-    c.put-number.ensures.slots c.slot_under-was.result was
+    may_give_way m laws lawful (holding s) inc n unled c.requires.out c.put-2.new.self c.args.slot
+    slots1 c.slot_under-was.result was
 
 pub overflow_sub-self : goal.overflow_sub-self
 overflow_sub-self g c =
@@ -112,24 +72,28 @@ overflow_sub-self g c =
     let laws = g.met.K.Eq.laws in
     let m = meaning_of s in
     let inc : Incoming g.row.K.Denot g.row.V.Denot g.row.P.Denot = incoming_of c.args.slot in
-    let n = c.put-number.result.0 in
-    let unled = led_not m laws lawful (holding s) n c.put-number.result.1 c.put-number.ensures.stood
-    (λ r h. c.requires.out r (c.put-number.ensures.was ∙ h)) in
+    let n = c.slot_for-number.result in
+    let unled = led_not m laws lawful (holding s) n (slot_in s.records n) refl
+    (λ r h. c.requires.out r (c.slot_for-number.ensures.here inc.id (c.stands-stands.ensures
+    ∙ ap (number_of s.records) c.id-id.ensures) ∙ h)) in
+    let slots1 : (q : ℕ) → slot_in c.put-2.new.self q ≡ update nat_eq (slot_in s.records) n (Some c.args.slot) q =
+    subst (λ (x : ℕ). (q : ℕ) → slot_in c.put-2.new.self q ≡ update nat_eq (slot_in s.records) x (Some c.args.slot) q)
+    (c.put-2.ensures.slot ∙ sym c.slot_for-number.ensures.slot) c.put-2.ensures.slots in
     let hash : c.hash-hash.result ≡ inc.kept.hash = c.hash-hash.ensures in
     let was : c.slot_under-was.result ≡ g.I.Finder.view s.index (key_of inc.kept) = c.slot_under-was.ensures ∙ ap
     (λ (h : ℕ). g.I.Finder.view s.index (h, c.args.key)) hash ∙ g.met.I.Finder.respects s.index
     (inc.kept.hash, c.args.key) (key_of inc.kept) (alike_key g.K.PartialEq.eq inc.kept.hash c.args.key inc.kept.key
     c.requires.same) in
     let w = c.give_way-gone.ensures in
-    let gv : Gave m laws lawful (holding s) inc n unled c.requires.out c.put-number.new.self c.args.slot
-    c.put-number.ensures.slots c.give_way-gone.result.0 c.give_way-gone.result.1 c.give_way-gone.new.records
+    let gv : Gave m laws lawful (holding s) inc n unled c.requires.out c.put-2.new.self c.args.slot
+    slots1 c.give_way-gone.result.0 c.give_way-gone.result.1 c.give_way-gone.new.records
     (g.E.Eviction.at c.give_way-gone.new.eviction) (g.E.Eviction.view c.give_way-gone.new.eviction) =
-    gave m laws lawful (holding s) inc n unled c.requires.out c.put-number.new.self c.args.slot
-    c.put-number.ensures.slots c.slot_under-was.result was c.give_way-gone.result c.give_way-gone.new.records
+    gave m laws lawful (holding s) inc n unled c.requires.out c.put-2.new.self c.args.slot
+    slots1 c.slot_under-was.result was c.give_way-gone.result c.give_way-gone.new.records
     (g.E.Eviction.at c.give_way-gone.new.eviction) (g.E.Eviction.view c.give_way-gone.new.eviction)
     w.none w.none_slots w.none_records w.none_places w.some w.some_slots w.some_records w.some_places in
-    (gave_lighter m laws lawful (holding s) inc n unled c.requires.out c.put-number.new.self c.args.slot
-    c.put-number.ensures.slots c.give_way-gone.result.0 c.give_way-gone.result.1 c.give_way-gone.new.records
+    (gave_lighter m laws lawful (holding s) inc n unled c.requires.out c.put-2.new.self c.args.slot
+    slots1 c.give_way-gone.result.0 c.give_way-gone.result.1 c.give_way-gone.new.records
     (g.E.Eviction.at c.give_way-gone.new.eviction) (g.E.Eviction.view c.give_way-gone.new.eviction) gv s.usage
     s.entries s.weighed s.counted).0
 
@@ -140,24 +104,28 @@ overflow_sub-self-2 g c =
     let laws = g.met.K.Eq.laws in
     let m = meaning_of s in
     let inc : Incoming g.row.K.Denot g.row.V.Denot g.row.P.Denot = incoming_of c.args.slot in
-    let n = c.put-number.result.0 in
-    let unled = led_not m laws lawful (holding s) n c.put-number.result.1 c.put-number.ensures.stood
-    (λ r h. c.requires.out r (c.put-number.ensures.was ∙ h)) in
+    let n = c.slot_for-number.result in
+    let unled = led_not m laws lawful (holding s) n (slot_in s.records n) refl
+    (λ r h. c.requires.out r (c.slot_for-number.ensures.here inc.id (c.stands-stands.ensures
+    ∙ ap (number_of s.records) c.id-id.ensures) ∙ h)) in
+    let slots1 : (q : ℕ) → slot_in c.put-2.new.self q ≡ update nat_eq (slot_in s.records) n (Some c.args.slot) q =
+    subst (λ (x : ℕ). (q : ℕ) → slot_in c.put-2.new.self q ≡ update nat_eq (slot_in s.records) x (Some c.args.slot) q)
+    (c.put-2.ensures.slot ∙ sym c.slot_for-number.ensures.slot) c.put-2.ensures.slots in
     let hash : c.hash-hash.result ≡ inc.kept.hash = c.hash-hash.ensures in
     let was : c.slot_under-was.result ≡ g.I.Finder.view s.index (key_of inc.kept) = c.slot_under-was.ensures ∙ ap
     (λ (h : ℕ). g.I.Finder.view s.index (h, c.args.key)) hash ∙ g.met.I.Finder.respects s.index
     (inc.kept.hash, c.args.key) (key_of inc.kept) (alike_key g.K.PartialEq.eq inc.kept.hash c.args.key inc.kept.key
     c.requires.same) in
     let w = c.give_way-gone.ensures in
-    let gv : Gave m laws lawful (holding s) inc n unled c.requires.out c.put-number.new.self c.args.slot
-    c.put-number.ensures.slots c.give_way-gone.result.0 c.give_way-gone.result.1 c.give_way-gone.new.records
+    let gv : Gave m laws lawful (holding s) inc n unled c.requires.out c.put-2.new.self c.args.slot
+    slots1 c.give_way-gone.result.0 c.give_way-gone.result.1 c.give_way-gone.new.records
     (g.E.Eviction.at c.give_way-gone.new.eviction) (g.E.Eviction.view c.give_way-gone.new.eviction) =
-    gave m laws lawful (holding s) inc n unled c.requires.out c.put-number.new.self c.args.slot
-    c.put-number.ensures.slots c.slot_under-was.result was c.give_way-gone.result c.give_way-gone.new.records
+    gave m laws lawful (holding s) inc n unled c.requires.out c.put-2.new.self c.args.slot
+    slots1 c.slot_under-was.result was c.give_way-gone.result c.give_way-gone.new.records
     (g.E.Eviction.at c.give_way-gone.new.eviction) (g.E.Eviction.view c.give_way-gone.new.eviction)
     w.none w.none_slots w.none_records w.none_places w.some w.some_slots w.some_records w.some_places in
     rw (c.is_some.ensures, byte_is) (gave_lighter m laws lawful (holding s) inc n unled c.requires.out
-    c.put-number.new.self c.args.slot c.put-number.ensures.slots c.give_way-gone.result.0 c.give_way-gone.result.1
+    c.put-2.new.self c.args.slot slots1 c.give_way-gone.result.0 c.give_way-gone.result.1
     c.give_way-gone.new.records (g.E.Eviction.at c.give_way-gone.new.eviction)
     (g.E.Eviction.view c.give_way-gone.new.eviction) gv s.usage s.entries s.weighed s.counted).1
 
@@ -168,24 +136,28 @@ push-place-requires-clause-new_id g c κs within =
     let laws = g.met.K.Eq.laws in
     let m = meaning_of s in
     let inc : Incoming g.row.K.Denot g.row.V.Denot g.row.P.Denot = incoming_of c.args.slot in
-    let n = c.put-number.result.0 in
-    let unled = led_not m laws lawful (holding s) n c.put-number.result.1 c.put-number.ensures.stood
-    (λ r h. c.requires.out r (c.put-number.ensures.was ∙ h)) in
+    let n = c.slot_for-number.result in
+    let unled = led_not m laws lawful (holding s) n (slot_in s.records n) refl
+    (λ r h. c.requires.out r (c.slot_for-number.ensures.here inc.id (c.stands-stands.ensures
+    ∙ ap (number_of s.records) c.id-id.ensures) ∙ h)) in
+    let slots1 : (q : ℕ) → slot_in c.put-2.new.self q ≡ update nat_eq (slot_in s.records) n (Some c.args.slot) q =
+    subst (λ (x : ℕ). (q : ℕ) → slot_in c.put-2.new.self q ≡ update nat_eq (slot_in s.records) x (Some c.args.slot) q)
+    (c.put-2.ensures.slot ∙ sym c.slot_for-number.ensures.slot) c.put-2.ensures.slots in
     let hash : c.hash-hash.result ≡ inc.kept.hash = c.hash-hash.ensures in
     let was : c.slot_under-was.result ≡ g.I.Finder.view s.index (key_of inc.kept) = c.slot_under-was.ensures ∙ ap
     (λ (h : ℕ). g.I.Finder.view s.index (h, c.args.key)) hash ∙ g.met.I.Finder.respects s.index
     (inc.kept.hash, c.args.key) (key_of inc.kept) (alike_key g.K.PartialEq.eq inc.kept.hash c.args.key inc.kept.key
     c.requires.same) in
     let w = c.give_way-gone.ensures in
-    let gv : Gave m laws lawful (holding s) inc n unled c.requires.out c.put-number.new.self c.args.slot
-    c.put-number.ensures.slots c.give_way-gone.result.0 c.give_way-gone.result.1 c.give_way-gone.new.records
+    let gv : Gave m laws lawful (holding s) inc n unled c.requires.out c.put-2.new.self c.args.slot
+    slots1 c.give_way-gone.result.0 c.give_way-gone.result.1 c.give_way-gone.new.records
     (g.E.Eviction.at c.give_way-gone.new.eviction) (g.E.Eviction.view c.give_way-gone.new.eviction) =
-    gave m laws lawful (holding s) inc n unled c.requires.out c.put-number.new.self c.args.slot
-    c.put-number.ensures.slots c.slot_under-was.result was c.give_way-gone.result c.give_way-gone.new.records
+    gave m laws lawful (holding s) inc n unled c.requires.out c.put-2.new.self c.args.slot
+    slots1 c.slot_under-was.result was c.give_way-gone.result c.give_way-gone.new.records
     (g.E.Eviction.at c.give_way-gone.new.eviction) (g.E.Eviction.view c.give_way-gone.new.eviction)
     w.none w.none_slots w.none_records w.none_places w.some w.some_slots w.some_records w.some_places in
-    rw c.id-id.ensures (gave_push m laws lawful (holding s) inc n unled c.requires.out c.put-number.new.self
-    c.args.slot c.put-number.ensures.slots c.give_way-gone.result.0 c.give_way-gone.result.1
+    rw c.id-id.ensures (gave_push m laws lawful (holding s) inc n unled c.requires.out c.put-2.new.self
+    c.args.slot slots1 c.give_way-gone.result.0 c.give_way-gone.result.1
     c.give_way-gone.new.records (g.E.Eviction.at c.give_way-gone.new.eviction)
     (g.E.Eviction.view c.give_way-gone.new.eviction) gv c.requires.fits).new
 
@@ -196,24 +168,28 @@ push-place-requires-clause-fits g c κs within =
     let laws = g.met.K.Eq.laws in
     let m = meaning_of s in
     let inc : Incoming g.row.K.Denot g.row.V.Denot g.row.P.Denot = incoming_of c.args.slot in
-    let n = c.put-number.result.0 in
-    let unled = led_not m laws lawful (holding s) n c.put-number.result.1 c.put-number.ensures.stood
-    (λ r h. c.requires.out r (c.put-number.ensures.was ∙ h)) in
+    let n = c.slot_for-number.result in
+    let unled = led_not m laws lawful (holding s) n (slot_in s.records n) refl
+    (λ r h. c.requires.out r (c.slot_for-number.ensures.here inc.id (c.stands-stands.ensures
+    ∙ ap (number_of s.records) c.id-id.ensures) ∙ h)) in
+    let slots1 : (q : ℕ) → slot_in c.put-2.new.self q ≡ update nat_eq (slot_in s.records) n (Some c.args.slot) q =
+    subst (λ (x : ℕ). (q : ℕ) → slot_in c.put-2.new.self q ≡ update nat_eq (slot_in s.records) x (Some c.args.slot) q)
+    (c.put-2.ensures.slot ∙ sym c.slot_for-number.ensures.slot) c.put-2.ensures.slots in
     let hash : c.hash-hash.result ≡ inc.kept.hash = c.hash-hash.ensures in
     let was : c.slot_under-was.result ≡ g.I.Finder.view s.index (key_of inc.kept) = c.slot_under-was.ensures ∙ ap
     (λ (h : ℕ). g.I.Finder.view s.index (h, c.args.key)) hash ∙ g.met.I.Finder.respects s.index
     (inc.kept.hash, c.args.key) (key_of inc.kept) (alike_key g.K.PartialEq.eq inc.kept.hash c.args.key inc.kept.key
     c.requires.same) in
     let w = c.give_way-gone.ensures in
-    let gv : Gave m laws lawful (holding s) inc n unled c.requires.out c.put-number.new.self c.args.slot
-    c.put-number.ensures.slots c.give_way-gone.result.0 c.give_way-gone.result.1 c.give_way-gone.new.records
+    let gv : Gave m laws lawful (holding s) inc n unled c.requires.out c.put-2.new.self c.args.slot
+    slots1 c.give_way-gone.result.0 c.give_way-gone.result.1 c.give_way-gone.new.records
     (g.E.Eviction.at c.give_way-gone.new.eviction) (g.E.Eviction.view c.give_way-gone.new.eviction) =
-    gave m laws lawful (holding s) inc n unled c.requires.out c.put-number.new.self c.args.slot
-    c.put-number.ensures.slots c.slot_under-was.result was c.give_way-gone.result c.give_way-gone.new.records
+    gave m laws lawful (holding s) inc n unled c.requires.out c.put-2.new.self c.args.slot
+    slots1 c.slot_under-was.result was c.give_way-gone.result c.give_way-gone.new.records
     (g.E.Eviction.at c.give_way-gone.new.eviction) (g.E.Eviction.view c.give_way-gone.new.eviction)
     w.none w.none_slots w.none_records w.none_places w.some w.some_slots w.some_records w.some_places in
-    rw c.weight-weight.ensures (gave_push m laws lawful (holding s) inc n unled c.requires.out c.put-number.new.self
-    c.args.slot c.put-number.ensures.slots c.give_way-gone.result.0 c.give_way-gone.result.1
+    rw c.weight-weight.ensures (gave_push m laws lawful (holding s) inc n unled c.requires.out c.put-2.new.self
+    c.args.slot slots1 c.give_way-gone.result.0 c.give_way-gone.result.1
     c.give_way-gone.new.records (g.E.Eviction.at c.give_way-gone.new.eviction)
     (g.E.Eviction.view c.give_way-gone.new.eviction) gv c.requires.fits).fits
 
@@ -224,24 +200,28 @@ set_place-requires g c =
     let laws = g.met.K.Eq.laws in
     let m = meaning_of s in
     let inc : Incoming g.row.K.Denot g.row.V.Denot g.row.P.Denot = incoming_of c.args.slot in
-    let n = c.put-number.result.0 in
-    let unled = led_not m laws lawful (holding s) n c.put-number.result.1 c.put-number.ensures.stood
-    (λ r h. c.requires.out r (c.put-number.ensures.was ∙ h)) in
+    let n = c.slot_for-number.result in
+    let unled = led_not m laws lawful (holding s) n (slot_in s.records n) refl
+    (λ r h. c.requires.out r (c.slot_for-number.ensures.here inc.id (c.stands-stands.ensures
+    ∙ ap (number_of s.records) c.id-id.ensures) ∙ h)) in
+    let slots1 : (q : ℕ) → slot_in c.put-2.new.self q ≡ update nat_eq (slot_in s.records) n (Some c.args.slot) q =
+    subst (λ (x : ℕ). (q : ℕ) → slot_in c.put-2.new.self q ≡ update nat_eq (slot_in s.records) x (Some c.args.slot) q)
+    (c.put-2.ensures.slot ∙ sym c.slot_for-number.ensures.slot) c.put-2.ensures.slots in
     let hash : c.hash-hash.result ≡ inc.kept.hash = c.hash-hash.ensures in
     let was : c.slot_under-was.result ≡ g.I.Finder.view s.index (key_of inc.kept) = c.slot_under-was.ensures ∙ ap
     (λ (h : ℕ). g.I.Finder.view s.index (h, c.args.key)) hash ∙ g.met.I.Finder.respects s.index
     (inc.kept.hash, c.args.key) (key_of inc.kept) (alike_key g.K.PartialEq.eq inc.kept.hash c.args.key inc.kept.key
     c.requires.same) in
     let w = c.give_way-gone.ensures in
-    let gv : Gave m laws lawful (holding s) inc n unled c.requires.out c.put-number.new.self c.args.slot
-    c.put-number.ensures.slots c.give_way-gone.result.0 c.give_way-gone.result.1 c.give_way-gone.new.records
+    let gv : Gave m laws lawful (holding s) inc n unled c.requires.out c.put-2.new.self c.args.slot
+    slots1 c.give_way-gone.result.0 c.give_way-gone.result.1 c.give_way-gone.new.records
     (g.E.Eviction.at c.give_way-gone.new.eviction) (g.E.Eviction.view c.give_way-gone.new.eviction) =
-    gave m laws lawful (holding s) inc n unled c.requires.out c.put-number.new.self c.args.slot
-    c.put-number.ensures.slots c.slot_under-was.result was c.give_way-gone.result c.give_way-gone.new.records
+    gave m laws lawful (holding s) inc n unled c.requires.out c.put-2.new.self c.args.slot
+    slots1 c.slot_under-was.result was c.give_way-gone.result c.give_way-gone.new.records
     (g.E.Eviction.at c.give_way-gone.new.eviction) (g.E.Eviction.view c.give_way-gone.new.eviction)
     w.none w.none_slots w.none_records w.none_places w.some w.some_slots w.some_records w.some_places in
-    rw (new_there m laws lawful (holding s) inc n unled c.requires.out c.put-number.new.self c.args.slot
-    c.put-number.ensures.slots c.give_way-gone.result.0 c.give_way-gone.result.1 c.give_way-gone.new.records
+    rw (new_there m laws lawful (holding s) inc n unled c.requires.out c.put-2.new.self c.args.slot
+    slots1 c.give_way-gone.result.0 c.give_way-gone.result.1 c.give_way-gone.new.records
     (g.E.Eviction.at c.give_way-gone.new.eviction) (g.E.Eviction.view c.give_way-gone.new.eviction) gv)
     (search rules)
 
@@ -252,24 +232,28 @@ overflow_add-self g c =
     let laws = g.met.K.Eq.laws in
     let m = meaning_of s in
     let inc : Incoming g.row.K.Denot g.row.V.Denot g.row.P.Denot = incoming_of c.args.slot in
-    let n = c.put-number.result.0 in
-    let unled = led_not m laws lawful (holding s) n c.put-number.result.1 c.put-number.ensures.stood
-    (λ r h. c.requires.out r (c.put-number.ensures.was ∙ h)) in
+    let n = c.slot_for-number.result in
+    let unled = led_not m laws lawful (holding s) n (slot_in s.records n) refl
+    (λ r h. c.requires.out r (c.slot_for-number.ensures.here inc.id (c.stands-stands.ensures
+    ∙ ap (number_of s.records) c.id-id.ensures) ∙ h)) in
+    let slots1 : (q : ℕ) → slot_in c.put-2.new.self q ≡ update nat_eq (slot_in s.records) n (Some c.args.slot) q =
+    subst (λ (x : ℕ). (q : ℕ) → slot_in c.put-2.new.self q ≡ update nat_eq (slot_in s.records) x (Some c.args.slot) q)
+    (c.put-2.ensures.slot ∙ sym c.slot_for-number.ensures.slot) c.put-2.ensures.slots in
     let hash : c.hash-hash.result ≡ inc.kept.hash = c.hash-hash.ensures in
     let was : c.slot_under-was.result ≡ g.I.Finder.view s.index (key_of inc.kept) = c.slot_under-was.ensures ∙ ap
     (λ (h : ℕ). g.I.Finder.view s.index (h, c.args.key)) hash ∙ g.met.I.Finder.respects s.index
     (inc.kept.hash, c.args.key) (key_of inc.kept) (alike_key g.K.PartialEq.eq inc.kept.hash c.args.key inc.kept.key
     c.requires.same) in
     let w = c.give_way-gone.ensures in
-    let gv : Gave m laws lawful (holding s) inc n unled c.requires.out c.put-number.new.self c.args.slot
-    c.put-number.ensures.slots c.give_way-gone.result.0 c.give_way-gone.result.1 c.give_way-gone.new.records
+    let gv : Gave m laws lawful (holding s) inc n unled c.requires.out c.put-2.new.self c.args.slot
+    slots1 c.give_way-gone.result.0 c.give_way-gone.result.1 c.give_way-gone.new.records
     (g.E.Eviction.at c.give_way-gone.new.eviction) (g.E.Eviction.view c.give_way-gone.new.eviction) =
-    gave m laws lawful (holding s) inc n unled c.requires.out c.put-number.new.self c.args.slot
-    c.put-number.ensures.slots c.slot_under-was.result was c.give_way-gone.result c.give_way-gone.new.records
+    gave m laws lawful (holding s) inc n unled c.requires.out c.put-2.new.self c.args.slot
+    slots1 c.slot_under-was.result was c.give_way-gone.result c.give_way-gone.new.records
     (g.E.Eviction.at c.give_way-gone.new.eviction) (g.E.Eviction.view c.give_way-gone.new.eviction)
     w.none w.none_slots w.none_records w.none_places w.some w.some_slots w.some_records w.some_places in
     rw c.weight-weight.ensures (let f = gave_fits m laws lawful (holding s) inc n unled c.requires.out
-    c.put-number.new.self c.args.slot c.put-number.ensures.slots c.give_way-gone.result.0 c.give_way-gone.result.1
+    c.put-2.new.self c.args.slot slots1 c.give_way-gone.result.0 c.give_way-gone.result.1
     c.give_way-gone.new.records (g.E.Eviction.at c.give_way-gone.new.eviction)
     (g.E.Eviction.view c.give_way-gone.new.eviction) gv s.usage s.weighed c.requires.fits in search (rules, f))
 
@@ -280,25 +264,29 @@ overflow_add-self-2 g c =
     let laws = g.met.K.Eq.laws in
     let m = meaning_of s in
     let inc : Incoming g.row.K.Denot g.row.V.Denot g.row.P.Denot = incoming_of c.args.slot in
-    let n = c.put-number.result.0 in
-    let unled = led_not m laws lawful (holding s) n c.put-number.result.1 c.put-number.ensures.stood
-    (λ r h. c.requires.out r (c.put-number.ensures.was ∙ h)) in
+    let n = c.slot_for-number.result in
+    let unled = led_not m laws lawful (holding s) n (slot_in s.records n) refl
+    (λ r h. c.requires.out r (c.slot_for-number.ensures.here inc.id (c.stands-stands.ensures
+    ∙ ap (number_of s.records) c.id-id.ensures) ∙ h)) in
+    let slots1 : (q : ℕ) → slot_in c.put-2.new.self q ≡ update nat_eq (slot_in s.records) n (Some c.args.slot) q =
+    subst (λ (x : ℕ). (q : ℕ) → slot_in c.put-2.new.self q ≡ update nat_eq (slot_in s.records) x (Some c.args.slot) q)
+    (c.put-2.ensures.slot ∙ sym c.slot_for-number.ensures.slot) c.put-2.ensures.slots in
     let hash : c.hash-hash.result ≡ inc.kept.hash = c.hash-hash.ensures in
     let was : c.slot_under-was.result ≡ g.I.Finder.view s.index (key_of inc.kept) = c.slot_under-was.ensures ∙ ap
     (λ (h : ℕ). g.I.Finder.view s.index (h, c.args.key)) hash ∙ g.met.I.Finder.respects s.index
     (inc.kept.hash, c.args.key) (key_of inc.kept) (alike_key g.K.PartialEq.eq inc.kept.hash c.args.key inc.kept.key
     c.requires.same) in
     let w = c.give_way-gone.ensures in
-    let gv : Gave m laws lawful (holding s) inc n unled c.requires.out c.put-number.new.self c.args.slot
-    c.put-number.ensures.slots c.give_way-gone.result.0 c.give_way-gone.result.1 c.give_way-gone.new.records
+    let gv : Gave m laws lawful (holding s) inc n unled c.requires.out c.put-2.new.self c.args.slot
+    slots1 c.give_way-gone.result.0 c.give_way-gone.result.1 c.give_way-gone.new.records
     (g.E.Eviction.at c.give_way-gone.new.eviction) (g.E.Eviction.view c.give_way-gone.new.eviction) =
-    gave m laws lawful (holding s) inc n unled c.requires.out c.put-number.new.self c.args.slot
-    c.put-number.ensures.slots c.slot_under-was.result was c.give_way-gone.result c.give_way-gone.new.records
+    gave m laws lawful (holding s) inc n unled c.requires.out c.put-2.new.self c.args.slot
+    slots1 c.slot_under-was.result was c.give_way-gone.result c.give_way-gone.new.records
     (g.E.Eviction.at c.give_way-gone.new.eviction) (g.E.Eviction.view c.give_way-gone.new.eviction)
     w.none w.none_slots w.none_records w.none_places w.some w.some_slots w.some_records w.some_places in
     let x0 = c.args.slot in
     let there2 : slot_in c.give_way-gone.new.records n ≡ Some x0 = new_there m laws lawful (holding s) inc n unled
-    c.requires.out c.put-number.new.self c.args.slot c.put-number.ensures.slots c.give_way-gone.result.0
+    c.requires.out c.put-2.new.self c.args.slot slots1 c.give_way-gone.result.0
     c.give_way-gone.result.1 c.give_way-gone.new.records (g.E.Eviction.at c.give_way-gone.new.eviction)
     (g.E.Eviction.view c.give_way-gone.new.eviction) gv in
     let slots3 : (q : ℕ) → slot_in c.set_place.new.self q ≡ update nat_eq (slot_in c.give_way-gone.new.records) n
@@ -306,16 +294,16 @@ overflow_add-self-2 g c =
     (λ q. c.set_place.ensures.slots x0 there2 q ∙ ap (λ (x : Kept g.row.K.Denot g.row.V.Denot g.row.P.Denot). let y :
     Kept g.row.K.Denot g.row.V.Denot g.row.P.Denot = record x { place = Some c.push-place.result } in update nat_eq
     (slot_in c.give_way-gone.new.records) n (Some y) q) c.requires.coming) in
-    let recs1 : (i : ℕ) → record_in c.put-number.new.self i
+    let recs1 : (i : ℕ) → record_in c.put-2.new.self i
     ≡ update nat_eq (record_in s.records) inc.id (Some (coming_rec inc)) i =
-    (λ i. c.put-number.ensures.records i ∙ ap (λ (x : Kept g.row.K.Denot g.row.V.Denot g.row.P.Denot). update nat_eq
+    (λ i. c.put-2.ensures.records i ∙ ap (λ (x : Kept g.row.K.Denot g.row.V.Denot g.row.P.Denot). update nat_eq
     (record_in s.records) x.id (Some (rec_of x)) i) c.requires.coming) in
     let led1 : (q : _) → g.I.Finder.view c.put.new.self q
     ≡ update (same_key g.K.PartialEq.eq) (g.I.Finder.view s.index) (key_of inc.kept) (Some n) q =
     update_alike (same_key g.K.PartialEq.eq) (same_key_laws g.K.PartialEq.eq laws) (g.I.Finder.view s.index)
     (g.I.Finder.view c.put.new.self) (inc.kept.hash, c.args.key) (key_of inc.kept) (Some n)
     (alike_key g.K.PartialEq.eq inc.kept.hash c.args.key inc.kept.key c.requires.same)
-    (λ q. c.in-Ok.ensures.view q ∙ ap (λ (h : ℕ). update (same_key g.K.PartialEq.eq) (g.I.Finder.view s.index)
+    (λ q. c.in_ok-put.ensures.view q ∙ ap (λ (h : ℕ). update (same_key g.K.PartialEq.eq) (g.I.Finder.view s.index)
     (h, c.args.key) (Some n) q) hash) in
     let item : (let i : Item = record {
       id = c.id-id.result;
@@ -336,8 +324,8 @@ overflow_add-self-2 g c =
     (s.usage - c.give_way-gone.result.0) (s.entries - cond (is_some c.give_way-gone.result.1) 1 0)
     (g.E.Eviction.view c.push-place.new.self) (g.I.Finder.view c.put.new.self) c.set_place.new.self
     (g.E.Eviction.at c.push-place.new.self) (max s.next (inc.id + 1)) =
-    gave_admitted m laws lawful (holding s) inc n unled c.requires.out c.put-number.new.self c.args.slot
-    c.put-number.ensures.slots c.give_way-gone.result.0 c.give_way-gone.result.1 c.give_way-gone.new.records
+    gave_admitted m laws lawful (holding s) inc n unled c.requires.out c.put-2.new.self c.args.slot
+    slots1 c.give_way-gone.result.0 c.give_way-gone.result.1 c.give_way-gone.new.records
     (g.E.Eviction.at c.give_way-gone.new.eviction) (g.E.Eviction.view c.give_way-gone.new.eviction) gv
     c.requires.coming c.set_place.new.self c.push-place.result (g.I.Finder.view c.put.new.self)
     (g.E.Eviction.at c.push-place.new.self) (g.E.Eviction.view c.push-place.new.self) (max s.next (inc.id + 1))
@@ -361,25 +349,29 @@ invariant_of-self-2 g c =
     let laws = g.met.K.Eq.laws in
     let m = meaning_of s in
     let inc : Incoming g.row.K.Denot g.row.V.Denot g.row.P.Denot = incoming_of c.args.slot in
-    let n = c.put-number.result.0 in
-    let unled = led_not m laws lawful (holding s) n c.put-number.result.1 c.put-number.ensures.stood
-    (λ r h. c.requires.out r (c.put-number.ensures.was ∙ h)) in
+    let n = c.slot_for-number.result in
+    let unled = led_not m laws lawful (holding s) n (slot_in s.records n) refl
+    (λ r h. c.requires.out r (c.slot_for-number.ensures.here inc.id (c.stands-stands.ensures
+    ∙ ap (number_of s.records) c.id-id.ensures) ∙ h)) in
+    let slots1 : (q : ℕ) → slot_in c.put-2.new.self q ≡ update nat_eq (slot_in s.records) n (Some c.args.slot) q =
+    subst (λ (x : ℕ). (q : ℕ) → slot_in c.put-2.new.self q ≡ update nat_eq (slot_in s.records) x (Some c.args.slot) q)
+    (c.put-2.ensures.slot ∙ sym c.slot_for-number.ensures.slot) c.put-2.ensures.slots in
     let hash : c.hash-hash.result ≡ inc.kept.hash = c.hash-hash.ensures in
     let was : c.slot_under-was.result ≡ g.I.Finder.view s.index (key_of inc.kept) = c.slot_under-was.ensures ∙ ap
     (λ (h : ℕ). g.I.Finder.view s.index (h, c.args.key)) hash ∙ g.met.I.Finder.respects s.index
     (inc.kept.hash, c.args.key) (key_of inc.kept) (alike_key g.K.PartialEq.eq inc.kept.hash c.args.key inc.kept.key
     c.requires.same) in
     let w = c.give_way-gone.ensures in
-    let gv : Gave m laws lawful (holding s) inc n unled c.requires.out c.put-number.new.self c.args.slot
-    c.put-number.ensures.slots c.give_way-gone.result.0 c.give_way-gone.result.1 c.give_way-gone.new.records
+    let gv : Gave m laws lawful (holding s) inc n unled c.requires.out c.put-2.new.self c.args.slot
+    slots1 c.give_way-gone.result.0 c.give_way-gone.result.1 c.give_way-gone.new.records
     (g.E.Eviction.at c.give_way-gone.new.eviction) (g.E.Eviction.view c.give_way-gone.new.eviction) =
-    gave m laws lawful (holding s) inc n unled c.requires.out c.put-number.new.self c.args.slot
-    c.put-number.ensures.slots c.slot_under-was.result was c.give_way-gone.result c.give_way-gone.new.records
+    gave m laws lawful (holding s) inc n unled c.requires.out c.put-2.new.self c.args.slot
+    slots1 c.slot_under-was.result was c.give_way-gone.result c.give_way-gone.new.records
     (g.E.Eviction.at c.give_way-gone.new.eviction) (g.E.Eviction.view c.give_way-gone.new.eviction)
     w.none w.none_slots w.none_records w.none_places w.some w.some_slots w.some_records w.some_places in
     let x0 = c.args.slot in
     let there2 : slot_in c.give_way-gone.new.records n ≡ Some x0 = new_there m laws lawful (holding s) inc n unled
-    c.requires.out c.put-number.new.self c.args.slot c.put-number.ensures.slots c.give_way-gone.result.0
+    c.requires.out c.put-2.new.self c.args.slot slots1 c.give_way-gone.result.0
     c.give_way-gone.result.1 c.give_way-gone.new.records (g.E.Eviction.at c.give_way-gone.new.eviction)
     (g.E.Eviction.view c.give_way-gone.new.eviction) gv in
     let slots3 : (q : ℕ) → slot_in c.set_place.new.self q ≡ update nat_eq (slot_in c.give_way-gone.new.records) n
@@ -387,16 +379,16 @@ invariant_of-self-2 g c =
     (λ q. c.set_place.ensures.slots x0 there2 q ∙ ap (λ (x : Kept g.row.K.Denot g.row.V.Denot g.row.P.Denot). let y :
     Kept g.row.K.Denot g.row.V.Denot g.row.P.Denot = record x { place = Some c.push-place.result } in update nat_eq
     (slot_in c.give_way-gone.new.records) n (Some y) q) c.requires.coming) in
-    let recs1 : (i : ℕ) → record_in c.put-number.new.self i
+    let recs1 : (i : ℕ) → record_in c.put-2.new.self i
     ≡ update nat_eq (record_in s.records) inc.id (Some (coming_rec inc)) i =
-    (λ i. c.put-number.ensures.records i ∙ ap (λ (x : Kept g.row.K.Denot g.row.V.Denot g.row.P.Denot). update nat_eq
+    (λ i. c.put-2.ensures.records i ∙ ap (λ (x : Kept g.row.K.Denot g.row.V.Denot g.row.P.Denot). update nat_eq
     (record_in s.records) x.id (Some (rec_of x)) i) c.requires.coming) in
     let led1 : (q : _) → g.I.Finder.view c.put.new.self q
     ≡ update (same_key g.K.PartialEq.eq) (g.I.Finder.view s.index) (key_of inc.kept) (Some n) q =
     update_alike (same_key g.K.PartialEq.eq) (same_key_laws g.K.PartialEq.eq laws) (g.I.Finder.view s.index)
     (g.I.Finder.view c.put.new.self) (inc.kept.hash, c.args.key) (key_of inc.kept) (Some n)
     (alike_key g.K.PartialEq.eq inc.kept.hash c.args.key inc.kept.key c.requires.same)
-    (λ q. c.in-Ok.ensures.view q ∙ ap (λ (h : ℕ). update (same_key g.K.PartialEq.eq) (g.I.Finder.view s.index)
+    (λ q. c.in_ok-put.ensures.view q ∙ ap (λ (h : ℕ). update (same_key g.K.PartialEq.eq) (g.I.Finder.view s.index)
     (h, c.args.key) (Some n) q) hash) in
     let item : (let i : Item = record {
       id = c.id-id.result;
@@ -417,8 +409,8 @@ invariant_of-self-2 g c =
     (s.usage - c.give_way-gone.result.0) (s.entries - cond (is_some c.give_way-gone.result.1) 1 0)
     (g.E.Eviction.view c.push-place.new.self) (g.I.Finder.view c.put.new.self) c.set_place.new.self
     (g.E.Eviction.at c.push-place.new.self) c.above-self.result =
-    gave_admitted m laws lawful (holding s) inc n unled c.requires.out c.put-number.new.self c.args.slot
-    c.put-number.ensures.slots c.give_way-gone.result.0 c.give_way-gone.result.1 c.give_way-gone.new.records
+    gave_admitted m laws lawful (holding s) inc n unled c.requires.out c.put-2.new.self c.args.slot
+    slots1 c.give_way-gone.result.0 c.give_way-gone.result.1 c.give_way-gone.new.records
     (g.E.Eviction.at c.give_way-gone.new.eviction) (g.E.Eviction.view c.give_way-gone.new.eviction) gv
     c.requires.coming c.set_place.new.self c.push-place.result (g.I.Finder.view c.put.new.self)
     (g.E.Eviction.at c.push-place.new.self) (g.E.Eviction.view c.push-place.new.self) c.above-self.result recs1 led1
@@ -446,25 +438,29 @@ returns-clause-admitted g c =
     let laws = g.met.K.Eq.laws in
     let m = meaning_of s in
     let inc : Incoming g.row.K.Denot g.row.V.Denot g.row.P.Denot = incoming_of c.args.slot in
-    let n = c.put-number.result.0 in
-    let unled = led_not m laws lawful (holding s) n c.put-number.result.1 c.put-number.ensures.stood
-    (λ r h. c.requires.out r (c.put-number.ensures.was ∙ h)) in
+    let n = c.slot_for-number.result in
+    let unled = led_not m laws lawful (holding s) n (slot_in s.records n) refl
+    (λ r h. c.requires.out r (c.slot_for-number.ensures.here inc.id (c.stands-stands.ensures
+    ∙ ap (number_of s.records) c.id-id.ensures) ∙ h)) in
+    let slots1 : (q : ℕ) → slot_in c.put-2.new.self q ≡ update nat_eq (slot_in s.records) n (Some c.args.slot) q =
+    subst (λ (x : ℕ). (q : ℕ) → slot_in c.put-2.new.self q ≡ update nat_eq (slot_in s.records) x (Some c.args.slot) q)
+    (c.put-2.ensures.slot ∙ sym c.slot_for-number.ensures.slot) c.put-2.ensures.slots in
     let hash : c.hash-hash.result ≡ inc.kept.hash = c.hash-hash.ensures in
     let was : c.slot_under-was.result ≡ g.I.Finder.view s.index (key_of inc.kept) = c.slot_under-was.ensures ∙ ap
     (λ (h : ℕ). g.I.Finder.view s.index (h, c.args.key)) hash ∙ g.met.I.Finder.respects s.index
     (inc.kept.hash, c.args.key) (key_of inc.kept) (alike_key g.K.PartialEq.eq inc.kept.hash c.args.key inc.kept.key
     c.requires.same) in
     let w = c.give_way-gone.ensures in
-    let gv : Gave m laws lawful (holding s) inc n unled c.requires.out c.put-number.new.self c.args.slot
-    c.put-number.ensures.slots c.give_way-gone.result.0 c.give_way-gone.result.1 c.give_way-gone.new.records
+    let gv : Gave m laws lawful (holding s) inc n unled c.requires.out c.put-2.new.self c.args.slot
+    slots1 c.give_way-gone.result.0 c.give_way-gone.result.1 c.give_way-gone.new.records
     (g.E.Eviction.at c.give_way-gone.new.eviction) (g.E.Eviction.view c.give_way-gone.new.eviction) =
-    gave m laws lawful (holding s) inc n unled c.requires.out c.put-number.new.self c.args.slot
-    c.put-number.ensures.slots c.slot_under-was.result was c.give_way-gone.result c.give_way-gone.new.records
+    gave m laws lawful (holding s) inc n unled c.requires.out c.put-2.new.self c.args.slot
+    slots1 c.slot_under-was.result was c.give_way-gone.result c.give_way-gone.new.records
     (g.E.Eviction.at c.give_way-gone.new.eviction) (g.E.Eviction.view c.give_way-gone.new.eviction)
     w.none w.none_slots w.none_records w.none_places w.some w.some_slots w.some_records w.some_places in
     let x0 = c.args.slot in
     let there2 : slot_in c.give_way-gone.new.records n ≡ Some x0 = new_there m laws lawful (holding s) inc n unled
-    c.requires.out c.put-number.new.self c.args.slot c.put-number.ensures.slots c.give_way-gone.result.0
+    c.requires.out c.put-2.new.self c.args.slot slots1 c.give_way-gone.result.0
     c.give_way-gone.result.1 c.give_way-gone.new.records (g.E.Eviction.at c.give_way-gone.new.eviction)
     (g.E.Eviction.view c.give_way-gone.new.eviction) gv in
     let slots3 : (q : ℕ) → slot_in c.set_place.new.self q ≡ update nat_eq (slot_in c.give_way-gone.new.records) n
@@ -472,16 +468,16 @@ returns-clause-admitted g c =
     (λ q. c.set_place.ensures.slots x0 there2 q ∙ ap (λ (x : Kept g.row.K.Denot g.row.V.Denot g.row.P.Denot). let y :
     Kept g.row.K.Denot g.row.V.Denot g.row.P.Denot = record x { place = Some c.push-place.result } in update nat_eq
     (slot_in c.give_way-gone.new.records) n (Some y) q) c.requires.coming) in
-    let recs1 : (i : ℕ) → record_in c.put-number.new.self i
+    let recs1 : (i : ℕ) → record_in c.put-2.new.self i
     ≡ update nat_eq (record_in s.records) inc.id (Some (coming_rec inc)) i =
-    (λ i. c.put-number.ensures.records i ∙ ap (λ (x : Kept g.row.K.Denot g.row.V.Denot g.row.P.Denot). update nat_eq
+    (λ i. c.put-2.ensures.records i ∙ ap (λ (x : Kept g.row.K.Denot g.row.V.Denot g.row.P.Denot). update nat_eq
     (record_in s.records) x.id (Some (rec_of x)) i) c.requires.coming) in
     let led1 : (q : _) → g.I.Finder.view c.put.new.self q
     ≡ update (same_key g.K.PartialEq.eq) (g.I.Finder.view s.index) (key_of inc.kept) (Some n) q =
     update_alike (same_key g.K.PartialEq.eq) (same_key_laws g.K.PartialEq.eq laws) (g.I.Finder.view s.index)
     (g.I.Finder.view c.put.new.self) (inc.kept.hash, c.args.key) (key_of inc.kept) (Some n)
     (alike_key g.K.PartialEq.eq inc.kept.hash c.args.key inc.kept.key c.requires.same)
-    (λ q. c.in-Ok.ensures.view q ∙ ap (λ (h : ℕ). update (same_key g.K.PartialEq.eq) (g.I.Finder.view s.index)
+    (λ q. c.in_ok-put.ensures.view q ∙ ap (λ (h : ℕ). update (same_key g.K.PartialEq.eq) (g.I.Finder.view s.index)
     (h, c.args.key) (Some n) q) hash) in
     let item : (let i : Item = record {
       id = c.id-id.result;
@@ -502,8 +498,8 @@ returns-clause-admitted g c =
     (s.usage - c.give_way-gone.result.0) (s.entries - cond (is_some c.give_way-gone.result.1) 1 0)
     (g.E.Eviction.view c.push-place.new.self) (g.I.Finder.view c.put.new.self) c.set_place.new.self
     (g.E.Eviction.at c.push-place.new.self) c.above-self.result =
-    gave_admitted m laws lawful (holding s) inc n unled c.requires.out c.put-number.new.self c.args.slot
-    c.put-number.ensures.slots c.give_way-gone.result.0 c.give_way-gone.result.1 c.give_way-gone.new.records
+    gave_admitted m laws lawful (holding s) inc n unled c.requires.out c.put-2.new.self c.args.slot
+    slots1 c.give_way-gone.result.0 c.give_way-gone.result.1 c.give_way-gone.new.records
     (g.E.Eviction.at c.give_way-gone.new.eviction) (g.E.Eviction.view c.give_way-gone.new.eviction) gv
     c.requires.coming c.set_place.new.self c.push-place.result (g.I.Finder.view c.put.new.self)
     (g.E.Eviction.at c.push-place.new.self) (g.E.Eviction.view c.push-place.new.self) c.above-self.result recs1 led1

@@ -70,28 +70,28 @@ unreachable-requires g c =
     (c.in-Some.item, g.E.Eviction.view c.pop.new.self) = rw c.in-Some.is at c.in_ok-item.ensures.pops in
     none_not (number_of s.records c.in-Some.item.id) (victim_known (meaning_of s) g.met.K.Eq.laws
     g.met.E.Eviction.lawful (holding s) c.in-Some.item (g.E.Eviction.view c.pop.new.self) p)
-    (sym c.find.ensures ∙ c.in_default-find.is)
+    (sym c.stands.ensures ∙ c.in_default-stands.is)
 
 pub unreachable-requires-in_default-get : goal.unreachable-requires-in_default-get
 unreachable-requires-in_default-get g c =
     let s = c.args.self.now in
     let p : g.E.Eviction.model.pop (g.E.Eviction.view s.eviction) ≡ Some
     (c.in-Some.item, g.E.Eviction.view c.pop.new.self) = rw c.in-Some.is at c.in_ok-item.ensures.pops in
-    let none : slot_in s.records c.in-Some-find.slot ≡ None = sym (rw c.in_default-get.is at c.get.ensures) in
-    none_not (slot_in s.records c.in-Some-find.slot) (victim_there (meaning_of s) g.met.K.Eq.laws
-    g.met.E.Eviction.lawful (holding s) c.in-Some.item (g.E.Eviction.view c.pop.new.self) p c.in-Some-find.slot
-    (sym c.find.ensures ∙ c.in-Some-find.is)) none
+    let none : slot_in s.records c.in-Some-stands.slot ≡ None = sym (rw c.in_default-get.is at c.get.ensures) in
+    none_not (slot_in s.records c.in-Some-stands.slot) (victim_there (meaning_of s) g.met.K.Eq.laws
+    g.met.E.Eviction.lawful (holding s) c.in-Some.item (g.E.Eviction.view c.pop.new.self) p c.in-Some-stands.slot
+    (sym c.stands.ensures ∙ c.in-Some-stands.is)) none
 
 pub take-requires-after_bounds : goal.take-requires-after_bounds
 take-requires-after_bounds g c κs within =
     let s = c.args.self.now in
     let p : g.E.Eviction.model.pop (g.E.Eviction.view s.eviction) ≡ Some
     (c.in-Some.item, g.E.Eviction.view c.pop.new.self) = rw c.in-Some.is at c.in_ok-item.ensures.pops in
-    let there : slot_in s.records c.in-Some-find.slot ≡ Some c.in-Some-get.found.now =
+    let there : slot_in s.records c.in-Some-stands.slot ≡ Some c.in-Some-get.found.now =
     sym (rw c.in-Some-get.is at c.get.ensures) in
     rw (c.hash.ensures, c.key.ensures) (victim_led (meaning_of s) g.met.K.Eq.laws g.met.E.Eviction.lawful (holding s)
-    c.in-Some.item (g.E.Eviction.view c.pop.new.self) p c.in-Some-find.slot c.in-Some-get.found.now
-    (sym c.find.ensures ∙ c.in-Some-find.is) there)
+    c.in-Some.item (g.E.Eviction.view c.pop.new.self) p c.in-Some-stands.slot c.in-Some-get.found.now
+    (sym c.stands.ensures ∙ c.in-Some-stands.is) there)
 
 pub overflow_sub-self : goal.overflow_sub-self
 overflow_sub-self g c =
@@ -114,11 +114,11 @@ leave-requires g c =
     let s = c.args.self.now in
     let p : g.E.Eviction.model.pop (g.E.Eviction.view s.eviction) ≡ Some
     (c.in-Some.item, g.E.Eviction.view c.pop.new.self) = rw c.in-Some.is at c.in_ok-item.ensures.pops in
-    let there : slot_in s.records c.in-Some-find.slot ≡ Some c.in-Some-get.found.now =
+    let there : slot_in s.records c.in-Some-stands.slot ≡ Some c.in-Some-get.found.now =
     sym (rw c.in-Some-get.is at c.get.ensures) in
     let res = victim_resident (meaning_of s) g.met.K.Eq.laws g.met.E.Eviction.lawful (holding s) c.in-Some.item
-    (g.E.Eviction.view c.pop.new.self) p c.in-Some-find.slot c.in-Some-get.found.now
-    (sym c.find.ensures ∙ c.in-Some-find.is) there in
+    (g.E.Eviction.view c.pop.new.self) p c.in-Some-stands.slot c.in-Some-get.found.now
+    (sym c.stands.ensures ∙ c.in-Some-stands.is) there in
     subst (λ (o : Option (Kept g.row.K.Denot g.row.V.Denot g.row.P.Denot)). IsSomeAnd o (λ x. x.resident ≡ true))
     (sym there) res
 
@@ -131,19 +131,19 @@ invariant_of-self-2 g c =
     let x = c.in-Some-get.found.now in
     let p : g.E.Eviction.model.pop (g.E.Eviction.view s.eviction) ≡ Some (c.in-Some.item, v) =
     rw c.in-Some.is at c.in_ok-item.ensures.pops in
-    let there : slot_in s.records c.in-Some-find.slot ≡ Some x = sym (rw c.in-Some-get.is at c.get.ensures) in
-    let known : number_of s.records c.in-Some.item.id ≡ Some c.in-Some-find.slot = sym c.find.ensures
-    ∙ c.in-Some-find.is in
+    let there : slot_in s.records c.in-Some-stands.slot ≡ Some x = sym (rw c.in-Some-get.is at c.get.ensures) in
+    let known : number_of s.records c.in-Some.item.id ≡ Some c.in-Some-stands.slot = sym c.stands.ensures
+    ∙ c.in-Some-stands.is in
     let places : (q : ℕ) → g.E.Eviction.at c.pop.new.self q ≡ without c.in-Some.item.id (g.E.Eviction.at s.eviction q)
     = rw c.in-Some.is at c.in_ok-item.ensures.places in
     let gone = rw (c.hash.ensures, c.key.ensures) at c.take.ensures in
     let lighter = victim_lighter (meaning_of s) laws lawful (holding s) c.in-Some.item v p s.usage s.weighed in
     let fewer = victim_entries (meaning_of s) laws lawful (holding s) c.in-Some.item v p s.entries s.counted in
     record {
-      kept = victim_kept (meaning_of s) laws lawful (holding s) c.in-Some.item v p c.in-Some-find.slot x known there
+      kept = victim_kept (meaning_of s) laws lawful (holding s) c.in-Some.item v p c.in-Some-stands.slot x known there
           c.leave.new.self (c.leave.ensures.slots x there) (c.leave.ensures.records x there)
           (g.E.Eviction.at c.pop.new.self) places (g.I.Finder.view c.take.new.self) gone;
-      stored = victim_stored (meaning_of s) laws lawful (holding s) c.in-Some.item v p c.in-Some-find.slot x known
+      stored = victim_stored (meaning_of s) laws lawful (holding s) c.in-Some.item v p c.in-Some-stands.slot x known
           there c.leave.new.self (c.leave.ensures.slots x there) (c.leave.ensures.records x there)
           (g.E.Eviction.at c.pop.new.self) places (g.I.Finder.view c.take.new.self) gone;
       weighed = victim_weight (meaning_of s) laws lawful (holding s) c.in-Some.item v p s.usage s.weighed;
@@ -160,9 +160,9 @@ returns-clause-some g c =
     let x = c.in-Some-get.found.now in
     let p : g.E.Eviction.model.pop (g.E.Eviction.view s.eviction) ≡ Some (c.in-Some.item, v) =
     rw c.in-Some.is at c.in_ok-item.ensures.pops in
-    let there : slot_in s.records c.in-Some-find.slot ≡ Some x = sym (rw c.in-Some-get.is at c.get.ensures) in
-    let known : number_of s.records c.in-Some.item.id ≡ Some c.in-Some-find.slot = sym c.find.ensures
-    ∙ c.in-Some-find.is in
+    let there : slot_in s.records c.in-Some-stands.slot ≡ Some x = sym (rw c.in-Some-get.is at c.get.ensures) in
+    let known : number_of s.records c.in-Some.item.id ≡ Some c.in-Some-stands.slot = sym c.stands.ensures
+    ∙ c.in-Some-stands.is in
     let places : (q : ℕ) → g.E.Eviction.at c.pop.new.self q ≡ without c.in-Some.item.id (g.E.Eviction.at s.eviction q)
     = rw c.in-Some.is at c.in_ok-item.ensures.places in
     let gone = rw (c.hash.ensures, c.key.ensures) at c.take.ensures in
@@ -171,12 +171,12 @@ returns-clause-some g c =
       view = v;
       rec = rec_of x;
       popped = p;
-      there = victim_record (meaning_of s) laws lawful (holding s) c.in-Some.item v p c.in-Some-find.slot x known
+      there = victim_record (meaning_of s) laws lawful (holding s) c.in-Some.item v p c.in-Some-stands.slot x known
           there c.leave.new.self (c.leave.ensures.slots x there) (c.leave.ensures.records x there)
           (g.E.Eviction.at c.pop.new.self) places (g.I.Finder.view c.take.new.self) gone;
       gone_is = c.leave.ensures.left x there ∙ victim_gone (meaning_of s) laws lawful (holding s) c.in-Some.item v p
-          c.in-Some-find.slot x known there;
-      after = victim_after (meaning_of s) laws lawful (holding s) c.in-Some.item v p c.in-Some-find.slot x known there
+          c.in-Some-stands.slot x known there;
+      after = victim_after (meaning_of s) laws lawful (holding s) c.in-Some.item v p c.in-Some-stands.slot x known there
           c.leave.new.self (c.leave.ensures.slots x there) (c.leave.ensures.records x there)
           (g.E.Eviction.at c.pop.new.self) places (g.I.Finder.view c.take.new.self) gone;
     }
