@@ -105,7 +105,7 @@ fn put_in<E: Eviction, S: HashBuilder>(
 }
 
 // Gives an entry back that the core owns.
-#[inline]
+#[inline(always)]
 fn end<E: Eviction, S: HashBuilder>(
     core: &mut Core<E, S>,
     entry: CoreEntry<u64, u64, CacheProperties>,
