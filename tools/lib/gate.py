@@ -71,20 +71,23 @@ class Gate:
     def prove_and_test(self):
         """Proves every crate, lowest first, and runs all tests beside that. Of the crates whose turn has come, the one
         with the longest chain of work above it is proved by as many processes as there are processors. Others are proved
-        beside it, by one process each, which yields to those: they fill the time in which it waits for its last
-        functions."""
+        beside it, by one or two, which yield to those: they fill the time in which it waits for its last functions. No
+        crate is put before one that has a longer chain and is being proved."""
         lowest, tests = self.crates.lowest_first(), self.tested()
-        left = sorted(lowest, key=lambda it: (-longest_chain(self.crates, it), not self.is_program(it)))
+        chain = {it: longest_chain(self.crates, it) for it in lowest}
+        left = sorted(lowest, key=lambda it: (-chain[it], not self.is_program(it)))
         running, proved = {}, set()
-        jobs, fillers = lanes(processors(), free_memory())
+        jobs, beside = lanes(processors(), free_memory())
+        processes = [jobs, *beside]
         with ThreadPoolExecutor() as pool:
             while left or tests or running:
                 ready = [it for it in left if {*self.crates.uses[it]} <= proved]
                 taken = {lane for lane, _ in running.values()}
-                for lane in [it for it in range(1 + fillers) if it not in taken][: len(ready)]:
+                for lane in [it for it in range(len(processes)) if it not in taken][: len(ready)]:
                     name = ready.pop(0)
                     left.remove(name)
-                    running[pool.submit(self.prove, name, 1 if lane else jobs, bool(lane))] = lane, name
+                    leads = not lane and all(chain[it] <= chain[name] for at, it in running.values() if at != "tests")
+                    running[pool.submit(self.prove, name, processes[lane] if lane or leads else 1, not leads)] = lane, name
                 if tests and "tests" not in taken:
                     name = tests.pop(0)
                     running[pool.submit(self.test, name)] = "tests", name

@@ -31,8 +31,9 @@ PROCESS, OTHERS = 2.7, 2
 
 
 def lanes(processors, free):
-    """How many processes prove the crate that all wait for, and how many crates are proved beside it, by one process
-    each, where there are so many gigabytes: two on four processors."""
+    """How many processes prove the crate that all wait for, and how many each of those that are proved beside it, where
+    there are so many gigabytes: four, and two and one, on four processors."""
     processes = max(1, int((free - OTHERS) / PROCESS))
     jobs = max(1, min(processors, 4, processes - 1))
-    return jobs, min(max(1, processors // 2), processes - jobs)
+    beside = min(processes - jobs, 3 if processors > 3 else 1)
+    return jobs, [2, 1] if beside == 3 else [1] * beside
