@@ -1,12 +1,12 @@
 //! Four threads over the four audited shards of one configuration.
 
-ghost use Rattle.std.specs.Prelude.{◌≡◌};
+ghost use Rattle.std.specs.Prelude.{◌≡◌, true};
 
 use crate::testing::{Plain, command, config, insert, next, session};
 use foyer_audit::{AuditedShard, Closed, Share};
 use foyer_core::{AdmitAll, CacheProperties, UnitWeighter};
-use foyer_policy::{Fifo, FifoConfig, ModHasher};
-use foyer_session::{Answer, Command, NoPredicate};
+use foyer_policy::{Fifo, FifoConfig, ModHasher, Properties, Result};
+use foyer_session::{Answer, Command, NoPredicate, Reply};
 use std::alloc::{AllocError, Global};
 use std::marker::Brand;
 use std::process::Abort;
@@ -16,12 +16,12 @@ use std::test::Fail;
 use std::thread;
 use std::thread::Threads;
 
-type Shard<G> = AuditedShard<
+type ShardOf<G, P> = AuditedShard<
     G,
     Fifo,
     u64,
     u64,
-    CacheProperties,
+    P,
     ModHasher,
     UnitWeighter,
     AdmitAll,
@@ -29,7 +29,11 @@ type Shard<G> = AuditedShard<
     FifoConfig,
 >;
 
-type Part<G> = Share<G, u64, u64, CacheProperties, NoPredicate, FifoConfig>;
+type Shard<G> = ShardOf<G, CacheProperties>;
+
+type PartOf<G, P> = Share<G, u64, u64, P, NoPredicate, FifoConfig>;
+
+type Part<G> = PartOf<G, CacheProperties>;
 
 type Ended = Closed<u64, u64, CacheProperties, NoPredicate, FifoConfig>;
 
@@ -51,6 +55,18 @@ struct Hand<A: Ledger, B: Ledger, C: Ledger, D: Ledger> {
     d: Part<D>,
 }
 
+// Calls a shard of records with any properties whose clones equal them.
+fn call<G: Ledger, P: Properties + Clone + Eq>(
+    rt: &impl Wait,
+    shard: &ShardOf<G, P>,
+    share: &mut PartOf<G, P>,
+    asked: Command<u64, u64, P, NoPredicate, FifoConfig>,
+) -> Result<(Option<Reply<u64, u64, P>>, u64)>
+    requires { (k c : P) → P.is_clone k c → P.eq c k ≡ true }
+{
+    shard.call(rt, share, asked)
+}
+
 // Makes the call of a number on the shard of this number. Whether it was replied to.
 fn ask<G: Ledger>(
     rt: &impl Wait,
@@ -60,9 +76,9 @@ fn ask<G: Ledger>(
     number: u64,
     of: u64,
 ) -> bool {
-    let key = (number >> 40) % 16 * 4 + of;
+    let key = ((number >> 40) % 16 * 4).wrapping_add(of);
     match command(alloc, number, key) {
-        Ok(asked) => matches!(shard.call(rt, share, asked), Ok((Some(_), _))),
+        Ok(asked) => matches!(call(rt, shard, share, asked), Ok((Some(_), _))),
         Err(_) => false,
     }
 }
@@ -90,6 +106,28 @@ fn work<A: Ledger, B: Ledger, C: Ledger, D: Ledger>(
         number = next(number);
     }
     replied
+}
+
+// Two threads, each with a share in each shard. How many calls of each were replied to.
+fn two_threads<
+    A: Ledger + Send + Sync,
+    B: Ledger + Send + Sync,
+    C: Ledger + Send + Sync,
+    D: Ledger + Send + Sync,
+    R: Threads + Wait + Sync,
+>(
+    rt: &R,
+    alloc: Global,
+    shards: &Shards<A, B, C, D>,
+    hands: (&mut Hand<A, B, C, D>, &mut Hand<A, B, C, D>),
+    seed: u64,
+) -> (u64, u64) {
+    let (one, other) = hands;
+    thread::join(
+        rt,
+        || work(rt, alloc, shards, one, seed),
+        || work(rt, alloc, shards, other, seed.wrapping_add(1)),
+    )
 }
 
 // Whether a fresh session over the shard of this number gives the same replies.
@@ -151,16 +189,8 @@ fn four_shards<
     let all = &shards;
     let ((w, x), (y, z)) = thread::join(
         rt,
-        || thread::join(
-            rt,
-            || work(rt, alloc, all, &mut one, 1),
-            || work(rt, alloc, all, &mut two, 2),
-        ),
-        || thread::join(
-            rt,
-            || work(rt, alloc, all, &mut three, 3),
-            || work(rt, alloc, all, &mut four, 4),
-        ),
+        || two_threads(rt, alloc, all, (&mut one, &mut two), 1),
+        || two_threads(rt, alloc, all, (&mut three, &mut four), 3),
     );
     assert_eq!(rt; (w, x, y, z), (500, 500, 500, 500));
     for Hand { a, b, c, d } in [one, two, three, four] {
@@ -217,7 +247,7 @@ fn answer<G: Ledger>(
     share: &mut Part<G>,
     asked: Plain,
 ) -> std::result::Result<(Answer<u64, u64, CacheProperties>, u64), Fail> {
-    let (reply, number) = shard.call(rt, share, asked)?;
+    let (reply, number) = call(rt, shard, share, asked)?;
     let Some(reply) = reply else {
         return Err(Fail::from(AllocError));
     };
@@ -249,6 +279,25 @@ fn a_missing_share_is_noticed(rt: HostRuntime) -> std::result::Result<(), Fail> 
     one_is_missing::<Brand>(&rt, rt.alloc(), Blank::new(2))
 }
 
+// Two calls of each caller, the first of the other with a key of the first shard.
+fn call_here_and_elsewhere<G: Ledger>(
+    rt: &(impl Wait + Abort),
+    shard: &Shard<G>,
+    one: &mut Part<G>,
+    other: &mut Part<G>,
+) -> std::result::Result<(), Fail> {
+    let (told, number) = answer(rt, shard, one, insert(3, 30))?;
+    assert!(rt; matches!(told, Answer::Entry { handle: 0, .. }) && number == 0);
+    // Key 2 lives in the first shard.
+    let (told, number) = answer(rt, shard, other, insert(2, 20))?;
+    assert!(rt; matches!(told, Answer::NotHeld) && number == 1);
+    let (told, number) = answer(rt, shard, one, Command::Get(3))?;
+    assert!(rt; matches!(told, Answer::Found { handle: 1, .. }) && number == 2);
+    let (told, number) = answer(rt, shard, other, Command::Entries)?;
+    assert!(rt; matches!(told, Answer::Number(1)) && number == 3);
+    Ok(())
+}
+
 fn keys_elsewhere<G: Ledger>(
     rt: &(impl Wait + Abort),
     alloc: Global,
@@ -259,15 +308,7 @@ fn keys_elsewhere<G: Ledger>(
     requires two { blank.parts ≡ 2 }
 {
     let (shard, mut one, mut other) = two_callers::<G>(alloc, blank)?;
-    let (told, number) = answer(rt, &shard, &mut one, insert(3, 30))?;
-    assert!(rt; matches!(told, Answer::Entry { handle: 0, .. }) && number == 0);
-    // Key 2 lives in the first shard.
-    let (told, number) = answer(rt, &shard, &mut other, insert(2, 20))?;
-    assert!(rt; matches!(told, Answer::NotHeld) && number == 1);
-    let (told, number) = answer(rt, &shard, &mut one, Command::Get(3))?;
-    assert!(rt; matches!(told, Answer::Found { handle: 1, .. }) && number == 2);
-    let (told, number) = answer(rt, &shard, &mut other, Command::Entries)?;
-    assert!(rt; matches!(told, Answer::Number(1)) && number == 3);
+    call_here_and_elsewhere(rt, &shard, &mut one, &mut other)?;
     assert_eq!(rt; one.receipts().len(), 2);
     assert_eq!(rt; other.receipts().len(), 2);
     let mut shares = Vec::new(alloc);

@@ -1,5 +1,7 @@
 //! What the tests share: a cache's configuration, fresh sessions, and commands by their numbers.
 
+ghost use Rattle.std.specs.Prelude.{◌≡◌, ◌<◌};
+
 use foyer_core::{
     AdmitAll, CacheCore, CacheProperties, Limits, RawCacheConfig, UnitWeighter, shard_capacity,
 };
@@ -14,7 +16,9 @@ pub type Config = RawCacheConfig<FifoConfig, ModHasher, UnitWeighter, AdmitAll>;
 
 pub type PlainSession = Session<Fifo, u64, u64, CacheProperties, ModHasher, UnitWeighter, AdmitAll>;
 
-pub fn config(capacity: usize, shards: usize) -> Config {
+pub fn config(capacity: usize, shards: usize) -> Config
+    ensures { result.shards ≡ shards }
+{
     RawCacheConfig {
         capacity,
         shards,
@@ -28,12 +32,9 @@ pub fn config(capacity: usize, shards: usize) -> Config {
 }
 
 // A session over the one shard of this number of a cache of this capacity with so many shards.
-pub fn session(
-    alloc: Global,
-    capacity: usize,
-    shards: usize,
-    shard: usize,
-) -> Result<PlainSession> {
+pub fn session(alloc: Global, capacity: usize, shards: usize, shard: usize) -> Result<PlainSession>
+    requires { 0 < shards }
+{
     let capacity = shard_capacity(capacity, shards, shard);
     Ok(Session::new(alloc, CacheCore::new(alloc, config(capacity, 1))?))
 }

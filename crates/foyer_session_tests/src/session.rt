@@ -206,6 +206,20 @@ fn a_clone_is_a_handle_of_the_same_record(rt: HostRuntime) -> std::result::Resul
     assert_eq!(rt; handed_out(&cloned.answer), Some((1, 10)));
     let refused_clone = session.step(Plain::Clone(1))?;
     assert_eq!(rt; refused(&refused_clone.answer), Some(9));
+    Ok(())
+}
+
+#[test]
+fn a_clone_stays_when_its_handle_goes(rt: HostRuntime) -> std::result::Result<(), Fail> {
+    let limits = Limits {
+        handles: 2,
+        ..Limits::default()
+    };
+    let mut session = session(rt.alloc(), 2, limits)?;
+    session.step(insert(1, 10))?;
+    session.step(Plain::Clone(0))?;
+    // It is refused, and leaves no handle.
+    session.step(Plain::Clone(1))?;
     session.step(Plain::Drop(0))?;
     let gone = session.step(Plain::Clone(0))?;
     assert!(rt; matches!(gone.answer, Answer::NotHeld));

@@ -1,16 +1,18 @@
 //! Calls that are not what they say, which no public call makes: `close` says no.
 
+ghost use Rattle.std.specs.Prelude.{◌≡◌, ◌+◌, ◌<◌, true, OnErr, OnOk};
+
 use super::desk::Desk;
 use super::{AuditedShard, Closed};
 use crate::receipt::{Receipt, Share};
-use foyer_core::{AdmitAll, CacheProperties, Limits, RawCacheConfig, UnitWeighter};
-use foyer_policy::{Fifo, FifoConfig, ModHasher};
+use foyer_core::{AdmitAll, CacheProperties, Limits, RawCacheConfig, TagFinder, UnitWeighter};
+use foyer_policy::{Fifo, FifoConfig, ModHasher, Properties, Result};
 use foyer_session::{Answer, Command, Leaves, NoPredicate, Reply};
 use std::alloc::Global;
 use std::marker::Brand;
 use std::process::Abort;
-use std::sync::Wait;
 use std::sync::ledger::{Blank, Ledger};
+use std::sync::{Wait, ledger};
 use std::test::Fail;
 
 type Asked = Command<u64, u64, CacheProperties, NoPredicate, FifoConfig>;
@@ -30,6 +32,20 @@ type Shard<G> = AuditedShard<
     FifoConfig,
 >;
 
+type PlainDesk<G, P> = Desk<
+    G,
+    Fifo,
+    u64,
+    u64,
+    P,
+    ModHasher,
+    UnitWeighter,
+    AdmitAll,
+    NoPredicate,
+    FifoConfig,
+    TagFinder<u64>,
+>;
+
 type Part<G> = Share<G, u64, u64, CacheProperties, NoPredicate, FifoConfig>;
 
 type Ended = Closed<u64, u64, CacheProperties, NoPredicate, FifoConfig>;
@@ -41,6 +57,24 @@ struct Fake {
     number: u64,
     command: Asked,
     reply: Option<Told>,
+}
+
+// Carries a command out, and counts that. The records have any properties whose clones equal them.
+fn apply<G: Ledger, P: Properties + Clone + Eq>(
+    desk: &mut PlainDesk<G, P>,
+    mine: &mut ledger::Share<G>,
+    command: Command<u64, u64, P, NoPredicate, FifoConfig>,
+) -> Result<()>
+    requires clones { (k c : P) → P.is_clone k c → P.eq c k ≡ true }
+    requires some { 0 < mine.old.parts }
+    ensures counted { OnOk result (mine.new.amount ≡ mine.old.amount + 1) }
+    ensures parts { mine.new.parts ≡ mine.old.parts }
+    ensures err { OnErr result (mine.new.amount ≡ mine.old.amount) }
+{
+    let Desk { book, calls, .. } = desk;
+    book.apply(command)?;
+    calls.add(mine, 1);
+    Ok(())
 }
 
 // Makes one call, and leaves the receipt of another.
@@ -57,11 +91,9 @@ fn make<G: Ledger>(
         reply,
     } = fake;
     let mut desk = shard.desk.lock(rt);
-    let Desk { book, calls, .. } = &mut *desk;
     let Share { receipts, mine } = share;
     receipts.reserve(1)?;
-    book.apply(made)?;
-    calls.add(mine, 1);
+    apply(&mut desk, mine, made)?;
     receipts.push_reserved(Receipt {
         number,
         command,
@@ -108,6 +140,16 @@ fn end<G: Ledger>(
     Ok(shard.close(shares))
 }
 
+// The same, over a ledger of its own.
+fn ended_with(
+    rt: &impl Wait,
+    alloc: Global,
+    apart: bool,
+    fakes: (Fake, Fake),
+) -> std::result::Result<Ended, Fail> {
+    end::<Brand>(rt, alloc, Blank::new(2), apart, fakes)
+}
+
 fn call(key: u64, number: u64) -> Fake {
     Fake {
         made: Command::Contains(key),
@@ -120,10 +162,10 @@ fn call(key: u64, number: u64) -> Fake {
 #[test]
 fn honest_receipts_account(rt: HostRuntime) -> std::result::Result<(), Fail> {
     let alloc = rt.alloc();
-    let ended = end::<Brand>(&rt, alloc, Blank::new(2), false, (call(1, 0), call(2, 1)))?;
+    let ended = ended_with(&rt, alloc, false, (call(1, 0), call(2, 1)))?;
     assert!(rt; ended.yes);
     assert_eq!(rt; ended.history.len(), 2);
-    let ended = end::<Brand>(&rt, alloc, Blank::new(2), true, (call(1, 0), call(2, 1)))?;
+    let ended = ended_with(&rt, alloc, true, (call(1, 0), call(2, 1)))?;
     assert!(rt; ended.yes);
     Ok(())
 }
@@ -137,7 +179,7 @@ fn another_command_is_noticed(rt: HostRuntime) -> std::result::Result<(), Fail> 
         command: Command::Get(2),
         reply: None,
     };
-    let ended = end::<Brand>(&rt, rt.alloc(), Blank::new(2), false, (call(1, 0), fake))?;
+    let ended = ended_with(&rt, rt.alloc(), false, (call(1, 0), fake))?;
     assert!(rt; !ended.yes);
     Ok(())
 }
@@ -155,10 +197,10 @@ fn another_reply_is_noticed(rt: HostRuntime) -> std::result::Result<(), Fail> {
         }),
     };
     let fakes = (call(1, 0), told(Answer::No));
-    let ended = end::<Brand>(&rt, alloc, Blank::new(2), false, fakes)?;
+    let ended = ended_with(&rt, alloc, false, fakes)?;
     assert!(rt; ended.yes);
     let fakes = (call(1, 0), told(Answer::Yes));
-    let ended = end::<Brand>(&rt, alloc, Blank::new(2), false, fakes)?;
+    let ended = ended_with(&rt, alloc, false, fakes)?;
     assert!(rt; !ended.yes);
     Ok(())
 }
@@ -169,7 +211,7 @@ fn one_number_for_two_is_noticed(rt: HostRuntime) -> std::result::Result<(), Fai
     let alloc = rt.alloc();
     for apart in [false, true] {
         let fakes = (call(1, 0), call(1, 0));
-        let ended = end::<Brand>(&rt, alloc, Blank::new(2), apart, fakes)?;
+        let ended = ended_with(&rt, alloc, apart, fakes)?;
         assert!(rt; !ended.yes);
     }
     Ok(())
@@ -179,9 +221,9 @@ fn one_number_for_two_is_noticed(rt: HostRuntime) -> std::result::Result<(), Fai
 #[test]
 fn another_order_is_noticed(rt: HostRuntime) -> std::result::Result<(), Fail> {
     let alloc = rt.alloc();
-    let ended = end::<Brand>(&rt, alloc, Blank::new(2), false, (call(1, 1), call(1, 0)))?;
+    let ended = ended_with(&rt, alloc, false, (call(1, 1), call(1, 0)))?;
     assert!(rt; !ended.yes);
-    let ended = end::<Brand>(&rt, alloc, Blank::new(2), true, (call(1, 1), call(1, 0)))?;
+    let ended = ended_with(&rt, alloc, true, (call(1, 1), call(1, 0)))?;
     assert!(rt; ended.yes);
     Ok(())
 }
@@ -189,13 +231,7 @@ fn another_order_is_noticed(rt: HostRuntime) -> std::result::Result<(), Fail> {
 // A number that is none of the history's.
 #[test]
 fn a_number_of_no_call_is_noticed(rt: HostRuntime) -> std::result::Result<(), Fail> {
-    let ended = end::<Brand>(
-        &rt,
-        rt.alloc(),
-        Blank::new(2),
-        false,
-        (call(1, 0), call(1, 2)),
-    )?;
+    let ended = ended_with(&rt, rt.alloc(), false, (call(1, 0), call(1, 2)))?;
     assert!(rt; !ended.yes);
     Ok(())
 }

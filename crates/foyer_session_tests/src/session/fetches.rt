@@ -215,6 +215,16 @@ fn a_fault_is_of_all(rt: HostRuntime) -> Failed {
     got_nothing(&rt, &failed.answer, 2, 0, Some(11));
     let again = session.step(Plain::Fail(7, 0, fault(alloc)?))?;
     assert!(rt; matches!(again.answer, Answer::Lost));
+    Ok(())
+}
+
+#[test]
+fn a_new_fetch_follows_one_that_failed(rt: HostRuntime) -> Failed {
+    let alloc = rt.alloc();
+    let mut session = plain(alloc)?;
+    session.step(ask(7, None))?;
+    session.step(ask(7, None))?;
+    session.step(Plain::Fail(7, 0, fault(alloc)?))?;
     let next = session.step(ask(7, None))?;
     assert!(rt; matches!(next.answer, Answer::Lead { fetch: 1, token: 2 }));
     let overtaken = session.step(Plain::Cancel(7, 0))?;
