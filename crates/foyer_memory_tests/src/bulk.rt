@@ -18,8 +18,8 @@ fn a_flush_by_a_predicate(rt: HostRuntime) -> std::result::Result<(), Fail> {
         4,
         &notes,
     )?;
-    for key in 0..8u64 {
-        drop(cache.insert(key, 10 * key)?);
+    for key in 0..8u32 {
+        drop(cache.insert(key, u64::from(10 * key))?);
     }
     let held = cache.insert(8, 80)?;
     let flush = cache.flush_if(|key, value| *key % 2 == 0 && *value < 60 || *key == 8);
@@ -55,8 +55,8 @@ fn a_resize(rt: HostRuntime) -> std::result::Result<(), Fail> {
         &notes,
     )?;
     let cache: Heard<HostRuntime> = cache;
-    for key in 0..512u64 {
-        drop(cache.insert(key, key)?);
+    for key in 0..512u32 {
+        drop(cache.insert(key, u64::from(key))?);
     }
     assert_eq!(rt; cache.usage(), 256);
     let before = notes.count();
@@ -66,8 +66,8 @@ fn a_resize(rt: HostRuntime) -> std::result::Result<(), Fail> {
     assert_eq!(rt; notes.at(before).ok_or("none")?, first);
     assert_eq!(rt; (cache.usage(), cache.capacity()), (128, 128));
     assert!(rt; !cache.contains(&256) && cache.contains(&511));
-    for key in 0..512u64 {
-        drop(cache.insert(key, key)?);
+    for key in 0..512u32 {
+        drop(cache.insert(key, u64::from(key))?);
     }
     assert_eq!(rt; cache.usage(), 128);
     Ok(())

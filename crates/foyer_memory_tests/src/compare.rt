@@ -20,55 +20,55 @@ use std::test::Fail;
 
 mod runs;
 
-type Target = FetchTarget<u64, u64, CacheProperties>;
+type Target = FetchTarget<u32, u64, CacheProperties>;
 
 /// What a fetch gives, at once.
 type Given = Ready<Result<Target, Fault>>;
 
 type Two<H> = Cache<
     H,
-    u64,
+    u32,
     u64,
     ModHasher,
     CacheProperties,
     UnitWeighter,
     AdmitAll,
     Ear,
-    NoopPipe<u64, u64>,
+    NoopPipe<u32, u64>,
     Direct<Given>,
 >;
 
 type TwoEntry<H> = CacheEntry<
     H,
-    u64,
+    u32,
     u64,
     ModHasher,
     CacheProperties,
     UnitWeighter,
     AdmitAll,
     Ear,
-    NoopPipe<u64, u64>,
+    NoopPipe<u32, u64>,
     Direct<Given>,
 >;
 
 type Tasks<H> = ListSpawner<
     FetchTask<
         H,
-        u64,
+        u32,
         u64,
         ModHasher,
         CacheProperties,
         UnitWeighter,
         AdmitAll,
         Ear,
-        NoopPipe<u64, u64>,
+        NoopPipe<u32, u64>,
         Direct<Given>,
     >,
 >;
 
-type One<E> = CacheCore<E, u64, u64, CacheProperties, ModHasher>;
+type One<E> = CacheCore<E, u32, u64, CacheProperties, ModHasher>;
 
-type Handle = CoreEntry<u64, u64, CacheProperties>;
+type Handle = CoreEntry<u32, u64, CacheProperties>;
 
 /// A handle of the core, which is discarded where it is not given back.
 struct Kept(Option<Handle>);
@@ -106,7 +106,7 @@ fn given(value: u64) -> Given {
 
 impl<H: Wait + RandomSource + Alloc<A = Global> + Copy + Drop, E: Eviction> Both<H, E> {
     // What the core handed out.
-    fn note(&mut self, leaves: Vec<Leave<u64, u64, CacheProperties>>) -> Result<(), Fail> {
+    fn note(&mut self, leaves: Vec<Leave<u32, u64, CacheProperties>>) -> Result<(), Fail> {
         for (event, left) in leaves.as_slice() {
             self.left
                 .push(Note::Leave(*event, *left.key(), *left.value()))?;
@@ -153,7 +153,7 @@ impl<H: Wait + RandomSource + Alloc<A = Global> + Copy + Drop, E: Eviction> Both
     }
 
     // An insert.
-    fn insert(&mut self, alloc: Global, key: u64, value: u64) -> Result<bool, Fail> {
+    fn insert(&mut self, alloc: Global, key: u32, value: u64) -> Result<bool, Fail> {
         let entry = self.cache.insert(key, value)?;
         let (kept, leaves) = match self.core.insert(key, value) {
             Ok(
@@ -173,7 +173,7 @@ impl<H: Wait + RandomSource + Alloc<A = Global> + Copy + Drop, E: Eviction> Both
     }
 
     // A remove.
-    fn remove(&mut self, alloc: Global, key: u64) -> Result<bool, Fail> {
+    fn remove(&mut self, alloc: Global, key: u32) -> Result<bool, Fail> {
         let entry = self.cache.remove(&key)?;
         match self.core.remove(&key)? {
             Some((handle, left)) => {
@@ -187,7 +187,7 @@ impl<H: Wait + RandomSource + Alloc<A = Global> + Copy + Drop, E: Eviction> Both
     }
 
     // Two look-ups that fetch, and the fetch.
-    fn fetch(&mut self, rt: H, alloc: Global, key: u64, value: u64) -> Result<bool, Fail> {
+    fn fetch(&mut self, rt: H, alloc: Global, key: u32, value: u64) -> Result<bool, Fail> {
         let mut spawner: Tasks<H> = ListSpawner::new(alloc);
         let first = self
             .cache
@@ -230,7 +230,7 @@ impl<H: Wait + RandomSource + Alloc<A = Global> + Copy + Drop, E: Eviction> Both
     }
 
     // What the core answers who asks for a key: the fetch that is to be led, or a handle.
-    fn ask(&mut self, key: u64) -> Result<(Option<u64>, Kept), Fail> {
+    fn ask(&mut self, key: u32) -> Result<(Option<u64>, Kept), Fail> {
         match self.core.get_or_enqueue(&key, None, ())? {
             Lookup::Hit(handle) => Ok((None, Kept(Some(handle)))),
             Lookup::Lead {
@@ -248,7 +248,7 @@ impl<H: Wait + RandomSource + Alloc<A = Global> + Copy + Drop, E: Eviction> Both
         rt: H,
         alloc: Global,
         pick: u64,
-        key: u64,
+        key: u32,
         value: u64,
     ) -> Result<bool, Fail> {
         match pick {

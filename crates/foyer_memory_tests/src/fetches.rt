@@ -17,7 +17,7 @@ use futures::task::{Context, Poll};
 use std::sync::Wait;
 use std::test::Fail;
 
-type Target = FetchTarget<u64, u64, CacheProperties>;
+type Target = FetchTarget<u32, u64, CacheProperties>;
 
 /// What a required fetch gives.
 type Surely = std::result::Result<Target, Fault>;
@@ -27,40 +27,40 @@ type Perhaps = std::result::Result<Option<Target>, Fault>;
 
 type Fetching<H, T = Direct<Ready<Surely>>> = Cache<
     H,
-    u64,
+    u32,
     u64,
     DefaultHasher,
     CacheProperties,
     UnitWeighter,
     AdmitAll,
-    NoListener<u64, u64>,
-    NoopPipe<u64, u64>,
+    NoListener<u32, u64>,
+    NoopPipe<u32, u64>,
     T,
 >;
 
 type Look<H, T> = GetOrFetch<
     H,
-    u64,
+    u32,
     u64,
     DefaultHasher,
     CacheProperties,
     UnitWeighter,
     AdmitAll,
-    NoListener<u64, u64>,
-    NoopPipe<u64, u64>,
+    NoListener<u32, u64>,
+    NoopPipe<u32, u64>,
     T,
 >;
 
 type Task<H, T> = FetchTask<
     H,
-    u64,
+    u32,
     u64,
     DefaultHasher,
     CacheProperties,
     UnitWeighter,
     AdmitAll,
-    NoListener<u64, u64>,
-    NoopPipe<u64, u64>,
+    NoListener<u32, u64>,
+    NoopPipe<u32, u64>,
     T,
 >;
 
@@ -70,7 +70,7 @@ struct May {
     fetch: Pollable<Ready<Perhaps>>,
 }
 
-impl OptionalFetchBuilder<u64, u64, CacheProperties, ()> for May {
+impl OptionalFetchBuilder<u32, u64, CacheProperties, ()> for May {
     type Fetch = Ready<Perhaps>;
 
     fn build(self, _context: &mut ()) -> Ready<Perhaps> {
@@ -82,7 +82,7 @@ impl OptionalFetchBuilder<u64, u64, CacheProperties, ()> for May {
 /// Fetch types with an optional and a required fetch.
 struct Trial;
 
-impl FetchTypes<u64, u64, CacheProperties> for Trial {
+impl FetchTypes<u32, u64, CacheProperties> for Trial {
     type Context = ();
 
     type Optional = May;
@@ -91,17 +91,17 @@ impl FetchTypes<u64, u64, CacheProperties> for Trial {
 }
 
 /// Polls a look-up twice: the value of the first answer, and the number of the second one's refusal.
-struct Twice<'a, H: Wait + Drop, T: FetchTypes<u64, u64, CacheProperties>> {
+struct Twice<'a, H: Wait + Drop, T: FetchTypes<u32, u64, CacheProperties>> {
     look: &'a mut Look<H, T>,
 }
 
-impl<H: Wait + Drop, T: FetchTypes<u64, u64, CacheProperties>> Drop for Twice<'_, H, T> {
+impl<H: Wait + Drop, T: FetchTypes<u32, u64, CacheProperties>> Drop for Twice<'_, H, T> {
     fn drop(self) {
         let Twice { look: _ } = self;
     }
 }
 
-impl<H: Wait + Drop, T: FetchTypes<u64, u64, CacheProperties>> Future for Twice<'_, H, T> {
+impl<H: Wait + Drop, T: FetchTypes<u32, u64, CacheProperties>> Future for Twice<'_, H, T> {
     type Output = (u64, u8);
 
     fn poll(&mut self, cx: &mut Context<'_>) -> Poll<(u64, u8)> {

@@ -50,8 +50,8 @@ fn a_touch_moves_back(rt: HostRuntime) -> std::result::Result<(), Fail> {
     let alloc = rt.alloc();
     let notes = Notes::new(alloc)?;
     let cache = heard(rt, alloc, whole_pool(), 3, 1, &notes)?;
-    for key in 1..4u64 {
-        drop(cache.insert(key, 10 * key)?);
+    for key in 1..4u32 {
+        drop(cache.insert(key, u64::from(10 * key))?);
     }
     assert!(rt; cache.touch(&1)?);
     drop(cache.insert(4, 40)?);
@@ -93,8 +93,8 @@ fn a_shard_without_capacity(rt: HostRuntime) -> std::result::Result<(), Fail> {
     let alloc = rt.alloc();
     let notes = Notes::new(alloc)?;
     let cache = heard(rt, alloc, EvictionConfig::from(FifoConfig {}), 2, 4, &notes)?;
-    for key in 0..3u64 {
-        drop(cache.insert(key, 10 * key)?);
+    for key in 0..3u32 {
+        drop(cache.insert(key, u64::from(10 * key))?);
     }
     assert_eq!(rt; cache.usage(), 3);
     drop(cache.insert(6, 60)?);

@@ -22,9 +22,9 @@ use std::test::Fail;
 #[derive(Clone, Copy, Debug, PartialEq, Eq)]
 pub(crate) enum Note {
     /// A leave of a key and a value.
-    Leave(Event, u64, u64),
+    Leave(Event, u32, u64),
     /// A piece of a key and a value.
-    Piece(u64, u64),
+    Piece(u32, u64),
     /// A flush of so many pieces.
     Flush(usize),
 }
@@ -91,11 +91,11 @@ impl Notes {
 pub(crate) struct Ear(pub(crate) Notes);
 
 impl EventListener for Ear {
-    type Key = u64;
+    type Key = u32;
 
     type Value = u64;
 
-    fn on_leave(&self, event: Event, key: &u64, value: &u64) {
+    fn on_leave(&self, event: Event, key: &u32, value: &u64) {
         self.0.write(Note::Leave(event, *key, *value));
     }
 }
@@ -105,7 +105,7 @@ impl EventListener for Ear {
 pub(crate) struct Tube(pub(crate) Notes);
 
 impl Pipe for Tube {
-    type Key = u64;
+    type Key = u32;
 
     type Value = u64;
 
@@ -117,11 +117,11 @@ impl Pipe for Tube {
         true
     }
 
-    fn send(&self, piece: Piece<u64, u64, CacheProperties>) {
+    fn send(&self, piece: Piece<u32, u64, CacheProperties>) {
         self.0.write(Note::Piece(*piece.key(), *piece.value()));
     }
 
-    fn flush(&self, pieces: Vec<Piece<u64, u64, CacheProperties>>) -> Ready<()>
+    fn flush(&self, pieces: Vec<Piece<u32, u64, CacheProperties>>) -> Ready<()>
         ensures { IsSome result.0 }
     {
         for piece in pieces.as_slice() {
@@ -150,10 +150,10 @@ impl<X: Future<Output = ()>> Future for Once<X> {
 #[derive(Clone, Copy)]
 pub(crate) struct ValueWeighter;
 
-impl Weighter<u64, u64> for ValueWeighter {
+impl Weighter<u32, u64> for ValueWeighter {
     ghost weighs = { λ _ _ value weight. weight ≡ value };
 
-    fn weigh(&self, _key: &u64, value: &u64) -> usize {
+    fn weigh(&self, _key: &u32, value: &u64) -> usize {
         *value as usize
     }
 }
@@ -161,7 +161,7 @@ impl Weighter<u64, u64> for ValueWeighter {
 /// A cache of numbers with keys as their own hashes, which tells a listener and a pipe that write down.
 pub(crate) type Heard<H, W = UnitWeighter> = Cache<
     H,
-    u64,
+    u32,
     u64,
     ModHasher,
     CacheProperties,

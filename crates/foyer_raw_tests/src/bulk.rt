@@ -13,7 +13,7 @@ use std::test::Fail;
 type Cache<H> = RawCache<
     H,
     Fifo,
-    u64,
+    u32,
     u64,
     ModHasher,
     CacheProperties,
@@ -29,8 +29,8 @@ fn a_flush_by_a_predicate(rt: HostRuntime) -> std::result::Result<(), Fail> {
     let notes = Notes::new(alloc)?;
     let cache: Cache<HostRuntime> = RawCache::new(rt, alloc, fifo(256, 4), Ear(notes.share()?))?;
     let cache = cache.with_pipe(Arc::new(alloc, Tube(notes.share()?))?);
-    for key in 0..8u64 {
-        drop(cache.insert(key, 10 * key)?);
+    for key in 0..8u32 {
+        drop(cache.insert(key, u64::from(10 * key))?);
     }
     let held = cache.insert(8, 80)?;
     let flush = cache.flush_if(|key, value| *key % 2 == 0 && *value < 60 || *key == 8);
@@ -75,16 +75,16 @@ fn a_resize(rt: HostRuntime) -> std::result::Result<(), Fail> {
         fifo(256, 4),
         Ear(Notes::new(alloc)?),
     )?;
-    for key in 0..512u64 {
-        drop(cache.insert(key, key)?);
+    for key in 0..512u32 {
+        drop(cache.insert(key, u64::from(key))?);
     }
     assert_eq!(rt; cache.usage(), 256);
     cache.resize(128)?;
     assert_eq!(rt; cache.usage(), 128);
     assert_eq!(rt; cache.capacity(), 128);
     assert!(rt; !cache.contains(&256) && cache.contains(&511));
-    for key in 0..512u64 {
-        drop(cache.insert(key, key)?);
+    for key in 0..512u32 {
+        drop(cache.insert(key, u64::from(key))?);
     }
     assert_eq!(rt; cache.usage(), 128);
     Ok(())
@@ -95,8 +95,8 @@ fn what_a_resize_tells(rt: HostRuntime) -> std::result::Result<(), Fail> {
     let alloc = rt.alloc();
     let notes = Notes::new(alloc)?;
     let cache: Cache<HostRuntime> = RawCache::new(rt, alloc, fifo(4, 2), Ear(notes.share()?))?;
-    for key in 0..4u64 {
-        drop(cache.insert(key, 10 * key)?);
+    for key in 0..4u32 {
+        drop(cache.insert(key, u64::from(10 * key))?);
     }
     cache.resize(2)?;
     assert!(rt;

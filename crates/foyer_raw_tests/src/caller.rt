@@ -15,20 +15,20 @@ use std::test::Fail;
 type Numbers<H, T> = RawCache<
     H,
     Lru,
-    u64,
+    u32,
     u64,
     DefaultHasher,
     CacheProperties,
     UnitWeighter,
     AdmitAll,
-    NoListener<u64, u64>,
-    NoopPipe<u64, u64>,
+    NoListener<u32, u64>,
+    NoopPipe<u32, u64>,
     T,
-    TagFinder<u64>,
+    TagFinder<u32>,
 >;
 
 /// A fetch that is ready at once.
-type Fetch = Ready<Result<FetchTarget<u64, u64, CacheProperties>, Fault>>;
+type Fetch = Ready<Result<FetchTarget<u32, u64, CacheProperties>, Fault>>;
 
 /// Polls tasks until none is left.
 #[derive(Drop)]

@@ -19,10 +19,10 @@ use std::alloc::Global;
 use std::sync::{Arc, Wait};
 use std::test::Fail;
 
-type Cache<H> = RawCache<H, Fifo, u64, u64, ModHasher>;
+type Cache<H> = RawCache<H, Fifo, u32, u64, ModHasher>;
 
 /// A fetch that is ready at once.
-type Fetch = Ready<std::result::Result<FetchTarget<u64, u64, CacheProperties>, Fault>>;
+type Fetch = Ready<std::result::Result<FetchTarget<u32, u64, CacheProperties>, Fault>>;
 
 #[test]
 fn an_entry_is_found(rt: HostRuntime) -> std::result::Result<(), Fail> {
@@ -65,7 +65,7 @@ fn texts_are_printed(rt: HostRuntime) -> std::result::Result<(), Fail> {
         format!(in alloc; "{entry:?}")?.as_str(),
         "RawCacheEntry { record: Record { hash: 7 } }"
     );
-    let pipe: NoopPipe<u64, u64> = NoopPipe::default();
+    let pipe: NoopPipe<u32, u64> = NoopPipe::default();
     assert_eq!(rt; format!(in alloc; "{pipe:?}")?.as_str(), "NoopPipe");
     Ok(())
 }
@@ -116,7 +116,7 @@ fn a_pin_ends_with_its_entry(rt: HostRuntime) -> std::result::Result<(), Fail> {
         shards: 1,
         ..RawCacheConfig::new(1)
     };
-    let cache: RawCache<HostRuntime, Lru, u64, u64, ModHasher> = RawCache::new(
+    let cache: RawCache<HostRuntime, Lru, u32, u64, ModHasher> = RawCache::new(
         rt,
         alloc,
         config,
@@ -223,13 +223,8 @@ where
     let removed = cache.remove(&again)?.is_some();
     let mut spawner = ListSpawner::new(alloc);
     let first = cache.get_or_fetch(&again, || fetch, &mut spawner)?;
-    let second = cache.get_or_fetch_inner(
-        &again,
-        || None::<NoFetch>,
-        || None::<Given<R>>,
-        (),
-        &mut spawner,
-    )?;
+    let (optional, required): (Option<NoFetch>, Option<Given<R>>) = (None, None);
+    let second = cache.get_or_fetch_inner(&again, || optional, || required, (), &mut spawner)?;
     Ok(removed && first.need_await() && second.need_await())
 }
 
@@ -239,14 +234,14 @@ fn each_other_call_is_made(rt: HostRuntime) -> std::result::Result<(), Fail> {
     let cache: RawCache<
         HostRuntime,
         Lru,
-        u64,
+        u32,
         u64,
         DefaultHasher,
         CacheProperties,
         UnitWeighter,
         AdmitAll,
-        NoListener<u64, u64>,
-        NoopPipe<u64, u64>,
+        NoListener<u32, u64>,
+        NoopPipe<u32, u64>,
         Direct<Fetch>,
     > = RawCache::new(rt, alloc, RawCacheConfig::new(100), NoListener::new())?;
     let pipe = Arc::new(alloc, NoopPipe::default())?;

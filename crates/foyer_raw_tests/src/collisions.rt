@@ -43,7 +43,7 @@ impl BuildHasher for Zeros {
     }
 }
 
-type Cache<H> = RawCache<H, Fifo, u64, u64, Zeros>;
+type Cache<H> = RawCache<H, Fifo, u32, u64, Zeros>;
 
 // A configuration of two shards with room for two records each. All keys live in the first.
 fn colliding() -> RawCacheConfig<FifoConfig, Zeros, UnitWeighter, AdmitAll> {

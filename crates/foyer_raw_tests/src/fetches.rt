@@ -22,7 +22,7 @@ mod ends;
 mod tasks;
 mod waits;
 
-type Target = FetchTarget<u64, u64, CacheProperties>;
+type Target = FetchTarget<u32, u64, CacheProperties>;
 
 /// What an optional fetch may give.
 type Perhaps = std::result::Result<Option<Target>, Fault>;
@@ -67,7 +67,7 @@ struct May {
     fetch: Pollable<Later<Perhaps>>,
 }
 
-impl OptionalFetchBuilder<u64, u64, CacheProperties, ()> for May {
+impl OptionalFetchBuilder<u32, u64, CacheProperties, ()> for May {
     type Fetch = Later<Perhaps>;
 
     fn build(self, _context: &mut ()) -> Later<Perhaps> {
@@ -79,7 +79,7 @@ impl OptionalFetchBuilder<u64, u64, CacheProperties, ()> for May {
 /// Fetch types with an optional and a required fetch.
 struct Trial;
 
-impl FetchTypes<u64, u64, CacheProperties> for Trial {
+impl FetchTypes<u32, u64, CacheProperties> for Trial {
     type Context = ();
 
     type Optional = May;
@@ -90,7 +90,7 @@ impl FetchTypes<u64, u64, CacheProperties> for Trial {
 type Cache<H> = RawCache<
     H,
     Fifo,
-    u64,
+    u32,
     u64,
     ModHasher,
     CacheProperties,
@@ -104,7 +104,7 @@ type Cache<H> = RawCache<
 type Task<H> = RawFetch<
     H,
     Fifo,
-    u64,
+    u32,
     u64,
     ModHasher,
     CacheProperties,
@@ -118,7 +118,7 @@ type Task<H> = RawFetch<
 type Look<H> = RawGetOrFetch<
     H,
     Fifo,
-    u64,
+    u32,
     u64,
     ModHasher,
     CacheProperties,

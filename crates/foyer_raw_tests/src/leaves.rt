@@ -10,7 +10,7 @@ use std::test::Fail;
 type Cache<H> = RawCache<
     H,
     Fifo,
-    u64,
+    u32,
     u64,
     ModHasher,
     CacheProperties,

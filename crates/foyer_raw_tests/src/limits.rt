@@ -14,10 +14,10 @@ use std::test::Fail;
 #[derive(Clone, Copy)]
 struct ByValue;
 
-impl Weighter<u64, u64> for ByValue {
+impl Weighter<u32, u64> for ByValue {
     ghost weighs = { λ _ _ value weight. weight ≡ value };
 
-    fn weigh(&self, _key: &u64, value: &u64) -> usize {
+    fn weigh(&self, _key: &u32, value: &u64) -> usize {
         *value as usize
     }
 }
@@ -25,7 +25,7 @@ impl Weighter<u64, u64> for ByValue {
 type Cache<H> = RawCache<
     H,
     Fifo,
-    u64,
+    u32,
     u64,
     ModHasher,
     CacheProperties,
@@ -101,7 +101,7 @@ fn a_weight_fits_beside_what_is_pinned(rt: HostRuntime) -> std::result::Result<(
         number: 0,
         limits: Limits::default(),
     };
-    let cache: RawCache<HostRuntime, Lru, u64, u64, ModHasher, CacheProperties, ByValue> =
+    let cache: RawCache<HostRuntime, Lru, u32, u64, ModHasher, CacheProperties, ByValue> =
         RawCache::new(rt, alloc, config, NoListener::new())?;
     drop(cache.insert(1, u64::MAX)?);
     let held = cache.get(&1)?.ok_or("none")?;
@@ -132,7 +132,7 @@ fn refused_by<H: Wait + Drop>(rt: H, alloc: Global, eviction_config: LfuConfig) 
         number: 0,
         limits: Limits::default(),
     };
-    let made: foyer_policy::Result<RawCache<H, Lfu, u64, u64, ModHasher>> = RawCache::new(
+    let made: foyer_policy::Result<RawCache<H, Lfu, u32, u64, ModHasher>> = RawCache::new(
         rt,
         alloc,
         config,

@@ -14,9 +14,9 @@ use std::rc::Rc;
 #[derive(Clone, Copy, Debug, PartialEq, Eq)]
 pub(crate) enum Note {
     /// A leave of a key and a value.
-    Leave(Event, u64, u64),
+    Leave(Event, u32, u64),
     /// A piece of a key and a value.
-    Piece(u64, u64),
+    Piece(u32, u64),
     /// A flush of so many pieces.
     Flush(usize),
 }
@@ -76,11 +76,11 @@ impl Notes {
 pub(crate) struct Ear(pub(crate) Notes);
 
 impl EventListener for Ear {
-    type Key = u64;
+    type Key = u32;
 
     type Value = u64;
 
-    fn on_leave(&self, event: Event, key: &u64, value: &u64) {
+    fn on_leave(&self, event: Event, key: &u32, value: &u64) {
         self.0.write(Note::Leave(event, *key, *value));
     }
 }
@@ -90,7 +90,7 @@ impl EventListener for Ear {
 pub(crate) struct Tube(pub(crate) Notes);
 
 impl Pipe for Tube {
-    type Key = u64;
+    type Key = u32;
 
     type Value = u64;
 
@@ -102,11 +102,11 @@ impl Pipe for Tube {
         true
     }
 
-    fn send(&self, piece: Piece<u64, u64, CacheProperties>) {
+    fn send(&self, piece: Piece<u32, u64, CacheProperties>) {
         self.0.write(Note::Piece(*piece.key(), *piece.value()));
     }
 
-    fn flush(&self, pieces: Vec<Piece<u64, u64, CacheProperties>>) -> Ready<()>
+    fn flush(&self, pieces: Vec<Piece<u32, u64, CacheProperties>>) -> Ready<()>
         ensures { IsSome result.0 }
     {
         for piece in pieces.as_slice() {

@@ -3,12 +3,13 @@
 use crate::testing::fifo;
 use foyer_policy::{Fifo, ModHasher};
 use foyer_raw::{NoListener, RawCache};
+use std::sync::Wait;
 use std::sync::atomic::{AtomicU64, Ordering};
 use std::test::Fail;
 use std::thread;
 use std::time::{Clock, Duration};
 
-type Cache<H> = RawCache<H, Fifo, u64, u64, ModHasher>;
+type Cache<H> = RawCache<H, Fifo, u32, u64, ModHasher>;
 
 #[test]
 fn two_threads_insert_and_drop(rt: HostRuntime) -> std::result::Result<(), Fail> {
@@ -18,7 +19,7 @@ fn two_threads_insert_and_drop(rt: HostRuntime) -> std::result::Result<(), Fail>
         &rt,
         || {
             let mut done = 0u64;
-            for key in 0..1000u64 {
+            for key in 0..1000u32 {
                 if cache.insert(key, 1).is_ok() {
                     done = done.saturating_add(1);
                 }
@@ -27,7 +28,7 @@ fn two_threads_insert_and_drop(rt: HostRuntime) -> std::result::Result<(), Fail>
         },
         || {
             let mut done = 0u64;
-            for key in 0..1000u64 {
+            for key in 0..1000u32 {
                 if cache.insert(key, 2).is_ok() {
                     done = done.saturating_add(1);
                 }
@@ -53,6 +54,28 @@ fn is_up(rt: &impl Clock, flag: &AtomicU64) -> bool {
     false
 }
 
+// What two threads tell each other.
+#[derive(Drop)]
+struct Flags {
+    inside: AtomicU64,
+    looked: AtomicU64,
+    seen: AtomicU64,
+}
+
+// Flushes nothing. Under the lock of key 0's shard it says that it is inside, and waits until the other has looked.
+fn flush_slowly<H: Wait + Drop>(rt: &impl Clock, cache: &Cache<H>, flags: &Flags) {
+    let flush = cache.flush_if(|key, _| {
+        if *key == 0 {
+            flags.inside.store(1, Ordering::SeqCst);
+            if is_up(rt, &flags.looked) {
+                flags.seen.store(1, Ordering::SeqCst);
+            }
+        }
+        false
+    });
+    drop(flush);
+}
+
 // While a predicate runs under the lock of the first shard, another thread looks into the second one.
 #[test]
 fn each_shard_has_a_lock_of_its_own(rt: HostRuntime) -> std::result::Result<(), Fail> {
@@ -60,30 +83,21 @@ fn each_shard_has_a_lock_of_its_own(rt: HostRuntime) -> std::result::Result<(), 
     let cache: Cache<HostRuntime> = RawCache::new(rt, alloc, fifo(64, 2), NoListener::new())?;
     drop(cache.insert(0, 10)?);
     drop(cache.insert(1, 11)?);
-    let inside = AtomicU64::new(0);
-    let looked = AtomicU64::new(0);
-    let seen = AtomicU64::new(0);
+    let flags = Flags {
+        inside: AtomicU64::new(0),
+        looked: AtomicU64::new(0),
+        seen: AtomicU64::new(0),
+    };
     thread::join(
         &rt,
+        || flush_slowly(&rt, &cache, &flags),
         || {
-            let flush = cache.flush_if(|key, _| {
-                if *key == 0 {
-                    inside.store(1, Ordering::SeqCst);
-                    if is_up(&rt, &looked) {
-                        seen.store(1, Ordering::SeqCst);
-                    }
-                }
-                false
-            });
-            drop(flush);
-        },
-        || {
-            if is_up(&rt, &inside) && cache.contains(&1) {
-                looked.store(1, Ordering::SeqCst);
+            if is_up(&rt, &flags.inside) && cache.contains(&1) {
+                flags.looked.store(1, Ordering::SeqCst);
             }
         },
     );
-    assert_eq!(rt; seen.load(Ordering::SeqCst), 1);
+    assert_eq!(rt; flags.seen.load(Ordering::SeqCst), 1);
     assert_eq!(rt; cache.entries(), 2);
     Ok(())
 }

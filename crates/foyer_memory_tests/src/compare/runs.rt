@@ -42,7 +42,7 @@ fn first_difference<H: Wait + Log + RandomSource + Alloc<A = Global> + Copy + Dr
             .wrapping_mul(6364136223846793005)
             .wrapping_add(1442695040888963407);
         let (pick, key) = (state / (1 << 61), state / (1 << 32) % 16);
-        if !both.step(rt, alloc, pick, key, number)? || !both.agree() {
+        if !both.step(rt, alloc, pick, key as u32, number)? || !both.agree() {
             return Ok(number);
         }
     }

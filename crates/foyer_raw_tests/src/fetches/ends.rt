@@ -88,9 +88,9 @@ fn a_fault_is_shared(rt: HostRuntime) -> std::result::Result<(), Fail> {
 // A piece of a record of this key.
 fn piece_of<H: Wait + Drop>(
     cache: &Cache<H>,
-    key: u64,
+    key: u32,
     value: u64,
-) -> Result<Piece<u64, u64, CacheProperties>> {
+) -> Result<Piece<u32, u64, CacheProperties>> {
     let entry = cache.insert(key, value)?;
     let piece = entry.piece()?;
     drop(cache.remove(&key)?);
@@ -229,8 +229,8 @@ fn waiters_hear_before_the_listener(rt: HostRuntime) -> std::result::Result<(), 
     let alloc = rt.alloc();
     let notes = Notes::new(alloc)?;
     let cache = cache(rt, alloc, &notes)?;
-    for key in 0..4u64 {
-        drop(cache.insert(key, key)?);
+    for key in 0..4u32 {
+        drop(cache.insert(key, u64::from(key))?);
     }
     let (wait, spawner) = dropped(&cache, alloc, None, must(0, Ok(value(5))))?;
     assert_eq!(rt; block_on(&rt, to_the_end(spawner))?, 0);

@@ -8,14 +8,14 @@ use futures::channel::oneshot;
 type Plain<H> = RawCache<
     H,
     Fifo,
-    u64,
+    u32,
     u64,
     ModHasher,
     CacheProperties,
     UnitWeighter,
     AdmitAll,
-    NoListener<u64, u64>,
-    NoopPipe<u64, u64>,
+    NoListener<u32, u64>,
+    NoopPipe<u32, u64>,
     Direct<Later<Surely>>,
 >;
 
@@ -155,11 +155,11 @@ fn a_wait_is_dropped(rt: HostRuntime) -> std::result::Result<(), Fail> {
 fn a_sender_is_gone(rt: HostRuntime) -> std::result::Result<(), Fail> {
     let alloc = rt.alloc();
     let cache: Plain<HostRuntime> = RawCache::new(rt, alloc, fifo(4, 1), NoListener::new())?;
-    let (notifier, waiter) = oneshot::channel::<Result<Answer<u64, u64, CacheProperties>>>(alloc)?;
+    let (notifier, waiter) = oneshot::channel::<Result<Answer<u32, u64, CacheProperties>>>(alloc)?;
     let wait = cache.wait_for(waiter)?;
     assert!(rt; notifier.send(Ok(None)).is_ok());
     assert!(rt; block_on(&rt, wait)??.is_none());
-    let (notifier, waiter) = oneshot::channel::<Result<Answer<u64, u64, CacheProperties>>>(alloc)?;
+    let (notifier, waiter) = oneshot::channel::<Result<Answer<u32, u64, CacheProperties>>>(alloc)?;
     drop(notifier);
     let refused = block_on(&rt, cache.wait_for(waiter)?)?
         .err()
@@ -172,14 +172,14 @@ fn a_sender_is_gone(rt: HostRuntime) -> std::result::Result<(), Fail> {
 type Pinning<H> = RawCache<
     H,
     Lru,
-    u64,
+    u32,
     u64,
     ModHasher,
     CacheProperties,
     UnitWeighter,
     AdmitAll,
-    NoListener<u64, u64>,
-    NoopPipe<u64, u64>,
+    NoListener<u32, u64>,
+    NoopPipe<u32, u64>,
     Direct<Later<Surely>>,
 >;
 
