@@ -22,8 +22,13 @@ def last_full_gate(root):
 
 
 def write(root, rows):
+    """Puts rows into the record, each in the place of that of its part, and the kit that they are of."""
+    put(root, {**rows, "kit": kit()})
+
+
+def put(root, rows):
     """Puts rows into the record, each in the place of that of its part."""
-    with_rows = {**rows_of(root), **rows, "kit": kit()}
+    with_rows = {**rows_of(root), **rows}
     with open(f"{root}/{RECORD}", "w", encoding="utf-8") as it:
         it.writelines(f"{word}: {text}\n" for word, text in sorted(with_rows.items()))
 

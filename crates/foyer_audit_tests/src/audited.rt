@@ -83,51 +83,62 @@ fn ask<G: Ledger>(
     }
 }
 
-// Makes 500 calls, in turn on each of the four shards. How many were replied to.
-fn work<A: Ledger, B: Ledger, C: Ledger, D: Ledger>(
-    rt: &impl Wait,
-    alloc: Global,
-    shards: &Shards<A, B, C, D>,
-    hand: &mut Hand<A, B, C, D>,
-    seed: u64,
-) -> u64 {
-    let mut replied: u64 = 0;
-    let mut number = seed;
-    for turn in 0..500u64 {
-        let ok = match turn % 4 {
-            0 => ask(rt, alloc, &shards.a, &mut hand.a, number, 0),
-            1 => ask(rt, alloc, &shards.b, &mut hand.b, number, 1),
-            2 => ask(rt, alloc, &shards.c, &mut hand.c, number, 2),
-            _ => ask(rt, alloc, &shards.d, &mut hand.d, number, 3),
-        };
-        if ok {
-            replied = replied.saturating_add(1);
-        }
-        number = next(number);
-    }
-    replied
+/// What threads call, each with an `H` of its own.
+trait Called<H> {
+    /// Makes 500 calls, in turn on each shard. How many were replied to.
+    fn work<R: Wait>(&self, rt: &R, alloc: Global, hand: &mut H, seed: u64) -> u64;
 }
 
-// Two threads, each with a share in each shard. How many calls of each were replied to.
-fn two_threads<
-    A: Ledger + Send + Sync,
-    B: Ledger + Send + Sync,
-    C: Ledger + Send + Sync,
-    D: Ledger + Send + Sync,
-    R: Threads + Wait + Sync,
->(
+impl<A: Ledger, B: Ledger, C: Ledger, D: Ledger> Called<Hand<A, B, C, D>> for Shards<A, B, C, D> {
+    fn work<R: Wait>(&self, rt: &R, alloc: Global, hand: &mut Hand<A, B, C, D>, seed: u64) -> u64 {
+        let mut replied: u64 = 0;
+        let mut number = seed;
+        for turn in 0..500u64 {
+            let ok = match turn % 4 {
+                0 => ask(rt, alloc, &self.a, &mut hand.a, number, 0),
+                1 => ask(rt, alloc, &self.b, &mut hand.b, number, 1),
+                2 => ask(rt, alloc, &self.c, &mut hand.c, number, 2),
+                _ => ask(rt, alloc, &self.d, &mut hand.d, number, 3),
+            };
+            if ok {
+                replied = replied.saturating_add(1);
+            }
+            number = next(number);
+        }
+        replied
+    }
+}
+
+// Two threads. How many calls of each were replied to.
+fn two_threads<S: Called<H> + Sync, H: Send, R: Threads + Wait + Sync>(
     rt: &R,
     alloc: Global,
-    shards: &Shards<A, B, C, D>,
-    hands: (&mut Hand<A, B, C, D>, &mut Hand<A, B, C, D>),
+    shards: &S,
+    hands: (&mut H, &mut H),
     seed: u64,
 ) -> (u64, u64) {
     let (one, other) = hands;
     thread::join(
         rt,
-        || work(rt, alloc, shards, one, seed),
-        || work(rt, alloc, shards, other, seed.wrapping_add(1)),
+        || shards.work(rt, alloc, one, seed),
+        || shards.work(rt, alloc, other, seed.wrapping_add(1)),
     )
+}
+
+// Four threads. How many calls of each were replied to.
+fn four_threads<S: Called<H> + Sync, H: Send, R: Threads + Wait + Sync>(
+    rt: &R,
+    alloc: Global,
+    shards: &S,
+    hands: (&mut H, &mut H, &mut H, &mut H),
+) -> (u64, u64, u64, u64) {
+    let (one, two, three, four) = hands;
+    let ((w, x), (y, z)) = thread::join(
+        rt,
+        || two_threads(rt, alloc, shards, (one, two), 1),
+        || two_threads(rt, alloc, shards, (three, four), 3),
+    );
+    (w, x, y, z)
 }
 
 // Whether a fresh session over the shard of this number gives the same replies.
@@ -152,6 +163,7 @@ fn blank_of_four() -> Blank
     Blank::new(4)
 }
 
+// Four threads over four shards, each with a ledger of its own, whose histories and receipts are then compared.
 fn four_shards<
     A: Ledger + Send + Sync,
     B: Ledger + Send + Sync,
@@ -186,13 +198,11 @@ fn four_shards<
     ) else {
         return Err(Fail::from(AllocError));
     };
-    let all = &shards;
-    let ((w, x), (y, z)) = thread::join(
-        rt,
-        || two_threads(rt, alloc, all, (&mut one, &mut two), 1),
-        || two_threads(rt, alloc, all, (&mut three, &mut four), 3),
+    let hands = (&mut one, &mut two, &mut three, &mut four);
+    assert_eq!(rt;
+        four_threads(rt, alloc, &shards, hands),
+        (500, 500, 500, 500)
     );
-    assert_eq!(rt; (w, x, y, z), (500, 500, 500, 500));
     for Hand { a, b, c, d } in [one, two, three, four] {
         of_a.push(a)?;
         of_b.push(b)?;

@@ -101,21 +101,24 @@ impl<H: Wait + Drop> Future for Twice<'_, H> {
     type Output = (u64, u8);
 
     fn poll(&mut self, cx: &mut Context<'_>) -> Poll<(u64, u8)> {
-        let Poll::Ready(first) = self.wait.poll(cx) else {
-            return cx.yield_now();
-        };
-        let Poll::Ready(second) = self.wait.poll(cx) else {
-            return cx.yield_now();
-        };
-        let value = match first {
-            Ok(Some(entry)) => *entry,
-            _ => 0,
-        };
-        let number = match second {
-            Err(error) => error.number(),
-            Ok(_) => 0,
-        };
-        Poll::Ready((value, number))
+        let value = value_of(self.wait, cx);
+        Poll::Ready((value, refusal_of(self.wait, cx)))
+    }
+}
+
+// The value that a poll gives, or 0.
+fn value_of<H: Wait + Drop>(wait: &mut Look<H>, cx: &mut Context<'_>) -> u64 {
+    match wait.poll(cx) {
+        Poll::Ready(Ok(Some(entry))) => *entry,
+        _ => 0,
+    }
+}
+
+// The number of a poll's refusal, or 0.
+fn refusal_of<H: Wait + Drop>(wait: &mut Look<H>, cx: &mut Context<'_>) -> u8 {
+    match wait.poll(cx) {
+        Poll::Ready(Err(error)) => error.number(),
+        _ => 0,
     }
 }
 
