@@ -70,6 +70,12 @@ fn refs_of(rt: &impl Abort, core: &Waited, entry: &Entry) -> usize {
     core.refs(entry)
 }
 
+// Whether the record of an entry that the core owns is still found.
+fn is_current(rt: &impl Abort, core: &Waited, entry: &Entry) -> bool {
+    assert!(rt; core.owns(entry));
+    !core.is_outdated(entry)
+}
+
 // Entries that the core owns go back, one after the other: how many there were.
 fn all_back(rt: &impl Abort, core: &mut Waited, mut entries: Vec<Entry>) -> usize {
     let count = entries.len();
@@ -107,7 +113,7 @@ fn dropped_answers_give_their_handles_back(rt: HostRuntime) -> std::result::Resu
     assert_eq!(rt; refs_of(&rt, &core, &entry), 4);
     core.drop_answers(answers);
     assert_eq!(rt; refs_of(&rt, &core, &entry), 1);
-    assert!(rt; core.contains(&7) && !core.is_outdated(&entry));
+    assert!(rt; core.contains(&7) && is_current(&rt, &core, &entry));
     drop(core.drop_entry(entry));
     Ok(())
 }

@@ -122,25 +122,44 @@ fn insert_is_refused<E: Eviction, I: Finder<u64>>(
     Ok(())
 }
 
+type Refusing = Indexed<RefusingIndex<HashTableIndexer<u64>, 3>>;
+
 // Three inserts make the requests 0 to 2 of the policy. That of the fourth is 3, and its evictions are 4 to 6; the
-// index is asked last of all.
-fn each_request_is_refused<E: Eviction>(rt: &impl Abort, alloc: Global, order: &[u64; 3]) -> Done {
-    type Tagged = TagFinder<u64>;
-    type Refusing = Indexed<RefusingIndex<HashTableIndexer<u64>, 3>>;
-    insert_is_refused::<RefusingPolicy<E, 3>, Tagged>(rt, alloc, E::Config::default(), order, 0)?;
-    insert_is_refused::<RefusingPolicy<E, 4>, Tagged>(rt, alloc, E::Config::default(), order, 0)?;
-    insert_is_refused::<RefusingPolicy<E, 5>, Tagged>(rt, alloc, E::Config::default(), order, 1)?;
-    insert_is_refused::<RefusingPolicy<E, 6>, Tagged>(rt, alloc, E::Config::default(), order, 2)?;
-    insert_is_refused::<E, Refusing>(rt, alloc, E::Config::default(), order, 3)
+// index is asked last of all. What was used leaves later, but for FIFO, and for LRU, whose pool of high priority has
+// room for two: the first is low, and alone in its list. A macro, since how large a policy is has to be known.
+macro_rules! refuse_each_request {
+    ($rt:expr, $policy:ty, $order:expr) => {{
+        let (rt, alloc, order) = ($rt, $rt.alloc(), $order);
+        let config = <$policy as Eviction>::Config::default;
+        insert_is_refused::<RefusingPolicy<$policy, 3>, TagFinder<u64>>(rt, alloc, config(), order, 0)?;
+        insert_is_refused::<RefusingPolicy<$policy, 4>, TagFinder<u64>>(rt, alloc, config(), order, 0)?;
+        insert_is_refused::<RefusingPolicy<$policy, 5>, TagFinder<u64>>(rt, alloc, config(), order, 1)?;
+        insert_is_refused::<RefusingPolicy<$policy, 6>, TagFinder<u64>>(rt, alloc, config(), order, 2)?;
+        insert_is_refused::<$policy, Refusing>(rt, alloc, config(), order, 3)
+    }};
 }
 
-// What was used leaves later, but for FIFO, and for LRU, whose pool of high priority has room for two: the first is
-// low, and alone in its list.
 #[test]
-fn a_refused_insert_has_evicted_a_beginning(rt: HostRuntime) -> Done {
-    each_request_is_refused::<Fifo>(&rt, rt.alloc(), &[1, 2, 3])?;
-    each_request_is_refused::<Lru>(&rt, rt.alloc(), &[1, 2, 3])?;
-    each_request_is_refused::<Lfu>(&rt, rt.alloc(), &[2, 3, 1])?;
-    each_request_is_refused::<S3Fifo>(&rt, rt.alloc(), &[2, 3, 1])?;
-    each_request_is_refused::<Sieve>(&rt, rt.alloc(), &[2, 3, 1])
+fn a_refused_fifo_insert_has_evicted_a_beginning(rt: HostRuntime) -> Done {
+    refuse_each_request!(&rt, Fifo, &[1, 2, 3])
+}
+
+#[test]
+fn a_refused_lru_insert_has_evicted_a_beginning(rt: HostRuntime) -> Done {
+    refuse_each_request!(&rt, Lru, &[1, 2, 3])
+}
+
+#[test]
+fn a_refused_lfu_insert_has_evicted_a_beginning(rt: HostRuntime) -> Done {
+    refuse_each_request!(&rt, Lfu, &[2, 3, 1])
+}
+
+#[test]
+fn a_refused_s3fifo_insert_has_evicted_a_beginning(rt: HostRuntime) -> Done {
+    refuse_each_request!(&rt, S3Fifo, &[2, 3, 1])
+}
+
+#[test]
+fn a_refused_sieve_insert_has_evicted_a_beginning(rt: HostRuntime) -> Done {
+    refuse_each_request!(&rt, Sieve, &[2, 3, 1])
 }

@@ -31,9 +31,13 @@ fn put_under<I: Finder<u64>>(
                 leaves,
             } = made;
             let (_, others) = answers.into_parts();
-            let Ok(others) = others else {
+            let Ok(mut others) = others else {
                 panic!(rt; "the waiters are refused");
             };
+            if let Some(other) = others.pop() {
+                other.discard();
+                panic!(rt; "somebody waited");
+            }
             others.destroy_empty();
             back(rt, shard, entry);
             leaves.len()
