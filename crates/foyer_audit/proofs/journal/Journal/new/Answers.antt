@@ -3,7 +3,18 @@ use Rattle.foyer_core.specs.Cores.{core_of}
 use Rattle.foyer_core.specs.Inflight.{no_opens}
 use Rattle.foyer_session.specs.Sessions.{session_of, terms_of}
 use Rattle.foyer_audit.proofs.Legals.{history-nil, opens_over, same_fault}
-use Rattle.foyer_audit.proofs.book.Book.new.Goals as goal
+use Rattle.foyer_audit.proofs.journal.Journal.new.Goals as goal
+
+pub returns-clause-opens : goal.returns-clause-opens
+returns-clause-opens g c =
+    let t = terms_of c.new-2.result in
+    let s = session_of c.new-2.result in
+    let made = c.new-2.ensures in
+    let core = c.in_ok-core.ensures in
+    let part = c.shard_capacity-capacity in
+    let none = subst (All (λ f. f ≡ no_opens)) (sym made.fetches) core.fetches in
+    opens_over t c.args.config c.args.shard part.result (core_of c.in_ok-core.core) s part.ensures core.made
+    made.core none made.handles made.pieces
 
 pub invariant_of-result : goal.invariant_of-result
 invariant_of-result g c =
@@ -18,9 +29,12 @@ invariant_of-result g c =
     made.core none made.handles made.pieces in
     record {
       within = c.requires.within (omega (arith, c.if-config-eq0.false));
-      sharded = rw c.of-opening.ensures refl;
-      legal = rw (c.of-opening.ensures, c.new-3.ensures.items)
-          (∣ history-nil t g.Q.Predicate.picks g.Q.Compared.same config c.args.shard s opens ∣₁);
+      legal = rw (c.new-3.ensures.items)
+          (∣ record {
+            config = config;
+            sharded = refl;
+            history = history-nil t g.Q.Predicate.picks g.Q.Compared.same config c.args.shard s opens;
+          } ∣₁);
     }
 
 pub returns-clause-accepted : goal.returns-clause-accepted
