@@ -1,3 +1,7 @@
+ghost use Rattle.std.specs.Prelude.{IfOk};
+ghost use Rattle.foyer_core.specs.Cores.{fetches_of};
+ghost use Rattle.foyer_core.specs.Idle.{NoneOpen};
+
 use super::*;
 use foyer_bench_common::{Ranks, Skew, keys_of};
 use foyer_core::{Limits, RawCacheConfig};
@@ -10,7 +14,9 @@ fn core<E: Eviction, S: HashBuilder + Default>(
     alloc: Global,
     capacity: usize,
     shards: usize,
-) -> Result<Core<E, S>> {
+) -> Result<Core<E, S>>
+    ensures { IfOk result (λ core. NoneOpen (fetches_of core)) }
+{
     let config = RawCacheConfig {
         capacity,
         shards,
