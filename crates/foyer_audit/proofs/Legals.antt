@@ -1,5 +1,5 @@
 -- How a legal history opens, and that it goes on by one call.
-use Rattle.std.proofs.Common.{◌≡◌, ◌≢◌, ℕ, Bool, All, List, [], ◌∷◌, ◌++◌, Result, Ok, Err, IfOk, OnErr, refl, sym, subst, ne_eqb}
+use Rattle.std.proofs.Common.{◌≡◌, ◌≢◌, ℕ, Bool, All, List, [], ◌∷◌, ◌++◌, refl, sym, subst, ne_eqb}
 use Rattle.foyer_policy.specs.Policy.{Policy}
 use Rattle.foyer_core.specs.declared.config.RawCacheConfig.{RawCacheConfig}
 use Rattle.foyer_core.specs.Core.{Core, IsNewCore, core_fault, share_of}
@@ -8,7 +8,7 @@ use Rattle.foyer_session.specs.declared.command.Command.{Command}
 use Rattle.foyer_session.specs.declared.command.Reply.{Reply}
 use Rattle.foyer_session.specs.Step.{SessionState}
 use Rattle.foyer_session.specs.Terms.{Terms}
-use Rattle.foyer_audit.specs.Legal.{Call, IsHistory, IsOpening, IsSomeOpened, Legal}
+use Rattle.foyer_audit.specs.Legal.{Call, IsHistory, IsOpening, Legal}
 
 -- where there is to be a shard, a configuration has the fault that it has with one shard and any capacity
 pub same_fault : {View C S W A : Type 0} (policy : Policy View C) (config : RawCacheConfig C S W A) (capacity : ℕ)
@@ -54,26 +54,3 @@ module _ {K V P View C S W A Q : Type 0} (t : Terms K V P View C S W A) (picks :
     pub history-nil : (new : SessionState K V P View S W A) → IsOpening t config shard new
         → IsHistory t picks same config shard [] new
     history-nil new opens = record { opening = new; opens = opens; legal = refl }
-
-    -- whether the call is answered or refused
-    pub history-next : {N E : Type 0} (result : Result N E) (calls : List (Command K V P Q C × Reply K V P))
-        (mid : SessionState K V P View S W A) (command : Command K V P Q C)
-        (calls' : List (Command K V P Q C × Reply K V P)) (new : SessionState K V P View S W A)
-        → IfOk result (λ n. (reply : Reply K V P) × (calls' ≡ calls ++ (command, reply) ∷ [])
-        × Call t picks same config.shards shard mid command reply new)
-        → OnErr result ((calls' ≡ calls) × (new ≡ mid))
-        → IsHistory t picks same config shard calls mid → IsHistory t picks same config shard calls' new
-    history-next (Ok n) calls mid command calls' new made kept h =
-        rw made.1 (history-snoc calls mid (command, made.0) new h made.2)
-    history-next (Err e) calls mid command calls' new made kept h = rw (kept.0, kept.1) h
-
-  pub some-snoc : (shards shard : ℕ) (calls : List (Command K V P Q C × Reply K V P)) (mid : SessionState K V P View S W A)
-      (call : Command K V P Q C × Reply K V P) (new : SessionState K V P View S W A)
-      → IsSomeOpened t picks same shards shard calls mid → Call t picks same shards shard mid call.0 call.1 new
-      → IsSomeOpened t picks same shards shard (calls ++ call ∷ []) new
-  some-snoc shards shard calls mid call new h s = record {
-    config = h.config;
-    sharded = h.sharded;
-    history = history-snoc h.config shard calls mid call new h.history
-        (subst (λ n. Call t picks same n shard mid call.0 call.1 new) (sym h.sharded) s);
-  }

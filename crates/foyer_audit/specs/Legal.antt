@@ -73,17 +73,9 @@ pub record IsHistory {K V P View C S W A Q : Type 0} (t : Terms K V P View C S W
   pub opens : IsOpening t config shard opening
   pub legal : Legal t picks same config.shards shard opening calls now
 
--- A legal history of the shard of this number, of so many, from the opening state of some configuration to this one.
-pub record IsSomeOpened {K V P View C S W A Q : Type 0} (t : Terms K V P View C S W A) (picks : Q → K → V → Bool → Type 0)
-    (same : Command K V P Q C → Command K V P Q C → Bool) (shards shard : ℕ) (calls : List (Command K V P Q C × Reply K V P))
-    (now : SessionState K V P View S W A) : Type 0 where
-  pub config : RawCacheConfig C S W A
-  pub sharded : config.shards ≡ shards
-  pub history : IsHistory t picks same config shard calls now
-
 -- A legal history of one of the shards of a cache, of some configuration, to some state.
 abbrev pub IsSomeHistory : {K V P View C S W A Q : Type 0} → Terms K V P View C S W A → (Q → K → V → Bool → Type 0)
     → (Command K V P Q C → Command K V P Q C → Bool) → List (Command K V P Q C × Reply K V P) → Type 0
 IsSomeHistory {K} {V} {P} {View} {C} {S} {W} {A} {Q} t picks same calls =
-    ∥ ((config : RawCacheConfig C S W A) × (shard : ℕ) × (now : SessionState K V P View S W A)
-    × (shard < config.shards) × IsHistory t picks same config shard calls now) ∥₁
+    (config : RawCacheConfig C S W A) × (shard : ℕ) × (now : SessionState K V P View S W A) × (shard < config.shards)
+    × ∥ IsHistory t picks same config shard calls now ∥₁

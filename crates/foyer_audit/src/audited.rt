@@ -9,8 +9,8 @@ ghost use Rattle.foyer_audit.specs.Accounts.{AccountFor, IsReceived};
 ghost use Rattle.foyer_audit.specs.Legal.{IsSomeHistory};
 
 use crate::accounts::account_for;
+use crate::book::Book;
 use crate::compared::Compared;
-use crate::journal::Journal;
 use crate::receipt::Share;
 use foyer_core::{Filter, Finder, RawCacheConfig, TagFinder, Weighter};
 use foyer_policy::{Config, Eviction, HashBuilder, Key, Properties, Result, Value};
@@ -90,15 +90,11 @@ impl<
         ensures refused { IfSome (core_fault E.model config) (λ reason. result ≡ Err reason) }
         ensures memory { IfErr result (λ e. core_fault E.model config ≡ None → e ≡ NoMemory) }
     {
-        let journal = Journal::new(alloc, config, shard)?;
+        let book = Book::new(alloc, config, shard)?;
         let (calls, mut rest) = blank.open::<G>();
         let empty = rest.empty();
         let shares = split(alloc, rest, threads)?;
-        let desk = Mutex::new(Desk {
-            journal,
-            calls,
-            empty,
-        });
+        let desk = Mutex::new(Desk { book, calls, empty });
         Ok((AuditedShard { desk }, shares))
     }
 
@@ -144,11 +140,11 @@ impl<
     {
         let AuditedShard { desk } = self;
         let Desk {
-            journal,
+            book,
             mut calls,
             empty,
         } = desk.into_inner();
-        let history = journal.into_history();
+        let history = book.into_history();
         let yes = account_for(history.as_slice(), shares.as_slice());
         let mut all = gather(empty, shares);
         calls.audit(&mut all);

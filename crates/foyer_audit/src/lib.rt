@@ -6,7 +6,6 @@ mod accounts;
 pub mod audited;
 pub mod book;
 pub mod compared;
-mod journal;
 pub mod receipt;
 
 pub use audited::{AuditedShard, Closed};

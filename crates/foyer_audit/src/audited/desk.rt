@@ -6,8 +6,8 @@ ghost use Rattle.foyer_session.specs.Sessions.{session_of, terms_of};
 ghost use Rattle.foyer_audit.specs.Accounts.{IsReceived};
 ghost use Rattle.foyer_audit.specs.Legal.{Call};
 
+use crate::book::Book;
 use crate::compared::Compared;
-use crate::journal::Journal;
 use crate::receipt::{Receipt, Share};
 use foyer_core::{Filter, Finder, Weighter};
 use foyer_policy::{Config, Error, Eviction, HashBuilder, Key, Properties, Reason, Result, Value};
@@ -15,7 +15,7 @@ use foyer_session::{Command, Predicate, Reply};
 use std::sync::ledger;
 use std::sync::ledger::Ledger;
 
-// What stands under the lock: the journal, how many calls all shares count, and a share of no part, to gather the others.
+// What stands under the lock: the book, how many calls all shares count, and a share of no part, to gather the others.
 #[derive(Drop)]
 pub(super) struct Desk<
     G: Ledger,
@@ -30,10 +30,10 @@ pub(super) struct Desk<
     C: Config + Eq,
     I: Finder<K>,
 > {
-    pub(super) journal: Journal<E, K, V, P, S, W, A, Q, C, I>,
+    pub(super) book: Book<E, K, V, P, S, W, A, Q, C, I>,
     pub(super) calls: ledger::Book<G>,
     pub(super) empty: ledger::Share<G>,
-    ghost counted: { length journal.history.items ≡ calls.total },
+    ghost counted: { length book.history.items ≡ calls.total },
     ghost no_parts: { empty.parts ≡ 0 },
     ghost no_calls: { empty.amount ≡ 0 },
 }
@@ -51,7 +51,7 @@ impl<
     C: Config + Eq,
     I: Finder<K>,
 > Desk<G, E, K, V, P, S, W, A, Q, C, I> {
-    // The call under the lock. The journal goes on by one call of an equal command, and what the caller gets and keeps are
+    // The call under the lock. The book goes on by one call of an equal command, and what the caller gets and keeps are
     // the number and two copies of the reply that stand there.
     pub(super) fn call(
         &mut self,
@@ -61,23 +61,23 @@ impl<
         requires keys { (k c : K) → K.is_clone k c → K.eq c k ≡ true }
         requires commands { (k c : Command K V P Q C)
             → ⟦<Command<K, V, P, Q, C> as Clone>⟧.is_clone k c → Q.same c k ≡ true }
-        ensures number { IfOk result (λ told. told.1 ≡ length self.old.journal.history.items) }
+        ensures number { IfOk result (λ told. told.1 ≡ length self.old.book.history.items) }
         ensures recorded { IfOk result (λ told. (made : Command K V P Q C) × (reply : Reply K V P)
             × (Q.same made command ≡ true)
-            × (self.new.journal.history.items ≡ self.old.journal.history.items ++ (made, reply) ∷ [])
-            × Call (terms_of self.old.journal.session) Q.picks Q.same self.old.journal.shards
-            self.old.journal.shard (session_of self.old.journal.session) made reply (session_of self.new.journal.session)
+            × (self.new.book.history.items ≡ self.old.book.history.items ++ (made, reply) ∷ [])
+            × Call (terms_of self.old.book.session) Q.picks Q.same self.old.book.opening.value.shards
+            self.old.book.shard (session_of self.old.book.session) made reply (session_of self.new.book.session)
             × IsReceived ⟦<Reply<K, V, P> as Clone>⟧.is_clone share.old.receipts.items command told.1 reply told.0
             share.new.receipts.items) }
         ensures counted { OnOk result (share.new.mine.amount ≡ share.old.mine.amount + 1) }
         ensures parts { share.new.mine.parts ≡ share.old.mine.parts }
         ensures refused { IfErr result (λ e. e ≡ NoMemory) }
-        ensures err { OnErr result ((self.new.journal.history.items ≡ self.old.journal.history.items)
-            × (session_of self.new.journal.session ≡ session_of self.old.journal.session)
+        ensures err { OnErr result ((self.new.book.history.items ≡ self.old.book.history.items)
+            × (session_of self.new.book.session ≡ session_of self.old.book.session)
             × (share.new.receipts.items ≡ share.old.receipts.items)
             × (share.new.mine.amount ≡ share.old.mine.amount)) }
     {
-        let Desk { journal, calls, .. } = self;
+        let Desk { book, calls, .. } = self;
         let Share { receipts, mine } = share;
         let Ok(()) = receipts.reserve(1) else {
             return Err(Error::new(Reason::NoMemory));
@@ -85,9 +85,9 @@ impl<
         let Ok(made) = command.clone() else {
             return Err(Error::new(Reason::NoMemory));
         };
-        let number = journal.apply(made)?;
+        let number = book.apply(made)?;
         calls.add(mine, 1);
-        let (told, kept) = journal.copies(number);
+        let (told, kept) = book.copies(number);
         receipts.push_reserved(Receipt {
             number,
             command,

@@ -71,8 +71,8 @@ fn apply<G: Ledger, P: Properties + Clone + Eq>(
     ensures parts { mine.new.parts ≡ mine.old.parts }
     ensures err { OnErr result (mine.new.amount ≡ mine.old.amount) }
 {
-    let Desk { journal, calls, .. } = desk;
-    journal.apply(command)?;
+    let Desk { book, calls, .. } = desk;
+    book.apply(command)?;
     calls.add(mine, 1);
     Ok(())
 }

@@ -1,8 +1,8 @@
-use Rattle.std.proofs.Common.{◌∙◌, if◌then◌else◌, List, Bool, ap, subst, sym}
+use Rattle.std.proofs.Common.{◌≡◌, ◌∙◌, ◌+◌, if◌then◌else◌, All, List, Bool, arith, ap, subst, sym}
 use Rattle.std.proofs.lemmas.List.Elements.{All-get_or}
 use Rattle.foyer_audit.specs.declared.receipt.Receipt.{Receipt}
 use Rattle.foyer_audit.specs.declared.receipt.Share.{Share}
-use Rattle.foyer_audit.specs.Accounts.{Rise}
+use Rattle.foyer_audit.specs.Accounts.{Rise, times}
 use Rattle.foyer_audit.proofs.Accounted.{counted_here, found_before, found_now, times-more, times-too_many}
 use Rattle.foyer_audit.proofs.accounts.is_once.Goals as goal
 use Rattle.foyer_audit.proofs.accounts.is_once.Goals.{then-has_number+else-found, else-has_number}

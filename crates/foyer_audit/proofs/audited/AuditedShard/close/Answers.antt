@@ -1,5 +1,4 @@
 use Rattle.std.proofs.Common.{◌<◌, ◌∙◌, ap, length, subst, sym}
-use Rattle.std.proofs.Math.Logic.{∥∥₁_map}
 use Rattle.foyer_session.specs.Sessions.{session_of}
 use Rattle.foyer_audit.proofs.audited.AuditedShard.close.Goals as goal
 
@@ -9,16 +8,15 @@ returns-clause-yes g c =
 
 pub returns-clause-counts : goal.returns-clause-counts
 returns-clause-counts g c parts =
-    ap length c.into_history-history.ensures.history ∙ c.into_inner-journal.result.counted
+    ap length c.into_history-history.ensures.history ∙ c.into_inner-book.result.counted
     ∙ sym (c.audit.ensures.whole (c.gather-all.ensures.parts ∙ parts)) ∙ c.gather-all.ensures.amount
 
 pub returns-clause-legal : goal.returns-clause-legal
 returns-clause-legal g c =
-    let journal = c.into_inner-journal.result.journal in
-    ∥∥₁_map c.into_history-history.ensures.legal (λ h. (
-      h.config,
-      journal.shard,
-      session_of journal.session,
-      subst (λ n. journal.shard < n) (sym h.sharded) journal.within,
-      h.history,
-    ))
+    let book = c.into_inner-book.result.book in (
+      book.opening.value,
+      book.shard,
+      session_of book.session,
+      subst (λ n. book.shard < n) book.sharded book.within,
+      c.into_history-history.ensures.legal,
+    )

@@ -1,4 +1,4 @@
-use Rattle.std.proofs.Common.{◌∙◌, arith, ap, length, refl, slice_get}
+use Rattle.std.proofs.Common.{◌≡◌, ◌∙◌, Some, arith, ap, length, refl, slice_get}
 use Rattle.std.proofs.lemmas.List.{length-append}
 use Rattle.foyer_audit.proofs.Accounted.{slice_get-push}
 use Rattle.foyer_audit.proofs.audited.desk.Desk.call.Goals as goal
@@ -16,7 +16,7 @@ pub returns-clause-recorded : goal.returns-clause-recorded
 returns-clause-recorded g c =
     let applied = c.in_ok-number.ensures.applied in
     let made = c.in-Ok-clone.made in
-    let calls = c.args.self.now.journal.history.items in
+    let calls = c.args.self.now.book.history.items in
     let told = c.copies-told.result in
     let there = slice_get-push calls (made, applied.0) in
     let stands = ap (λ n. slice_get c.apply.new.self.history.items n) c.in_ok-number.ensures.number

@@ -1,5 +1,5 @@
 use Rattle.foyer_audit.proofs.Accounted.{read_there}
-use Rattle.foyer_audit.proofs.journal.Journal.copies.Goals as goal
+use Rattle.foyer_audit.proofs.book.Book.copies.Goals as goal
 
 pub returns-in-Some : goal.returns-in-Some
 returns-in-Some g c made reply stands =

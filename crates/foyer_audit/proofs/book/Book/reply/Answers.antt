@@ -1,7 +1,7 @@
 use Rattle.std.proofs.Common.{length, refl, sym, ap, ◌∙◌}
 use Rattle.std.specs.Prelude.{slice_get}
 use Rattle.std.proofs.lemmas.Option.{slice_get_past, slice_get_read}
-use Rattle.foyer_audit.proofs.journal.Journal.reply.Goals as goal
+use Rattle.foyer_audit.proofs.book.Book.reply.Goals as goal
 
 pub returns-in-Some : goal.returns-in-Some
 returns-in-Some g c =
