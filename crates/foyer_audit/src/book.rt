@@ -12,7 +12,10 @@ use foyer_core::{CacheCore, Filter, Finder, RawCacheConfig, TagFinder, Weighter,
 use foyer_policy::{Config, Error, Eviction, HashBuilder, Key, Properties, Reason, Result, Value};
 use foyer_session::{Answer, Command, Leaves, Predicate, Reply, Session};
 use std::alloc::Global;
-use std::snapshot::Snapshot;
+
+mod opening;
+
+pub use opening::Opening;
 
 /// One shard of a cache, as a session over it alone, with the history of its calls. The history is one that a
 /// single thread could have made: it is legal from the opening state of the configuration, and ends in the
@@ -32,7 +35,7 @@ pub struct Book<
 > {
     session: Session<E, K, V, P, S, W, A, I>,
     // the configuration with which the book was opened
-    opening: Snapshot<RawCacheConfig<C, S, W, A>>,
+    opening: Opening<RawCacheConfig<C, S, W, A>>,
     shards: usize,
     shard: usize,
     history: Vec<(Command<K, V, P, Q, C>, Reply<K, V, P>)>,
@@ -70,7 +73,7 @@ impl<
         if config.shards == 0 {
             return Err(Error::new(Reason::NoShards));
         }
-        let opening = Snapshot::of(&config);
+        let opening = Opening::of(&config);
         let shards = config.shards;
         let capacity = shard_capacity(config.capacity, shards, shard);
         let one_shard = RawCacheConfig {

@@ -7,7 +7,6 @@ use foyer_audit::Book;
 use foyer_core::{AdmitAll, CacheProperties, UnitWeighter};
 use foyer_policy::{Fifo, FifoConfig, ModHasher, Properties, Result};
 use foyer_session::{Answer, Command, NoPredicate};
-use std::process::Abort;
 use std::test::Fail;
 
 type BookOf<P> = Book<
