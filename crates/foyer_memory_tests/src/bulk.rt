@@ -1,6 +1,6 @@
 //! Calls on all records of a cache.
 
-use crate::testing::{Heard, Note, Notes, heard};
+use crate::testing::{Note, Notes, heard};
 use foyer_memory::{EvictionConfig, FifoConfig};
 use foyer_policy::Event;
 use futures::executor::block_on;
@@ -22,7 +22,9 @@ fn a_flush_by_a_predicate(rt: HostRuntime) -> std::result::Result<(), Fail> {
         drop(cache.insert(key, u64::from(10 * key))?);
     }
     let held = cache.insert(8, 80)?;
-    let flush = cache.flush_if(|key, value| *key % 2 == 0 && *value < 60 || *key == 8);
+    let flush = cache
+        .0
+        .flush_if(|key, value| *key % 2 == 0 && *value < 60 || *key == 8);
     assert!(rt;
         notes.are(&[
             Note::Leave(Event::Evict, 0, 0),
@@ -54,7 +56,6 @@ fn a_resize(rt: HostRuntime) -> std::result::Result<(), Fail> {
         4,
         &notes,
     )?;
-    let cache: Heard<HostRuntime> = cache;
     for key in 0..512u32 {
         drop(cache.insert(key, u64::from(key))?);
     }
@@ -65,7 +66,7 @@ fn a_resize(rt: HostRuntime) -> std::result::Result<(), Fail> {
     let first = Note::Leave(Event::Evict, 256, 256);
     assert_eq!(rt; notes.at(before).ok_or("none")?, first);
     assert_eq!(rt; (cache.usage(), cache.capacity()), (128, 128));
-    assert!(rt; !cache.contains(&256) && cache.contains(&511));
+    assert!(rt; !cache.contains(256) && cache.contains(511));
     for key in 0..512u32 {
         drop(cache.insert(key, u64::from(key))?);
     }
@@ -91,7 +92,7 @@ fn all_leave(rt: HostRuntime) -> std::result::Result<(), Fail> {
     );
     assert_eq!(rt; cache.entries(), 0);
     drop(cache.insert(3, 30)?);
-    assert!(rt; block_on(&rt, cache.flush())?.is_ok());
+    assert!(rt; block_on(&rt, cache.0.flush())?.is_ok());
     assert_eq!(rt; (cache.entries(), notes.count()), (0, 7));
     Ok(())
 }

@@ -1,18 +1,10 @@
 //! A cache beside a core of one thread: random calls, which both answer alike.
 
-use crate::testing::{Ear, Note, Notes, Once};
-use foyer_core::{
-    AdmitAll, CacheCore, CoreEntry, Ended, FetchTarget, Inserted, Leave, Limits, Lookup,
-    RawCacheConfig, UnitWeighter,
-};
-use foyer_memory::{
-    Cache, CacheBuilder, CacheEntry, CacheProperties, Eviction, EvictionConfig, FetchTask,
-};
-use foyer_policy::{Event, Fault, Fifo, Lfu, Lru, ModHasher, S3Fifo, Sieve, Source};
-use foyer_raw::{Direct, ListSpawner, NoopPipe};
-use futures::executor::block_on;
-use futures::future::{Ready, ready};
-use log::Log;
+use crate::testing::{Entry, Heard, Note, Notes, polled};
+use foyer_core::{CacheCore, CoreEntry, Ended, FetchTarget, Inserted, Leave, Lookup};
+use foyer_memory::{CacheProperties, Eviction};
+use foyer_policy::{Event, ModHasher, Source};
+use foyer_raw::ListSpawner;
 use std::alloc::Global;
 use std::random::RandomSource;
 use std::sync::Wait;
@@ -21,50 +13,6 @@ use std::test::Fail;
 mod runs;
 
 type Target = FetchTarget<u32, u64, CacheProperties>;
-
-/// What a fetch gives, at once.
-type Given = Ready<Result<Target, Fault>>;
-
-type Two<H> = Cache<
-    H,
-    u32,
-    u64,
-    ModHasher,
-    CacheProperties,
-    UnitWeighter,
-    AdmitAll,
-    Ear,
-    NoopPipe<u32, u64>,
-    Direct<Given>,
->;
-
-type TwoEntry<H> = CacheEntry<
-    H,
-    u32,
-    u64,
-    ModHasher,
-    CacheProperties,
-    UnitWeighter,
-    AdmitAll,
-    Ear,
-    NoopPipe<u32, u64>,
-    Direct<Given>,
->;
-
-type Tasks<H> = ListSpawner<
-    FetchTask<
-        H,
-        u32,
-        u64,
-        ModHasher,
-        CacheProperties,
-        UnitWeighter,
-        AdmitAll,
-        Ear,
-        NoopPipe<u32, u64>,
-        Direct<Given>,
-    >,
->;
 
 type One<E> = CacheCore<E, u32, u64, CacheProperties, ModHasher>;
 
@@ -85,11 +33,11 @@ impl Drop for Kept {
 /// A cache and a core over the same records, and what both told.
 #[derive(Drop)]
 struct Both<H: Wait + Drop, E: Eviction> {
-    cache: Two<H>,
+    cache: Heard<H>,
     core: One<E>,
     heard: Notes,
     left: Vec<Note>,
-    held: Vec<(TwoEntry<H>, Kept)>,
+    held: Vec<(Entry<H>, Kept)>,
 }
 
 fn target(value: u64) -> Target {
@@ -97,11 +45,6 @@ fn target(value: u64) -> Target {
         value,
         properties: CacheProperties::default(),
     }
-}
-
-// A future of a value, which is there at once.
-fn given(value: u64) -> Given {
-    ready(Ok(target(value)))
 }
 
 impl<H: Wait + RandomSource + Alloc<A = Global> + Copy + Drop, E: Eviction> Both<H, E> {
@@ -115,11 +58,11 @@ impl<H: Wait + RandomSource + Alloc<A = Global> + Copy + Drop, E: Eviction> Both
     }
 
     // Holds an entry of each, whether they are of the same record, and gives the oldest back where there are nine.
-    fn hold(&mut self, alloc: Global, entry: TwoEntry<H>, kept: Kept) -> Result<bool, Fail> {
+    fn hold(&mut self, alloc: Global, entry: Entry<H>, kept: Kept) -> Result<bool, Fail> {
         let same = match &kept.0 {
             Some(handle) => {
-                *entry.key() == *handle.key()
-                    && *entry == *handle.value()
+                entry.key() == *handle.key()
+                    && entry.value() == *handle.value()
                     && entry.source() == handle.source()
             }
             None => false,
@@ -143,7 +86,7 @@ impl<H: Wait + RandomSource + Alloc<A = Global> + Copy + Drop, E: Eviction> Both
     fn hold_found(
         &mut self,
         alloc: Global,
-        entry: Option<TwoEntry<H>>,
+        entry: Option<Entry<H>>,
         kept: Kept,
     ) -> Result<bool, Fail> {
         match entry {
@@ -174,7 +117,7 @@ impl<H: Wait + RandomSource + Alloc<A = Global> + Copy + Drop, E: Eviction> Both
 
     // A remove.
     fn remove(&mut self, alloc: Global, key: u32) -> Result<bool, Fail> {
-        let entry = self.cache.remove(&key)?;
+        let entry = self.cache.remove(key)?;
         match self.core.remove(&key)? {
             Some((handle, left)) => {
                 let kept = Kept(Some(handle));
@@ -188,18 +131,14 @@ impl<H: Wait + RandomSource + Alloc<A = Global> + Copy + Drop, E: Eviction> Both
 
     // Two look-ups that fetch, and the fetch.
     fn fetch(&mut self, rt: H, alloc: Global, key: u32, value: u64) -> Result<bool, Fail> {
-        let mut spawner: Tasks<H> = ListSpawner::new(alloc);
-        let first = self
-            .cache
-            .get_or_fetch(&key, || given(value), &mut spawner)?;
-        let second = self
-            .cache
-            .get_or_fetch(&key, || given(value), &mut spawner)?;
-        if block_on(&rt, Once { spawner })? != 0 {
+        let mut spawner = ListSpawner::new(alloc);
+        let first = self.cache.get_or_fetch(key, value, &mut spawner)?;
+        let second = self.cache.get_or_fetch(key, value, &mut spawner)?;
+        if polled(&rt, spawner)? != 0 {
             return Ok(false);
         }
-        let first = block_on(&rt, first)??;
-        let second = block_on(&rt, second)??;
+        let first = first.answer(&rt)??;
+        let second = second.answer(&rt)??;
         let lead = self.ask(key)?;
         let next = self.ask(key)?;
         // The second handle, and then the first.
@@ -254,12 +193,12 @@ impl<H: Wait + RandomSource + Alloc<A = Global> + Copy + Drop, E: Eviction> Both
         match pick {
             0 | 1 => self.insert(alloc, key, value),
             2 => {
-                let entry = self.cache.get(&key)?;
+                let entry = self.cache.get(key)?;
                 let kept = Kept(self.core.get(&key)?);
                 self.hold_found(alloc, entry, kept)
             }
-            3 => Ok(self.cache.touch(&key)? == self.core.touch(&key)?),
-            4 => Ok(self.cache.contains(&key) == self.core.contains(&key)),
+            3 => Ok(self.cache.touch(key)? == self.core.touch(&key)?),
+            4 => Ok(self.cache.contains(key) == self.core.contains(&key)),
             5 => self.remove(alloc, key),
             _ => self.fetch(rt, alloc, key, value),
         }

@@ -2,18 +2,18 @@
 
 ghost use Rattle.std.specs.Prelude.{◌≡◌, IsSome};
 
-use crate::testing::Once;
-use foyer_core::{AdmitAll, UnitWeighter};
+use crate::testing::{Ear, Heard, Notes, Once, Raw, RawTask, Twice, given, polled};
 use foyer_memory::{
-    Cache, CacheBuilder, CacheProperties, EvictionConfig, FetchTarget, FetchTask, FifoConfig,
-    GetOrFetch, LfuConfig, LruConfig, OptionalFetchBuilder, S3FifoConfig, SieveConfig,
+    CacheBuilder, CacheProperties, EvictionConfig, FetchTarget, FifoConfig, LfuConfig, LruConfig,
+    OptionalFetchBuilder, S3FifoConfig, SieveConfig,
 };
-use foyer_policy::{DefaultHasher, Fault, Result, Source};
-use foyer_raw::{Direct, FetchTypes, Given, ListSpawner, NoListener, NoopPipe, Pollable, Spawner};
+use foyer_policy::{Fault, ModHasher, Result, Source};
+use foyer_raw::{FetchTypes, Given, ListSpawner, Pollable, Spawner};
 use futures::Future;
 use futures::executor::block_on;
 use futures::future::{Ready, ready};
-use futures::task::{Context, Poll};
+use log::Log;
+use std::alloc::Global;
 use std::sync::Wait;
 use std::test::Fail;
 
@@ -24,45 +24,6 @@ type Surely = std::result::Result<Target, Fault>;
 
 /// What an optional fetch may give.
 type Perhaps = std::result::Result<Option<Target>, Fault>;
-
-type Fetching<H, T = Direct<Ready<Surely>>> = Cache<
-    H,
-    u32,
-    u64,
-    DefaultHasher,
-    CacheProperties,
-    UnitWeighter,
-    AdmitAll,
-    NoListener<u32, u64>,
-    NoopPipe<u32, u64>,
-    T,
->;
-
-type Look<H, T> = GetOrFetch<
-    H,
-    u32,
-    u64,
-    DefaultHasher,
-    CacheProperties,
-    UnitWeighter,
-    AdmitAll,
-    NoListener<u32, u64>,
-    NoopPipe<u32, u64>,
-    T,
->;
-
-type Task<H, T> = FetchTask<
-    H,
-    u32,
-    u64,
-    DefaultHasher,
-    CacheProperties,
-    UnitWeighter,
-    AdmitAll,
-    NoListener<u32, u64>,
-    NoopPipe<u32, u64>,
-    T,
->;
 
 /// Gives the optional fetch that it holds.
 #[derive(Drop)]
@@ -90,44 +51,33 @@ impl FetchTypes<u32, u64, CacheProperties> for Trial {
     type Required = Given<Ready<Surely>>;
 }
 
-/// Polls a look-up twice: the value of the first answer, and the number of the second one's refusal.
-struct Twice<'a, H: Wait + Drop, T: FetchTypes<u32, u64, CacheProperties>> {
-    look: &'a mut Look<H, T>,
-}
-
-impl<H: Wait + Drop, T: FetchTypes<u32, u64, CacheProperties>> Drop for Twice<'_, H, T> {
-    fn drop(self) {
-        let Twice { look: _ } = self;
-    }
-}
-
-impl<H: Wait + Drop, T: FetchTypes<u32, u64, CacheProperties>> Future for Twice<'_, H, T> {
-    type Output = (u64, u8);
-
-    fn poll(&mut self, cx: &mut Context<'_>) -> Poll<(u64, u8)> {
-        let Poll::Ready(first) = self.look.poll(cx) else {
-            return cx.yield_now();
-        };
-        let Poll::Ready(second) = self.look.poll_inner(cx) else {
-            return cx.yield_now();
-        };
-        let value = match first {
-            Ok(entry) => *entry,
-            Err(error) => u64::from(error.number()),
-        };
-        let number = match second {
-            Err(error) => error.number(),
-            Ok(_) => 0,
-        };
-        Poll::Ready((value, number))
-    }
-}
-
 fn target(value: u64) -> Target {
     FetchTarget::Entry {
         value,
         properties: CacheProperties::default(),
     }
+}
+
+// An LRU cache of eight shards.
+fn fetching<H: Wait + Log + Copy + Drop>(
+    rt: H,
+    alloc: Global,
+) -> std::result::Result<Heard<H>, Fail> {
+    let config = EvictionConfig::from(LruConfig::default());
+    Heard::new(rt, alloc, config, 16, 8, &Notes::new(alloc)?)
+}
+
+// Such a cache with these fetch types.
+fn tried<H: Wait + Log + Copy + Drop>(
+    rt: H,
+    alloc: Global,
+) -> std::result::Result<Raw<H, Trial>, Fail> {
+    Ok(
+        CacheBuilder::new(16)
+            .with_hash_builder(ModHasher::default())
+            .with_event_listener(Ear(Notes::new(alloc)?))
+            .build(rt, alloc, &rt)?,
+    )
 }
 
 // A required builder whose fetch gives this.
@@ -140,27 +90,27 @@ fn must(value: u64) -> Option<Given<Ready<Surely>>> {
 #[test]
 fn two_wait_for_one_fetch(rt: HostRuntime) -> std::result::Result<(), Fail> {
     let alloc = rt.alloc();
-    let cache: Fetching<HostRuntime> = CacheBuilder::new(16).build(rt, alloc, &rt)?;
+    let cache = fetching(rt, alloc)?;
     let mut spawner = ListSpawner::new(alloc);
-    let first = cache.get_or_fetch(&7, || ready(Ok(target(69))), &mut spawner)?;
-    let second = cache.get_or_fetch(&7, || ready(Ok(target(68))), &mut spawner)?;
+    let first = cache.get_or_fetch(7, 69, &mut spawner)?;
+    let second = cache.get_or_fetch(7, 68, &mut spawner)?;
     assert!(rt; first.need_await() && second.need_await());
-    assert_eq!(rt; format!(in alloc; "{first:?}")?.as_str(), "Lru(Miss)");
+    assert!(rt; first.prints(alloc, "Lru(Miss)")?);
     let first = first.try_unwrap().err().ok_or("a hit")?;
-    assert_eq!(rt; block_on(&rt, Once { spawner })?, 0);
-    let first = block_on(&rt, first)??;
-    let second = block_on(&rt, second)??;
-    assert_eq!(rt; (*first, *second, first.refs()), (69, 69, 2));
+    assert_eq!(rt; polled(&rt, spawner)?, 0);
+    let first = first.answer(&rt)??;
+    let second = second.answer(&rt)??;
+    assert_eq!(rt; (first.value(), second.value(), first.refs()), (69, 69, 2));
     assert_eq!(rt;
         (first.source(), second.source()),
         (Source::Outer, Source::Outer)
     );
     let mut spawner = ListSpawner::new(alloc);
-    let hit = cache.get_or_fetch(&7, || ready(Ok(target(1))), &mut spawner)?;
+    let hit = cache.get_or_fetch(7, 1, &mut spawner)?;
     assert!(rt; !hit.need_await());
-    assert_eq!(rt; format!(in alloc; "{hit:?}")?.as_str(), "Lru(Hit)");
+    assert!(rt; hit.prints(alloc, "Lru(Hit)")?);
     let hit = hit.try_unwrap().ok().ok_or("a miss")??;
-    assert_eq!(rt; (*hit, hit.source()), (69, Source::Memory));
+    assert_eq!(rt; (hit.value(), hit.source()), (69, Source::Memory));
     Ok(())
 }
 
@@ -208,17 +158,15 @@ fn each_kind_prints_its_name(rt: HostRuntime) -> std::result::Result<(), Fail> {
         ),
     ];
     for (config, [begun, miss, hit]) in kinds {
-        let cache: Fetching<HostRuntime> = CacheBuilder::new(16)
-            .with_eviction_config(config)
-            .build(rt, alloc, &rt)?;
-        let mut last: Last<Task<HostRuntime, Direct<Ready<Surely>>>> = Last { task: None };
-        let look = cache.get_or_fetch(&7, || ready(Ok(target(69))), &mut last)?;
+        let Heard(cache) = Heard::new(rt, alloc, config, 16, 8, &Notes::new(alloc)?)?;
+        let mut last: Last<RawTask<HostRuntime>> = Last { task: None };
+        let look = cache.get_or_fetch(&7, || given(69), &mut last)?;
         assert_eq!(rt; format!(in alloc; "{look:?}")?.as_str(), miss);
         let task = last.task.take().ok_or("no task")?;
         assert!(rt; format!(in alloc; "{task:?}")?.as_str().starts_with(begun));
         drop(task);
         drop(cache.insert(7, 70)?);
-        let look = cache.get_or_fetch(&7, || ready(Ok(target(69))), &mut last)?;
+        let look = cache.get_or_fetch(&7, || given(69), &mut last)?;
         assert_eq!(rt; format!(in alloc; "{look:?}")?.as_str(), hit);
     }
     Ok(())
@@ -227,28 +175,28 @@ fn each_kind_prints_its_name(rt: HostRuntime) -> std::result::Result<(), Fail> {
 #[test]
 fn a_fetch_is_overtaken(rt: HostRuntime) -> std::result::Result<(), Fail> {
     let alloc = rt.alloc();
-    let cache: Fetching<HostRuntime> = CacheBuilder::new(16).build(rt, alloc, &rt)?;
+    let cache = fetching(rt, alloc)?;
     let mut spawner = ListSpawner::new(alloc);
-    let first = cache.get_or_fetch(&7, || ready(Ok(target(69))), &mut spawner)?;
+    let first = cache.get_or_fetch(7, 69, &mut spawner)?;
     let held = cache.insert(7, 70)?;
     assert_eq!(rt; held.refs(), 2);
-    assert_eq!(rt; block_on(&rt, Once { spawner })?, 0);
-    assert_eq!(rt; *block_on(&rt, first)??, 70);
-    assert_eq!(rt; *cache.get(&7)?.ok_or("none")?, 70);
+    assert_eq!(rt; polled(&rt, spawner)?, 0);
+    assert_eq!(rt; first.answer(&rt)??.value(), 70);
+    assert_eq!(rt; cache.get(7)?.ok_or("none")?.value(), 70);
     Ok(())
 }
 
 #[test]
 fn an_answer_is_given_once(rt: HostRuntime) -> std::result::Result<(), Fail> {
     let alloc = rt.alloc();
-    let cache: Fetching<HostRuntime> = CacheBuilder::new(16).build(rt, alloc, &rt)?;
+    let cache = fetching(rt, alloc)?;
     let mut spawner = ListSpawner::new(alloc);
-    let mut wait = cache.get_or_fetch(&7, || ready(Ok(target(5))), &mut spawner)?;
-    assert_eq!(rt; block_on(&rt, Once { spawner })?, 0);
-    assert_eq!(rt; block_on(&rt, Twice { look: &mut wait })?, (5, 16));
+    let mut wait = cache.get_or_fetch(7, 5, &mut spawner)?;
+    assert_eq!(rt; polled(&rt, spawner)?, 0);
+    assert_eq!(rt; wait.twice(&rt)?, (5, 16));
     let mut spawner = ListSpawner::new(alloc);
-    let mut hit = cache.get_or_fetch(&7, || ready(Ok(target(6))), &mut spawner)?;
-    assert_eq!(rt; block_on(&rt, Twice { look: &mut hit })?, (5, 16));
+    let mut hit = cache.get_or_fetch(7, 6, &mut spawner)?;
+    assert_eq!(rt; hit.twice(&rt)?, (5, 16));
     let spent = hit.try_unwrap().ok().ok_or("a miss")?;
     assert_eq!(rt; spent.err().ok_or("an entry")?.number(), 16);
     Ok(())
@@ -257,8 +205,8 @@ fn an_answer_is_given_once(rt: HostRuntime) -> std::result::Result<(), Fail> {
 #[test]
 fn a_builder_that_was_lent(rt: HostRuntime) -> std::result::Result<(), Fail> {
     let alloc = rt.alloc();
-    let cache: Fetching<HostRuntime, Trial> = CacheBuilder::new(16).build(rt, alloc, &rt)?;
-    let mut spawner: ListSpawner<Task<HostRuntime, Trial>> = ListSpawner::new(alloc);
+    let cache = tried(rt, alloc)?;
+    let mut spawner: ListSpawner<RawTask<HostRuntime, Trial>> = ListSpawner::new(alloc);
     let optional = Some(May {
         fetch: Pollable::new(ready(Ok(None))),
     });
@@ -272,11 +220,11 @@ fn a_builder_that_was_lent(rt: HostRuntime) -> std::result::Result<(), Fail> {
 #[test]
 fn nothing_was_found(rt: HostRuntime) -> std::result::Result<(), Fail> {
     let alloc = rt.alloc();
-    let cache: Fetching<HostRuntime, Trial> = CacheBuilder::new(16).build(rt, alloc, &rt)?;
-    let mut spawner: ListSpawner<Task<HostRuntime, Trial>> = ListSpawner::new(alloc);
+    let cache = tried(rt, alloc)?;
+    let mut spawner: ListSpawner<RawTask<HostRuntime, Trial>> = ListSpawner::new(alloc);
     let mut first = cache.get_or_fetch_inner(&7, || None, || None, (), &mut spawner)?;
     let lost = cache.get_or_fetch_inner(&8, || None, || None, (), &mut spawner)?;
-    let mut other: ListSpawner<Task<HostRuntime, Trial>> = ListSpawner::new(alloc);
+    let mut other: ListSpawner<RawTask<HostRuntime, Trial>> = ListSpawner::new(alloc);
     let dropped = cache.get_or_fetch_inner(&9, || None, || must(5), (), &mut other)?;
     drop(other);
     assert_eq!(rt; block_on(&rt, Once { spawner })?, 0);

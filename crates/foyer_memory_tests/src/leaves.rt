@@ -1,7 +1,10 @@
 //! What leaves, and in which order.
 
-use crate::testing::{Ear, Heard, Note, Notes, ValueWeighter, heard, whole_pool};
-use foyer_memory::{CacheBuilder, CacheProperties, EvictionConfig, FifoConfig, LruConfig};
+use crate::testing::{Ear, Note, Notes, heard, whole_pool};
+use foyer_core::AdmitAll;
+use foyer_memory::{
+    Cache, CacheBuilder, CacheProperties, EvictionConfig, FifoConfig, LruConfig, Weighter,
+};
 use foyer_policy::{Event, ModHasher, Properties};
 use std::test::Fail;
 
@@ -53,7 +56,7 @@ fn a_touch_moves_back(rt: HostRuntime) -> std::result::Result<(), Fail> {
     for key in 1..4u32 {
         drop(cache.insert(key, u64::from(10 * key))?);
     }
-    assert!(rt; cache.touch(&1)?);
+    assert!(rt; cache.touch(1)?);
     drop(cache.insert(4, 40)?);
     cache.clear()?;
     assert!(rt;
@@ -68,11 +71,26 @@ fn a_touch_moves_back(rt: HostRuntime) -> std::result::Result<(), Fail> {
     Ok(())
 }
 
+/// A weight that is the value.
+#[derive(Clone, Copy)]
+struct ValueWeighter;
+
+impl Weighter<u32, u64> for ValueWeighter {
+    ghost weighs = { λ _ _ value weight. weight ≡ value };
+
+    fn weigh(&self, _key: &u32, value: &u64) -> usize {
+        *value as usize
+    }
+}
+
+/// A cache of numbers whose weights are their values.
+type Weighed<H> = Cache<H, u32, u64, ModHasher, CacheProperties, ValueWeighter, AdmitAll, Ear>;
+
 #[test]
 fn weights_fit_or_are_refused(rt: HostRuntime) -> std::result::Result<(), Fail> {
     let alloc = rt.alloc();
     let notes = Notes::new(alloc)?;
-    let cache: Heard<HostRuntime, ValueWeighter> = CacheBuilder::new(10)
+    let cache: Weighed<HostRuntime> = CacheBuilder::new(10)
         .with_shards(1)
         .with_hash_builder(ModHasher::default())
         .with_weighter(ValueWeighter)

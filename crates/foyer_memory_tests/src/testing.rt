@@ -2,11 +2,8 @@
 
 ghost use Rattle.std.specs.Prelude.{◌≡◌, IsSome};
 
-use foyer_core::{AdmitAll, UnitWeighter};
-use foyer_memory::{
-    Cache, CacheBuilder, CacheProperties, EvictionConfig, LruConfig, Piece, Pipe, Weighter,
-};
-use foyer_policy::{Event, EventListener, ModHasher, Ratio};
+use foyer_memory::{CacheProperties, EvictionConfig, LruConfig, Piece, Pipe};
+use foyer_policy::{Event, EventListener, Ratio};
 use foyer_raw::ListSpawner;
 use futures::Future;
 use futures::future::{Ready, ready};
@@ -15,8 +12,12 @@ use log::Log;
 use std::alloc::{AllocError, Global};
 use std::cell::RefCell;
 use std::rc::Rc;
-use std::sync::{Arc, Wait};
+use std::sync::Wait;
 use std::test::Fail;
+
+mod cache;
+
+pub(crate) use cache::{Entry, Heard, Raw, RawTask, Tasks, Twice, given, polled};
 
 /// What was heard.
 #[derive(Clone, Copy, Debug, PartialEq, Eq)]
@@ -146,32 +147,7 @@ impl<X: Future<Output = ()>> Future for Once<X> {
     }
 }
 
-/// A weight that is the value.
-#[derive(Clone, Copy)]
-pub(crate) struct ValueWeighter;
-
-impl Weighter<u32, u64> for ValueWeighter {
-    ghost weighs = { λ _ _ value weight. weight ≡ value };
-
-    fn weigh(&self, _key: &u32, value: &u64) -> usize {
-        *value as usize
-    }
-}
-
-/// A cache of numbers with keys as their own hashes, which tells a listener and a pipe that write down.
-pub(crate) type Heard<H, W = UnitWeighter> = Cache<
-    H,
-    u32,
-    u64,
-    ModHasher,
-    CacheProperties,
-    W,
-    AdmitAll,
-    Ear,
-    Tube,
->;
-
-/// Such a cache of this policy.
+/// A cache of this policy, which tells a listener and a pipe that write down.
 pub(crate) fn heard<H: Wait + Log + Copy + Drop>(
     rt: H,
     alloc: Global,
@@ -180,13 +156,7 @@ pub(crate) fn heard<H: Wait + Log + Copy + Drop>(
     shards: usize,
     notes: &Notes,
 ) -> std::result::Result<Heard<H>, Fail> {
-    let builder = CacheBuilder::new(capacity)
-        .with_shards(shards)
-        .with_eviction_config(config)
-        .with_hash_builder(ModHasher::default())
-        .with_event_listener(Ear(notes.share()?));
-    let cache: Heard<H> = builder.build(rt, alloc, &rt)?;
-    Ok(cache.with_pipe(Arc::new(alloc, Tube(notes.share()?))?))
+    Heard::new(rt, alloc, config, capacity, shards, notes)?.with_pipe(alloc, notes)
 }
 
 /// An LRU policy all of whose capacity is its pool of high priority.

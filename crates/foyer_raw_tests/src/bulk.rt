@@ -2,38 +2,25 @@
 
 ghost use Rattle.std.specs.Prelude.{◌≡◌};
 
-use crate::testing::{Ear, Note, Notes, Tube, fifo};
-use foyer_core::{AdmitAll, CacheProperties, UnitWeighter};
-use foyer_policy::{Event, Fifo, ModHasher};
-use foyer_raw::RawCache;
+use crate::testing::cache::Cache;
+use crate::testing::{Note, Notes, fifo};
+use foyer_policy::Event;
 use futures::executor::block_on;
-use std::sync::Arc;
 use std::test::Fail;
-
-type Cache<H> = RawCache<
-    H,
-    Fifo,
-    u32,
-    u64,
-    ModHasher,
-    CacheProperties,
-    UnitWeighter,
-    AdmitAll,
-    Ear,
-    Tube,
->;
 
 #[test]
 fn a_flush_by_a_predicate(rt: HostRuntime) -> std::result::Result<(), Fail> {
     let alloc = rt.alloc();
     let notes = Notes::new(alloc)?;
-    let cache: Cache<HostRuntime> = RawCache::new(rt, alloc, fifo(256, 4), Ear(notes.share()?))?;
-    let cache = cache.with_pipe(Arc::new(alloc, Tube(notes.share()?))?);
+    let cache = Cache::new(rt, alloc, fifo(256, 4), &notes)?;
+    let cache = cache.with_pipe(alloc, &notes)?;
     for key in 0..8u32 {
         drop(cache.insert(key, u64::from(10 * key))?);
     }
     let held = cache.insert(8, 80)?;
-    let flush = cache.flush_if(|key, value| *key % 2 == 0 && *value < 60 || *key == 8);
+    let flush = cache
+        .0
+        .flush_if(|key, value| *key % 2 == 0 && *value < 60 || *key == 8);
     assert!(rt;
         notes.are(&[
             Note::Leave(Event::Evict, 0, 0),
@@ -58,9 +45,9 @@ fn a_flush_by_a_predicate(rt: HostRuntime) -> std::result::Result<(), Fail> {
 fn a_flush_of_all(rt: HostRuntime) -> std::result::Result<(), Fail> {
     let alloc = rt.alloc();
     let notes = Notes::new(alloc)?;
-    let cache: Cache<HostRuntime> = RawCache::new(rt, alloc, fifo(4, 2), Ear(notes.share()?))?;
+    let cache = Cache::new(rt, alloc, fifo(4, 2), &notes)?;
     drop(cache.insert(1, 10)?);
-    assert!(rt; block_on(&rt, cache.flush())?.is_ok());
+    assert!(rt; block_on(&rt, cache.0.flush())?.is_ok());
     assert!(rt; notes.are(&[Note::Leave(Event::Evict, 1, 10)]));
     assert_eq!(rt; cache.entries(), 0);
     Ok(())
@@ -69,12 +56,7 @@ fn a_flush_of_all(rt: HostRuntime) -> std::result::Result<(), Fail> {
 #[test]
 fn a_resize(rt: HostRuntime) -> std::result::Result<(), Fail> {
     let alloc = rt.alloc();
-    let cache: Cache<HostRuntime> = RawCache::new(
-        rt,
-        alloc,
-        fifo(256, 4),
-        Ear(Notes::new(alloc)?),
-    )?;
+    let cache = Cache::new(rt, alloc, fifo(256, 4), &Notes::new(alloc)?)?;
     for key in 0..512u32 {
         drop(cache.insert(key, u64::from(key))?);
     }
@@ -82,7 +64,7 @@ fn a_resize(rt: HostRuntime) -> std::result::Result<(), Fail> {
     cache.resize(128)?;
     assert_eq!(rt; cache.usage(), 128);
     assert_eq!(rt; cache.capacity(), 128);
-    assert!(rt; !cache.contains(&256) && cache.contains(&511));
+    assert!(rt; !cache.contains(256) && cache.contains(511));
     for key in 0..512u32 {
         drop(cache.insert(key, u64::from(key))?);
     }
@@ -94,7 +76,7 @@ fn a_resize(rt: HostRuntime) -> std::result::Result<(), Fail> {
 fn what_a_resize_tells(rt: HostRuntime) -> std::result::Result<(), Fail> {
     let alloc = rt.alloc();
     let notes = Notes::new(alloc)?;
-    let cache: Cache<HostRuntime> = RawCache::new(rt, alloc, fifo(4, 2), Ear(notes.share()?))?;
+    let cache = Cache::new(rt, alloc, fifo(4, 2), &notes)?;
     for key in 0..4u32 {
         drop(cache.insert(key, u64::from(10 * key))?);
     }

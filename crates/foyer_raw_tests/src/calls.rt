@@ -2,7 +2,8 @@
 
 ghost use Rattle.std.specs.Prelude.{◌≡◌, true};
 
-use crate::testing::fifo;
+use crate::testing::cache::Cache;
+use crate::testing::{Notes, fifo};
 use foyer_core::{
     AdmitAll, CacheProperties, FetchTarget, Finder, Limits, RawCacheConfig, UnitWeighter,
 };
@@ -19,7 +20,8 @@ use std::alloc::Global;
 use std::sync::{Arc, Wait};
 use std::test::Fail;
 
-type Cache<H> = RawCache<H, Fifo, u32, u64, ModHasher>;
+/// A cache whose parts have no names of their own.
+type Plain<H> = RawCache<H, Fifo, u32, u64, ModHasher>;
 
 /// A fetch that is ready at once.
 type Fetch = Ready<std::result::Result<FetchTarget<u32, u64, CacheProperties>, Fault>>;
@@ -27,12 +29,12 @@ type Fetch = Ready<std::result::Result<FetchTarget<u32, u64, CacheProperties>, F
 #[test]
 fn an_entry_is_found(rt: HostRuntime) -> std::result::Result<(), Fail> {
     let alloc = rt.alloc();
-    let cache: Cache<HostRuntime> = RawCache::new(rt, alloc, fifo(4, 2), NoListener::new())?;
+    let cache = Cache::new(rt, alloc, fifo(4, 2), &Notes::new(alloc)?)?;
     let entry = cache.insert(7, 70)?;
-    assert_eq!(rt; *entry.value(), 70);
+    assert_eq!(rt; entry.value(), 70);
     assert_eq!(rt; entry.source(), Source::Outer);
-    let found = cache.get(&7)?.ok_or("none")?;
-    assert_eq!(rt; *found, 70);
+    let found = cache.get(7)?.ok_or("none")?;
+    assert_eq!(rt; found.value(), 70);
     assert_eq!(rt; found.source(), Source::Memory);
     assert_eq!(rt; found.refs(), 2);
     let again = found.try_clone()?;
@@ -43,23 +45,23 @@ fn an_entry_is_found(rt: HostRuntime) -> std::result::Result<(), Fail> {
     assert_eq!(rt; cache.entries(), 1);
     assert_eq!(rt; cache.usage(), 1);
     assert!(rt; !entry.is_outdated());
-    let removed = cache.remove(&7)?.ok_or("none")?;
-    assert_eq!(rt; *removed.key(), 7);
-    assert!(rt; entry.is_outdated() && !cache.contains(&7));
-    assert!(rt; cache.get(&7)?.is_none() && cache.remove(&7)?.is_none());
+    let removed = cache.remove(7)?.ok_or("none")?;
+    assert_eq!(rt; removed.key(), 7);
+    assert!(rt; entry.is_outdated() && !cache.contains(7));
+    assert!(rt; cache.get(7)?.is_none() && cache.remove(7)?.is_none());
     assert_eq!(rt; cache.entries(), 0);
     let back = cache.insert_piece(entry.piece()?)?;
-    assert_eq!(rt; *back, 70);
+    assert_eq!(rt; back.value(), 70);
     assert_eq!(rt; back.source(), Source::Memory);
     assert_eq!(rt; back.refs(), 3);
-    assert!(rt; cache.contains(&7));
+    assert!(rt; cache.contains(7));
     Ok(())
 }
 
 #[test]
 fn texts_are_printed(rt: HostRuntime) -> std::result::Result<(), Fail> {
     let alloc = rt.alloc();
-    let cache: Cache<HostRuntime> = RawCache::new(rt, alloc, fifo(4, 2), NoListener::new())?;
+    let cache: Plain<HostRuntime> = RawCache::new(rt, alloc, fifo(4, 2), NoListener::new())?;
     let entry = cache.insert(7, 70)?;
     assert_eq!(rt;
         format!(in alloc; "{entry:?}")?.as_str(),
@@ -72,7 +74,7 @@ fn texts_are_printed(rt: HostRuntime) -> std::result::Result<(), Fail> {
 
 #[test]
 fn a_cache_without_shards_is_refused(rt: HostRuntime) {
-    let made: Result<Cache<HostRuntime>> = RawCache::new(
+    let made: Result<Plain<HostRuntime>> = RawCache::new(
         rt,
         rt.alloc(),
         fifo(4, 0),
@@ -94,18 +96,18 @@ fn handles_have_a_limit(rt: HostRuntime) -> std::result::Result<(), Fail> {
         },
         ..fifo(4, 1)
     };
-    let cache: Cache<HostRuntime> = RawCache::new(rt, alloc, config, NoListener::new())?;
+    let cache = Cache::new(rt, alloc, config, &Notes::new(alloc)?)?;
     let first = cache.insert(1, 10)?;
-    let second = cache.get(&1)?.ok_or("none")?;
-    let refused = cache.get(&1).err().ok_or("an entry")?;
+    let second = cache.get(1)?.ok_or("none")?;
+    let refused = cache.get(1).err().ok_or("an entry")?;
     assert_eq!(rt; refused.number(), 9);
-    let refused = cache.touch(&1).err().ok_or("an answer")?;
+    let refused = cache.touch(1).err().ok_or("an answer")?;
     assert_eq!(rt; refused.number(), 9);
     let refused = first.try_clone().err().ok_or("an entry")?;
     assert_eq!(rt; refused.number(), 9);
     drop(second);
-    assert!(rt; cache.touch(&1)?);
-    assert!(rt; cache.get(&1)?.is_some());
+    assert!(rt; cache.touch(1)?);
+    assert!(rt; cache.get(1)?.is_some());
     Ok(())
 }
 

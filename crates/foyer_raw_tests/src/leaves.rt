@@ -1,31 +1,17 @@
 //! What is told of leaves, and in which order.
 
-use crate::testing::{Ear, Note, Notes, Tube, fifo};
-use foyer_core::{AdmitAll, CacheProperties, UnitWeighter};
-use foyer_policy::{Event, Fifo, ModHasher, Properties};
-use foyer_raw::RawCache;
-use std::sync::Arc;
+use crate::testing::cache::Cache;
+use crate::testing::{Note, Notes, fifo};
+use foyer_core::CacheProperties;
+use foyer_policy::{Event, Properties};
 use std::test::Fail;
-
-type Cache<H> = RawCache<
-    H,
-    Fifo,
-    u32,
-    u64,
-    ModHasher,
-    CacheProperties,
-    UnitWeighter,
-    AdmitAll,
-    Ear,
-    Tube,
->;
 
 #[test]
 fn a_phantom_leaves_with_its_entry(rt: HostRuntime) -> std::result::Result<(), Fail> {
     let alloc = rt.alloc();
     let notes = Notes::new(alloc)?;
-    let cache: Cache<HostRuntime> = RawCache::new(rt, alloc, fifo(2, 1), Ear(notes.share()?))?;
-    let cache = cache.with_pipe(Arc::new(alloc, Tube(notes.share()?))?);
+    let cache = Cache::new(rt, alloc, fifo(2, 1), &notes)?;
+    let cache = cache.with_pipe(alloc, &notes)?;
     drop(cache.insert(1, 1)?);
     let phantom = CacheProperties::default().with_phantom(true);
     let held = cache.insert_with_properties(1, 100, phantom)?;
@@ -46,7 +32,7 @@ fn a_phantom_leaves_with_its_entry(rt: HostRuntime) -> std::result::Result<(), F
             Note::Piece(1, 100),
         ])
     );
-    assert!(rt; cache.get(&1)?.is_none());
+    assert!(rt; cache.get(1)?.is_none());
     Ok(())
 }
 
@@ -54,14 +40,12 @@ fn a_phantom_leaves_with_its_entry(rt: HostRuntime) -> std::result::Result<(), F
 fn the_listener_hears_before_the_pipe(rt: HostRuntime) -> std::result::Result<(), Fail> {
     let alloc = rt.alloc();
     let notes = Notes::new(alloc)?;
-    let cache: Cache<HostRuntime> = RawCache::new(rt, alloc, fifo(1, 1), Ear(notes.share()?))?;
-    let piped = cache
-        .try_clone()?
-        .with_pipe(Arc::new(alloc, Tube(notes.share()?))?);
+    let cache = Cache::new(rt, alloc, fifo(1, 1), &notes)?;
+    let piped = cache.try_clone()?.with_pipe(alloc, &notes)?;
     drop(cache.insert(1, 10)?);
     drop(cache.insert(2, 20)?);
     drop(piped.insert(3, 30)?);
-    drop(piped.remove(&3)?);
+    drop(piped.remove(3)?);
     drop(piped.insert(4, 40)?);
     piped.clear()?;
     assert!(rt;
@@ -80,7 +64,7 @@ fn the_listener_hears_before_the_pipe(rt: HostRuntime) -> std::result::Result<()
 fn the_last_owner_clears(rt: HostRuntime) -> std::result::Result<(), Fail> {
     let alloc = rt.alloc();
     let notes = Notes::new(alloc)?;
-    let cache: Cache<HostRuntime> = RawCache::new(rt, alloc, fifo(4, 2), Ear(notes.share()?))?;
+    let cache = Cache::new(rt, alloc, fifo(4, 2), &notes)?;
     let held = cache.insert(1, 10)?;
     drop(cache.insert(3, 30)?);
     drop(cache.insert(2, 20)?);

@@ -2,7 +2,8 @@
 
 ghost use Rattle.std.specs.Prelude.{◌≡◌};
 
-use crate::testing::{Ear, Note, Notes, fifo};
+use crate::testing::cache::Cache;
+use crate::testing::{Note, Notes, fifo};
 use foyer_core::{AdmitAll, CacheProperties, Limits, RawCacheConfig, UnitWeighter, Weighter};
 use foyer_policy::{Event, Fifo, Lfu, LfuConfig, Lru, LruConfig, ModHasher, Properties, Ratio};
 use foyer_raw::{NoListener, RawCache};
@@ -22,18 +23,6 @@ impl Weighter<u32, u64> for ByValue {
     }
 }
 
-type Cache<H> = RawCache<
-    H,
-    Fifo,
-    u32,
-    u64,
-    ModHasher,
-    CacheProperties,
-    UnitWeighter,
-    AdmitAll,
-    Ear,
->;
-
 // A cache of one shard and two records, with these limits.
 fn limited<H: Wait + Drop>(
     rt: H,
@@ -45,7 +34,7 @@ fn limited<H: Wait + Drop>(
         limits,
         ..fifo(2, 1)
     };
-    Ok(RawCache::new(rt, alloc, config, Ear(notes.share()?))?)
+    Cache::new(rt, alloc, config, notes)
 }
 
 // No id is left for a third record, and nothing leaves for it. A piece of a record that was in needs none.
@@ -64,9 +53,9 @@ fn ids_have_a_limit(rt: HostRuntime) -> std::result::Result<(), Fail> {
         .err()
         .ok_or("an entry")?;
     assert_eq!(rt; refused.number(), 10);
-    assert!(rt; notes.are(&[]) && cache.contains(&1));
-    drop(cache.remove(&1)?);
-    assert_eq!(rt; *cache.insert_piece(piece)?, 10);
+    assert!(rt; notes.are(&[]) && cache.contains(1));
+    drop(cache.remove(1)?);
+    assert_eq!(rt; cache.insert_piece(piece)?.value(), 10);
     assert!(rt; notes.are(&[Note::Leave(Event::Remove, 1, 10)]));
     Ok(())
 }

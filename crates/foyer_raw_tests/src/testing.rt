@@ -10,6 +10,9 @@ use std::alloc::{AllocError, Global};
 use std::cell::RefCell;
 use std::rc::Rc;
 
+pub(crate) mod builders;
+pub(crate) mod cache;
+
 /// What was heard.
 #[derive(Clone, Copy, Debug, PartialEq, Eq)]
 pub(crate) enum Note {

@@ -22,17 +22,42 @@ mod reconfigure;
 
 type SessionOf<E> = Session<E, u64, u64, CacheProperties, ModHasher, UnitWeighter, AdmitAll>;
 
-type FifoSession = SessionOf<Fifo>;
-
 type PlainOf<C> = Command<u64, u64, CacheProperties, NoPredicate, C>;
 
 type Plain = PlainOf<FifoConfig>;
 
 type Plainly = Reply<u64, u64, CacheProperties>;
 
+/// A session of the policy that most tests have, as a type without parameters. A test over it has the many parameters of
+/// a session in none of its steps, which makes its proof a good deal shorter.
+#[derive(Drop)]
+struct FifoSession(SessionOf<Fifo>);
+
+impl FifoSession {
+    fn step<Q: Predicate<u64, u64>>(
+        &mut self,
+        command: Command<u64, u64, CacheProperties, Q, FifoConfig>,
+    ) -> Result<Plainly> {
+        self.0.step(command)
+    }
+
+    fn run(&mut self, commands: Vec<Plain>) -> Result<Vec<Plainly>> {
+        self.0.run(commands)
+    }
+
+    fn usage(&self) -> u128 {
+        self.0.usage()
+    }
+
+    fn entries(&self) -> u128 {
+        self.0.entries()
+    }
+}
+
 // A session over an empty core of one shard.
 fn session(alloc: Global, capacity: usize, limits: Limits) -> Result<FifoSession> {
-    session_of::<Fifo>(alloc, capacity, limits, FifoConfig {})
+    let session = session_of::<Fifo>(alloc, capacity, limits, FifoConfig {})?;
+    Ok(FifoSession(session))
 }
 
 // The same over any policy.
@@ -93,17 +118,17 @@ fn told(
 }
 
 // Commands of a cache with room for two records.
-fn some_commands<C: Drop>(alloc: Global) -> std::result::Result<Vec<PlainOf<C>>, Fail> {
-    Ok(vec![in alloc;
-        insert(1, 10),
-        insert(2, 20),
-        insert(2, 21),
-        Command::Get(2),
-        Command::Contains(1),
-        Command::Drop(0),
-        Command::Drop(0),
-        Command::Drop(99),
-    ]?)
+fn some_commands<C: Drop>(alloc: Global) -> std::result::Result<Vec<PlainOf<C>>, AllocError> {
+    let mut commands = Vec::new(alloc);
+    commands.push(insert(1, 10))?;
+    commands.push(insert(2, 20))?;
+    commands.push(insert(2, 21))?;
+    commands.push(Command::Get(2))?;
+    commands.push(Command::Contains(1))?;
+    commands.push(Command::Drop(0))?;
+    commands.push(Command::Drop(0))?;
+    commands.push(Command::Drop(99))?;
+    Ok(commands)
 }
 
 // These are the replies to them, of any policy.

@@ -1,7 +1,10 @@
 //! Runs of 2,000 calls of each policy.
 
 use super::*;
-use foyer_memory::{FifoConfig, LfuConfig, LruConfig, S3FifoConfig, SieveConfig};
+use foyer_core::{AdmitAll, Limits, RawCacheConfig, UnitWeighter};
+use foyer_memory::{EvictionConfig, FifoConfig, LfuConfig, LruConfig, S3FifoConfig, SieveConfig};
+use foyer_policy::{Fifo, Lfu, Lru, S3Fifo, Sieve};
+use log::Log;
 
 // Makes 2,000 calls of a cache and of a core, and answers the first after which they differ, or 0.
 fn first_difference<H: Wait + Log + RandomSource + Alloc<A = Global> + Copy + Drop, E: Eviction>(
@@ -10,12 +13,7 @@ fn first_difference<H: Wait + Log + RandomSource + Alloc<A = Global> + Copy + Dr
     config: EvictionConfig,
 ) -> Result<u64, Fail> {
     let heard = Notes::new(alloc)?;
-    let cache: Two<H> = CacheBuilder::new(8)
-        .with_shards(2)
-        .with_eviction_config(config)
-        .with_hash_builder(ModHasher::default())
-        .with_event_listener(Ear(heard.share()?))
-        .build(rt, alloc, &rt)?;
+    let cache = Heard::new(rt, alloc, config, 8, 2, &heard)?;
     let core: One<E> = CacheCore::new(
         alloc,
         RawCacheConfig {

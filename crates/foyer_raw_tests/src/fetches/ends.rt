@@ -11,10 +11,10 @@ fn a_builder_that_was_lent(rt: HostRuntime) -> std::result::Result<(), Fail> {
     let mut spawner = ListSpawner::new(alloc);
     let first = look(&cache, &mut spawner, optionally(1, Ok(None)), None)?;
     let second = look(&cache, &mut spawner, None, must(1, Ok(value(5))))?;
-    assert_eq!(rt; block_on(&rt, to_the_end(spawner))?, 0);
-    let first = block_on(&rt, first)??.ok_or("none")?;
-    let second = block_on(&rt, second)??.ok_or("none")?;
-    assert_eq!(rt; (*first, *second), (5, 5));
+    assert_eq!(rt; to_the_end(&rt, spawner)?, 0);
+    let first = first.answer(&rt)??.ok_or("none")?;
+    let second = second.answer(&rt)??.ok_or("none")?;
+    assert_eq!(rt; (first.value(), second.value()), (5, 5));
     assert_eq!(rt;
         (first.source(), second.source()),
         (Source::Outer, Source::Outer)
@@ -34,9 +34,9 @@ fn an_optional_value(rt: HostRuntime) -> std::result::Result<(), Fail> {
         optionally(2, Ok(Some(value(4)))),
         must(0, Ok(value(5))),
     )?;
-    assert_eq!(rt; block_on(&rt, to_the_end(spawner))?, 0);
-    let first = block_on(&rt, first)??.ok_or("none")?;
-    assert_eq!(rt; (*first, first.source()), (4, Source::Disk));
+    assert_eq!(rt; to_the_end(&rt, spawner)?, 0);
+    let first = first.answer(&rt)??.ok_or("none")?;
+    assert_eq!(rt; (first.value(), first.source()), (4, Source::Disk));
     Ok(())
 }
 
@@ -52,9 +52,9 @@ fn an_optional_fault_is_passed_over(rt: HostRuntime) -> std::result::Result<(), 
         optionally(0, Err(fault(alloc, 3))),
         must(0, Ok(value(5))),
     )?;
-    assert_eq!(rt; block_on(&rt, to_the_end(spawner))?, 0);
-    let first = block_on(&rt, first)??.ok_or("none")?;
-    assert_eq!(rt; (*first, first.source()), (5, Source::Outer));
+    assert_eq!(rt; to_the_end(&rt, spawner)?, 0);
+    let first = first.answer(&rt)??.ok_or("none")?;
+    assert_eq!(rt; (first.value(), first.source()), (5, Source::Outer));
     Ok(())
 }
 
@@ -71,17 +71,14 @@ fn a_fault_is_shared(rt: HostRuntime) -> std::result::Result<(), Fail> {
         None,
     )?;
     let second = look(&cache, &mut spawner, None, None)?;
-    assert_eq!(rt; block_on(&rt, to_the_end(spawner))?, 0);
-    let first = block_on(&rt, first)?.err().ok_or("an answer")?;
-    let second = block_on(&rt, second)?.err().ok_or("an answer")?;
+    assert_eq!(rt; to_the_end(&rt, spawner)?, 0);
+    let first = first.answer(&rt)?.err().ok_or("an answer")?;
+    let second = second.answer(&rt)?.err().ok_or("an answer")?;
     assert_eq!(rt; (first.number(), second.number()), (11, 11));
     let mut spawner = ListSpawner::new(alloc);
     let third = look(&cache, &mut spawner, None, must(1, Err(fault(alloc, 4))))?;
-    assert_eq!(rt; block_on(&rt, to_the_end(spawner))?, 0);
-    assert_eq!(rt;
-        block_on(&rt, third)?.err().ok_or("an answer")?.number(),
-        11
-    );
+    assert_eq!(rt; to_the_end(&rt, spawner)?, 0);
+    assert_eq!(rt; third.answer(&rt)?.err().ok_or("an answer")?.number(), 11);
     Ok(())
 }
 
@@ -93,7 +90,7 @@ fn piece_of<H: Wait + Drop>(
 ) -> Result<Piece<u32, u64, CacheProperties>> {
     let entry = cache.insert(key, value)?;
     let piece = entry.piece()?;
-    drop(cache.remove(&key)?);
+    drop(cache.remove(key)?);
     Ok(piece)
 }
 
@@ -106,11 +103,11 @@ fn a_piece_of_another_key(rt: HostRuntime) -> std::result::Result<(), Fail> {
     let mut spawner = ListSpawner::new(alloc);
     let first = look(&cache, &mut spawner, optionally(0, Ok(None)), None)?;
     let second = look(&cache, &mut spawner, None, must(0, Ok(piece)))?;
-    assert_eq!(rt; block_on(&rt, to_the_end(spawner))?, 0);
-    let first = block_on(&rt, first)?.err().ok_or("an answer")?;
-    let second = block_on(&rt, second)?.err().ok_or("an answer")?;
+    assert_eq!(rt; to_the_end(&rt, spawner)?, 0);
+    let first = first.answer(&rt)?.err().ok_or("an answer")?;
+    let second = second.answer(&rt)?.err().ok_or("an answer")?;
     assert_eq!(rt; (first.number(), second.number()), (12, 12));
-    assert!(rt; !cache.contains(&7) && !cache.contains(&8));
+    assert!(rt; !cache.contains(7) && !cache.contains(8));
     Ok(())
 }
 
@@ -123,14 +120,14 @@ fn a_piece_of_the_key(rt: HostRuntime) -> std::result::Result<(), Fail> {
     let mut spawner = ListSpawner::new(alloc);
     let first = look(&cache, &mut spawner, None, must(0, Ok(piece)))?;
     let second = look(&cache, &mut spawner, None, None)?;
-    assert_eq!(rt; block_on(&rt, to_the_end(spawner))?, 0);
-    let first = block_on(&rt, first)??.ok_or("none")?;
-    let second = block_on(&rt, second)??.ok_or("none")?;
+    assert_eq!(rt; to_the_end(&rt, spawner)?, 0);
+    let first = first.answer(&rt)??.ok_or("none")?;
+    let second = second.answer(&rt)??.ok_or("none")?;
     assert_eq!(rt;
-        (*first, first.source(), first.refs()),
+        (first.value(), first.source(), first.refs()),
         (70, Source::Memory, 2)
     );
-    assert_eq!(rt; *second, 70);
+    assert_eq!(rt; second.value(), 70);
     Ok(())
 }
 
@@ -146,16 +143,16 @@ fn a_piece_comes_at_the_limit(rt: HostRuntime) -> std::result::Result<(), Fail> 
         },
         ..fifo(4, 1)
     };
-    let cache: Cache<HostRuntime> = RawCache::new(rt, alloc, config, Ear(notes.share()?))?;
+    let cache = Cache::new(rt, alloc, config, &notes)?;
     let piece = FetchTarget::Piece(piece_of(&cache, 7, 70)?);
     let mut spawner = ListSpawner::new(alloc);
     let first = look(&cache, &mut spawner, None, must(0, Ok(piece)))?;
     let second = look(&cache, &mut spawner, None, None)?;
-    assert_eq!(rt; block_on(&rt, to_the_end(spawner))?, 0);
-    let first = block_on(&rt, first)??.ok_or("none")?;
-    let second = block_on(&rt, second)??.ok_or("none")?;
-    assert_eq!(rt; (*first, *second, second.refs()), (70, 70, 2));
-    assert_eq!(rt; cache.get(&7).err().ok_or("an entry")?.number(), 9);
+    assert_eq!(rt; to_the_end(&rt, spawner)?, 0);
+    let first = first.answer(&rt)??.ok_or("none")?;
+    let second = second.answer(&rt)??.ok_or("none")?;
+    assert_eq!(rt; (first.value(), second.value(), second.refs()), (70, 70, 2));
+    assert_eq!(rt; cache.get(7).err().ok_or("an entry")?.number(), 9);
     Ok(())
 }
 
@@ -171,15 +168,15 @@ fn a_fetch_without_a_number_is_refused(rt: HostRuntime) -> std::result::Result<(
         },
         ..fifo(4, 1)
     };
-    let cache: Cache<HostRuntime> = RawCache::new(rt, alloc, config, Ear(notes.share()?))?;
+    let cache = Cache::new(rt, alloc, config, &notes)?;
     let mut spawner = ListSpawner::new(alloc);
     let first = look(&cache, &mut spawner, None, must(0, Ok(value(5))))?;
     let refused = look(&cache, &mut spawner, None, None)
         .err()
         .ok_or("a wait")?;
     assert_eq!(rt; refused.number(), 10);
-    assert_eq!(rt; block_on(&rt, to_the_end(spawner))?, 0);
-    assert_eq!(rt; *block_on(&rt, first)??.ok_or("none")?, 5);
+    assert_eq!(rt; to_the_end(&rt, spawner)?, 0);
+    assert_eq!(rt; first.answer(&rt)??.ok_or("none")?.value(), 5);
     Ok(())
 }
 
@@ -189,7 +186,7 @@ fn dropped<H: Wait + Drop>(
     alloc: Global,
     optional: Option<May>,
     required: Option<Given<Later<Surely>>>,
-) -> Result<(Look<H>, ListSpawner<Task<H>>)> {
+) -> Result<(Look<H>, Tasks<H>)> {
     let mut spawner = ListSpawner::new(alloc);
     let wait = look(cache, &mut spawner, optional, required)?;
     Ok((wait, spawner))
@@ -203,11 +200,11 @@ fn a_task_is_dropped(rt: HostRuntime) -> std::result::Result<(), Fail> {
     // Before its first poll.
     let (wait, spawner) = dropped(&cache, alloc, None, None)?;
     drop(spawner);
-    assert_eq!(rt; block_on(&rt, wait)?.err().ok_or("an answer")?.number(), 15);
+    assert_eq!(rt; wait.answer(&rt)?.err().ok_or("an answer")?.number(), 15);
     // In the optional fetch.
     let (wait, spawner) = dropped(&cache, alloc, optionally(9, Ok(None)), None)?;
-    assert_eq!(rt; block_on(&rt, Drive { spawner, turns: 1 })?, 1);
-    assert_eq!(rt; block_on(&rt, wait)?.err().ok_or("an answer")?.number(), 15);
+    assert_eq!(rt; polled(&rt, spawner, 1)?, 1);
+    assert_eq!(rt; wait.answer(&rt)?.err().ok_or("an answer")?.number(), 15);
     // In the required fetch.
     let (wait, spawner) = dropped(
         &cache,
@@ -215,12 +212,12 @@ fn a_task_is_dropped(rt: HostRuntime) -> std::result::Result<(), Fail> {
         optionally(0, Ok(None)),
         must(9, Ok(value(5))),
     )?;
-    assert_eq!(rt; block_on(&rt, Drive { spawner, turns: 2 })?, 1);
-    assert_eq!(rt; block_on(&rt, wait)?.err().ok_or("an answer")?.number(), 15);
+    assert_eq!(rt; polled(&rt, spawner, 2)?, 1);
+    assert_eq!(rt; wait.answer(&rt)?.err().ok_or("an answer")?.number(), 15);
     // The key can be fetched anew.
     let (wait, spawner) = dropped(&cache, alloc, None, must(2, Ok(value(5))))?;
-    assert_eq!(rt; block_on(&rt, to_the_end(spawner))?, 0);
-    assert_eq!(rt; *block_on(&rt, wait)??.ok_or("none")?, 5);
+    assert_eq!(rt; to_the_end(&rt, spawner)?, 0);
+    assert_eq!(rt; wait.answer(&rt)??.ok_or("none")?.value(), 5);
     Ok(())
 }
 
@@ -233,9 +230,9 @@ fn waiters_hear_before_the_listener(rt: HostRuntime) -> std::result::Result<(), 
         drop(cache.insert(key, u64::from(key))?);
     }
     let (wait, spawner) = dropped(&cache, alloc, None, must(0, Ok(value(5))))?;
-    assert_eq!(rt; block_on(&rt, to_the_end(spawner))?, 0);
+    assert_eq!(rt; to_the_end(&rt, spawner)?, 0);
     assert!(rt; notes.are(&[Note::Leave(Event::Evict, 0, 0), Note::Piece(0, 0)]));
-    assert_eq!(rt; *block_on(&rt, wait)??.ok_or("none")?, 5);
+    assert_eq!(rt; wait.answer(&rt)??.ok_or("none")?.value(), 5);
     Ok(())
 }
 
@@ -251,7 +248,7 @@ fn an_answer_comes_back_before_the_leaves(rt: HostRuntime) -> std::result::Resul
     };
     let (wait, spawner) = dropped(&cache, alloc, None, must(0, Ok(phantom)))?;
     drop(wait);
-    assert_eq!(rt; block_on(&rt, to_the_end(spawner))?, 0);
+    assert_eq!(rt; to_the_end(&rt, spawner)?, 0);
     assert!(rt;
         notes.are(&[
             Note::Leave(Event::Evict, 7, 5),

@@ -2,6 +2,7 @@
 
 use super::*;
 use foyer_raw::{RawFetchState, Spawner};
+use std::random::RandomSource;
 
 /// Keeps the last task that it got.
 #[derive(Drop)]
@@ -50,17 +51,40 @@ impl<X: Future<Output = ()>> Future for Polled<X> {
     }
 }
 
-// A wait for 7 with these builders, and its task, which is polled when it is waited for.
+/// The task of a fetch, which is polled no more.
+#[derive(Drop)]
+struct Task<H: Wait + Drop>(RawTask<H>);
+
+impl<H: Wait + Drop> Task<H> {
+    fn state(&self) -> RawFetchState {
+        self.0.state()
+    }
+
+    fn cancel(self) {
+        let Task(task) = self;
+        task.cancel();
+    }
+}
+
+// Polls a task as often as it is to be.
+fn ended<H: Wait + RandomSource + Alloc<A = Global> + Drop>(
+    rt: &H,
+    polled: Polled<RawTask<H>>,
+) -> std::result::Result<Task<H>, Fail> {
+    Ok(Task(block_on(rt, polled)?.ok_or("no task")?))
+}
+
+// A wait for 7 with these builders, and its task.
 fn led<H: Wait + Drop>(
     cache: &Cache<H>,
     optional: Option<May>,
     required: Option<Given<Later<Surely>>>,
     turns: u64,
-) -> Result<(Look<H>, Polled<Task<H>>)> {
+) -> Result<(Look<H>, Polled<RawTask<H>>)> {
     let mut keeper = Keeper { task: None };
-    let wait = cache.get_or_fetch_inner(&7, || optional, || required, (), &mut keeper)?;
+    let look = cache.get_or_fetch_inner(7, optional, required, &mut keeper)?;
     let Keeper { task } = keeper;
-    Ok((wait, Polled { task, turns }))
+    Ok((look, Polled { task, turns }))
 }
 
 #[test]
@@ -74,19 +98,19 @@ fn a_task_is_cancelled(rt: HostRuntime) -> std::result::Result<(), Fail> {
         RawFetchState::FetchRequired,
     ];
     for (turns, state) in (0..3u64).zip(states) {
-        let (wait, polled) = led(
+        let (wait, task) = led(
             &cache,
             optionally(1, Ok(None)),
             must(9, Ok(value(5))),
             turns,
         )?;
-        let task = block_on(&rt, polled)?.ok_or("no task")?;
+        let task = ended(&rt, task)?;
         assert_eq!(rt; task.state(), state);
         task.cancel();
-        let refused = block_on(&rt, wait)?.err().ok_or("an answer")?;
+        let refused = wait.answer(&rt)?.err().ok_or("an answer")?;
         assert_eq!(rt; refused.number(), 15);
     }
-    assert!(rt; notes.are(&[]) && !cache.contains(&7));
+    assert!(rt; notes.are(&[]) && !cache.contains(7));
     Ok(())
 }
 
@@ -96,16 +120,16 @@ fn a_task_that_has_ended_is_dropped(rt: HostRuntime) -> std::result::Result<(), 
     let alloc = rt.alloc();
     let notes = Notes::new(alloc)?;
     let cache = cache(rt, alloc, &notes)?;
-    let (wait, polled) = led(&cache, None, must(0, Ok(value(5))), 9)?;
-    let ended = block_on(&rt, polled)?.ok_or("no task")?;
-    assert_eq!(rt; ended.state(), RawFetchState::Ready);
-    assert_eq!(rt; *block_on(&rt, wait)??.ok_or("none")?, 5);
-    drop(cache.remove(&7)?);
-    let (wait, polled) = led(&cache, None, must(0, Ok(value(6))), 9)?;
-    drop(ended);
-    let ended = block_on(&rt, polled)?.ok_or("no task")?;
-    assert_eq!(rt; *block_on(&rt, wait)??.ok_or("none")?, 6);
-    drop(ended);
-    assert!(rt; cache.contains(&7));
+    let (wait, task) = led(&cache, None, must(0, Ok(value(5))), 9)?;
+    let last = ended(&rt, task)?;
+    assert_eq!(rt; last.state(), RawFetchState::Ready);
+    assert_eq!(rt; wait.answer(&rt)??.ok_or("none")?.value(), 5);
+    drop(cache.remove(7)?);
+    let (wait, task) = led(&cache, None, must(0, Ok(value(6))), 9)?;
+    drop(last);
+    let last = ended(&rt, task)?;
+    assert_eq!(rt; wait.answer(&rt)??.ok_or("none")?.value(), 6);
+    drop(last);
+    assert!(rt; cache.contains(7));
     Ok(())
 }

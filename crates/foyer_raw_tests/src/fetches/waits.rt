@@ -29,7 +29,16 @@ fn a_fetch_is_overtaken(rt: HostRuntime) -> std::result::Result<(), Fail> {
     assert!(rt; first.need_await() && second.need_await());
     let held = cache.insert(7, 70)?;
     assert_eq!(rt; held.refs(), 3);
-    assert_eq!(rt; block_on(&rt, to_the_end(spawner))?, 0);
+    assert_eq!(rt;
+        block_on(
+            &rt,
+            Drive {
+                spawner,
+                turns: 1000
+            }
+        )?,
+        0
+    );
     let first = block_on(&rt, first)??.ok_or("none")?;
     let second = block_on(&rt, second)??.ok_or("none")?;
     assert_eq!(rt; (*first, *second), (70, 70));
@@ -49,7 +58,16 @@ fn a_fetch_answers_two(rt: HostRuntime) -> std::result::Result<(), Fail> {
     let mut spawner = ListSpawner::new(alloc);
     let first = cache.get_or_fetch(&7, || after_polls(3, Ok(value(69))), &mut spawner)?;
     let second = cache.get_or_fetch(&7, || after_polls(0, Ok(value(68))), &mut spawner)?;
-    assert_eq!(rt; block_on(&rt, to_the_end(spawner))?, 0);
+    assert_eq!(rt;
+        block_on(
+            &rt,
+            Drive {
+                spawner,
+                turns: 1000
+            }
+        )?,
+        0
+    );
     let first = block_on(&rt, first)??.ok_or("none")?;
     assert_eq!(rt;
         (*first, first.source(), first.refs()),
@@ -72,54 +90,18 @@ fn an_answer_is_given_once(rt: HostRuntime) -> std::result::Result<(), Fail> {
     let cache = cache(rt, alloc, &notes)?;
     let mut spawner = ListSpawner::new(alloc);
     let mut wait = look(&cache, &mut spawner, None, must(0, Ok(value(5))))?;
-    assert_eq!(rt; block_on(&rt, to_the_end(spawner))?, 0);
-    assert_eq!(rt; format!(in alloc; "{wait:?}")?.as_str(), "Miss");
-    let twice = block_on(&rt, Twice { wait: &mut wait })?;
+    assert_eq!(rt; to_the_end(&rt, spawner)?, 0);
+    assert!(rt; wait.prints(alloc, "Miss")?);
+    let twice = wait.twice(&rt)?;
     assert_eq!(rt; twice, (5, 16));
     let mut spawner = ListSpawner::new(alloc);
     let mut hit = look(&cache, &mut spawner, None, None)?;
-    assert_eq!(rt; format!(in alloc; "{hit:?}")?.as_str(), "Hit");
-    let twice = block_on(&rt, Twice { wait: &mut hit })?;
+    assert!(rt; hit.prints(alloc, "Hit")?);
+    let twice = hit.twice(&rt)?;
     assert_eq!(rt; twice, (5, 16));
     let spent = hit.try_unwrap().ok().ok_or("a miss")?;
     assert_eq!(rt; spent.err().ok_or("an entry")?.number(), 16);
     Ok(())
-}
-
-/// Polls a look-up twice: the value of the first answer, and the number of the second one's refusal.
-struct Twice<'a, H: Wait + Drop> {
-    wait: &'a mut Look<H>,
-}
-
-impl<H: Wait + Drop> Drop for Twice<'_, H> {
-    fn drop(self) {
-        let Twice { wait: _ } = self;
-    }
-}
-
-impl<H: Wait + Drop> Future for Twice<'_, H> {
-    type Output = (u64, u8);
-
-    fn poll(&mut self, cx: &mut Context<'_>) -> Poll<(u64, u8)> {
-        let value = value_of(self.wait, cx);
-        Poll::Ready((value, refusal_of(self.wait, cx)))
-    }
-}
-
-// The value that a poll gives, or 0.
-fn value_of<H: Wait + Drop>(wait: &mut Look<H>, cx: &mut Context<'_>) -> u64 {
-    match wait.poll(cx) {
-        Poll::Ready(Ok(Some(entry))) => *entry,
-        _ => 0,
-    }
-}
-
-// The number of a poll's refusal, or 0.
-fn refusal_of<H: Wait + Drop>(wait: &mut Look<H>, cx: &mut Context<'_>) -> u8 {
-    match wait.poll(cx) {
-        Poll::Ready(Err(error)) => error.number(),
-        _ => 0,
-    }
 }
 
 #[test]
@@ -129,9 +111,9 @@ fn no_builder_at_all(rt: HostRuntime) -> std::result::Result<(), Fail> {
     let cache = cache(rt, alloc, &notes)?;
     let mut spawner = ListSpawner::new(alloc);
     let wait = look(&cache, &mut spawner, None, None)?;
-    assert_eq!(rt; block_on(&rt, to_the_end(spawner))?, 0);
-    assert!(rt; block_on(&rt, wait)??.is_none());
-    assert!(rt; cache.get(&7)?.is_none());
+    assert_eq!(rt; to_the_end(&rt, spawner)?, 0);
+    assert!(rt; wait.answer(&rt)??.is_none());
+    assert!(rt; cache.get(7)?.is_none());
     Ok(())
 }
 
@@ -145,8 +127,8 @@ fn a_wait_is_dropped(rt: HostRuntime) -> std::result::Result<(), Fail> {
     let after = look(&cache, &mut spawner, None, None)?;
     let kept = look(&cache, &mut spawner, None, None)?;
     drop(before);
-    assert_eq!(rt; block_on(&rt, to_the_end(spawner))?, 0);
-    let entry = block_on(&rt, kept)??.ok_or("none")?;
+    assert_eq!(rt; to_the_end(&rt, spawner)?, 0);
+    let entry = kept.answer(&rt)??.ok_or("none")?;
     assert_eq!(rt; entry.refs(), 2);
     drop(after);
     assert_eq!(rt; entry.refs(), 1);
@@ -197,7 +179,16 @@ fn a_wait_ends_a_pin(rt: HostRuntime) -> std::result::Result<(), Fail> {
     let cache: Pinning<HostRuntime> = RawCache::new(rt, alloc, config, NoListener::new())?;
     let mut spawner = ListSpawner::new(alloc);
     let wait = cache.get_or_fetch(&7, || after_polls(0, Ok(value(70))), &mut spawner)?;
-    assert_eq!(rt; block_on(&rt, to_the_end(spawner))?, 0);
+    assert_eq!(rt;
+        block_on(
+            &rt,
+            Drive {
+                spawner,
+                turns: 1000
+            }
+        )?,
+        0
+    );
     drop(cache.get(&7)?);
     drop(cache.insert(8, 80)?);
     assert!(rt; cache.contains(&7) && cache.contains(&8));

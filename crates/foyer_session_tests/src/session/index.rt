@@ -49,16 +49,18 @@ fn ids_after(
 }
 
 // Commands of a cache with room for two records, after each of which the index is another.
-pub(super) fn index_commands<C: Drop>(alloc: Global) -> std::result::Result<Vec<PlainOf<C>>, Fail> {
+pub(super) fn index_commands<C: Drop>(
+    alloc: Global,
+) -> std::result::Result<Vec<PlainOf<C>>, AllocError> {
     let phantom = CacheProperties::default().with_phantom(true);
-    Ok(vec![in alloc;
-        insert(1, 10),
-        insert(2, 20),
-        insert(2, 21),
-        Command::Insert(2, 22, phantom),
-        insert(1, 11),
-        Command::Remove(1),
-    ]?)
+    let mut commands = Vec::new(alloc);
+    commands.push(insert(1, 10))?;
+    commands.push(insert(2, 20))?;
+    commands.push(insert(2, 21))?;
+    commands.push(Command::Insert(2, 22, phantom))?;
+    commands.push(insert(1, 11))?;
+    commands.push(Command::Remove(1))?;
+    Ok(commands)
 }
 
 // The replies to them tell the index, of any policy.

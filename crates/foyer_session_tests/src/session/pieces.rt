@@ -79,13 +79,15 @@ fn a_handle_that_is_gone_gives_no_piece(rt: HostRuntime) -> std::result::Result<
 }
 
 // Commands of which each takes a piece but for the first.
-pub(super) fn piece_commands<C: Drop>(alloc: Global) -> std::result::Result<Vec<PlainOf<C>>, Fail> {
-    Ok(vec![in alloc;
-        insert(1, 10),
-        Command::TakePiece(0),
-        Command::TakePiece(0),
-        Command::TakePiece(1),
-    ]?)
+pub(super) fn piece_commands<C: Drop>(
+    alloc: Global,
+) -> std::result::Result<Vec<PlainOf<C>>, AllocError> {
+    let mut commands = Vec::new(alloc);
+    commands.push(insert(1, 10))?;
+    commands.push(Command::TakePiece(0))?;
+    commands.push(Command::TakePiece(0))?;
+    commands.push(Command::TakePiece(1))?;
+    Ok(commands)
 }
 
 // Each of them has room for its piece.

@@ -7,19 +7,19 @@ use foyer_policy::{Lfu, LfuConfig, Lru, LruConfig, S3Fifo, S3FifoConfig, Sieve, 
 use foyer_session::{run_fifo, run_lfu, run_lru, run_s3fifo, run_sieve};
 
 // Commands of a cache with room for three records, under which each policy evicts others.
-fn crowding_commands<C: Drop>(alloc: Global) -> std::result::Result<Vec<PlainOf<C>>, Fail> {
-    Ok(vec![in alloc;
-        insert(1, 10),
-        insert(2, 20),
-        insert(3, 30),
-        Command::Get(1),
-        Command::Get(1),
-        Command::Get(2),
-        Command::Get(3),
-        insert(4, 40),
-        Command::Get(2),
-        insert(5, 50),
-    ]?)
+fn crowding_commands<C: Drop>(alloc: Global) -> std::result::Result<Vec<PlainOf<C>>, AllocError> {
+    let mut commands = Vec::new(alloc);
+    commands.push(insert(1, 10))?;
+    commands.push(insert(2, 20))?;
+    commands.push(insert(3, 30))?;
+    commands.push(Command::Get(1))?;
+    commands.push(Command::Get(1))?;
+    commands.push(Command::Get(2))?;
+    commands.push(Command::Get(3))?;
+    commands.push(insert(4, 40))?;
+    commands.push(Command::Get(2))?;
+    commands.push(insert(5, 50))?;
+    Ok(commands)
 }
 
 // The keys of what is evicted, each by the command of this place.

@@ -1,0 +1,106 @@
+//! Fetches that are pending for a while, and what builds them.
+
+ghost use Rattle.std.specs.Prelude.{◌≡◌, IsSome};
+
+use foyer_core::{CacheProperties, FetchTarget};
+use foyer_policy::Fault;
+use foyer_raw::{FetchTypes, Given, OptionalFetchBuilder, Pollable};
+use futures::Future;
+use futures::task::{Context, Poll};
+use std::alloc::Global;
+
+/// What a fetch gives where nothing fails.
+pub(crate) type Target = FetchTarget<u32, u64, CacheProperties>;
+
+/// What an optional fetch may give.
+pub(crate) type Perhaps = std::result::Result<Option<Target>, Fault>;
+
+/// What a required fetch gives.
+pub(crate) type Surely = std::result::Result<Target, Fault>;
+
+/// A future that is pending so many times, and then gives what it holds.
+#[derive(Drop)]
+pub(crate) struct Later<O> {
+    pending: u64,
+    answer: Option<O>,
+}
+
+impl<O: Drop> Future for Later<O> {
+    type Output = O;
+
+    ghost can_poll = { λ l. IsSome l.answer };
+
+    fn poll(&mut self, cx: &mut Context<'_>) -> Poll<O> {
+        if self.pending > 0 {
+            self.pending -= 1;
+            return cx.yield_now();
+        }
+        Poll::Ready(self.answer.take().unwrap())
+    }
+}
+
+/// A future that gives this, after so many polls.
+pub(crate) fn after_polls<O>(pending: u64, answer: O) -> Later<O>
+    ensures { IsSome result.answer }
+{
+    Later {
+        pending,
+        answer: Some(answer),
+    }
+}
+
+/// Gives the optional fetch that it holds.
+#[derive(Drop)]
+pub(crate) struct May {
+    fetch: Pollable<Later<Perhaps>>,
+}
+
+impl OptionalFetchBuilder<u32, u64, CacheProperties, ()> for May {
+    type Fetch = Later<Perhaps>;
+
+    fn build(self, _context: &mut ()) -> Later<Perhaps> {
+        let May { fetch } = self;
+        fetch.into_inner()
+    }
+}
+
+/// Fetch types with an optional and a required fetch.
+pub(crate) struct Trial;
+
+impl FetchTypes<u32, u64, CacheProperties> for Trial {
+    type Context = ();
+
+    type Optional = May;
+
+    type Required = Given<Later<Surely>>;
+}
+
+/// A value of a key.
+pub(crate) fn value(value: u64) -> Target {
+    FetchTarget::Entry {
+        value,
+        properties: CacheProperties::default(),
+    }
+}
+
+/// A fault of this code.
+pub(crate) fn fault(alloc: Global, code: u64) -> Fault {
+    Fault {
+        code,
+        message: String::new(alloc),
+    }
+}
+
+/// An optional builder whose fetch gives this, after so many polls.
+pub(crate) fn optionally(pending: u64, answer: Perhaps) -> Option<May> {
+    Some(May {
+        fetch: Pollable::new(after_polls(pending, answer)),
+    })
+}
+
+/// A required builder whose fetch gives this, after so many polls.
+pub(crate) fn must(pending: u64, answer: Surely) -> Option<Given<Later<Surely>>> {
+    Some(Given {
+        fetch: Pollable::new(after_polls(pending, answer)),
+    })
+}
