@@ -2,7 +2,7 @@
 //! over them has the many parameters of `foyer_raw`'s types in none of its steps, which makes its proof a good deal
 //! shorter. Each method is the call of its name.
 
-ghost use Rattle.std.specs.Prelude.{◌≡◌, IsSome};
+ghost use Rattle.futures.specs.Task.{Keeps};
 
 use crate::testing::builders::{Later, May, Surely, Trial};
 use crate::testing::{Ear, Notes, Tube};
@@ -277,7 +277,9 @@ impl<H: Wait + Drop> Future for Twice<'_, H> {
 }
 
 // The value that a poll gives, or 0.
-fn value_of<H: Wait + Drop>(look: &mut RawLook<H>, cx: &mut Context<'_>) -> u64 {
+fn value_of<H: Wait + Drop>(look: &mut RawLook<H>, cx: &mut Context<'_>) -> u64
+    ensures kept { Keeps cx.old cx.new }
+{
     match look.poll(cx) {
         Poll::Ready(Ok(Some(entry))) => *entry,
         _ => 0,
@@ -285,7 +287,9 @@ fn value_of<H: Wait + Drop>(look: &mut RawLook<H>, cx: &mut Context<'_>) -> u64 
 }
 
 // The number of a poll's refusal, or 0.
-fn refusal_of<H: Wait + Drop>(look: &mut RawLook<H>, cx: &mut Context<'_>) -> u8 {
+fn refusal_of<H: Wait + Drop>(look: &mut RawLook<H>, cx: &mut Context<'_>) -> u8
+    ensures kept { Keeps cx.old cx.new }
+{
     match look.poll(cx) {
         Poll::Ready(Err(error)) => error.number(),
         _ => 0,
