@@ -1,4 +1,4 @@
-//! A cache of the tests' own parts, with its entries, its look-ups and its tasks, as types of one parameter. A test over
+//! A cache of the tests' own parts, with its entries and its look-ups, as types of one parameter. A test over
 //! them has the many parameters of `foyer_memory`'s types in none of its steps, which makes its proof a good deal shorter.
 //! Each method is the call of its name.
 

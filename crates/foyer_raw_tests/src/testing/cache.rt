@@ -1,4 +1,4 @@
-//! A locked cache of the tests' own parts, with its entries, its waits and its tasks, as types of one parameter. A test
+//! A locked cache of the tests' own parts, with its entries and its look-ups, as types of one parameter. A test
 //! over them has the many parameters of `foyer_raw`'s types in none of its steps, which makes its proof a good deal
 //! shorter. Each method is the call of its name.
 
