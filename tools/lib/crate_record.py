@@ -1,5 +1,6 @@
 """Which crates passed `rt ci`, and with which text: rows 'rt-ci CRATE: SUM, COMMIT, KIT, ..' of docs/gate-record. A row says
-something of the repository as long as its sum is the crate's."""
+something of the repository as long as its sum is the crate's. Kits of one logic, which `rt version` names by a sum of its
+own, prove by the same rules: a row of one counts under another, and names the kit it is of."""
 import hashlib
 import os
 
@@ -13,12 +14,13 @@ UNREAD = ("edits", "must-fail", "out")
 
 class CrateRecord:
     def __init__(self, root):
-        self.root, self.crates, self.sums, self.kit = root, Crates(root), {}, kit()
-        self.common = repr((self.kit, text_of(f"{root}/HANDLES")))
+        self.root, self.crates, self.sums = root, Crates(root), {}
+        self.kit, _, logic = kit().partition(" ")
+        self.common = repr((logic, text_of(f"{root}/HANDLES")))
 
     def sum_of(self, name):
-        """A sum of all that the crate's verdict rests on: the kit, HANDLES, the crate's line of crates.txt, its files,
-        and those of the crates below it."""
+        """A sum of all that the crate's verdict rests on: the kit's logic, HANDLES, the crate's line of crates.txt, its
+        files, and those of the crates below it."""
         if name not in self.sums:
             made = hashlib.sha256(repr((self.common, self.crates.lines[name])).encode())
             made.update(repr([self.sum_of(it) for it in self.crates.uses[name]]).encode())
@@ -39,5 +41,5 @@ class CrateRecord:
 
     def keep(self, name, commit, passed, minutes):
         """Writes that the crate as it is passed, with so many of those below it."""
-        text = f"{self.sum_of(name)}, {commit}, {self.kit.split()[0]}, {passed} passed, 0 failed, {minutes:.0f} min"
+        text = f"{self.sum_of(name)}, {commit}, {self.kit}, {passed} passed, 0 failed, {minutes:.0f} min"
         put(self.root, {f"rt-ci {name}": text})

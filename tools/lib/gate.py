@@ -203,19 +203,20 @@ class Gate:
         self.summed("rt ci", "rt ci", log, ran)
 
     def each_ci(self, record, names, keep):
-        """`rt ci NAME` for each of these crates whose text isn't the one that passed it last, over a copy without
-        must-fail edits, which `tools/edits` tries by a stricter rule. What passes is kept at once by `keep`."""
+        """`rt ci` for each of these crates whose text isn't the one that passed it last, over a copy of it and of those
+        below it without must-fail edits, which `tools/edits` tries by a stricter rule. What passes is kept at once by
+        `keep`."""
         for name in names:
             if record.is_current(name):
                 self.count("crates, passed before", 1, 0)
                 continue
             log, began = self.log(f"rt-ci-{name}"), time.monotonic()
             with tempfile.TemporaryDirectory(prefix="full-gate-") as room:
-                self.copy_without_edits(room)
+                self.copy_without_edits(room, [*self.crates.below(name), name])
                 self.progress.at(f"rt ci {name}", "begun")
-                status = self.follow([rt(), "ci", name], log, lambda line: self.of_ci(line, f"rt ci {name}"), room)
+                status = self.follow([rt(), "ci"], log, lambda line: self.of_ci(line, f"rt ci {name}"), room)
                 self.progress.at(f"rt ci {name}", "")
-            said = re.findall(r"^(\d+) passed, 0 failed \(", text_of(log), re.M)
+            said = re.findall(r"^(\d+) passed, 0 failed\b", text_of(log), re.M)
             if status or not said:
                 self.count("crates", 0, 1)
                 self.tell_failure(f"rt ci {name}", f"it ended with {status}", log)
@@ -223,10 +224,12 @@ class Gate:
             self.count("crates", 1, 0)
             keep(name, said[-1], (time.monotonic() - began) / 60)
 
-    def copy_without_edits(self, room):
-        for name in ("crates.txt", "HANDLES"):
-            shutil.copyfile(f"{self.root}/{name}", f"{room}/{name}")
-        for name in self.crates.uses:
+    def copy_without_edits(self, room, names):
+        """Copies these crates, which are all that a verdict on the last one reads."""
+        shutil.copyfile(f"{self.root}/HANDLES", f"{room}/HANDLES")
+        with open(f"{room}/crates.txt", "w", encoding="utf-8") as it:
+            it.writelines(f"{self.crates.lines[name]}\n" for name in names)
+        for name in names:
             folder = self.crates.folder(name)
             unread = lambda at, names, top=folder: [it for it in names if at == top and it in UNREAD]
             shutil.copytree(folder, f"{room}/crates/{name}", symlinks=True, ignore=unread)

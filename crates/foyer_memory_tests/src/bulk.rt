@@ -62,7 +62,7 @@ fn a_resize(rt: HostRuntime) -> std::result::Result<(), Fail> {
     assert_eq!(rt; cache.usage(), 256);
     let before = notes.count();
     cache.resize(128)?;
-    assert_eq!(rt; notes.count() - before, 256);
+    assert_eq!(rt; notes.count().checked_sub(before), Some(256));
     let first = Note::Leave(Event::Evict, 256, 256);
     assert_eq!(rt; notes.at(before).ok_or("none")?, first);
     assert_eq!(rt; (cache.usage(), cache.capacity()), (128, 128));

@@ -1,7 +1,7 @@
 //! A cache beside a core of one thread: random calls, which both answer alike.
 
 use crate::testing::{Entry, Heard, Note, Notes, polled};
-use foyer_core::{CacheCore, CoreEntry, Ended, FetchTarget, Inserted, Leave, Lookup};
+use foyer_core::{Answers, CacheCore, CoreEntry, Ended, FetchTarget, Inserted, Leave, Lookup};
 use foyer_memory::{CacheProperties, Eviction};
 use foyer_policy::{Event, ModHasher, Source};
 use foyer_raw::ListSpawner;
@@ -45,6 +45,26 @@ fn target(value: u64) -> Target {
         value,
         properties: CacheProperties::default(),
     }
+}
+
+// The handles of the first two who get one.
+fn two_of(answers: Answers<u32, u64, CacheProperties, ()>) -> (Kept, Kept) {
+    let (_, handles) = answers.into_parts();
+    let Ok(mut handles) = handles else {
+        return (Kept(None), Kept(None));
+    };
+    let second = Kept(handles.pop());
+    let first = Kept(handles.pop());
+    discard_all(handles);
+    (first, second)
+}
+
+// Handles that are not given back.
+fn discard_all(mut handles: Vec<Handle>) {
+    while let Some(handle) = handles.pop() {
+        handle.discard();
+    }
+    handles.destroy_empty();
 }
 
 impl<H: Wait + RandomSource + Alloc<A = Global> + Copy + Drop, E: Eviction> Both<H, E> {
@@ -139,33 +159,27 @@ impl<H: Wait + RandomSource + Alloc<A = Global> + Copy + Drop, E: Eviction> Both
         }
         let first = first.answer(&rt)??;
         let second = second.answer(&rt)??;
-        let lead = self.ask(key)?;
-        let next = self.ask(key)?;
-        // The second handle, and then the first.
-        let mut both = Vec::new(alloc);
-        both.push(next.1)?;
-        both.push(lead.1)?;
-        if let Some(fetch) = lead.0 {
-            both = Vec::new(alloc);
-            let Ended {
-                found: _,
-                answers,
-                leaves,
-            } = self
-                .core
-                .complete(&key, fetch, target(value), Source::Outer);
-            let (_, handles) = answers.into_parts();
-            if let Ok(mut handles) = handles {
-                while let Some(handle) = handles.pop() {
-                    let _ = both.push(Kept(Some(handle)));
-                }
-                handles.destroy_empty();
-            }
-            self.note(leaves)?;
-        }
-        let one = both.pop().ok_or("no first handle")?;
-        let other = both.pop().ok_or("no second handle")?;
+        let (fetch, lead) = self.ask(key)?;
+        let (_, next) = self.ask(key)?;
+        let (one, other) = match fetch {
+            Some(fetch) => self.complete(key, fetch, value)?,
+            None => (lead, next),
+        };
         Ok(self.hold(alloc, first, one)? && self.hold(alloc, second, other)?)
+    }
+
+    // Ends the core's fetch, and answers the handles of the two who wait for it.
+    fn complete(&mut self, key: u32, fetch: u64, value: u64) -> Result<(Kept, Kept), Fail> {
+        let Ended {
+            found: _,
+            answers,
+            leaves,
+        } = self
+            .core
+            .complete(&key, fetch, target(value), Source::Outer);
+        let two = two_of(answers);
+        self.note(leaves)?;
+        Ok(two)
     }
 
     // What the core answers who asks for a key: the fetch that is to be led, or a handle.

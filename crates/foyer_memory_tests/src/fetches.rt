@@ -58,26 +58,25 @@ fn target(value: u64) -> Target {
     }
 }
 
-// An LRU cache of eight shards.
-fn fetching<H: Wait + Log + Copy + Drop>(
+// A cache with these fetch types, and with the builder's own policy and number of shards.
+fn built<H: Wait + Log + Copy + Drop, T: FetchTypes<u32, u64, CacheProperties>>(
     rt: H,
     alloc: Global,
-) -> std::result::Result<Heard<H>, Fail> {
-    let config = EvictionConfig::from(LruConfig::default());
-    Heard::new(rt, alloc, config, 16, 8, &Notes::new(alloc)?)
-}
-
-// Such a cache with these fetch types.
-fn tried<H: Wait + Log + Copy + Drop>(
-    rt: H,
-    alloc: Global,
-) -> std::result::Result<Raw<H, Trial>, Fail> {
+) -> std::result::Result<Raw<H, T>, Fail> {
     Ok(
         CacheBuilder::new(16)
             .with_hash_builder(ModHasher::default())
             .with_event_listener(Ear(Notes::new(alloc)?))
             .build(rt, alloc, &rt)?,
     )
+}
+
+// The same of fetches that give a value at once.
+fn fetching<H: Wait + Log + Copy + Drop>(
+    rt: H,
+    alloc: Global,
+) -> std::result::Result<Heard<H>, Fail> {
+    Ok(Heard(built(rt, alloc)?))
 }
 
 // A required builder whose fetch gives this.
@@ -205,7 +204,7 @@ fn an_answer_is_given_once(rt: HostRuntime) -> std::result::Result<(), Fail> {
 #[test]
 fn a_builder_that_was_lent(rt: HostRuntime) -> std::result::Result<(), Fail> {
     let alloc = rt.alloc();
-    let cache = tried(rt, alloc)?;
+    let cache: Raw<HostRuntime, Trial> = built(rt, alloc)?;
     let mut spawner: ListSpawner<RawTask<HostRuntime, Trial>> = ListSpawner::new(alloc);
     let optional = Some(May {
         fetch: Pollable::new(ready(Ok(None))),
@@ -220,7 +219,7 @@ fn a_builder_that_was_lent(rt: HostRuntime) -> std::result::Result<(), Fail> {
 #[test]
 fn nothing_was_found(rt: HostRuntime) -> std::result::Result<(), Fail> {
     let alloc = rt.alloc();
-    let cache = tried(rt, alloc)?;
+    let cache: Raw<HostRuntime, Trial> = built(rt, alloc)?;
     let mut spawner: ListSpawner<RawTask<HostRuntime, Trial>> = ListSpawner::new(alloc);
     let mut first = cache.get_or_fetch_inner(&7, || None, || None, (), &mut spawner)?;
     let lost = cache.get_or_fetch_inner(&8, || None, || None, (), &mut spawner)?;

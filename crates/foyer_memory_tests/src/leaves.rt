@@ -76,6 +76,8 @@ fn a_touch_moves_back(rt: HostRuntime) -> std::result::Result<(), Fail> {
 struct ValueWeighter;
 
 impl Weighter<u32, u64> for ValueWeighter {
+    ghost use Rattle.std.specs.Prelude.{◌≡◌};
+
     ghost weighs = { λ _ _ value weight. weight ≡ value };
 
     fn weigh(&self, _key: &u32, value: &u64) -> usize {

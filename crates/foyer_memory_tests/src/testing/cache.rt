@@ -2,6 +2,8 @@
 //! them has the many parameters of `foyer_memory`'s types in none of its steps, which makes its proof a good deal shorter.
 //! Each method is the call of its name.
 
+ghost use Rattle.std.specs.Prelude.{IsSome};
+
 use crate::testing::{Ear, Notes, Once, Tube};
 use foyer_core::{AdmitAll, UnitWeighter};
 use foyer_memory::{
@@ -79,7 +81,9 @@ pub(crate) type RawTask<H, T = Direct<Given>> = FetchTask<
 >;
 
 /// A fetch of this value.
-pub(crate) fn given(value: u64) -> Given {
+pub(crate) fn given(value: u64) -> Given
+    ensures { IsSome result.0 }
+{
     ready(Ok(FetchTarget::Entry {
         value,
         properties: CacheProperties::default(),

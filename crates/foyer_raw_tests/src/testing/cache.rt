@@ -17,7 +17,7 @@ use std::random::RandomSource;
 use std::sync::{Arc, Wait};
 use std::test::Fail;
 
-/// What is told, and what is fetched.
+/// Such a cache, as users write it.
 pub(crate) type Raw<H> = RawCache<
     H,
     Fifo,
@@ -220,11 +220,6 @@ impl<H: Wait + Drop> Entry<H> {
 pub(crate) struct Look<H: Wait + Drop>(RawLook<H>);
 
 impl<H: Wait + Drop> Look<H> {
-    /// Whether this is a miss.
-    pub(crate) fn need_await(&self) -> bool {
-        self.0.need_await()
-    }
-
     pub(crate) fn try_unwrap(self) -> std::result::Result<Result<Entry<H>>, Self> {
         let Look(look) = self;
         match look.try_unwrap() {
