@@ -22,12 +22,20 @@ class Gate:
     def __init__(self, root, progress, place, over_kept_work=False):
         self.root, self.progress, self.crates = root, progress, Crates(root)
         self.over_kept_work = over_kept_work
+        self.kept = {*self.crates.uses}
         self.logs = f"{root}/out/{place}"
         self.passed = self.failed = 0
         self.counted = {}
         os.makedirs(self.logs, exist_ok=True)
         # what a gate that was killed left
         shutil.rmtree(f"{root}/out/rooms", ignore_errors=True)
+
+    def keep_work_for(self, words):
+        """Where the disk is nearly full, the work of a proof is kept of those crates alone whose edits `tools/edits` tries by
+        these words."""
+        ran = subprocess.run([f"{self.root}/tools/edits", *words, "--list"], capture_output=True, text=True)
+        if not ran.returncode:
+            self.kept = {*re.findall(r"^batch \d+, (\w+):", ran.stdout, re.M)}
 
     def count(self, what, passed, failed):
         self.passed, self.failed = self.passed + passed, self.failed + failed
@@ -118,6 +126,7 @@ class Gate:
     def prove(self, name, jobs, yields):
         began = self.progress.minutes()
         proof = Proof(self.crates, name, jobs, self.log(f"{name}-proof"), self.over_kept_work, yields)
+        proof.keeps_work = name in self.kept
         self.progress.at(name, "begun")
         is_well = proof.run(lambda where: self.progress.at(name, where))
         self.progress.at(name, "")

@@ -5,13 +5,15 @@ import shutil
 import subprocess
 
 from machine import rt
-from trying import Room
+from trying import KEPT, Room
 
 # The words of a last line that stand in each crate's; what a program may do has further ones.
 PLAIN = {"functions", "sum", "native", "logic-built", "libraries-built", "statements", "incremental", "target", "cpu"}
 HANDLES = {"main", "may-wait", "threads", "axioms"}
 
 LIMIT = 1200  # seconds to build a proved program and to run it
+
+SCARCE = 16 << 30  # where less of the disk is free, work that nothing goes on from is not kept
 
 # What `rt verdict` refuses beside a proof that is missing.
 REFUSED = (
@@ -61,7 +63,7 @@ class Proof:
         self.crates, self.name, self.jobs, self.log = crates, name, jobs, log
         self.over_kept_work = over_kept_work
         self.before = ["nice", "-n", "10"] if yields else []
-        self.functions, self.why = 0, None
+        self.functions, self.why, self.keeps_work = 0, None, True
 
     def run(self, at):
         """Proves the crate, builds what stands above it or runs, and puts the work in its out/. Returns whether all is
@@ -77,6 +79,8 @@ class Proof:
                 self.why = "its library was not built" if status else None
             if not self.why and os.path.isfile(f"{folder}/src/main.rt"):
                 self.why = self.run_stored(folder, log)
+            if not self.keeps_work and shutil.disk_usage(folder).free < SCARCE:
+                shutil.rmtree(f"{folder}/{KEPT}", ignore_errors=True)
             if not self.why:
                 to = f"{self.crates.folder(self.name)}/out"
                 shutil.rmtree(to, ignore_errors=True)
