@@ -18,14 +18,14 @@ use Rattle.foyer_core.specs.Table.{rec_of, slot_outside, id_by}
 use Rattle.foyer_core.specs.Records.{slot_in, number_of, record_in, id_in}
 use Rattle.foyer_core.specs.State.{Meaning, State, IsKept, key_of, item_of, usage_of, is_phantom_record}
 use Rattle.foyer_core.specs.Steps.{after_out, after_push, outside, GivesWay, Admits, replaced_leaves}
-use Rattle.foyer_core.specs.Stored.{IsStored, state}
+use Rattle.foyer_core.specs.Stored.{IsStored, item_in, state}
 use Rattle.foyer_core.proofs.Keeps.{indexed_there, removed_keeps, removed_weight, push_keeps, push_weight}
 use Rattle.foyer_core.proofs.Keys.{same_key_laws}
 use Rattle.foyer_core.proofs.States.{same_state}
 use Rattle.foyer_core.proofs.LeaveLemmas.{taken_from}
 use Rattle.foyer_core.proofs.ShardLemmas.{Holding, now_of, resident}
 use Rattle.foyer_core.proofs.LeftLemmas.{IsStoredBy, under, left_index, left_stored}
-use Rattle.foyer_core.proofs.StoredLemmas.{index_is, slot_record}
+use Rattle.foyer_core.proofs.StoredLemmas.{index_is, slot_record, items_write, item_outside}
 use Rattle.foyer_core.proofs.TableLemmas.{id_by-some, id_by-there}
 
 -- whether two numbers are one, with the fact
@@ -68,9 +68,9 @@ length-remove_id id i (x ∷ xs) h = go (x.id == id) h (length-remove_id id i xs
   go true h rec = omega arith
   go false h rec = omega (arith, rec h)
 
--- a slot whose record is to come in, and once the policy took it in
-abbrev pub coming_slot : {K V P : Type 0} → Incoming K V P → Option ℕ → Kept K V P
-coming_slot inc place = record { id = inc.id; kept = inc.kept; handles = inc.handles; resident = true; place = place }
+-- the slot of what comes in
+abbrev pub coming_slot : {K V P : Type 0} → Incoming K V P → Kept K V P
+coming_slot inc = record { id = inc.id; kept = inc.kept; handles = inc.handles; resident = true }
 
 -- the record of what comes in
 abbrev pub coming_rec : {K V P : Type 0} → Incoming K V P → Rec K V P
@@ -123,6 +123,15 @@ module _ {K V P View C : Type 0} (m : Meaning K P View C) (laws : IsEquivalence 
   led_not n (Some x) is out q j h e =
       absurd (true≢false (sym (resident m laws good o q j h x (ap (slot_in t) e ∙ is)) ∙ out (rec_of x) refl))
 
+  -- the policy has no item at the place of such a slot
+  pub no_item : (n : ℕ) (before : Option (Kept K V P)) → slot_in t n ≡ before →
+      ((r : Rec K V P) → option_map rec_of before ≡ Some r → r.resident ≡ false) → at n ≡ None
+  no_item n before is out = stored.placed n ∙ ap (item_in m) is ∙ go before out where
+    go : (w : Option (Kept K V P)) → ((r : Rec K V P) → option_map rec_of w ≡ Some r → r.resident ≡ false)
+        → item_in m w ≡ None
+    go None out = refl
+    go (Some x) out = item_outside m x (out (rec_of x) refl)
+
   module _ (inc : Incoming K V P) (n : ℕ) (unled : (q : ℕ × K) (j : ℕ) → keys q ≡ Some j → j ≢ n)
       (out : (r : Rec K V P) → record_in t inc.id ≡ Some r → r.resident ≡ false) where
     -- what stands once the key's record gave way, but for what comes in
@@ -141,19 +150,18 @@ module _ {K V P View C : Type 0} (m : Meaning K P View C) (laws : IsEquivalence 
 
     module _ (slots : ℕ → Option (Kept K V P)) (keys' : ℕ × K → Option ℕ) (at' : ℕ → Option Item)
         (last : State K V P View) (base : Base slots keys' at' last)
-        (t3 : Records K V P) (p : ℕ) (keys3 : ℕ × K → Option ℕ) (at3 : ℕ → Option Item) (view3 : View) (next3 : ℕ)
-        (slots3 : (q : ℕ) → slot_in t3 q ≡ update nat_eq slots n (Some (coming_slot inc (Some p))) q)
+        (t3 : Records K V P) (keys3 : ℕ × K → Option ℕ) (at3 : ℕ → Option Item) (view3 : View) (next3 : ℕ)
+        (slots3 : (q : ℕ) → slot_in t3 q ≡ update nat_eq slots n (Some (coming_slot inc)) q)
         (recs3 : (id : ℕ) → record_in t3 id ≡ update nat_eq last.records inc.id (Some (coming_rec inc)) id)
         (led3 : (q : ℕ × K) → keys3 q ≡ update (same_key m.same) keys' (key_of inc.kept) (Some n) q)
-        (here3 : at3 p ≡ Some (item_of m inc.id inc.kept)) (free3 : at' p ≡ None)
-        (others3 : (q : ℕ) → q ≢ p → at3 q ≡ at' q)
+        (here3 : at3 n ≡ Some (item_of m inc.id inc.kept)) (others3 : (q : ℕ) → q ≢ n → at3 q ≡ at' q)
         (viewed3 : view3 ≡ m.policy.push last.view (item_of m inc.id inc.kept))
         (nexts3 : next3 ≡ max next (inc.id + 1)) where
-      new_here : slot_in t3 n ≡ Some (coming_slot inc (Some p))
-      new_here = slots3 n ∙ update_here slots n (Some (coming_slot inc (Some p)))
+      new_here : slot_in t3 n ≡ Some (coming_slot inc)
+      new_here = slots3 n ∙ update_here slots n (Some (coming_slot inc))
 
       new_other : (j : ℕ) → j ≢ n → slot_in t3 j ≡ slots j
-      new_other j apart = slots3 j ∙ update_apart slots n (Some (coming_slot inc (Some p))) j apart
+      new_other j apart = slots3 j ∙ update_apart slots n (Some (coming_slot inc)) j apart
 
       admit_index : (q : ℕ × K) → option_and_then (id_in t3) (keys3 q)
           ≡ update (same_key m.same) last.index (key_of inc.kept) (Some inc.id) q
@@ -162,7 +170,7 @@ module _ {K V P View C : Type 0} (m : Meaning K P View C) (laws : IsEquivalence 
           ∙ ap (λ (w : Option ℕ). cond (same_key m.same (key_of inc.kept) q) (Some inc.id) w) (base.index' q) where
             go : (b : Bool) (w : Option ℕ) → keys' q ≡ w → option_and_then (id_in t3) (cond b (Some n) w)
                 ≡ cond b (Some inc.id) (option_and_then (id_by slots) w)
-            go true w h = id_by-some (slot_in t3) n (coming_slot inc (Some p)) new_here
+            go true w h = id_by-some (slot_in t3) n (coming_slot inc) new_here
             go false None h = refl
             go false (Some j) h = ap (option_map (λ (s : Kept K V P). s.id)) (new_other j (base.unled' q j h))
 
@@ -183,26 +191,13 @@ module _ {K V P View C : Type 0} (m : Meaning K P View C) (laws : IsEquivalence 
           | inl e ↦ ap is_some (ap (slot_in t3) e.1 ∙ new_here)
           | inr e ↦ led_on (same_key m.same (key_of inc.kept) q) q j e.1 (sym (led3 q) ∙ h)
         ];
-        placed = λ j y h res. elim (eqb_tells j n) [
-          | inl e ↦
-              (let same : coming_slot inc (Some p) ≡ y =
-              (let x : Some (coming_slot inc (Some p)) ≡ Some y = sym new_here ∙ ap (slot_in t3) (sym e.1) ∙ h in
-              cc) in
-              subst (λ (z : Kept K V P). option_and_then at3 z.place ≡ Some (item_of m z.id z.kept)) same here3)
-          | inr e ↦ place_on y.place (item_of m y.id y.kept) (base.stored'.placed j y (sym (new_other j e.1) ∙ h) res)
-        ];
+        placed = items_write m slots (slot_in t3) n (Some (coming_slot inc)) slots3 at' at3 base.stored'.placed here3
+            others3;
       } where
         led_on : (b : Bool) (q : ℕ × K) (j : ℕ) → j ≢ n → cond b (Some n) (keys' q) ≡ Some j → is_some (slot_in t3 j)
             ≡ true
         led_on true q j apart h = absurd (apart (let e : n ≡ j = cc in sym e))
         led_on false q j apart h = ap is_some (new_other j apart) ∙ base.stored'.led q j h
-
-        place_on : (w : Option ℕ) (i : Item) → option_and_then at' w ≡ Some i → option_and_then at3 w ≡ Some i
-        place_on None i h = h
-        place_on (Some a) i h = elim (eqb_tells a p) [
-          | inl e ↦ (let x : None ≡ Some i = sym free3 ∙ ap at' (sym e.1) ∙ h in absurd cc)
-          | inr e ↦ others3 a e.1 ∙ h
-        ]
 
     -- the key had no record
     pub base_none : keys (key_of inc.kept) ≡ None → Base (slot_in t) keys at now
@@ -318,15 +313,14 @@ module _ {K V P View C : Type 0} (m : Meaning K P View C) (laws : IsEquivalence 
       pub new : IsNewIn inc.id (m.policy.order view2)
       pub fits : inc.kept.weight + weight_of (m.policy.order view2) < 2 ^ 64
 
-    module _ (t1 t2 t3 : Records K V P) (x0 : Kept K V P) (x0_is : x0 ≡ coming_slot inc None) (p : ℕ)
+    module _ (t1 t2 t3 : Records K V P) (x0 : Kept K V P) (x0_is : x0 ≡ coming_slot inc)
         (keys1 : ℕ × K → Option ℕ) (at2 at3 : ℕ → Option Item) (view2 view3 : View) (next3 : ℕ)
         (slots1 : (q : ℕ) → slot_in t1 q ≡ update nat_eq (slot_in t) n (Some x0) q)
         (recs1 : (id : ℕ) → record_in t1 id ≡ update nat_eq (record_in t) inc.id (Some (coming_rec inc)) id)
         (led1 : (q : ℕ × K) → keys1 q ≡ update (same_key m.same) keys (key_of inc.kept) (Some n) q)
-        (slots3 : (q : ℕ) → slot_in t3 q ≡ update nat_eq (slot_in t2) n (Some (coming_slot inc (Some p))) q)
+        (slots3 : (q : ℕ) → slot_in t3 q ≡ update nat_eq (slot_in t2) n (Some (coming_slot inc)) q)
         (recs3 : (id : ℕ) → record_in t3 id ≡ record_in t2 id)
-        (here3 : at3 p ≡ Some (item_of m inc.id inc.kept)) (free3 : at2 p ≡ None)
-        (others3 : (q : ℕ) → q ≢ p → at3 q ≡ at2 q)
+        (here3 : at3 n ≡ Some (item_of m inc.id inc.kept)) (others3 : (q : ℕ) → q ≢ n → at3 q ≡ at2 q)
         (viewed3 : view3 ≡ m.policy.push view2 (item_of m inc.id inc.kept))
         (nexts3 : next3 ≡ max next (inc.id + 1)) (plain : is_phantom_record m inc.kept ≡ false)
         (held : 0 < inc.handles) (handle : inc.handles ≤ limits.handles)
@@ -339,16 +333,16 @@ module _ {K V P View C : Type 0} (m : Meaning K P View C) (laws : IsEquivalence 
         no_way = subst (λ (w : Option ℕ). GivesWay m w now [] now) (sym (ap (option_and_then (id_in t)) none))
             (refl, refl)
 
-        slots_none : (q : ℕ) → slot_in t3 q ≡ update nat_eq (slot_in t) n (Some (coming_slot inc (Some p))) q
+        slots_none : (q : ℕ) → slot_in t3 q ≡ update nat_eq (slot_in t) n (Some (coming_slot inc)) q
         slots_none q = slots3 q ∙ elim (eqb_tells q n) [
           | inl e ↦ subst
-              (λ (x : ℕ). update nat_eq (slot_in t2) n (Some (coming_slot inc (Some p))) x
-              ≡ update nat_eq (slot_in t) n (Some (coming_slot inc (Some p))) x) (sym e.1)
-              (update_here (slot_in t2) n (Some (coming_slot inc (Some p)))
-              ∙ sym (update_here (slot_in t) n (Some (coming_slot inc (Some p)))))
-          | inr e ↦ update_apart (slot_in t2) n (Some (coming_slot inc (Some p))) q e.1 ∙ slots2 q ∙ slots1 q
+              (λ (x : ℕ). update nat_eq (slot_in t2) n (Some (coming_slot inc)) x
+              ≡ update nat_eq (slot_in t) n (Some (coming_slot inc)) x) (sym e.1)
+              (update_here (slot_in t2) n (Some (coming_slot inc))
+              ∙ sym (update_here (slot_in t) n (Some (coming_slot inc))))
+          | inr e ↦ update_apart (slot_in t2) n (Some (coming_slot inc)) q e.1 ∙ slots2 q ∙ slots1 q
               ∙ update_apart (slot_in t) n (Some x0) q e.1
-              ∙ sym (update_apart (slot_in t) n (Some (coming_slot inc (Some p))) q e.1)
+              ∙ sym (update_apart (slot_in t) n (Some (coming_slot inc)) q e.1)
         ]
 
         viewed_none : view3 ≡ m.policy.push now.view (item_of m inc.id inc.kept)
@@ -357,16 +351,16 @@ module _ {K V P View C : Type 0} (m : Meaning K P View C) (laws : IsEquivalence 
         pub admitted_none : (usage entries : ℕ) → usage ≡ weight_of (m.policy.order view) → entries
             ≡ length (m.policy.order view) → Admitted None usage entries view3 keys1 t3 at3 next3
         admitted_none usage entries hu he =
-            let places : (q : ℕ) → q ≢ p → at3 q ≡ at q = (λ q apart. others3 q apart ∙ places2 q) in
-            let after = admit_after (slot_in t) keys at now (base_none none) t3 p keys1 at3 view3 next3 slots_none
-            (λ id. recs3 id ∙ recs2 id ∙ recs1 id) led1 here3 (sym (places2 p) ∙ free3) places viewed_none nexts3 in
+            let places : (q : ℕ) → q ≢ n → at3 q ≡ at q = (λ q apart. others3 q apart ∙ places2 q) in
+            let after = admit_after (slot_in t) keys at now (base_none none) t3 keys1 at3 view3 next3 slots_none
+            (λ id. recs3 id ∙ recs2 id ∙ recs1 id) led1 here3 places viewed_none nexts3 in
             record {
               admits = record { last = now; gives_way = no_way; after = after };
-              kept3 = admit_kept (slot_in t) keys at now (base_none none) t3 p keys1 at3 view3 next3 slots_none
-                  (λ id. recs3 id ∙ recs2 id ∙ recs1 id) led1 here3 (sym (places2 p) ∙ free3) places viewed_none
+              kept3 = admit_kept (slot_in t) keys at now (base_none none) t3 keys1 at3 view3 next3 slots_none
+                  (λ id. recs3 id ∙ recs2 id ∙ recs1 id) led1 here3 places viewed_none
                   nexts3 plain (fits [] now no_way) held handle;
-              stored3 = admit_stored (slot_in t) keys at now (base_none none) t3 p keys1 at3 view3 next3 slots_none
-                  (λ id. recs3 id ∙ recs2 id ∙ recs1 id) led1 here3 (sym (places2 p) ∙ free3) places viewed_none nexts3;
+              stored3 = admit_stored (slot_in t) keys at now (base_none none) t3 keys1 at3 view3 next3 slots_none
+                  (λ id. recs3 id ∙ recs2 id ∙ recs1 id) led1 here3 places viewed_none nexts3;
               weighed3 =
                   (let w : weight_of (m.policy.order view3) ≡ inc.kept.weight + weight_of (m.policy.order view) =
                   ap (λ (v : View). weight_of (m.policy.order v)) viewed_none ∙ push_weight m laws good now inc in
@@ -382,19 +376,19 @@ module _ {K V P View C : Type 0} (m : Meaning K P View C) (laws : IsEquivalence 
           (slots2 : (q : ℕ) → slot_in t2 q ≡ update nat_eq (slot_in t1) old (slot_outside y) q)
           (recs2 : (id : ℕ) → record_in t2 id ≡ update nat_eq (record_in t1) y.id (outside (rec_of y)) id) where
         slots_some : (q : ℕ) → slot_in t3 q ≡ update nat_eq (update nat_eq (slot_in t) old (slot_outside y)) n
-            (Some (coming_slot inc (Some p))) q
+            (Some (coming_slot inc)) q
         slots_some q = slots3 q ∙ elim (eqb_tells q n) [
           | inl e ↦ subst
-              (λ (x : ℕ). update nat_eq (slot_in t2) n (Some (coming_slot inc (Some p))) x
-              ≡ update nat_eq (update nat_eq (slot_in t) old (slot_outside y)) n (Some (coming_slot inc (Some p)))
+              (λ (x : ℕ). update nat_eq (slot_in t2) n (Some (coming_slot inc)) x
+              ≡ update nat_eq (update nat_eq (slot_in t) old (slot_outside y)) n (Some (coming_slot inc))
               x) (sym e.1)
-              (update_here (slot_in t2) n (Some (coming_slot inc (Some p)))
+              (update_here (slot_in t2) n (Some (coming_slot inc))
               ∙ sym (update_here (update nat_eq (slot_in t) old (slot_outside y)) n
-              (Some (coming_slot inc (Some p)))))
-          | inr e ↦ update_apart (slot_in t2) n (Some (coming_slot inc (Some p))) q e.1 ∙ slots2 q
+              (Some (coming_slot inc))))
+          | inr e ↦ update_apart (slot_in t2) n (Some (coming_slot inc)) q e.1 ∙ slots2 q
               ∙ under_old q e.1 (eqb_tells q old) ∙
               sym (update_apart (update nat_eq (slot_in t) old (slot_outside y)) n
-              (Some (coming_slot inc (Some p))) q e.1)
+              (Some (coming_slot inc)) q e.1)
         ] where
           under_old : (q : ℕ) → q ≢ n → Tells q old → update nat_eq (slot_in t1) old (slot_outside y) q
               ≡ update nat_eq (slot_in t) old (slot_outside y) q
@@ -444,15 +438,15 @@ module _ {K V P View C : Type 0} (m : Meaning K P View C) (laws : IsEquivalence 
                 last = last;
                 gives_way = way;
                 after =
-                    admit_after slots keys2 at2 last base t3 p keys1 at3 view3 next3 slots_some recs_some led3 here3
-                    free3 others3 viewed_some nexts3;
+                    admit_after slots keys2 at2 last base t3 keys1 at3 view3 next3 slots_some recs_some led3 here3
+                    others3 viewed_some nexts3;
               };
-              kept3 = admit_kept slots keys2 at2 last base t3 p keys1 at3 view3 next3 slots_some recs_some led3 here3
-                  free3 others3 viewed_some nexts3 plain
+              kept3 = admit_kept slots keys2 at2 last base t3 keys1 at3 view3 next3 slots_some recs_some led3 here3
+                  others3 viewed_some nexts3 plain
                   (fits (replaced_leaves (Some record { number = number; id = y.id; kept = y.kept })) last way)
                   held handle;
-              stored3 = admit_stored slots keys2 at2 last base t3 p keys1 at3 view3 next3 slots_some recs_some led3
-                  here3 free3 others3 viewed_some nexts3;
+              stored3 = admit_stored slots keys2 at2 last base t3 keys1 at3 view3 next3 slots_some recs_some led3
+                  here3 others3 viewed_some nexts3;
               weighed3 =
                   (let w : weight_of (m.policy.order view3) ≡ inc.kept.weight + usage_of m last =
                   ap (λ (v : View). weight_of (m.policy.order v)) viewed_some ∙ push_weight m laws good last inc in

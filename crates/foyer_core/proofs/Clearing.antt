@@ -1,5 +1,5 @@
 -- All records of a shard leave, and its policy is cleared.
-use Rattle.std.proofs.Common.{◌≡◌, ℕ, ◌<◌, List, [], ◌∷◌, ◌++◌, Some, None, Option, true, false, true≢false, nat_eq, length, refl, sym, ◌∙◌, ap, subst, subst₂, arith}
+use Rattle.std.proofs.Common.{◌≡◌, ℕ, ◌<◌, List, [], ◌∷◌, ◌++◌, Some, None, Option, Bool, true, false, true≢false, nat_eq, length, refl, sym, ◌∙◌, ap, subst, subst₂, arith}
 use Rattle.std.proofs.Math.Logic.{∥∥₁_elim, ∥∥₁_map}
 use Rattle.std.proofs.Props.{props}
 use Rattle.std.specs.Prelude.{◌==◌}
@@ -20,7 +20,7 @@ use Rattle.foyer_core.specs.Indexer.{same_key}
 use Rattle.foyer_core.specs.Table.{rec_of, slot_outside}
 use Rattle.foyer_core.specs.Records.{slot_in, number_of, record_in}
 use Rattle.foyer_core.specs.State.{Meaning, State, IsKept, key_of}
-use Rattle.foyer_core.specs.Stored.{IsStored, state}
+use Rattle.foyer_core.specs.Stored.{IsStored, item_in, state}
 use Rattle.foyer_core.specs.Steps.{after_out, ids_of, outside, Leave}
 use Rattle.foyer_core.specs.Bulk.{Clears, Lined, lined_state, Passes}
 use Rattle.foyer_core.proofs.Evictions.{Leave-snoc}
@@ -29,7 +29,7 @@ use Rattle.foyer_core.proofs.Outgoing.{out_id, out_record, out_after, out_kept, 
 use Rattle.foyer_core.proofs.Outs.{ids-more, counted_first}
 use Rattle.foyer_core.proofs.ShardLemmas.{Holding, now_of}
 use Rattle.foyer_core.proofs.States.{same_state}
-use Rattle.foyer_core.proofs.StoredLemmas.{slot_record}
+use Rattle.foyer_core.proofs.StoredLemmas.{slot_record, item_outside}
 use Rattle.foyer_core.proofs.Views.{rearranged_keeps}
 
 module _ {K V P View C : Type 0} (m : Meaning K P View C) where
@@ -189,11 +189,20 @@ module _ {K V P View C : Type 0} (m : Meaning K P View C) where
             let none : 0 < count_of x.id [] = subst (λ (l : List Item). 0 < count_of x.id l) p.after.lined pos in
             absurd (omega arith)
 
-        pub cleared_stored : (at' : ℕ → Option Item) → IsStored m at' keys' t'
-        cleared_stored at' = record {
+        pub cleared_stored : (at' : ℕ → Option Item) → ((n : ℕ) → at' n ≡ None) → IsStored m at' keys' t'
+        cleared_stored at' none = record {
           led = p.after.stored.led;
-          placed = λ n x there res. absurd (true≢false (∥∥₁_elim p.after.kept (hlevel props) (out_by n x there res)));
-        }
+          placed = λ n. none n ∙ sym (go n (slot_in t' n) refl);
+        } where
+          not_true : (b : Bool) → (b ≡ true → ⊥) → b ≡ false
+          not_true true h = absurd (h refl)
+          not_true false h = refl
+
+          go : (n : ℕ) (w : Option (Kept K V P)) → slot_in t' n ≡ w → item_in m w ≡ None
+          go n None is = refl
+          go n (Some x) is = item_outside m x
+              (not_true x.resident
+              (λ res. true≢false (∥∥₁_elim p.after.kept (hlevel props) (out_by n x is res))))
 
       pub cleared_weight : 0 ≡ weight_of (m.policy.order view')
       cleared_weight = sym (ap weight_of none_in)

@@ -15,12 +15,12 @@ use Rattle.foyer_core.specs.Values.{Kept, Gone}
 use Rattle.foyer_core.specs.Table.{rec_of}
 use Rattle.foyer_core.specs.Records.{slot_in, record_in, id_in}
 use Rattle.foyer_core.specs.State.{Meaning, IsKept, is_phantom_record}
-use Rattle.foyer_core.specs.Stored.{IsStored, state}
+use Rattle.foyer_core.specs.Stored.{IsStored, item_in, state}
 use Rattle.foyer_core.specs.Steps.{GivesBack, after_give_back, last_leave}
 use Rattle.foyer_core.proofs.Keeps.{give_back_keeps}
 use Rattle.foyer_core.proofs.ShardLemmas.{Holding, now_of, resident}
 use Rattle.foyer_core.proofs.States.{same_state}
-use Rattle.foyer_core.proofs.StoredLemmas.{slot_record}
+use Rattle.foyer_core.proofs.StoredLemmas.{slot_record, items_write, item_outside}
 
 module _ {K V P View C : Type 0} (m : Meaning K P View C) (laws : IsEquivalence m.same) (good : IsPolicy m.policy)
     (o : Holding V m) where
@@ -37,19 +37,11 @@ module _ {K V P View C : Type 0} (m : Meaning K P View C) (laws : IsEquivalence 
       | inr e ↦ slots k ∙ update_apart (slot_in t) n None k e.1
     ]
 
-    -- a slot now was there before
-    was : (k : ℕ) (s : Kept K V P) → slot_in t' k ≡ Some s → slot_in t k ≡ Some s
-    was k s h = elim (eqb_tells k n) [
-      | inl e ↦
-          (let none : ◌≡◌ {A = Option (Kept K V P)} None (Some s) = sym (slots n ∙ update_here (slot_in t) n None)
-          ∙ ap (slot_in t') (sym e.1) ∙ h in absurd cc)
-      | inr e ↦ sym (slots k ∙ update_apart (slot_in t) n None k e.1) ∙ h
-    ]
-
     pub forgot_stored : IsStored m at keys t'
     forgot_stored = record {
       led = λ q k led. ap is_some (other q k led) ∙ stored.led q k led;
-      placed = λ k s h res. stored.placed k s (was k s h) res;
+      placed = items_write m (slot_in t) (slot_in t') n None slots at at stored.placed
+          (stored.placed n ∙ ap (item_in m) there ∙ item_outside m x out) (λ p apart. refl);
     }
 
     forgot_hit : (q : ℕ × K) → option_and_then (id_in t') (keys q) ≡ option_and_then (id_in t) (keys q)

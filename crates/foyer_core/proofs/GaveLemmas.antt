@@ -20,7 +20,8 @@ use Rattle.foyer_core.specs.State.{Meaning, State, IsKept, key_of, item_of, usag
 use Rattle.foyer_core.specs.Steps.{GivesWay, outside}
 use Rattle.foyer_core.proofs.Keeps.{push_new}
 use Rattle.foyer_core.proofs.ShardLemmas.{Holding, now_of, resident}
-use Rattle.foyer_core.proofs.StoredLemmas.{some_of}
+use Rattle.foyer_core.proofs.StoredLemmas.{some_of, item_there}
+use Rattle.foyer_core.proofs.TableLemmas.{update_same}
 use Rattle.foyer_core.proofs.AdmitLemmas.{Admitted, MayPush, coming_slot, coming_rec, base_some, last_of, gives_way_some, old_weight, old_entries, admitted_none, admitted_some}
 
 -- a test, cast to a number
@@ -50,12 +51,14 @@ module _ {K V P View C : Type 0} (m : Meaning K P View C) (laws : IsEquivalence 
         (unled (key_of inc.kept) old led) ∙ there
 
     pub may_give_way : (was : Option ℕ) → was ≡ keys (key_of inc.kept) → (old : ℕ) → was ≡ Some old
-        → IsSomeAnd (slot_in t1 old) (λ s. (s.resident ≡ true) × IsSome (option_and_then at s.place))
+        → IsSomeAnd (slot_in t1 old) (λ s. s.resident ≡ true) × IsSome (at old)
     may_give_way was is old h =
         let led = sym is ∙ h in
         let y = some_of (slot_in t old) (stored.led (key_of inc.kept) old led) in
-        let res = resident m laws good o (key_of inc.kept) old led y.0 y.1 in
-        rw (old_there old y.0 led y.1) (res, rw (stored.placed old y.0 y.1 res) (search rules))
+        let res = resident m laws good o (key_of inc.kept) old led y.0 y.1 in (
+          rw (old_there old y.0 led y.1) res,
+          rw (item_there m at keys t stored old y.0 y.1 res) (search rules),
+        )
 
     -- what gave way
     pub record GaveOld (gone : ℕ) (replaced : Option (Gone K V P)) (t2 : Records K V P) (at2 : ℕ → Option Item)
@@ -91,7 +94,7 @@ module _ {K V P View C : Type 0} (m : Meaning K P View C) (laws : IsEquivalence 
         (none_records : was ≡ None → (id : ℕ) → record_in t2 id ≡ record_in t1 id)
         (none_places : was ≡ None → (p : ℕ) → at2 p ≡ at p)
         (some : (k : ℕ) (s : Kept K V P) (i : Item) → was ≡ Some k → slot_in t1 k ≡ Some s →
-        option_and_then at s.place ≡ Some i
+        at k ≡ Some i
         → (result ≡ (i.weight, Some record { number = number; id = s.id; kept = s.kept }))
         × (view2 ≡ m.policy.remove view i.id))
         (some_slots : (k : ℕ) (s : Kept K V P) → was ≡ Some k → slot_in t1 k ≡ Some s → (q : ℕ) → slot_in t2 q
@@ -99,7 +102,7 @@ module _ {K V P View C : Type 0} (m : Meaning K P View C) (laws : IsEquivalence 
         (some_records : (k : ℕ) (s : Kept K V P) → was ≡ Some k → slot_in t1 k ≡ Some s → (id : ℕ) → record_in t2 id
         ≡ update nat_eq (record_in t1) s.id (outside (rec_of s)) id)
         (some_places : (k : ℕ) (s : Kept K V P) (i : Item) → was ≡ Some k → slot_in t1 k ≡ Some s →
-        option_and_then at s.place ≡ Some i → (p : ℕ) → at2 p ≡ without i.id (at p)) where
+        at k ≡ Some i → (p : ℕ) → at2 p ≡ without i.id (at p)) where
       pub gave : Gave result.0 result.1 t2 at2 view2
       gave = go was refl where
         go : (w : Option ℕ) → was ≡ w → Gave result.0 result.1 t2 at2 view2
@@ -117,7 +120,7 @@ module _ {K V P View C : Type 0} (m : Meaning K P View C) (laws : IsEquivalence 
             let y = some_of (slot_in t old) (stored.led (key_of inc.kept) old led) in
             let res = resident m laws good o (key_of inc.kept) old led y.0 y.1 in
             let there1 = old_there old y.0 led y.1 in
-            let placed = stored.placed old y.0 y.1 res in
+            let placed = item_there m at keys t stored old y.0 y.1 res in
             let r = some old y.0 (item_of m y.0.id y.0.kept) h there1 placed in
             inr record {
               old = old;
@@ -202,29 +205,37 @@ module _ {K V P View C : Type 0} (m : Meaning K P View C) (laws : IsEquivalence 
             let f = fits _ last (gives_way_some m laws good o inc n unled out g.old g.led g.y g.there at2 g.places) in
             omega (arith, u.0, u.1, g.gone_is)
 
-      module _ (x0_is : x0 ≡ coming_slot inc None) (t3 : Records K V P) (p : ℕ) (keys1 : ℕ × K → Option ℕ)
+      -- nothing stands at the place
+      pub gave_free : at n ≡ None → at2 n ≡ None
+      gave_free free = go gave where
+        go : Gave gone replaced t2 at2 view2 → at2 n ≡ None
+        go (inl g) = g.places n ∙ free
+        go (inr g) = g.places n ∙ ap (without g.y.id) free
+
+      module _ (x0_is : x0 ≡ coming_slot inc) (keys1 : ℕ × K → Option ℕ)
           (at3 : ℕ → Option Item) (view3 : View) (next3 : ℕ)
           (recs1 : (id : ℕ) → record_in t1 id ≡ update nat_eq (record_in t) inc.id (Some (coming_rec inc)) id)
           (led1 : (q : ℕ × K) → keys1 q ≡ update (same_key m.same) keys (key_of inc.kept) (Some n) q)
-          (slots3 : (q : ℕ) → slot_in t3 q ≡ update nat_eq (slot_in t2) n (Some (coming_slot inc (Some p))) q)
-          (recs3 : (id : ℕ) → record_in t3 id ≡ record_in t2 id)
-          (here3 : at3 p ≡ Some (item_of m inc.id inc.kept)) (free3 : at2 p ≡ None)
-          (others3 : (q : ℕ) → q ≢ p → at3 q ≡ at2 q)
+          (here3 : at3 n ≡ Some (item_of m inc.id inc.kept)) (others3 : (q : ℕ) → q ≢ n → at3 q ≡ at2 q)
           (viewed3 : view3 ≡ m.policy.push view2 (item_of m inc.id inc.kept))
           (nexts3 : next3 ≡ max next (inc.id + 1)) (plain : is_phantom_record m inc.kept ≡ false)
           (held : 0 < inc.handles) (handle : inc.handles ≤ limits.handles)
           (fits : (ls : _) (last : State K V P View) → GivesWay m (now.index (key_of inc.kept)) now ls last →
           usage_of m last + inc.kept.weight < 2 ^ 64) where
+        written : (q : ℕ) → slot_in t2 q ≡ update nat_eq (slot_in t2) n (Some (coming_slot inc)) q
+        written q = sym (update_same (slot_in t2) n (coming_slot inc)
+            (new_there ∙ ap (λ (x : Kept K V P). Some x) x0_is) q)
+
         pub gave_admitted : (usage entries : ℕ) → usage ≡ weight_of (m.policy.order view) → entries
             ≡ length (m.policy.order view)
             → Admitted m laws good o inc n unled out replaced (usage - gone) (entries - cond (is_some replaced) 1 0)
-            view3 keys1 t3 at3 next3
+            view3 keys1 t2 at3 next3
         gave_admitted usage entries hu he = go gave where
           go : Gave gone replaced t2 at2 view2 → Admitted m laws good o inc n unled out replaced (usage - gone)
-              (entries - cond (is_some replaced) 1 0) view3 keys1 t3 at3 next3
+              (entries - cond (is_some replaced) 1 0) view3 keys1 t2 at3 next3
           go (inl g) = rw (g.replaced_is, g.gone_is)
-              (admitted_none m laws good o inc n unled out t1 t2 t3 x0 x0_is p keys1 at2 at3 view2 view3 next3 slots1
-              recs1 led1 slots3 recs3 here3 free3 others3 viewed3 nexts3 plain held handle fits
+              (admitted_none m laws good o inc n unled out t1 t2 t2 x0 x0_is keys1 at2 at3 view2 view3 next3 slots1
+              recs1 led1 written (λ id. refl) here3 others3 viewed3 nexts3 plain held handle fits
               g.led g.viewed g.slots g.recs g.places (usage - 0) (entries - 0) (hu' g.led) (he' g.led)) where
                 hu' : keys (key_of inc.kept) ≡ None → usage - 0 ≡ weight_of (m.policy.order view)
                 hu' e = omega arith
@@ -232,6 +243,6 @@ module _ {K V P View C : Type 0} (m : Meaning K P View C) (laws : IsEquivalence 
                 he' : keys (key_of inc.kept) ≡ None → entries - 0 ≡ length (m.policy.order view)
                 he' e = omega arith
           go (inr g) = rw (g.replaced_is, g.gone_is)
-              (admitted_some m laws good o inc n unled out t1 t2 t3 x0 x0_is p keys1 at2 at3 view2 view3 next3 slots1
-              recs1 led1 slots3 recs3 here3 free3 others3 viewed3 nexts3 plain held handle fits
+              (admitted_some m laws good o inc n unled out t1 t2 t2 x0 x0_is keys1 at2 at3 view2 view3 next3 slots1
+              recs1 led1 written (λ id. refl) here3 others3 viewed3 nexts3 plain held handle fits
               g.old g.led g.y g.there g.places g.viewed g.slots g.recs usage entries hu he)

@@ -16,6 +16,7 @@ use Rattle.foyer_core.specs.Steps.{after_hold}
 use Rattle.foyer_core.proofs.Pushing.{out_new}
 use Rattle.foyer_core.proofs.ShardLemmas.{Holding, now_of}
 use Rattle.foyer_core.proofs.States.{same_state}
+use Rattle.foyer_core.proofs.StoredLemmas.{items_write, item_outside}
 
 -- it keeps what a shard keeps
 module _ {K V P View C : Type 0} (m : Meaning K P View C) (s : State K V P View) (kept : IsKept m s)
@@ -70,7 +71,7 @@ module _ {K V P View C : Type 0} (m : Meaning K P View C) (o : Holding V m) wher
 
   module _ (i : Incoming K V P) (n : ℕ) (unled : (q : ℕ × K) (k : ℕ) → keys q ≡ Some k → k ≢ n)
       (x : Kept K V P)
-      (x_is : x ≡ record { id = i.id; kept = i.kept; handles = i.handles; resident = false; place = None })
+      (x_is : x ≡ record { id = i.id; kept = i.kept; handles = i.handles; resident = false })
       (t' : Records K V P) (slots : (q : ℕ) → slot_in t' q ≡ update nat_eq (slot_in t) n (Some x) q)
       (records : (id : ℕ) → record_in t' id ≡ update nat_eq (record_in t) x.id (Some (rec_of x)) id) where
     here : slot_in t' n ≡ Some x
@@ -79,17 +80,11 @@ module _ {K V P View C : Type 0} (m : Meaning K P View C) (o : Holding V m) wher
     other : (k : ℕ) → k ≢ n → slot_in t' k ≡ slot_in t k
     other k apart = slots k ∙ update_apart (slot_in t) n (Some x) k apart
 
-    same_kept : (a b : Kept K V P) → Some a ≡ Some b → a ≡ b
-    same_kept a b h = cc
-
-    pub held_stored : IsStored m at keys t'
-    held_stored = record {
+    pub held_stored : at n ≡ None → IsStored m at keys t'
+    held_stored free = record {
       led = λ q k h. ap is_some (other k (unled q k h)) ∙ stored.led q k h;
-      placed = λ k y h res. elim (eqb_tells k n) [
-        | inl e ↦ (let is : x ≡ y = same_kept x y (sym here ∙ ap (slot_in t') (sym e.1) ∙ h) in
-            absurd (true≢false (sym res ∙ ap (λ (z : Kept K V P). z.resident) (sym is ∙ x_is))))
-        | inr e ↦ stored.placed k y (sym (other k e.1) ∙ h) res
-      ];
+      placed = items_write m (slot_in t) (slot_in t') n (Some x) slots at at stored.placed
+          (free ∙ sym (item_outside m x (ap (λ (z : Kept K V P). z.resident) x_is))) (λ p apart. refl);
     }
 
     held_hit : (q : ℕ × K) → option_and_then (id_in t') (keys q) ≡ option_and_then (id_in t) (keys q)

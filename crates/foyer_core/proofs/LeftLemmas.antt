@@ -17,36 +17,36 @@ use Rattle.foyer_core.specs.Table.{rec_of, has_key, slot_outside, id_by}
 use Rattle.foyer_core.specs.Records.{slot_in, number_of, record_in, id_in}
 use Rattle.foyer_core.specs.State.{Meaning, State, IsKept, key_of, item_of}
 use Rattle.foyer_core.specs.Steps.{after_out, outside}
-use Rattle.foyer_core.specs.Stored.{IsStored, state}
+use Rattle.foyer_core.specs.Stored.{IsStored, item_in, state}
 use Rattle.foyer_core.proofs.Keeps.{popped_there, popped_keeps, popped_weight, indexed_there}
 use Rattle.foyer_core.proofs.Keys.{same_key_laws}
 use Rattle.foyer_core.proofs.Evictions.{popped_shorter}
 use Rattle.foyer_core.proofs.States.{same_state}
 use Rattle.foyer_core.proofs.ShardLemmas.{Holding, now_of}
-use Rattle.foyer_core.proofs.StoredLemmas.{index_is, slot_record, some_of}
+use Rattle.foyer_core.proofs.StoredLemmas.{index_is, slot_record, some_of, items_write}
 use Rattle.foyer_core.proofs.TableLemmas.{id_by-some, id_by-there}
 
 some_one : (a b : ℕ) → Some a ≡ Some b → a ≡ b
 some_one a b h = cc
 
--- a slot that is outside is not resident
-outside_out : {K V P : Type 0} (x y : Kept K V P) → slot_outside x ≡ Some y → y.resident ≡ false
-outside_out {K} {V} {P} x y h = go (x.handles == 0) h where
-  go : (b : Bool) → cond b None (Some (record x { resident = false; place = None })) ≡ Some y → y.resident ≡ false
-  go true h = absurd cc
-  go false h =
-      (let z : Kept K V P = record x { resident = false; place = None } in let e : z ≡ y = cc in
-      ap (λ (k : Kept K V P). k.resident) (sym e))
+-- the policy has no item of a record that is outside
+outside_none : {K V P View C : Type 0} (m : Meaning K P View C) (x : Kept K V P) → item_in m (slot_outside x) ≡ None
+outside_none {K} {V} {P} m x = go (x.handles == 0) where
+  go : (b : Bool) → item_in m (cond b None (Some (record x { resident = false }))) ≡ None
+  go true = refl
+  go false = refl
 
 without-other : (id : ℕ) (i : Item) → i.id ≢ id → without id (Some i) ≡ Some i
 without-other id i n = elim (eqb_tells i.id id) [ inl e ↦ absurd (n e.1) | inr e ↦ rw e.0 refl ]
+
+without-own : (i : Item) → without i.id (Some i) ≡ None
+without-own i = elim (eqb_tells i.id i.id) [ inl e ↦ rw e.0 refl | inr e ↦ absurd (e.1 refl) ]
 
 -- `IsStored`, of slots as a function
 pub record IsStoredBy {K V P View C : Type 0} (m : Meaning K P View C) (at : ℕ → Option Item)
     (keys : ℕ × K → Option ℕ) (slots : ℕ → Option (Kept K V P)) : Type 0 where
   pub led : (q : ℕ × K) (n : ℕ) → keys q ≡ Some n → is_some (slots n) ≡ true
-  pub placed : (n : ℕ) (s : Kept K V P) → slots n ≡ Some s → s.resident ≡ true → option_and_then at s.place
-      ≡ Some (item_of m s.id s.kept)
+  pub placed : (n : ℕ) → at n ≡ item_in m (slots n)
 
 module _ {K V P View C : Type 0} (m : Meaning K P View C) (laws : IsEquivalence m.same) (good : IsPolicy m.policy)
     (o : Holding V m) where
@@ -103,44 +103,60 @@ module _ {K V P View C : Type 0} (m : Meaning K P View C) (laws : IsEquivalence 
       pub left_stored : IsStoredBy m at' keys' f'
       left_stored = record {
         led = λ q j h. let l = led_still q j h in ap is_some (other j l.1) ∙ stored.led q j l.0;
-        placed = λ j y h res. elim (eqb_tells j n) [
-          | inl e ↦
-              (let out : slot_outside x ≡ Some y = sym (write n ∙ update_here (slot_in t) n (slot_outside x))
-              ∙ ap f' (sym e.1) ∙ h in
-              let f = outside_out x y out in absurd cc)
-          | inr e ↦ (let was : slot_in t j ≡ Some y = sym (other j e.1) ∙ h in
-              let old = stored.placed j y was res in
-              let apart : y.id ≢ x.id =
-              (λ is. e.1
-              (some_one j n
-              (sym (t.agree.known j y.id (id_by-some (slot_in t) j y was)) ∙ ap (number_of t) is
-              ∙ t.agree.known n x.id (id_by-some (slot_in t) n x there)))) in
-              go y.place (item_of m y.id y.kept) apart old)
-        ];
+        placed = items_write m (slot_in t) f' n (slot_outside x) write at at' stored.placed gone_here still_there;
       } where
-        go : (p : Option ℕ) (i : Item) → i.id ≢ x.id → option_and_then at p ≡ Some i → option_and_then at' p ≡ Some i
-        go None i apart h = h
-        go (Some p) i apart h = same p ∙ ap (without x.id) h ∙ without-other x.id i apart
+        own : (b : Bool) → without x.id (cond b (Some (item_of m x.id x.kept)) None) ≡ None
+        own true = without-own (item_of m x.id x.kept)
+        own false = refl
+
+        gone_here : at' n ≡ item_in m (slot_outside x)
+        gone_here = same n ∙ ap (without x.id) (stored.placed n ∙ ap (item_in m) there) ∙ own x.resident
+            ∙ sym (outside_none m x)
+
+        id_apart : (j : ℕ) (y : Kept K V P) → j ≢ n → slot_in t j ≡ Some y → y.id ≢ x.id
+        id_apart j y apart is same_id = apart
+            (some_one j n
+            (sym (t.agree.known j y.id (id_by-some (slot_in t) j y is)) ∙ ap (number_of t) same_id
+            ∙ t.agree.known n x.id (id_by-some (slot_in t) n x there)))
+
+        other_item : (y : Kept K V P) (b : Bool) → y.id ≢ x.id →
+            without x.id (cond b (Some (item_of m y.id y.kept)) None) ≡ cond b (Some (item_of m y.id y.kept)) None
+        other_item y true apart = without-other x.id (item_of m y.id y.kept) apart
+        other_item y false apart = refl
+
+        still_there : (j : ℕ) → j ≢ n → at' j ≡ at j
+        still_there j apart = same j ∙ ap (without x.id) (stored.placed j) ∙ go (slot_in t j) refl
+            ∙ sym (stored.placed j) where
+              go : (w : Option (Kept K V P)) → slot_in t j ≡ w → without x.id (item_in m w) ≡ item_in m w
+              go None is = refl
+              go (Some y) is = other_item y y.resident (id_apart j y apart is)
 
   -- what the record of a slot says to a key is what the keys say that lead to the slot
   pub answer_is : (k q : ℕ × K) (n : ℕ) → keys q ≡ Some n → has_key m.same (slot_in t n) k ≡ same_key m.same q k
   answer_is k q n led = (let x = some_of (slot_in t n) (stored.led q n led) in answer_there n x.0 x.1 k q led)
 
+  -- the item at a place is that of the slot of this number
+  module _ (n : ℕ) (i : Item) (stood : at n ≡ Some i) where
+    pub stood_slot : (x : Kept K V P) × (slot_in t n ≡ Some x) × (x.id ≡ i.id)
+    stood_slot = go (slot_in t n) refl (sym (stored.placed n) ∙ stood) where
+      own : (x : Kept K V P) (b : Bool) → cond b (Some (item_of m x.id x.kept)) None ≡ Some i → x.id ≡ i.id
+      own x true h = (let e : item_of m x.id x.kept ≡ i = cc in ap (λ (j : Item). j.id) e)
+      own x false h = absurd cc
+
+      go : (w : Option (Kept K V P)) → slot_in t n ≡ w → item_in m w ≡ Some i →
+          (x : Kept K V P) × (slot_in t n ≡ Some x) × (x.id ≡ i.id)
+      go None is h = absurd cc
+      go (Some x) is h = (x, is, own x x.resident h)
+
+    pub stood_there : is_some (slot_in t n) ≡ true
+    stood_there = ap is_some stood_slot.1
+
+    pub stood_known : number_of t i.id ≡ Some n
+    stood_known = t.agree.known n i.id
+        (id_by-some (slot_in t) n stood_slot.0 stood_slot.1 ∙ ap (λ (a : ℕ). Some a) stood_slot.2)
+
   -- the victim of a pop
   module _ (i : Item) (v : View) (popped : m.policy.pop view ≡ Some (i, v)) where
-    known_by : IsKept m now → is_some (number_of t i.id) ≡ true
-    known_by k' = go (number_of t i.id) ((popped_there m laws good now k' i v popped).1) where
-      go : (w : Option ℕ) → option_map rec_of (option_and_then (slot_in t) w)
-          ≡ Some (popped_there m laws good now k' i v popped).0 → is_some w ≡ true
-      go None h = absurd cc
-      go (Some n) h = refl
-
-    pub victim_known : is_some (number_of t i.id) ≡ true
-    victim_known = ∥∥₁_elim kept (hlevel props) known_by
-
-    pub victim_there : (n : ℕ) → number_of t i.id ≡ Some n → is_some (slot_in t n) ≡ true
-    victim_there n h = id_by-there (slot_in t) n i.id (t.agree.named i.id n h)
-
     pub victim_lighter : (usage : ℕ) → usage ≡ weight_of (m.policy.order view) → i.weight ≤ usage
     victim_lighter usage h = ∥∥₁_elim kept (hlevel props)
         (λ k'. omega (arith, popped_weight m laws good now k' i v popped))
@@ -223,11 +239,7 @@ module _ {K V P View C : Type 0} (m : Meaning K P View C) (laws : IsEquivalence 
     still_kept = subst (λ (w : View). ∥ IsKept m (state number capacity limits w keys t next) ∥₁) (sym same) kept
 
     pub still_stored : (at' : ℕ → Option Item) → ((p : ℕ) → at' p ≡ at p) → IsStored m at' keys t
-    still_stored at' places =
-        record { led = stored.led; placed = λ n s there res. go s.place ∙ stored.placed n s there res } where
-          go : (p : Option ℕ) → option_and_then at' p ≡ option_and_then at p
-          go None = refl
-          go (Some p) = places p
+    still_stored at' places = record { led = stored.led; placed = λ n. places n ∙ stored.placed n }
 
     pub still_weighed : (usage : ℕ) → usage ≡ weight_of (m.policy.order view) → usage ≡ weight_of (m.policy.order v)
     still_weighed usage h = h ∙ ap (λ (w : View). weight_of (m.policy.order w)) (sym same)

@@ -7,11 +7,10 @@ use Rattle.foyer_policy.specs.Policy.{IsPolicy}
 use Rattle.foyer_policy.specs.declared.types.Item.{Item}
 use Rattle.foyer_core.specs.declared.record.Limits.{Limits}
 use Rattle.foyer_core.specs.declared.records.Records.{Records}
-use Rattle.foyer_core.specs.Values.{Kept}
 use Rattle.foyer_core.specs.Table.{rec_of}
 use Rattle.foyer_core.specs.Records.{slot_in, number_of, record_in, id_in}
 use Rattle.foyer_core.specs.State.{Meaning, IsKept}
-use Rattle.foyer_core.specs.Stored.{IsStored, state}
+use Rattle.foyer_core.specs.Stored.{IsStored, item_in, state}
 use Rattle.foyer_core.proofs.Keeps.{opened_keeps}
 
 module _ {K V P View C : Type 0} (m : Meaning K P View C) (keys : ℕ × K → Option ℕ) (t : Records K V P)
@@ -23,10 +22,10 @@ module _ {K V P View C : Type 0} (m : Meaning K P View C) (keys : ℕ × K → O
   pub records_none : (id : ℕ) → record_in t id ≡ None
   records_none id = ap (λ (o : Option ℕ). option_map rec_of (option_and_then (slot_in t) o)) (no_id id)
 
-  pub opened_stored : (at : ℕ → Option Item) → IsStored m at keys t
-  opened_stored at = record {
+  pub opened_stored : (at : ℕ → Option Item) → ((n : ℕ) → at n ≡ None) → IsStored m at keys t
+  opened_stored at free = record {
     led = λ q n h. absurd (let e : ◌≡◌ {A = Option ℕ} None (Some n) = sym (no_key q) ∙ h in cc);
-    placed = λ n s h res. absurd (let e : ◌≡◌ {A = Option (Kept K V P)} None (Some s) = sym (no_slot n) ∙ h in cc);
+    placed = λ n. free n ∙ ap (item_in m) (sym (no_slot n));
   }
 
   module _ (laws : IsEquivalence m.same) (good : IsPolicy m.policy) (capacity : ℕ) (config : C) (view : View)

@@ -8,7 +8,7 @@ use Rattle.foyer_core.specs.Values.{Kept}
 use Rattle.foyer_core.specs.Table.{rec_of}
 use Rattle.foyer_core.specs.Records.{slot_in, number_of, record_in, id_in}
 use Rattle.foyer_core.specs.State.{Meaning, State, IsKept}
-use Rattle.foyer_core.specs.Stored.{IsStored, state}
+use Rattle.foyer_core.specs.Stored.{IsStored, item_in, state}
 use Rattle.foyer_core.proofs.ShardLemmas.{Holding, now_of}
 use Rattle.foyer_core.proofs.States.{same_state}
 
@@ -23,7 +23,7 @@ module _ {K V P View C : Type 0} (m : Meaning K P View C) (o : Holding V m) wher
     pub reserved_stored : (at' : ℕ → Option Item) → ((p : ℕ) → at' p ≡ at p) → IsStored m at' keys t'
     reserved_stored at' places = record {
       led = λ q n h. ap is_some (slots n) ∙ stored.led q n h;
-      placed = λ n s h res. and_then_alike at' at s.place places ∙ stored.placed n s (sym (slots n) ∙ h) res;
+      placed = λ n. places n ∙ stored.placed n ∙ ap (item_in m) (sym (slots n));
     }
 
     module _ (ids : (id : ℕ) → number_of t' id ≡ number_of t id) (view' : View) (viewed : view' ≡ view) where

@@ -18,7 +18,7 @@ use Rattle.foyer_core.specs.Stored.{IsStored, state}
 use Rattle.foyer_core.specs.Steps.{after_get}
 use Rattle.foyer_core.proofs.Keeps.{indexed_there, get_keeps}
 use Rattle.foyer_core.proofs.States.{same_state}
-use Rattle.foyer_core.proofs.StoredLemmas.{index_is, slot_record, place_there, count_index}
+use Rattle.foyer_core.proofs.StoredLemmas.{index_is, slot_record, item_there, count_index}
 use Rattle.foyer_core.proofs.TableLemmas.{with_handles, write_records}
 
 -- a shard's fields, and what they keep
@@ -64,8 +64,8 @@ module _ {K V P View C : Type 0} (m : Meaning K P View C) (laws : IsEquivalence 
     pub resident : x.resident ≡ true
     resident = ∥∥₁_elim kept (hlevel props) resident_by
 
-    pub placed : (p : ℕ) → x.place ≡ Some p → at p ≡ Some (item_of m x.id x.kept)
-    placed p h = place_there m at keys t stored n x p there resident h
+    pub placed : at n ≡ Some (item_of m x.id x.kept)
+    placed = item_there m at keys t stored n x there resident
 
     -- a handle more
     module _ (t' : Records K V P) (view' : View) (viewed : view' ≡ m.policy.acquire view x.id)

@@ -75,7 +75,7 @@ module _ {T : Type 0} where
   ]
 
   -- what has a value is within
-  within_there : (xs : List (Option T)) (slot : ℕ) (x : T) → at xs slot ≡ Some x → slot < length xs
+  pub within_there : (xs : List (Option T)) (slot : ℕ) (x : T) → at xs slot ≡ Some x → slot < length xs
   within_there [] slot x there = absurd cc
   within_there (y ∷ ys) zero x there = omega arith
   within_there (y ∷ ys) (suc slot) x there = omega (arith, within_there ys slot x there)

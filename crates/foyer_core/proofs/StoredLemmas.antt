@@ -1,5 +1,5 @@
 -- How a shard's fields go on standing for its state.
-use Rattle.std.proofs.Common.{◌≡◌, ℕ, Option, Some, None, true, nat_eq, refl, sym, ◌∙◌, ap, subst, inl, inr}
+use Rattle.std.proofs.Common.{◌≡◌, ◌≢◌, ℕ, Option, Some, None, Bool, true, false, cond, nat_eq, refl, sym, ◌∙◌, ap, subst, inl, inr}
 use Rattle.std.specs.Prelude.{option_and_then, is_some, IsSome, Result, Ok, Err, IsErrAnd}
 use Rattle.std.specs.Map.{update}
 use Rattle.std.proofs.lemmas.Map.{update_here, update_apart}
@@ -10,7 +10,7 @@ use Rattle.foyer_core.specs.Values.{Kept}
 use Rattle.foyer_core.specs.Table.{rec_of}
 use Rattle.foyer_core.specs.Records.{slot_in, number_of, record_in, id_in}
 use Rattle.foyer_core.specs.State.{Meaning, item_of}
-use Rattle.foyer_core.specs.Stored.{IsStored}
+use Rattle.foyer_core.specs.Stored.{IsStored, item_in}
 use Rattle.foyer_core.proofs.TableLemmas.{id_by-some, record_there, write_ids, with_handles}
 
 pub some_of : {A : Type 0} (o : Option A) → is_some o ≡ true → (a : A) × (o ≡ Some a)
@@ -31,6 +31,22 @@ pub none_not : {A : Type 0} (o : Option A) → is_some o ≡ true → ¬ (o ≡ 
 none_not None h e = absurd cc
 none_not (Some a) h e = absurd cc
 
+module _ {K V P View C : Type 0} (m : Meaning K P View C) where
+  pub item_resident : (s : Kept K V P) → s.resident ≡ true → item_in m (Some s) ≡ Some (item_of m s.id s.kept)
+  item_resident s res = ap (λ (b : Bool). cond b (Some (item_of m s.id s.kept)) None) res
+
+  pub item_outside : (s : Kept K V P) → s.resident ≡ false → item_in m (Some s) ≡ None
+  item_outside s out = ap (λ (b : Bool). cond b (Some (item_of m s.id s.kept)) None) out
+
+  -- a slot is written, and the policy has its item at this place, or none
+  pub items_write : (f g : ℕ → Option (Kept K V P)) (n : ℕ) (o : Option (Kept K V P))
+      → ((q : ℕ) → g q ≡ update nat_eq f n o q) → (at at' : ℕ → Option Item) → ((p : ℕ) → at p ≡ item_in m (f p))
+      → at' n ≡ item_in m o → ((p : ℕ) → p ≢ n → at' p ≡ at p) → (p : ℕ) → at' p ≡ item_in m (g p)
+  items_write f g n o write at at' placed here others p = elim (eqb_tells p n) [
+    | inl e ↦ ap at' e.1 ∙ here ∙ ap (item_in m) (sym (ap g e.1 ∙ write n ∙ update_here f n o))
+    | inr e ↦ others p e.1 ∙ placed p ∙ ap (item_in m) (sym (write p ∙ update_apart f n o p e.1))
+  ]
+
 module _ {K V P View C : Type 0} (m : Meaning K P View C) (at : ℕ → Option Item) (keys : ℕ × K → Option ℕ)
     (t : Records K V P) where
   -- the id that a key hits is that of the slot that it leads to
@@ -41,17 +57,10 @@ module _ {K V P View C : Type 0} (m : Meaning K P View C) (at : ℕ → Option I
   pub slot_record : (n : ℕ) (s : Kept K V P) → slot_in t n ≡ Some s → record_in t s.id ≡ Some (rec_of s)
   slot_record n s there = record_there (slot_in t) (number_of t) n t.agree s there
 
-  -- a resident's place names its item
-  pub place_there : IsStored m at keys t → (n : ℕ) (s : Kept K V P) (p : ℕ) → slot_in t n ≡ Some s → s.resident ≡ true
-      → s.place ≡ Some p → at p ≡ Some (item_of m s.id s.kept)
-  place_there stored n s p there res place = ap (option_and_then at) (sym place) ∙ stored.placed n s there res
-
-  pub place_is : IsStored m at keys t → (n : ℕ) (s : Kept K V P) → slot_in t n ≡ Some s → s.resident ≡ true →
-      is_some s.place ≡ true
-  place_is stored n s there res = go s.place (stored.placed n s there res) where
-    go : (o : Option ℕ) → option_and_then at o ≡ Some (item_of m s.id s.kept) → is_some o ≡ true
-    go None h = absurd cc
-    go (Some p) h = refl
+  -- the policy has a resident's item at its slot's number
+  pub item_there : IsStored m at keys t → (n : ℕ) (s : Kept K V P) → slot_in t n ≡ Some s → s.resident ≡ true
+      → at n ≡ Some (item_of m s.id s.kept)
+  item_there stored n s there res = stored.placed n ∙ ap (item_in m) there ∙ item_resident m s res
 
   -- a slot whose handles change
   module _ (at' : ℕ → Option Item) (t' : Records K V P) (n h : ℕ) (s : Kept K V P) (there : slot_in t n ≡ Some s)
@@ -64,34 +73,15 @@ module _ {K V P View C : Type 0} (m : Meaning K P View C) (at : ℕ → Option I
       go (Some k) = write_ids (slot_in t) (slot_in t') (number_of t) (number_of t') n t.agree s (with_handles s h)
           there refl write ids k
 
-    -- a slot now was there before, but for its handles
-    was : (k : ℕ) (x : Kept K V P) → slot_in t' k ≡ Some x → (y : Kept K V P) × (slot_in t k ≡ Some y)
-        × (x ≡ with_handles y x.handles)
-    was k x is = elim (eqb_tells k n) [
-      | inl e ↦
-          (let now : Some (with_handles s h) ≡ Some x =
-          sym (write n ∙ update_here (slot_in t) n (Some (with_handles s h))) ∙ ap (slot_in t') (sym e.1) ∙ is in
-          let x_is : with_handles s h ≡ x = cc in
-          (s, ap (slot_in t) e.1 ∙ there, subst (λ (z : Kept K V P). z ≡ with_handles s z.handles) x_is refl))
-      | inr e ↦ (x, sym (write k ∙ update_apart (slot_in t) n (Some (with_handles s h)) k e.1) ∙ is, refl)
-    ]
-
     pub count_stored : IsStored m at keys t → IsStored m at' keys t'
     count_stored stored = record {
       led = λ q k is. elim (eqb_tells k n) [
         | inl e ↦ ap is_some (ap (slot_in t') e.1 ∙ write n ∙ update_here (slot_in t) n (Some (with_handles s h)))
         | inr e ↦ ap is_some (write k ∙ update_apart (slot_in t) n (Some (with_handles s h)) k e.1) ∙ stored.led q k is
       ];
-      placed = λ k x is res.
-          let y = was k x is in
-          let old = stored.placed k y.0 y.1 (sym (ap (λ (z : Kept K V P). z.resident) y.2) ∙ res) in
-          and_then_same at' at x.place same ∙ ap (λ (z : Kept K V P). option_and_then at z.place) y.2 ∙ old
-          ∙ ap (λ (z : Kept K V P). Some (item_of m z.id z.kept)) (sym y.2);
-    } where
-      and_then_same : (f g : ℕ → Option Item) (o : Option ℕ) → ((p : ℕ) → f p ≡ g p) → option_and_then f o
-          ≡ option_and_then g o
-      and_then_same f g None h = refl
-      and_then_same f g (Some p) h = h p
+      placed = items_write m (slot_in t) (slot_in t') n (Some (with_handles s h)) write at at' stored.placed
+          (same n ∙ stored.placed n ∙ ap (item_in m) there) (λ p apart. same p);
+    }
 
   -- a key hits a record exactly where it leads to a slot
   pub index_some : IsStored m at keys t → (q : ℕ × K) → is_some (option_and_then (id_in t) (keys q)) ≡ is_some (keys q)

@@ -133,11 +133,7 @@ module _ {K V P View C : Type 0} (m : Meaning K P View C) (laws : IsEquivalence 
         x.id None (state number capacity limits view' keys t next) gives)
 
     pub touched_stored : (at' : ℕ → Option Item) → ((p : ℕ) → at' p ≡ at p) → IsStored m at' keys t
-    touched_stored at' places =
-        record { led = stored.led; placed = λ j s is r. go s.place ∙ stored.placed j s is r } where
-          go : (p : Option ℕ) → option_and_then at' p ≡ option_and_then at p
-          go None = refl
-          go (Some p) = places p
+    touched_stored at' places = record { led = stored.led; placed = λ n. places n ∙ stored.placed n }
 
     -- the policy holds what it held
     same_by : IsKept m (now_of o) → (weight_of (m.policy.order view') ≡ weight_of (m.policy.order view))

@@ -1,5 +1,5 @@
 -- What contracts see of a shard's records.
-use Rattle.std.specs.Prelude.{ℕ, Option, unwrap_or}
+use Rattle.std.specs.Prelude.{ℕ, Option, length, unwrap_or}
 use Rattle.foyer_core.specs.Slots.{get, HasRoomFor}
 use Rattle.foyer_core.specs.declared.records.Records.{Records}
 use Rattle.foyer_core.specs.Values.{Kept, Rec}
@@ -26,6 +26,10 @@ module _ {K V P : Type 0} where
   -- the slot for a record whose id stands in this one, or nowhere
   abbrev pub slot_to : Records K V P → Option ℕ → ℕ
   slot_to t stands = unwrap_or stands t.slots.next
+
+  -- how many slots there are: a new one has this number
+  abbrev pub count_in : Records K V P → ℕ
+  count_in t = length t.slots.slots
 
   -- one more record fits with no allocation
   abbrev pub HasRoom : Records K V P → Type 0

@@ -1,5 +1,5 @@
 -- How a shard's fields stand for its state.
-use Rattle.std.specs.Prelude.{◌≡◌, ℕ, Option, Some, option_and_then, is_some, Bool, true}
+use Rattle.std.specs.Prelude.{◌≡◌, ℕ, Option, Some, None, option_and_then, is_some, Bool, true, if◌then◌else◌}
 use Rattle.foyer_policy.specs.Policy.{Policy}
 use Rattle.foyer_policy.specs.declared.types.Hint.{Hint}
 use Rattle.foyer_policy.specs.declared.types.Item.{Item}
@@ -27,9 +27,14 @@ state number capacity limits view keys records next = record {
   next = next;
 }
 
--- each key leads to a slot with a record, and each record in the index stands in the policy, at its place
+-- the item of a slot's record, where that is in the index
+abbrev pub item_in : {K V P View C : Type 0} → Meaning K P View C → Option (Kept K V P) → Option Item
+item_in m None = None
+item_in m (Some s) = if s.resident then Some (item_of m s.id s.kept) else None
+
+-- each key leads to a slot with a record, and the policy has at each place the item of the record in the index that is
+-- in the slot of this number, and no other
 pub record IsStored {K V P View C : Type 0} (m : Meaning K P View C) (at : ℕ → Option Item) (keys : ℕ × K → Option ℕ)
     (records : Records K V P) : Type 0 where
   pub led : (q : ℕ × K) (n : ℕ) → keys q ≡ Some n → is_some (slot_in records n) ≡ true
-  pub placed : (n : ℕ) (s : Kept K V P) → slot_in records n ≡ Some s → s.resident ≡ true → option_and_then at s.place
-      ≡ Some (item_of m s.id s.kept)
+  pub placed : (n : ℕ) → at n ≡ item_in m (slot_in records n)

@@ -8,6 +8,8 @@ use Rattle.foyer_policy.specs.declared.eviction.Eviction.{Ghosts as EvictionGhos
 use Rattle.foyer_policy.specs.declared.properties.Properties.{Ghosts as PropertiesGhosts}
 use Rattle.foyer_core.specs.declared.finder.Finder.{Ghosts as FinderGhosts}
 use Rattle.foyer_core.specs.declared.store.Store.{Store}
+use Rattle.std.specs.Prelude.{◌<◌}
+use Rattle.foyer_core.specs.Records.{count_in}
 use Rattle.foyer_core.specs.State.{Meaning, State}
 use Rattle.foyer_core.specs.Stored.{meaning, state}
 
@@ -18,6 +20,10 @@ module _ {E K V P I C S : Type 0} {e : EvictionGhosts E C S} {e1 : CloneGhosts C
   -- what contracts see of a store
   abbrev pub state_of : Store E K V P I C S e e1 e2 e3 e4 q h c p d i → State K V P e.View
   state_of s = state s.number s.capacity s.limits (e.view s.eviction) (i.view s.index) s.records s.next
+
+  -- there is a place of the policy for each slot, and for one more
+  abbrev pub HasPlaces : Store E K V P I C S e e1 e2 e3 e4 q h c p d i → Type 0
+  HasPlaces s = count_in s.records < e.span s.eviction
 
   -- what a store is over
   abbrev pub meaning_of : Store E K V P I C S e e1 e2 e3 e4 q h c p d i → Meaning K P e.View C

@@ -15,7 +15,7 @@ has_key eq (Some s) q = same_key eq (key_of s.kept) q
 
 -- a slot once its record is out of the index: it stays only while there is a handle
 abbrev pub slot_outside : {K V P : Type 0} → Kept K V P → Option (Kept K V P)
-slot_outside s = if s.handles == 0 then None else Some (record s { resident = false; place = None })
+slot_outside s = if s.handles == 0 then None else Some (record s { resident = false })
 
 -- the id of a slot's record
 abbrev pub id_by : {K V P : Type 0} → (ℕ → Option (Kept K V P)) → ℕ → Option ℕ

@@ -30,7 +30,6 @@ pub record Kept (K V P : Type 0) : Type 0 where
   pub kept : Data K V P
   pub handles : ℕ
   pub resident : Bool
-  pub place : Option ℕ
 
 -- an entry: a handle of the record of this id of the core of this number, where it came from, and
 -- whether it can still give its leave's share

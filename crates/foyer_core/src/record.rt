@@ -1,17 +1,14 @@
 //! Records: a key and a value with what the cache keeps beside them.
 
 ghost use Rattle.std.specs.Prelude.{◌≡◌, ◌+◌, ◌-◌, ◌<◌, ◌≤◌, ◌^◌, ◌↔◌, IfOk, OnErr, IfErr, true, false, IsTrue, Some, None, Ok};
-ghost use Rattle.std.specs.Arc.{arc_value};
 ghost use Rattle.foyer_policy.specs.declared.error.Reason.TheVariants.{Handles, NoMemory};
 ghost use Rattle.foyer_core.specs.Flags.{bits_of, union_of, Includes, with_flags};
-ghost use Rattle.foyer_core.specs.Values.{body_of};
 
-use crate::share::{Body, Share};
+use crate::share::Share;
 use foyer_policy::{Error, Place, Reason, Result};
 use std::alloc::Global;
 use std::fmt::{self, Debug};
 use std::marker::Model;
-use std::sync::Arc;
 
 /// What a record keeps of what was inserted.
 #[derive(Debug, Drop)]
@@ -245,9 +242,9 @@ impl<K: Drop, V: Drop, P: Drop> Record<K, V, P> {
         self.flags.in_eviction
     }
 
-    // The place that the policy gave, or none once the record is out.
+    /// Says at which place the policy keeps the record, or that it is out.
     #[inline(always)]
-    pub(crate) fn set_state(&mut self, state: Option<Place>)
+    pub fn set_state(&mut self, state: Option<Place>)
         ensures { self.new ≡ record self.old { place = state } }
     {
         self.state = state;
@@ -260,24 +257,6 @@ impl<K: Drop, V: Drop, P: Drop> Record<K, V, P> {
         ensures refused { IfErr result (λ e. e ≡ NoMemory) }
     {
         self.kept.try_clone()
-    }
-
-    // One more share of the data but for the hash and the weight. Only memory can be missing.
-    #[inline(always)]
-    pub(crate) fn body(&self) -> Result<Arc<Body<K, V, P>, Global>>
-        ensures body { IfOk result (λ body. arc_value body ≡ body_of self.now.kept) }
-        ensures refused { IfErr result (λ e. e ≡ NoMemory) }
-    {
-        self.kept.body()
-    }
-
-    // The data of a record that is let go.
-    #[inline(always)]
-    pub(crate) fn into_share(self) -> Share<K, V, P>
-        ensures { result ≡ self.kept }
-    {
-        let Record { kept, .. } = self;
-        kept
     }
 }
 

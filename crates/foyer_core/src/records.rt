@@ -1,6 +1,6 @@
 //! The records of a shard: slots with a record each, and where each id stands.
 
-ghost use Rattle.std.specs.Prelude.{◌≡◌, ℕ, ◌+◌, ◌-◌, ◌<◌, ◌^◌, Option, Some, None, IfErr, IfOk, OnOk, OnErr, IsSomeAnd, IsSome, IsTrue, nat_eq, option_copied, option_map, true};
+ghost use Rattle.std.specs.Prelude.{◌≡◌, ℕ, ◌+◌, ◌-◌, ◌<◌, ◌≤◌, ◌^◌, Option, Some, None, IfErr, IfOk, OnOk, OnErr, IsSomeAnd, IsSome, IsTrue, nat_eq, option_copied, option_map, true};
 ghost use Rattle.std.specs.Map.{update};
 ghost use Rattle.foyer_core.specs.Slots.{entries, get};
 ghost use Rattle.foyer_policy.specs.declared.error.Reason.TheVariants.{NoMemory};
@@ -14,7 +14,7 @@ mod ids;
 use crate::entry::Left;
 use crate::slot::Slot;
 use crate::slots::{Iter, Slots};
-use foyer_policy::{Error, Place, Reason, Result};
+use foyer_policy::{Error, Reason, Result};
 use ids::Ids;
 use std::alloc::Global;
 use std::mem;
@@ -29,7 +29,7 @@ pub struct Records<K: Drop, V: Drop, P: Drop> {
 }
 
 impl<K: Drop, V: Drop, P: Drop> Records<K, V, P> {
-    ghost use Rattle.foyer_core.specs.Records.{slot_in, number_of, record_in, id_in, slot_to, HasRoom};
+    ghost use Rattle.foyer_core.specs.Records.{slot_in, number_of, record_in, id_in, slot_to, count_in, HasRoom};
 
     pub fn new(alloc: Global) -> Self
         ensures slots { (n : ℕ) → slot_in result n ≡ None }
@@ -48,6 +48,7 @@ impl<K: Drop, V: Drop, P: Drop> Records<K, V, P> {
         ensures refused { IfErr result (λ e. e ≡ NoMemory) }
         ensures slots { (n : ℕ) → slot_in self.new n ≡ slot_in self.old n }
         ensures ids { (id : ℕ) → number_of self.new id ≡ number_of self.old id }
+        ensures count { count_in self.new ≡ count_in self.old }
     {
         let Ok(()) = self.slots.reserve() else {
             return Err(Error::new(Reason::NoMemory));
@@ -56,6 +57,14 @@ impl<K: Drop, V: Drop, P: Drop> Records<K, V, P> {
             return Err(Error::new(Reason::NoMemory));
         };
         Ok(())
+    }
+
+    /// How many slots there are. A new one has this number.
+    #[inline(always)]
+    pub fn count(&self) -> usize
+        ensures { result ≡ count_in self.now }
+    {
+        self.slots.count()
     }
 
     /// What is in a slot.
@@ -98,6 +107,7 @@ impl<K: Drop, V: Drop, P: Drop> Records<K, V, P> {
     #[inline(always)]
     pub fn slot_for(&self, stands: Option<usize>) -> usize
         ensures slot { result ≡ slot_to self.now stands }
+        ensures within { (id : ℕ) → stands ≡ number_of self.now id → result ≤ count_in self.now }
         ensures here { (id : ℕ) → stands ≡ number_of self.now id → record_in self.now id ≡ option_map rec_of (slot_in self.now result) }
     {
         match stands {
@@ -203,20 +213,6 @@ impl<K: Drop, V: Drop, P: Drop> Records<K, V, P> {
         let _ = found.take_handle();
     }
 
-    /// The policy took a slot's record in, at this place.
-    #[inline(always)]
-    pub fn set_place(&mut self, slot: usize, place: Place)
-        requires { IsSome (slot_in self.old slot) }
-        ensures slots { (s : Kept K V P) → slot_in self.old slot ≡ Some s → (n : ℕ) → slot_in self.new n ≡ update nat_eq (slot_in self.old) slot (Some (record s { place = Some place })) n }
-        ensures records { (id : ℕ) → record_in self.new id ≡ record_in self.old id }
-        ensures ids { (id : ℕ) → number_of self.new id ≡ number_of self.old id }
-    {
-        let Some(found) = self.slots.get_mut(slot) else {
-            unreachable!();
-        };
-        found.set_place(place);
-    }
-
     /// Lets a slot's record go.
     #[inline(always)]
     pub fn forget(&mut self, slot: usize) -> Slot<K, V, P>
@@ -226,6 +222,7 @@ impl<K: Drop, V: Drop, P: Drop> Records<K, V, P> {
         ensures ids { (id : ℕ) → number_of self.new id ≡ update nat_eq (number_of self.old) result.id None id }
         ensures records { (id : ℕ) → record_in self.new id ≡ update nat_eq (record_in self.old) result.id None id }
         ensures room { HasRoom self.old → HasRoom self.new }
+        ensures count { count_in self.new ≡ count_in self.old }
     {
         let found = self.slots.remove(slot);
         self.ids.remove(found.id());
@@ -241,6 +238,7 @@ impl<K: Drop, V: Drop, P: Drop> Records<K, V, P> {
         ensures slots { (s : Kept K V P) → slot_in self.old slot ≡ Some s → (n : ℕ) → slot_in self.new n ≡ update nat_eq (slot_in self.old) slot (slot_outside s) n }
         ensures records { (s : Kept K V P) → slot_in self.old slot ≡ Some s → (id : ℕ) → record_in self.new id ≡ update nat_eq (record_in self.old) s.id (outside (rec_of s)) id }
         ensures room { HasRoom self.old → HasRoom self.new }
+        ensures count { count_in self.new ≡ count_in self.old }
     {
         let Some(found) = self.slots.get_mut(slot) else {
             unreachable!();

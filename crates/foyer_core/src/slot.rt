@@ -5,19 +5,19 @@ ghost use Rattle.foyer_policy.specs.declared.error.Reason.TheVariants.{NoMemory}
 
 use crate::entry::{CoreEntry, Left, discard_all};
 use crate::outcome::Further;
-use crate::record::Record;
 use crate::share::{Body, Share};
-use foyer_policy::{Error, Place, Reason, Result, Source};
+use foyer_policy::{Error, Reason, Result, Source};
 use std::alloc::Global;
 use std::marker::Model;
 use std::sync::Arc;
 
 /// A record with its id. While the record is in the index and the policy, it has one more share of its
-/// body, with which it leaves.
+/// body, with which it leaves. Its place in the policy has the number of its slot.
 #[derive(Drop)]
 pub struct Slot<K, V, P> {
     id: u64,
-    record: Record<K, V, P>,
+    kept: Share<K, V, P>,
+    handles: usize,
     leave: Option<Arc<Body<K, V, P>, Global>>,
 }
 
@@ -29,20 +29,21 @@ impl<K, V, P> Model for Slot<K, V, P> {
 
     ghost Value = { Kept K V P };
 
-    ghost view = { λ s. record { id = s.id; kept = s.record.kept; handles = s.record.handles; resident = s.record.flags.in_indexer; place = s.record.place } };
+    ghost view = { λ s. record { id = s.id; kept = s.kept; handles = s.handles; resident = is_some s.leave } };
 
-    ghost invariant = { λ s. (s.record.flags.in_indexer ≡ is_some s.leave) × (s.record.flags.in_eviction ≡ is_some s.record.place) × ForSome s.leave (λ body. arc_value body ≡ body_of s.record.kept) };
+    ghost invariant = { λ s. ForSome s.leave (λ body. arc_value body ≡ body_of s.kept) };
 }
 
 impl<K: Drop, V: Drop, P: Drop> Slot<K, V, P> {
     /// A record with this share of its data and so many handles, which is in nothing.
     #[inline(always)]
     pub fn outside(kept: Share<K, V, P>, id: u64, handles: usize) -> Self
-        ensures { result ≡ record { id = id; kept = kept; handles = handles; resident = false; place = None } }
+        ensures { result ≡ record { id = id; kept = kept; handles = handles; resident = false } }
     {
         Slot {
             id,
-            record: Record::of_share(kept, handles),
+            kept,
+            handles,
             leave: None,
         }
     }
@@ -53,8 +54,7 @@ impl<K: Drop, V: Drop, P: Drop> Slot<K, V, P> {
         ensures came { OnOk result (self.new ≡ record self.old { resident = true }) }
         ensures refused { IfErr result (λ e. e ≡ NoMemory) }
     {
-        let body = self.record.body()?;
-        self.record.set_in_indexer(true);
+        let body = self.kept.body()?;
         self.leave = Some(body);
         Ok(())
     }
@@ -65,7 +65,7 @@ impl<K: Drop, V: Drop, P: Drop> Slot<K, V, P> {
         ensures share { IfOk result (λ share. share ≡ self.now.kept) }
         ensures refused { IfErr result (λ e. e ≡ NoMemory) }
     {
-        self.record.share()
+        self.kept.try_clone()
     }
 
     /// What a leave of the record shows, in the core of this number. Only memory can be missing.
@@ -74,7 +74,7 @@ impl<K: Drop, V: Drop, P: Drop> Slot<K, V, P> {
         ensures left { IfOk result (λ l. l ≡ record { number = number; id = self.now.id; kept = self.now.kept }) }
         ensures refused { IfErr result (λ e. e ≡ NoMemory) }
     {
-        let share = self.record.share()?;
+        let share = self.kept.try_clone()?;
         Ok(Left::new(number, self.id, share))
     }
 
@@ -89,65 +89,49 @@ impl<K: Drop, V: Drop, P: Drop> Slot<K, V, P> {
     pub fn hash(&self) -> u64
         ensures { result ≡ self.now.kept.hash }
     {
-        self.record.hash()
+        self.kept.hash()
     }
 
     #[inline(always)]
     pub fn key(&self) -> &K
         ensures { result.now ≡ self.now.kept.key }
     {
-        self.record.key()
+        self.kept.key()
     }
 
     #[inline(always)]
     pub fn value(&self) -> &V
         ensures { result.now ≡ self.now.kept.value }
     {
-        self.record.value()
+        self.kept.value()
     }
 
     #[inline(always)]
     pub fn properties(&self) -> &P
         ensures { result.now ≡ self.now.kept.properties }
     {
-        self.record.properties()
+        self.kept.properties()
     }
 
     #[inline(always)]
     pub fn weight(&self) -> usize
         ensures { result ≡ self.now.kept.weight }
     {
-        self.record.weight()
+        self.kept.weight()
     }
 
     #[inline(always)]
     pub fn handles(&self) -> usize
         ensures { result ≡ self.now.handles }
     {
-        self.record.refs()
+        self.handles
     }
 
     #[inline(always)]
     pub fn is_resident(&self) -> bool
         ensures { result ≡ self.now.resident }
     {
-        self.record.is_in_indexer()
-    }
-
-    #[inline(always)]
-    pub fn place(&self) -> Option<Place>
-        ensures { result ≡ self.now.place }
-    {
-        self.record.state()
-    }
-
-    /// The policy took the record in, at this place.
-    #[inline(always)]
-    pub fn set_place(&mut self, place: Place)
-        ensures { self.new ≡ record self.old { place = Some place } }
-    {
-        self.record.set_in_eviction(true);
-        self.record.set_state(Some(place));
+        self.leave.is_some()
     }
 
     /// An entry of the record, not yet counted. Only memory can be missing.
@@ -156,8 +140,8 @@ impl<K: Drop, V: Drop, P: Drop> Slot<K, V, P> {
         ensures entry { IfOk result (λ e. e ≡ record { number = number; id = self.now.id; kept = self.now.kept; source = source; left = true }) }
         ensures refused { IfErr result (λ e. e ≡ NoMemory) }
     {
-        let share = self.record.share()?;
-        let left = self.record.body()?;
+        let share = self.kept.try_clone()?;
+        let left = self.kept.body()?;
         Ok(CoreEntry::new(number, self.id, slot, share, left, source))
     }
 
@@ -197,8 +181,7 @@ impl<K: Drop, V: Drop, P: Drop> Slot<K, V, P> {
         requires { self.old.handles + more < 2 ^ 64 }
         ensures { self.new ≡ record self.old { handles = self.old.handles + more } }
     {
-        let limit = usize::MAX;
-        let _ = self.record.inc_refs(more, limit);
+        self.handles += more;
     }
 
     /// Counts one handle less, and answers how many are left.
@@ -208,7 +191,8 @@ impl<K: Drop, V: Drop, P: Drop> Slot<K, V, P> {
         ensures left { result ≡ self.old.handles - 1 }
         ensures taken { self.new ≡ record self.old { handles = self.old.handles - 1 } }
     {
-        self.record.dec_refs(1)
+        self.handles -= 1;
+        self.handles
     }
 
     /// The record is out of the index and the policy: what leaves with it, in the core of this number.
@@ -216,16 +200,13 @@ impl<K: Drop, V: Drop, P: Drop> Slot<K, V, P> {
     pub fn leave(&mut self, number: u64) -> Left<K, V, P>
         requires { IsTrue self.old.resident }
         ensures left { result ≡ record { number = number; id = self.old.id; kept = self.old.kept } }
-        ensures out { self.new ≡ record self.old { resident = false; place = None } }
+        ensures out { self.new ≡ record self.old { resident = false } }
     {
-        self.record.set_in_indexer(false);
-        self.record.set_in_eviction(false);
-        self.record.set_state(None);
         match self.leave.take() {
             Some(body) => Left::new(
                 number,
                 self.id,
-                Share::of_body(body, self.record.hash(), self.record.weight()),
+                Share::of_body(body, self.kept.hash(), self.kept.weight()),
             ),
             None => unreachable!(),
         }
@@ -236,11 +217,7 @@ impl<K: Drop, V: Drop, P: Drop> Slot<K, V, P> {
     pub fn into_left(self, number: u64) -> Left<K, V, P>
         ensures { result ≡ record { number = number; id = self.id; kept = self.kept } }
     {
-        let Slot {
-            id,
-            record,
-            leave: _,
-        } = self;
-        Left::new(number, id, record.into_share())
+        let Slot { id, kept, .. } = self;
+        Left::new(number, id, kept)
     }
 }

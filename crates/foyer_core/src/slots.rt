@@ -3,7 +3,7 @@
 //! A slot keeps its number and its value until that is removed. Then the slot is free, and is given to the next
 //! value. A new slot is made only where none is free.
 
-ghost use Rattle.std.specs.Prelude.{◌≡◌, ◌+◌, ◌≤◌, ◌↔◌, ℕ, [], count_by, is_some, IsTrue, IsOk, IsSome, OnOk, OnErr, Some, None, option_copied, nat_eq};
+ghost use Rattle.std.specs.Prelude.{◌≡◌, ◌+◌, ◌≤◌, ◌↔◌, ℕ, [], count_by, length, is_some, IsTrue, IsOk, IsSome, OnOk, OnErr, Some, None, option_copied, nat_eq};
 ghost use Rattle.std.specs.Option.{option_copied_mut};
 ghost use Rattle.std.specs.Map.{update};
 ghost use Rattle.std.specs.Borrow.{Lends, sem};
@@ -110,10 +110,19 @@ impl<T> Slots<T> {
         self.cells.len() - self.vacant
     }
 
+    /// How many slots there are, with a value or free. A new one has this number.
+    #[inline(always)]
+    pub fn count(&self) -> usize
+        ensures { result ≡ length self.now.slots }
+    {
+        self.cells.len()
+    }
+
     /// The slot that the next value gets.
     #[inline(always)]
     pub fn next_slot(&self) -> usize
         ensures next { result ≡ self.now.next }
+        ensures within { result ≤ length self.now.slots }
         ensures free { get self.now result ≡ None }
     {
         match self.free.place() {
@@ -152,6 +161,7 @@ impl<T> Slots<T> {
         ensures slots { (n : ℕ) → get self.new n ≡ update nat_eq (get self.old) slot None n }
         ensures next { self.new.next ≡ slot }
         ensures room { self.new.room ≡ self.old.room + 1 }
+        ensures count { length self.new.slots ≡ length self.old.slots }
     {
         let free = Cell::Free(self.free);
         match mem::replace(&mut self.cells[slot], free) {

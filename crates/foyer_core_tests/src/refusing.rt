@@ -8,8 +8,8 @@ use std::marker::Model;
 use std::sync::Arc;
 use std::sync::atomic::{AtomicU64, Ordering};
 
-/// A policy whose request number `AT` is refused, counted from 0: the calls of `reserve`, `pop`, `reserve_clear` and
-/// `order`.
+/// A policy whose request number `AT` is refused, counted from 0: the calls of `reserve`, `reserve_to`, `pop`,
+/// `pop_at`, `reserve_clear` and `order`.
 #[derive(Drop)]
 pub struct RefusingPolicy<E, const AT: u64> {
     policy: E,
@@ -37,6 +37,8 @@ impl<E: Eviction, const AT: u64> Eviction for RefusingPolicy<E, AT> {
     ghost at = { λ s. E.at s.policy };
 
     ghost room = { λ s. E.room s.policy };
+
+    ghost span = { λ s. E.span s.policy };
 
     ghost can_clear = { λ s. E.can_clear s.policy };
 
@@ -73,11 +75,29 @@ impl<E: Eviction, const AT: u64> Eviction for RefusingPolicy<E, AT> {
         self.policy.push(item)
     }
 
+    fn reserve_to(&mut self, wanted: usize) -> Result<()> {
+        if !self.grants() {
+            return Err(Error::new(Reason::NoMemory));
+        }
+        self.policy.reserve_to(wanted)
+    }
+
+    fn push_at(&mut self, place: Place, item: Item) {
+        self.policy.push_at(place, item);
+    }
+
     fn pop(&mut self) -> Result<Option<Item>> {
         if !self.grants() {
             return Err(Error::new(Reason::NoMemory));
         }
         self.policy.pop()
+    }
+
+    fn pop_at(&mut self) -> Result<Option<(Place, Item)>> {
+        if !self.grants() {
+            return Err(Error::new(Reason::NoMemory));
+        }
+        self.policy.pop_at()
     }
 
     fn remove(&mut self, place: Place) -> Item {
@@ -101,6 +121,14 @@ impl<E: Eviction, const AT: u64> Eviction for RefusingPolicy<E, AT> {
 
     fn release(&mut self, place: Place) {
         self.policy.release(place);
+    }
+
+    fn span(&self) -> usize {
+        self.policy.span()
+    }
+
+    fn item(&self, place: Place) -> Item {
+        self.policy.item(place)
     }
 
     fn order(&self) -> Result<Vec<Item>> {

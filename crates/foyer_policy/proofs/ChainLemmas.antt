@@ -1,10 +1,10 @@
 -- Chains of nodes: what relinking leaves.
-use Rattle.std.proofs.Common.{◌≡◌, ◌≢◌, ℕ, zero, suc, ◌≤◌, true, false, List, [], ◌∷◌, ◌++◌, Option, Some, None, length, refl, sym, ◌∙◌, ap, arith}
+use Rattle.std.proofs.Common.{◌≡◌, ◌≢◌, ℕ, zero, suc, ◌≤◌, true, false, cond, subst, List, [], ◌∷◌, ◌++◌, Option, Some, None, length, refl, sym, ◌∙◌, ap, arith}
 use Rattle.std.proofs.lemmas.Bool.Decides.{nat_tests}
-use Rattle.foyer_policy.specs.Arena.{Node}
+use Rattle.foyer_policy.specs.Nodes.{Node, walk, IsChain}
 use Rattle.foyer_policy.specs.Lists.{first_or, last_or, IsFree, IsDistinct}
 use Rattle.foyer_policy.proofs.PlaceLemmas.{IsFree-append_left, IsFree-append_right}
-use Rattle.foyer_policy.specs.Chain.{walk, IsChain, is_at, after_set, before_set, all_but}
+use Rattle.foyer_policy.specs.Chain.{is_at, after_set, before_set, all_but}
 use Rattle.foyer_policy.proofs.PlaceLemmas.{same_place, other_place}
 
 pub is_at-same : (p : ℕ) → is_at (Some p) p ≡ true
@@ -148,6 +148,23 @@ module _ {T : Type 0} where
   chain-link f g k p v b (e ∷ (x ∷ xs)) r n d h c = (
     r.others e.0 h.0 (is_at-last e.0 xs (Some x.0) d.0.1 (is_at-other x.0 e.0 d.0.0)) ∙ c.0,
     chain-link f g k p v (Some e.0) (x ∷ xs) r n d.1 h.1 c.1,
+  )
+
+  -- a chain with one entry more at its front
+  pub chain-front : (f g : ℕ → Option (Node T)) (k p : ℕ) (v : T) (l : List (ℕ × T)) → IsChain f k None l None →
+      IsDistinct l → IsFree p l
+      → ((q : ℕ) → q ≢ p → g q ≡ cond (is_at (first_or l None) q) (before_set (Some p) (f q)) (f q)) → g p
+      ≡ Some (record { value = v; list = k; before = None; after = first_or l None })
+      → IsChain g k None ((p, v) ∷ l) None
+  chain-front f g k p v [] c d h r n = (n, tt)
+  chain-front f g k p v (e ∷ es) c d h r n = (
+    n,
+    (
+      r e.0 h.0 ∙ rw (same_place e.0) (ap (before_set (Some p)) c.0),
+      chain-same f g k (Some e.0) None es
+          (λ q o there. r q (λ x. there (subst (λ (j : ℕ). IsFree j es) (sym x) h.1))
+          ∙ rw (other_place e.0 q (λ x. there (subst (λ (j : ℕ). IsFree j es) x d.0))) refl) c.1,
+    ),
   )
 
   pub last_or-append : (xs ys : List (ℕ × T)) (d : Option ℕ) → last_or (xs ++ ys) d ≡ last_or ys (last_or xs d)

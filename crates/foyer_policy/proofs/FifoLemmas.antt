@@ -3,7 +3,7 @@ use Rattle.std.proofs.Common.{◌≡◌, ◌≢◌, ℕ, ◌+◌, true, false, c
 use Rattle.std.specs.Prelude.{◌==◌, is_some}
 use Rattle.std.proofs.lemmas.Bool.Decides.{nat_tests}
 use Rattle.std.proofs.lemmas.List.{map-append}
-use Rattle.foyer_policy.specs.Lists.{list_at, find_in, find, or_else, drop_place, first_or, first_value, rest, IsFree, IsDistinct, AreLists}
+use Rattle.foyer_policy.specs.Lists.{list_at, find_in, find, or_else, drop_place, first_entry, first_or, first_value, rest, IsFree, IsDistinct, AreLists}
 use Rattle.foyer_policy.specs.Items.{IsNewIn, HasIdsOnce, remove_id, find_id}
 use Rattle.foyer_policy.specs.Policy.{without}
 use Rattle.foyer_policy.specs.declared.types.Item.{Item}
@@ -88,13 +88,14 @@ module _ (ls ls2 : List (List (ℕ × Item))) (sound : AreLists 1 ls) where
         ∙ ap (without i.id) (sym (find-is q))
 
 pub pop-places : (ls ls2 : List (List (ℕ × Item))) → AreLists 1 ls → ls2 ≡ set ls 0 (rest (list_at ls 0)) →
-    HasIdsOnce (map (λ e. e.1) (list_at ls 0)) → (r : Option Item) → r ≡ first_value (list_at ls 0)
-    → IfSome r (λ i. (q : ℕ) → find q ls2 ≡ without i.id (find q ls))
+    HasIdsOnce (map (λ e. e.1) (list_at ls 0)) → (r : Option (ℕ × Item)) → r ≡ first_entry (list_at ls 0)
+    → IfSome r (λ e. (q : ℕ) → find q ls2 ≡ without e.1.id (find q ls))
 pop-places ls ls2 sound popped once r is = go (get_or ls 0 []) refl where
-  go : (l : List (ℕ × Item)) → get_or ls 0 [] ≡ l → IfSome r (λ i. (q : ℕ) → find q ls2 ≡ without i.id (find q ls))
+  go : (l : List (ℕ × Item)) → get_or ls 0 [] ≡ l →
+      IfSome r (λ e. (q : ℕ) → find q ls2 ≡ without e.1.id (find q ls))
   go [] e = (let x : r ≡ None = rw e at is in rw x tt)
   go (x ∷ xs) e =
-      let some : r ≡ Some x.1 = rw e at is in
+      let some : r ≡ Some x = rw e at is in
       let one : ls ≡ (x ∷ xs) ∷ [] = single ls sound.count ∙ ap (λ (l : List (ℕ × Item)). l ∷ []) e in
       let same : (x.0 == x.0) ≡ true = grind (arith, nat_tests) in
       let there : find x.0 ls ≡ Some x.1 = rw (one, same) refl in

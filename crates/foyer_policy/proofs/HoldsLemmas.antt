@@ -1,14 +1,20 @@
 -- Nodes of an arena that hold lists: what each step leaves, and what the lists are then.
-use Rattle.std.proofs.Common.{◌≡◌, ◌≢◌, ℕ, suc, ◌+◌, ◌^◌, ◌<◌, ◌≤◌, Bool, true, false, cond, List, [], ◌∷◌, ◌++◌, Option, Some, None, length, map, get_or, set, refl, sym, ◌∙◌, ap, arith, sum_by, length-append, replicate, IsSome, rules}
+use Rattle.std.proofs.Common.{◌≡◌, ◌≢◌, ℕ, suc, ◌+◌, ◌^◌, ◌<◌, ◌≤◌, Bool, true, false, cond, List, [], ◌∷◌, ◌++◌, Option, Some, None, length, map, get_or, set, refl, sym, ◌∙◌, ap, subst, arith, sum_by, length-append, replicate, IsSome, rules}
 use Rattle.std.specs.Prelude.{is_some}
-use Rattle.std.proofs.lemmas.List.{ext_get_or, get_or-map as at-map, get_or-replicate, length-replicate}
+use Rattle.std.proofs.lemmas.List.{ext_get_or, get_or-set_other, get_or-map as at-map, get_or-replicate, length-replicate}
 use Rattle.std.proofs.lemmas.List.Folds.{sum_by-replicate}
 use Rattle.std.proofs.lemmas.List.Sums.{sum_by-set, sum_by-cons, get_or-le-sum_by, count_by-le-length}
 use Rattle.std.proofs.Math.ListN.{length-map}
 use Rattle.foyer_policy.specs.declared.lists.arena.Arena.{Arena}
-use Rattle.foyer_policy.specs.Arena.{Node, get, IsArena}
-use Rattle.foyer_policy.specs.Lists.{Lists, list_at, find, drop_place, with_value, moved, AreLists}
-use Rattle.foyer_policy.specs.Chain.{walk, IsList, Linked, Holds, lists_of, is_at, after_set, end_set}
+use Rattle.foyer_policy.specs.Nodes.{Node, walk}
+use Rattle.foyer_policy.specs.Arena.{get, IsArena}
+use Rattle.foyer_policy.specs.Free.{used_of}
+use Rattle.foyer_policy.specs.Lists.{Lists, list_at, find_in, find, drop_place, with_value, moved, flat, IsFree, IsDistinct, AreLists}
+use Rattle.foyer_policy.specs.Chain.{IsList, Linked, Holds, lists_of, is_at, after_set, end_set}
+use Rattle.foyer_policy.proofs.PlaceLemmas.{same_place, other_place, find_in-free, IsFree-none}
+use Rattle.foyer_policy.proofs.FlatLemmas.{find_in-flat, length-flat, IsDistinct-flat}
+use Rattle.foyer_policy.proofs.FreeLemmas.{filled_within, used-set}
+use Rattle.foyer_policy.proofs.ArenaLemmas.{some_node, parts_of, arena-node}
 use Rattle.foyer_policy.proofs.ChainLemmas.{walk-chain, owner, Owned, Owned-is_at}
 use Rattle.foyer_policy.proofs.LinkedLemmas.{not_true, AreLists-Linked, Found, found, Linked-link, count-unlink, some_owner, Owned-tail, Linked-alike}
 use Rattle.foyer_policy.proofs.ListsLemmas.{IsIn, is_in, stands}
@@ -28,6 +34,27 @@ module _ {T : Type 0} where
   some_after_set true to None h = absurd (search rules)
   some_after_set true to (Some n) h = search rules
   some_after_set false to o h = h
+
+  -- there are more values than these entries
+  one_more : (vs : List (Option T)) (es : List (ℕ × T)) (p : ℕ) (v : T) → IsDistinct es → IsFree p es
+      → ((q : ℕ) (w : T) → find_in q es ≡ Some w → (x : T) × (get_or vs q None ≡ Some x)) → get_or vs p None ≡ Some v
+      → length es + 1 ≤ used_of vs
+  one_more vs [] p v d f there here =
+      let s = used-set vs p None (filled_within vs p v here) in let t = rw here at s in omega (arith, t)
+  one_more vs (e ∷ es) p v d f there here =
+      let first : find_in e.0 (e ∷ es) ≡ Some e.1 = rw (same_place e.0) refl in
+      let filled = there e.0 e.1 first in
+      let s = used-set vs e.0 None (filled_within vs e.0 filled.0 filled.1) in
+      let t = rw filled.1 at s in
+      let more = one_more (set vs e.0 None) es p v d.1 f.1 rest
+      (get_or-set_other vs e.0 p None None (λ x. f.0 (sym x)) ∙ here) in omega (arith, t, more) where
+        rest : (q : ℕ) (w : T) → find_in q es ≡ Some w → (x : T) × (get_or (set vs e.0 None) q None ≡ Some x)
+        rest q w is =
+            let ne : q ≢ e.0 =
+            (λ x. let is' : find_in e.0 es ≡ Some w = subst (λ (k : ℕ). find_in k es ≡ Some w) x is in
+            let y : None ≡ Some w = sym (find_in-free e.0 es d.0) ∙ is' in cc) in
+            let late : find_in q (e ∷ es) ≡ Some w = rw (other_place e.0 q (λ x. ne (sym x))) is in
+            let old = there q w late in (old.0, get_or-set_other vs e.0 q None None ne ∙ old.1)
 
 module _ {T : Type 0} {N : ℕ} where
   pub lists_of-Holds : (nodes : Arena T N) (heads tails : List (Option ℕ)) (ls : List (List (ℕ × T))) →
@@ -96,6 +123,42 @@ module _ {T : Type 0} {N : ℕ} where
     go None e h = absurd (search rules)
     go (Some v) e h = let s : Found (get n0) p v ls = found (get n0) heads tails ls p v old e in
         some_owner (get n0 p) s.at.list (ap owner s.node)
+
+  -- where no list has a place, its node has no value: there would be more values than entries
+  pub vacant_if_lost : (nodes : Arena T N) (heads tails : List (Option ℕ)) (p : ℕ) →
+      Holds nodes heads tails (lists_of nodes heads) → find p (lists_of nodes heads) ≡ None → get nodes p ≡ None
+  vacant_if_lost nodes heads tails p h lost = go (get nodes p) refl where
+    filled : (q : ℕ) (node : Node T) → get nodes q ≡ Some node → get_or nodes.nodes.values q None ≡ Some node.value
+    filled q node e = (parts_of (get_or nodes.nodes.links q None) (get_or nodes.nodes.values q None) node e).1
+
+    there : (q : ℕ) (v : T) → find_in q (flat (lists_of nodes heads)) ≡ Some v → (x : T)
+        × (get_or nodes.nodes.values q None ≡ Some x)
+    there q v is =
+        let s : Found (get nodes) q v (lists_of nodes heads) =
+        found (get nodes) heads tails (lists_of nodes heads) q v h.linked
+        (sym (find_in-flat q (lists_of nodes heads)) ∙ is) in (v, filled q _ s.node)
+
+    go : (o : Option (Node T)) → get nodes p ≡ o → get nodes p ≡ None
+    go None e = e
+    go (Some node) e =
+        let ls = lists_of nodes heads in
+        let sound = AreLists-Linked (get nodes) heads tails ls (length heads) h.linked refl in
+        absurd (omega (
+          arith,
+          one_more nodes.nodes.values (flat ls) p node.value (IsDistinct-flat (length heads) ls sound)
+              (IsFree-none p (flat ls) (find_in-flat p ls ∙ lost)) there (filled p node e),
+          length-flat ls,
+          h.count,
+          h.arena.used,
+        ))
+
+  -- what stands at a place lies in the block
+  pub within_span : (nodes : Arena T N) (heads tails : List (Option ℕ)) (p : ℕ) →
+      Holds nodes heads tails (lists_of nodes heads) → IsSome (find p (lists_of nodes heads)) → p < nodes.len
+  within_span nodes heads tails p h there =
+      let node = some_node (get nodes p)
+      (contains_found nodes heads tails (lists_of nodes heads) p h.linked there) in
+      (arena-node nodes p node.0 h.arena node.1).1
 
   pub Holds-new : (nodes : Arena T N) (n : ℕ) → IsArena nodes → nodes.used ≡ 0 →
       Holds nodes (replicate n None) (replicate n None) (replicate n [])
@@ -172,8 +235,8 @@ module _ {T : Type 0} {N : ℕ} where
       Holds nodes heads tails (lists_of nodes heads) → length heads ≡ n → AreLists n (lists_of nodes heads)
   AreLists-Holds nodes heads tails n h e = AreLists-Linked (get nodes) heads tails (lists_of nodes heads) n h.linked e
 
-  pub AreLists-told : {nodes : Arena T N} {heads tails : List (Option ℕ)} {n room : ℕ} {s : Lists T} →
-      ◌≡◌ {A = Lists T} (record { lists = lists_of nodes heads; room = room }) s
+  pub AreLists-told : {nodes : Arena T N} {heads tails : List (Option ℕ)} {n room span : ℕ} {s : Lists T} →
+      ◌≡◌ {A = Lists T} (record { lists = lists_of nodes heads; room = room; span = span }) s
       → Holds nodes heads tails (lists_of nodes heads) → length heads ≡ n → AreLists n s.lists
   AreLists-told {nodes} {heads} {tails} {n} e h told = rw (← e) (AreLists-Holds nodes heads tails n h told)
 

@@ -3,9 +3,10 @@ use Rattle.std.proofs.Common.{◌≡◌, ◌≢◌, ℕ, ◌+◌, ◌<◌, Bool,
 use Rattle.std.specs.Prelude.{◌==◌}
 use Rattle.std.proofs.lemmas.List.{get_or-set_same, get_or-set_other, set-get_or}
 use Rattle.std.proofs.lemmas.List.Sums.{sum_by-set}
-use Rattle.foyer_policy.specs.Arena.{Node, value_of}
-use Rattle.foyer_policy.specs.Lists.{list_at, first_or, last_or, find_in, find, first_value, rest, drop_place, IsFree, IsDistinct, AreLists}
-use Rattle.foyer_policy.specs.Chain.{IsChain, IsList, Linked, is_at, after_set, before_set, end_set, all_but}
+use Rattle.foyer_policy.specs.Nodes.{Node, IsChain}
+use Rattle.foyer_policy.specs.Arena.{value_of}
+use Rattle.foyer_policy.specs.Lists.{list_at, first_or, last_or, find_in, find, first_entry, rest, drop_place, IsFree, IsDistinct, AreLists}
+use Rattle.foyer_policy.specs.Chain.{IsList, Linked, is_at, after_set, before_set, end_set, all_but}
 use Rattle.foyer_policy.proofs.PlaceLemmas.{place_is, place_differs, IsDistinct-snoc, IsDistinct-mid, IsDistinct-without}
 use Rattle.foyer_policy.proofs.ListsLemmas.{same_or_not, Stands, stands, find-mid, within_if_found, first_found, drop-all, pop-some}
 use Rattle.foyer_policy.proofs.ChainLemmas.{is_at-last, is_at-first, is_at-same, owner, Owned, Owned-is_at, Owned-last, Owned-first, Keeps, chain-frame, Relinks, LinksBack, chain-unlink, chain-link, last_or-append, all_but-same, all_but-other}
@@ -296,7 +297,7 @@ module _ {T : Type 0} where
   pub record Front (ls : List (List (ℕ × T))) (k p : ℕ) : Type 0 where
     pub value : T
     pub there : find p ls ≡ Some value
-    pub first : first_value (list_at ls k) ≡ Some value
+    pub first : first_entry (list_at ls k) ≡ Some (p, value)
     pub gone : map (drop_place p) ls ≡ set ls k (rest (list_at ls k))
 
   pub front_found : (f : ℕ → Option (Node T)) (heads tails : List (Option ℕ)) (ls : List (List (ℕ × T))) (k p : ℕ) →
@@ -314,7 +315,7 @@ module _ {T : Type 0} where
         record {
           value = x.1;
           there = rw (← q) (find-mid (length heads) ls sound k x.0 x.1 [] xs e);
-          first = rw e refl;
+          first = rw e (ap (λ (q : ℕ). Some (q, x.1)) q);
           gone = rw (← q) (sym (pop-some (length heads) ls sound k x.0 x.1 xs e));
         }
 

@@ -4,7 +4,7 @@ use Rattle.std.proofs.lemmas.Bool.Decides.{eqb_tells, leb_tells}
 use Rattle.std.proofs.lemmas.List.{get_or-set_same, get_or-set_other, ext_get_or, set-get_or, set-set, get_or_past}
 use Rattle.std.proofs.lemmas.List.Sums.{get_or-le-sum_by}
 use Rattle.std.proofs.Math.ListN.{get_or-map, length-map}
-use Rattle.foyer_policy.specs.Lists.{list_at, first_or, find_in, find, or_else, rest, drop_place, with_value, moved, IsFree, IsDistinct, AreLists}
+use Rattle.foyer_policy.specs.Lists.{list_at, first_entry, first_or, first_value, find_in, find, or_else, rest, drop_place, with_value, moved, IsFree, IsDistinct, AreLists}
 use Rattle.foyer_policy.proofs.PlaceLemmas.{IsFree-none, find_in-free, drop_place-free, with_value-free, find_in-mid, drop_place-mid, with_value-mid, IsDistinct-mid, Split, split}
 
 pub same_or_not : (j k : ℕ) → (j ≡ k) ⊎ (j ≢ k)
@@ -107,6 +107,15 @@ module _ {T : Type 0} where
     go : (o : Option T) → or_else o None ≡ o
     go None = refl
     go (Some x) = refl
+
+  -- the first value is that of the first entry
+  pub entry-value : (l : List (ℕ × T)) (e : ℕ × T) → Some e ≡ first_entry l → Some e.1 ≡ first_value l
+  entry-value [] e h = absurd cc
+  entry-value (x ∷ xs) e h = (let same : e ≡ x = cc in ap (λ (y : ℕ × T). Some y.1) same)
+
+  pub entry-none : (l : List (ℕ × T)) → None ≡ first_entry l → None ≡ first_value l
+  entry-none [] h = refl
+  entry-none (x ∷ xs) h = absurd cc
 
   -- no list is longer than all of them
   pub length-list_at : (ls : List (List (ℕ × T))) (k : ℕ) → length (list_at ls k) ≤ sum_by length ls

@@ -61,12 +61,12 @@ pinned-snoc pin i b =
     ∙ ap (λ (k : ℕ). weight_of (pinned_items pin) + k) (sum_by-cons weight i [] ∙ omega arith)
 
 -- lists and sums that hold no more than some items, which were accepted
-module _ (ls : List (List (ℕ × Node))) (room limit : ℕ) (ratio : Ratio) (high_weight pinned_weight : ℕ) where
+module _ (ls : List (List (ℕ × Node))) (limit : ℕ) (ratio : Ratio) (high_weight pinned_weight : ℕ) where
   pub rebuilt : (all : List Item) → HasIdsOnce all → weight_of all < 2 ^ 64 →
       IsWithin (lru.order (view_of ls limit ratio)) all → IsWithinLimit (view_of ls limit ratio) → StatesTell ls
       → high_weight ≡ weight_of (items_of (list_at ls 1)) → pinned_weight
       ≡ weight_of (pinned_items (map pinned_of (list_at ls 2))) → 0 < ratio.den
-      → IsLru (record { lists = ls; room = room; limit = limit; ratio = ratio }) high_weight pinned_weight
+      → IsLru ls limit ratio high_weight pinned_weight
   rebuilt all once fits part within tell high pinned divides = record {
     once = once-within all (lru.order (view_of ls limit ratio)) part once;
     fits = (let less = part weight in omega arith);
@@ -78,8 +78,8 @@ module _ (ls : List (List (ℕ × Node))) (room limit : ℕ) (ratio : Ratio) (hi
   }
 
 -- an `Lru`, one of whose nodes is found
-module _ (ls : List (List (ℕ × Node))) (room limit : ℕ) (ratio : Ratio) (high_weight pinned_weight : ℕ)
-    (old : IsLru (record { lists = ls; room = room; limit = limit; ratio = ratio }) high_weight pinned_weight)
+module _ (ls : List (List (ℕ × Node))) (limit : ℕ) (ratio : Ratio) (high_weight pinned_weight : ℕ)
+    (old : IsLru ls limit ratio high_weight pinned_weight)
     (sound : AreLists 3 ls) (p : ℕ) (n : Node) (h : find p ls ≡ Some n) where
   -- the sum of all
   pub weights : weight_of (items_of (list_at ls 0)) + (high_weight + pinned_weight) < 2 ^ 64
@@ -125,7 +125,7 @@ module _ (ls : List (List (ℕ × Node))) (room limit : ℕ) (ratio : Ratio) (hi
       ∙ ap (λ (o : Option Item). settle (pin_found v n.item.id None o)) f.1 ∙ settle-within_limit v old.within)
 
   -- an acquire
-  module _ (unpinned : n.state.pinned ≡ false) (ls2 : List (List (ℕ × Node))) (room2 : ℕ)
+  module _ (unpinned : n.state.pinned ≡ false) (ls2 : List (List (ℕ × Node)))
       (moved_is : ls2 ≡ moved p 2 (map (with_value p (with_pin n true)) ls)) where
     acquired_sums : (b : Bool) → n.state.high ≡ b
         → (weight_of (items_of (list_at ls2 1)) + cond b n.item.weight 0 ≡ weight_of (items_of (list_at ls 1)))
@@ -160,14 +160,14 @@ module _ (ls : List (List (ℕ × Node))) (room limit : ℕ) (ratio : Ratio) (hi
 
     pub acquired_is : (high_weight2 pinned_weight2 : ℕ) → high_weight2 + cond n.state.high n.item.weight 0
         ≡ high_weight → pinned_weight2 ≡ pinned_weight + n.item.weight
-        → IsLru (record { lists = ls2; room = room2; limit = limit; ratio = ratio }) high_weight2 pinned_weight2
+        → IsLru ls2 limit ratio high_weight2 pinned_weight2
     acquired_is high_weight2 pinned_weight2 high pinned =
         let s = acquired_sums n.state.high refl in
         let v = view_of ls limit ratio in
         let moves : IsPermutation (lru.order v) (lru.order (view_of ls2 limit ratio)) =
         subst (λ (w : LruView). IsPermutation (lru.order v) (lru.order w)) (sym acquired)
         (lru_lawful.acquire_order v n.item.id old.once) in
-        rebuilt ls2 room2 limit ratio high_weight2 pinned_weight2 (lru.order v) old.once old.fits
+        rebuilt ls2 limit ratio high_weight2 pinned_weight2 (lru.order v) old.once old.fits
         (within-permutation (lru.order v) (lru.order (view_of ls2 limit ratio)) moves)
         within2 (pinned-tell ls limit ratio old.once sound p n old.tell h ls2 moved_is) (omega (arith, s.0, old.high))
         (omega (arith, s.1, old.pinned)) old.divides

@@ -28,8 +28,8 @@ use Rattle.foyer_policy.proofs.LruViews.{same_view, settle-within_limit, settled
 abbrev pub node : Item → Bool → Node
 node i high = record { item = i; state = state high false }
 
-module _ (ls : List (List (ℕ × Node))) (room limit : ℕ) (ratio : Ratio) (high_weight pinned_weight : ℕ)
-    (old : IsLru (record { lists = ls; room = room; limit = limit; ratio = ratio }) high_weight pinned_weight)
+module _ (ls : List (List (ℕ × Node))) (limit : ℕ) (ratio : Ratio) (high_weight pinned_weight : ℕ)
+    (old : IsLru ls limit ratio high_weight pinned_weight)
     (sound : AreLists 3 ls) where
   module _ (p : ℕ) (i : Item) (fits : i.weight + weight_of (lru.order (view_of ls limit ratio)) < 2 ^ 64) where
     -- the pool has room for the sum
@@ -49,7 +49,7 @@ module _ (ls : List (List (ℕ × Node))) (room limit : ℕ) (ratio : Ratio) (hi
     pushed_all = omega (arith, fits, sum_by-cons weight i (lru.order (view_of ls limit ratio)))
 
     -- a push to the low list
-    module _ (ls2 : List (List (ℕ × Node))) (room2 : ℕ)
+    module _ (ls2 : List (List (ℕ × Node)))
         (pushed : ls2 ≡ set ls 0 (list_at ls 0 ++ (p, node i false) ∷ [])) where
       low-here : list_at ls2 0 ≡ list_at ls 0 ++ (p, node i false) ∷ []
       low-here = ap (λ (x : List (List (ℕ × Node))). list_at x 0) pushed
@@ -69,7 +69,7 @@ module _ (ls : List (List (ℕ × Node))) (room limit : ℕ) (ratio : Ratio) (hi
       pushed_low = low-put ∙ sym (settle-within_limit (put (view_of ls limit ratio) i false) old.within)
 
       pub pushed_low_is : IsNewIn i.id (lru.order (view_of ls limit ratio)) →
-          IsLru (record { lists = ls2; room = room2; limit = limit; ratio = ratio }) high_weight pinned_weight
+          IsLru ls2 limit ratio high_weight pinned_weight
       pushed_low_is new =
           let v = view_of ls limit ratio in
           let w = view_of ls2 limit ratio in
@@ -88,7 +88,7 @@ module _ (ls : List (List (ℕ × Node))) (room limit : ℕ) (ratio : Ratio) (hi
             high = rw (low-other 1 (λ e. omega arith)) old.tell.high;
             pin = rw (low-other 2 (λ e. omega arith)) old.tell.pin;
           } in
-          rebuilt ls2 room2 limit ratio high_weight pinned_weight (i ∷ lru.order v)
+          rebuilt ls2 limit ratio high_weight pinned_weight (i ∷ lru.order v)
           (once-cons i (lru.order v) old.once new) pushed_all
           (within-permutation (i ∷ lru.order v) (lru.order w) moves)
           (omega (arith, high, old.within)) tell (omega (arith, high, old.high)) (omega (arith, pins, old.pinned))
@@ -123,15 +123,14 @@ module _ (ls : List (List (ℕ × Node))) (room limit : ℕ) (ratio : Ratio) (hi
             old.high,
           )
 
-      module _ (ls2 : List (List (ℕ × Node))) (room2 : ℕ)
+      module _ (ls2 : List (List (ℕ × Node)))
           (low2 : list_at ls2 0 ≡ list_at ls1 0 ++ map low_entry (over weight_at limit (list_at ls1 1)))
           (high2 : list_at ls2 1 ≡ fit weight_at limit (list_at ls1 1)) (pin2 : list_at ls2 2 ≡ list_at ls1 2) where
         pub pushed_high : view_of ls2 limit ratio ≡ settle (put (view_of ls limit ratio) i true)
         pushed_high = settled-view ls1 ls2 limit low2 high2 pin2 ratio ∙ ap settle high-put
 
         pub pushed_high_is : IsNewIn i.id (lru.order (view_of ls limit ratio)) → (high_weight2 : ℕ) → high_weight2
-            ≡ sum_by weight_at (list_at ls2 1) → IsLru
-            (record { lists = ls2; room = room2; limit = limit; ratio = ratio }) high_weight2 pinned_weight
+            ≡ sum_by weight_at (list_at ls2 1) → IsLru ls2 limit ratio high_weight2 pinned_weight
         pushed_high_is new high_weight2 sum =
             let v = view_of ls limit ratio in
             let w = view_of ls2 limit ratio in
@@ -151,20 +150,20 @@ module _ (ls : List (List (ℕ × Node))) (room limit : ℕ) (ratio : Ratio) (hi
             } in
             let within : IsWithinLimit w = subst (λ (x : LruView). IsWithinLimit x) (sym pushed_high)
             (settle-within (put v i true)) in
-            rebuilt ls2 room2 limit ratio high_weight2 pinned_weight (i ∷ lru.order v)
+            rebuilt ls2 limit ratio high_weight2 pinned_weight (i ∷ lru.order v)
             (once-cons i (lru.order v) old.once new) pushed_all
             (within-permutation (i ∷ lru.order v) (lru.order w) moves)
             within (settled-tell ls1 ls2 limit low2 high2 pin2 tell) (sum ∙ sym (weight_of-items_of (list_at ls2 1)))
             (omega (arith, pins, old.pinned)) old.divides
 
-module _ (ls : List (List (ℕ × Node))) (room limit : ℕ) (ratio : Ratio) (high_weight pinned_weight : ℕ)
-    (old : IsLru (record { lists = ls; room = room; limit = limit; ratio = ratio }) high_weight pinned_weight) where
+module _ (ls : List (List (ℕ × Node))) (limit : ℕ) (ratio : Ratio) (high_weight pinned_weight : ℕ)
+    (old : IsLru ls limit ratio high_weight pinned_weight) where
   -- an update, whose new limit settles the pool
-  module _ (limit2 : ℕ) (ratio2 : Ratio) (ls2 : List (List (ℕ × Node))) (room2 : ℕ)
+  module _ (limit2 : ℕ) (ratio2 : Ratio) (ls2 : List (List (ℕ × Node)))
       (low2 : list_at ls2 0 ≡ list_at ls 0 ++ map low_entry (over weight_at limit2 (list_at ls 1)))
       (high2 : list_at ls2 1 ≡ fit weight_at limit2 (list_at ls 1)) (pin2 : list_at ls2 2 ≡ list_at ls 2) where
     pub updated_is : 0 < ratio2.den → (high_weight2 : ℕ) → high_weight2 ≡ sum_by weight_at (list_at ls2 1) →
-        IsLru (record { lists = ls2; room = room2; limit = limit2; ratio = ratio2 }) high_weight2 pinned_weight
+        IsLru ls2 limit2 ratio2 high_weight2 pinned_weight
     updated_is divides high_weight2 sum =
         let v = view_of ls limit2 ratio2 in
         let w = view_of ls2 limit2 ratio2 in
@@ -174,7 +173,7 @@ module _ (ls : List (List (ℕ × Node))) (room limit : ℕ) (ratio : Ratio) (hi
         let pins : weight_of (pinned_items (map pinned_of (list_at ls2 2)))
         ≡ weight_of (pinned_items (map pinned_of (list_at ls 2))) =
         ap (λ (x : LruView). weight_of (pinned_items x.pin)) to in
-        rebuilt ls2 room2 limit2 ratio2 high_weight2 pinned_weight (lru.order v) old.once old.fits
+        rebuilt ls2 limit2 ratio2 high_weight2 pinned_weight (lru.order v) old.once old.fits
         (λ f. omega (arith, ap (sum_by f) order))
         within (settled-tell ls ls2 limit2 low2 high2 pin2 old.tell) (sum ∙ sym (weight_of-items_of (list_at ls2 1)))
         (omega (arith, pins, old.pinned)) divides

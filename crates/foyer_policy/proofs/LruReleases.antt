@@ -49,8 +49,8 @@ find_pin-none id pin h = go (find_pin id pin) refl where
       (let x : None ≡ Some q.item = sym h ∙ find_id-pinned id pin ∙ ap (option_map (λ (r : Pinned). r.item)) is in
       absurd cc)
 
-module _ (ls : List (List (ℕ × Node))) (room limit : ℕ) (ratio : Ratio) (high_weight pinned_weight : ℕ)
-    (old : IsLru (record { lists = ls; room = room; limit = limit; ratio = ratio }) high_weight pinned_weight)
+module _ (ls : List (List (ℕ × Node))) (limit : ℕ) (ratio : Ratio) (high_weight pinned_weight : ℕ)
+    (old : IsLru ls limit ratio high_weight pinned_weight)
     (sound : AreLists 3 ls) (p : ℕ) (n : Node) (h : find p ls ≡ Some n) where
   v : LruView
   v = view_of ls limit ratio
@@ -75,7 +75,7 @@ module _ (ls : List (List (ℕ × Node))) (room limit : ℕ) (ratio : Ratio) (hi
 
   module _ (pinned : n.state.pinned ≡ true) where
     -- a release to the low list
-    module _ (low : n.state.high ≡ false) (ls2 : List (List (ℕ × Node))) (room2 : ℕ)
+    module _ (low : n.state.high ≡ false) (ls2 : List (List (ℕ × Node)))
         (moved_is : ls2 ≡ moved p 0 (map (with_value p (with_pin n false)) ls)) where
       high-same : weight_of (items_of (list_at ls2 1)) ≡ weight_of (items_of (list_at ls 1))
       high-same = ap (λ (v : LruView). weight_of v.high)
@@ -91,7 +91,7 @@ module _ (ls : List (List (ℕ × Node))) (room limit : ℕ) (ratio : Ratio) (hi
           is ∙ sym (settle-within_limit to (subst (λ (w : LruView). IsWithinLimit w) is within2))
 
       pub released_to_low_is : (pinned_weight2 : ℕ) → pinned_weight2 + n.item.weight ≡ pinned_weight →
-          IsLru (record { lists = ls2; room = room2; limit = limit; ratio = ratio }) high_weight pinned_weight2
+          IsLru ls2 limit ratio high_weight pinned_weight2
       released_to_low_is pinned_weight2 less =
           let v = view_of ls limit ratio in
           let w = view_of ls2 limit ratio in
@@ -101,7 +101,7 @@ module _ (ls : List (List (ℕ × Node))) (room limit : ℕ) (ratio : Ratio) (hi
           let sum = unpinned_sum pinned (map pinned_of (list_at ls2 2))
           (ap (λ (x : LruView). x.pin)
           (released_low ls limit ratio old.once sound p n old.tell h ls2 pinned low moved_is)) in
-          rebuilt ls2 room2 limit ratio high_weight pinned_weight2 (lru.order v) old.once old.fits
+          rebuilt ls2 limit ratio high_weight pinned_weight2 (lru.order v) old.once old.fits
           (within-permutation (lru.order v) (lru.order w) moves) within2
           (released_low-tell ls limit ratio old.once sound p n old.tell h ls2 pinned low moved_is)
           (old.high ∙ sym high-same) (omega (arith, sum, old.pinned)) old.divides
@@ -123,7 +123,7 @@ module _ (ls : List (List (ℕ × Node))) (room limit : ℕ) (ratio : Ratio) (hi
             old.high,
           )
 
-      module _ (ls2 : List (List (ℕ × Node))) (room2 : ℕ)
+      module _ (ls2 : List (List (ℕ × Node)))
           (low2 : list_at ls2 0 ≡ list_at ls1 0 ++ map low_entry (over weight_at limit (list_at ls1 1)))
           (high2 : list_at ls2 1 ≡ fit weight_at limit (list_at ls1 1)) (pin2 : list_at ls2 2 ≡ list_at ls1 2) where
         pub released_to_high : view_of ls2 limit ratio ≡ lru.release (view_of ls limit ratio) n.item.id
@@ -132,7 +132,7 @@ module _ (ls : List (List (ℕ × Node))) (room limit : ℕ) (ratio : Ratio) (hi
 
         pub released_to_high_is : (high_weight2 pinned_weight2 : ℕ) → high_weight2 ≡ sum_by weight_at (list_at ls2 1)
             → pinned_weight2 + n.item.weight ≡ pinned_weight →
-            IsLru (record { lists = ls2; room = room2; limit = limit; ratio = ratio }) high_weight2 pinned_weight2
+            IsLru ls2 limit ratio high_weight2 pinned_weight2
         released_to_high_is high_weight2 pinned_weight2 more less =
             let v = view_of ls limit ratio in
             let w = view_of ls2 limit ratio in
@@ -145,7 +145,7 @@ module _ (ls : List (List (ℕ × Node))) (room limit : ℕ) (ratio : Ratio) (hi
             let sum = unpinned_sum pinned (map pinned_of (list_at ls2 2)) pins in
             let within : IsWithinLimit w = subst (λ (x : LruView). IsWithinLimit x)
             (sym (settled-view ls1 ls2 limit low2 high2 pin2 ratio)) (settle-within (view_of ls1 limit ratio)) in
-            rebuilt ls2 room2 limit ratio high_weight2 pinned_weight2 (lru.order v) old.once old.fits
+            rebuilt ls2 limit ratio high_weight2 pinned_weight2 (lru.order v) old.once old.fits
             (within-permutation (lru.order v) (lru.order w) moves) within
             (settled-tell ls1 ls2 limit low2 high2 pin2
             (released_high-tell ls limit ratio old.once sound p n old.tell h ls1 pinned high moved_is))
@@ -175,7 +175,7 @@ module _ (ls : List (List (ℕ × Node))) (room limit : ℕ) (ratio : Ratio) (hi
         find_id-front n.item.id n.item (items_of (list_at ls 0))
         (items_of (list_at ls 1) ++ pinned_items (map pinned_of (list_at ls 2))) f
 
-  module _ (ls2 : List (List (ℕ × Node))) (room2 : ℕ) (dropped : ls2 ≡ map (drop_place p) ls) where
+  module _ (ls2 : List (List (ℕ × Node))) (dropped : ls2 ≡ map (drop_place p) ls) where
     pub removed_places : (q : ℕ) → held_at q ls2 ≡ without n.item.id (held_at q ls)
     removed_places q =
         let all = flat ls in
@@ -237,14 +237,14 @@ module _ (ls : List (List (ℕ × Node))) (room limit : ℕ) (ratio : Ratio) (hi
     pub removed_is : (high_weight2 pinned_weight2 : ℕ) →
         high_weight2 + cond n.state.pinned 0 (cond n.state.high n.item.weight 0) ≡ high_weight →
         pinned_weight2 + cond n.state.pinned n.item.weight 0 ≡ pinned_weight
-        → IsLru (record { lists = ls2; room = room2; limit = limit; ratio = ratio }) high_weight2 pinned_weight2
+        → IsLru ls2 limit ratio high_weight2 pinned_weight2
     removed_is high_weight2 pinned_weight2 high pinned =
         let s = removed_sums n.state.pinned n.state.high refl refl in
         let v = view_of ls limit ratio in
         let w = view_of ls2 limit ratio in
         let rest : lru.order w ≡ remove_id n.item.id (lru.order v) = ap lru.order removed_view
         ∙ lru_lawful.remove_order v n.item.id in
-        rebuilt ls2 room2 limit ratio high_weight2 pinned_weight2 (lru.order v) old.once old.fits
+        rebuilt ls2 limit ratio high_weight2 pinned_weight2 (lru.order v) old.once old.fits
         (subst (λ (l : List Item). IsWithin l (lru.order v)) (sym rest) (within-remove_id n.item.id (lru.order v)))
         (omega (arith, s.0, old.within)) (removed-tell ls limit ratio old.once sound p n ls2 dropped old.tell)
         (omega (arith, s.0, old.high)) (omega (arith, s.1, old.pinned)) old.divides

@@ -1,6 +1,6 @@
 -- A small queue at its front: where the threshold stops, and what the front weighs.
 use Rattle.std.proofs.Common.{◌≡◌, ℕ, zero, suc, length, ◌+◌, ◌≤◌, ◌<◌, true, false, List, [], ◌∷◌, Option, Some, None, refl, ◌∙◌, ap, arith}
-use Rattle.std.specs.Prelude.{nat_le, is_some}
+use Rattle.std.specs.Prelude.{nat_le, is_some, option_map}
 use Rattle.foyer_policy.specs.Policy.{Pops}
 use Rattle.std.proofs.lemmas.Bool.Decides.{nat_tests}
 use Rattle.std.proofs.lemmas.List.Sums.{sum_by-cons}
@@ -52,7 +52,7 @@ pop_times-some v w i h =
     ap (λ (k : ℕ). pop_times s3fifo_pop k v) n ∙ rw h refl
 
 -- a pop that gave an item
-pub some-popped : (v w : S3FifoView) (o : Option Item) → is_some o ≡ true → Pops s3fifo v o w → (i : Item)
-    × (s3fifo_pop v ≡ Some (i, w))
+pub some-popped : (v w : S3FifoView) (o : Option (ℕ × Item)) → is_some o ≡ true →
+    Pops s3fifo v (option_map (λ e. e.1) o) w → (i : Item) × (s3fifo_pop v ≡ Some (i, w))
 some-popped v w None h p = absurd cc
-some-popped v w (Some i) h p = (i, p)
+some-popped v w (Some e) h p = (e.1, p)

@@ -3,9 +3,9 @@ use Rattle.std.proofs.Common.{◌≡◌, ◌≢◌, ℕ, ◌<◌, Bool, true, fa
 use Rattle.std.specs.Prelude.{◌==◌}
 use Rattle.std.proofs.lemmas.List.Sums.{sum_by-cons}
 use Rattle.std.proofs.Math.ListN.{get_or-map, length-map}
-use Rattle.foyer_policy.specs.Arena.{Node}
+use Rattle.foyer_policy.specs.Nodes.{Node, IsChain}
 use Rattle.foyer_policy.specs.Lists.{list_at, first_or, with_value, IsFree, IsDistinct}
-use Rattle.foyer_policy.specs.Chain.{IsChain, Linked}
+use Rattle.foyer_policy.specs.Chain.{Linked}
 use Rattle.foyer_policy.proofs.PlaceLemmas.{place_is, place_differs, first_or-with_value, last_or-with_value, IsDistinct-with_value, length-with_value}
 
 module _ {T : Type 0} where

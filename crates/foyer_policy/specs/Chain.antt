@@ -1,7 +1,8 @@
 -- How the nodes of an arena are linked.
-use Rattle.std.specs.Prelude.{◌≡◌, ◌==◌, ℕ, zero, suc, ◌<◌, List, [], ◌∷◌, Option, Some, None, length, map, sum_by, slice_index_or, slice_set, Bool, false, if◌then◌else◌}
+use Rattle.std.specs.Prelude.{◌≡◌, ◌==◌, ℕ, ◌<◌, List, Option, Some, None, length, map, sum_by, slice_index_or, slice_set, Bool, false, if◌then◌else◌}
 use Rattle.foyer_policy.specs.declared.lists.arena.Arena.{Arena}
-use Rattle.foyer_policy.specs.Arena.{Node, get, IsArena}
+use Rattle.foyer_policy.specs.Nodes.{Node, walk, IsChain}
+use Rattle.foyer_policy.specs.Arena.{get, IsArena}
 use Rattle.foyer_policy.specs.Lists.{list_at, first_or, last_or, IsDistinct}
 
 -- whether an optional number is this one
@@ -15,23 +16,6 @@ end_set None k to ends = slice_set ends k to
 end_set (Some p) k to ends = ends
 
 module _ {T : Type 0} where
-  -- the entries from a node on, along the links, at most so many
-  abbrev pub walk_on : ℕ → Option (Node T) → (Option ℕ → List (ℕ × T)) → List (ℕ × T)
-  walk_on p None rest = []
-  walk_on p (Some node) rest = (p, node.value) ∷ rest node.after
-
-  abbrev pub walk : (ℕ → Option (Node T)) → ℕ → Option ℕ → List (ℕ × T)
-  walk f zero at = []
-  walk f (suc n) None = []
-  walk f (suc n) (Some p) = walk_on p (f p) (λ a. walk f n a)
-
-  -- the nodes of these entries are linked in their order, between these two
-  abbrev pub IsChain : (ℕ → Option (Node T)) → ℕ → Option ℕ → List (ℕ × T) → Option ℕ → Type 0
-  IsChain f k before [] after = Unit {0}
-  IsChain f k before (e ∷ es) after =
-      (f e.0 ≡ Some (record { value = e.1; list = k; before = before; after = first_or es after }))
-      × IsChain f k (Some e.0) es after
-
   -- the list k, with its head and its tail
   pub record IsList (f : ℕ → Option (Node T)) (k : ℕ) (front back : Option ℕ) (l : List (ℕ × T)) : Type 0 where
     pub head : front ≡ first_or l None

@@ -6,7 +6,7 @@ use Rattle.foyer_policy.specs.contracts.lists.Lists.{the_row}
 
 -- the lists with another value at a place
 abbrev pub with_value_at : {T : Type 0} → Lists T → ℕ → T → Lists T
-with_value_at s p w = record { lists = map (with_value p w) s.lists; room = s.room }
+with_value_at s p w = record { lists = map (with_value p w) s.lists; room = s.room; span = s.span }
 
 -- once the borrow r ends, the place has the last value written through r
 abbrev pub lends_value : (T N : RattleType) → MutBor (Lists T.Denot) → ℕ → MutBor T.Denot → Fml

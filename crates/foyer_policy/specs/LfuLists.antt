@@ -7,11 +7,12 @@ use Rattle.foyer_policy.specs.Sketch.{Sketch, estimate_of}
 use Rattle.foyer_policy.specs.declared.types.Item.{Item}
 use Rattle.foyer_policy.specs.declared.types.Ratio.{Ratio}
 
--- what a contract sees of an `Lfu`: the lists window, probation and protected, the room, the limits with
+-- what a contract sees of an `Lfu`: the lists window, probation and protected, the room and the span, the limits with
 -- the ratios in use, and the sketch
 pub record LfuLists : Type 0 where
   pub lists : List (List (ℕ × Item))
   pub room : ℕ
+  pub span : ℕ
   pub window_limit : ℕ
   pub protected_limit : ℕ
   pub window_ratio : Ratio

@@ -6,6 +6,7 @@ pub mod Errors
 pub mod Fifo
 pub mod FifoLaws
 pub mod FitLaws
+pub mod Free
 pub mod GhostParts
 pub mod GhostQueue
 pub mod Hash
@@ -23,6 +24,7 @@ pub mod Looks
 pub mod Lru
 pub mod LruLaws
 pub mod LruLists
+pub mod Nodes
 pub mod PartLaws
 pub mod Policy
 pub mod PopTimes

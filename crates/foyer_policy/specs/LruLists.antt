@@ -8,10 +8,11 @@ use Rattle.foyer_policy.specs.declared.types.Ratio.{Ratio}
 use Rattle.foyer_policy.specs.declared.held.Held.{Held}
 use Rattle.foyer_policy.specs.declared.lru.LruState.{LruState}
 
--- what a contract sees of an `Lru`: the lists `low`, `high` and `pin`, the room, the limit and the ratio in use
+-- what a contract sees of an `Lru`: the lists `low`, `high` and `pin`, the room, the span, the limit and the ratio in use
 pub record LruLists : Type 0 where
   pub lists : List (List (ℕ × Held LruState))
   pub room : ℕ
+  pub span : ℕ
   pub limit : ℕ
   pub ratio : Ratio
 
@@ -46,15 +47,16 @@ pub record StatesTell (ls : List (List (ℕ × Held LruState))) : Type 0 where
   pub high : EachState (λ s. s ≡ state true false) (list_at ls 1)
   pub pin : EachState (λ s. s.pinned ≡ true) (list_at ls 2)
 
--- what holds of every `Lru`, with the weight of its pool of high priority and of what is pinned
-pub record IsLru (l : LruLists) (high_weight pinned_weight : ℕ) : Type 0 where
-  pub once : HasIdsOnce (lru.order (lru_view l))
-  pub fits : weight_of (lru.order (lru_view l)) < 2 ^ 64
-  pub within : IsWithinLimit (lru_view l)
-  pub tell : StatesTell l.lists
-  pub high : high_weight ≡ weight_of (lru_view l).high
-  pub pinned : pinned_weight ≡ weight_of (lru.pinned (lru_view l))
-  pub divides : 0 < l.ratio.den
+-- what holds of every `Lru` of these lists, with the weight of its pool of high priority and of what is pinned
+pub record IsLru (ls : List (List (ℕ × Held LruState))) (limit : ℕ) (ratio : Ratio) (high_weight pinned_weight : ℕ) :
+    Type 0 where
+  pub once : HasIdsOnce (lru.order (view_of ls limit ratio))
+  pub fits : weight_of (lru.order (view_of ls limit ratio)) < 2 ^ 64
+  pub within : IsWithinLimit (view_of ls limit ratio)
+  pub tell : StatesTell ls
+  pub high : high_weight ≡ weight_of (view_of ls limit ratio).high
+  pub pinned : pinned_weight ≡ weight_of (lru.pinned (view_of ls limit ratio))
+  pub divides : 0 < ratio.den
 
 -- what an entry weighs
 abbrev pub weight_at : (ℕ × Held LruState) → ℕ

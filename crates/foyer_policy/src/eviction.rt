@@ -1,6 +1,6 @@
 //! What every eviction policy offers to the cache above it.
 
-ghost use Rattle.std.specs.Prelude.{◌≡◌, ◌≢◌, ◌↔◌, ℕ, ◌+◌, ◌<◌, ◌≤◌, ◌^◌, Option, Some, None, Ok, Err, OnOk, OnErr, IfOk, IfErr, IfSome, IfNone, IsSome, IsTrue, IsOk};
+ghost use Rattle.std.specs.Prelude.{◌≡◌, ◌≢◌, ◌↔◌, ℕ, ◌+◌, ◌<◌, ◌≤◌, ◌^◌, Option, Some, None, Ok, Err, OnOk, OnErr, IfOk, IfErr, IfSome, IfNone, IsSome, IsTrue, IsOk, option_map};
 ghost use Rattle.std.specs.Option.{option_copied};
 ghost use Rattle.foyer_policy.specs.Items.{weight_of, count_of, find_id, IsNewIn};
 ghost use Rattle.foyer_policy.specs.Limit.{ok_unless};
@@ -40,6 +40,9 @@ pub trait Eviction: Drop {
     // for how many pushes there is room
     ghost room: { Self → ℕ };
 
+    // how many nodes there are, with items or free: each place is below it
+    ghost span: { Self → ℕ };
+
     // there is room for a `clear`
     ghost can_clear: { Self → Type 0 };
 
@@ -60,6 +63,7 @@ pub trait Eviction: Drop {
         ensures view { IfOk result (λ s. view s ≡ model.opening capacity config.now) }
         ensures places { IfOk result (λ s. (p : ℕ) → at s p ≡ None) }
         ensures looked { IfOk result (λ s. looked s ≡ 0) }
+        ensures span { IfOk result (λ s. span s ≡ 0) }
         ensures accepted { OnOk result (model.fault config.now ≡ None) }
         ensures refused { IfSome (model.fault config.now) (λ reason. result ≡ Err reason) }
         ensures memory { IfErr result (λ e. model.fault config.now ≡ None → e ≡ NoMemory) };
@@ -73,15 +77,18 @@ pub trait Eviction: Drop {
         ensures err { OnErr result (view self.new ≡ view self.old) }
         ensures places { (p : ℕ) → at self.new p ≡ at self.old p }
         ensures room { room self.old ≤ room self.new }
+        ensures span { span self.new ≡ span self.old }
         ensures looked { looked self.new ≡ looked self.old };
 
-    /// Makes room for one push. Only memory can be missing (F7); nothing else changes.
+    /// Makes room for one push, for which the span may grow. Only memory can be missing (F7); nothing else
+    /// changes.
     fn reserve(&mut self) -> Result<()>
         ensures room { OnOk result (0 < room self.new) }
         ensures refused { IfErr result (λ e. e ≡ NoMemory) }
         ensures view { view self.new ≡ view self.old }
         ensures places { (p : ℕ) → at self.new p ≡ at self.old p }
         ensures kept { room self.old ≤ room self.new }
+        ensures span { span self.old ≤ span self.new }
         ensures looked { looked self.new ≡ looked self.old };
 
     /// Takes an item in. It asks for reserved room, a new id, and that all weights in it fit a `usize`
@@ -93,7 +100,33 @@ pub trait Eviction: Drop {
         ensures view { view self.new ≡ model.push (view self.old) item }
         ensures here { at self.new result ≡ Some item }
         ensures was_free { at self.old result ≡ None }
+        ensures within { result < span self.new }
         ensures others { (p : ℕ) → p ≢ result → at self.new p ≡ at self.old p }
+        ensures span { span self.new ≡ span self.old }
+        ensures looked { looked self.new ≡ looked self.old };
+
+    /// Makes nodes until there are so many, and so a place for each number below `wanted`. Only memory can be
+    /// missing (F7); nothing else changes.
+    fn reserve_to(&mut self, wanted: usize) -> Result<()>
+        ensures enough { OnOk result (wanted ≤ span self.new) }
+        ensures refused { IfErr result (λ e. e ≡ NoMemory) }
+        ensures view { view self.new ≡ view self.old }
+        ensures places { (p : ℕ) → at self.new p ≡ at self.old p }
+        ensures room { room self.old ≤ room self.new }
+        ensures kept { span self.old ≤ span self.new }
+        ensures looked { looked self.new ≡ looked self.old };
+
+    /// Takes an item in at a place that the caller chooses: one below the span, where nothing stands. Else it
+    /// asks for what `push` asks; it takes no memory.
+    fn push_at(&mut self, place: Place, item: Item)
+        requires within { place < span self.old }
+        requires free { at self.old place ≡ None }
+        requires new_id { IsNewIn item.id (model.order (view self.old)) }
+        requires fits { item.weight + weight_of (model.order (view self.old)) < 2 ^ 64 }
+        ensures view { view self.new ≡ model.push (view self.old) item }
+        ensures here { at self.new place ≡ Some item }
+        ensures others { (p : ℕ) → p ≢ place → at self.new p ≡ at self.old p }
+        ensures span { span self.new ≡ span self.old }
         ensures looked { looked self.new ≡ looked self.old };
 
     /// Takes the victim out, or answers none where every item is pinned. Memory can be missing (F7) only
@@ -104,6 +137,23 @@ pub trait Eviction: Drop {
         ensures none { IfOk result (λ found. IfNone found ((p : ℕ) → at self.new p ≡ at self.old p)) }
         ensures looked { OnOk result (looked self.new ≡ model.looks (view self.old)) }
         ensures room { room self.old ≤ room self.new }
+        ensures span { span self.new ≡ span self.old }
+        ensures refused { IfErr result (λ e. e ≡ NoMemory) }
+        ensures granted { OnErr result (pop_wants_memory self.old) }
+        ensures err_view { OnErr result (view self.new ≡ view self.old) }
+        ensures err_places { OnErr result ((p : ℕ) → at self.new p ≡ at self.old p) }
+        ensures err_looked { OnErr result (looked self.new ≡ looked self.old) };
+
+    /// The same as `pop`, and it answers the place too at which the victim stood.
+    fn pop_at(&mut self) -> Result<Option<(Place, Item)>>
+        ensures stood { IfOk result (λ found. IfSome found (λ e. at self.old e.0 ≡ Some e.1)) }
+        ensures pops { IfOk result (λ found. Pops model (view self.old) (option_map (λ e. e.1) found) (view self.new)) }
+        ensures places { IfOk result (λ found. IfSome found (λ e. (p : ℕ)
+            → at self.new p ≡ without e.1.id (at self.old p))) }
+        ensures none { IfOk result (λ found. IfNone found ((p : ℕ) → at self.new p ≡ at self.old p)) }
+        ensures looked { OnOk result (looked self.new ≡ model.looks (view self.old)) }
+        ensures room { room self.old ≤ room self.new }
+        ensures span { span self.new ≡ span self.old }
         ensures refused { IfErr result (λ e. e ≡ NoMemory) }
         ensures granted { OnErr result (pop_wants_memory self.old) }
         ensures err_view { OnErr result (view self.new ≡ view self.old) }
@@ -118,6 +168,7 @@ pub trait Eviction: Drop {
         ensures view { view self.new ≡ model.remove (view self.old) result.id }
         ensures places { (p : ℕ) → at self.new p ≡ without result.id (at self.old p) }
         ensures room { room self.old ≤ room self.new }
+        ensures span { span self.new ≡ span self.old }
         ensures looked { looked self.new ≡ looked self.old };
 
     /// Makes room for a `clear`. Only memory can be missing (F7), and only where a `pop` may want some;
@@ -129,6 +180,7 @@ pub trait Eviction: Drop {
         ensures view { view self.new ≡ view self.old }
         ensures places { (p : ℕ) → at self.new p ≡ at self.old p }
         ensures kept { room self.old ≤ room self.new }
+        ensures span { span self.new ≡ span self.old }
         ensures looked { looked self.new ≡ looked self.old };
 
     /// Takes every item out. It asks for the room of `reserve_clear`, and takes no memory.
@@ -137,6 +189,7 @@ pub trait Eviction: Drop {
         ensures view { view self.new ≡ model.clear (view self.old) }
         ensures places { (p : ℕ) → at self.new p ≡ None }
         ensures room { room self.old ≤ room self.new }
+        ensures span { span self.new ≡ span self.old }
         ensures looked { looked self.new ≡ 0 };
 
     /// Tells the policy that the item at a place is used. It takes no memory.
@@ -145,6 +198,7 @@ pub trait Eviction: Drop {
         ensures view { IfSome (at self.old place) (λ i. view self.new ≡ model.acquire (view self.old) i.id) }
         ensures places { (p : ℕ) → at self.new p ≡ at self.old p }
         ensures room { room self.old ≤ room self.new }
+        ensures span { span self.new ≡ span self.old }
         ensures looked { looked self.new ≡ looked self.old };
 
     /// Tells the policy that the item at a place has no handle any more. It takes no memory.
@@ -153,7 +207,19 @@ pub trait Eviction: Drop {
         ensures view { IfSome (at self.old place) (λ i. view self.new ≡ model.release (view self.old) i.id) }
         ensures places { (p : ℕ) → at self.new p ≡ at self.old p }
         ensures room { room self.old ≤ room self.new }
+        ensures span { span self.new ≡ span self.old }
         ensures looked { looked self.new ≡ looked self.old };
+
+    /// How many nodes there are, with items or free. Every place is below it. `reserve` and `reserve_to` alone
+    /// raise it, and nothing lowers it.
+    fn span(&self) -> usize
+        ensures span { result ≡ span self.now }
+        ensures within { (p : ℕ) → IsSome (at self.now p) → p < span self.now };
+
+    /// The item at a place.
+    fn item(&self, place: Place) -> Item
+        requires { IsSome (at self.now place) }
+        ensures { at self.now place ≡ Some result };
 
     /// The items that are in, in the policy's order. Only memory can be missing (F7).
     fn order(&self) -> Result<Vec<Item>>

@@ -4,7 +4,7 @@ ghost use Rattle.std.specs.Prelude.{◌≡◌, [], ◌∷◌, map};
 
 use crate::error::{Error, Reason, Result};
 use crate::eviction::Eviction;
-use crate::held::append_items;
+use crate::held::{append_items, item_found};
 use crate::lists::{Lists, Place};
 use crate::types::Item;
 use serde::{Deserialize, Serialize};
@@ -63,6 +63,8 @@ impl Eviction for Fifo {
 
     ghost room = { λ f. f.room };
 
+    ghost span = { λ f. f.span };
+
     ghost can_clear = { λ f. Unit {0} };
 
     ghost pop_wants_memory = { λ f. ⊥ };
@@ -99,13 +101,33 @@ impl Eviction for Fifo {
     }
 
     #[inline(always)]
+    fn reserve_to(&mut self, wanted: usize) -> Result<()> {
+        match self.queue.reserve_to(wanted) {
+            Ok(()) => Ok(()),
+            Err(_) => Err(Error::new(Reason::NoMemory)),
+        }
+    }
+
+    #[inline(always)]
     fn push(&mut self, item: Item) -> Place {
-        self.queue.push_back(0, item)
+        let place = self.queue.next_place();
+        self.push_at(place, item);
+        place
+    }
+
+    #[inline(always)]
+    fn push_at(&mut self, place: Place, item: Item) {
+        self.queue.push_back_at(0, place, item);
     }
 
     #[inline(always)]
     fn pop(&mut self) -> Result<Option<Item>> {
-        Ok(self.queue.pop_front(0))
+        Ok(item_found(self.pop_at()?))
+    }
+
+    #[inline(always)]
+    fn pop_at(&mut self) -> Result<Option<(Place, Item)>> {
+        Ok(self.queue.pop_front_at(0))
     }
 
     #[inline(always)]
@@ -126,6 +148,16 @@ impl Eviction for Fifo {
 
     #[inline(always)]
     fn release(&mut self, _place: Place) {}
+
+    #[inline(always)]
+    fn span(&self) -> usize {
+        self.queue.span()
+    }
+
+    #[inline(always)]
+    fn item(&self, place: Place) -> Item {
+        *self.queue.get(place)
+    }
 
     fn order(&self) -> Result<Vec<Item>> {
         let mut items = Vec::new(self.alloc);

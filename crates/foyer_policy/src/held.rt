@@ -1,12 +1,12 @@
 //! Items under places, alone or each with what a policy keeps beside it.
 
-ghost use Rattle.std.specs.Prelude.{◌≡◌, ◌++◌, ◌<◌, IfErr, OnOk, map};
+ghost use Rattle.std.specs.Prelude.{◌≡◌, ◌++◌, ◌<◌, IfErr, OnOk, map, option_map};
 ghost use Rattle.foyer_policy.specs.Lists.{list_at};
 ghost use Rattle.foyer_policy.specs.declared.types.Item.{Item};
 ghost use Rattle.foyer_policy.specs.declared.error.Reason.TheVariants.{NoMemory};
 
 use crate::error::{Error, Reason, Result};
-use crate::lists::Lists;
+use crate::lists::{Lists, Place};
 use crate::types::Item;
 
 /// A value of a list that holds an item.
@@ -39,6 +39,15 @@ impl<S> HasItem for Held<S> {
     fn item(&self) -> Item {
         self.item
     }
+}
+
+/// The item that was found at a place, alone.
+#[inline(always)]
+pub(crate) fn item_found(found: Option<(Place, Item)>) -> Option<Item>
+    ensures { result ≡ option_map (λ e. e.1) found }
+{
+    let (_, item) = found?;
+    Some(item)
 }
 
 /// Appends the items of a list, first to last. Only memory can be missing (F7).

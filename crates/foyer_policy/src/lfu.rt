@@ -8,7 +8,7 @@ mod segments;
 
 use crate::error::{Error, Field, Reason, Result};
 use crate::eviction::Eviction;
-use crate::held::append_items;
+use crate::held::{append_items, item_found};
 use crate::limit::{Range, check_ratio, limit_of};
 use crate::lists::{Lists, Place};
 use crate::sketch::Sketch;
@@ -103,6 +103,7 @@ impl Model for Lfu {
     ghost view = { λ l. record {
       lists = l.lists.lists;
       room = l.lists.room;
+      span = l.lists.span;
       window_limit = l.window_limit;
       protected_limit = l.protected_limit;
       window_ratio = l.window_ratio;
@@ -114,6 +115,7 @@ impl Model for Lfu {
         (lfu_view (record {
           lists = l.lists.lists;
           room = l.lists.room;
+          span = l.lists.span;
           window_limit = l.window_limit;
           protected_limit = l.protected_limit;
           window_ratio = l.window_ratio;
@@ -143,6 +145,8 @@ impl Eviction for Lfu {
     ghost at = { λ l p. find p l.lists };
 
     ghost room = { λ l. l.room };
+
+    ghost span = { λ l. l.span };
 
     ghost can_clear = { λ l. Unit {0} };
 
@@ -201,22 +205,39 @@ impl Eviction for Lfu {
         self.lists.reserve(1)
     }
 
+    #[inline(always)]
+    fn reserve_to(&mut self, wanted: usize) -> Result<()> {
+        self.lists.reserve_to(wanted)
+    }
+
+    #[inline(always)]
     fn push(&mut self, item: Item) -> Place {
-        self.sketch.update(item.hash);
-        let place = self.lists.push_back(WINDOW, item);
-        let weight = self.window_weight + item.weight;
-        self.window_weight = settle(&mut self.lists, WINDOW, weight, self.window_limit);
+        let place = self.lists.next_place();
+        self.push_at(place, item);
         place
     }
 
+    fn push_at(&mut self, place: Place, item: Item) {
+        self.sketch.update(item.hash);
+        self.lists.push_back_at(WINDOW, place, item);
+        let weight = self.window_weight + item.weight;
+        self.window_weight = settle(&mut self.lists, WINDOW, weight, self.window_limit);
+    }
+
+    #[inline(always)]
     fn pop(&mut self) -> Result<Option<Item>> {
+        Ok(item_found(self.pop_at()?))
+    }
+
+    fn pop_at(&mut self) -> Result<Option<(Place, Item)>> {
         let list = next_list(&self.lists, &self.sketch);
-        let Some(item) = self.lists.pop_front(list) else {
+        let Some(found) = self.lists.pop_front_at(list) else {
             return Ok(None);
         };
+        let item = found.1;
         self.window_weight -= weight_if(list == WINDOW, item.weight);
         self.protected_weight -= weight_if(list == PROTECTED, item.weight);
-        Ok(Some(item))
+        Ok(Some(found))
     }
 
     #[inline(always)]
@@ -256,6 +277,16 @@ impl Eviction for Lfu {
 
     #[inline(always)]
     fn release(&mut self, _place: Place) {}
+
+    #[inline(always)]
+    fn span(&self) -> usize {
+        self.lists.span()
+    }
+
+    #[inline(always)]
+    fn item(&self, place: Place) -> Item {
+        *self.lists.get(place)
+    }
 
     fn order(&self) -> Result<Vec<Item>> {
         let mut items = Vec::new(self.alloc);

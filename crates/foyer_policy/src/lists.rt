@@ -1,7 +1,7 @@
 //! Linked lists of values over one block of nodes.
 
 ghost use Rattle.std.specs.Prelude.{◌≡◌, ◌≢◌, ℕ, ◌+◌, ◌^◌, ◌<◌, ◌≤◌, ◌∷◌, ◌++◌, [], Some, None, OnOk, OnErr, IfErr, IfSome, IsOk, IsSome, length, map, sum_by, slice_set, if◌then◌else◌, replicate, is_some};
-ghost use Rattle.foyer_policy.specs.Lists.{list_at, first_or, find, find_in, first_value, rest, drop_place, moved, AreLists};
+ghost use Rattle.foyer_policy.specs.Lists.{list_at, first_entry, first_or, find, find_in, first_value, rest, drop_place, moved, AreLists};
 
 use crate::error::{Error, Reason, Result};
 use crate::link::Link;
@@ -12,30 +12,19 @@ use std::marker::Model;
 
 pub(crate) mod arena;
 pub(crate) mod block;
+pub(crate) mod free;
 pub(crate) mod linking;
+mod place;
 
-/// Names a value of a [`Lists`] while it is in.
-#[derive(Clone, Copy, Debug, PartialEq, Eq, Hash)]
-pub struct Place {
-    node: usize,
-}
-
-impl Model for Place {
-    ghost use Rattle.std.specs.Prelude.{ℕ};
-
-    ghost Value = { ℕ };
-
-    ghost view = { λ p. p.node };
-
-    ghost inverse = { λ n. record { node = n } };
-}
+pub use place::Place;
 
 /// `N` lists of values, numbered from 0.
 ///
 /// Each value has a place, by which it is read, moved and taken out in constant time. It keeps its
 /// place while it is in, also where it moves to another list; the place may be given again once the
-/// value is out. Only `reserve` takes memory: a value that comes in takes a room that was reserved,
-/// and gives it back when it leaves.
+/// value is out. The lists choose the place of a value that comes in, or the caller does. Only `reserve`
+/// and `reserve_to` take memory: a value that comes in takes a room that was reserved, and gives it back
+/// when it leaves. Each place is below the span, which these two alone raise.
 pub struct Lists<T, const N: usize> {
     nodes: Arena<T, N>,
     heads: [Link; N],
@@ -53,6 +42,7 @@ impl<T, const N: usize> Model for Lists<T, N> {
     ghost view = { λ l. record {
       lists = lists_of l.nodes l.heads;
       room = l.nodes.len - l.nodes.used;
+      span = l.nodes.len;
     } };
 
     ghost invariant = { λ l. IsSound l.nodes l.heads l.tails };
@@ -66,6 +56,7 @@ impl<T, const N: usize> Lists<T, N> {
     pub fn new(alloc: Global) -> Self
         ensures lists { result.lists ≡ replicate N [] }
         ensures room { result.room ≡ 0 }
+        ensures span { result.span ≡ 0 }
         ensures apart { AreLists N result.lists }
     {
         Lists {
@@ -75,17 +66,18 @@ impl<T, const N: usize> Lists<T, N> {
         }
     }
 
-    /// Makes room for `more` values beside those that are in. No other call takes memory.
+    /// Makes room for `more` values beside those that are in. Only this call and `reserve_to` take memory.
     ///
     /// # Errors
     ///
     /// [`Reason::NoMemory`] where the room is still less than `more`. The lists are as they were,
-    /// and the room is not less.
+    /// and neither the room nor the span is less.
     #[inline(always)]
     pub fn reserve(&mut self, more: usize) -> Result<()>
         ensures room { OnOk result (more ≤ self.new.room) }
         ensures lists { self.new.lists ≡ self.old.lists }
         ensures kept { self.old.room ≤ self.new.room }
+        ensures span { self.old.span ≤ self.new.span }
 
         // It is refused only where the room is less, and so never where there was room.
         ensures refused { IfErr result (λ e. e ≡ Reason.NoMemory) }
@@ -101,6 +93,74 @@ impl<T, const N: usize> Lists<T, N> {
         }
     }
 
+    /// Makes nodes until there are so many, and so a place for each number below `wanted`.
+    ///
+    /// # Errors
+    ///
+    /// [`Reason::NoMemory`] where the span is still less than `wanted`. The lists are as they were, and
+    /// neither the room nor the span is less.
+    #[inline(always)]
+    pub fn reserve_to(&mut self, wanted: usize) -> Result<()>
+        ensures enough { OnOk result (wanted ≤ self.new.span) }
+        ensures lists { self.new.lists ≡ self.old.lists }
+        ensures kept { self.old.room ≤ self.new.room }
+        ensures span { self.old.span ≤ self.new.span }
+
+        // It is refused only where the span is less, and so never where it was enough.
+        ensures refused { IfErr result (λ e. e ≡ Reason.NoMemory) }
+        ensures lacking { OnErr result (self.new.span < wanted) }
+        ensures had_span { wanted ≤ self.old.span → IsOk result }
+
+        ensures small { sum_by length self.old.lists < 2 ^ 64 }
+        ensures apart { AreLists N self.old.lists }
+    {
+        match self.nodes.reserve_to(wanted) {
+            Ok(()) => Ok(()),
+            Err(_) => Err(Error::new(Reason::NoMemory)),
+        }
+    }
+
+    /// The place that `push_back` would give: the one that was given back last, or else the least that
+    /// was never given. A room must be reserved.
+    #[inline(always)]
+    pub fn next_place(&self) -> Place
+        requires { 0 < self.now.room }
+        ensures free { find result self.now.lists ≡ None }
+        ensures within { result < self.now.span }
+        ensures apart { AreLists N self.now.lists }
+    {
+        let Lists { nodes, .. } = self;
+        Place {
+            node: nodes.first_free(),
+        }
+    }
+
+    /// Puts a value at the end of a list, at a place that the caller chooses: one below the span, where
+    /// nothing stands. `list` is below `N`.
+    #[inline(always)]
+    pub fn push_back_at(&mut self, list: usize, place: Place, value: T)
+        requires list { list < N }
+        requires within { place < self.old.span }
+        requires free { find place self.old.lists ≡ None }
+        ensures lists { self.new.lists
+            ≡ slice_set self.old.lists list (list_at self.old.lists list ++ (place, value) ∷ []) }
+        ensures room { self.new.room + 1 ≡ self.old.room }
+        ensures span { self.new.span ≡ self.old.span }
+        ensures here { find place self.new.lists ≡ Some value }
+        ensures others { (q : ℕ) → q ≢ place → find q self.new.lists ≡ find q self.old.lists }
+        ensures small { sum_by length self.new.lists < 2 ^ 64 }
+        ensures apart { AreLists N self.old.lists }
+    {
+        link_back(
+            &mut self.nodes,
+            &mut self.heads,
+            &mut self.tails,
+            list,
+            place.node,
+            value,
+        );
+    }
+
     /// Puts a value at the end of a list, and answers its place. `list` is below `N`, and a room
     /// must be reserved, which the value takes.
     #[inline(always)]
@@ -110,20 +170,17 @@ impl<T, const N: usize> Lists<T, N> {
         ensures lists { self.new.lists
             ≡ slice_set self.old.lists list (list_at self.old.lists list ++ (result, value) ∷ []) }
         ensures room { self.new.room + 1 ≡ self.old.room }
+        ensures within { result < self.old.span }
+        ensures span { self.new.span ≡ self.old.span }
         ensures free { find result self.old.lists ≡ None }
         ensures here { find result self.new.lists ≡ Some value }
         ensures others { (q : ℕ) → q ≢ result → find q self.new.lists ≡ find q self.old.lists }
         ensures small { sum_by length self.new.lists < 2 ^ 64 }
         ensures apart { AreLists N self.old.lists }
     {
-        let node = link_back(
-            &mut self.nodes,
-            &mut self.heads,
-            &mut self.tails,
-            list,
-            value,
-        );
-        Place { node }
+        let place = self.next_place();
+        self.push_back_at(list, place, value);
+        place
     }
 
     /// Takes the first value of a list out, where there is one, and gives its room back. `list` is
@@ -135,13 +192,38 @@ impl<T, const N: usize> Lists<T, N> {
         ensures lists { self.new.lists
             ≡ slice_set self.old.lists list (rest (list_at self.old.lists list)) }
         ensures room { self.new.room ≡ self.old.room + (if is_some result then 1 else 0) }
+        ensures span { self.new.span ≡ self.old.span }
+        ensures others { (q : ℕ) → first_or (list_at self.old.lists list) None ≢ Some q
+            → find q self.new.lists ≡ find q self.old.lists }
+        ensures small { sum_by length self.old.lists < 2 ^ 64 }
+        ensures apart { AreLists N self.old.lists }
+    {
+        let (_, value) = self.pop_front_at(list)?;
+        Some(value)
+    }
+
+    /// Takes the first value of a list out, where there is one, and answers it with the place that it
+    /// had. `list` is below `N`.
+    #[inline(always)]
+    pub fn pop_front_at(&mut self, list: usize) -> Option<(Place, T)>
+        requires { list < N }
+        ensures entry { result ≡ first_entry (list_at self.old.lists list) }
+        ensures there { IfSome result (λ e. find e.0 self.old.lists ≡ Some e.1) }
+        ensures gone { IfSome result (λ e. find e.0 self.new.lists ≡ None) }
+        ensures lists { self.new.lists
+            ≡ slice_set self.old.lists list (rest (list_at self.old.lists list)) }
+        ensures room { self.new.room ≡ self.old.room + (if is_some result then 1 else 0) }
+        ensures span { self.new.span ≡ self.old.span }
         ensures others { (q : ℕ) → first_or (list_at self.old.lists list) None ≢ Some q
             → find q self.new.lists ≡ find q self.old.lists }
         ensures small { sum_by length self.old.lists < 2 ^ 64 }
         ensures apart { AreLists N self.old.lists }
     {
         match self.heads[list].place() {
-            Some(node) => Some(take_out(&mut self.nodes, &mut self.heads, &mut self.tails, node)),
+            Some(node) => {
+                let value = take_out(&mut self.nodes, &mut self.heads, &mut self.tails, node);
+                Some((Place { node }, value))
+            }
             None => None,
         }
     }
@@ -154,6 +236,7 @@ impl<T, const N: usize> Lists<T, N> {
         ensures value { find place self.old.lists ≡ Some result }
         ensures lists { self.new.lists ≡ map (drop_place place) self.old.lists }
         ensures room { self.new.room ≡ self.old.room + 1 }
+        ensures span { self.new.span ≡ self.old.span }
         ensures gone { find place self.new.lists ≡ None }
         ensures others { (q : ℕ) → q ≢ place → find q self.new.lists ≡ find q self.old.lists }
         ensures small { sum_by length self.old.lists < 2 ^ 64 }
@@ -175,6 +258,7 @@ impl<T, const N: usize> Lists<T, N> {
         requires there { IsSome (find place self.old.lists) }
         ensures lists { self.new.lists ≡ moved place list self.old.lists }
         ensures room { self.new.room ≡ self.old.room }
+        ensures span { self.new.span ≡ self.old.span }
         ensures places { (q : ℕ) → find q self.new.lists ≡ find q self.old.lists }
         ensures small { sum_by length self.old.lists < 2 ^ 64 }
         ensures apart { AreLists N self.old.lists }
@@ -256,6 +340,16 @@ impl<T, const N: usize> Lists<T, N> {
     {
         let base = self.nodes.base;
         self.nodes.nodes.get_mut(base, place.node)
+    }
+
+    /// How many nodes there are, with values or free. Each place is below it.
+    #[inline(always)]
+    pub fn span(&self) -> usize
+        ensures span { result ≡ self.now.span }
+        ensures within { (q : ℕ) → IsSome (find q self.now.lists) → q < self.now.span }
+    {
+        let Lists { nodes, .. } = self;
+        nodes.len
     }
 
     // The number of lists.

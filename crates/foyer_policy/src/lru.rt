@@ -1,6 +1,6 @@
 //! Least recently used, with a pool of high priority and with pins.
 
-ghost use Rattle.std.specs.Prelude.{◌≡◌, ◌≤◌, ℕ, IfNone, IfOk, IfSome, IsOk};
+ghost use Rattle.std.specs.Prelude.{◌≡◌, ◌≤◌, ℕ, Some, IfNone, IfOk, IfSome, IsOk, option_map};
 ghost use Rattle.foyer_policy.specs.Items.{IsNewIn, weight_of};
 ghost use Rattle.foyer_policy.specs.Lru.{IsWithinLimit};
 ghost use Rattle.foyer_policy.specs.Policy.{Pops, without};
@@ -9,7 +9,7 @@ mod pools;
 
 use crate::error::{Error, Field, Reason, Result};
 use crate::eviction::Eviction;
-use crate::held::{Held, append_items};
+use crate::held::{Held, append_items, item_found};
 use crate::limit::{Range, check_ratio, limit_of};
 use crate::lists::{Lists, Place};
 use crate::types::{Hint, Item, Ratio};
@@ -72,14 +72,12 @@ impl Model for Lru {
     ghost view = { λ l. record {
       lists = l.lists.lists;
       room = l.lists.room;
+      span = l.lists.span;
       limit = l.limit;
       ratio = l.ratio;
     } };
 
-    ghost invariant = { λ l. IsLru
-        (record { lists = l.lists.lists; room = l.lists.room; limit = l.limit; ratio = l.ratio })
-        l.high_weight
-        l.pinned_weight };
+    ghost invariant = { λ l. IsLru l.lists.lists l.limit l.ratio l.high_weight l.pinned_weight };
 }
 
 impl Lru {
@@ -113,6 +111,8 @@ impl Eviction for Lru {
     ghost at = { λ l p. held_at p l.lists };
 
     ghost room = { λ l. l.room };
+
+    ghost span = { λ l. l.span };
 
     ghost can_clear = { λ l. Unit {0} };
 
@@ -164,7 +164,19 @@ impl Eviction for Lru {
     }
 
     #[inline(always)]
+    fn reserve_to(&mut self, wanted: usize) -> Result<()> {
+        self.lists.reserve_to(wanted)
+    }
+
+    #[inline(always)]
     fn push(&mut self, item: Item) -> Place {
+        let place = self.lists.next_place();
+        self.push_at(place, item);
+        place
+    }
+
+    #[inline(always)]
+    fn push_at(&mut self, place: Place, item: Item) {
         // A push pins nothing.
         let pinned = false;
         match item.hint {
@@ -173,14 +185,13 @@ impl Eviction for Lru {
                     high: false,
                     pinned,
                 };
-                self.lists.push_back(LOW, Held { item, state })
+                self.lists.push_back_at(LOW, place, Held { item, state });
             }
             Hint::Normal => {
                 let state = LruState { high: true, pinned };
-                let place = self.lists.push_back(HIGH, Held { item, state });
+                self.lists.push_back_at(HIGH, place, Held { item, state });
                 let weight = self.high_weight + item.weight;
                 self.high_weight = settle(&mut self.lists, weight, self.limit);
-                place
             }
         }
     }
@@ -198,15 +209,36 @@ impl Eviction for Lru {
             → held_at p self.new.lists ≡ without i.id (held_at p self.old.lists))) }
         ensures none { IfOk result (λ found. IfNone found ((p : ℕ) → held_at p self.new.lists ≡ held_at p self.old.lists)) }
         ensures room { self.old.room ≤ self.new.room }
+        ensures span { self.new.span ≡ self.old.span }
     {
-        if let Some(node) = self.lists.pop_front(LOW) {
-            return Ok(Some(node.item));
+        Ok(item_found(self.pop_at()?))
+    }
+
+    /// The same as `pop`, and it answers the place too at which the victim stood.
+    #[inline(always)]
+    fn pop_at(&mut self) -> Result<Option<(Place, Item)>>
+        ensures ok { IsOk result }
+        ensures unpinned { IfOk result (λ found. IfSome found (λ e. IsNewIn e.1.id (lru.pinned (lru_view self.old)))) }
+
+        // and what every policy ensures
+        ensures stood { IfOk result (λ found. IfSome found (λ e. held_at e.0 self.old.lists ≡ Some e.1)) }
+        ensures pops { IfOk result (λ found.
+            Pops lru (lru_view self.old) (option_map (λ e. e.1) found) (lru_view self.new)) }
+        ensures places { IfOk result (λ found. IfSome found (λ e. (p : ℕ)
+            → held_at p self.new.lists ≡ without e.1.id (held_at p self.old.lists))) }
+        ensures none { IfOk result (λ found. IfNone found ((p : ℕ)
+            → held_at p self.new.lists ≡ held_at p self.old.lists)) }
+        ensures room { self.old.room ≤ self.new.room }
+        ensures span { self.new.span ≡ self.old.span }
+    {
+        if let Some(found) = self.lists.pop_front_at(LOW) {
+            return Ok(Some((found.0, found.1.item)));
         }
-        let Some(node) = self.lists.pop_front(HIGH) else {
+        let Some(found) = self.lists.pop_front_at(HIGH) else {
             return Ok(None);
         };
-        self.high_weight -= node.item.weight;
-        Ok(Some(node.item))
+        self.high_weight -= found.1.item.weight;
+        Ok(Some((found.0, found.1.item)))
     }
 
     #[inline(always)]
@@ -267,6 +299,16 @@ impl Eviction for Lru {
         relist(&mut self.lists, place, unpinned, HIGH);
         let weight = self.high_weight + item.weight;
         self.high_weight = settle(&mut self.lists, weight, self.limit);
+    }
+
+    #[inline(always)]
+    fn span(&self) -> usize {
+        self.lists.span()
+    }
+
+    #[inline(always)]
+    fn item(&self, place: Place) -> Item {
+        self.lists.get(place).item
     }
 
     fn order(&self) -> Result<Vec<Item>> {

@@ -1,6 +1,6 @@
 //! S3-FIFO: a small and a main queue, and a ghost queue that remembers what left the small one.
 
-ghost use Rattle.std.specs.Prelude.{◌≡◌, ℕ, ◌+◌, ◌*◌, ◌<◌, ◌≤◌, Some, None, Option, IfNone, IfOk, IfErr, OnOk, OnErr, min, length};
+ghost use Rattle.std.specs.Prelude.{◌≡◌, ℕ, ◌+◌, ◌*◌, ◌<◌, ◌≤◌, Some, None, Option, option_map, IfNone, IfSome, IfOk, IfErr, OnOk, OnErr, min, length};
 ghost use Rattle.foyer_policy.specs.GhostQueue.{ghost_of};
 ghost use Rattle.foyer_policy.specs.Policy.{Pops};
 ghost use Rattle.foyer_policy.specs.S3Fifo.{s3fifo, s3fifo_looks};
@@ -12,7 +12,7 @@ mod queues;
 use crate::error::{Error, Field, Reason, Result};
 use crate::eviction::Eviction;
 use crate::ghost_queue::GhostQueue;
-use crate::held::{Held, append_items};
+use crate::held::{Held, append_items, item_found};
 use crate::limit::{Range, check_ratio, limit_of};
 use crate::lists::{Lists, Place};
 use crate::types::{Item, Ratio};
@@ -95,15 +95,17 @@ impl Model for S3Fifo {
 }
 
 impl S3Fifo {
-    // Takes the victim out, for which the ghost queue has room.
-    fn pop_reserved(&mut self) -> Option<Item>
+    // Takes the victim out, for which the ghost queue has room, and answers it with the place that it had.
+    fn pop_reserved(&mut self) -> Option<(Place, Item)>
         requires room { HasRoomToPop self.old }
-        ensures pops { Pops s3fifo (view_of self.old) result (view_of self.new) }
-        ensures places { PlacesAfter result self.old.nodes.lists self.new.nodes.lists }
+        ensures stood { IfSome result (λ e. item_at self.old.nodes.lists e.0 ≡ Some e.1) }
+        ensures pops { Pops s3fifo (view_of self.old) (option_map (λ e. e.1) result) (view_of self.new) }
+        ensures places { PlacesAfter (option_map (λ e. e.1) result) self.old.nodes.lists self.new.nodes.lists }
         ensures none { IfNone result ((p : ℕ) → item_at self.new.nodes.lists p ≡ None) }
         ensures looked { self.new.looks ≡ s3fifo_looks (view_of self.old) }
         ensures few { self.new.looks ≤ 4 * length (s3fifo.order (view_of self.old)) }
         ensures room { self.old.nodes.room ≤ self.new.nodes.room }
+        ensures span { self.new.nodes.span ≡ self.old.nodes.span }
         ensures ghost_room { self.old.ghost.room ≤ self.new.ghost.room + 1 }
         ensures ghost_capacity { self.new.ghost.capacity ≡ self.old.ghost.capacity }
     {
@@ -117,7 +119,7 @@ impl S3Fifo {
         match victim {
             Some(victim) => {
                 self.looks = victim.looks;
-                Some(victim.item)
+                Some((victim.at, victim.item))
             }
             None => {
                 self.looks = 0;
@@ -146,6 +148,8 @@ impl Eviction for S3Fifo {
     ghost at = { λ s p. item_at s.nodes.lists p };
 
     ghost room = { λ s. s.nodes.room };
+
+    ghost span = { λ s. s.nodes.span };
 
     ghost can_clear = { CanClear };
 
@@ -204,17 +208,30 @@ impl Eviction for S3Fifo {
     }
 
     #[inline(always)]
+    fn reserve_to(&mut self, wanted: usize) -> Result<()> {
+        self.queues.reserve_to(wanted)
+    }
+
+    #[inline(always)]
     fn push(&mut self, item: Item) -> Place {
+        let place = self.queues.next_place();
+        self.push_at(place, item);
+        place
+    }
+
+    #[inline(always)]
+    fn push_at(&mut self, place: Place, item: Item) {
         let is_main = self.ghost_queue.contains(item.hash);
         let state = S3FifoState {
             is_main,
             ..S3FifoState::default()
         };
         if is_main {
-            return self.queues.push_back(MAIN, Held { item, state });
+            self.queues.push_back_at(MAIN, place, Held { item, state });
+            return;
         }
         self.small_weight += item.weight;
-        self.queues.push_back(SMALL, Held { item, state })
+        self.queues.push_back_at(SMALL, place, Held { item, state });
     }
 
     fn pop(&mut self) -> Result<Option<Item>>
@@ -225,6 +242,29 @@ impl Eviction for S3Fifo {
         ensures places { IfOk result (λ found. PlacesAfter found self.old.nodes.lists self.new.nodes.lists) }
         ensures looked { OnOk result (self.new.looks ≡ s3fifo_looks (view_of self.old)) }
         ensures room { self.old.nodes.room ≤ self.new.nodes.room }
+        ensures span { self.new.nodes.span ≡ self.old.nodes.span }
+        ensures refused { IfErr result (λ e. e ≡ NoMemory) }
+        ensures granted { OnErr result (WantsMemory self.old) }
+        ensures err_view { OnErr result (view_of self.new ≡ view_of self.old) }
+        ensures err_places { OnErr result ((p : ℕ) → item_at self.new.nodes.lists p ≡ item_at self.old.nodes.lists p) }
+        ensures err_looked { OnErr result (self.new.looks ≡ self.old.looks) }
+    {
+        Ok(item_found(self.pop_at()?))
+    }
+
+    /// The same as `pop`, and it answers the place too at which the victim stood.
+    fn pop_at(&mut self) -> Result<Option<(Place, Item)>>
+        ensures few { OnOk result (self.new.looks ≤ 4 * length (s3fifo.order (view_of self.old))) }
+
+        // and what every policy ensures
+        ensures stood { IfOk result (λ found. IfSome found (λ e. item_at self.old.nodes.lists e.0 ≡ Some e.1)) }
+        ensures pops { IfOk result (λ found.
+            Pops s3fifo (view_of self.old) (option_map (λ e. e.1) found) (view_of self.new)) }
+        ensures places { IfOk result (λ found.
+            PlacesAfter (option_map (λ e. e.1) found) self.old.nodes.lists self.new.nodes.lists) }
+        ensures looked { OnOk result (self.new.looks ≡ s3fifo_looks (view_of self.old)) }
+        ensures room { self.old.nodes.room ≤ self.new.nodes.room }
+        ensures span { self.new.nodes.span ≡ self.old.nodes.span }
         ensures refused { IfErr result (λ e. e ≡ NoMemory) }
         ensures granted { OnErr result (WantsMemory self.old) }
         ensures err_view { OnErr result (view_of self.new ≡ view_of self.old) }
@@ -267,6 +307,16 @@ impl Eviction for S3Fifo {
 
     #[inline(always)]
     fn release(&mut self, _place: Place) {}
+
+    #[inline(always)]
+    fn span(&self) -> usize {
+        self.queues.span()
+    }
+
+    #[inline(always)]
+    fn item(&self, place: Place) -> Item {
+        self.queues.get(place).item
+    }
 
     fn order(&self) -> Result<Vec<Item>> {
         let mut items = Vec::new(self.alloc);

@@ -1,6 +1,6 @@
 //! Sieve: one queue, a visited bit for each record, and a hand that looks for an unvisited one.
 
-ghost use Rattle.std.specs.Prelude.{◌≡◌, ◌≢◌, ℕ, false, ◌+◌, ◌<◌, ◌≤◌, ◌^◌, [], ◌∷◌, ◌++◌, List, Some, None, IfSome, IfNone, IfOk, IsSome, IsOk, map, length, sum_by};
+ghost use Rattle.std.specs.Prelude.{◌≡◌, ◌≢◌, ℕ, false, ◌+◌, ◌<◌, ◌≤◌, ◌^◌, [], ◌∷◌, ◌++◌, List, Some, None, IfSome, IfNone, IfOk, IsSome, IsOk, map, length, option_map, sum_by};
 ghost use Rattle.foyer_policy.specs.Lists.{list_at, find, first_or, with_value, AreLists};
 ghost use Rattle.foyer_policy.specs.Items.{HasIdsOnce};
 ghost use Rattle.foyer_policy.specs.Policy.{Pops, without};
@@ -10,7 +10,7 @@ ghost use Rattle.foyer_policy.specs.SieveQueue.{view_of, entry, entries, entry_i
 
 use crate::error::{Error, Reason, Result};
 use crate::eviction::Eviction;
-use crate::held::{Held, append_items};
+use crate::held::{Held, append_items, item_found};
 use crate::lists::{Lists, Place};
 use crate::types::Item;
 use serde::{Deserialize, Serialize};
@@ -29,10 +29,11 @@ pub struct SieveState {
 
 type Node = Held<SieveState>;
 
-// What a pop took out, where the hand goes, and how many bits it read.
+// What a pop took out, the place that it had, where the hand goes, and how many bits it read.
 #[derive(Drop)]
 struct Victim {
     item: Item,
+    at: Place,
     hand: Option<Place>,
     looks: u128,
 }
@@ -72,6 +73,7 @@ fn take_bit(queue: &mut Lists<Node, 1>, place: Place, looks: &mut u128) -> bool
     ensures cleared { IfSome (find place queue.old.lists) (λ n. queue.new.lists
         ≡ map (with_value place (record { item = n.item; state = record { visited = false } })) queue.old.lists) }
     ensures room { queue.new.room ≡ queue.old.room }
+    ensures span { queue.new.span ≡ queue.old.span }
     ensures counted { looks.new ≡ looks.old + 1 }
 {
     let node = queue.get_mut(place);
@@ -104,10 +106,12 @@ fn take_victim(queue: &mut Lists<Node, 1>, start: Place) -> Victim
     requires apart { AreLists 1 queue.old.lists }
     ensures turned { (xs ys : _) (n : _) → list_at queue.old.lists 0 ≡ xs ++ (start, n) ∷ ys
         → IsTurn (entries xs) (entries ((start, n) ∷ ys)) (list_at queue.new.lists 0) result.item result.hand result.looks }
+    ensures stood { item_at queue.old.lists result.at ≡ Some result.item }
     ensures there { IfSome result.hand (λ p. IsSome (find p queue.new.lists)) }
     ensures apart { AreLists 1 queue.new.lists }
     ensures places { (p : ℕ) → item_at queue.new.lists p ≡ without result.item.id (item_at queue.old.lists p) }
     ensures room { queue.old.room ≤ queue.new.room }
+    ensures span { queue.new.span ≡ queue.old.span }
 {
     let mut looks: u128 = 0;
     let mut at = start;
@@ -116,7 +120,12 @@ fn take_victim(queue: &mut Lists<Node, 1>, start: Place) -> Victim
     }
     let hand = queue.next(at);
     let item = queue.remove(at).item;
-    Victim { item, hand, looks }
+    Victim {
+        item,
+        at,
+        hand,
+        looks,
+    }
 }
 
 // The hand, once the node at this place goes.
@@ -147,6 +156,8 @@ impl Eviction for Sieve {
     ghost at = { λ s p. item_at s.nodes.lists p };
 
     ghost room = { λ s. s.nodes.room };
+
+    ghost span = { λ s. s.nodes.span };
 
     ghost can_clear = { λ s. Unit {0} };
 
@@ -186,14 +197,30 @@ impl Eviction for Sieve {
     }
 
     #[inline(always)]
+    fn reserve_to(&mut self, wanted: usize) -> Result<()> {
+        match self.queue.reserve_to(wanted) {
+            Ok(()) => Ok(()),
+            Err(_) => Err(Error::new(Reason::NoMemory)),
+        }
+    }
+
+    #[inline(always)]
     fn push(&mut self, item: Item) -> Place {
-        self.queue.push_back(
+        let place = self.queue.next_place();
+        self.push_at(place, item);
+        place
+    }
+
+    #[inline(always)]
+    fn push_at(&mut self, place: Place, item: Item) {
+        self.queue.push_back_at(
             0,
+            place,
             Node {
                 item,
                 state: SieveState::default(),
             },
-        )
+        );
     }
 
     /// Takes the first unvisited record of the rotation from the hand out, or else the first of the
@@ -210,16 +237,44 @@ impl Eviction for Sieve {
         ensures none { IfOk result (λ found. IfNone found ((p : ℕ) → item_at self.new.nodes.lists p ≡ item_at self.old.nodes.lists p)) }
         ensures looked { self.new.looks ≡ (sieve SieveConfig).looks (view_of self.old) }
         ensures room { self.old.nodes.room ≤ self.new.nodes.room }
+        ensures span { self.new.nodes.span ≡ self.old.nodes.span }
+    {
+        Ok(item_found(self.pop_at()?))
+    }
+
+    /// The same as `pop`, and it answers the place too at which the victim stood.
+    fn pop_at(&mut self) -> Result<Option<(Place, Item)>>
+        ensures ok { IsOk result }
+        ensures first { IfOk result (λ found. option_map (λ e. e.1) found
+            ≡ unvisited_or_first (rotation (view_of self.old))) }
+        ensures few { self.new.looks ≤ length ((sieve SieveConfig).order (view_of self.old)) + 1 }
+
+        // and what every policy ensures
+        ensures stood { IfOk result (λ found. IfSome found (λ e. item_at self.old.nodes.lists e.0 ≡ Some e.1)) }
+        ensures pops { IfOk result (λ found.
+            Pops (sieve SieveConfig) (view_of self.old) (option_map (λ e. e.1) found) (view_of self.new)) }
+        ensures places { IfOk result (λ found. IfSome found (λ e. (p : ℕ)
+            → item_at self.new.nodes.lists p ≡ without e.1.id (item_at self.old.nodes.lists p))) }
+        ensures none { IfOk result (λ found. IfNone found ((p : ℕ)
+            → item_at self.new.nodes.lists p ≡ item_at self.old.nodes.lists p)) }
+        ensures looked { self.new.looks ≡ (sieve SieveConfig).looks (view_of self.old) }
+        ensures room { self.old.nodes.room ≤ self.new.nodes.room }
+        ensures span { self.new.nodes.span ≡ self.old.nodes.span }
     {
         let Some(front) = self.queue.front(0) else {
             self.looks = 0;
             return Ok(None);
         };
         let start = self.hand.unwrap_or(front);
-        let Victim { item, hand, looks } = take_victim(&mut self.queue, start);
+        let Victim {
+            item,
+            at,
+            hand,
+            looks,
+        } = take_victim(&mut self.queue, start);
         self.hand = hand;
         self.looks = looks;
-        Ok(Some(item))
+        Ok(Some((at, item)))
     }
 
     #[inline(always)]
@@ -245,6 +300,16 @@ impl Eviction for Sieve {
 
     #[inline(always)]
     fn release(&mut self, _place: Place) {}
+
+    #[inline(always)]
+    fn span(&self) -> usize {
+        self.queue.span()
+    }
+
+    #[inline(always)]
+    fn item(&self, place: Place) -> Item {
+        self.queue.get(place).item
+    }
 
     fn order(&self) -> Result<Vec<Item>> {
         let mut items = Vec::new(self.alloc);

@@ -33,6 +33,97 @@ fn values_keep_their_places(rt: HostRuntime) -> Answer<()> {
     Ok(())
 }
 
+#[test]
+fn places_are_numbers_below_the_span(rt: HostRuntime) -> Answer<()> {
+    let mut lists: Lists<u32, 2> = Lists::new(rt.alloc());
+    assert_eq!(rt; lists.span(), 0);
+    lists.reserve(3)?;
+    let span = lists.span();
+    assert!(rt; span >= 3);
+    let one = lists.push_back(0, 10);
+    let two = lists.push_back(1, 20);
+    assert!(rt; one.number() < span);
+    assert!(rt; two.number() < span);
+    assert!(rt; one.number() != two.number());
+    assert_eq!(rt; Place::at(one.number()), one);
+    assert_eq!(rt; lists.pop_front_at(1), Some((two, 20)));
+    assert_eq!(rt; lists.pop_front_at(1), None);
+    assert_eq!(rt; lists.pop_front_at(0), Some((one, 10)));
+    assert_eq!(rt; lists.span(), span);
+    lists.reserve(100)?;
+    assert!(rt; lists.span() >= 100);
+    Ok(())
+}
+
+// Places come from the middle of the free ones and from their ends, and one is given again once its value is out.
+#[test]
+fn the_caller_chooses_places(rt: HostRuntime) -> Answer<()> {
+    let mut lists: Lists<u64, 2> = Lists::new(rt.alloc());
+    lists.reserve_to(0)?;
+    assert_eq!(rt; lists.span(), 0);
+    lists.reserve_to(5)?;
+    assert_eq!(rt; lists.span(), 5);
+    lists.push_back_at(0, Place::at(3), 30);
+    lists.push_back_at(0, Place::at(0), 10);
+    lists.push_back_at(1, Place::at(4), 40);
+    lists.reserve(2)?;
+    assert_eq!(rt; lists.span(), 5);
+    assert_eq!(rt; lists.next_place(), Place::at(1));
+    lists.push_back_at(0, Place::at(2), 20);
+    assert_eq!(rt; lists.next(Place::at(3)), Some(Place::at(0)));
+    assert_eq!(rt; lists.next(Place::at(0)), Some(Place::at(2)));
+    assert_eq!(rt; lists.remove(Place::at(0)), 10);
+    assert_eq!(rt; lists.next_place(), Place::at(0));
+    lists.push_back_at(1, Place::at(0), 11);
+    assert_eq!(rt; lists.push_back(1, 50), Place::at(1));
+    assert_eq!(rt; lists.pop_front(0), Some(30));
+    assert_eq!(rt; lists.pop_front(0), Some(20));
+    assert_eq!(rt; lists.pop_front(1), Some(40));
+    assert_eq!(rt; lists.pop_front(1), Some(11));
+    assert_eq!(rt; lists.pop_front(1), Some(50));
+    lists.reserve_to(3)?;
+    assert_eq!(rt; lists.span(), 5);
+    Ok(())
+}
+
+// Growth keeps the places, and those that are refused change nothing.
+#[test]
+fn the_span_grows_to_a_number(rt: HostRuntime) -> Answer<()> {
+    let mut lists: Lists<u64, 1> = Lists::new(rt.alloc());
+    lists.reserve_to(2)?;
+    assert_eq!(rt; lists.span(), 4);
+    lists.push_back_at(0, Place::at(1), 10);
+    for wanted in [usize::MAX, usize::MAX / 2, usize::MAX / 32] {
+        match lists.reserve_to(wanted) {
+            Ok(()) => panic!(&rt; "there are {wanted} places"),
+            Err(error) => assert_eq!(rt; error.number(), 7),
+        }
+        assert_eq!(rt; lists.span(), 4);
+    }
+    assert_eq!(rt; lists.front(0), Some(Place::at(1)));
+    lists.reserve_to(5)?;
+    assert_eq!(rt; lists.span(), 8);
+    lists.reserve_to(100)?;
+    assert_eq!(rt; lists.span(), 100);
+    Ok(())
+}
+
+// A place far behind is taken, and the others are given from the first on.
+#[test]
+fn places_behind_others_are_free_first(rt: HostRuntime) -> Answer<()> {
+    let mut lists: Lists<u64, 1> = Lists::new(rt.alloc());
+    lists.reserve_to(2)?;
+    lists.push_back_at(0, Place::at(1), 10);
+    lists.reserve_to(100)?;
+    lists.push_back_at(0, Place::at(99), 20);
+    lists.reserve(2)?;
+    assert_eq!(rt; lists.push_back(0, 30), Place::at(0));
+    assert_eq!(rt; lists.push_back(0, 40), Place::at(2));
+    assert_eq!(rt; lists.pop_front_at(0), Some((Place::at(1), 10)));
+    assert_eq!(rt; lists.pop_front_at(0), Some((Place::at(99), 20)));
+    Ok(())
+}
+
 // A value that counts its drop at its number.
 struct Counted {
     number: usize,

@@ -47,6 +47,19 @@ pub(crate) struct Filled<E: Eviction> {
     pub(crate) policy: E,
     places: Vec<Option<Place>>,
     ghost there: { (id p : ℕ) → slice_index_or places.items id None ≡ Some p → option_map (λ i. i.id) (E.at policy p) ≡ Some id },
+    ghost recorded: { (p : ℕ) (i : _) → E.at policy p ≡ Some i → slice_index_or places.items i.id None ≡ Some p },
+}
+
+// Whether no id has this place.
+fn is_free(places: &[Option<Place>], place: Place) -> bool
+    ensures { IsTrue result → (id : ℕ) → slice_index_or places.now id None ≢ Some place }
+{
+    for other in places {
+        if *other == Some(place) {
+            return false;
+        }
+    }
+    true
 }
 
 // No record is in under this id any more.
@@ -58,6 +71,18 @@ fn forget(places: &mut Vec<Option<Place>>, id: u64)
     if at < places.len() {
         places[at] = None;
     }
+}
+
+// The same, and it was in at this place.
+fn forget_at(rt: &impl Abort, places: &mut Vec<Option<Place>>, id: u64, place: Place)
+    ensures gone { slice_index_or places.new.items id None ≡ None }
+    ensures others { (other : ℕ) → other ≢ id
+        → slice_index_or places.new.items other None ≡ slice_index_or places.old.items other None }
+{
+    let at = id as usize;
+    assert!(rt; at < places.len());
+    assert_eq!(rt; places[at], Some(place));
+    forget(places, id);
 }
 
 // Sets the capacity of a policy, and keeps its configuration.
@@ -92,10 +117,30 @@ impl<E: Eviction> Filled<E> {
     pub(crate) fn push(&mut self, rt: &impl Abort, item: Item) -> Answer<()> {
         let id = item.id as usize;
         assert!(rt; id < self.places.len());
+        assert!(rt; self.places[id].is_none());
         self.policy.reserve()?;
         let order = self.policy.order()?;
         assert!(rt; fits(order.as_slice(), &item));
         self.places[id] = Some(self.policy.push(item));
+        Ok(())
+    }
+
+    // Makes places for so many.
+    pub(crate) fn reserve_to(&mut self, wanted: usize) -> Result<()> {
+        self.policy.reserve_to(wanted)
+    }
+
+    // Takes an item in, which must be new, at a place where nothing stands.
+    pub(crate) fn push_at(&mut self, rt: &impl Abort, place: Place, item: Item) -> Answer<()> {
+        let id = item.id as usize;
+        assert!(rt; id < self.places.len());
+        assert!(rt; self.places[id].is_none());
+        assert!(rt; place.number() < self.policy.span());
+        assert!(rt; is_free(self.places.as_slice(), place));
+        let order = self.policy.order()?;
+        assert!(rt; fits(order.as_slice(), &item));
+        self.policy.push_at(place, item);
+        self.places[id] = Some(place);
         Ok(())
     }
 
@@ -106,6 +151,14 @@ impl<E: Eviction> Filled<E> {
             None => {}
         }
         Ok(found)
+    }
+
+    // Pops a record, which must have stood at the place that its push answered.
+    pub(crate) fn pop_at(&mut self, rt: &impl Abort) -> Answer<Option<(Place, Item)>> {
+        let found = self.policy.pop_at()?;
+        let Some(stood) = found else { return Ok(None) };
+        forget_at(rt, &mut self.places, stood.1.id, stood.0);
+        Ok(Some(stood))
     }
 
     pub(crate) fn remove(&mut self, rt: &impl Abort, id: u64) -> Item {
@@ -159,6 +212,16 @@ impl<E: Eviction> Filled<E> {
         }
     }
 
+    // These records stand at their places, each of which is below the span.
+    pub(crate) fn assert_places(&self, rt: &impl Abort, ids: &[u64]) {
+        for id in ids {
+            let place = self.place_of(rt, *id);
+            assert_eq!(rt; self.policy.item(place), item(*id));
+            assert_eq!(rt; Place::at(place.number()), place);
+            assert!(rt; place.number() < self.policy.span());
+        }
+    }
+
     // Pops as many records, which must be these.
     pub(crate) fn assert_pops(&mut self, rt: &impl Abort, ids: &[u64]) -> Answer<()> {
         for id in ids {
@@ -187,12 +250,38 @@ pub(crate) fn each_call<E: Eviction>(
 ) -> Answer<()> {
     E::check(config)?;
     let mut filled = Filled::<E>::new(alloc, 16, config)?;
+    assert_eq!(rt; filled.policy.span(), 0);
     each_call_of_one(rt, &mut filled, config)?;
+    pops_by_place(rt, &mut filled)?;
     filled.push_all(rt, &[8])?;
     assert_eq!(rt; filled.remove(rt, 8), item(8));
     filled.push_all(rt, &[9])?;
     filled.clear(alloc)?;
     filled.assert_order(rt, &[])
+}
+
+// Each of five records leaves from where it came in. Only room that is made raises the span.
+fn pops_by_place<E: Eviction>(rt: &impl Abort, filled: &mut Filled<E>) -> Answer<()> {
+    filled.push_all(rt, &[1, 2, 3, 4, 5])?;
+    filled.assert_places(rt, &[1, 2, 3, 4, 5]);
+    filled.acquire_all(rt, &[4, 2]);
+    filled.release(rt, 4);
+    filled.release(rt, 2);
+    filled.assert_places(rt, &[1, 2, 3, 4, 5]);
+    let span = filled.policy.span();
+    for _pop in 0..5u64 {
+        assert!(rt; filled.pop_at(rt)?.is_some());
+    }
+    assert_eq!(rt; filled.pop_at(rt)?, None);
+    assert_eq!(rt; filled.policy.span(), span);
+    filled.push_all(rt, &[10, 11, 12])?;
+    filled.assert_places(rt, &[10, 11, 12]);
+    assert_eq!(rt; filled.policy.span(), span);
+    assert_eq!(rt; filled.remove(rt, 11), item(11));
+    filled.assert_places(rt, &[10, 12]);
+    assert!(rt; filled.pop_at(rt)?.is_some());
+    assert!(rt; filled.pop_at(rt)?.is_some());
+    Ok(())
 }
 
 // The same with one record, which is popped.

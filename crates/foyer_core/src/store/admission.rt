@@ -1,6 +1,6 @@
 //! How a record comes into the index and the policy, where there is room.
 
-ghost use Rattle.std.specs.Prelude.{◌≡◌, ℕ, ◌+◌, ◌<◌, ◌≤◌, ◌^◌, Some, None, OnErr, IfOk, IsSome, IsSomeAnd, option_and_then, max, nat_eq, true, false};
+ghost use Rattle.std.specs.Prelude.{◌≡◌, ℕ, ◌+◌, ◌<◌, ◌≤◌, ◌^◌, Some, None, OnErr, IfOk, IsSome, IsSomeAnd, max, nat_eq, true, false};
 ghost use Rattle.std.specs.Option.{ForSome};
 ghost use Rattle.std.specs.Map.{update};
 ghost use Rattle.foyer_policy.specs.Policy.{without};
@@ -16,10 +16,10 @@ use crate::entry::Left;
 use crate::finder::Finder;
 use crate::records::Records;
 use crate::slot::Slot;
-use foyer_policy::{Eviction, Hint, Item, Key, Properties, Result, Value};
+use foyer_policy::{Eviction, Hint, Item, Key, Place, Properties, Result, Value};
 
 impl<E: Eviction, K: Key, V: Value, P: Properties, I: Finder<K>> Store<E, K, V, P, I> {
-    ghost use Rattle.foyer_core.specs.Stores.{state_of, meaning_of};
+    ghost use Rattle.foyer_core.specs.Stores.{state_of, meaning_of, HasPlaces};
     ghost use Rattle.foyer_core.specs.State.{key_of, usage_of};
     ghost use Rattle.foyer_core.specs.Steps.{GivesWay, Admits, HasId};
 
@@ -32,10 +32,10 @@ impl<E: Eviction, K: Key, V: Value, P: Properties, I: Finder<K>> Store<E, K, V, 
         slot: Slot<K, V, P>,
     ) -> Result<(usize, Option<Left<K, V, P>>)>
         requires room { HasRoom self.old.records }
-        requires policy_room { 0 < E.room self.old.eviction }
+        requires places { HasPlaces self.old }
         requires same { K.eq key slot.kept.key ≡ true }
         requires plain { is_phantom (P.phantom_of slot.kept.properties) ≡ false }
-        requires coming { slot ≡ record slot { resident = true; place = None } }
+        requires coming { slot ≡ record slot { resident = true } }
         requires out { (r : Rec K V P) → (state_of self.old).records slot.id ≡ Some r → r.resident ≡ false }
         requires number { HasId (state_of self.old) slot.id }
         requires held { 0 < slot.handles }
@@ -56,13 +56,13 @@ impl<E: Eviction, K: Key, V: Value, P: Properties, I: Finder<K>> Store<E, K, V, 
         let (gone, replaced) = give_way(&mut self.eviction, &mut self.records, self.number, was);
         self.usage -= gone;
         self.entries -= replaced.is_some() as u64;
-        let place = self.eviction.push(Item {
+        let item = Item {
             id,
             hash,
             weight,
             hint,
-        });
-        self.records.set_place(number, place);
+        };
+        self.eviction.push_at(Place::at(number), item);
         self.usage += weight;
         self.entries += 1;
         self.next = above(self.next, id);
@@ -99,26 +99,20 @@ fn give_way<E: Eviction, K: Drop, V: Drop, P: Drop>(
     number: u64,
     was: Option<usize>,
 ) -> (usize, Option<Left<K, V, P>>)
-    requires { ForSome was (λ n. IsSomeAnd (slot_in records.old n) (λ s. (s.resident ≡ true) × IsSome (option_and_then (E.at eviction.old) s.place))) }
+    requires { ForSome was (λ n. IsSomeAnd (slot_in records.old n) (λ s. s.resident ≡ true) × IsSome (E.at eviction.old n)) }
     ensures none { was ≡ None → (result ≡ (0, None)) × (E.view eviction.new ≡ E.view eviction.old) }
     ensures none_slots { was ≡ None → (n : ℕ) → slot_in records.new n ≡ slot_in records.old n }
     ensures none_records { was ≡ None → (id : ℕ) → record_in records.new id ≡ record_in records.old id }
     ensures none_places { was ≡ None → (p : ℕ) → E.at eviction.new p ≡ E.at eviction.old p }
-    ensures some { (n : ℕ) (s : Kept K V P) (i : Item) → was ≡ Some n → slot_in records.old n ≡ Some s → option_and_then (E.at eviction.old) s.place ≡ Some i → (result ≡ (i.weight, Some record { number = number; id = s.id; kept = s.kept })) × (E.view eviction.new ≡ E.model.remove (E.view eviction.old) i.id) }
+    ensures some { (n : ℕ) (s : Kept K V P) (i : Item) → was ≡ Some n → slot_in records.old n ≡ Some s → E.at eviction.old n ≡ Some i → (result ≡ (i.weight, Some record { number = number; id = s.id; kept = s.kept })) × (E.view eviction.new ≡ E.model.remove (E.view eviction.old) i.id) }
     ensures some_slots { (n : ℕ) (s : Kept K V P) → was ≡ Some n → slot_in records.old n ≡ Some s → (q : ℕ) → slot_in records.new q ≡ update nat_eq (slot_in records.old) n (slot_outside s) q }
     ensures some_records { (n : ℕ) (s : Kept K V P) → was ≡ Some n → slot_in records.old n ≡ Some s → (id : ℕ) → record_in records.new id ≡ update nat_eq (record_in records.old) s.id (outside (rec_of s)) id }
-    ensures some_places { (n : ℕ) (s : Kept K V P) (i : Item) → was ≡ Some n → slot_in records.old n ≡ Some s → option_and_then (E.at eviction.old) s.place ≡ Some i → (p : ℕ) → E.at eviction.new p ≡ without i.id (E.at eviction.old p) }
-    ensures room { E.room eviction.old ≤ E.room eviction.new }
+    ensures some_places { (n : ℕ) (s : Kept K V P) (i : Item) → was ≡ Some n → slot_in records.old n ≡ Some s → E.at eviction.old n ≡ Some i → (p : ℕ) → E.at eviction.new p ≡ without i.id (E.at eviction.old p) }
+    ensures span { E.span eviction.new ≡ E.span eviction.old }
 {
     let Some(slot) = was else {
         return (0, None);
     };
-    let Some(found) = records.get(slot) else {
-        unreachable!();
-    };
-    let Some(place) = found.place() else {
-        unreachable!();
-    };
-    let item = eviction.remove(place);
+    let item = eviction.remove(Place::at(slot));
     (item.weight, Some(records.leave(slot, number)))
 }

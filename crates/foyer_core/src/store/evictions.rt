@@ -11,7 +11,7 @@ use foyer_policy::{Error, Event, Eviction, Key, Properties, Reason, Result, Valu
 use std::alloc::Global;
 
 impl<E: Eviction, K: Key, V: Value, P: Properties, I: Finder<K>> Store<E, K, V, P, I> {
-    ghost use Rattle.foyer_core.specs.Stores.{state_of, meaning_of};
+    ghost use Rattle.foyer_core.specs.Stores.{state_of, meaning_of, HasPlaces};
     ghost use Rattle.foyer_core.specs.Steps.{Evicts, Evicting, EvictsOne};
     ghost use Rattle.foyer_core.specs.Bulk.{GoesOn};
 
@@ -22,19 +22,17 @@ impl<E: Eviction, K: Key, V: Value, P: Properties, I: Finder<K>> Store<E, K, V, 
         ensures none { IfOk result (λ found. IfNone found ((E.model.pop (E.view self.old.eviction) ≡ None) × (state_of self.new ≡ state_of self.old))) }
         ensures err { OnErr result (state_of self.new ≡ state_of self.old) }
         ensures room { HasRoom self.old.records → HasRoom self.new.records }
-        ensures policy_room { E.room self.old.eviction ≤ E.room self.new.eviction }
+        ensures places { HasPlaces self.old → HasPlaces self.new }
     {
-        let Some(item) = self.eviction.pop()? else {
+        let Some(victim) = self.eviction.pop_at()? else {
             return Ok(None);
         };
-        let Some(slot) = self.records.stands(item.id) else {
-            unreachable!();
-        };
+        let slot = victim.0.number();
         let Some(found) = self.records.get(slot) else {
             unreachable!();
         };
         self.index.take(found.hash(), found.key(), slot);
-        self.usage -= item.weight;
+        self.usage -= victim.1.weight;
         self.entries -= 1;
         Ok(Some(self.records.leave(slot, self.number)))
     }
@@ -52,7 +50,7 @@ impl<E: Eviction, K: Key, V: Value, P: Properties, I: Finder<K>> Store<E, K, V, 
         ensures refused { IfErr result (λ leaves. Evicting (meaning_of self.old) target (state_of self.old) leaves.items (state_of self.new)) }
         ensures one_more { IfOk result (λ leaves. vec_len leaves < vec_capacity leaves) }
         ensures room { HasRoom self.old.records → HasRoom self.new.records }
-        ensures policy_room { E.room self.old.eviction ≤ E.room self.new.eviction }
+        ensures places { HasPlaces self.old → HasPlaces self.new }
     {
         // Mostly one leaves, and one more may be replaced: `evict_onto` finds room for both.
         let Ok(mut leaves) = Vec::with_capacity(alloc, 2) else {
@@ -73,7 +71,7 @@ impl<E: Eviction, K: Key, V: Value, P: Properties, I: Finder<K>> Store<E, K, V, 
         ensures reason { IfErr result (λ e. e ≡ NoMemory) }
         ensures one_more { vec_len leaves.old < vec_capacity leaves.old → vec_len leaves.new < vec_capacity leaves.new }
         ensures room { HasRoom self.old.records → HasRoom self.new.records }
-        ensures policy_room { E.room self.old.eviction ≤ E.room self.new.eviction }
+        ensures places { HasPlaces self.old → HasPlaces self.new }
     {
         while self.usage > target {
             let Ok(()) = leaves.reserve(2) else {

@@ -9,7 +9,7 @@ use super::Store;
 use crate::entry::{CoreEntry, Leave};
 use crate::finder::Finder;
 use crate::slot::Slot;
-use foyer_policy::{Error, Event, Eviction, Key, Properties, Reason, Result, Source, Value};
+use foyer_policy::{Error, Event, Eviction, Key, Place, Properties, Reason, Result, Source, Value};
 
 impl<E: Eviction, K: Key, V: Value, P: Properties, I: Finder<K>> Store<E, K, V, P, I> {
     ghost use Rattle.foyer_core.specs.Stores.{state_of, meaning_of};
@@ -32,9 +32,12 @@ impl<E: Eviction, K: Key, V: Value, P: Properties, I: Finder<K>> Store<E, K, V, 
         if found.handles() >= self.limits.handles {
             return Err(Error::new(Reason::Handles));
         }
-        let Some(place) = found.place() else {
-            unreachable!();
-        };
+        let place = Place::at(slot);
+        // The policy's node is read before the shares are counted: behind a locked count the load would wait for it.
+        let item = self.eviction.item(place);
+        if item.id != found.id() {
+            return Ok(None);
+        }
         let entry = found.entry(self.number, slot, Source::Memory)?;
         self.records.add_handle(slot);
         self.eviction.acquire(place);
@@ -75,11 +78,8 @@ impl<E: Eviction, K: Key, V: Value, P: Properties, I: Finder<K>> Store<E, K, V, 
         if !found.is_resident() {
             return Ok(self.forget(slot));
         }
-        let Some(place) = found.place() else {
-            unreachable!();
-        };
         self.records.take_handle(slot);
-        self.eviction.release(place);
+        self.eviction.release(Place::at(slot));
         Ok(None)
     }
 

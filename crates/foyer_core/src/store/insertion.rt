@@ -17,7 +17,7 @@ use foyer_policy::{Error, Event, Eviction, Key, Properties, Reason, Result, Sour
 use std::alloc::Global;
 
 impl<E: Eviction, K: Key, V: Value, P: Properties, I: Finder<K>> Store<E, K, V, P, I> {
-    ghost use Rattle.foyer_core.specs.Stores.{state_of, meaning_of};
+    ghost use Rattle.foyer_core.specs.Stores.{state_of, meaning_of, HasPlaces};
     ghost use Rattle.foyer_core.specs.State.{is_phantom_record};
     ghost use Rattle.foyer_core.specs.Bulk.{GoesOn};
     ghost use Rattle.foyer_core.specs.Steps.{Inserts, RefusesInsert, RefusesPlain, MayBy, MayInsert, newcomer};
@@ -125,7 +125,7 @@ impl<E: Eviction, K: Key, V: Value, P: Properties, I: Finder<K>> Store<E, K, V, 
         further: Further,
     ) -> std::result::Result<Arrival<K, V, P>, Refused<K, V, P>>
         requires clones { (k c : K) → K.is_clone k c → K.eq c k ≡ true }
-        requires apart { slot ≡ record slot { resident = false; place = None } }
+        requires apart { slot ≡ record slot { resident = false } }
         requires out { (r : Rec K V P) → (state_of self.old).records slot.id ≡ Some r → r.resident ≡ false }
         requires number { slot.id + 1 < 2 ^ 64 }
         requires held { 0 < slot.handles }
@@ -159,7 +159,7 @@ impl<E: Eviction, K: Key, V: Value, P: Properties, I: Finder<K>> Store<E, K, V, 
         leaves: &mut Vec<Leave<K, V, P>>,
     ) -> Result<(CoreEntry<K, V, P>, Vec<CoreEntry<K, V, P>>)>
         requires clones { (k c : K) → K.is_clone k c → K.eq c k ≡ true }
-        requires apart { slot ≡ record slot { resident = false; place = None } }
+        requires apart { slot ≡ record slot { resident = false } }
         requires out { (r : Rec K V P) → (state_of self.old).records slot.id ≡ Some r → r.resident ≡ false }
         requires number { slot.id + 1 < 2 ^ 64 }
         requires held { 0 < slot.handles }
@@ -192,7 +192,7 @@ impl<E: Eviction, K: Key, V: Value, P: Properties, I: Finder<K>> Store<E, K, V, 
         leaves: &mut Vec<Leave<K, V, P>>,
     ) -> Result<CoreEntry<K, V, P>>
         requires clones { (k c : K) → K.is_clone k c → K.eq c k ≡ true }
-        requires apart { slot ≡ record slot { resident = false; place = None } }
+        requires apart { slot ≡ record slot { resident = false } }
         requires out { (r : Rec K V P) → (state_of self.old).records slot.id ≡ Some r → r.resident ≡ false }
         requires number { slot.id + 1 < 2 ^ 64 }
         requires held { 0 < slot.handles }
@@ -220,7 +220,7 @@ impl<E: Eviction, K: Key, V: Value, P: Properties, I: Finder<K>> Store<E, K, V, 
     #[inline(always)]
     fn settle(&mut self, slot: Slot<K, V, P>, leaves: &mut Vec<Leave<K, V, P>>) -> Result<usize>
         requires clones { (k c : K) → K.is_clone k c → K.eq c k ≡ true }
-        requires apart { slot ≡ record slot { resident = false; place = None } }
+        requires apart { slot ≡ record slot { resident = false } }
         requires out { (r : Rec K V P) → (state_of self.old).records slot.id ≡ Some r → r.resident ≡ false }
         requires number { slot.id + 1 < 2 ^ 64 }
         requires held { 0 < slot.handles }
@@ -245,7 +245,7 @@ impl<E: Eviction, K: Key, V: Value, P: Properties, I: Finder<K>> Store<E, K, V, 
     ) -> Result<usize>
         requires clones { (k c : K) → K.is_clone k c → K.eq c k ≡ true }
         requires plain { is_phantom (P.phantom_of slot.kept.properties) ≡ false }
-        requires apart { slot ≡ record slot { resident = false; place = None } }
+        requires apart { slot ≡ record slot { resident = false } }
         requires out { (r : Rec K V P) → (state_of self.old).records slot.id ≡ Some r → r.resident ≡ false }
         requires held { 0 < slot.handles }
         requires may { MayInsert (meaning_of self.old) (state_of self.old) (incoming_of slot) }
@@ -280,11 +280,14 @@ impl<E: Eviction, K: Key, V: Value, P: Properties, I: Finder<K>> Store<E, K, V, 
         ensures leaves { leaves.new.items ≡ leaves.old.items }
         ensures leaves_room { OnOk result (vec_len leaves.new < vec_capacity leaves.new) }
         ensures room { OnOk result (HasRoom self.new.records) }
-        ensures policy_room { OnOk result (0 < E.room self.new.eviction) }
+        ensures places { OnOk result (HasPlaces self.new) }
     {
         let key = slot.key().clone()?;
         self.records.reserve()?;
-        self.eviction.reserve()?;
+        let Some(places) = self.records.count().checked_add(1) else {
+            return Err(Error::new(Reason::NoMemory));
+        };
+        self.eviction.reserve_to(places)?;
         // Mostly one leaves, and one more may be replaced.
         leaves.reserve(2)?;
         slot.come_in()?;

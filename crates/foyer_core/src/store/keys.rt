@@ -5,7 +5,7 @@ ghost use Rattle.std.specs.Prelude.{◌≡◌};
 use super::Store;
 use crate::entry::{CoreEntry, Left};
 use crate::finder::Finder;
-use foyer_policy::{Error, Eviction, Key, Properties, Reason, Result, Source, Value};
+use foyer_policy::{Error, Eviction, Key, Place, Properties, Reason, Result, Source, Value};
 
 impl<E: Eviction, K: Key, V: Value, P: Properties, I: Finder<K>> Store<E, K, V, P, I> {
     ghost use Rattle.foyer_core.specs.Stores.{state_of, meaning_of};
@@ -27,9 +27,7 @@ impl<E: Eviction, K: Key, V: Value, P: Properties, I: Finder<K>> Store<E, K, V, 
         if handles >= self.limits.handles {
             return Err(Error::new(Reason::Handles));
         }
-        let Some(place) = found.place() else {
-            unreachable!();
-        };
+        let place = Place::at(slot);
         self.eviction.acquire(place);
         if handles > 0 {
             return Ok(true);
@@ -57,12 +55,9 @@ impl<E: Eviction, K: Key, V: Value, P: Properties, I: Finder<K>> Store<E, K, V, 
         if found.handles() >= self.limits.handles {
             return Err(Error::new(Reason::Handles));
         }
-        let Some(place) = found.place() else {
-            unreachable!();
-        };
         let entry = found.entry(self.number, slot, Source::Memory)?;
         self.index.take(hash, key, slot);
-        let item = self.eviction.remove(place);
+        let item = self.eviction.remove(Place::at(slot));
         self.usage -= item.weight;
         self.entries -= 1;
         self.records.add_handle(slot);

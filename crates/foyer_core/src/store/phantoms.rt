@@ -27,7 +27,7 @@ impl<E: Eviction, K: Key, V: Value, P: Properties, I: Finder<K>> Store<E, K, V, 
         slot: Slot<K, V, P>,
         leaves: &mut Vec<Leave<K, V, P>>,
     ) -> Result<usize>
-        requires apart { slot ≡ record slot { resident = false; place = None } }
+        requires apart { slot ≡ record slot { resident = false } }
         requires out { (r : Rec K V P) → (state_of self.old).records slot.id ≡ Some r → r.resident ≡ false }
         requires number { slot.id + 1 < 2 ^ 64 }
         requires held { 0 < slot.handles }
@@ -82,7 +82,7 @@ impl<E: Eviction, K: Key, V: Value, P: Properties, I: Finder<K>> Store<E, K, V, 
     // asks for room.
     fn hold(&mut self, slot: Slot<K, V, P>) -> usize
         requires room { HasRoom self.old.records }
-        requires apart { slot ≡ record slot { resident = false; place = None } }
+        requires apart { slot ≡ record slot { resident = false } }
         requires out { (r : Rec K V P) → (state_of self.old).records slot.id ≡ Some r → r.resident ≡ false }
         requires number { slot.id + 1 < 2 ^ 64 }
         requires held { 0 < slot.handles }

@@ -10,7 +10,7 @@ use super::Store;
 use super::clearing::leave_slot;
 use crate::entry::{Leave, Left};
 use crate::finder::Finder;
-use foyer_policy::{Error, Event, Eviction, Item, Key, Properties, Reason, Result, Value};
+use foyer_policy::{Error, Event, Eviction, Item, Key, Place, Properties, Reason, Result, Value};
 use std::alloc::Global;
 
 impl<E: Eviction, K: Key, V: Value, P: Properties, I: Finder<K>> Store<E, K, V, P, I> {
@@ -98,13 +98,7 @@ impl<E: Eviction, K: Key, V: Value, P: Properties, I: Finder<K>> Store<E, K, V, 
         let Some(slot) = self.records.find(id, 0) else {
             unreachable!();
         };
-        let Some(found) = self.records.get(slot) else {
-            unreachable!();
-        };
-        let Some(place) = found.place() else {
-            unreachable!();
-        };
-        let item = self.eviction.remove(place);
+        let item = self.eviction.remove(Place::at(slot));
         self.usage -= item.weight;
         self.entries -= 1;
         leave_slot(&mut self.index, &mut self.records, slot, self.number)

@@ -173,7 +173,7 @@ impl<E: Eviction, K: Key, V: Value, P: Properties, I: Finder<K>> Store<E, K, V, 
         further: Further,
     ) -> std::result::Result<Arrival<K, V, P>, Refused<K, V, P>>
         requires clones { (k c : K) → K.is_clone k c → K.eq c k ≡ true }
-        requires apart { slot ≡ record slot { handles = 1; resident = false; place = None } }
+        requires apart { slot ≡ record slot { handles = 1; resident = false } }
         requires out { (r : Rec K V P) → (state_of self.old).records slot.id ≡ Some r → r.resident ≡ false }
         requires listed { further.count + further.room < 2 ^ 64 }
         ensures inserted { MatchResult result

@@ -10,7 +10,7 @@ use super::Store;
 use crate::finder::Finder;
 use crate::record::Data;
 use crate::slot::Slot;
-use foyer_policy::{Eviction, Key, Properties, Reason, Value};
+use foyer_policy::{Eviction, Key, Place, Properties, Reason, Value};
 
 impl<E: Eviction, K: Key, V: Value, P: Properties, I: Finder<K>> Store<E, K, V, P, I> {
     ghost use Rattle.foyer_core.specs.Stores.{state_of, meaning_of};
@@ -160,10 +160,7 @@ impl<E: Eviction, K: Key, V: Value, P: Properties, I: Finder<K>> Store<E, K, V, 
         let Some(found) = self.records.get(slot) else {
             unreachable!();
         };
-        let Some(place) = found.place() else {
-            unreachable!();
-        };
-        let pinned = self.eviction.is_pinned(place);
+        let pinned = self.eviction.is_pinned(Place::at(slot));
         if pinned { found.weight() } else { 0 }
     }
 }

@@ -39,6 +39,7 @@ fn demote(lists: &mut Lists<Item, 3>, from: usize) -> usize
     ensures others { (k : ℕ) → k ≢ from → k ≢ 1 → list_at lists.new.lists k ≡ list_at lists.old.lists k }
     ensures places { (q : ℕ) → find q lists.new.lists ≡ find q lists.old.lists }
     ensures room { lists.new.room ≡ lists.old.room }
+    ensures span { lists.new.span ≡ lists.old.span }
 {
     match lists.front(from) {
         Some(place) => {
@@ -63,6 +64,7 @@ pub(super) fn settle(lists: &mut Lists<Item, 3>, from: usize, weight: usize, lim
     ensures others { (k : ℕ) → k ≢ from → k ≢ 1 → items_in lists.new.lists k ≡ items_in lists.old.lists k }
     ensures places { (q : ℕ) → find q lists.new.lists ≡ find q lists.old.lists }
     ensures room { lists.new.room ≡ lists.old.room }
+    ensures span { lists.new.span ≡ lists.old.span }
 {
     let mut left = weight;
     while left > limit {
@@ -105,6 +107,7 @@ pub(super) fn drain(lists: &mut Lists<Item, 3>, list: usize)
     ensures lists { lists.new.lists ≡ slice_set lists.old.lists list [] }
     ensures count { length lists.new.lists ≡ 3 }
     ensures room { lists.old.room ≤ lists.new.room }
+    ensures span { lists.new.span ≡ lists.old.span }
 {
     while lists.pop_front(list).is_some() {}
 }

@@ -1,16 +1,20 @@
 //! Nodes in one block, each with links and a value, or free.
 
 ghost use Rattle.std.specs.Prelude.{◌≡◌, ◌≢◌, ℕ, ◌+◌, ◌^◌, ◌<◌, ◌≤◌, Some, None, OnOk, OnErr, IsOk, IsSome, length, replicate, slice_index_or, slice_set};
-ghost use Rattle.foyer_policy.specs.Arena.{get, links_of, value_of, node_with, relinked, moved_links, moved_free, IsMarked, IsArena, AreMoved};
+ghost use Rattle.std.specs.Option.{ForSome};
+ghost use Rattle.foyer_policy.specs.Block.{IsFilled};
+ghost use Rattle.foyer_policy.specs.Nodes.{node_with};
+ghost use Rattle.foyer_policy.specs.Arena.{get, links_of, value_of, relinked, moved_links, moved_free, IsMarked, IsArena, AreMoved};
 
 use crate::link::Link;
 use crate::lists::block::{Base, Deed, Node, Nodes, allocate, deallocate};
+use crate::lists::free::{put_free, take_free};
 use std::alloc::{AllocError, Global};
 use std::mem;
 use std_alloc::room::may_hold;
 
-/// The number of a node's list, and where the list goes on at both sides. A free node has the
-/// number that no list has, and leads on to the next free one.
+/// The number of a node's list, and where the list goes on at both sides. The free nodes are a list
+/// too, of the number that no list of values has.
 #[derive(Clone, Copy)]
 pub(crate) struct Links {
     pub(crate) list: usize,
@@ -51,27 +55,36 @@ impl<T, const N: usize> Arena<T, N> {
         }
     }
 
-    /// Puts a value with its links into the first free node, and answers the node's number.
+    /// The first free node.
     #[inline(always)]
-    pub(crate) fn insert(&mut self, links: Links, value: T) -> usize
-        requires arena { IsArena self.old }
-        requires list { links.list < N }
-        requires room { self.old.used < self.old.len }
-        ensures arena { IsArena self.new }
-        ensures vacant { get self.old result ≡ None }
-        ensures node { get self.new result ≡ Some (node_with links value) }
-        ensures others { (q : ℕ) → q ≢ result → get self.new q ≡ get self.old q }
-        ensures counts { (self.new.used ≡ self.old.used + 1) × (self.new.len ≡ self.old.len) }
-        ensures within { result < self.old.len }
+    pub(crate) fn first_free(&self) -> usize
+        requires arena { IsArena self.now }
+        requires room { self.now.used < self.now.len }
+        ensures vacant { get self.now result ≡ None }
+        ensures within { result < self.now.len }
     {
         let Some(place) = self.free.place() else {
             unreachable!()
         };
-        self.free = self.nodes.links(self.base, place).after;
+        place
+    }
+
+    /// Puts a value with its links into a free node.
+    #[inline(always)]
+    pub(crate) fn insert_at(&mut self, place: usize, links: Links, value: T)
+        requires arena { IsArena self.old }
+        requires within { place < self.old.len }
+        requires vacant { get self.old place ≡ None }
+        requires list { links.list < N }
+        ensures arena { IsArena self.new }
+        ensures node { get self.new place ≡ Some (node_with links value) }
+        ensures others { (q : ℕ) → q ≢ place → get self.new q ≡ get self.old q }
+        ensures counts { (self.new.used ≡ self.old.used + 1) × (self.new.len ≡ self.old.len) }
+    {
+        self.free = take_free(&mut self.nodes, self.base, place, self.free);
         self.nodes.set_links(self.base, place, links);
         self.nodes.write(self.base, place, value);
         self.used += 1;
-        place
     }
 
     /// Takes the value out of a node, which is the first free one then.
@@ -86,12 +99,7 @@ impl<T, const N: usize> Arena<T, N> {
         ensures counts { (self.new.used + 1 ≡ self.old.used) × (self.new.len ≡ self.old.len) }
     {
         let value = self.nodes.read(self.base, place);
-        let links = Links {
-            list: N,
-            before: Link::end(),
-            after: self.free,
-        };
-        self.nodes.set_links(self.base, place, links);
+        put_free::<T, N>(&mut self.nodes, self.base, place, self.free);
         self.free = Link::to(place);
         self.used -= 1;
         value
@@ -143,12 +151,26 @@ impl<T, const N: usize> Arena<T, N> {
         ensures lacking { OnErr result (self.new.len < self.new.used + more) }
         ensures had_room { self.old.used + more ≤ self.old.len → IsOk result }
     {
-        if more <= self.len - self.used {
-            return Ok(());
-        }
         let Some(wanted) = self.used.checked_add(more) else {
             return Err(AllocError);
         };
+        self.reserve_to(wanted)
+    }
+
+    /// Makes nodes until there are so many. Where memory is refused the arena is as it was.
+    pub(crate) fn reserve_to(&mut self, wanted: usize) -> Result<(), AllocError>
+        requires { IsArena self.old }
+        ensures arena { IsArena self.new }
+        ensures same { (q : ℕ) → get self.new q ≡ get self.old q }
+        ensures used { self.new.used ≡ self.old.used }
+        ensures kept { self.old.len ≤ self.new.len }
+        ensures enough { OnOk result (wanted ≤ self.new.len) }
+        ensures lacking { OnErr result (self.new.len < wanted) }
+        ensures had_len { wanted ≤ self.old.len → IsOk result }
+    {
+        if wanted <= self.len {
+            return Ok(());
+        }
         self.grow(wanted.max(2 * self.len).max(4))
     }
 
@@ -249,12 +271,13 @@ fn hand_over<T, const N: usize>(
         → IsMarked N (slice_index_or from.old.links place None) (slice_index_or from.old.values place None) }
     requires to { (base.ptr ≡ to.old.at) × (place < length to.old.links) × (place < length to.old.values)
         × (slice_index_or to.old.values place None ≡ None) }
+    requires free { ForSome free (IsFilled to.old.links) }
     requires small { place < 2 ^ 63 }
     ensures from { (from.new.at ≡ from.old.at) × (from.new.links ≡ from.old.links)
         × (from.new.values ≡ slice_set from.old.values place None) }
     ensures to { (to.new.at ≡ to.old.at)
-        × (to.new.links ≡ slice_set to.old.links place
-        (moved_links N (slice_index_or from.old.links place None) (slice_index_or from.old.values place None) free))
+        × (to.new.links ≡ moved_links N (slice_index_or from.old.links place None)
+        (slice_index_or from.old.values place None) place free to.old.links)
         × (to.new.values ≡ slice_set to.old.values place (slice_index_or from.old.values place None)) }
     ensures free { result ≡ moved_free (slice_index_or from.old.values place None) place free }
 {
@@ -267,11 +290,6 @@ fn hand_over<T, const N: usize>(
             return free;
         }
     }
-    let links = Links {
-        list: N,
-        before: Link::end(),
-        after: free,
-    };
-    to.set_links(base, place, links);
+    put_free::<T, N>(to, base, place, free);
     Link::to(place)
 }

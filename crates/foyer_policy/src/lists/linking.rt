@@ -67,24 +67,25 @@ fn set_before<T, const N: usize>(
     }
 }
 
-// Puts a value at the end of a list, and answers its node.
+// Puts a value at the end of a list, into a node that has none.
 #[inline(always)]
 pub(super) fn link_back<T, const N: usize>(
     nodes: &mut Arena<T, N>,
     heads: &mut [Link],
     tails: &mut [Link],
     list: usize,
+    node: usize,
     value: T,
-) -> usize
+)
     requires sound { IsSound nodes.old heads.old tails.old }
     requires list { list < N }
     requires count { length heads.old ≡ N }
-    requires room { nodes.old.used < nodes.old.len }
+    requires within { node < nodes.old.len }
+    requires free { find node (lists_of nodes.old heads.old) ≡ None }
     ensures sound { IsSound nodes.new heads.new tails.new }
     ensures lists { lists_of nodes.new heads.new
         ≡ (let ls = lists_of nodes.old heads.old in
-        slice_set ls list (list_at ls list ++ (result, value) ∷ [])) }
-    ensures free { find result (lists_of nodes.old heads.old) ≡ None }
+        slice_set ls list (list_at ls list ++ (node, value) ∷ [])) }
     ensures used { nodes.new.used ≡ nodes.old.used + 1 }
     ensures len { nodes.new.len ≡ nodes.old.len }
 {
@@ -94,10 +95,9 @@ pub(super) fn link_back<T, const N: usize>(
         before,
         after: Link::end(),
     };
-    let node = nodes.insert(links, value);
+    nodes.insert_at(node, links, value);
     set_after(nodes, heads, list, before, Link::to(node));
     tails[list] = Link::to(node);
-    node
 }
 
 // Takes a node out of its list. It keeps its value, and stands in no list.

@@ -31,6 +31,7 @@ fn lower(lists: &mut Lists<Node, 3>) -> usize
         → lists.new.lists ≡ (list_at lists.old.lists 0 ++ low_entry e ∷ []) ∷ es ∷ list_at lists.old.lists 2 ∷ [] }
     ensures places { (q : ℕ) → held_at q lists.new.lists ≡ held_at q lists.old.lists }
     ensures room { lists.new.room ≡ lists.old.room }
+    ensures span { lists.new.span ≡ lists.old.span }
 {
     match lists.front(HIGH) {
         Some(place) => {
@@ -55,6 +56,7 @@ pub(super) fn settle(lists: &mut Lists<Node, 3>, weight: usize, limit: usize) ->
     ensures weight { result ≡ sum_by weight_at (list_at lists.new.lists 1) }
     ensures places { (q : ℕ) → held_at q lists.new.lists ≡ held_at q lists.old.lists }
     ensures room { lists.new.room ≡ lists.old.room }
+    ensures span { lists.new.span ≡ lists.old.span }
 {
     let mut left = weight;
     while left > limit {
@@ -72,6 +74,7 @@ pub(super) fn relist(lists: &mut Lists<Node, 3>, place: Place, state: LruState, 
         → lists.new.lists ≡ moved place list (map (with_value place (record { item = n.item; state = state })) lists.old.lists) }
     ensures places { (q : ℕ) → held_at q lists.new.lists ≡ held_at q lists.old.lists }
     ensures room { lists.new.room ≡ lists.old.room }
+    ensures span { lists.new.span ≡ lists.old.span }
     ensures apart { AreLists 3 lists.old.lists }
 {
     lists.get_mut(place).state = state;
@@ -84,6 +87,7 @@ pub(super) fn drain(lists: &mut Lists<Node, 3>, list: usize)
     ensures lists { lists.new.lists ≡ slice_set lists.old.lists list [] }
     ensures count { length lists.new.lists ≡ 3 }
     ensures room { lists.old.room ≤ lists.new.room }
+    ensures span { lists.new.span ≡ lists.old.span }
 {
     while lists.pop_front(list).is_some() {}
 }

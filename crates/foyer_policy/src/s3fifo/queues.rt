@@ -6,7 +6,7 @@ ghost use Rattle.foyer_policy.specs.Lists.{list_at, find, with_value, AreLists};
 ghost use Rattle.foyer_policy.specs.Items.{weight_of};
 ghost use Rattle.foyer_policy.specs.GhostQueue.{Ghost, ghost_of};
 ghost use Rattle.foyer_policy.specs.S3Fifo.{Setting, items, main_looks, from_main, s3fifo_pop, s3fifo_looks};
-ghost use Rattle.foyer_policy.specs.S3FifoQueues.{small_of, main_of, view_with, Gives, AreQueues, PlacesAfter, TakesSmall, TakesMain};
+ghost use Rattle.foyer_policy.specs.S3FifoQueues.{item_at, small_of, main_of, view_with, Gives, AreQueues, PlacesAfter, TakesSmall, TakesMain};
 
 use crate::ghost_queue::GhostQueue;
 use crate::held::Held;
@@ -31,10 +31,11 @@ pub struct S3FifoState {
 
 pub(super) type Node = Held<S3FifoState>;
 
-// A victim of the main queue, and how many frequencies were read.
+// A victim, the place that it had, and how many frequencies of the main queue were read.
 #[derive(Clone, Copy)]
 pub(super) struct Victim {
     pub(super) item: Item,
+    pub(super) at: Place,
     pub(super) looks: u128,
 }
 
@@ -44,21 +45,28 @@ pub(super) fn take_small(
     queues: &mut Lists<Node, 2>,
     weight: &mut usize,
     threshold: u8,
-) -> Option<Item>
+) -> Option<Victim>
     requires queues { AreQueues queues.old.lists }
     requires weight { weight.old ≡ weight_of (items (small_of queues.old.lists)) }
-    ensures takes { TakesSmall threshold queues.old.lists result queues.new.lists }
+    ensures takes { TakesSmall threshold queues.old.lists (option_map (λ v. v.item) result) queues.new.lists }
+    ensures stood { IfSome result (λ v. item_at queues.old.lists v.at ≡ Some v.item) }
+    ensures looks { IfSome result (λ v. v.looks ≡ 0) }
     ensures queues { AreQueues queues.new.lists }
-    ensures places { PlacesAfter result queues.old.lists queues.new.lists }
+    ensures places { PlacesAfter (option_map (λ v. v.item) result) queues.old.lists queues.new.lists }
     ensures weight { weight.new ≡ weight_of (items (small_of queues.new.lists)) }
     ensures room { queues.old.room ≤ queues.new.room }
+    ensures span { queues.new.span ≡ queues.old.span }
 {
     while let Some(front) = queues.front(SMALL) {
         let Held { item, state } = *queues.get(front);
         *weight -= item.weight;
         if state.frequency < threshold {
             queues.remove(front);
-            return Some(item);
+            return Some(Victim {
+                item,
+                at: front,
+                looks: 0,
+            });
         }
         queues.get_mut(front).state.is_main = true;
         queues.move_back(front, MAIN);
@@ -75,6 +83,7 @@ fn lower(queues: &mut Lists<Node, 2>, place: Place, looks: &mut u128) -> bool
     ensures lowered { IfSome (find place queues.old.lists) (λ n. queues.new.lists
         ≡ map (with_value place (record { item = n.item; state = record { frequency = n.state.frequency - 1; is_main = n.state.is_main } })) queues.old.lists) }
     ensures room { queues.new.room ≡ queues.old.room }
+    ensures span { queues.new.span ≡ queues.old.span }
     ensures counted { looks.new ≡ looks.old + 1 }
 {
     let node = queues.get_mut(place);
@@ -89,15 +98,21 @@ fn lower(queues: &mut Lists<Node, 2>, place: Place, looks: &mut u128) -> bool
 pub(super) fn take_main(queues: &mut Lists<Node, 2>) -> Option<Victim>
     requires queues { AreQueues queues.old.lists }
     ensures takes { TakesMain queues.old.lists (option_map (λ v. (v.item, v.looks)) result) queues.new.lists }
+    ensures stood { IfSome result (λ v. item_at queues.old.lists v.at ≡ Some v.item) }
     ensures queues { AreQueues queues.new.lists }
     ensures places { PlacesAfter (option_map (λ v. v.item) result) queues.old.lists queues.new.lists }
     ensures room { queues.old.room ≤ queues.new.room }
+    ensures span { queues.new.span ≡ queues.old.span }
 {
     let mut looks: u128 = 0;
     while let Some(front) = queues.front(MAIN) {
         if !lower(queues, front, &mut looks) {
             let item = queues.remove(front).item;
-            return Some(Victim { item, looks });
+            return Some(Victim {
+                item,
+                at: front,
+                looks,
+            });
         }
         queues.move_back(front, MAIN);
     }
@@ -111,18 +126,25 @@ fn pop_main(queues: &mut Lists<Node, 2>, weight: &mut usize) -> Option<Victim>
     requires weight { weight.old ≡ weight_of (items (small_of queues.old.lists)) }
     ensures gives { (g : Ghost) (l : ℕ) (s : Setting) → Gives (from_main (view_with queues.old.lists g l s)) (option_map (λ v. v.item) result) (view_with queues.old.lists g l s) (view_with queues.new.lists g l s) }
     ensures looks { IfSome result (λ v. v.looks ≡ main_looks (main_of queues.old.lists)) }
+    ensures stood { IfSome result (λ v. item_at queues.old.lists v.at ≡ Some v.item) }
     ensures queues { AreQueues queues.new.lists }
     ensures places { PlacesAfter (option_map (λ v. v.item) result) queues.old.lists queues.new.lists }
     ensures none { IfNone result ((p : ℕ) → find p queues.new.lists ≡ None) }
     ensures weight { weight.new ≡ weight_of (items (small_of queues.new.lists)) }
     ensures room { queues.old.room ≤ queues.new.room }
+    ensures span { queues.new.span ≡ queues.old.span }
 {
     if let Some(victim) = take_main(queues) {
         return Some(victim);
     }
-    let item = queues.pop_front(SMALL)?.item;
+    let found = queues.pop_front_at(SMALL)?;
+    let item = found.1.item;
     *weight -= item.weight;
-    Some(Victim { item, looks: 0 })
+    Some(Victim {
+        item,
+        at: found.0,
+        looks: 0,
+    })
 }
 
 // Takes the victim out, and tells the ghost queue of one that leaves from the small queue. There must be
@@ -139,11 +161,13 @@ pub(super) fn pop_victim(
     requires room { limit < weight.old → 0 < ghost_queue.old.capacity → 0 < ghost_queue.old.room }
     ensures pops { (s : Setting) → s.threshold ≡ threshold → Gives (s3fifo_pop (view_with queues.old.lists (ghost_of ghost_queue.old) limit s)) (option_map (λ v. v.item) result) (view_with queues.old.lists (ghost_of ghost_queue.old) limit s) (view_with queues.new.lists (ghost_of ghost_queue.new) limit s) }
     ensures looks { (s : Setting) → s.threshold ≡ threshold → IfSome result (λ v. v.looks ≡ s3fifo_looks (view_with queues.old.lists (ghost_of ghost_queue.old) limit s)) }
+    ensures stood { IfSome result (λ v. item_at queues.old.lists v.at ≡ Some v.item) }
     ensures queues { AreQueues queues.new.lists }
     ensures places { PlacesAfter (option_map (λ v. v.item) result) queues.old.lists queues.new.lists }
     ensures none { IfNone result ((p : ℕ) → find p queues.new.lists ≡ None) }
     ensures weight { weight.new ≡ weight_of (items (small_of queues.new.lists)) }
     ensures room { queues.old.room ≤ queues.new.room }
+    ensures span { queues.new.span ≡ queues.old.span }
     ensures ghost_room { ghost_queue.old.room ≤ ghost_queue.new.room + 1 }
     ensures ghost_capacity { ghost_queue.new.capacity ≡ ghost_queue.old.capacity }
 {
@@ -151,9 +175,9 @@ pub(super) fn pop_victim(
         return pop_main(queues, weight);
     }
     match take_small(queues, weight, threshold) {
-        Some(item) => {
-            ghost_queue.push_reserved(item.hash, item.weight);
-            Some(Victim { item, looks: 0 })
+        Some(victim) => {
+            ghost_queue.push_reserved(victim.item.hash, victim.item.weight);
+            Some(victim)
         }
         None => pop_main(queues, weight),
     }

@@ -1,4 +1,5 @@
 use Rattle.std.proofs.Common.{arith, ◌≡◌, Some, sym, ◌∙◌, ap, add-one, lit<}
+use Rattle.std.specs.Option.{option_map}
 use Rattle.std.proofs.lemmas.List.{length-map}
 use Rattle.foyer_policy.specs.Lists.{list_at, find, AreLists}
 use Rattle.foyer_policy.specs.Policy.{without}
@@ -62,6 +63,7 @@ loop-queue-preserved c =
       placed = λ q. looked-placed ls ls2 i.apart at b bit taken w.before w.node w.behind w.is q ∙ i.placed q;
       items = looked-items ls ls2 i.apart at b bit taken w.before w.node w.behind w.is ∙ i.items;
       room = c.take_bit.ensures.room ∙ i.room;
+      span = c.take_bit.ensures.span ∙ i.span;
       paid = omega (
         arith,
         c.take_bit.ensures.counted,
@@ -115,6 +117,19 @@ returns-clause-turned c = λ xs ys n h.
       stands = c.next-hand.ensures.place 0 s.before s.behind (clear_node s.node) now;
       looked = c.take_bit.ensures.counted ∙ sym e.1;
     }
+
+pub returns-clause-stood : goal.returns-clause-stood
+returns-clause-stood c =
+    let i = c.loop-queue.invariant in
+    let ls = c.loop-queue.queue.lists in
+    let ls2 = c.take_bit.new.queue.lists in
+    let at = c.loop-queue.at in
+    let b = c.take_bit.result in
+    let w = somewhere ls i.apart at i.there in
+    sym
+    (looked-placed ls ls2 i.apart at b c.take_bit.ensures.bit c.take_bit.ensures.cleared w.before w.node w.behind w.is
+    at ∙ i.placed at)
+    ∙ ap (option_map item_of) c.remove.ensures.value
 
 pub returns-clause-there : goal.returns-clause-there
 returns-clause-there c =

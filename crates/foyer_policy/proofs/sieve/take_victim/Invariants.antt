@@ -16,6 +16,7 @@ invariant-loop-queue l = record {
   placed : (p : ℕ) → item_at l.queue.lists p ≡ item_at l.fn.queue.lists p;
   items : entry_items (list_at l.queue.lists 0) ≡ entry_items (list_at l.fn.queue.lists 0);
   room : l.queue.room ≡ l.fn.queue.room;
+  span : l.queue.span ≡ l.fn.queue.span;
   paid : l.looks + set_bits (entries (list_at l.queue.lists 0)) ≤ set_bits (entries (list_at l.fn.queue.lists 0));
 }
 

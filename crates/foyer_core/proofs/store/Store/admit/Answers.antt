@@ -15,8 +15,8 @@ use Rattle.foyer_core.specs.Records.{slot_in, number_of, record_in}
 use Rattle.foyer_core.proofs.Counting.{entries_below}
 use Rattle.foyer_core.proofs.Holdings.{holding}
 use Rattle.foyer_core.proofs.Keys.{update_alike, same_key_laws}
-use Rattle.foyer_core.proofs.AdmitLemmas.{Admitted, coming_slot, coming_rec, led_not, reindexed}
-use Rattle.foyer_core.proofs.GaveLemmas.{Gave, byte_is, alike_key, may_give_way, gave, new_there, gave_push, gave_lighter, gave_fits, gave_admitted}
+use Rattle.foyer_core.proofs.AdmitLemmas.{Admitted, coming_rec, led_not, no_item, reindexed}
+use Rattle.foyer_core.proofs.GaveLemmas.{Gave, byte_is, alike_key, may_give_way, gave, gave_free, gave_push, gave_lighter, gave_fits, gave_admitted}
 use Rattle.foyer_core.proofs.store.Store.admit.Goals as goal
 
 pub put-requires-clause-new : goal.put-requires-clause-new
@@ -129,8 +129,49 @@ overflow_sub-self-2 g c =
     c.give_way-gone.new.records (g.E.Eviction.at c.give_way-gone.new.eviction)
     (g.E.Eviction.view c.give_way-gone.new.eviction) gv s.usage s.entries s.weighed s.counted).1
 
-pub push-place-requires-clause-new_id : goal.push-place-requires-clause-new_id
-push-place-requires-clause-new_id g c κs within =
+pub push_at-requires-clause-within : goal.push_at-requires-clause-within
+push_at-requires-clause-within g c =
+    let stands = c.stands-stands.ensures ∙ ap (number_of c.args.self.now.records) c.id-id.ensures in
+    rw (c.at.ensures, c.give_way-gone.ensures.span)
+    (omega (arith, c.slot_for-number.ensures.within c.args.slot.id stands, c.requires.places))
+
+pub push_at-requires-clause-free : goal.push_at-requires-clause-free
+push_at-requires-clause-free g c κs within =
+    let s = c.args.self.now in
+    let lawful = g.met.E.Eviction.lawful in
+    let laws = g.met.K.Eq.laws in
+    let m = meaning_of s in
+    let inc : Incoming g.row.K.Denot g.row.V.Denot g.row.P.Denot = incoming_of c.args.slot in
+    let n = c.slot_for-number.result in
+    let unled = led_not m laws lawful (holding s) n (slot_in s.records n) refl
+    (λ r h. c.requires.out r (c.slot_for-number.ensures.here inc.id (c.stands-stands.ensures
+    ∙ ap (number_of s.records) c.id-id.ensures) ∙ h)) in
+    let slots1 : (q : ℕ) → slot_in c.put-2.new.self q ≡ update nat_eq (slot_in s.records) n (Some c.args.slot) q =
+    subst (λ (x : ℕ). (q : ℕ) → slot_in c.put-2.new.self q ≡ update nat_eq (slot_in s.records) x (Some c.args.slot) q)
+    (c.put-2.ensures.slot ∙ sym c.slot_for-number.ensures.slot) c.put-2.ensures.slots in
+    let hash : c.hash-hash.result ≡ inc.kept.hash = c.hash-hash.ensures in
+    let was : c.slot_under-was.result ≡ g.I.Finder.view s.index (key_of inc.kept) = c.slot_under-was.ensures ∙ ap
+    (λ (h : ℕ). g.I.Finder.view s.index (h, c.args.key)) hash ∙ g.met.I.Finder.respects s.index
+    (inc.kept.hash, c.args.key) (key_of inc.kept) (alike_key g.K.PartialEq.eq inc.kept.hash c.args.key inc.kept.key
+    c.requires.same) in
+    let w = c.give_way-gone.ensures in
+    let gv : Gave m laws lawful (holding s) inc n unled c.requires.out c.put-2.new.self c.args.slot
+    slots1 c.give_way-gone.result.0 c.give_way-gone.result.1 c.give_way-gone.new.records
+    (g.E.Eviction.at c.give_way-gone.new.eviction) (g.E.Eviction.view c.give_way-gone.new.eviction) =
+    gave m laws lawful (holding s) inc n unled c.requires.out c.put-2.new.self c.args.slot
+    slots1 c.slot_under-was.result was c.give_way-gone.result c.give_way-gone.new.records
+    (g.E.Eviction.at c.give_way-gone.new.eviction) (g.E.Eviction.view c.give_way-gone.new.eviction)
+    w.none w.none_slots w.none_records w.none_places w.some w.some_slots w.some_records w.some_places in
+    let empty = no_item m laws lawful (holding s) n (slot_in s.records n) refl
+    (λ r h. c.requires.out r (c.slot_for-number.ensures.here inc.id (c.stands-stands.ensures
+    ∙ ap (number_of s.records) c.id-id.ensures) ∙ h)) in
+    rw c.at.ensures (gave_free m laws lawful (holding s) inc n unled c.requires.out c.put-2.new.self
+    c.args.slot slots1 c.give_way-gone.result.0 c.give_way-gone.result.1
+    c.give_way-gone.new.records (g.E.Eviction.at c.give_way-gone.new.eviction)
+    (g.E.Eviction.view c.give_way-gone.new.eviction) gv empty)
+
+pub push_at-requires-clause-new_id : goal.push_at-requires-clause-new_id
+push_at-requires-clause-new_id g c κs within =
     let s = c.args.self.now in
     let lawful = g.met.E.Eviction.lawful in
     let laws = g.met.K.Eq.laws in
@@ -161,8 +202,8 @@ push-place-requires-clause-new_id g c κs within =
     c.give_way-gone.new.records (g.E.Eviction.at c.give_way-gone.new.eviction)
     (g.E.Eviction.view c.give_way-gone.new.eviction) gv c.requires.fits).new
 
-pub push-place-requires-clause-fits : goal.push-place-requires-clause-fits
-push-place-requires-clause-fits g c κs within =
+pub push_at-requires-clause-fits : goal.push_at-requires-clause-fits
+push_at-requires-clause-fits g c κs within =
     let s = c.args.self.now in
     let lawful = g.met.E.Eviction.lawful in
     let laws = g.met.K.Eq.laws in
@@ -192,38 +233,6 @@ push-place-requires-clause-fits g c κs within =
     c.args.slot slots1 c.give_way-gone.result.0 c.give_way-gone.result.1
     c.give_way-gone.new.records (g.E.Eviction.at c.give_way-gone.new.eviction)
     (g.E.Eviction.view c.give_way-gone.new.eviction) gv c.requires.fits).fits
-
-pub set_place-requires : goal.set_place-requires
-set_place-requires g c =
-    let s = c.args.self.now in
-    let lawful = g.met.E.Eviction.lawful in
-    let laws = g.met.K.Eq.laws in
-    let m = meaning_of s in
-    let inc : Incoming g.row.K.Denot g.row.V.Denot g.row.P.Denot = incoming_of c.args.slot in
-    let n = c.slot_for-number.result in
-    let unled = led_not m laws lawful (holding s) n (slot_in s.records n) refl
-    (λ r h. c.requires.out r (c.slot_for-number.ensures.here inc.id (c.stands-stands.ensures
-    ∙ ap (number_of s.records) c.id-id.ensures) ∙ h)) in
-    let slots1 : (q : ℕ) → slot_in c.put-2.new.self q ≡ update nat_eq (slot_in s.records) n (Some c.args.slot) q =
-    subst (λ (x : ℕ). (q : ℕ) → slot_in c.put-2.new.self q ≡ update nat_eq (slot_in s.records) x (Some c.args.slot) q)
-    (c.put-2.ensures.slot ∙ sym c.slot_for-number.ensures.slot) c.put-2.ensures.slots in
-    let hash : c.hash-hash.result ≡ inc.kept.hash = c.hash-hash.ensures in
-    let was : c.slot_under-was.result ≡ g.I.Finder.view s.index (key_of inc.kept) = c.slot_under-was.ensures ∙ ap
-    (λ (h : ℕ). g.I.Finder.view s.index (h, c.args.key)) hash ∙ g.met.I.Finder.respects s.index
-    (inc.kept.hash, c.args.key) (key_of inc.kept) (alike_key g.K.PartialEq.eq inc.kept.hash c.args.key inc.kept.key
-    c.requires.same) in
-    let w = c.give_way-gone.ensures in
-    let gv : Gave m laws lawful (holding s) inc n unled c.requires.out c.put-2.new.self c.args.slot
-    slots1 c.give_way-gone.result.0 c.give_way-gone.result.1 c.give_way-gone.new.records
-    (g.E.Eviction.at c.give_way-gone.new.eviction) (g.E.Eviction.view c.give_way-gone.new.eviction) =
-    gave m laws lawful (holding s) inc n unled c.requires.out c.put-2.new.self c.args.slot
-    slots1 c.slot_under-was.result was c.give_way-gone.result c.give_way-gone.new.records
-    (g.E.Eviction.at c.give_way-gone.new.eviction) (g.E.Eviction.view c.give_way-gone.new.eviction)
-    w.none w.none_slots w.none_records w.none_places w.some w.some_slots w.some_records w.some_places in
-    rw (new_there m laws lawful (holding s) inc n unled c.requires.out c.put-2.new.self c.args.slot
-    slots1 c.give_way-gone.result.0 c.give_way-gone.result.1 c.give_way-gone.new.records
-    (g.E.Eviction.at c.give_way-gone.new.eviction) (g.E.Eviction.view c.give_way-gone.new.eviction) gv)
-    (search rules)
 
 pub overflow_add-self : goal.overflow_add-self
 overflow_add-self g c =
@@ -284,16 +293,6 @@ overflow_add-self-2 g c =
     slots1 c.slot_under-was.result was c.give_way-gone.result c.give_way-gone.new.records
     (g.E.Eviction.at c.give_way-gone.new.eviction) (g.E.Eviction.view c.give_way-gone.new.eviction)
     w.none w.none_slots w.none_records w.none_places w.some w.some_slots w.some_records w.some_places in
-    let x0 = c.args.slot in
-    let there2 : slot_in c.give_way-gone.new.records n ≡ Some x0 = new_there m laws lawful (holding s) inc n unled
-    c.requires.out c.put-2.new.self c.args.slot slots1 c.give_way-gone.result.0
-    c.give_way-gone.result.1 c.give_way-gone.new.records (g.E.Eviction.at c.give_way-gone.new.eviction)
-    (g.E.Eviction.view c.give_way-gone.new.eviction) gv in
-    let slots3 : (q : ℕ) → slot_in c.set_place.new.self q ≡ update nat_eq (slot_in c.give_way-gone.new.records) n
-    (Some (coming_slot inc (Some c.push-place.result))) q =
-    (λ q. c.set_place.ensures.slots x0 there2 q ∙ ap (λ (x : Kept g.row.K.Denot g.row.V.Denot g.row.P.Denot). let y :
-    Kept g.row.K.Denot g.row.V.Denot g.row.P.Denot = record x { place = Some c.push-place.result } in update nat_eq
-    (slot_in c.give_way-gone.new.records) n (Some y) q) c.requires.coming) in
     let recs1 : (i : ℕ) → record_in c.put-2.new.self i
     ≡ update nat_eq (record_in s.records) inc.id (Some (coming_rec inc)) i =
     (λ i. c.put-2.ensures.records i ∙ ap (λ (x : Kept g.row.K.Denot g.row.V.Denot g.row.P.Denot). update nat_eq
@@ -322,21 +321,20 @@ overflow_add-self-2 g c =
     ) refl) in
     let done : Admitted m laws lawful (holding s) inc n unled c.requires.out c.give_way-gone.result.1
     (s.usage - c.give_way-gone.result.0) (s.entries - cond (is_some c.give_way-gone.result.1) 1 0)
-    (g.E.Eviction.view c.push-place.new.self) (g.I.Finder.view c.put.new.self) c.set_place.new.self
-    (g.E.Eviction.at c.push-place.new.self) (max s.next (inc.id + 1)) =
+    (g.E.Eviction.view c.push_at.new.self) (g.I.Finder.view c.put.new.self) c.give_way-gone.new.records
+    (g.E.Eviction.at c.push_at.new.self) (max s.next (inc.id + 1)) =
     gave_admitted m laws lawful (holding s) inc n unled c.requires.out c.put-2.new.self c.args.slot
     slots1 c.give_way-gone.result.0 c.give_way-gone.result.1 c.give_way-gone.new.records
     (g.E.Eviction.at c.give_way-gone.new.eviction) (g.E.Eviction.view c.give_way-gone.new.eviction) gv
-    c.requires.coming c.set_place.new.self c.push-place.result (g.I.Finder.view c.put.new.self)
-    (g.E.Eviction.at c.push-place.new.self) (g.E.Eviction.view c.push-place.new.self) (max s.next (inc.id + 1))
-    recs1 led1 slots3 c.set_place.ensures.records
-    (c.push-place.ensures.here ∙ ap (λ (i : Item). Some i) item) c.push-place.ensures.was_free
-    c.push-place.ensures.others (c.push-place.ensures.view ∙ ap
+    c.requires.coming (g.I.Finder.view c.put.new.self)
+    (g.E.Eviction.at c.push_at.new.self) (g.E.Eviction.view c.push_at.new.self) (max s.next (inc.id + 1))
+    recs1 led1 (rw c.at.ensures at c.push_at.ensures.here ∙ ap (λ (i : Item). Some i) item)
+    (rw c.at.ensures at c.push_at.ensures.others) (c.push_at.ensures.view ∙ ap
     (g.E.Eviction.model.push (g.E.Eviction.view c.give_way-gone.new.eviction)) item)
     refl c.requires.plain c.requires.held c.requires.handles c.requires.fits s.usage s.entries s.weighed s.counted in
     let few = ∥∥₁_elim done.kept3 (hlevel props) (λ k. entries_below m laws lawful
-    (state s.number s.capacity s.limits (g.E.Eviction.view c.push-place.new.self) (g.I.Finder.view c.put.new.self)
-    c.set_place.new.self (max s.next (inc.id + 1))) k) in
+    (state s.number s.capacity s.limits (g.E.Eviction.view c.push_at.new.self) (g.I.Finder.view c.put.new.self)
+    c.give_way-gone.new.records (max s.next (inc.id + 1))) k) in
     rw (c.is_some.ensures, byte_is) (omega (arith, done.counted3, few, c.requires.number))
 
 pub above-self-requires : goal.above-self-requires
@@ -369,16 +367,6 @@ invariant_of-self-2 g c =
     slots1 c.slot_under-was.result was c.give_way-gone.result c.give_way-gone.new.records
     (g.E.Eviction.at c.give_way-gone.new.eviction) (g.E.Eviction.view c.give_way-gone.new.eviction)
     w.none w.none_slots w.none_records w.none_places w.some w.some_slots w.some_records w.some_places in
-    let x0 = c.args.slot in
-    let there2 : slot_in c.give_way-gone.new.records n ≡ Some x0 = new_there m laws lawful (holding s) inc n unled
-    c.requires.out c.put-2.new.self c.args.slot slots1 c.give_way-gone.result.0
-    c.give_way-gone.result.1 c.give_way-gone.new.records (g.E.Eviction.at c.give_way-gone.new.eviction)
-    (g.E.Eviction.view c.give_way-gone.new.eviction) gv in
-    let slots3 : (q : ℕ) → slot_in c.set_place.new.self q ≡ update nat_eq (slot_in c.give_way-gone.new.records) n
-    (Some (coming_slot inc (Some c.push-place.result))) q =
-    (λ q. c.set_place.ensures.slots x0 there2 q ∙ ap (λ (x : Kept g.row.K.Denot g.row.V.Denot g.row.P.Denot). let y :
-    Kept g.row.K.Denot g.row.V.Denot g.row.P.Denot = record x { place = Some c.push-place.result } in update nat_eq
-    (slot_in c.give_way-gone.new.records) n (Some y) q) c.requires.coming) in
     let recs1 : (i : ℕ) → record_in c.put-2.new.self i
     ≡ update nat_eq (record_in s.records) inc.id (Some (coming_rec inc)) i =
     (λ i. c.put-2.ensures.records i ∙ ap (λ (x : Kept g.row.K.Denot g.row.V.Denot g.row.P.Denot). update nat_eq
@@ -407,22 +395,21 @@ invariant_of-self-2 g c =
     ) refl) in
     let done : Admitted m laws lawful (holding s) inc n unled c.requires.out c.give_way-gone.result.1
     (s.usage - c.give_way-gone.result.0) (s.entries - cond (is_some c.give_way-gone.result.1) 1 0)
-    (g.E.Eviction.view c.push-place.new.self) (g.I.Finder.view c.put.new.self) c.set_place.new.self
-    (g.E.Eviction.at c.push-place.new.self) c.above-self.result =
+    (g.E.Eviction.view c.push_at.new.self) (g.I.Finder.view c.put.new.self) c.give_way-gone.new.records
+    (g.E.Eviction.at c.push_at.new.self) c.above-self.result =
     gave_admitted m laws lawful (holding s) inc n unled c.requires.out c.put-2.new.self c.args.slot
     slots1 c.give_way-gone.result.0 c.give_way-gone.result.1 c.give_way-gone.new.records
     (g.E.Eviction.at c.give_way-gone.new.eviction) (g.E.Eviction.view c.give_way-gone.new.eviction) gv
-    c.requires.coming c.set_place.new.self c.push-place.result (g.I.Finder.view c.put.new.self)
-    (g.E.Eviction.at c.push-place.new.self) (g.E.Eviction.view c.push-place.new.self) c.above-self.result recs1 led1
-    slots3 c.set_place.ensures.records
-    (c.push-place.ensures.here ∙ ap (λ (i : Item). Some i) item) c.push-place.ensures.was_free
-    c.push-place.ensures.others (c.push-place.ensures.view ∙ ap
+    c.requires.coming (g.I.Finder.view c.put.new.self)
+    (g.E.Eviction.at c.push_at.new.self) (g.E.Eviction.view c.push_at.new.self) c.above-self.result recs1 led1
+    (rw c.at.ensures at c.push_at.ensures.here ∙ ap (λ (i : Item). Some i) item)
+    (rw c.at.ensures at c.push_at.ensures.others) (c.push_at.ensures.view ∙ ap
     (g.E.Eviction.model.push (g.E.Eviction.view c.give_way-gone.new.eviction)) item)
     (c.above-self.ensures ∙ ap (λ (a : ℕ). max s.next (a + 1)) c.id-id.ensures) c.requires.plain c.requires.held
     c.requires.handles c.requires.fits s.usage s.entries s.weighed s.counted in
     let few = ∥∥₁_elim done.kept3 (hlevel props) (λ k. entries_below m laws lawful
-    (state s.number s.capacity s.limits (g.E.Eviction.view c.push-place.new.self) (g.I.Finder.view c.put.new.self)
-    c.set_place.new.self c.above-self.result) k) in
+    (state s.number s.capacity s.limits (g.E.Eviction.view c.push_at.new.self) (g.I.Finder.view c.put.new.self)
+    c.give_way-gone.new.records c.above-self.result) k) in
     record {
       kept = done.kept3;
       stored = done.stored3;
@@ -458,16 +445,6 @@ returns-clause-admitted g c =
     slots1 c.slot_under-was.result was c.give_way-gone.result c.give_way-gone.new.records
     (g.E.Eviction.at c.give_way-gone.new.eviction) (g.E.Eviction.view c.give_way-gone.new.eviction)
     w.none w.none_slots w.none_records w.none_places w.some w.some_slots w.some_records w.some_places in
-    let x0 = c.args.slot in
-    let there2 : slot_in c.give_way-gone.new.records n ≡ Some x0 = new_there m laws lawful (holding s) inc n unled
-    c.requires.out c.put-2.new.self c.args.slot slots1 c.give_way-gone.result.0
-    c.give_way-gone.result.1 c.give_way-gone.new.records (g.E.Eviction.at c.give_way-gone.new.eviction)
-    (g.E.Eviction.view c.give_way-gone.new.eviction) gv in
-    let slots3 : (q : ℕ) → slot_in c.set_place.new.self q ≡ update nat_eq (slot_in c.give_way-gone.new.records) n
-    (Some (coming_slot inc (Some c.push-place.result))) q =
-    (λ q. c.set_place.ensures.slots x0 there2 q ∙ ap (λ (x : Kept g.row.K.Denot g.row.V.Denot g.row.P.Denot). let y :
-    Kept g.row.K.Denot g.row.V.Denot g.row.P.Denot = record x { place = Some c.push-place.result } in update nat_eq
-    (slot_in c.give_way-gone.new.records) n (Some y) q) c.requires.coming) in
     let recs1 : (i : ℕ) → record_in c.put-2.new.self i
     ≡ update nat_eq (record_in s.records) inc.id (Some (coming_rec inc)) i =
     (λ i. c.put-2.ensures.records i ∙ ap (λ (x : Kept g.row.K.Denot g.row.V.Denot g.row.P.Denot). update nat_eq
@@ -496,16 +473,15 @@ returns-clause-admitted g c =
     ) refl) in
     let done : Admitted m laws lawful (holding s) inc n unled c.requires.out c.give_way-gone.result.1
     (s.usage - c.give_way-gone.result.0) (s.entries - cond (is_some c.give_way-gone.result.1) 1 0)
-    (g.E.Eviction.view c.push-place.new.self) (g.I.Finder.view c.put.new.self) c.set_place.new.self
-    (g.E.Eviction.at c.push-place.new.self) c.above-self.result =
+    (g.E.Eviction.view c.push_at.new.self) (g.I.Finder.view c.put.new.self) c.give_way-gone.new.records
+    (g.E.Eviction.at c.push_at.new.self) c.above-self.result =
     gave_admitted m laws lawful (holding s) inc n unled c.requires.out c.put-2.new.self c.args.slot
     slots1 c.give_way-gone.result.0 c.give_way-gone.result.1 c.give_way-gone.new.records
     (g.E.Eviction.at c.give_way-gone.new.eviction) (g.E.Eviction.view c.give_way-gone.new.eviction) gv
-    c.requires.coming c.set_place.new.self c.push-place.result (g.I.Finder.view c.put.new.self)
-    (g.E.Eviction.at c.push-place.new.self) (g.E.Eviction.view c.push-place.new.self) c.above-self.result recs1 led1
-    slots3 c.set_place.ensures.records
-    (c.push-place.ensures.here ∙ ap (λ (i : Item). Some i) item) c.push-place.ensures.was_free
-    c.push-place.ensures.others (c.push-place.ensures.view ∙ ap
+    c.requires.coming (g.I.Finder.view c.put.new.self)
+    (g.E.Eviction.at c.push_at.new.self) (g.E.Eviction.view c.push_at.new.self) c.above-self.result recs1 led1
+    (rw c.at.ensures at c.push_at.ensures.here ∙ ap (λ (i : Item). Some i) item)
+    (rw c.at.ensures at c.push_at.ensures.others) (c.push_at.ensures.view ∙ ap
     (g.E.Eviction.model.push (g.E.Eviction.view c.give_way-gone.new.eviction)) item)
     (c.above-self.ensures ∙ ap (λ (a : ℕ). max s.next (a + 1)) c.id-id.ensures) c.requires.plain c.requires.held
     c.requires.handles c.requires.fits s.usage s.entries s.weighed s.counted in

@@ -61,7 +61,7 @@ admit-requires-clause-coming g c κs within = c.in-Ok.ensures.slot
     ∙ ap (λ (x : Kept g.row.K.Denot g.row.V.Denot g.row.P.Denot). let y : Kept g.row.K.Denot g.row.V.Denot
     g.row.P.Denot = record x { resident = true } in y) c.requires.apart
     ∙ ap (λ (x : Kept g.row.K.Denot g.row.V.Denot g.row.P.Denot). let y : Kept g.row.K.Denot g.row.V.Denot
-    g.row.P.Denot = record x { resident = true; place = None } in y) (sym c.in-Ok.ensures.slot)
+    g.row.P.Denot = record x { resident = true } in y) (sym c.in-Ok.ensures.slot)
 
 pub admit-requires-clause-out : goal.admit-requires-clause-out
 admit-requires-clause-out g c κs within r there =

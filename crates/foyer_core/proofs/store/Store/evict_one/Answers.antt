@@ -4,12 +4,12 @@ use Rattle.foyer_policy.specs.Policy.{Pops, without}
 use Rattle.foyer_core.specs.Values.{Kept}
 use Rattle.foyer_core.specs.Stores.{meaning_of}
 use Rattle.foyer_core.specs.Table.{rec_of}
-use Rattle.foyer_core.specs.Records.{slot_in, number_of}
+use Rattle.foyer_core.specs.Records.{slot_in}
 use Rattle.foyer_core.proofs.StoredLemmas.{none_not}
 use Rattle.foyer_core.proofs.Holdings.{holding}
 use Rattle.foyer_core.proofs.LeftLemmas.{
-  victim_known,
-  victim_there,
+  stood_there,
+  stood_known,
   victim_lighter,
   victim_weight,
   victim_entries,
@@ -33,14 +33,14 @@ invariant_of-self g c =
     let lawful = g.met.E.Eviction.lawful in
     let laws = g.met.K.Eq.laws in
     record {
-      kept = still_kept (meaning_of s) laws lawful (holding s) (g.E.Eviction.view c.pop.new.self)
-          c.in_err-item.ensures.err_view;
-      stored = still_stored (meaning_of s) laws lawful (holding s) (g.E.Eviction.view c.pop.new.self)
-          c.in_err-item.ensures.err_view (g.E.Eviction.at c.pop.new.self) c.in_err-item.ensures.err_places;
-      weighed = still_weighed (meaning_of s) laws lawful (holding s) (g.E.Eviction.view c.pop.new.self)
-          c.in_err-item.ensures.err_view s.usage s.weighed;
-      counted = still_counted (meaning_of s) laws lawful (holding s) (g.E.Eviction.view c.pop.new.self)
-          c.in_err-item.ensures.err_view s.entries s.counted;
+      kept = still_kept (meaning_of s) laws lawful (holding s) (g.E.Eviction.view c.pop_at.new.self)
+          c.in_err-victim.ensures.err_view;
+      stored = still_stored (meaning_of s) laws lawful (holding s) (g.E.Eviction.view c.pop_at.new.self)
+          c.in_err-victim.ensures.err_view (g.E.Eviction.at c.pop_at.new.self) c.in_err-victim.ensures.err_places;
+      weighed = still_weighed (meaning_of s) laws lawful (holding s) (g.E.Eviction.view c.pop_at.new.self)
+          c.in_err-victim.ensures.err_view s.usage s.weighed;
+      counted = still_counted (meaning_of s) laws lawful (holding s) (g.E.Eviction.view c.pop_at.new.self)
+          c.in_err-victim.ensures.err_view s.entries s.counted;
       numbered = s.numbered;
     }
 
@@ -49,16 +49,16 @@ invariant_of-self-in_default g c =
     let s = c.args.self.now in
     let lawful = g.met.E.Eviction.lawful in
     let laws = g.met.K.Eq.laws in
-    let p : Pops g.E.Eviction.model (g.E.Eviction.view s.eviction) None (g.E.Eviction.view c.pop.new.self) =
-    rw c.in_default.is at c.in_ok-item.ensures.pops in
-    let places = rw c.in_default.is at c.in_ok-item.ensures.none in
+    let p : Pops g.E.Eviction.model (g.E.Eviction.view s.eviction) None (g.E.Eviction.view c.pop_at.new.self) =
+    rw c.in_default.is at c.in_ok-victim.ensures.pops in
+    let places = rw c.in_default.is at c.in_ok-victim.ensures.none in
     record {
-      kept = still_kept (meaning_of s) laws lawful (holding s) (g.E.Eviction.view c.pop.new.self) p.1;
-      stored = still_stored (meaning_of s) laws lawful (holding s) (g.E.Eviction.view c.pop.new.self) p.1
-          (g.E.Eviction.at c.pop.new.self) places;
-      weighed = still_weighed (meaning_of s) laws lawful (holding s) (g.E.Eviction.view c.pop.new.self) p.1 s.usage
+      kept = still_kept (meaning_of s) laws lawful (holding s) (g.E.Eviction.view c.pop_at.new.self) p.1;
+      stored = still_stored (meaning_of s) laws lawful (holding s) (g.E.Eviction.view c.pop_at.new.self) p.1
+          (g.E.Eviction.at c.pop_at.new.self) places;
+      weighed = still_weighed (meaning_of s) laws lawful (holding s) (g.E.Eviction.view c.pop_at.new.self) p.1 s.usage
           s.weighed;
-      counted = still_counted (meaning_of s) laws lawful (holding s) (g.E.Eviction.view c.pop.new.self) p.1 s.entries
+      counted = still_counted (meaning_of s) laws lawful (holding s) (g.E.Eviction.view c.pop_at.new.self) p.1 s.entries
           s.counted;
       numbered = s.numbered;
     }
@@ -66,59 +66,59 @@ invariant_of-self-in_default g c =
 pub unreachable-requires : goal.unreachable-requires
 unreachable-requires g c =
     let s = c.args.self.now in
-    let p : g.E.Eviction.model.pop (g.E.Eviction.view s.eviction) ≡ Some
-    (c.in-Some.item, g.E.Eviction.view c.pop.new.self) = rw c.in-Some.is at c.in_ok-item.ensures.pops in
-    none_not (number_of s.records c.in-Some.item.id) (victim_known (meaning_of s) g.met.K.Eq.laws
-    g.met.E.Eviction.lawful (holding s) c.in-Some.item (g.E.Eviction.view c.pop.new.self) p)
-    (sym c.stands.ensures ∙ c.in_default-stands.is)
-
-pub unreachable-requires-in_default-get : goal.unreachable-requires-in_default-get
-unreachable-requires-in_default-get g c =
-    let s = c.args.self.now in
-    let p : g.E.Eviction.model.pop (g.E.Eviction.view s.eviction) ≡ Some
-    (c.in-Some.item, g.E.Eviction.view c.pop.new.self) = rw c.in-Some.is at c.in_ok-item.ensures.pops in
-    let none : slot_in s.records c.in-Some-stands.slot ≡ None = sym (rw c.in_default-get.is at c.get.ensures) in
-    none_not (slot_in s.records c.in-Some-stands.slot) (victim_there (meaning_of s) g.met.K.Eq.laws
-    g.met.E.Eviction.lawful (holding s) c.in-Some.item (g.E.Eviction.view c.pop.new.self) p c.in-Some-stands.slot
-    (sym c.stands.ensures ∙ c.in-Some-stands.is)) none
+    let i = c.in-Some.victim.1 in
+    let n = c.number-slot.result in
+    let stood : g.E.Eviction.at s.eviction n ≡ Some i =
+    rw c.number-slot.ensures (rw c.in-Some.is at c.in_ok-victim.ensures.stood) in
+    let none : slot_in s.records n ≡ None = sym (rw c.in_default-get.is at c.get.ensures) in
+    none_not (slot_in s.records n)
+    (stood_there (meaning_of s) g.met.K.Eq.laws g.met.E.Eviction.lawful (holding s) n i stood) none
 
 pub take-requires-after_bounds : goal.take-requires-after_bounds
 take-requires-after_bounds g c κs within =
     let s = c.args.self.now in
     let p : g.E.Eviction.model.pop (g.E.Eviction.view s.eviction) ≡ Some
-    (c.in-Some.item, g.E.Eviction.view c.pop.new.self) = rw c.in-Some.is at c.in_ok-item.ensures.pops in
-    let there : slot_in s.records c.in-Some-stands.slot ≡ Some c.in-Some-get.found.now =
+    (c.in-Some.victim.1, g.E.Eviction.view c.pop_at.new.self) = rw c.in-Some.is at c.in_ok-victim.ensures.pops in
+    let stood : g.E.Eviction.at s.eviction c.number-slot.result ≡ Some c.in-Some.victim.1 =
+    rw c.number-slot.ensures (rw c.in-Some.is at c.in_ok-victim.ensures.stood) in
+    let known = stood_known (meaning_of s) g.met.K.Eq.laws g.met.E.Eviction.lawful (holding s) c.number-slot.result
+    c.in-Some.victim.1 stood in
+    let there : slot_in s.records c.number-slot.result ≡ Some c.in-Some-get.found.now =
     sym (rw c.in-Some-get.is at c.get.ensures) in
     rw (c.hash.ensures, c.key.ensures) (victim_led (meaning_of s) g.met.K.Eq.laws g.met.E.Eviction.lawful (holding s)
-    c.in-Some.item (g.E.Eviction.view c.pop.new.self) p c.in-Some-stands.slot c.in-Some-get.found.now
-    (sym c.stands.ensures ∙ c.in-Some-stands.is) there)
+    c.in-Some.victim.1 (g.E.Eviction.view c.pop_at.new.self) p c.number-slot.result c.in-Some-get.found.now
+    known there)
 
 pub overflow_sub-self : goal.overflow_sub-self
 overflow_sub-self g c =
     let s = c.args.self.now in
     let p : g.E.Eviction.model.pop (g.E.Eviction.view s.eviction) ≡ Some
-    (c.in-Some.item, g.E.Eviction.view c.pop.new.self) = rw c.in-Some.is at c.in_ok-item.ensures.pops in
-    victim_lighter (meaning_of s) g.met.K.Eq.laws g.met.E.Eviction.lawful (holding s) c.in-Some.item
-    (g.E.Eviction.view c.pop.new.self) p s.usage s.weighed
+    (c.in-Some.victim.1, g.E.Eviction.view c.pop_at.new.self) = rw c.in-Some.is at c.in_ok-victim.ensures.pops in
+    victim_lighter (meaning_of s) g.met.K.Eq.laws g.met.E.Eviction.lawful (holding s) c.in-Some.victim.1
+    (g.E.Eviction.view c.pop_at.new.self) p s.usage s.weighed
 
 pub overflow_sub-self-2 : goal.overflow_sub-self-2
 overflow_sub-self-2 g c =
     let s = c.args.self.now in
     let p : g.E.Eviction.model.pop (g.E.Eviction.view s.eviction) ≡ Some
-    (c.in-Some.item, g.E.Eviction.view c.pop.new.self) = rw c.in-Some.is at c.in_ok-item.ensures.pops in
-    (victim_entries (meaning_of s) g.met.K.Eq.laws g.met.E.Eviction.lawful (holding s) c.in-Some.item
-    (g.E.Eviction.view c.pop.new.self) p s.entries s.counted).0
+    (c.in-Some.victim.1, g.E.Eviction.view c.pop_at.new.self) = rw c.in-Some.is at c.in_ok-victim.ensures.pops in
+    (victim_entries (meaning_of s) g.met.K.Eq.laws g.met.E.Eviction.lawful (holding s) c.in-Some.victim.1
+    (g.E.Eviction.view c.pop_at.new.self) p s.entries s.counted).0
 
 pub leave-requires : goal.leave-requires
 leave-requires g c =
     let s = c.args.self.now in
     let p : g.E.Eviction.model.pop (g.E.Eviction.view s.eviction) ≡ Some
-    (c.in-Some.item, g.E.Eviction.view c.pop.new.self) = rw c.in-Some.is at c.in_ok-item.ensures.pops in
-    let there : slot_in s.records c.in-Some-stands.slot ≡ Some c.in-Some-get.found.now =
+    (c.in-Some.victim.1, g.E.Eviction.view c.pop_at.new.self) = rw c.in-Some.is at c.in_ok-victim.ensures.pops in
+    let stood : g.E.Eviction.at s.eviction c.number-slot.result ≡ Some c.in-Some.victim.1 =
+    rw c.number-slot.ensures (rw c.in-Some.is at c.in_ok-victim.ensures.stood) in
+    let known = stood_known (meaning_of s) g.met.K.Eq.laws g.met.E.Eviction.lawful (holding s) c.number-slot.result
+    c.in-Some.victim.1 stood in
+    let there : slot_in s.records c.number-slot.result ≡ Some c.in-Some-get.found.now =
     sym (rw c.in-Some-get.is at c.get.ensures) in
-    let res = victim_resident (meaning_of s) g.met.K.Eq.laws g.met.E.Eviction.lawful (holding s) c.in-Some.item
-    (g.E.Eviction.view c.pop.new.self) p c.in-Some-stands.slot c.in-Some-get.found.now
-    (sym c.stands.ensures ∙ c.in-Some-stands.is) there in
+    let res = victim_resident (meaning_of s) g.met.K.Eq.laws g.met.E.Eviction.lawful (holding s) c.in-Some.victim.1
+    (g.E.Eviction.view c.pop_at.new.self) p c.number-slot.result c.in-Some-get.found.now
+    known there in
     subst (λ (o : Option (Kept g.row.K.Denot g.row.V.Denot g.row.P.Denot)). IsSomeAnd o (λ x. x.resident ≡ true))
     (sym there) res
 
@@ -127,26 +127,28 @@ invariant_of-self-2 g c =
     let s = c.args.self.now in
     let lawful = g.met.E.Eviction.lawful in
     let laws = g.met.K.Eq.laws in
-    let v = g.E.Eviction.view c.pop.new.self in
+    let v = g.E.Eviction.view c.pop_at.new.self in
     let x = c.in-Some-get.found.now in
-    let p : g.E.Eviction.model.pop (g.E.Eviction.view s.eviction) ≡ Some (c.in-Some.item, v) =
-    rw c.in-Some.is at c.in_ok-item.ensures.pops in
-    let there : slot_in s.records c.in-Some-stands.slot ≡ Some x = sym (rw c.in-Some-get.is at c.get.ensures) in
-    let known : number_of s.records c.in-Some.item.id ≡ Some c.in-Some-stands.slot = sym c.stands.ensures
-    ∙ c.in-Some-stands.is in
-    let places : (q : ℕ) → g.E.Eviction.at c.pop.new.self q ≡ without c.in-Some.item.id (g.E.Eviction.at s.eviction q)
-    = rw c.in-Some.is at c.in_ok-item.ensures.places in
+    let p : g.E.Eviction.model.pop (g.E.Eviction.view s.eviction) ≡ Some (c.in-Some.victim.1, v) =
+    rw c.in-Some.is at c.in_ok-victim.ensures.pops in
+    let there : slot_in s.records c.number-slot.result ≡ Some x = sym (rw c.in-Some-get.is at c.get.ensures) in
+    let stood : g.E.Eviction.at s.eviction c.number-slot.result ≡ Some c.in-Some.victim.1 =
+    rw c.number-slot.ensures (rw c.in-Some.is at c.in_ok-victim.ensures.stood) in
+    let known = stood_known (meaning_of s) g.met.K.Eq.laws g.met.E.Eviction.lawful (holding s) c.number-slot.result
+    c.in-Some.victim.1 stood in
+    let places : (q : ℕ) → g.E.Eviction.at c.pop_at.new.self q ≡ without c.in-Some.victim.1.id (g.E.Eviction.at s.eviction q)
+    = rw c.in-Some.is at c.in_ok-victim.ensures.places in
     let gone = rw (c.hash.ensures, c.key.ensures) at c.take.ensures in
-    let lighter = victim_lighter (meaning_of s) laws lawful (holding s) c.in-Some.item v p s.usage s.weighed in
-    let fewer = victim_entries (meaning_of s) laws lawful (holding s) c.in-Some.item v p s.entries s.counted in
+    let lighter = victim_lighter (meaning_of s) laws lawful (holding s) c.in-Some.victim.1 v p s.usage s.weighed in
+    let fewer = victim_entries (meaning_of s) laws lawful (holding s) c.in-Some.victim.1 v p s.entries s.counted in
     record {
-      kept = victim_kept (meaning_of s) laws lawful (holding s) c.in-Some.item v p c.in-Some-stands.slot x known there
+      kept = victim_kept (meaning_of s) laws lawful (holding s) c.in-Some.victim.1 v p c.number-slot.result x known there
           c.leave.new.self (c.leave.ensures.slots x there) (c.leave.ensures.records x there)
-          (g.E.Eviction.at c.pop.new.self) places (g.I.Finder.view c.take.new.self) gone;
-      stored = victim_stored (meaning_of s) laws lawful (holding s) c.in-Some.item v p c.in-Some-stands.slot x known
+          (g.E.Eviction.at c.pop_at.new.self) places (g.I.Finder.view c.take.new.self) gone;
+      stored = victim_stored (meaning_of s) laws lawful (holding s) c.in-Some.victim.1 v p c.number-slot.result x known
           there c.leave.new.self (c.leave.ensures.slots x there) (c.leave.ensures.records x there)
-          (g.E.Eviction.at c.pop.new.self) places (g.I.Finder.view c.take.new.self) gone;
-      weighed = victim_weight (meaning_of s) laws lawful (holding s) c.in-Some.item v p s.usage s.weighed;
+          (g.E.Eviction.at c.pop_at.new.self) places (g.I.Finder.view c.take.new.self) gone;
+      weighed = victim_weight (meaning_of s) laws lawful (holding s) c.in-Some.victim.1 v p s.usage s.weighed;
       counted = fewer.1;
       numbered = omega (arith, s.numbered, fewer.0);
     }
@@ -156,27 +158,29 @@ returns-clause-some g c =
     let s = c.args.self.now in
     let lawful = g.met.E.Eviction.lawful in
     let laws = g.met.K.Eq.laws in
-    let v = g.E.Eviction.view c.pop.new.self in
+    let v = g.E.Eviction.view c.pop_at.new.self in
     let x = c.in-Some-get.found.now in
-    let p : g.E.Eviction.model.pop (g.E.Eviction.view s.eviction) ≡ Some (c.in-Some.item, v) =
-    rw c.in-Some.is at c.in_ok-item.ensures.pops in
-    let there : slot_in s.records c.in-Some-stands.slot ≡ Some x = sym (rw c.in-Some-get.is at c.get.ensures) in
-    let known : number_of s.records c.in-Some.item.id ≡ Some c.in-Some-stands.slot = sym c.stands.ensures
-    ∙ c.in-Some-stands.is in
-    let places : (q : ℕ) → g.E.Eviction.at c.pop.new.self q ≡ without c.in-Some.item.id (g.E.Eviction.at s.eviction q)
-    = rw c.in-Some.is at c.in_ok-item.ensures.places in
+    let p : g.E.Eviction.model.pop (g.E.Eviction.view s.eviction) ≡ Some (c.in-Some.victim.1, v) =
+    rw c.in-Some.is at c.in_ok-victim.ensures.pops in
+    let there : slot_in s.records c.number-slot.result ≡ Some x = sym (rw c.in-Some-get.is at c.get.ensures) in
+    let stood : g.E.Eviction.at s.eviction c.number-slot.result ≡ Some c.in-Some.victim.1 =
+    rw c.number-slot.ensures (rw c.in-Some.is at c.in_ok-victim.ensures.stood) in
+    let known = stood_known (meaning_of s) g.met.K.Eq.laws g.met.E.Eviction.lawful (holding s) c.number-slot.result
+    c.in-Some.victim.1 stood in
+    let places : (q : ℕ) → g.E.Eviction.at c.pop_at.new.self q ≡ without c.in-Some.victim.1.id (g.E.Eviction.at s.eviction q)
+    = rw c.in-Some.is at c.in_ok-victim.ensures.places in
     let gone = rw (c.hash.ensures, c.key.ensures) at c.take.ensures in
     record {
-      item = c.in-Some.item;
+      item = c.in-Some.victim.1;
       view = v;
       rec = rec_of x;
       popped = p;
-      there = victim_record (meaning_of s) laws lawful (holding s) c.in-Some.item v p c.in-Some-stands.slot x known
+      there = victim_record (meaning_of s) laws lawful (holding s) c.in-Some.victim.1 v p c.number-slot.result x known
           there c.leave.new.self (c.leave.ensures.slots x there) (c.leave.ensures.records x there)
-          (g.E.Eviction.at c.pop.new.self) places (g.I.Finder.view c.take.new.self) gone;
-      gone_is = c.leave.ensures.left x there ∙ victim_gone (meaning_of s) laws lawful (holding s) c.in-Some.item v p
-          c.in-Some-stands.slot x known there;
-      after = victim_after (meaning_of s) laws lawful (holding s) c.in-Some.item v p c.in-Some-stands.slot x known there
+          (g.E.Eviction.at c.pop_at.new.self) places (g.I.Finder.view c.take.new.self) gone;
+      gone_is = c.leave.ensures.left x there ∙ victim_gone (meaning_of s) laws lawful (holding s) c.in-Some.victim.1 v p
+          c.number-slot.result x known there;
+      after = victim_after (meaning_of s) laws lawful (holding s) c.in-Some.victim.1 v p c.number-slot.result x known there
           c.leave.new.self (c.leave.ensures.slots x there) (c.leave.ensures.records x there)
-          (g.E.Eviction.at c.pop.new.self) places (g.I.Finder.view c.take.new.self) gone;
+          (g.E.Eviction.at c.pop_at.new.self) places (g.I.Finder.view c.take.new.self) gone;
     }

@@ -16,7 +16,7 @@ loop-self-init g c =
           (begun-start m c.args.target (state_of s));
       one_more = λ h. h;
       room = λ h. h;
-      policy_room = omega arith;
+      places = λ h. h;
     }
 
 pub loop-self-smaller : goal.loop-self-smaller
@@ -46,7 +46,7 @@ loop-self-preserved g c =
           inv.begun);
       one_more = λ h. omega (arith, c.in-Ok.ensures.ok, c.push_reserved.ensures.len, c.push_reserved.ensures.capacity);
       room = λ r. c.in-Ok-Some.ensures.room (inv.room r);
-      policy_room = omega (arith, c.in-Ok-Some.ensures.policy_room, inv.policy_room);
+      places = λ h. c.in-Ok-Some.ensures.places (inv.places h);
     }
 
 pub returns-in-Ok-None-clause-done : goal.returns-in-Ok-None-clause-done

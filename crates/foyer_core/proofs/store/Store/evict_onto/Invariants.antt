@@ -1,6 +1,6 @@
 use Rattle.std.proofs.Common.{◌<◌, ◌≤◌, length, vec_len, vec_capacity}
 use Rattle.foyer_core.specs.Records.{HasRoom}
-use Rattle.foyer_core.specs.Stores.{meaning_of, state_of}
+use Rattle.foyer_core.specs.Stores.{meaning_of, state_of, HasPlaces}
 use Rattle.foyer_core.proofs.Evictions.{Begun}
 use Rattle.foyer_core.specs.Bulk.{GoesOn}
 use Rattle.foyer_core.proofs.store.Store.evict_onto.Given as goal
@@ -12,7 +12,7 @@ invariant-loop-self g l = record {
       (λ ls. Begun (meaning_of l.fn.self) l.target (state_of l.fn.self) ls (state_of l.self));
   one_more : vec_len l.fn.leaves < vec_capacity l.fn.leaves → vec_len l.leaves < vec_capacity l.leaves;
   room : HasRoom l.fn.self.records → HasRoom l.self.records;
-  policy_room : g.E.Eviction.room l.fn.self.eviction ≤ g.E.Eviction.room l.self.eviction;
+  places : HasPlaces l.fn.self → HasPlaces l.self;
 }
 
 abbrev pub decreases-loop-self : goal.decreases-loop-self

@@ -1,9 +1,9 @@
-use Rattle.std.proofs.Common.{◌≡◌, ◌+◌, Some, None, refl, sym, ◌∙◌, arith, rules}
+use Rattle.std.proofs.Common.{◌≡◌, ◌+◌, Some, None, refl, sym, ◌∙◌, ap, arith, rules}
 use Rattle.foyer_core.specs.Stores.{meaning_of, state_of}
 use Rattle.foyer_core.specs.Steps.{Gets}
 use Rattle.foyer_core.specs.Table.{rec_of}
 use Rattle.foyer_core.specs.Records.{slot_in}
-use Rattle.foyer_core.proofs.StoredLemmas.{none_not, err_is, place_is, count_stored}
+use Rattle.foyer_core.proofs.StoredLemmas.{none_not, err_is, count_stored}
 use Rattle.foyer_core.proofs.Holdings.{holding}
 use Rattle.foyer_core.proofs.ShardLemmas.{hits, found, resident, placed, got_after, got_kept, got_counted, got_entries}
 use Rattle.foyer_core.proofs.store.Store.get.Goals as goal
@@ -34,16 +34,6 @@ returns-then-handles-self g c =
       );
     }
 
-pub unreachable-requires-in_default-place : goal.unreachable-requires-in_default-place
-unreachable-requires-in_default-place g c =
-    let s = c.args.self.now in
-    let x = c.in-Some-get.found.now in
-    let there : slot_in s.records c.in-Some.slot ≡ Some x = sym (rw c.in-Some-get.is at c.get.ensures) in
-    let res = resident (meaning_of s) g.met.K.Eq.laws g.met.E.Eviction.lawful (holding s)
-    (c.args.hash, c.args.key.now) c.in-Some.slot (sym c.slot_under.ensures ∙ c.in-Some.is) x there in
-    none_not x.place (place_is (meaning_of s) (g.E.Eviction.at s.eviction) (g.I.Finder.view s.index) s.records
-    s.stored c.in-Some.slot x there res) (sym c.place.ensures ∙ c.in_default-place.is)
-
 pub returns-in_err-entry : goal.returns-in_err-entry
 returns-in_err-entry g c =
     let s = c.args.self.now in
@@ -65,18 +55,28 @@ returns-in_err-entry g c =
           ));
     }
 
+pub item-item-requires : goal.item-item-requires
+item-item-requires g c =
+    let s = c.args.self.now in
+    let x = c.in-Some-get.found.now in
+    let there : slot_in s.records c.in-Some.slot ≡ Some x = sym (rw c.in-Some-get.is at c.get.ensures) in
+    let at = ap (g.E.Eviction.at s.eviction) c.at-place.ensures
+    ∙ placed (meaning_of s) g.met.K.Eq.laws g.met.E.Eviction.lawful (holding s) (c.args.hash, c.args.key.now)
+    c.in-Some.slot (sym c.slot_under.ensures ∙ c.in-Some.is) x there in
+    rw at (search rules)
+
 pub acquire-requires : goal.acquire-requires
 acquire-requires g c =
     let s = c.args.self.now in
     let x = c.in-Some-get.found.now in
     let there : slot_in s.records c.in-Some.slot ≡ Some x = sym (rw c.in-Some-get.is at c.get.ensures) in
-    let at = placed (meaning_of s) g.met.K.Eq.laws g.met.E.Eviction.lawful (holding s) (c.args.hash, c.args.key.now)
-    c.in-Some.slot (sym c.slot_under.ensures ∙ c.in-Some.is) x there c.in-Some-place.place
-    (sym c.place.ensures ∙ c.in-Some-place.is) in
+    let at = ap (g.E.Eviction.at s.eviction) c.at-place.ensures
+    ∙ placed (meaning_of s) g.met.K.Eq.laws g.met.E.Eviction.lawful (holding s) (c.args.hash, c.args.key.now)
+    c.in-Some.slot (sym c.slot_under.ensures ∙ c.in-Some.is) x there in
     rw at (search rules)
 
-pub invariant_of-self : goal.invariant_of-self
-invariant_of-self g c =
+pub invariant_of-self-2 : goal.invariant_of-self-2
+invariant_of-self-2 g c =
     let s = c.args.self.now in
     let lawful = g.met.E.Eviction.lawful in
     let laws = g.met.K.Eq.laws in
@@ -84,8 +84,8 @@ invariant_of-self g c =
     let x = c.in-Some-get.found.now in
     let there : slot_in s.records c.in-Some.slot ≡ Some x = sym (rw c.in-Some-get.is at c.get.ensures) in
     let led = sym c.slot_under.ensures ∙ c.in-Some.is in
-    let at = placed m laws lawful (holding s) (c.args.hash, c.args.key.now) c.in-Some.slot led x there
-    c.in-Some-place.place (sym c.place.ensures ∙ c.in-Some-place.is) in
+    let at = ap (g.E.Eviction.at s.eviction) c.at-place.ensures
+    ∙ placed m laws lawful (holding s) (c.args.hash, c.args.key.now) c.in-Some.slot led x there in
     let viewed : g.E.Eviction.view c.acquire.new.self ≡ m.policy.acquire (g.E.Eviction.view s.eviction) x.id =
     rw at at c.acquire.ensures.view in
     let write = c.add_handle.ensures.slots x there in
@@ -114,8 +114,8 @@ returns g c =
     let x = c.in-Some-get.found.now in
     let there : slot_in s.records c.in-Some.slot ≡ Some x = sym (rw c.in-Some-get.is at c.get.ensures) in
     let led = sym c.slot_under.ensures ∙ c.in-Some.is in
-    let at = placed m laws lawful (holding s) (c.args.hash, c.args.key.now) c.in-Some.slot led x there
-    c.in-Some-place.place (sym c.place.ensures ∙ c.in-Some-place.is) in
+    let at = ap (g.E.Eviction.at s.eviction) c.at-place.ensures
+    ∙ placed m laws lawful (holding s) (c.args.hash, c.args.key.now) c.in-Some.slot led x there in
     let viewed : g.E.Eviction.view c.acquire.new.self ≡ m.policy.acquire (g.E.Eviction.view s.eviction) x.id =
     rw at at c.acquire.ensures.view in
     let write = c.add_handle.ensures.slots x there in

@@ -3,7 +3,7 @@ use Rattle.foyer_core.specs.Stores.{meaning_of, state_of}
 use Rattle.foyer_core.specs.Steps.{GivesBack}
 use Rattle.foyer_core.specs.Records.{slot_in, number_of}
 use Rattle.foyer_core.proofs.Holdings.{holding}
-use Rattle.foyer_core.proofs.StoredLemmas.{none_not, place_is, place_there}
+use Rattle.foyer_core.proofs.StoredLemmas.{none_not, item_there}
 use Rattle.foyer_core.proofs.GivingBack.{
   named_there,
   named_id,
@@ -72,23 +72,14 @@ returns-then-not-is_resident-clause-taken g c =
           (named_id s.records c.args.entry.id c.in-Some.slot named x there) (c.forget.ensures x there),
     )
 
-pub unreachable-requires-in_default-place : goal.unreachable-requires-in_default-place
-unreachable-requires-in_default-place g c =
-    let s = c.args.self.now in
-    let x = c.in-Some-get.found.now in
-    let there : slot_in s.records c.in-Some.slot ≡ Some x = sym (rw c.in-Some-get.is at c.get.ensures) in
-    let res : x.resident ≡ true = sym c.is_resident.ensures ∙ c.if-not-is_resident.false in
-    none_not x.place (place_is (meaning_of s) (g.E.Eviction.at s.eviction) (g.I.Finder.view s.index) s.records
-    s.stored c.in-Some.slot x there res) (sym c.place.ensures ∙ c.in_default-place.is)
-
 pub release-requires-after_bounds : goal.release-requires-after_bounds
 release-requires-after_bounds g c κs within =
     let s = c.args.self.now in
     let x = c.in-Some-get.found.now in
     let there : slot_in s.records c.in-Some.slot ≡ Some x = sym (rw c.in-Some-get.is at c.get.ensures) in
     let res : x.resident ≡ true = sym c.is_resident.ensures ∙ c.if-not-is_resident.false in
-    let at = place_there (meaning_of s) (g.E.Eviction.at s.eviction) (g.I.Finder.view s.index) s.records s.stored
-    c.in-Some.slot x c.in-Some-place.place there res (sym c.place.ensures ∙ c.in-Some-place.is) in
+    let at = ap (g.E.Eviction.at s.eviction) c.at.ensures ∙ item_there (meaning_of s) (g.E.Eviction.at s.eviction) (g.I.Finder.view s.index) s.records s.stored
+    c.in-Some.slot x there res in
     rw at (search rules)
 
 pub invariant_of-self-2 : goal.invariant_of-self-2
@@ -102,8 +93,7 @@ invariant_of-self-2 g c =
     let res : x.resident ≡ true = sym c.is_resident.ensures ∙ c.if-not-is_resident.false in
     let one : x.handles ≡ 1 =
     omega (arith, c.handles-handles.ensures, c.if-handles-eq0.false, c.if-handles-gt1.false) in
-    let at = place_there m (g.E.Eviction.at s.eviction) (g.I.Finder.view s.index) s.records s.stored c.in-Some.slot x
-    c.in-Some-place.place there res (sym c.place.ensures ∙ c.in-Some-place.is) in
+    let at = ap (g.E.Eviction.at s.eviction) c.at.ensures ∙ item_there m (g.E.Eviction.at s.eviction) (g.I.Finder.view s.index) s.records s.stored c.in-Some.slot x there res in
     let view = g.E.Eviction.view c.release.new.self in
     let viewed : view ≡ m.policy.release (g.E.Eviction.view s.eviction) x.id = rw at at c.release.ensures.view in
     let t = c.take_handle-2.new.self in
@@ -131,8 +121,7 @@ returns-clause-taken g c =
     let res : x.resident ≡ true = sym c.is_resident.ensures ∙ c.if-not-is_resident.false in
     let one : x.handles ≡ 1 =
     omega (arith, c.handles-handles.ensures, c.if-handles-eq0.false, c.if-handles-gt1.false) in
-    let at = place_there m (g.E.Eviction.at s.eviction) (g.I.Finder.view s.index) s.records s.stored c.in-Some.slot x
-    c.in-Some-place.place there res (sym c.place.ensures ∙ c.in-Some-place.is) in
+    let at = ap (g.E.Eviction.at s.eviction) c.at.ensures ∙ item_there m (g.E.Eviction.at s.eviction) (g.I.Finder.view s.index) s.records s.stored c.in-Some.slot x there res in
     let view = g.E.Eviction.view c.release.new.self in
     let viewed : view ≡ m.policy.release (g.E.Eviction.view s.eviction) x.id = rw at at c.release.ensures.view in
     let t = c.take_handle-2.new.self in

@@ -1,7 +1,7 @@
 use Rattle.std.proofs.Common.{◌≡◌, ◌+◌, ℕ, max, ◌∙◌, ap, arith}
 use Rattle.foyer_core.specs.Stores.{meaning_of}
 use Rattle.foyer_core.specs.Values.{Incoming, incoming_of}
-use Rattle.foyer_core.proofs.AdmitLemmas.{led_not}
+use Rattle.foyer_core.proofs.AdmitLemmas.{led_not, no_item}
 use Rattle.foyer_core.proofs.Holdings.{holding}
 use Rattle.foyer_core.proofs.HoldLemmas.{held_stored, held_after, held_kept}
 use Rattle.foyer_core.proofs.store.Store.hold.Goals as goal
@@ -24,7 +24,9 @@ invariant_of-self g c =
           c.put-place.ensures.slots c.put-place.ensures.records c.above-self.result next c.requires.out
           c.requires.held c.requires.handles;
       stored = held_stored m (holding s) inc n unled c.args.slot c.requires.apart c.put-place.new.self
-          c.put-place.ensures.slots c.put-place.ensures.records;
+          c.put-place.ensures.slots c.put-place.ensures.records
+          (no_item m g.met.K.Eq.laws g.met.E.Eviction.lawful (holding s) n c.put-place.result.1
+          c.put-place.ensures.stood (λ r h. c.requires.out r (c.put-place.ensures.was ∙ h)));
       weighed = s.weighed;
       counted = s.counted;
       numbered = rw next (omega (arith, s.numbered));

@@ -14,7 +14,8 @@ invariant_of-result g c =
       kept = opened_kept m keys t c.requires c.new-2.ensures.slots c.new-2.ensures.ids g.met.K.Eq.laws
           g.met.E.Eviction.lawful c.args.capacity c.args.config.now (g.E.Eviction.view s) sound
           c.in_ok-eviction.ensures.view c.args.number c.args.limits;
-      stored = opened_stored m keys t c.requires c.new-2.ensures.slots c.new-2.ensures.ids (g.E.Eviction.at s);
+      stored = opened_stored m keys t c.requires c.new-2.ensures.slots c.new-2.ensures.ids (g.E.Eviction.at s)
+          c.in_ok-eviction.ensures.places;
       weighed = opened_weight m keys t c.requires c.new-2.ensures.slots c.new-2.ensures.ids g.met.K.Eq.laws
           g.met.E.Eviction.lawful c.args.capacity c.args.config.now (g.E.Eviction.view s) sound
           c.in_ok-eviction.ensures.view;

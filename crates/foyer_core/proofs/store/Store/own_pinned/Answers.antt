@@ -1,7 +1,7 @@
-use Rattle.std.proofs.Common.{◌≡◌, Some, None, sym, ◌∙◌, rules}
+use Rattle.std.proofs.Common.{◌≡◌, Some, None, sym, ◌∙◌, ap, rules}
 use Rattle.foyer_core.specs.Stores.{meaning_of}
 use Rattle.foyer_core.specs.Records.{slot_in}
-use Rattle.foyer_core.proofs.StoredLemmas.{none_not, place_is}
+use Rattle.foyer_core.proofs.StoredLemmas.{none_not}
 use Rattle.foyer_core.proofs.Holdings.{holding}
 use Rattle.foyer_core.proofs.ShardLemmas.{resident, placed}
 use Rattle.foyer_core.proofs.PinLemmas.{own_pinned_weight, own_free_weight}
@@ -14,24 +14,14 @@ unreachable-requires g c =
     none_not (slot_in s.records c.in-Some.slot)
     (s.stored.led (c.args.hash, c.args.key.now) c.in-Some.slot (sym c.slot_under.ensures ∙ c.in-Some.is)) none
 
-pub unreachable-requires-in_default-place : goal.unreachable-requires-in_default-place
-unreachable-requires-in_default-place g c =
-    let s = c.args.self.now in
-    let x = c.in-Some-get.found.now in
-    let there : slot_in s.records c.in-Some.slot ≡ Some x = sym (rw c.in-Some-get.is at c.get.ensures) in
-    let res = resident (meaning_of s) g.met.K.Eq.laws g.met.E.Eviction.lawful (holding s)
-    (c.args.hash, c.args.key.now) c.in-Some.slot (sym c.slot_under.ensures ∙ c.in-Some.is) x there in
-    none_not x.place (place_is (meaning_of s) (g.E.Eviction.at s.eviction) (g.I.Finder.view s.index) s.records
-    s.stored c.in-Some.slot x there res) (sym c.place.ensures ∙ c.in_default-place.is)
-
 pub is_pinned-pinned-requires-after_bounds : goal.is_pinned-pinned-requires-after_bounds
 is_pinned-pinned-requires-after_bounds g c κs within =
     let s = c.args.self.now in
     let x = c.in-Some-get.found.now in
     let there : slot_in s.records c.in-Some.slot ≡ Some x = sym (rw c.in-Some-get.is at c.get.ensures) in
-    let at = placed (meaning_of s) g.met.K.Eq.laws g.met.E.Eviction.lawful (holding s) (c.args.hash, c.args.key.now)
-    c.in-Some.slot (sym c.slot_under.ensures ∙ c.in-Some.is) x there c.in-Some-place.place
-    (sym c.place.ensures ∙ c.in-Some-place.is) in
+    let at = ap (g.E.Eviction.at s.eviction) c.at.ensures
+    ∙ placed (meaning_of s) g.met.K.Eq.laws g.met.E.Eviction.lawful (holding s) (c.args.hash, c.args.key.now)
+    c.in-Some.slot (sym c.slot_under.ensures ∙ c.in-Some.is) x there in
     rw at (search rules)
 
 pub returns-then-pinned : goal.returns-then-pinned
@@ -42,8 +32,8 @@ returns-then-pinned g c =
     let x = c.in-Some-get.found.now in
     let there : slot_in s.records c.in-Some.slot ≡ Some x = sym (rw c.in-Some-get.is at c.get.ensures) in
     let led = sym c.slot_under.ensures ∙ c.in-Some.is in
-    let at = placed (meaning_of s) laws lawful (holding s) (c.args.hash, c.args.key.now) c.in-Some.slot led x there
-    c.in-Some-place.place (sym c.place.ensures ∙ c.in-Some-place.is) in
+    let at = ap (g.E.Eviction.at s.eviction) c.at.ensures
+    ∙ placed (meaning_of s) laws lawful (holding s) (c.args.hash, c.args.key.now) c.in-Some.slot led x there in
     let tells = rw at at c.is_pinned-pinned.ensures in
     rw c.weight.ensures (own_pinned_weight (meaning_of s) laws lawful (holding s) (c.args.hash, c.args.key.now)
     c.in-Some.slot led x there (tells.0 c.if-pinned.true))
@@ -56,8 +46,8 @@ returns-else-pinned g c =
     let x = c.in-Some-get.found.now in
     let there : slot_in s.records c.in-Some.slot ≡ Some x = sym (rw c.in-Some-get.is at c.get.ensures) in
     let led = sym c.slot_under.ensures ∙ c.in-Some.is in
-    let at = placed (meaning_of s) laws lawful (holding s) (c.args.hash, c.args.key.now) c.in-Some.slot led x there
-    c.in-Some-place.place (sym c.place.ensures ∙ c.in-Some-place.is) in
+    let at = ap (g.E.Eviction.at s.eviction) c.at.ensures
+    ∙ placed (meaning_of s) laws lawful (holding s) (c.args.hash, c.args.key.now) c.in-Some.slot led x there in
     let tells = rw at at c.is_pinned-pinned.ensures in
     own_free_weight (meaning_of s) laws lawful (holding s) (c.args.hash, c.args.key.now) c.in-Some.slot led x there
     (λ pos. absurd (let yes = tells.1 pos in cc))

@@ -7,7 +7,7 @@ use Rattle.foyer_core.specs.Stores.{meaning_of, state_of}
 use Rattle.foyer_core.specs.Steps.{Removes}
 use Rattle.foyer_core.specs.Table.{rec_of}
 use Rattle.foyer_core.specs.Records.{slot_in}
-use Rattle.foyer_core.proofs.StoredLemmas.{none_not, err_is, place_is}
+use Rattle.foyer_core.proofs.StoredLemmas.{none_not, err_is}
 use Rattle.foyer_core.proofs.Holdings.{holding}
 use Rattle.foyer_core.proofs.ShardLemmas.{hits, found, resident, placed}
 use Rattle.foyer_core.proofs.Removed.{some_item, more_there, removed_lighter, removed_usage, removed_entries, removed_kept, removed_stored, removes}
@@ -42,17 +42,6 @@ returns-then-handles-self g c =
       );
     }
 
-pub unreachable-requires-in_default-place : goal.unreachable-requires-in_default-place
-unreachable-requires-in_default-place g c =
-    let s = c.args.self.now in
-    let k : ℕ × g.row.K.Denot = (c.args.hash, c.args.key.now) in
-    let x = c.in-Some-get.found.now in
-    let there : slot_in s.records c.in-Some.slot ≡ Some x = sym (rw c.in-Some-get.is at c.get.ensures) in
-    let res = resident (meaning_of s) g.met.K.Eq.laws g.met.E.Eviction.lawful (holding s) k c.in-Some.slot
-    (sym c.slot_under.ensures ∙ c.in-Some.is) x there in
-    none_not x.place (place_is (meaning_of s) (g.E.Eviction.at s.eviction) (g.I.Finder.view s.index) s.records
-    s.stored c.in-Some.slot x there res) (sym c.place.ensures ∙ c.in_default-place.is)
-
 pub returns-in_err-entry : goal.returns-in_err-entry
 returns-in_err-entry g c =
     let s = c.args.self.now in
@@ -84,9 +73,9 @@ remove-item-requires-after_bounds g c κs within =
     let k : ℕ × g.row.K.Denot = (c.args.hash, c.args.key.now) in
     let x = c.in-Some-get.found.now in
     let there : slot_in s.records c.in-Some.slot ≡ Some x = sym (rw c.in-Some-get.is at c.get.ensures) in
-    let at = placed (meaning_of s) g.met.K.Eq.laws g.met.E.Eviction.lawful (holding s) k c.in-Some.slot
-    (sym c.slot_under.ensures ∙ c.in-Some.is) x there c.in-Some-place.place
-    (sym c.place.ensures ∙ c.in-Some-place.is) in
+    let at = ap (g.E.Eviction.at s.eviction) c.at.ensures
+    ∙ placed (meaning_of s) g.met.K.Eq.laws g.met.E.Eviction.lawful (holding s) k c.in-Some.slot
+    (sym c.slot_under.ensures ∙ c.in-Some.is) x there in
     rw at (search rules)
 
 pub overflow_sub-self : goal.overflow_sub-self
@@ -98,8 +87,8 @@ overflow_sub-self g c =
     let x = c.in-Some-get.found.now in
     let there : slot_in s.records c.in-Some.slot ≡ Some x = sym (rw c.in-Some-get.is at c.get.ensures) in
     let led = sym c.slot_under.ensures ∙ c.in-Some.is in
-    let at = placed (meaning_of s) laws lawful (holding s) k c.in-Some.slot led x there c.in-Some-place.place
-    (sym c.place.ensures ∙ c.in-Some-place.is) in
+    let at = ap (g.E.Eviction.at s.eviction) c.at.ensures
+    ∙ placed (meaning_of s) laws lawful (holding s) k c.in-Some.slot led x there in
     let item = some_item (sym c.remove-item.ensures.item ∙ at) in
     rw item (removed_lighter (meaning_of s) laws lawful (holding s) k c.in-Some.slot led x there s.usage s.weighed)
 
@@ -125,8 +114,8 @@ invariant_of-self g c =
     let x = c.in-Some-get.found.now in
     let there : slot_in s.records c.in-Some.slot ≡ Some x = sym (rw c.in-Some-get.is at c.get.ensures) in
     let led = sym c.slot_under.ensures ∙ c.in-Some.is in
-    let at = placed m laws lawful (holding s) k c.in-Some.slot led x there c.in-Some-place.place
-    (sym c.place.ensures ∙ c.in-Some-place.is) in
+    let at = ap (g.E.Eviction.at s.eviction) c.at.ensures
+    ∙ placed m laws lawful (holding s) k c.in-Some.slot led x there in
     let item = some_item (sym c.remove-item.ensures.item ∙ at) in
     let view = g.E.Eviction.view c.remove-item.new.self in
     let viewed : view ≡ m.policy.remove (g.E.Eviction.view s.eviction) x.id = c.remove-item.ensures.view ∙ ap
@@ -161,8 +150,8 @@ returns g c =
     let x = c.in-Some-get.found.now in
     let there : slot_in s.records c.in-Some.slot ≡ Some x = sym (rw c.in-Some-get.is at c.get.ensures) in
     let led = sym c.slot_under.ensures ∙ c.in-Some.is in
-    let at = placed m laws lawful (holding s) k c.in-Some.slot led x there c.in-Some-place.place
-    (sym c.place.ensures ∙ c.in-Some-place.is) in
+    let at = ap (g.E.Eviction.at s.eviction) c.at.ensures
+    ∙ placed m laws lawful (holding s) k c.in-Some.slot led x there in
     let item = some_item (sym c.remove-item.ensures.item ∙ at) in
     let view = g.E.Eviction.view c.remove-item.new.self in
     let viewed : view ≡ m.policy.remove (g.E.Eviction.view s.eviction) x.id = c.remove-item.ensures.view ∙ ap

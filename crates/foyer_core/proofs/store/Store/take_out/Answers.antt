@@ -7,7 +7,7 @@ use Rattle.foyer_core.specs.State.{key_of}
 use Rattle.foyer_core.specs.Stores.{meaning_of}
 use Rattle.foyer_core.specs.Table.{rec_of}
 use Rattle.foyer_core.specs.Records.{slot_in, number_of}
-use Rattle.foyer_core.proofs.StoredLemmas.{none_not, place_is}
+use Rattle.foyer_core.proofs.StoredLemmas.{none_not, some_of}
 use Rattle.foyer_core.proofs.Holdings.{holding}
 use Rattle.foyer_core.proofs.ShardLemmas.{resident, placed}
 use Rattle.foyer_core.proofs.Removed.{some_item, removed_lighter, removed_usage, removed_entries}
@@ -21,29 +21,6 @@ unreachable-requires g c =
     none_not (number_of s.records c.args.id) (out_known m g.met.K.Eq.laws g.met.E.Eviction.lawful (holding s)
     c.args.id c.requires) (sym c.find.ensures ∙ c.in_default.is)
 
-pub unreachable-requires-in_default-get : goal.unreachable-requires-in_default-get
-unreachable-requires-in_default-get g c =
-    let s = c.args.self.now in
-    let m = meaning_of s in
-    let known : number_of s.records c.args.id ≡ Some c.in-Some.slot = sym c.find.ensures ∙ c.in-Some.is in
-    let none : slot_in s.records c.in-Some.slot ≡ None = sym (rw c.in_default-get.is at c.get.ensures) in
-    none_not (slot_in s.records c.in-Some.slot)
-    (out_there m g.met.K.Eq.laws g.met.E.Eviction.lawful (holding s) c.args.id c.requires c.in-Some.slot known) none
-
-pub unreachable-requires-in_default-place : goal.unreachable-requires-in_default-place
-unreachable-requires-in_default-place g c =
-    let s = c.args.self.now in
-    let lawful = g.met.E.Eviction.lawful in
-    let laws = g.met.K.Eq.laws in
-    let m = meaning_of s in
-    let known : number_of s.records c.args.id ≡ Some c.in-Some.slot = sym c.find.ensures ∙ c.in-Some.is in
-    let x = c.in-Some-get.found.now in
-    let there : slot_in s.records c.in-Some.slot ≡ Some x = sym (rw c.in-Some-get.is at c.get.ensures) in
-    let led = out_led m laws lawful (holding s) c.args.id c.requires c.in-Some.slot known x there in
-    let res = resident m laws lawful (holding s) (key_of x.kept) c.in-Some.slot led x there in
-    none_not x.place (place_is m (g.E.Eviction.at s.eviction) (g.I.Finder.view s.index) s.records s.stored
-    c.in-Some.slot x there res) (sym c.place.ensures ∙ c.in_default-place.is)
-
 pub remove-item-requires-after_bounds : goal.remove-item-requires-after_bounds
 remove-item-requires-after_bounds g c κs within =
     let s = c.args.self.now in
@@ -51,11 +28,13 @@ remove-item-requires-after_bounds g c κs within =
     let laws = g.met.K.Eq.laws in
     let m = meaning_of s in
     let known : number_of s.records c.args.id ≡ Some c.in-Some.slot = sym c.find.ensures ∙ c.in-Some.is in
-    let x = c.in-Some-get.found.now in
-    let there : slot_in s.records c.in-Some.slot ≡ Some x = sym (rw c.in-Some-get.is at c.get.ensures) in
+    let y = some_of (slot_in s.records c.in-Some.slot)
+    (out_there m laws lawful (holding s) c.args.id c.requires c.in-Some.slot known) in
+    let x = y.0 in
+    let there : slot_in s.records c.in-Some.slot ≡ Some x = y.1 in
     let led = out_led m laws lawful (holding s) c.args.id c.requires c.in-Some.slot known x there in
-    let at = placed m laws lawful (holding s) (key_of x.kept) c.in-Some.slot led x there c.in-Some-place.place
-    (sym c.place.ensures ∙ c.in-Some-place.is) in
+    let at = ap (g.E.Eviction.at s.eviction) c.at.ensures
+    ∙ placed m laws lawful (holding s) (key_of x.kept) c.in-Some.slot led x there in
     rw at (search rules)
 
 pub overflow_sub-self : goal.overflow_sub-self
@@ -65,11 +44,13 @@ overflow_sub-self g c =
     let laws = g.met.K.Eq.laws in
     let m = meaning_of s in
     let known : number_of s.records c.args.id ≡ Some c.in-Some.slot = sym c.find.ensures ∙ c.in-Some.is in
-    let x = c.in-Some-get.found.now in
-    let there : slot_in s.records c.in-Some.slot ≡ Some x = sym (rw c.in-Some-get.is at c.get.ensures) in
+    let y = some_of (slot_in s.records c.in-Some.slot)
+    (out_there m laws lawful (holding s) c.args.id c.requires c.in-Some.slot known) in
+    let x = y.0 in
+    let there : slot_in s.records c.in-Some.slot ≡ Some x = y.1 in
     let led = out_led m laws lawful (holding s) c.args.id c.requires c.in-Some.slot known x there in
-    let at = placed m laws lawful (holding s) (key_of x.kept) c.in-Some.slot led x there c.in-Some-place.place
-    (sym c.place.ensures ∙ c.in-Some-place.is) in
+    let at = ap (g.E.Eviction.at s.eviction) c.at.ensures
+    ∙ placed m laws lawful (holding s) (key_of x.kept) c.in-Some.slot led x there in
     let item = some_item (sym c.remove-item.ensures.item ∙ at) in
     rw item (removed_lighter m laws lawful (holding s) (key_of x.kept) c.in-Some.slot led x there s.usage s.weighed)
 
@@ -80,8 +61,10 @@ leave_slot-requires-after_bounds g c κs within =
     let laws = g.met.K.Eq.laws in
     let m = meaning_of s in
     let known : number_of s.records c.args.id ≡ Some c.in-Some.slot = sym c.find.ensures ∙ c.in-Some.is in
-    let x = c.in-Some-get.found.now in
-    let there : slot_in s.records c.in-Some.slot ≡ Some x = sym (rw c.in-Some-get.is at c.get.ensures) in
+    let y = some_of (slot_in s.records c.in-Some.slot)
+    (out_there m laws lawful (holding s) c.args.id c.requires c.in-Some.slot known) in
+    let x = y.0 in
+    let there : slot_in s.records c.in-Some.slot ≡ Some x = y.1 in
     let led = out_led m laws lawful (holding s) c.args.id c.requires c.in-Some.slot known x there in
     let res = resident m laws lawful (holding s) (key_of x.kept) c.in-Some.slot led x there in
     subst (λ (o : Option (Kept g.row.K.Denot g.row.V.Denot g.row.P.Denot)). IsSomeAnd o
@@ -95,11 +78,13 @@ invariant_of-self g c =
     let laws = g.met.K.Eq.laws in
     let m = meaning_of s in
     let known : number_of s.records c.args.id ≡ Some c.in-Some.slot = sym c.find.ensures ∙ c.in-Some.is in
-    let x = c.in-Some-get.found.now in
-    let there : slot_in s.records c.in-Some.slot ≡ Some x = sym (rw c.in-Some-get.is at c.get.ensures) in
+    let y = some_of (slot_in s.records c.in-Some.slot)
+    (out_there m laws lawful (holding s) c.args.id c.requires c.in-Some.slot known) in
+    let x = y.0 in
+    let there : slot_in s.records c.in-Some.slot ≡ Some x = y.1 in
     let led = out_led m laws lawful (holding s) c.args.id c.requires c.in-Some.slot known x there in
-    let at = placed m laws lawful (holding s) (key_of x.kept) c.in-Some.slot led x there c.in-Some-place.place
-    (sym c.place.ensures ∙ c.in-Some-place.is) in
+    let at = ap (g.E.Eviction.at s.eviction) c.at.ensures
+    ∙ placed m laws lawful (holding s) (key_of x.kept) c.in-Some.slot led x there in
     let item = some_item (sym c.remove-item.ensures.item ∙ at) in
     let id = out_id m laws lawful (holding s) c.args.id c.requires c.in-Some.slot known x there in
     let view = g.E.Eviction.view c.remove-item.new.self in
@@ -132,11 +117,13 @@ returns-clause-taken g c =
     let laws = g.met.K.Eq.laws in
     let m = meaning_of s in
     let known : number_of s.records c.args.id ≡ Some c.in-Some.slot = sym c.find.ensures ∙ c.in-Some.is in
-    let x = c.in-Some-get.found.now in
-    let there : slot_in s.records c.in-Some.slot ≡ Some x = sym (rw c.in-Some-get.is at c.get.ensures) in
+    let y = some_of (slot_in s.records c.in-Some.slot)
+    (out_there m laws lawful (holding s) c.args.id c.requires c.in-Some.slot known) in
+    let x = y.0 in
+    let there : slot_in s.records c.in-Some.slot ≡ Some x = y.1 in
     let led = out_led m laws lawful (holding s) c.args.id c.requires c.in-Some.slot known x there in
-    let at = placed m laws lawful (holding s) (key_of x.kept) c.in-Some.slot led x there c.in-Some-place.place
-    (sym c.place.ensures ∙ c.in-Some-place.is) in
+    let at = ap (g.E.Eviction.at s.eviction) c.at.ensures
+    ∙ placed m laws lawful (holding s) (key_of x.kept) c.in-Some.slot led x there in
     let item = some_item (sym c.remove-item.ensures.item ∙ at) in
     let id = out_id m laws lawful (holding s) c.args.id c.requires c.in-Some.slot known x there in
     let view = g.E.Eviction.view c.remove-item.new.self in

@@ -2,7 +2,7 @@ use Rattle.std.proofs.Common.{◌≡◌, ◌<◌, ℕ, Some, None, refl, sym, �
 use Rattle.foyer_core.specs.Stores.{meaning_of}
 use Rattle.foyer_core.specs.Table.{rec_of}
 use Rattle.foyer_core.specs.Records.{slot_in}
-use Rattle.foyer_core.proofs.StoredLemmas.{none_not, place_is}
+use Rattle.foyer_core.proofs.StoredLemmas.{none_not}
 use Rattle.foyer_core.proofs.Holdings.{holding}
 use Rattle.foyer_core.proofs.ShardLemmas.{hits, found, resident, placed}
 use Rattle.foyer_core.proofs.Touched.{used, used_held, used_last, touched, touched_kept, touched_stored, touched_weight, touched_entries}
@@ -34,24 +34,14 @@ returns-then-handles-self g c =
       );
     }
 
-pub unreachable-requires-in_default-place : goal.unreachable-requires-in_default-place
-unreachable-requires-in_default-place g c =
-    let s = c.args.self.now in
-    let x = c.in-Some-get.found.now in
-    let there : slot_in s.records c.in-Some.slot ≡ Some x = sym (rw c.in-Some-get.is at c.get.ensures) in
-    let res = resident (meaning_of s) g.met.K.Eq.laws g.met.E.Eviction.lawful (holding s)
-    (c.args.hash, c.args.key.now) c.in-Some.slot (sym c.slot_under.ensures ∙ c.in-Some.is) x there in
-    none_not x.place (place_is (meaning_of s) (g.E.Eviction.at s.eviction) (g.I.Finder.view s.index) s.records
-    s.stored c.in-Some.slot x there res) (sym c.place.ensures ∙ c.in_default-place.is)
-
 pub acquire-requires-after_bounds : goal.acquire-requires-after_bounds
 acquire-requires-after_bounds g c κs within =
     let s = c.args.self.now in
     let x = c.in-Some-get.found.now in
     let there : slot_in s.records c.in-Some.slot ≡ Some x = sym (rw c.in-Some-get.is at c.get.ensures) in
-    let at = placed (meaning_of s) g.met.K.Eq.laws g.met.E.Eviction.lawful (holding s) (c.args.hash, c.args.key.now)
-    c.in-Some.slot (sym c.slot_under.ensures ∙ c.in-Some.is) x there c.in-Some-place.place
-    (sym c.place.ensures ∙ c.in-Some-place.is) in
+    let at = ap (g.E.Eviction.at s.eviction) c.at-place.ensures
+    ∙ placed (meaning_of s) g.met.K.Eq.laws g.met.E.Eviction.lawful (holding s) (c.args.hash, c.args.key.now)
+    c.in-Some.slot (sym c.slot_under.ensures ∙ c.in-Some.is) x there in
     rw at (search rules)
 
 pub invariant_of-self : goal.invariant_of-self
@@ -64,8 +54,8 @@ invariant_of-self g c =
     let x = c.in-Some-get.found.now in
     let there : slot_in s.records c.in-Some.slot ≡ Some x = sym (rw c.in-Some-get.is at c.get.ensures) in
     let led = sym c.slot_under.ensures ∙ c.in-Some.is in
-    let at = placed m laws lawful (holding s) k c.in-Some.slot led x there c.in-Some-place.place
-    (sym c.place.ensures ∙ c.in-Some-place.is) in
+    let at = ap (g.E.Eviction.at s.eviction) c.at-place.ensures
+    ∙ placed m laws lawful (holding s) k c.in-Some.slot led x there in
     let view = g.E.Eviction.view c.acquire.new.self in
     let viewed : view ≡ m.policy.acquire (g.E.Eviction.view s.eviction) x.id = rw at at c.acquire.ensures.view in
     let is : view ≡ used m laws lawful (holding s) x.id x.handles = viewed ∙ used_held m laws lawful (holding s) x.id
@@ -90,8 +80,8 @@ returns-then-handles-gt0 g c =
     let x = c.in-Some-get.found.now in
     let there : slot_in s.records c.in-Some.slot ≡ Some x = sym (rw c.in-Some-get.is at c.get.ensures) in
     let led = sym c.slot_under.ensures ∙ c.in-Some.is in
-    let at = placed m laws lawful (holding s) k c.in-Some.slot led x there c.in-Some-place.place
-    (sym c.place.ensures ∙ c.in-Some-place.is) in
+    let at = ap (g.E.Eviction.at s.eviction) c.at-place.ensures
+    ∙ placed m laws lawful (holding s) k c.in-Some.slot led x there in
     let view = g.E.Eviction.view c.acquire.new.self in
     let viewed : view ≡ m.policy.acquire (g.E.Eviction.view s.eviction) x.id = rw at at c.acquire.ensures.view in
     let is : view ≡ used m laws lawful (holding s) x.id x.handles = viewed ∙ used_held m laws lawful (holding s) x.id
@@ -104,10 +94,10 @@ release-requires-after_bounds g c κs within =
     let s = c.args.self.now in
     let x = c.in-Some-get.found.now in
     let there : slot_in s.records c.in-Some.slot ≡ Some x = sym (rw c.in-Some-get.is at c.get.ensures) in
-    let at = placed (meaning_of s) g.met.K.Eq.laws g.met.E.Eviction.lawful (holding s) (c.args.hash, c.args.key.now)
-    c.in-Some.slot (sym c.slot_under.ensures ∙ c.in-Some.is) x there c.in-Some-place.place
-    (sym c.place.ensures ∙ c.in-Some-place.is) in
-    rw (c.acquire.ensures.places c.in-Some-place.place, at) (search rules)
+    let at = ap (g.E.Eviction.at s.eviction) c.at-place.ensures
+    ∙ placed (meaning_of s) g.met.K.Eq.laws g.met.E.Eviction.lawful (holding s) (c.args.hash, c.args.key.now)
+    c.in-Some.slot (sym c.slot_under.ensures ∙ c.in-Some.is) x there in
+    rw (c.acquire.ensures.places c.at-place.result, at) (search rules)
 
 pub invariant_of-self-2 : goal.invariant_of-self-2
 invariant_of-self-2 g c =
@@ -119,9 +109,9 @@ invariant_of-self-2 g c =
     let x = c.in-Some-get.found.now in
     let there : slot_in s.records c.in-Some.slot ≡ Some x = sym (rw c.in-Some-get.is at c.get.ensures) in
     let led = sym c.slot_under.ensures ∙ c.in-Some.is in
-    let at = placed m laws lawful (holding s) k c.in-Some.slot led x there c.in-Some-place.place
-    (sym c.place.ensures ∙ c.in-Some-place.is) in
-    let at2 = c.acquire.ensures.places c.in-Some-place.place ∙ at in
+    let at = ap (g.E.Eviction.at s.eviction) c.at-place.ensures
+    ∙ placed m laws lawful (holding s) k c.in-Some.slot led x there in
+    let at2 = c.acquire.ensures.places c.at-place.result ∙ at in
     let view = g.E.Eviction.view c.release.new.self in
     let viewed : g.E.Eviction.view c.acquire.new.self ≡ m.policy.acquire (g.E.Eviction.view s.eviction) x.id =
     rw at at c.acquire.ensures.view in
@@ -150,9 +140,9 @@ returns g c =
     let x = c.in-Some-get.found.now in
     let there : slot_in s.records c.in-Some.slot ≡ Some x = sym (rw c.in-Some-get.is at c.get.ensures) in
     let led = sym c.slot_under.ensures ∙ c.in-Some.is in
-    let at = placed m laws lawful (holding s) k c.in-Some.slot led x there c.in-Some-place.place
-    (sym c.place.ensures ∙ c.in-Some-place.is) in
-    let at2 = c.acquire.ensures.places c.in-Some-place.place ∙ at in
+    let at = ap (g.E.Eviction.at s.eviction) c.at-place.ensures
+    ∙ placed m laws lawful (holding s) k c.in-Some.slot led x there in
+    let at2 = c.acquire.ensures.places c.at-place.result ∙ at in
     let view = g.E.Eviction.view c.release.new.self in
     let viewed : g.E.Eviction.view c.acquire.new.self ≡ m.policy.acquire (g.E.Eviction.view s.eviction) x.id =
     rw at at c.acquire.ensures.view in

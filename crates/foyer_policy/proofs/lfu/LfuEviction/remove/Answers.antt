@@ -12,6 +12,7 @@ overflow_sub-self c =
     (record {
       lists = i.lists.lists;
       room = i.lists.room;
+      span = i.lists.span;
       window_limit = i.window_limit;
       protected_limit =
           i.protected_limit;
@@ -32,6 +33,7 @@ overflow_sub-self-2 c =
     (record {
       lists = i.lists.lists;
       room = i.lists.room;
+      span = i.lists.span;
       window_limit = i.window_limit;
       protected_limit =
           i.protected_limit;
@@ -53,6 +55,7 @@ invariant_of-self c =
     (record {
       lists = i.lists.lists;
       room = i.lists.room;
+      span = i.lists.span;
       window_limit = i.window_limit;
       protected_limit =
           i.protected_limit;
@@ -76,6 +79,7 @@ returns-clause-view c =
     (record {
       lists = i.lists.lists;
       room = i.lists.room;
+      span = i.lists.span;
       window_limit = i.window_limit;
       protected_limit =
           i.protected_limit;
@@ -98,6 +102,7 @@ returns-clause-member c =
     (record {
       lists = i.lists.lists;
       room = i.lists.room;
+      span = i.lists.span;
       window_limit = i.window_limit;
       protected_limit =
           i.protected_limit;
@@ -119,6 +124,7 @@ returns-clause-places c =
     (record {
       lists = i.lists.lists;
       room = i.lists.room;
+      span = i.lists.span;
       window_limit = i.window_limit;
       protected_limit =
           i.protected_limit;

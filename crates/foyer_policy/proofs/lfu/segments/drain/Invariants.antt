@@ -8,6 +8,7 @@ invariant-loop l =
     record {
       others : set l.lists.lists l.list [] ≡ set l.fn.lists.lists l.list [];
       room : l.fn.lists.room ≤ l.lists.room;
+      span : l.lists.span ≡ l.fn.lists.span;
     }
 
 abbrev pub decreases-loop : goal.decreases-loop

@@ -61,6 +61,7 @@ loop-left-preserved c =
       others = λ j nf n1. ap (λ (l : List (ℕ × Item)). map (λ e. e.1) l) (e.others j nf n1) ∙ i.others j nf n1;
       places = λ q. e.places q ∙ i.places q;
       room = e.room ∙ i.room;
+      span = e.span ∙ i.span;
     }
 
 pub returns-clause-from : goal.returns-clause-from

@@ -17,6 +17,7 @@ invariant-loop-left l =
       others : (k : ℕ) → k ≢ l.from → k ≢ 1 → items_in now k ≡ items_in old k;
       places : (q : ℕ) → find q now ≡ find q old;
       room : l.lists.room ≡ l.fn.lists.room;
+      span : l.lists.span ≡ l.fn.lists.span;
     }
 
 abbrev pub decreases-loop-left : goal.decreases-loop-left

@@ -30,9 +30,9 @@ invariant_of-self-lent g c = λ w.
     (get-written_same i.nodes p v w node.0 node.1 c.get_mut.ensures.value)
     (get-written_other i.nodes p v w node.0) refl)
 
-same_lists : {T : Type 0} (a b : List (List (ℕ × T))) (x : ℕ) → a ≡ b →
-    ◌≡◌ {A = Lists T} (record { lists = a; room = x }) (record { lists = b; room = x })
-same_lists a b x e = rw e refl
+same_lists : {T : Type 0} (a b : List (List (ℕ × T))) (x y : ℕ) → a ≡ b →
+    ◌≡◌ {A = Lists T} (record { lists = a; room = x; span = y }) (record { lists = b; room = x; span = y })
+same_lists a b x y e = rw e refl
 
 pub returns : goal.returns
 returns g c =
@@ -49,7 +49,7 @@ returns g c =
     ∙ is_value in (
       (
         refl,
-        λ w. rw (← c.self.view_is, ← c.place.view_is) (same_lists _ _ _
+        λ w. rw (← c.self.view_is, ← c.place.view_is) (same_lists _ _ _ _
             (lists_of-Holds (written i.nodes p v w node.0) i.heads i.tails _
             (Holds-write i.nodes (written i.nodes p v w node.0) i.heads i.tails p w node.0 c.self.invariant node.1
             (IsArena-written i.nodes p v w node.0 c.self.invariant.arena c.get_mut.ensures.value)

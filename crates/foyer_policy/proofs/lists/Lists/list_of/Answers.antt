@@ -1,5 +1,6 @@
 use Rattle.std.proofs.Common.{◌≡◌, ℕ, arith, refl, rules, sym, ◌∙◌, ap, IsSome, length}
-use Rattle.foyer_policy.specs.Arena.{get, node_with}
+use Rattle.foyer_policy.specs.Nodes.{node_with}
+use Rattle.foyer_policy.specs.Arena.{get}
 use Rattle.foyer_policy.proofs.ArenaLemmas.{node_of_links}
 use Rattle.foyer_policy.specs.Chain.{lists_of}
 use Rattle.foyer_policy.specs.Lists.{find, find_in, list_at}

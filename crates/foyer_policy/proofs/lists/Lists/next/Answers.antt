@@ -1,6 +1,7 @@
 use Rattle.foyer_policy.proofs.HoldsLemmas.{AreLists-told}
 use Rattle.std.proofs.Common.{◌≡◌, arith, rules, sym, ◌∙◌, IsSome, ◌++◌, ◌∷◌}
-use Rattle.foyer_policy.specs.Arena.{get, node_with}
+use Rattle.foyer_policy.specs.Nodes.{node_with}
+use Rattle.foyer_policy.specs.Arena.{get}
 use Rattle.foyer_policy.specs.Chain.{lists_of}
 use Rattle.foyer_policy.specs.Lists.{find, list_at}
 use Rattle.foyer_policy.proofs.LinkedLemmas.{after-node, after_found}

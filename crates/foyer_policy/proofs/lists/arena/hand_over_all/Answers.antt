@@ -1,6 +1,6 @@
-use Rattle.std.proofs.Common.{◌≡◌, suc, ◌-◌, ◌<◌, ◌≤◌, ◌∙◌, ap, subst, length, length-set, arith}
+use Rattle.std.proofs.Common.{◌≡◌, suc, ◌-◌, ◌<◌, ◌≤◌, ◌∙◌, ap, subst, length, arith}
 use Rattle.foyer_policy.specs.Arena.{AreMoved}
-use Rattle.foyer_policy.proofs.ArenaGrowth.{moved-one}
+use Rattle.foyer_policy.proofs.ArenaGrowth.{moved-one, length-moved}
 use Rattle.foyer_policy.proofs.lists.arena.hand_over_all.Goals as goal
 
 pub loop-place-preserved : goal.loop-place-preserved
@@ -18,7 +18,7 @@ loop-place-preserved g c =
       from_at = e.from.0 ∙ i.from_at;
       from_links = e.from.1 ∙ i.from_links;
       to_at = e.to.0 ∙ i.to_at;
-      to_len = ap length e.to.1 ∙ length-set _ _ _ ∙ i.to_len;
+      to_len = ap length e.to.1 ∙ length-moved _ _ _ _ _ _ ∙ i.to_len;
       within = omega (arith, i.within);
       moved = rw (e.from.2, e.to.1, e.to.2, e.free, i.from_links)
           (moved-one g.row.N ls vs0 c.loop-place.from.values c.loop-place.to.links c.loop-place.to.values

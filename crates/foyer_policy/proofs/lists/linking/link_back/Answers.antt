@@ -2,9 +2,14 @@ use Rattle.foyer_policy.specs.Chain.{lists_of}
 use Rattle.std.proofs.Common.{◌∙◌, ◌<◌, None, length, refl, arith}
 use Rattle.std.proofs.lemmas.List.{get_or_read_under}
 use Rattle.foyer_policy.specs.Arena.{get}
-use Rattle.foyer_policy.proofs.LinkedLemmas.{find-vacant}
-use Rattle.foyer_policy.proofs.HoldsLemmas.{tail_there, Holds-link, lists_of-Holds, Holds-again}
+use Rattle.foyer_policy.proofs.HoldsLemmas.{tail_there, vacant_if_lost, Holds-link, lists_of-Holds, Holds-again}
 use Rattle.foyer_policy.proofs.lists.linking.link_back.Goals as goal
+
+pub insert_at-requires : goal.insert_at-requires
+insert_at-requires g c =
+    let none = vacant_if_lost c.args.nodes.now c.args.heads.now c.args.tails.now c.args.node c.requires.sound
+    c.requires.free in
+    (omega arith, (c.requires.sound.arena, (c.requires.within, (none, c.requires.list))))
 
 pub set_after-requires : goal.set_after-requires
 set_after-requires g c =
@@ -19,14 +24,16 @@ set_after-requires g c =
     let lh : c.args.list < length c.args.heads.now = rw c.requires.count c.requires.list in
     let b = get_or_read_under c.args.tails.now c.args.list (length c.args.tails.now) c.index-tails-list.result None
     c.index-tails-list.is lt refl in
-    let u = rw (b, c.end.ensures) at c.insert-node.ensures.node in (
+    let none = vacant_if_lost c.args.nodes.now c.args.heads.now c.args.tails.now c.args.node c.requires.sound
+    c.requires.free in
+    let u = rw (b, c.end.ensures) at c.insert_at.ensures.node in (
       omega arith,
       (
-        c.insert-node.ensures.arena,
+        c.insert_at.ensures.arena,
         (
-          rw b (tail_there c.args.nodes.now c.insert-node.new.self c.insert-node.new.self c.args.heads.now
-              c.args.heads.now c.args.tails.now c.args.list c.insert-node.result c.args.value
-              c.requires.sound lh c.insert-node.ensures.vacant u c.insert-node.ensures.others),
+          rw b (tail_there c.args.nodes.now c.insert_at.new.self c.insert_at.new.self c.args.heads.now
+              c.args.heads.now c.args.tails.now c.args.list c.args.node c.args.value
+              c.requires.sound lh none u c.insert_at.ensures.others),
           lh,
         ),
       ),
@@ -44,13 +51,15 @@ returns-clause-sound g c =
     ) in
     let b = get_or_read_under c.args.tails.now c.args.list (length c.args.tails.now) c.index-tails-list.result None
     c.index-tails-list.is lt refl in
-    let u = rw (b, c.end.ensures) at c.insert-node.ensures.node in
+    let none = vacant_if_lost c.args.nodes.now c.args.heads.now c.args.tails.now c.args.node c.requires.sound
+    c.requires.free in
+    let u = rw (b, c.end.ensures) at c.insert_at.ensures.node in
     rw c.to-2.ensures (Holds-again _ _ _ _
-    (Holds-link c.args.nodes.now c.insert-node.new.self c.set_after.new.nodes c.args.heads.now c.set_after.new.heads
-    c.args.tails.now c.args.list c.insert-node.result c.args.value
-    c.requires.sound (rw c.requires.count c.requires.list) c.insert-node.ensures.vacant u c.insert-node.ensures.others
+    (Holds-link c.args.nodes.now c.insert_at.new.self c.set_after.new.nodes c.args.heads.now c.set_after.new.heads
+    c.args.tails.now c.args.list c.args.node c.args.value
+    c.requires.sound (rw c.requires.count c.requires.list) none u c.insert_at.ensures.others
     c.set_after.ensures.arena
-    (rw (b, c.to.ensures) at c.set_after.ensures.links) (c.set_after.ensures.used ∙ c.insert-node.ensures.counts.0)
+    (rw (b, c.to.ensures) at c.set_after.ensures.links) (c.set_after.ensures.used ∙ c.insert_at.ensures.counts.0)
     (rw (b, c.to.ensures) at c.set_after.ensures.heads)))
 
 pub returns-clause-lists : goal.returns-clause-lists
@@ -65,16 +74,13 @@ returns-clause-lists g c =
     ) in
     let b = get_or_read_under c.args.tails.now c.args.list (length c.args.tails.now) c.index-tails-list.result None
     c.index-tails-list.is lt refl in
-    let u = rw (b, c.end.ensures) at c.insert-node.ensures.node in
+    let none = vacant_if_lost c.args.nodes.now c.args.heads.now c.args.tails.now c.args.node c.requires.sound
+    c.requires.free in
+    let u = rw (b, c.end.ensures) at c.insert_at.ensures.node in
     lists_of-Holds _ _ _ _
-    (Holds-link c.args.nodes.now c.insert-node.new.self c.set_after.new.nodes c.args.heads.now c.set_after.new.heads
-    c.args.tails.now c.args.list c.insert-node.result c.args.value
-    c.requires.sound (rw c.requires.count c.requires.list) c.insert-node.ensures.vacant u c.insert-node.ensures.others
+    (Holds-link c.args.nodes.now c.insert_at.new.self c.set_after.new.nodes c.args.heads.now c.set_after.new.heads
+    c.args.tails.now c.args.list c.args.node c.args.value
+    c.requires.sound (rw c.requires.count c.requires.list) none u c.insert_at.ensures.others
     c.set_after.ensures.arena
-    (rw (b, c.to.ensures) at c.set_after.ensures.links) (c.set_after.ensures.used ∙ c.insert-node.ensures.counts.0)
+    (rw (b, c.to.ensures) at c.set_after.ensures.links) (c.set_after.ensures.used ∙ c.insert_at.ensures.counts.0)
     (rw (b, c.to.ensures) at c.set_after.ensures.heads))
-
-pub returns-clause-free : goal.returns-clause-free
-returns-clause-free g c = find-vacant (get c.args.nodes.now) c.args.heads.now c.args.tails.now
-    (lists_of c.args.nodes.now c.args.heads.now) c.insert-node.result c.requires.sound.linked
-    c.insert-node.ensures.vacant

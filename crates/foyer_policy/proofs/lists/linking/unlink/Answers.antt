@@ -1,5 +1,6 @@
 use Rattle.std.proofs.Common.{refl, arith, ◌∙◌}
-use Rattle.foyer_policy.specs.Arena.{get, node_with}
+use Rattle.foyer_policy.specs.Nodes.{node_with}
+use Rattle.foyer_policy.specs.Arena.{get}
 use Rattle.foyer_policy.proofs.ArenaLemmas.{node_of_links}
 use Rattle.foyer_policy.specs.Chain.{all_but, lists_of}
 use Rattle.foyer_policy.proofs.ChainLemmas.{all_but-other}

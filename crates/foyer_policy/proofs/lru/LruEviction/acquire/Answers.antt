@@ -8,34 +8,34 @@ returns-then-state-clause-view c =
     let i = c.self.inside in
     let n : Node = c.get.result.now in
     rw (← c.self.view_is, c.get.ensures.value)
-    (acquired_again i.lists.lists i.lists.room i.limit i.ratio i.high_weight i.pinned_weight c.self.invariant
+    (acquired_again i.lists.lists i.limit i.ratio i.high_weight i.pinned_weight c.self.invariant
     c.get.ensures.apart c.args.place n c.get.ensures.value c.if-state.true)
 
 pub overflow_add-self : goal.overflow_add-self
 overflow_add-self c =
     let i = c.self.inside in
     let n : Node = c.get.result.now in
-    let less = fits_pinned i.lists.lists i.lists.room i.limit i.ratio i.high_weight i.pinned_weight c.self.invariant
+    let less = fits_pinned i.lists.lists i.limit i.ratio i.high_weight i.pinned_weight c.self.invariant
     c.get.ensures.apart c.args.place n c.get.ensures.value c.if-state.false in
     search rules
 
 pub overflow_sub-self : goal.overflow_sub-self
 overflow_sub-self c =
     let i = c.self.inside in
-    high_weighs i.lists.lists i.lists.room i.limit i.ratio i.high_weight i.pinned_weight c.self.invariant
+    high_weighs i.lists.lists i.limit i.ratio i.high_weight i.pinned_weight c.self.invariant
     c.get.ensures.apart c.args.place c.get.result.now c.get.ensures.value c.if-state.false c.if-state-2.true
 
 pub invariant_of-self : goal.invariant_of-self
 invariant_of-self c =
     let i = c.self.inside in
     let n : Node = c.get.result.now in
-    let less = high_weighs i.lists.lists i.lists.room i.limit i.ratio i.high_weight i.pinned_weight c.self.invariant
+    let less = high_weighs i.lists.lists i.limit i.ratio i.high_weight i.pinned_weight c.self.invariant
     c.get.ensures.apart c.args.place n c.get.ensures.value c.if-state.false c.if-state-2.true in
     let sum : i.high_weight - n.item.weight + cond n.state.high n.item.weight 0 ≡ i.high_weight =
     rw c.if-state-2.true (omega arith) in
-    acquired_is i.lists.lists i.lists.room i.limit i.ratio i.high_weight i.pinned_weight c.self.invariant
+    acquired_is i.lists.lists i.limit i.ratio i.high_weight i.pinned_weight c.self.invariant
     c.get.ensures.apart c.args.place n c.get.ensures.value c.if-state.false
-    c.relist.new.lists.lists c.relist.new.lists.room (c.relist.ensures.lists n c.get.ensures.value)
+    c.relist.new.lists.lists (c.relist.ensures.lists n c.get.ensures.value)
     (i.high_weight - n.item.weight) (i.pinned_weight + n.item.weight) sum refl
 
 pub invariant_of-self-else-state-2 : goal.invariant_of-self-else-state-2
@@ -43,9 +43,9 @@ invariant_of-self-else-state-2 c =
     let i = c.self.inside in
     let n : Node = c.get.result.now in
     let sum : i.high_weight + cond n.state.high n.item.weight 0 ≡ i.high_weight = rw c.if-state-2.false (omega arith) in
-    acquired_is i.lists.lists i.lists.room i.limit i.ratio i.high_weight i.pinned_weight c.self.invariant
+    acquired_is i.lists.lists i.limit i.ratio i.high_weight i.pinned_weight c.self.invariant
     c.get.ensures.apart c.args.place n c.get.ensures.value c.if-state.false
-    c.relist.new.lists.lists c.relist.new.lists.room (c.relist.ensures.lists n c.get.ensures.value) i.high_weight
+    c.relist.new.lists.lists (c.relist.ensures.lists n c.get.ensures.value) i.high_weight
     (i.pinned_weight + n.item.weight) sum refl
 
 pub returns-then-state-2-clause-view : goal.returns-then-state-2-clause-view
@@ -53,15 +53,15 @@ returns-then-state-2-clause-view c =
     let i = c.self.inside in
     let n : Node = c.get.result.now in
     rw (← c.self.view_is, c.get.ensures.value)
-    (acquired i.lists.lists i.lists.room i.limit i.ratio i.high_weight i.pinned_weight c.self.invariant
+    (acquired i.lists.lists i.limit i.ratio i.high_weight i.pinned_weight c.self.invariant
     c.get.ensures.apart c.args.place n c.get.ensures.value c.if-state.false
-    c.relist.new.lists.lists c.relist.new.lists.room (c.relist.ensures.lists n c.get.ensures.value))
+    c.relist.new.lists.lists (c.relist.ensures.lists n c.get.ensures.value))
 
 pub returns-else-state-2-clause-view : goal.returns-else-state-2-clause-view
 returns-else-state-2-clause-view c =
     let i = c.self.inside in
     let n : Node = c.get.result.now in
     rw (← c.self.view_is, c.get.ensures.value)
-    (acquired i.lists.lists i.lists.room i.limit i.ratio i.high_weight i.pinned_weight c.self.invariant
+    (acquired i.lists.lists i.limit i.ratio i.high_weight i.pinned_weight c.self.invariant
     c.get.ensures.apart c.args.place n c.get.ensures.value c.if-state.false
-    c.relist.new.lists.lists c.relist.new.lists.room (c.relist.ensures.lists n c.get.ensures.value))
+    c.relist.new.lists.lists (c.relist.ensures.lists n c.get.ensures.value))

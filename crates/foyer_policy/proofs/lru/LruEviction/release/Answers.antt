@@ -18,27 +18,27 @@ returns-then-not-state-clause-view c =
     let i = c.self.inside in
     let n : Node = c.get.result.now in
     rw (← c.self.view_is, c.get.ensures.value)
-    (released_again i.lists.lists i.lists.room i.limit i.ratio i.high_weight i.pinned_weight c.self.invariant
+    (released_again i.lists.lists i.limit i.ratio i.high_weight i.pinned_weight c.self.invariant
     c.get.ensures.apart c.args.place n c.get.ensures.value (is_off n.state.pinned c.if-not-state.true))
 
 pub overflow_sub-self : goal.overflow_sub-self
 overflow_sub-self c =
     let i = c.self.inside in
     let n : Node = c.get.result.now in
-    pinned_weighs i.lists.lists i.lists.room i.limit i.ratio i.high_weight i.pinned_weight c.self.invariant
+    pinned_weighs i.lists.lists i.limit i.ratio i.high_weight i.pinned_weight c.self.invariant
     c.get.ensures.apart c.args.place n c.get.ensures.value (is_on n.state.pinned c.if-not-state.false)
 
 pub invariant_of-self : goal.invariant_of-self
 invariant_of-self c =
     let i = c.self.inside in
     let n : Node = c.get.result.now in
-    let w = pinned_weighs i.lists.lists i.lists.room i.limit i.ratio i.high_weight i.pinned_weight c.self.invariant
+    let w = pinned_weighs i.lists.lists i.limit i.ratio i.high_weight i.pinned_weight c.self.invariant
     c.get.ensures.apart c.args.place n c.get.ensures.value (is_on n.state.pinned c.if-not-state.false) in
     let less : i.pinned_weight - n.item.weight + n.item.weight ≡ i.pinned_weight = omega arith in
-    released_to_low_is i.lists.lists i.lists.room i.limit i.ratio i.high_weight i.pinned_weight c.self.invariant
+    released_to_low_is i.lists.lists i.limit i.ratio i.high_weight i.pinned_weight c.self.invariant
     c.get.ensures.apart c.args.place n c.get.ensures.value (is_on n.state.pinned c.if-not-state.false)
     (is_off n.state.high c.if-not-state-2.true)
-    c.relist.new.lists.lists c.relist.new.lists.room (c.relist.ensures.lists n c.get.ensures.value)
+    c.relist.new.lists.lists (c.relist.ensures.lists n c.get.ensures.value)
     (i.pinned_weight - n.item.weight) less
 
 pub returns-then-not-state-2-clause-view : goal.returns-then-not-state-2-clause-view
@@ -46,18 +46,18 @@ returns-then-not-state-2-clause-view c =
     let i = c.self.inside in
     let n : Node = c.get.result.now in
     rw (← c.self.view_is, c.get.ensures.value)
-    (released_to_low i.lists.lists i.lists.room i.limit i.ratio i.high_weight i.pinned_weight c.self.invariant
+    (released_to_low i.lists.lists i.limit i.ratio i.high_weight i.pinned_weight c.self.invariant
     c.get.ensures.apart c.args.place n c.get.ensures.value (is_on n.state.pinned c.if-not-state.false)
     (is_off n.state.high c.if-not-state-2.true)
-    c.relist.new.lists.lists c.relist.new.lists.room (c.relist.ensures.lists n c.get.ensures.value))
+    c.relist.new.lists.lists (c.relist.ensures.lists n c.get.ensures.value))
 
 pub overflow_add-weight : goal.overflow_add-weight
 overflow_add-weight c =
     let i = c.self.inside in
     let n : Node = c.get.result.now in
-    let w = pinned_weighs i.lists.lists i.lists.room i.limit i.ratio i.high_weight i.pinned_weight c.self.invariant
+    let w = pinned_weighs i.lists.lists i.limit i.ratio i.high_weight i.pinned_weight c.self.invariant
     c.get.ensures.apart c.args.place n c.get.ensures.value (is_on n.state.pinned c.if-not-state.false) in
-    let all = weights i.lists.lists i.lists.room i.limit i.ratio i.high_weight i.pinned_weight c.self.invariant
+    let all = weights i.lists.lists i.limit i.ratio i.high_weight i.pinned_weight c.self.invariant
     c.get.ensures.apart c.args.place n c.get.ensures.value in
     let fits : i.high_weight + n.item.weight < 2 ^ 64 = omega arith in
     search rules
@@ -66,7 +66,7 @@ pub settle-self-inside-requires : goal.settle-self-inside-requires
 settle-self-inside-requires c =
     let i = c.self.inside in
     let n : Node = c.get.result.now in
-    released_weight i.lists.lists i.lists.room i.limit i.ratio i.high_weight i.pinned_weight c.self.invariant
+    released_weight i.lists.lists i.limit i.ratio i.high_weight i.pinned_weight c.self.invariant
     c.get.ensures.apart c.args.place n c.get.ensures.value (is_on n.state.pinned c.if-not-state.false)
     (is_on n.state.high c.if-not-state-2.false)
     c.relist-2.new.lists.lists (c.relist-2.ensures.lists n c.get.ensures.value)
@@ -75,14 +75,13 @@ pub invariant_of-self-2 : goal.invariant_of-self-2
 invariant_of-self-2 c =
     let i = c.self.inside in
     let n : Node = c.get.result.now in
-    let w = pinned_weighs i.lists.lists i.lists.room i.limit i.ratio i.high_weight i.pinned_weight c.self.invariant
+    let w = pinned_weighs i.lists.lists i.limit i.ratio i.high_weight i.pinned_weight c.self.invariant
     c.get.ensures.apart c.args.place n c.get.ensures.value (is_on n.state.pinned c.if-not-state.false) in
     let less : i.pinned_weight - n.item.weight + n.item.weight ≡ i.pinned_weight = omega arith in
-    released_to_high_is i.lists.lists i.lists.room i.limit i.ratio i.high_weight i.pinned_weight c.self.invariant
+    released_to_high_is i.lists.lists i.limit i.ratio i.high_weight i.pinned_weight c.self.invariant
     c.get.ensures.apart c.args.place n c.get.ensures.value (is_on n.state.pinned c.if-not-state.false)
     (is_on n.state.high c.if-not-state-2.false)
-    c.relist-2.new.lists.lists (c.relist-2.ensures.lists n c.get.ensures.value) c.settle-self-inside.new.lists.lists
-    c.settle-self-inside.new.lists.room c.settle-self-inside.ensures.low c.settle-self-inside.ensures.high
+    c.relist-2.new.lists.lists (c.relist-2.ensures.lists n c.get.ensures.value) c.settle-self-inside.new.lists.lists c.settle-self-inside.ensures.low c.settle-self-inside.ensures.high
     c.settle-self-inside.ensures.pin
     c.settle-self-inside.result (i.pinned_weight - n.item.weight) c.settle-self-inside.ensures.weight less
 
@@ -91,9 +90,8 @@ returns-clause-view c =
     let i = c.self.inside in
     let n : Node = c.get.result.now in
     rw (← c.self.view_is, c.get.ensures.value)
-    (released_to_high i.lists.lists i.lists.room i.limit i.ratio i.high_weight i.pinned_weight c.self.invariant
+    (released_to_high i.lists.lists i.limit i.ratio i.high_weight i.pinned_weight c.self.invariant
     c.get.ensures.apart c.args.place n c.get.ensures.value (is_on n.state.pinned c.if-not-state.false)
     (is_on n.state.high c.if-not-state-2.false)
-    c.relist-2.new.lists.lists (c.relist-2.ensures.lists n c.get.ensures.value) c.settle-self-inside.new.lists.lists
-    c.settle-self-inside.new.lists.room c.settle-self-inside.ensures.low c.settle-self-inside.ensures.high
+    c.relist-2.new.lists.lists (c.relist-2.ensures.lists n c.get.ensures.value) c.settle-self-inside.new.lists.lists c.settle-self-inside.ensures.low c.settle-self-inside.ensures.high
     c.settle-self-inside.ensures.pin)

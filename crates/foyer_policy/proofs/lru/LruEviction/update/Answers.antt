@@ -20,8 +20,8 @@ invariant_of-self c =
           w.in_ok-check-in-Some.field-0 (sym w.check.ensures ∙ w.in_ok-check-in-Some.was))
       | in-None w ↦ rw w.ratio-is c.self.invariant.divides
     ] in
-    updated_is i.lists.lists i.lists.room i.limit i.ratio i.high_weight i.pinned_weight c.self.invariant
-    c.limit_of-self-inside.result ratio c.settle-self-inside.new.lists.lists c.settle-self-inside.new.lists.room
+    updated_is i.lists.lists i.limit i.ratio i.high_weight i.pinned_weight c.self.invariant
+    c.limit_of-self-inside.result ratio c.settle-self-inside.new.lists.lists
     c.settle-self-inside.ensures.low c.settle-self-inside.ensures.high c.settle-self-inside.ensures.pin divides
     c.settle-self-inside.result c.settle-self-inside.ensures.weight
 

@@ -50,6 +50,7 @@ loop-left-preserved c =
       pin = rw e i.pin;
       places = places;
       room = c.lower-left.ensures.room ∙ i.room;
+      span = c.lower-left.ensures.span ∙ i.span;
     }
 
 pub returns-clause-low : goal.returns-clause-low

@@ -18,6 +18,7 @@ invariant-loop-left l =
       pin : list_at now 2 ≡ list_at old 2;
       places : (q : ℕ) → held_at q now ≡ held_at q old;
       room : l.lists.room ≡ l.fn.lists.room;
+      span : l.lists.span ≡ l.fn.lists.span;
     }
 
 abbrev pub decreases-loop-left : goal.decreases-loop-left

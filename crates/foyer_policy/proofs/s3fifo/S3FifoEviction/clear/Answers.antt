@@ -26,4 +26,5 @@ loop-preserved c =
           c.loop.invariant.can_clear was.0 (omega (arith, some, c.pop_reserved.ensures.ghost_capacity)) in
           omega (arith, r, was.1, c.pop_reserved.ensures.ghost_room));
       room = omega arith;
+      span = c.pop_reserved.ensures.span ∙ c.loop.invariant.span;
     }

@@ -12,6 +12,7 @@ invariant-loop l = record {
       (view_of l.initial.self);
   can_clear : CanClear l.self;
   room : l.initial.self.nodes.room ≤ l.self.nodes.room;
+  span : l.self.nodes.span ≡ l.initial.self.nodes.span;
 }
 
 abbrev pub decreases-loop : goal.decreases-loop

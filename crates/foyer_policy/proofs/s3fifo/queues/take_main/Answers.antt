@@ -1,4 +1,4 @@
-use Rattle.std.proofs.Common.{◌≡◌, ◌+◌, ◌-◌, ◌<◌, ◌∷◌, ◌++◌, [], true, false, refl, arith, ap, sym, ◌∙◌, map, length}
+use Rattle.std.proofs.Common.{◌≡◌, ◌+◌, ◌-◌, ◌<◌, ◌∷◌, ◌++◌, [], Some, true, false, refl, arith, ap, sym, ◌∙◌, map, length}
 use Rattle.std.specs.Prelude.{nat_lt}
 use Rattle.std.specs.Option.{option_map}
 use Rattle.std.proofs.lemmas.Bool.Decides.{nat_tests}
@@ -111,6 +111,21 @@ returns-then-not-lower-clause-places c = λ q.
     ∙ ap (without v.item.id) (write-places ls sound i.queues p v d.found w refl q ∙ i.placed q)
     ∙ ap (λ (n : Node). without n.item.id (item_at c.args.queues.now.lists q)) (sym same)
 
+pub returns-then-not-lower-clause-stood : goal.returns-then-not-lower-clause-stood
+returns-then-not-lower-clause-stood c =
+    let i = c.loop-front.invariant in
+    let ls = c.loop-front.queues.lists in
+    let p = c.in-Some.front in
+    let sound = c.in-Some.ensures.apart in
+    let d = fronted ls sound 1 p c.in-Some.ensures.place in
+    let w = lowered_node d.node in
+    let is : c.lower.new.queues.lists ≡ map (with_value p w) ls =
+    (let x = c.lower.ensures.lowered in rw d.found at x) in
+    let found = look-found ls sound i.queues p d.node d.found d.front w refl refl (omega arith) in
+    let same : c.remove.result ≡ w =
+    (let x = c.remove.ensures.value in let y = rw is at x in let z = sym y ∙ found in cc) in
+    sym (i.placed p) ∙ ap (option_map item_of) d.found ∙ ap (λ (n : Node). Some n.item) (sym same)
+
 -- a look is paid for by a frequency
 spent : (c : After-move_back) → frequencies (main_of c.move_back.new.self.lists) + 1
     ≡ frequencies (main_of c.loop-front.queues.lists)
@@ -175,4 +190,5 @@ loop-front-preserved c =
       as_many = ap (λ l. length (list_at l 1)) now
           ∙ round-length ls sound i.queues p v d.found f w refl refl (omega arith) ∙ i.as_many;
       room = c.move_back.ensures.room ∙ c.lower.ensures.room ∙ i.room;
+      span = c.move_back.ensures.span ∙ c.lower.ensures.span ∙ i.span;
     }

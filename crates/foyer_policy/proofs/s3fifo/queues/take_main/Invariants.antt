@@ -15,6 +15,7 @@ invariant-loop-front l = record {
   paid : l.looks + frequencies (main_of l.queues.lists) ≡ frequencies (main_of l.fn.queues.lists);
   as_many : length (list_at l.queues.lists 1) ≡ length (list_at l.fn.queues.lists 1);
   room : l.queues.room ≡ l.fn.queues.room;
+  span : l.queues.span ≡ l.fn.queues.span;
 }
 
 abbrev pub decreases-loop-front : goal.decreases-loop-front

@@ -31,6 +31,10 @@ returns-then-state-threshold-clause-takes c =
       main ∙ sym (ap (λ l. main_of ls ++ l) none ∙ append-nil (main_of ls)) ∙ i.moved,
     )
 
+pub returns-then-state-threshold-clause-stood : goal.returns-then-state-threshold-clause-stood
+returns-then-state-threshold-clause-stood c =
+    sym (c.loop-front.invariant.placed c.in-Some.front) ∙ ap (option_map item_of) c.get.ensures.value
+
 pub returns-then-state-threshold-clause-queues : goal.returns-then-state-threshold-clause-queues
 returns-then-state-threshold-clause-queues c =
     let i = c.loop-front.invariant in
@@ -111,4 +115,5 @@ loop-front-preserved c =
         ap (λ l. weight_of (items l)) small,
       );
       room = c.move_back.ensures.room ∙ i.room;
+      span = c.move_back.ensures.span ∙ i.span;
     }

@@ -16,6 +16,7 @@ invariant-loop-front l = record {
   placed : (p : ℕ) → item_at l.queues.lists p ≡ item_at l.fn.queues.lists p;
   weight : l.weight ≡ weight_of (items (small_of l.queues.lists));
   room : l.queues.room ≡ l.fn.queues.room;
+  span : l.queues.span ≡ l.fn.queues.span;
 }
 
 abbrev pub decreases-loop-front : goal.decreases-loop-front

@@ -1,4 +1,4 @@
-use Rattle.std.proofs.Common.{◌≤◌, length}
+use Rattle.std.proofs.Common.{◌≡◌, ◌≤◌, length}
 use Rattle.foyer_policy.specs.Lists.{list_at, AreLists}
 use Rattle.foyer_policy.proofs.sieve.SieveEviction.clear.Given as goal
 
@@ -7,6 +7,7 @@ abbrev pub invariant-loop : goal.invariant-loop
 invariant-loop l = record {
   apart : AreLists 1 l.self-inside.queue.lists → AreLists 1 l.initial.self-inside.queue.lists;
   room : l.initial.self-inside.queue.room ≤ l.self-inside.queue.room;
+  span : l.self-inside.queue.span ≡ l.initial.self-inside.queue.span;
 }
 
 abbrev pub decreases-loop : goal.decreases-loop

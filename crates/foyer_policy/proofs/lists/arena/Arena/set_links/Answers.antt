@@ -9,6 +9,6 @@ returns-clause-arena g c =
     let parts = parts_of _ _ node.0 node.1 in
     IsArena-with a c.set_links.new.self a.used a.free h wrote.0
     (rw (wrote.1, wrote.2)
-    (block-relinked g.row.N a.nodes.links a.nodes.values a.len a.free p c.args.links node.0.value h.nodes parts.1
+    (block-relinked g.row.N a.nodes.links a.nodes.values a.len a.free h.nodes p c.args.links node.0.value parts.1
     c.requires.list))
     (rw wrote.2 h.used)
