@@ -189,9 +189,9 @@ class Gate:
         """The test of tools/edits itself."""
         self.script("tests of tools/edits", "tools/test-edits")
 
-    def edits(self, words):
+    def edits(self, words, log="edits"):
         """Tries edits by tools/edits."""
-        log = self.log("edits")
+        log = self.log(log)
         self.progress.at("edits", "begun")
         ran = self.follow([f"{self.root}/tools/edits", *words], log, self.of_edits)
         self.progress.at("edits", "")
@@ -232,6 +232,18 @@ class Gate:
                 continue
             self.count("crates", 1, 0)
             keep(name, said[-1], (time.monotonic() - began) / 60)
+
+    def each_edits(self, record, names, keep):
+        """The edits of each of these crates whose text, with its edits, isn't the one whose edits were all refused last.
+        A crate all of whose edits are refused is kept at once by `keep`."""
+        for name in names:
+            if record.is_current(name):
+                self.count("crates whose edits were refused before", 1, 0)
+                continue
+            before, began = (self.passed, self.failed), time.monotonic()
+            self.edits([name], f"edits-{name}")
+            if self.failed == before[1] and self.passed > before[0]:
+                keep(name, self.passed - before[0], (time.monotonic() - began) / 60)
 
     def copy_without_edits(self, room, names):
         """Copies these crates, which are all that a verdict on the last one reads."""

@@ -1,12 +1,15 @@
 -- Slots that are named at the places of ids: what stays once there are more places.
 use Rattle.std.proofs.Common.{◌≡◌, ◌≢◌, ℕ, zero, suc, ◌+◌, ◌-◌, ◌%◌, ◌^◌, ◌<◌, ◌≤◌, List, [], ◌∷◌, ◌++◌, Option, Some, None, Bool, true, false, length, refl, sym, ◌∙◌, ap, subst, inl, inr, arith}
-use Rattle.std.specs.Prelude.{◌==◌, if◌then◌else◌, IsSome, slice_get}
+use Rattle.std.specs.Prelude.{◌==◌, if◌then◌else◌, IsSome, nat_eq, slice_get, slice_set}
+use Rattle.std.specs.Map.{update}
 use Rattle.std.proofs.lemmas.Bool.Decides.{eqb_tells, leb_tells}
+use Rattle.std.proofs.lemmas.Map.{update_here, update_apart}
 use Rattle.std.proofs.lemmas.Nat.{pow_pos}
 use Rattle.std.proofs.Math.Nat.{mod-lt}
 use Rattle.std.proofs.Math.Pow.{mod-mod-pow}
-use Rattle.foyer_core.specs.Near.{slot_named, slot_near, AreApart}
+use Rattle.foyer_core.specs.Near.{slot_named, slot_near, or_slot, AreApart}
 use Rattle.foyer_core.specs.declared.records.ids.Named.{Named}
+use Rattle.foyer_core.proofs.CoreLemmas.{set_here, set_apart}
 
 -- a place that names no slot
 pub named-free : (n : Named) (id : ℕ) → n.slot ≡ None → slot_named (Some n) id ≡ None
@@ -86,3 +89,72 @@ spread_all near wider fewer bits places all named id =
 pub apart_same : (near near' far : ℕ → Option ℕ) → ((id : ℕ) → near' id ≡ near id) → AreApart near far →
     AreApart near' far
 apart_same near near' far same apart id is = apart id (subst (λ (o : Option ℕ). IsSome o) (same id) is)
+
+-- a place that names this id
+named-here : (n : Named) (slot : ℕ) → n.slot ≡ Some slot → slot_named (Some n) n.id ≡ Some slot
+named-here n slot to = elim (eqb_tells n.id n.id) [
+  | inl e ↦ ap (λ (b : Bool). if b then n.slot else None) e.0 ∙ to
+  | inr e ↦ absurd (e.1 refl)
+]
+
+-- an id is named at its place, where another one stood
+module _ (near : List Named) (far : ℕ → Option ℕ) (bits place slot : ℕ) (n older : Named)
+    (at : place ≡ n.id % 2 ^ bits) (stood : slice_get near place ≡ Some older) (to : n.slot ≡ Some slot) where
+  -- what an id has by both, after these went far
+  abbrev pub has_after : (ℕ → Option ℕ) → ℕ → Option ℕ
+  has_after far' q = or_slot (slot_near bits (slice_set near place n) q) (far' q)
+
+  -- what an id had
+  abbrev pub had : ℕ → Option ℕ
+  had q = or_slot (slot_near bits near q) (far q)
+
+  named_over : (far' : ℕ → Option ℕ)
+      → ((q : ℕ) → q % 2 ^ bits ≡ place → far' q ≡ or_slot (slot_named (Some older) q) (far q))
+      → ((q : ℕ) → q % 2 ^ bits ≢ place → far' q ≡ far q)
+      → (q : ℕ) → has_after far' q ≡ update nat_eq had n.id (Some slot) q
+  named_over far' there elsewhere q = elim (eqb_tells q n.id) [
+    | inl e ↦ subst (λ (x : ℕ). has_after far' x ≡ update nat_eq had n.id (Some slot) x) (sym e.1)
+        (ap (λ (o : Option ℕ). or_slot o (far' n.id))
+        (ap (λ (p : ℕ). slot_named (slice_get (slice_set near place n) p) n.id) (sym at)
+        ∙ ap (λ (o : Option Named). slot_named o n.id) (set_here near place older n stood)
+        ∙ named-here n slot to)
+        ∙ sym (update_here had n.id (Some slot)))
+    | inr e ↦ elim (eqb_tells (q % 2 ^ bits) place) [
+      | inl p ↦ (ap (λ (o : Option ℕ). or_slot o (far' q))
+          (ap (λ (m : ℕ). slot_named (slice_get (slice_set near place n) m) q) p.1
+          ∙ ap (λ (o : Option Named). slot_named o q) (set_here near place older n stood)
+          ∙ named-apart n q (λ x. e.1 (sym x)))
+          ∙ there q p.1
+          ∙ ap (λ (o : Option ℕ). or_slot o (far q))
+          (sym (ap (λ (m : ℕ). slot_named (slice_get near m) q) p.1 ∙ ap (λ (o : Option Named). slot_named o q) stood))
+          ∙ sym (update_apart had n.id (Some slot) q e.1))
+      | inr p ↦ (ap (λ (o : Option Named). or_slot (slot_named o q) (far' q)) (set_apart near place (q % 2 ^ bits) n p.1)
+          ∙ ap (λ (o : Option ℕ). or_slot (slot_near bits near q) o) (elsewhere q p.1)
+          ∙ sym (update_apart had n.id (Some slot) q e.1))
+    ]
+  ]
+
+  -- nothing stood there
+  pub named-first : older.slot ≡ None → (q : ℕ) → has_after far q ≡ update nat_eq had n.id (Some slot) q
+  named-first none = named_over far
+      (λ q p. sym (ap (λ (o : Option ℕ). or_slot o (far q)) (named-free older q none))) (λ q p. refl)
+
+  -- what stood there is of no id
+  pub named-past : older.id % 2 ^ bits ≢ place → (q : ℕ) → has_after far q ≡ update nat_eq had n.id (Some slot) q
+  named-past apart = named_over far
+      (λ q p. sym (ap (λ (o : Option ℕ). or_slot o (far q))
+      (named-apart older q (λ x. apart (ap (λ (m : ℕ). m % 2 ^ bits) x ∙ p))))) (λ q p. refl)
+
+  -- what stood there goes far
+  pub named-before : (far' : ℕ → Option ℕ) (stands : ℕ) → older.id % 2 ^ bits ≡ place → older.slot ≡ Some stands
+      → ((q : ℕ) → far' q ≡ update nat_eq far older.id (Some stands) q)
+      → (q : ℕ) → has_after far' q ≡ update nat_eq had n.id (Some slot) q
+  named-before far' stands here is goes = named_over far'
+      (λ q p. elim (eqb_tells q older.id) [
+        | inl e ↦ subst (λ (x : ℕ). far' x ≡ or_slot (slot_named (Some older) x) (far x)) (sym e.1)
+            (goes older.id ∙ update_here far older.id (Some stands)
+            ∙ sym (ap (λ (o : Option ℕ). or_slot o (far older.id)) (named-here older stands is)))
+        | inr e ↦ (goes q ∙ update_apart far older.id (Some stands) q e.1
+            ∙ sym (ap (λ (o : Option ℕ). or_slot o (far q)) (named-apart older q (λ x. e.1 (sym x)))))
+      ])
+      (λ q p. goes q ∙ update_apart far older.id (Some stands) q (λ x. p (ap (λ (m : ℕ). m % 2 ^ bits) x ∙ here)))

@@ -13,6 +13,7 @@ use foyer_policy::{Eviction, Key, Properties, Result, Value};
 use std::alloc::Global;
 
 mod admission;
+mod ahead;
 mod bulk;
 mod clearing;
 mod ending;

@@ -1,5 +1,5 @@
 -- Nodes of an arena: what the calls leave of a block.
-use Rattle.std.proofs.Common.{◌≡◌, ◌≢◌, ℕ, ◌+◌, ◌<◌, ◌≤◌, List, [], ◌∷◌, Option, Some, None, is_some, cond, IsSome, length, get_or, set, refl, sym, ap, subst, ◌∙◌, arith, ◌⊎◌, inl, inr, length-set, replicate, rules}
+use Rattle.std.proofs.Common.{◌≡◌, ◌≢◌, ℕ, ◌+◌, ◌<◌, List, [], ◌∷◌, Option, Some, None, is_some, cond, IsSome, length, get_or, set, refl, sym, ap, subst, ◌∙◌, arith, ◌⊎◌, inl, inr, length-set, replicate, rules}
 use Rattle.std.proofs.lemmas.List.{get_or-set_same, get_or-set_other}
 use Rattle.std.proofs.lemmas.List.Sums.{sum_by-cons}
 use Rattle.foyer_policy.specs.declared.lists.arena.Links.{Links}
@@ -8,7 +8,7 @@ use Rattle.foyer_policy.specs.declared.lists.block.Nodes.{Nodes}
 use Rattle.foyer_policy.specs.BlockLends.{with_values}
 use Rattle.foyer_policy.specs.Lists.{drop_place}
 use Rattle.foyer_policy.specs.Nodes.{Node, node_with}
-use Rattle.foyer_policy.specs.Free.{free_nodes, free_from, free_links, used_of, leads_back, rewritten, put_free, joined, first_beside, HasNeighbours, AreFree}
+use Rattle.foyer_policy.specs.Free.{free_nodes, free_from, free_links, used_of, leads_back, rewritten, put_free, joined, first_beside, HasNeighbours}
 use Rattle.foyer_policy.specs.Arena.{get, IsArena, node_of, node_at, links_of, relinked, IsMarked, IsLinkedBlock}
 use Rattle.foyer_policy.specs.Chain.{after_set, before_set}
 use Rattle.foyer_policy.proofs.ListsLemmas.{same_or_not}

@@ -210,6 +210,28 @@ pub trait Eviction: Drop {
         ensures span { span self.new ≡ span self.old }
         ensures looked { looked self.new ≡ looked self.old };
 
+    /// Whether what `acquire` and `release` are to change is there, which it is. To ask reads it, before the caller
+    /// counts shares of the record: behind a locked count each of these reads would wait for memory by itself. A
+    /// policy to which a use is nothing reads nothing.
+    #[inline(always)]
+    fn look_ahead(&self, place: Place) -> bool
+        requires { IsSome (at self.now place) }
+        ensures { IsTrue result }
+    {
+        let _ = place;
+        true
+    }
+
+    /// Where items stand that may leave next, the first of them and the one behind it, so that what is there can be
+    /// read ahead. It's a hint alone, and a policy may give none.
+    #[inline(always)]
+    fn ahead(&self) -> (Option<Place>, Option<Place>)
+        ensures first { IfSome result.0 (λ p. IsSome (at self.now p)) }
+        ensures second { IfSome result.1 (λ p. IsSome (at self.now p)) }
+    {
+        (None, None)
+    }
+
     /// How many nodes there are, with items or free. Every place is below it. `reserve` and `reserve_to` alone
     /// raise it, and nothing lowers it.
     fn span(&self) -> usize

@@ -150,6 +150,11 @@ impl Eviction for Fifo {
     fn release(&mut self, _place: Place) {}
 
     #[inline(always)]
+    fn ahead(&self) -> (Option<Place>, Option<Place>) {
+        self.queue.first_two(0)
+    }
+
+    #[inline(always)]
     fn span(&self) -> usize {
         self.queue.span()
     }

@@ -278,6 +278,17 @@ impl Eviction for Lfu {
     #[inline(always)]
     fn release(&mut self, _place: Place) {}
 
+    // A use moves the node.
+    #[inline(always)]
+    fn look_ahead(&self, place: Place) -> bool {
+        self.lists.has_neighbors(place)
+    }
+
+    #[inline(always)]
+    fn ahead(&self) -> (Option<Place>, Option<Place>) {
+        self.lists.first_two(PROBATION)
+    }
+
     #[inline(always)]
     fn span(&self) -> usize {
         self.lists.span()

@@ -301,6 +301,24 @@ impl Eviction for Lru {
         self.high_weight = settle(&mut self.lists, weight, self.limit);
     }
 
+    // A use moves the node, and then lets one go from the pool of high priority.
+    #[inline(always)]
+    fn look_ahead(&self, place: Place) -> bool {
+        let lowered = match self.lists.front(HIGH) {
+            Some(front) => self.lists.has_neighbors(front),
+            None => true,
+        };
+        lowered && self.lists.has_neighbors(place)
+    }
+
+    #[inline(always)]
+    fn ahead(&self) -> (Option<Place>, Option<Place>) {
+        match self.lists.front(LOW) {
+            Some(first) => (Some(first), self.lists.next(first)),
+            None => self.lists.first_two(HIGH),
+        }
+    }
+
     #[inline(always)]
     fn span(&self) -> usize {
         self.lists.span()

@@ -308,6 +308,22 @@ impl Eviction for S3Fifo {
     #[inline(always)]
     fn release(&mut self, _place: Place) {}
 
+    // A use counts at the node.
+    #[inline(always)]
+    fn look_ahead(&self, place: Place) -> bool {
+        self.queues.list_of(place) < 2
+    }
+
+    #[inline(always)]
+    fn ahead(&self) -> (Option<Place>, Option<Place>) {
+        let queue = if self.small_weight > self.limit {
+            SMALL
+        } else {
+            MAIN
+        };
+        self.queues.first_two(queue)
+    }
+
     #[inline(always)]
     fn span(&self) -> usize {
         self.queues.span()

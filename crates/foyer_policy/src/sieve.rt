@@ -301,6 +301,20 @@ impl Eviction for Sieve {
     #[inline(always)]
     fn release(&mut self, _place: Place) {}
 
+    // A use sets the node's bit.
+    #[inline(always)]
+    fn look_ahead(&self, place: Place) -> bool {
+        self.queue.list_of(place) < 1
+    }
+
+    #[inline(always)]
+    fn ahead(&self) -> (Option<Place>, Option<Place>) {
+        match self.hand {
+            Some(hand) => (Some(hand), self.queue.next(hand)),
+            None => self.queue.first_two(0),
+        }
+    }
+
     #[inline(always)]
     fn span(&self) -> usize {
         self.queue.span()

@@ -102,7 +102,7 @@ impl<E: Eviction> Filled<E> {
     }
 
     // The place of a record, which must be in.
-    fn place_of(&self, rt: &impl Abort, id: u64) -> Place
+    pub(crate) fn place_of(&self, rt: &impl Abort, id: u64) -> Place
         ensures { IsSome (E.at self.now.policy result) }
     {
         let at = id as usize;

@@ -34,8 +34,8 @@ impl Named {
     }
 }
 
-/// Where each id's record stands. An id is named at the place of its low bits, or in a map where that place
-/// named another when the id came.
+/// Where each id's record stands. An id is named at the place of its low bits, and in a map once a later one has
+/// that place.
 #[derive(Drop)]
 pub(crate) struct Ids {
     // none, or a place for each number of so many bits
@@ -111,16 +111,26 @@ impl Ids {
         ensures { (q : ℕ) → slot_of self.new q ≡ update nat_eq (slot_of self.old) id (Some slot) q }
     {
         // The greatest number is no link, so a slot of that number goes into the map.
-        if let Some(named) = self.near.get_mut(place_of(id, self.bits)) {
-            if named.slot.place().is_none() && slot < usize::MAX {
-                *named = Named {
-                    id,
-                    slot: Link::to(slot),
-                };
-                return;
+        if slot == usize::MAX {
+            let _ = self.far.insert(id, slot);
+            return;
+        }
+        let place = place_of(id, self.bits);
+        let Some(named) = self.near.get_mut(place) else {
+            let _ = self.far.insert(id, slot);
+            return;
+        };
+        let older = *named;
+        *named = Named {
+            id,
+            slot: Link::to(slot),
+        };
+        // An id that was there has outstayed as many as there are places, which few do: it goes into the map.
+        if let Some(stands) = older.slot.place() {
+            if place_of(older.id, self.bits) == place {
+                let _ = self.far.insert(older.id, stands);
             }
         }
-        let _ = self.far.insert(id, slot);
     }
 
     /// An id has no slot any more.

@@ -24,6 +24,9 @@ impl<E: Eviction, K: Key, V: Value, P: Properties, I: Finder<K>> Store<E, K, V, 
         ensures room { HasRoom self.old.records → HasRoom self.new.records }
         ensures places { HasPlaces self.old → HasPlaces self.new }
     {
+        if !self.looks_ahead() {
+            return Err(Error::new(Reason::NoMemory));
+        }
         let Some(victim) = self.eviction.pop_at()? else {
             return Ok(None);
         };

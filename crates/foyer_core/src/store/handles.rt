@@ -33,9 +33,7 @@ impl<E: Eviction, K: Key, V: Value, P: Properties, I: Finder<K>> Store<E, K, V, 
             return Err(Error::new(Reason::Handles));
         }
         let place = Place::at(slot);
-        // The policy's node is read before the shares are counted: behind a locked count the load would wait for it.
-        let item = self.eviction.item(place);
-        if item.id != found.id() {
+        if !self.eviction.look_ahead(place) {
             return Ok(None);
         }
         let entry = found.entry(self.number, slot, Source::Memory)?;

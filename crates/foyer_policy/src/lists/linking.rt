@@ -1,6 +1,6 @@
 //! Steps of linked lists over the nodes of an arena: a node is linked in, out of its list, or taken out.
 
-ghost use Rattle.std.specs.Prelude.{◌≡◌, ℕ, ◌+◌, ◌<◌, ◌∷◌, ◌++◌, [], Some, None, IsSome, length, map, slice_index_or, slice_set, if◌then◌else◌};
+ghost use Rattle.std.specs.Prelude.{◌≡◌, ℕ, ◌+◌, ◌<◌, ◌∷◌, ◌++◌, [], Some, None, IsSome, IsTrue, length, map, slice_index_or, slice_set, if◌then◌else◌};
 ghost use Rattle.std.specs.Option.{ForSome};
 ghost use Rattle.foyer_policy.specs.Arena.{get, value_of, IsArena};
 ghost use Rattle.foyer_policy.specs.Lists.{list_at, find, drop_place};
@@ -175,4 +175,33 @@ pub(super) fn take_out<T, const N: usize>(
 {
     unlink(nodes, heads, tails, place);
     nodes.remove(place)
+}
+
+// Whether the nodes at both sides of a node are in lists, as they are: what to move the node would write is read.
+#[inline(always)]
+pub(super) fn has_neighbors<T, const N: usize>(
+    nodes: &Arena<T, N>,
+    heads: &[Link],
+    tails: &[Link],
+    place: usize,
+) -> bool
+    requires sound { IsSound nodes.now heads.now tails.now }
+    requires there { IsSome (find place (lists_of nodes.now heads.now)) }
+    ensures { IsTrue result }
+{
+    let links = nodes.links(place);
+    is_listed(nodes, links.before) && is_listed(nodes, links.after)
+}
+
+// Whether the node that a link leads to is in a list, where there is one.
+#[inline(always)]
+fn is_listed<T, const N: usize>(nodes: &Arena<T, N>, at: Link) -> bool
+    requires arena { IsArena nodes.now }
+    requires there { ForSome at (λ q. IsSome (get nodes.now q)) }
+    ensures { IsTrue result }
+{
+    match at.place() {
+        Some(at) => nodes.links(at).list < N,
+        None => true,
+    }
 }

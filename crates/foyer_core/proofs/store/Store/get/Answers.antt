@@ -55,8 +55,8 @@ returns-in_err-entry g c =
           ));
     }
 
-pub item-item-requires : goal.item-item-requires
-item-item-requires g c =
+pub look_ahead-requires : goal.look_ahead-requires
+look_ahead-requires g c =
     let s = c.args.self.now in
     let x = c.in-Some-get.found.now in
     let there : slot_in s.records c.in-Some.slot ≡ Some x = sym (rw c.in-Some-get.is at c.get.ensures) in

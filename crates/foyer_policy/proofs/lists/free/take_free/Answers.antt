@@ -1,5 +1,3 @@
-use Rattle.std.proofs.Common.{◌≡◌, ◌∙◌, Some, None, get_or, sym, ap}
-use Rattle.foyer_policy.specs.Free.{HasNeighbours, rewritten, leads_back}
 use Rattle.foyer_policy.specs.Block.{IsFilled}
 use Rattle.foyer_policy.proofs.FreeLemmas.{filled-back}
 use Rattle.foyer_policy.proofs.lists.free.take_free.Goals as goal

@@ -1,7 +1,5 @@
-use Rattle.foyer_policy.specs.Chain.{lists_of}
 use Rattle.std.proofs.Common.{◌∙◌, ◌<◌, None, length, refl, arith}
 use Rattle.std.proofs.lemmas.List.{get_or_read_under}
-use Rattle.foyer_policy.specs.Arena.{get}
 use Rattle.foyer_policy.proofs.HoldsLemmas.{tail_there, vacant_if_lost, Holds-link, lists_of-Holds, Holds-again}
 use Rattle.foyer_policy.proofs.lists.linking.link_back.Goals as goal
 

@@ -1,4 +1,4 @@
-use Rattle.std.proofs.Common.{◌≡◌, ◌∙◌, ◌-◌, Some, None, set, arith}
+use Rattle.std.proofs.Common.{◌≡◌, ◌∙◌, ◌-◌, None, set, arith}
 use Rattle.foyer_policy.specs.Free.{put_free}
 use Rattle.foyer_policy.proofs.FreeLemmas.{filled_within, used-set, first_filled}
 use Rattle.foyer_policy.proofs.ArenaLemmas.{block-freed, IsArena-with}

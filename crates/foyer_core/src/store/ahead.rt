@@ -1,0 +1,55 @@
+//! What an eviction and a use read ahead.
+//!
+//! A share is counted by a locked instruction, behind which each read waits until those before it are done. So what is
+//! to be read of records and of the policy's nodes is read before shares are counted, all at once. What is asked here
+//! of them is so in any case.
+
+ghost use Rattle.std.specs.Prelude.{IsSome, IsTrue};
+
+use super::Store;
+use crate::finder::Finder;
+use foyer_policy::{Eviction, Hint, Key, Place, Properties, Value};
+
+impl<E: Eviction, K: Key, V: Value, P: Properties, I: Finder<K>> Store<E, K, V, P, I> {
+    // Whether the records that may leave next stand where the policy has them: the data of the first, and the slot of
+    // the one behind it, are read.
+    #[inline(always)]
+    pub(super) fn looks_ahead(&self) -> bool
+        ensures { IsTrue result }
+    {
+        let (first, second) = self.eviction.ahead();
+        let is_there = match second {
+            Some(place) => self.stands_at(place),
+            None => true,
+        };
+        match first {
+            Some(place) => is_there && self.agrees_at(place),
+            None => is_there,
+        }
+    }
+
+    // Whether the slot of a place in the policy has a record that is in the index.
+    #[inline(always)]
+    fn stands_at(&self, place: Place) -> bool
+        requires { IsSome (E.at self.now.eviction place) }
+        ensures { IsTrue result }
+    {
+        match self.records.get(place.number()) {
+            Some(found) => found.is_resident(),
+            None => false,
+        }
+    }
+
+    // Whether the data of the record at a place in the policy have the hint that the policy has.
+    #[inline(always)]
+    fn agrees_at(&self, place: Place) -> bool
+        requires { IsSome (E.at self.now.eviction place) }
+        ensures { IsTrue result }
+    {
+        let item = self.eviction.item(place);
+        match self.records.get(place.number()) {
+            Some(found) => found.properties().hint().unwrap_or(Hint::Normal) == item.hint,
+            None => false,
+        }
+    }
+}
