@@ -1,7 +1,44 @@
 // Keys that all have one hash.
 
-use super::fetches::Zeros;
 use super::*;
+use std::hash::{BuildHasher, Hasher};
+use std::marker::Model;
+
+// Gives all keys the number 0.
+#[derive(Clone, Copy)]
+pub(super) struct Zeros;
+
+impl Model for Zeros {
+    ghost use Rattle.std.specs.Prelude.{⊤};
+
+    ghost Value = { ⊤ };
+
+    ghost view = { λ _. tt };
+
+    ghost inverse = { λ _. record {} };
+}
+
+impl Hasher for Zeros {
+    ghost write = { λ h _. h };
+
+    ghost finish = { λ _. 0 };
+
+    fn finish(&self) -> u64 {
+        0
+    }
+
+    fn write(&mut self, _bytes: &[u8]) {}
+}
+
+impl BuildHasher for Zeros {
+    type Hasher = Zeros;
+
+    ghost build_hasher = { λ _. tt };
+
+    fn build_hasher(&self) -> Zeros {
+        Zeros
+    }
+}
 
 type Colliding = CacheCore<Fifo, u64, u64, CacheProperties, Zeros, UnitWeighter, AdmitAll, (), ()>;
 

@@ -4,11 +4,10 @@ ghost use Rattle.std.specs.Prelude.{◌≡◌, ◌↔◌, IsTrue};
 ghost use Rattle.foyer_core.specs.Core.{Owns};
 ghost use Rattle.foyer_core.specs.Cores.{core_of};
 
+use super::collisions::Zeros;
 use super::*;
 use foyer_core::{Answers, Ended, FetchOrTake, FetchTarget, Lookup, Outcome, Piece, Weighter};
 use foyer_policy::{Fault, Lru, LruConfig};
-use std::hash::{BuildHasher, Hasher};
-use std::marker::Model;
 use std::sync::Arc;
 
 mod ends;
@@ -313,42 +312,6 @@ fn numbers_are_given_once(rt: HostRuntime) -> std::result::Result<(), Fail> {
     assert_eq!(rt; ask(&rt, &mut core, 8, None, 4), Asked::Waits(4));
     assert!(rt; core.is_open(&8, 1) && core.is_open(&9, 2) && !core.is_open(&8, 2));
     Ok(())
-}
-
-// Gives all keys the number 0.
-#[derive(Clone, Copy)]
-pub(super) struct Zeros;
-
-impl Model for Zeros {
-    ghost use Rattle.std.specs.Prelude.{⊤};
-
-    ghost Value = { ⊤ };
-
-    ghost view = { λ _. tt };
-
-    ghost inverse = { λ _. record {} };
-}
-
-impl Hasher for Zeros {
-    ghost write = { λ h _. h };
-
-    ghost finish = { λ _. 0 };
-
-    fn finish(&self) -> u64 {
-        0
-    }
-
-    fn write(&mut self, _bytes: &[u8]) {}
-}
-
-impl BuildHasher for Zeros {
-    type Hasher = Zeros;
-
-    ghost build_hasher = { λ _. tt };
-
-    fn build_hasher(&self) -> Zeros {
-        Zeros
-    }
 }
 
 // Keys that have one hash have places of their own.
