@@ -6,7 +6,7 @@ use Rattle.std.proofs.lemmas.List.{map-append}
 use Rattle.std.proofs.lemmas.List.Sums.{sum_by-cons, sum_by-append}
 use Rattle.std.proofs.lemmas.List.Sorted.{sum_by-IsPermutation}
 use Rattle.foyer_policy.specs.FitLaws.{sum_by-map}
-use Rattle.foyer_policy.specs.Held.{items_of}
+use Rattle.foyer_policy.specs.Queued.{items_of}
 use Rattle.foyer_policy.specs.ItemLaws.{one_if, count-cons, once-snoc, sum-remove_id}
 use Rattle.foyer_policy.specs.Items.{weight_of, HasIdsOnce, IsNewIn, IsWithin, remove_id, find_id}
 use Rattle.foyer_policy.specs.Lists.{list_at, find, with_value, moved, AreLists}

@@ -4,22 +4,22 @@ use Rattle.std.specs.Prelude.{◌==◌, option_map}
 use Rattle.std.proofs.lemmas.Bool.Decides.{nat_tests}
 use Rattle.std.proofs.lemmas.List.{get_or-set_same, get_or-set_other}
 use Rattle.std.proofs.Math.ListN.{get_or-map, length-map}
-use Rattle.foyer_policy.specs.Held.{items_of}
+use Rattle.foyer_policy.specs.Queued.{items_of}
 use Rattle.foyer_policy.specs.Items.{HasIdsOnce, remove_id, find_id}
 use Rattle.foyer_policy.specs.ItemLaws.{once-head, once-tail}
 use Rattle.foyer_policy.specs.Lists.{list_at, find, find_in, drop_place, with_value, moved, AreLists}
 use Rattle.foyer_policy.specs.Lru.{find_pin, remove_pin}
 use Rattle.foyer_policy.specs.LruLists.{pinned_of, state, EachState, StatesTell}
-use Rattle.foyer_policy.specs.declared.held.Held.{Held}
+use Rattle.foyer_policy.specs.declared.queued.Queued.{Queued}
 use Rattle.foyer_policy.specs.declared.lru.LruState.{LruState}
 use Rattle.foyer_policy.proofs.FoundLemmas.{find-write_same}
-use Rattle.foyer_policy.proofs.HeldLemmas.{item_of}
+use Rattle.foyer_policy.proofs.QueuedLemmas.{item_of}
 use Rattle.foyer_policy.proofs.ItemPlaces.{item_at, items-drop_place, find_id-found, new-found}
 use Rattle.foyer_policy.proofs.ListsLemmas.{Member, member}
 use Rattle.foyer_policy.proofs.PlaceLemmas.{drop_place-free}
 
 abbrev pub Node : Type 0
-Node = Held LruState
+Node = Queued LruState
 
 -- the state of what is found
 pub state_at : (P : LruState → Type 0) (p : ℕ) (n : Node) (l : List (ℕ × Node)) → EachState P l → find_in p l ≡ Some n
@@ -68,9 +68,9 @@ module _ (p : ℕ) (n : Node) where
       items_of (drop_place p l) ≡ remove_id n.item.id (items_of l)
   items_of-dropped l once is = items-drop_place item_of p n.item l once (item_at-found l is)
 
-  pub find_id-held : (l : List (ℕ × Node)) → HasIdsOnce (items_of l) → find_in p l ≡ Some n →
+  pub find_id-queued : (l : List (ℕ × Node)) → HasIdsOnce (items_of l) → find_in p l ≡ Some n →
       find_id n.item.id (items_of l) ≡ Some n.item
-  find_id-held l once is = find_id-found item_of p n.item l once (item_at-found l is)
+  find_id-queued l once is = find_id-found item_of p n.item l once (item_at-found l is)
 
   -- the first has another id
   other_id : (e : ℕ × Node) (es : List (ℕ × Node)) → HasIdsOnce (items_of (e ∷ es)) → find_in p es ≡ Some n →
@@ -94,10 +94,10 @@ module _ (p : ℕ) (n : Node) where
     go true h rec = (let same : e.1 ≡ n = cc in rw (same_id e.1 same) refl)
     go false h rec = rw (other_id e es once h) (ap (λ r. pinned_of e ∷ r) (rec h))
 
-  pub find_pin-held : (l : List (ℕ × Node)) → HasIdsOnce (items_of l) → find_in p l ≡ Some n →
+  pub find_pin-queued : (l : List (ℕ × Node)) → HasIdsOnce (items_of l) → find_in p l ≡ Some n →
       find_pin n.item.id (map pinned_of l) ≡ Some (pinned_of (p, n))
-  find_pin-held [] once h = absurd cc
-  find_pin-held (e ∷ es) once h = go (e.0 == p) h (find_pin-held es (once-tail e.1.item (items_of es) once)) where
+  find_pin-queued [] once h = absurd cc
+  find_pin-queued (e ∷ es) once h = go (e.0 == p) h (find_pin-queued es (once-tail e.1.item (items_of es) once)) where
     go : (b : Bool) → cond b (Some e.1) (find_in p es) ≡ Some n →
         (find_in p es ≡ Some n → find_pin n.item.id (map pinned_of es) ≡ Some (pinned_of (p, n)))
         → cond (e.1.item.id == n.item.id) (Some (pinned_of e)) (find_pin n.item.id (map pinned_of es))

@@ -5,7 +5,7 @@ use Rattle.std.specs.List.Sorted.{IsPermutation}
 use Rattle.std.proofs.lemmas.Bool.Decides.{nat_tests}
 use Rattle.std.proofs.lemmas.List.{map-append, get_or-set_same, get_or-set_other}
 use Rattle.std.proofs.lemmas.List.Sums.{sum_by-cons, sum_by-append}
-use Rattle.foyer_policy.specs.Held.{items_of, held_at}
+use Rattle.foyer_policy.specs.Queued.{items_of, queued_at}
 use Rattle.foyer_policy.specs.Items.{weight_of, IsNewIn, fit, over}
 use Rattle.foyer_policy.specs.Limit.{ok_unless, ratio_fault, is_in_range}
 use Rattle.foyer_policy.specs.Lists.{list_at, find, find_in, first_value, rest, drop_place, AreLists}
@@ -250,7 +250,7 @@ module _ (ls ls2 : List (List (ℕ × Node))) (sound : AreLists 3 ls) (n : Node)
 
 -- three empty lists hold nothing
 pub nothing_held : (ls ls2 : List (List (ℕ × Node))) → ls2 ≡ set (set (set ls 0 []) 1 []) 2 [] → length ls2 ≡ 3 →
-    (q : ℕ) → held_at q ls2 ≡ None
+    (q : ℕ) → queued_at q ls2 ≡ None
 nothing_held [] ls2 is count q = (let e : ls2 ≡ [] = is in absurd (omega (arith, ap length e)))
 nothing_held (a ∷ []) ls2 is count q = (let e : ls2 ≡ [] ∷ [] = is in absurd (omega (arith, ap length e)))
 nothing_held (a ∷ (b ∷ [])) ls2 is count q = (let e : ls2 ≡ [] ∷ [] ∷ [] = is in absurd (omega (arith, ap length e)))

@@ -4,7 +4,7 @@ use Rattle.std.specs.Prelude.{option_map, sum_by}
 use Rattle.std.specs.List.Sorted.{IsPermutation}
 use Rattle.std.proofs.lemmas.List.{map-append, append-nil}
 use Rattle.std.proofs.lemmas.List.Sums.{sum_by-cons, sum_by-append}
-use Rattle.foyer_policy.specs.Held.{items_of, held_at}
+use Rattle.foyer_policy.specs.Queued.{items_of, queued_at}
 use Rattle.foyer_policy.specs.ItemLaws.{sum-remove_id}
 use Rattle.foyer_policy.specs.Items.{weight_of, HasIdsOnce, IsWithin, remove_id, find_id, fit, over}
 use Rattle.foyer_policy.specs.Lists.{list_at, find, flat, drop_place, with_value, moved, AreLists}
@@ -16,7 +16,7 @@ use Rattle.foyer_policy.specs.LruLists.{pinned_of, view_of, IsLru, weight_at, lo
 use Rattle.foyer_policy.specs.declared.types.Item.{Item}
 use Rattle.foyer_policy.specs.declared.types.Ratio.{Ratio}
 use Rattle.foyer_policy.proofs.FlatLemmas.{find_in-flat, flat-drop_place, IsDistinct-flat}
-use Rattle.foyer_policy.proofs.HeldLemmas.{item_of}
+use Rattle.foyer_policy.proofs.QueuedLemmas.{item_of}
 use Rattle.foyer_policy.proofs.ItemPlaces.{item_at, item_at-drop_place}
 use Rattle.foyer_policy.proofs.PoolLemmas.{three}
 use Rattle.foyer_policy.proofs.LruInvariants.{weight, weight_of-items_of, within-permutation, within-remove_id, rebuilt}
@@ -38,8 +38,8 @@ items_of-flat ls limit ratio sound =
     (map-append item l1 (l2 ++ []) ∙ ap (λ (l : List Item). items_of l1 ++ l)
     (ap items_of (append-nil l2) ∙ sym (items_of-pins l2)))
 
-held_at-flat : (q : ℕ) (ls : List (List (ℕ × Node))) → held_at q ls ≡ item_at item_of q (flat ls)
-held_at-flat q ls = ap (option_map item_of) (sym (find_in-flat q ls)) ∙ sym (item_at-is q (flat ls))
+queued_at-flat : (q : ℕ) (ls : List (List (ℕ × Node))) → queued_at q ls ≡ item_at item_of q (flat ls)
+queued_at-flat q ls = ap (option_map item_of) (sym (find_in-flat q ls)) ∙ sym (item_at-is q (flat ls))
 
 find_pin-none : (id : ℕ) (pin : List Pinned) → find_id id (pinned_items pin) ≡ None → find_pin id pin ≡ None
 find_pin-none id pin h = go (find_pin id pin) refl where
@@ -176,16 +176,16 @@ module _ (ls : List (List (ℕ × Node))) (limit : ℕ) (ratio : Ratio) (high_we
         (items_of (list_at ls 1) ++ pinned_items (map pinned_of (list_at ls 2))) f
 
   module _ (ls2 : List (List (ℕ × Node))) (dropped : ls2 ≡ map (drop_place p) ls) where
-    pub removed_places : (q : ℕ) → held_at q ls2 ≡ without n.item.id (held_at q ls)
+    pub removed_places : (q : ℕ) → queued_at q ls2 ≡ without n.item.id (queued_at q ls)
     removed_places q =
         let all = flat ls in
         let once : HasIdsOnce (items_of all) = subst (λ (l : List Item). HasIdsOnce l)
         (sym (items_of-flat ls limit ratio sound)) old.once in
         let at : item_at item_of p all ≡ Some n.item = item_at-is p all
         ∙ ap (option_map item_of) (find_in-flat p ls ∙ h) in
-        held_at-flat q ls2 ∙ ap (item_at item_of q) (ap flat dropped ∙ flat-drop_place 3 p ls sound)
+        queued_at-flat q ls2 ∙ ap (item_at item_of q) (ap flat dropped ∙ flat-drop_place 3 p ls sound)
         ∙ item_at-drop_place item_of p q n.item all once (IsDistinct-flat 3 ls sound) at
-        ∙ ap (without n.item.id) (sym (held_at-flat q ls))
+        ∙ ap (without n.item.id) (sym (queued_at-flat q ls))
 
     pub removed_view : view_of ls2 limit ratio ≡ lru.remove (view_of ls limit ratio) n.item.id
     removed_view = go n.state.pinned n.state.high refl refl where

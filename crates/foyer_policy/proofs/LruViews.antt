@@ -4,7 +4,7 @@ use Rattle.std.specs.Prelude.{option_map}
 use Rattle.std.proofs.lemmas.List.{map-append, append-nil}
 use Rattle.std.proofs.Math.ListN.{get_or-map}
 use Rattle.foyer_policy.specs.FitLaws.{fit-le, over-le, fit-map, over-map, over-fit}
-use Rattle.foyer_policy.specs.Held.{items_of}
+use Rattle.foyer_policy.specs.Queued.{items_of}
 use Rattle.foyer_policy.specs.Items.{HasIdsOnce, remove_id, find_id, fit, over}
 use Rattle.foyer_policy.specs.Lists.{list_at, find_in, drop_place, AreLists}
 use Rattle.foyer_policy.specs.PartLaws.{find_id-front, find_id-back, find_id-other_part, once-front, once-back}
@@ -14,7 +14,7 @@ use Rattle.foyer_policy.specs.LruLists.{pinned_of, view_of, state, EachState, St
 use Rattle.foyer_policy.specs.declared.types.Item.{Item}
 use Rattle.foyer_policy.specs.declared.types.Ratio.{Ratio}
 use Rattle.foyer_policy.specs.declared.lru.LruState.{LruState}
-use Rattle.foyer_policy.proofs.LruLemmas.{Node, EachState-append, EachState-front, EachState-back, EachState-drop, items_of-dropped, find_id-held, pins-dropped, find_pin-held, items_of-pins, off}
+use Rattle.foyer_policy.proofs.LruLemmas.{Node, EachState-append, EachState-front, EachState-back, EachState-drop, items_of-dropped, find_id-queued, pins-dropped, find_pin-queued, items_of-pins, off}
 
 -- a view by its parts
 pub same_view : (limit : ℕ) (ratio : Ratio) (a b c d : List Item) (p q : List Pinned) → a ≡ b → c ≡ d → p ≡ q →
@@ -94,14 +94,14 @@ module _ (ls : List (List (ℕ × Node))) (limit : ℕ) (ratio : Ratio)
   module _ (sound : AreLists 3 ls) (p : ℕ) (n : Node) where
     -- where the model finds the item
     pub low_found : find_in p (list_at ls 0) ≡ Some n → find_id n.item.id (items_of (list_at ls 0)) ≡ Some n.item
-    low_found is = find_id-held p n (list_at ls 0) once_low is
+    low_found is = find_id-queued p n (list_at ls 0) once_low is
 
     pub high_found : find_in p (list_at ls 1) ≡ Some n → (find_id n.item.id (items_of (list_at ls 0)) ≡ None)
         × (find_id n.item.id (items_of (list_at ls 1)) ≡ Some n.item)
     high_found is =
         let pins = pinned_items (map pinned_of (list_at ls 2)) in
         let found : find_id n.item.id (items_of (list_at ls 1)) ≡ Some n.item =
-        find_id-held p n (list_at ls 1) once_high is in
+        find_id-queued p n (list_at ls 1) once_high is in
         let all : find_id n.item.id (items_of (list_at ls 1) ++ pins) ≡ Some n.item =
         find_id-front n.item.id n.item (items_of (list_at ls 1)) pins found in (
           find_id-other_part n.item.id n.item (items_of (list_at ls 0)) (items_of (list_at ls 1) ++ pins) once all,
@@ -110,7 +110,7 @@ module _ (ls : List (List (ℕ × Node))) (limit : ℕ) (ratio : Ratio)
 
     pub pin_is_found : find_in p (list_at ls 2) ≡ Some n → find_pin n.item.id (map pinned_of (list_at ls 2))
         ≡ Some (pinned_of (p, n))
-    pin_is_found is = find_pin-held p n (list_at ls 2) once_pin is
+    pin_is_found is = find_pin-queued p n (list_at ls 2) once_pin is
 
     pub pinned_found : find_in p (list_at ls 2) ≡ Some n →
         find_id n.item.id (pinned_items (map pinned_of (list_at ls 2))) ≡ Some n.item

@@ -10,7 +10,6 @@ pub mod Free
 pub mod GhostParts
 pub mod GhostQueue
 pub mod Hash
-pub mod Held
 pub mod ItemLaws
 pub mod Items
 pub mod Lends
@@ -29,6 +28,7 @@ pub mod PartLaws
 pub mod Policy
 pub mod PopTimes
 pub mod Properties
+pub mod Queued
 pub mod S3Fifo
 pub mod S3FifoLaws
 pub mod S3FifoQueues

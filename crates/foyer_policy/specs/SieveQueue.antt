@@ -5,12 +5,12 @@ use Rattle.foyer_policy.specs.Lists.{Lists, list_at, find, first_or}
 use Rattle.foyer_policy.specs.Items.{HasIdsOnce}
 use Rattle.foyer_policy.specs.Sieve.{Entry, SieveView, items, turn, looks_at}
 use Rattle.foyer_policy.specs.declared.types.Item.{Item}
-use Rattle.foyer_policy.specs.declared.held.Held.{Held}
+use Rattle.foyer_policy.specs.declared.queued.Queued.{Queued}
 use Rattle.foyer_policy.specs.declared.sieve.SieveState.{SieveState}
 
 -- a node of the queue
 abbrev pub Node : Type 0
-Node = Held SieveState
+Node = Queued SieveState
 
 pub record Queue : Type 0 where
   pub nodes : Lists Node

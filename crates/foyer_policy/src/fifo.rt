@@ -4,8 +4,8 @@ ghost use Rattle.std.specs.Prelude.{◌≡◌, [], ◌∷◌, map};
 
 use crate::error::{Error, Reason, Result};
 use crate::eviction::Eviction;
-use crate::held::{append_items, item_found};
 use crate::lists::{Lists, Place};
+use crate::queued::{append_items, item_found};
 use crate::types::Item;
 use serde::{Deserialize, Serialize};
 use std::alloc::Global;

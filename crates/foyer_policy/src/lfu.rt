@@ -8,9 +8,9 @@ mod segments;
 
 use crate::error::{Error, Field, Reason, Result};
 use crate::eviction::Eviction;
-use crate::held::{append_items, item_found};
 use crate::limit::{Range, check_ratio, limit_of};
 use crate::lists::{Lists, Place};
+use crate::queued::{append_items, item_found};
 use crate::sketch::Sketch;
 use crate::types::{Item, Ratio};
 use segments::{PROBATION, PROTECTED, WINDOW, drain, next_list, settle, weight_if};

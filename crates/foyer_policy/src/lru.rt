@@ -3,15 +3,16 @@
 ghost use Rattle.std.specs.Prelude.{◌≡◌, ◌≤◌, ℕ, Some, IfNone, IfOk, IfSome, IsOk, option_map};
 ghost use Rattle.foyer_policy.specs.Items.{IsNewIn, weight_of};
 ghost use Rattle.foyer_policy.specs.Lru.{IsWithinLimit};
+ghost use Rattle.foyer_policy.specs.LruLists.{LruLists, IsLru, lru_view};
 ghost use Rattle.foyer_policy.specs.Policy.{Pops, without};
 
 mod pools;
 
 use crate::error::{Error, Field, Reason, Result};
 use crate::eviction::Eviction;
-use crate::held::{Held, append_items, item_found};
 use crate::limit::{Range, check_ratio, limit_of};
 use crate::lists::{Lists, Place};
+use crate::queued::{Queued, append_items, item_found};
 use crate::types::{Hint, Item, Ratio};
 use pools::{HIGH, LOW, Node, PIN, drain, relist, settle};
 use serde::{Deserialize, Serialize};
@@ -65,8 +66,6 @@ pub struct Lru {
 }
 
 impl Model for Lru {
-    ghost use Rattle.foyer_policy.specs.LruLists.{LruLists, IsLru};
-
     ghost Value = { LruLists };
 
     ghost view = { λ l. record {
@@ -81,8 +80,6 @@ impl Model for Lru {
 }
 
 impl Lru {
-    ghost use Rattle.foyer_policy.specs.LruLists.{lru_view};
-
     /// What the pool of high priority weighs, which is at most its limit after every call.
     pub fn high_priority_weight(&self) -> usize
         ensures weight { result ≡ weight_of (lru_view self.now).high }
@@ -93,10 +90,9 @@ impl Lru {
 }
 
 impl Eviction for Lru {
-    ghost use Rattle.foyer_policy.specs.Held.{held_at};
+    ghost use Rattle.foyer_policy.specs.Queued.{queued_at};
     ghost use Rattle.foyer_policy.specs.Lru.{LruView, lru};
     ghost use Rattle.foyer_policy.specs.LruLaws.{lru_lawful};
-    ghost use Rattle.foyer_policy.specs.LruLists.{lru_view};
 
     type Config = LruConfig;
 
@@ -108,7 +104,7 @@ impl Eviction for Lru {
 
     ghost view = { lru_view };
 
-    ghost at = { λ l p. held_at p l.lists };
+    ghost at = { λ l p. queued_at p l.lists };
 
     ghost room = { λ l. l.room };
 
@@ -185,11 +181,11 @@ impl Eviction for Lru {
                     high: false,
                     pinned,
                 };
-                self.lists.push_back_at(LOW, place, Held { item, state });
+                self.lists.push_back_at(LOW, place, Queued { item, state });
             }
             Hint::Normal => {
                 let state = LruState { high: true, pinned };
-                self.lists.push_back_at(HIGH, place, Held { item, state });
+                self.lists.push_back_at(HIGH, place, Queued { item, state });
                 let weight = self.high_weight + item.weight;
                 self.high_weight = settle(&mut self.lists, weight, self.limit);
             }
@@ -206,8 +202,8 @@ impl Eviction for Lru {
         // and what every policy ensures
         ensures pops { IfOk result (λ found. Pops lru (lru_view self.old) found (lru_view self.new)) }
         ensures places { IfOk result (λ found. IfSome found (λ i. (p : ℕ)
-            → held_at p self.new.lists ≡ without i.id (held_at p self.old.lists))) }
-        ensures none { IfOk result (λ found. IfNone found ((p : ℕ) → held_at p self.new.lists ≡ held_at p self.old.lists)) }
+            → queued_at p self.new.lists ≡ without i.id (queued_at p self.old.lists))) }
+        ensures none { IfOk result (λ found. IfNone found ((p : ℕ) → queued_at p self.new.lists ≡ queued_at p self.old.lists)) }
         ensures room { self.old.room ≤ self.new.room }
         ensures span { self.new.span ≡ self.old.span }
     {
@@ -221,13 +217,13 @@ impl Eviction for Lru {
         ensures unpinned { IfOk result (λ found. IfSome found (λ e. IsNewIn e.1.id (lru.pinned (lru_view self.old)))) }
 
         // and what every policy ensures
-        ensures stood { IfOk result (λ found. IfSome found (λ e. held_at e.0 self.old.lists ≡ Some e.1)) }
+        ensures stood { IfOk result (λ found. IfSome found (λ e. queued_at e.0 self.old.lists ≡ Some e.1)) }
         ensures pops { IfOk result (λ found.
             Pops lru (lru_view self.old) (option_map (λ e. e.1) found) (lru_view self.new)) }
         ensures places { IfOk result (λ found. IfSome found (λ e. (p : ℕ)
-            → held_at p self.new.lists ≡ without e.1.id (held_at p self.old.lists))) }
+            → queued_at p self.new.lists ≡ without e.1.id (queued_at p self.old.lists))) }
         ensures none { IfOk result (λ found. IfNone found ((p : ℕ)
-            → held_at p self.new.lists ≡ held_at p self.old.lists)) }
+            → queued_at p self.new.lists ≡ queued_at p self.old.lists)) }
         ensures room { self.old.room ≤ self.new.room }
         ensures span { self.new.span ≡ self.old.span }
     {
@@ -243,7 +239,7 @@ impl Eviction for Lru {
 
     #[inline(always)]
     fn remove(&mut self, place: Place) -> Item {
-        let Held { item, state } = self.lists.remove(place);
+        let Queued { item, state } = self.lists.remove(place);
         if state.pinned {
             self.pinned_weight -= item.weight;
         } else if state.high {
@@ -266,7 +262,7 @@ impl Eviction for Lru {
 
     #[inline(always)]
     fn acquire(&mut self, place: Place) {
-        let Held { item, state } = *self.lists.get(place);
+        let Queued { item, state } = *self.lists.get(place);
         if state.pinned {
             return;
         }
@@ -283,7 +279,7 @@ impl Eviction for Lru {
 
     #[inline(always)]
     fn release(&mut self, place: Place) {
-        let Held { item, state } = *self.lists.get(place);
+        let Queued { item, state } = *self.lists.get(place);
         if !state.pinned {
             return;
         }

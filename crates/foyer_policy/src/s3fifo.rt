@@ -1,20 +1,20 @@
 //! S3-FIFO: a small and a main queue, and a ghost queue that remembers what left the small one.
 
 ghost use Rattle.std.specs.Prelude.{◌≡◌, ℕ, ◌+◌, ◌*◌, ◌<◌, ◌≤◌, Some, None, Option, option_map, IfNone, IfSome, IfOk, IfErr, OnOk, OnErr, min, length};
-ghost use Rattle.foyer_policy.specs.GhostQueue.{ghost_of};
 ghost use Rattle.foyer_policy.specs.Policy.{Pops};
-ghost use Rattle.foyer_policy.specs.S3Fifo.{s3fifo, s3fifo_looks};
+ghost use Rattle.foyer_policy.specs.S3Fifo.{S3FifoView, s3fifo, s3fifo_looks};
+ghost use Rattle.foyer_policy.specs.S3FifoLaws.{s3fifo_lawful};
 ghost use Rattle.foyer_policy.specs.declared.error.Reason.TheVariants.{NoMemory};
-ghost use Rattle.foyer_policy.specs.S3FifoQueues.{item_at, view_of, PlacesAfter, HasRoomToPop, CanClear, WantsMemory};
+ghost use Rattle.foyer_policy.specs.S3FifoQueues.{S3Queues, IsSound, item_at, view_of, PlacesAfter, HasRoomToPop, CanClear, WantsMemory};
 
 mod queues;
 
 use crate::error::{Error, Field, Reason, Result};
 use crate::eviction::Eviction;
 use crate::ghost_queue::GhostQueue;
-use crate::held::{Held, append_items, item_found};
 use crate::limit::{Range, check_ratio, limit_of};
 use crate::lists::{Lists, Place};
+use crate::queued::{Queued, append_items, item_found};
 use crate::types::{Item, Ratio};
 pub use queues::S3FifoState;
 use queues::{MAIN, MOST, Node, SMALL, count, pop_victim};
@@ -75,11 +75,7 @@ pub struct S3Fifo {
 }
 
 impl Model for S3Fifo {
-    ghost use Rattle.foyer_policy.specs.S3FifoQueues.{S3Queues};
-
     ghost Value = { S3Queues };
-
-    ghost use Rattle.foyer_policy.specs.S3FifoQueues.{IsSound};
 
     ghost view = { λ s. record {
       nodes = s.queues;
@@ -130,11 +126,6 @@ impl S3Fifo {
 }
 
 impl Eviction for S3Fifo {
-    ghost use Rattle.std.specs.Prelude.{Option};
-    ghost use Rattle.foyer_policy.specs.declared.types.Item.{Item};
-    ghost use Rattle.foyer_policy.specs.S3Fifo.{S3FifoView};
-    ghost use Rattle.foyer_policy.specs.S3FifoLaws.{s3fifo_lawful};
-
     type Config = S3FifoConfig;
 
     type State = S3FifoState;
@@ -227,11 +218,13 @@ impl Eviction for S3Fifo {
             ..S3FifoState::default()
         };
         if is_main {
-            self.queues.push_back_at(MAIN, place, Held { item, state });
+            self.queues
+                .push_back_at(MAIN, place, Queued { item, state });
             return;
         }
         self.small_weight += item.weight;
-        self.queues.push_back_at(SMALL, place, Held { item, state });
+        self.queues
+            .push_back_at(SMALL, place, Queued { item, state });
     }
 
     fn pop(&mut self) -> Result<Option<Item>>
@@ -279,7 +272,7 @@ impl Eviction for S3Fifo {
 
     #[inline(always)]
     fn remove(&mut self, place: Place) -> Item {
-        let Held { item, state } = self.queues.remove(place);
+        let Queued { item, state } = self.queues.remove(place);
         if !state.is_main {
             self.small_weight -= item.weight;
         }

@@ -10,8 +10,8 @@ ghost use Rattle.foyer_policy.specs.SieveQueue.{view_of, entry, entries, entry_i
 
 use crate::error::{Error, Reason, Result};
 use crate::eviction::Eviction;
-use crate::held::{Held, append_items, item_found};
 use crate::lists::{Lists, Place};
+use crate::queued::{Queued, append_items, item_found};
 use crate::types::Item;
 use serde::{Deserialize, Serialize};
 use std::alloc::Global;
@@ -27,7 +27,7 @@ pub struct SieveState {
     visited: bool,
 }
 
-type Node = Held<SieveState>;
+type Node = Queued<SieveState>;
 
 // What a pop took out, the place that it had, where the hand goes, and how many bits it read.
 #[derive(Drop)]

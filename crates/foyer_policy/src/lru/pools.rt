@@ -1,14 +1,14 @@
 //! The three lists of an [`Lru`](super::Lru), below its running sums.
 
 ghost use Rattle.std.specs.Prelude.{◌≡◌, ℕ, ◌<◌, ◌≤◌, ◌∷◌, ◌++◌, [], length, map, sum_by, IsSome, slice_set};
-ghost use Rattle.foyer_policy.specs.Held.{held_at};
+ghost use Rattle.foyer_policy.specs.Queued.{queued_at};
 ghost use Rattle.foyer_policy.specs.Items.{fit, over};
 ghost use Rattle.foyer_policy.specs.Lists.{AreLists, find, list_at, moved, with_value};
 ghost use Rattle.foyer_policy.specs.LruLists.{low_entry, weight_at};
 
 use super::LruState;
-use crate::held::Held;
 use crate::lists::{Lists, Place};
+use crate::queued::Queued;
 
 /// The list of what leaves first.
 pub(super) const LOW: usize = 0;
@@ -19,7 +19,7 @@ pub(super) const HIGH: usize = 1;
 /// The list of what is pinned.
 pub(super) const PIN: usize = 2;
 
-pub(super) type Node = Held<LruState>;
+pub(super) type Node = Queued<LruState>;
 
 /// Moves the first node of the pool to the end of the low list, without its high bit, and answers its
 /// weight. The pool must not be empty.
@@ -29,7 +29,7 @@ fn lower(lists: &mut Lists<Node, 3>) -> usize
     ensures weight { (e : _) (es : _) → list_at lists.old.lists 1 ≡ e ∷ es → result ≡ weight_at e }
     ensures lists { (e : _) (es : _) → list_at lists.old.lists 1 ≡ e ∷ es
         → lists.new.lists ≡ (list_at lists.old.lists 0 ++ low_entry e ∷ []) ∷ es ∷ list_at lists.old.lists 2 ∷ [] }
-    ensures places { (q : ℕ) → held_at q lists.new.lists ≡ held_at q lists.old.lists }
+    ensures places { (q : ℕ) → queued_at q lists.new.lists ≡ queued_at q lists.old.lists }
     ensures room { lists.new.room ≡ lists.old.room }
     ensures span { lists.new.span ≡ lists.old.span }
 {
@@ -54,7 +54,7 @@ pub(super) fn settle(lists: &mut Lists<Node, 3>, weight: usize, limit: usize) ->
     ensures high { list_at lists.new.lists 1 ≡ fit weight_at limit (list_at lists.old.lists 1) }
     ensures pin { list_at lists.new.lists 2 ≡ list_at lists.old.lists 2 }
     ensures weight { result ≡ sum_by weight_at (list_at lists.new.lists 1) }
-    ensures places { (q : ℕ) → held_at q lists.new.lists ≡ held_at q lists.old.lists }
+    ensures places { (q : ℕ) → queued_at q lists.new.lists ≡ queued_at q lists.old.lists }
     ensures room { lists.new.room ≡ lists.old.room }
     ensures span { lists.new.span ≡ lists.old.span }
 {
@@ -72,7 +72,7 @@ pub(super) fn relist(lists: &mut Lists<Node, 3>, place: Place, state: LruState, 
     requires there { IsSome (find place lists.old.lists) }
     ensures lists { (n : _) → find place lists.old.lists ≡ Some n
         → lists.new.lists ≡ moved place list (map (with_value place (record { item = n.item; state = state })) lists.old.lists) }
-    ensures places { (q : ℕ) → held_at q lists.new.lists ≡ held_at q lists.old.lists }
+    ensures places { (q : ℕ) → queued_at q lists.new.lists ≡ queued_at q lists.old.lists }
     ensures room { lists.new.room ≡ lists.old.room }
     ensures span { lists.new.span ≡ lists.old.span }
     ensures apart { AreLists 3 lists.old.lists }

@@ -9,8 +9,8 @@ ghost use Rattle.foyer_policy.specs.S3Fifo.{Setting, items, main_looks, from_mai
 ghost use Rattle.foyer_policy.specs.S3FifoQueues.{item_at, small_of, main_of, view_with, Gives, AreQueues, PlacesAfter, TakesSmall, TakesMain};
 
 use crate::ghost_queue::GhostQueue;
-use crate::held::Held;
 use crate::lists::{Lists, Place};
+use crate::queued::Queued;
 use crate::types::Item;
 
 // The numbers of the two lists.
@@ -29,7 +29,7 @@ pub struct S3FifoState {
     pub(super) is_main: bool,
 }
 
-pub(super) type Node = Held<S3FifoState>;
+pub(super) type Node = Queued<S3FifoState>;
 
 // A victim, the place that it had, and how many frequencies of the main queue were read.
 #[derive(Clone, Copy)]
@@ -58,7 +58,7 @@ pub(super) fn take_small(
     ensures span { queues.new.span ≡ queues.old.span }
 {
     while let Some(front) = queues.front(SMALL) {
-        let Held { item, state } = *queues.get(front);
+        let Queued { item, state } = *queues.get(front);
         *weight -= item.weight;
         if state.frequency < threshold {
             queues.remove(front);
@@ -124,7 +124,8 @@ pub(super) fn take_main(queues: &mut Lists<Node, 2>) -> Option<Victim>
 fn pop_main(queues: &mut Lists<Node, 2>, weight: &mut usize) -> Option<Victim>
     requires queues { AreQueues queues.old.lists }
     requires weight { weight.old ≡ weight_of (items (small_of queues.old.lists)) }
-    ensures gives { (g : Ghost) (l : ℕ) (s : Setting) → Gives (from_main (view_with queues.old.lists g l s)) (option_map (λ v. v.item) result) (view_with queues.old.lists g l s) (view_with queues.new.lists g l s) }
+    ensures gives { (g : Ghost) (l : ℕ) (s : Setting) → Gives (from_main (view_with queues.old.lists g l s))
+        (option_map (λ v. v.item) result) (view_with queues.old.lists g l s) (view_with queues.new.lists g l s) }
     ensures looks { IfSome result (λ v. v.looks ≡ main_looks (main_of queues.old.lists)) }
     ensures stood { IfSome result (λ v. item_at queues.old.lists v.at ≡ Some v.item) }
     ensures queues { AreQueues queues.new.lists }
@@ -159,8 +160,13 @@ pub(super) fn pop_victim(
     requires queues { AreQueues queues.old.lists }
     requires weight { weight.old ≡ weight_of (items (small_of queues.old.lists)) }
     requires room { limit < weight.old → 0 < ghost_queue.old.capacity → 0 < ghost_queue.old.room }
-    ensures pops { (s : Setting) → s.threshold ≡ threshold → Gives (s3fifo_pop (view_with queues.old.lists (ghost_of ghost_queue.old) limit s)) (option_map (λ v. v.item) result) (view_with queues.old.lists (ghost_of ghost_queue.old) limit s) (view_with queues.new.lists (ghost_of ghost_queue.new) limit s) }
-    ensures looks { (s : Setting) → s.threshold ≡ threshold → IfSome result (λ v. v.looks ≡ s3fifo_looks (view_with queues.old.lists (ghost_of ghost_queue.old) limit s)) }
+    ensures pops { (s : Setting) → s.threshold ≡ threshold
+        → Gives (s3fifo_pop (view_with queues.old.lists (ghost_of ghost_queue.old) limit s))
+        (option_map (λ v. v.item) result) (view_with queues.old.lists (ghost_of ghost_queue.old) limit s)
+        (view_with queues.new.lists (ghost_of ghost_queue.new) limit s) }
+    ensures looks { (s : Setting) → s.threshold ≡ threshold
+        → IfSome result (λ v. v.looks ≡ s3fifo_looks (view_with queues.old.lists
+        (ghost_of ghost_queue.old) limit s)) }
     ensures stood { IfSome result (λ v. item_at queues.old.lists v.at ≡ Some v.item) }
     ensures queues { AreQueues queues.new.lists }
     ensures places { PlacesAfter (option_map (λ v. v.item) result) queues.old.lists queues.new.lists }

@@ -1,5 +1,5 @@
 use Rattle.std.proofs.Common.{◌≡◌, ◌++◌, List, sym, ◌∙◌, ap, append_assoc, rules}
-use Rattle.foyer_policy.specs.Held.{items_of}
+use Rattle.foyer_policy.specs.Queued.{items_of}
 use Rattle.foyer_policy.specs.Lists.{list_at}
 use Rattle.foyer_policy.specs.declared.types.Item.{Item}
 use Rattle.foyer_policy.proofs.LruLemmas.{items_of-pins}

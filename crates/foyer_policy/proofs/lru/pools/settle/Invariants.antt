@@ -1,5 +1,5 @@
 use Rattle.std.proofs.Common.{◌≡◌, ℕ, length, map, sum_by, ◌++◌}
-use Rattle.foyer_policy.specs.Held.{held_at}
+use Rattle.foyer_policy.specs.Queued.{queued_at}
 use Rattle.foyer_policy.specs.Items.{fit, over}
 use Rattle.foyer_policy.specs.Lists.{list_at}
 use Rattle.foyer_policy.specs.LruLists.{low_entry, weight_at}
@@ -16,7 +16,7 @@ invariant-loop-left l =
           ++ map low_entry (over weight_at l.limit (list_at old 1));
       high : fit weight_at l.limit (list_at now 1) ≡ fit weight_at l.limit (list_at old 1);
       pin : list_at now 2 ≡ list_at old 2;
-      places : (q : ℕ) → held_at q now ≡ held_at q old;
+      places : (q : ℕ) → queued_at q now ≡ queued_at q old;
       room : l.lists.room ≡ l.fn.lists.room;
       span : l.lists.span ≡ l.fn.lists.span;
     }

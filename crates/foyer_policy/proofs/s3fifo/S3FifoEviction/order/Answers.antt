@@ -1,5 +1,5 @@
 use Rattle.std.proofs.Common.{◌++◌, ap, sym, refl, ◌∙◌}
-use Rattle.foyer_policy.specs.Held.{items_of}
+use Rattle.foyer_policy.specs.Queued.{items_of}
 use Rattle.foyer_policy.specs.Lists.{list_at}
 use Rattle.foyer_policy.proofs.S3FifoNodes.{items-entries}
 use Rattle.foyer_policy.proofs.s3fifo.S3FifoEviction.order.Goals as goal

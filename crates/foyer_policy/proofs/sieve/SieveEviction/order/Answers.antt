@@ -1,5 +1,5 @@
 use Rattle.std.proofs.Common.{◌++◌, ap, sym, ◌∙◌}
-use Rattle.foyer_policy.specs.Held.{items_of}
+use Rattle.foyer_policy.specs.Queued.{items_of}
 use Rattle.foyer_policy.specs.Lists.{list_at}
 use Rattle.foyer_policy.proofs.SieveNodes.{items-entries}
 use Rattle.foyer_policy.proofs.sieve.SieveEviction.order.Goals as goal

@@ -3,7 +3,7 @@ use Rattle.foyer_policy.specs.Lists.{list_at}
 use Rattle.foyer_policy.specs.declared.types.Item.{Item}
 use Rattle.foyer_policy.proofs.ListsLemmas.{find-at}
 use Rattle.foyer_policy.proofs.WalkLemmas.{Walk, walk-stop, walk-on}
-use Rattle.foyer_policy.proofs.held.append_items.Goals as goal
+use Rattle.foyer_policy.proofs.queued.append_items.Goals as goal
 
 pub get-requires : goal.get-requires
 get-requires g c =

@@ -28,12 +28,12 @@ impl HasItem for Item {
 
 /// An item, and what its policy keeps beside it.
 #[derive(Clone, Copy)]
-pub(crate) struct Held<S> {
+pub(crate) struct Queued<S> {
     pub(crate) item: Item,
     pub(crate) state: S,
 }
 
-impl<S> HasItem for Held<S> {
+impl<S> HasItem for Queued<S> {
     ghost item_of = { λ h. h.item };
 
     fn item(&self) -> Item {

@@ -1,7 +1,7 @@
 use Rattle.std.proofs.Common.{◌+◌, ◌-◌, length}
 use Rattle.foyer_policy.specs.Lists.{list_at}
 use Rattle.foyer_policy.proofs.WalkLemmas.{Walk}
-use Rattle.foyer_policy.proofs.held.append_items.Given as goal
+use Rattle.foyer_policy.proofs.queued.append_items.Given as goal
 
 -- the items so far are those from before and those in front of the next place
 abbrev pub invariant-loop-next : goal.invariant-loop-next
