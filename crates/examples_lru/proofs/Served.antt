@@ -11,7 +11,7 @@ use Rattle.foyer_core.specs.declared.outcome.Outcome.TheVariants.{Entries, Fault
 use Rattle.foyer_core.specs.Core.{Core}
 use Rattle.foyer_core.specs.CoreFetches.{Completed}
 use Rattle.foyer_core.specs.Fetching.{Arrives}
-use Rattle.foyer_core.specs.Inflight.{Opens, Place}
+use Rattle.foyer_core.specs.Inflight.{Opens, OpenFetch}
 use Rattle.foyer_core.specs.State.{Meaning, State, is_phantom_record}
 use Rattle.foyer_core.specs.Steps.{InsertsBy}
 use Rattle.foyer_core.specs.Values.{Gone, Held, Incoming}
@@ -46,7 +46,7 @@ module _ {K V P View C S W A N R : Type 0} (m : Meaning K P View C) (hash : K �
     (ended : Ending K V P N) (old : Core K V P View S W A) (f : List (Opens K N R)) (new : Core K V P View S W A)
     (g : List (Opens K N R)) where
   -- those who wait for a fetch get entries of the value that it ends with, where they get some
-  pub served : (place : Option (Place N R)) (outcome : Outcome K V P) → ended.outcome ≡ got_of outcome
+  pub served : (place : Option (OpenFetch N R)) (outcome : Outcome K V P) → ended.outcome ≡ got_of outcome
       → Completed m hash weighs admits properties source (Entry value p) k place ended old f new g →
       IfOk (handed_out outcome) (All (λ e. e.kept.value ≡ value))
   served None (Fault reason) got did = tt

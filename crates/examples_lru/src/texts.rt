@@ -1,7 +1,7 @@
 //! A cache of texts, and what a caller proves of it from the library's contracts alone.
 
 ghost use Rattle.std.specs.Prelude.{◌≡◌, All, IfOk, Some, length};
-ghost use Rattle.foyer_core.specs.CoreFetches.{place_in};
+ghost use Rattle.foyer_core.specs.CoreFetches.{open_in};
 ghost use Rattle.foyer_core.specs.Cores.{fetches_of, hashes_of};
 ghost use Rattle.foyer_core.specs.Inflight.{asked, waiters_of};
 ghost use Rattle.foyer_core.specs.Waited.{handed_out};
@@ -102,7 +102,7 @@ pub fn ask(texts: &mut Texts, name: &String, caller: Caller) -> Result<Option<u6
 /// Ends a fetch with a text. All who wait for it are answered: each gets a handle of the text, or all get the one
 /// refusal. Where the fetch is not open, nobody is.
 pub fn complete(texts: &mut Texts, name: &String, fetch: u64, text: String) -> Told
-    ensures all { result.waiters.items ≡ waiters_of (asked (Some fetch) (place_in (fetches_of texts.old) (hashes_of texts.old name.now, name.now))) }
+    ensures all { result.waiters.items ≡ waiters_of (asked (Some fetch) (open_in (fetches_of texts.old) (hashes_of texts.old name.now, name.now))) }
     ensures each { IfOk (handed_out result.outcome) (λ handles. length handles ≡ length result.waiters.items) }
     ensures same { IfOk (handed_out result.outcome) (All (λ handle. handle.kept.value ≡ text)) }
 {

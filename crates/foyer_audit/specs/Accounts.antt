@@ -27,9 +27,9 @@ module _ {K V P Q C : Type 0} (clones : Reply K V P → Reply K V P → Type 0) 
   pub record IsReceived (old : List (Receipt K V P Q C)) (command : Command K V P Q C) (number : ℕ)
       (reply : Reply K V P)
       (told : Option (Reply K V P)) (new : List (Receipt K V P Q C)) : Type 0 where
-    pub kept : Option (Reply K V P)
-    pub copies : AreCopies clones reply told kept
-    pub receipts : new ≡ received old command number kept
+    pub copy : Option (Reply K V P)
+    pub copies : AreCopies clones reply told copy
+    pub receipts : new ≡ received old command number copy
 
 -- `same` says when two commands are equal, and `alike` when two replies are.
 module _ {K V P Q C : Type 0} (same : Command K V P Q C → Command K V P Q C → Bool)

@@ -46,7 +46,7 @@ module _ {E K V P S W A N R I C X : Type 0} {e : EvictionGhosts E C X} {e1 : Clo
           ≡ Some s → ∥ IsKept (meaning_of_core core) s ∥₁
       kept_in None is = absurd cc
       kept_in (Some shard) is =
-          (let same : state_of shard ≡ s = cc in ∥∥₁_map shard.store.kept
+          (let same : state_of shard ≡ s = cc in ∥∥₁_map shard.store.sound
           (λ k. subst (IsKept (meaning_of_core core)) same k))
 
 first_holds : (a b : Bool) → (a && b) ≡ true → a ≡ true

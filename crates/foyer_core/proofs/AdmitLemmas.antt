@@ -78,7 +78,7 @@ coming_rec inc = record { kept = inc.kept; handles = inc.handles; resident = tru
 
 module _ {K V P View C : Type 0} (m : Meaning K P View C) (laws : IsEquivalence m.same) (good : IsPolicy m.policy)
     (o : Holding V m) where
-  open o use {at, keys, t, number, capacity, limits, view, next, kept, stored}
+  open o use {at, keys, t, number, capacity, limits, view, next, sound, stored}
 
   abbrev now : State K V P View
   now = now_of o
@@ -105,7 +105,7 @@ module _ {K V P View C : Type 0} (m : Meaning K P View C) (laws : IsEquivalence 
   new_free id new = go (number_of t id) refl where
     go : (w : Option ℕ) → number_of t id ≡ w → w ≡ None
     go None h = refl
-    go (Some n) h = absurd (∥∥₁_elim kept (hlevel props) (fresh_by id n new h))
+    go (Some n) h = absurd (∥∥₁_elim sound (hlevel props) (fresh_by id n new h))
 
   pub new_out : (id : ℕ) → next ≤ id → (r : Rec K V P) → record_in t id ≡ Some r → r.resident ≡ false
   new_out id new r there =
@@ -202,7 +202,7 @@ module _ {K V P View C : Type 0} (m : Meaning K P View C) (laws : IsEquivalence 
     -- the key had no record
     pub base_none : keys (key_of inc.kept) ≡ None → Base (slot_in t) keys at now
     base_none none = record {
-      kept' = kept;
+      kept' = sound;
       stored' = record { led = stored.led; placed = stored.placed };
       index' = λ q. refl;
       absent' = ap (option_and_then (id_in t)) none;
@@ -236,7 +236,7 @@ module _ {K V P View C : Type 0} (m : Meaning K P View C) (laws : IsEquivalence 
       pub base_some : Base (update nat_eq (slot_in t) old (slot_outside y))
           (update (same_key m.same) keys (key_of y.kept) None) at2 last_of
       base_some = record {
-        kept' = ∥∥₁_map kept
+        kept' = ∥∥₁_map sound
             (λ k'. removed_keeps m laws good now k' (key_of inc.kept) y.id hits_old (rec_of y)
             (slot_record m at keys t old y there));
         stored' = left_stored m laws good o old y there (update nat_eq (slot_in t) old (slot_outside y)) (λ q. refl)
@@ -272,13 +272,13 @@ module _ {K V P View C : Type 0} (m : Meaning K P View C) (laws : IsEquivalence 
       pub old_weight : (usage : ℕ) → usage ≡ weight_of (m.policy.order view) → (y.kept.weight ≤ usage)
           × (usage - y.kept.weight ≡ usage_of m last_of)
       old_weight usage h = (
-        ∥∥₁_elim kept (hlevel props)
+        ∥∥₁_elim sound (hlevel props)
             (λ k'. omega (
               arith,
               removed_weight m laws good now k' (key_of inc.kept) y.id hits_old (rec_of y)
                   (slot_record m at keys t old y there),
             )),
-        ∥∥₁_elim kept (hlevel props)
+        ∥∥₁_elim sound (hlevel props)
             (λ k'. omega (
               arith,
               removed_weight m laws good now k' (key_of inc.kept) y.id hits_old (rec_of y)
@@ -295,8 +295,8 @@ module _ {K V P View C : Type 0} (m : Meaning K P View C) (laws : IsEquivalence 
       pub old_entries : (entries : ℕ) → entries ≡ length (m.policy.order view) → (1 ≤ entries)
           × (entries - 1 ≡ length (m.policy.order last_of.view))
       old_entries entries h = (
-        ∥∥₁_elim kept (hlevel props) (λ k'. omega (arith, shorter_by k')),
-        ∥∥₁_elim kept (hlevel props) (λ k'. omega (arith, shorter_by k')),
+        ∥∥₁_elim sound (hlevel props) (λ k'. omega (arith, shorter_by k')),
+        ∥∥₁_elim sound (hlevel props) (λ k'. omega (arith, shorter_by k')),
       )
 
     -- what an admission leaves
@@ -471,6 +471,6 @@ module _ {K V P View C : Type 0} (m : Meaning K P View C) (laws : IsEquivalence 
       (λ q. ap (option_and_then (id_in t)) (same q)) (λ i. refl) refl in
       record {
         same0 = state_same;
-        kept0 = subst (λ (s : State K V P View). ∥ IsKept m s ∥₁) (sym state_same) kept;
+        kept0 = subst (λ (s : State K V P View). ∥ IsKept m s ∥₁) (sym state_same) sound;
         stored0 = record { led = λ q j h. stored.led q j (sym (same q) ∙ h); placed = stored.placed };
       }

@@ -11,8 +11,8 @@ use Rattle.foyer_core.specs.declared.outcome.Inserted.{Inserted}
 use Rattle.foyer_core.specs.declared.outcome.Refused.{Refused}
 use Rattle.foyer_core.specs.declared.record.Data.{Data}
 use Rattle.foyer_core.specs.Core.{Core, AtShard, InsertsAnswering, shard_of}
-use Rattle.foyer_core.specs.CoreFetches.{at_hash, place_in}
-use Rattle.foyer_core.specs.Inflight.{Opens, Place, closed, waiters_of}
+use Rattle.foyer_core.specs.CoreFetches.{at_hash, open_in}
+use Rattle.foyer_core.specs.Inflight.{Opens, OpenFetch, closed, waiters_of}
 use Rattle.foyer_core.specs.Laws.{Finds, HandlesStay, IsBoundedAt}
 use Rattle.foyer_core.specs.Observed.{IsTold, IsToldWith}
 use Rattle.foyer_core.specs.State.{Meaning, State, IsKept, MakesPlain, coming_in, is_phantom_record}
@@ -23,7 +23,7 @@ use Rattle.foyer_core.proofs.CallsTold.{insert_told, refused_told}
 use Rattle.foyer_core.proofs.CoreLaws.{Came, Stands, came_stands, bounded_at, finds_at, stays_at}
 use Rattle.foyer_core.proofs.CoreLemmas.{at_over, core_over}
 use Rattle.foyer_core.proofs.CoreTold.{AreSound}
-use Rattle.foyer_core.proofs.FetchesOver.{fetches_become, fetches_stay, place_over}
+use Rattle.foyer_core.proofs.FetchesOver.{fetches_become, fetches_stay, opened_over}
 use Rattle.foyer_core.proofs.Inserting.{came_stays, made_plain, refused_stay}
 use Rattle.foyer_core.proofs.Returning.{inserted_entry}
 use Rattle.foyer_core.proofs.Staying.{RecordsStay, nothing}
@@ -54,8 +54,8 @@ module _ {X K V P View C S W A N R : Type 0} (m : Meaning K P View C) (f : X →
     (xs : List X) (n i : ℕ) (x y : X) (source : Source) (d : Data K V P)
     (many : n ≡ length xs) (within : i < n) (place : i ≡ d.hash % n) (read : x ≡ slice_index_or xs i x)
     (r : Result (Inserted K V P N) (Refused K V P)) where
-  placed : place_in (map h xs) (d.hash, d.key) ≡ (h x).places (d.hash, d.key)
-  placed = place_over h xs d.hash n i x many within place read d.key
+  placed : open_in (map h xs) (d.hash, d.key) ≡ (h x).by_key (d.hash, d.key)
+  placed = opened_over h xs d.hash n i x many within place read d.key
 
   pub comes_over : MatchResult r
       (λ made. Inserts m source (f x) (newcomer (f x) d (1 + waiting_for (h x) (d.hash, d.key))) made.leaves.items
@@ -64,19 +64,19 @@ module _ {X K V P View C S W A N R : Type 0} (m : Meaning K P View C) (f : X →
       refused.leaves.items (f y))
       → AtShard
       (λ s t. InsertsAnswering m source s
-      (newcomer s d (1 + length (waiters_of (place_in (map h xs) (d.hash, d.key))))) (insertion_of r) t) d.hash
+      (newcomer s d (1 + length (waiters_of (open_in (map h xs) (d.hash, d.key))))) (insertion_of r) t) d.hash
       (core_over f capacity b w a xs) (core_over f capacity b w a (slice_set xs i y))
   comes_over did = at_over f capacity b w a xs d.hash n i x many within place read
       (λ s t. InsertsAnswering m source s
-      (newcomer s d (1 + length (waiters_of (place_in (map h xs) (d.hash, d.key))))) (insertion_of r) t) y
-      (subst (λ (o : Option (Place N R)). InsertsAnswering m source (f x)
+      (newcomer s d (1 + length (waiters_of (open_in (map h xs) (d.hash, d.key))))) (insertion_of r) t) y
+      (subst (λ (o : Option (OpenFetch N R)). InsertsAnswering m source (f x)
       (newcomer (f x) d (1 + length (waiters_of o))) (insertion_of r) (f y)) (sym placed)
       (answering m source (f x) (newcomer (f x) d (1 + waiting_for (h x) (d.hash, d.key))) r (f y) did))
 
-  pub answers_over : IfOk r (λ made. AnswersEach (waiters_of ((h x).places (d.hash, d.key))) made.entry made.answers)
-      → IfOk r (λ made. AnswersEach (waiters_of (place_in (map h xs) (d.hash, d.key))) made.entry made.answers)
+  pub answers_over : IfOk r (λ made. AnswersEach (waiters_of ((h x).by_key (d.hash, d.key))) made.entry made.answers)
+      → IfOk r (λ made. AnswersEach (waiters_of (open_in (map h xs) (d.hash, d.key))) made.entry made.answers)
   answers_over h' = subst
-      (λ (o : Option (Place N R)). IfOk r (λ made. AnswersEach (waiters_of o) made.entry made.answers)) (sym placed) h'
+      (λ (o : Option (OpenFetch N R)). IfOk r (λ made. AnswersEach (waiters_of o) made.entry made.answers)) (sym placed) h'
 
   pub closes_over : OnOk r (h y ≡ closed m.same (h x) (d.hash, d.key)) →
       OnOk r (map h (slice_set xs i y) ≡ at_hash (λ q. closed m.same q (d.hash, d.key)) (map h xs) d.hash)

@@ -9,15 +9,15 @@ use Rattle.foyer_core.specs.declared.outcome.Inserted.{Inserted}
 use Rattle.foyer_core.specs.declared.outcome.Refused.{Refused}
 use Rattle.foyer_core.specs.declared.record.Data.{Data}
 use Rattle.foyer_core.specs.Core.{AtShard, InsertsAnswering}
-use Rattle.foyer_core.specs.CoreFetches.{at_hash, place_in}
-use Rattle.foyer_core.specs.Inflight.{Opens, Place, closed, waiters_of}
+use Rattle.foyer_core.specs.CoreFetches.{at_hash, open_in}
+use Rattle.foyer_core.specs.Inflight.{Opens, OpenFetch, closed, waiters_of}
 use Rattle.foyer_core.specs.Pieces.{RefusesReturn, Returns, ReturnsAnswering, ReturnsBy, held_or, is_in, returning}
 use Rattle.foyer_core.specs.State.{Meaning, State, is_phantom_record, key_of}
 use Rattle.foyer_core.specs.Steps.{InsertsBy}
 use Rattle.foyer_core.specs.Values.{Carried, Gone, Held, Incoming}
 use Rattle.foyer_core.specs.Waited.{AnswersEach, insertion_of, waiting_for}
 use Rattle.foyer_core.proofs.CoreLemmas.{at_over, core_over}
-use Rattle.foyer_core.proofs.FetchesOver.{fetches_become, place_over}
+use Rattle.foyer_core.proofs.FetchesOver.{fetches_become, opened_over}
 use Rattle.foyer_core.proofs.Inserting.{refused_return_stays, returns_stay}
 use Rattle.foyer_core.proofs.Staying.{RecordsStay, nothing}
 
@@ -89,29 +89,29 @@ module _ {X K V P View C S W A N R : Type 0} (m : Meaning K P View C) (f : X →
   abbrev more : ℕ
   more = 1 + waiting_for (h x) (held.hash, held.key)
 
-  placed : place_in (map h xs) (held.hash, held.key) ≡ (h x).places (held.hash, held.key)
-  placed = place_over h xs held.hash n i x many within (sym here) read held.key
+  placed : open_in (map h xs) (held.hash, held.key) ≡ (h x).by_key (held.hash, held.key)
+  placed = opened_over h xs held.hash n i x many within (sym here) read held.key
 
   pub returns_over : ReturnsAnswering m (f x) piece more (insertion_of r) (f y)
       → AtShard
       (λ s t. ReturnsAnswering m s piece
-      (1 + length (waiters_of (place_in (map h xs) (key_of (held_or piece.kept (s.records piece.id))))))
+      (1 + length (waiters_of (open_in (map h xs) (key_of (held_or piece.kept (s.records piece.id))))))
       (insertion_of r) t) hash
       (core_over f capacity b w a xs) (core_over f capacity b w a (slice_set xs i y))
   returns_over did = at_over f capacity b w a xs hash n i x many within place read
       (λ s t. ReturnsAnswering m s piece
-      (1 + length (waiters_of (place_in (map h xs) (key_of (held_or piece.kept (s.records piece.id))))))
+      (1 + length (waiters_of (open_in (map h xs) (key_of (held_or piece.kept (s.records piece.id))))))
       (insertion_of r) t) y
-      (subst (λ (o : Option (Place N R)). ReturnsAnswering m (f x) piece (1 + length (waiters_of o)) (insertion_of r)
+      (subst (λ (o : Option (OpenFetch N R)). ReturnsAnswering m (f x) piece (1 + length (waiters_of o)) (insertion_of r)
       (f y)) (sym placed) did)
 
   pub return_answers : ReturnsAnswering m (f x) piece more (insertion_of r) (f y) →
-      IfOk r (λ made. AnswersEach (waiters_of ((h x).places (held.hash, held.key))) made.entry made.answers)
-      → IfOk r (λ made. AnswersEach (waiters_of (place_in (map h xs) (key_of made.entry.kept))) made.entry made.answers)
+      IfOk r (λ made. AnswersEach (waiters_of ((h x).by_key (held.hash, held.key))) made.entry made.answers)
+      → IfOk r (λ made. AnswersEach (waiters_of (open_in (map h xs) (key_of made.entry.kept))) made.entry made.answers)
   return_answers did answers = under_entry held r
-      (λ k made. AnswersEach (waiters_of (place_in (map h xs) k)) made.entry made.answers)
+      (λ k made. AnswersEach (waiters_of (open_in (map h xs) k)) made.entry made.answers)
       (return_data m (f x) (f y) piece more r did)
-      (subst (λ (o : Option (Place N R)). IfOk r (λ made. AnswersEach (waiters_of o) made.entry made.answers))
+      (subst (λ (o : Option (OpenFetch N R)). IfOk r (λ made. AnswersEach (waiters_of o) made.entry made.answers))
       (sym placed) answers)
 
   pub return_closes : ReturnsAnswering m (f x) piece more (insertion_of r) (f y) →

@@ -1,4 +1,4 @@
--- What is in the index stays apart from the open places.
+-- What is in the index stays apart from the open fetches.
 use Rattle.std.proofs.Common.{◌≡◌, ℕ, ◌-◌, List, [], ◌∷◌, Option, Some, None, Ok, Err, Bool, true, false, cond, refl, sym, ◌∙◌, ap, subst}
 use Rattle.std.specs.Prelude.{Result, IfErr, IfNone, IfOk, OnErr, OnOk, OnSome, option_and_then}
 use Rattle.foyer_policy.specs.Policy.{evicted}
@@ -9,7 +9,7 @@ use Rattle.foyer_policy.specs.declared.types.Source.{Source}
 use Rattle.foyer_policy.specs.declared.types.Event.TheVariants.{Remove}
 use Rattle.foyer_core.specs.Bulk.{GoesOn}
 use Rattle.foyer_core.specs.Indexer.{same_key}
-use Rattle.foyer_core.specs.Inflight.{Apart, Opens, Place, after_nothing, closed, with_place, without_later}
+use Rattle.foyer_core.specs.Inflight.{Apart, Opens, OpenFetch, after_nothing, closed, with_open, without_later}
 use Rattle.foyer_core.specs.Pieces.{RefusesReturn, RefusesReturnBy, Returns, ReturnsBy, is_in, returning}
 use Rattle.foyer_core.specs.State.{Meaning, State, is_phantom_record, key_of}
 use Rattle.foyer_core.specs.Steps.{GivesWay, Inserts, InsertsBy, InsertsPhantom, InsertsPlain, Leave, RefusesBy, RefusesHandles, RefusesInsert, Removes, after_handle, after_out, ids_of}
@@ -33,33 +33,33 @@ module _ {K V P View : Type 0} where
       Apart old.index f → Apart new.index f
   within_apart f old new within apart q id is = apart q id (within q id is)
 
--- a place is closed
+-- a fetch is closed
 pub closed_apart : {K N R : Type 0} (eq : K → K → Bool) (index : ℕ × K → Option ℕ) (f : Opens K N R) (k : ℕ × K) →
     Apart index f → Apart index (closed eq f k)
 closed_apart eq index f k apart q id is = go (same_key eq k q) where
-  go : (b : Bool) → cond b None (f.places q) ≡ None
+  go : (b : Bool) → cond b None (f.by_key q) ≡ None
   go true = refl
   go false = apart q id is
 
--- a key that is not in the index gets a place
+-- a key that is not in the index gets a fetch
 pub placed_apart : {K N R : Type 0} (eq : K → K → Bool) (index : ℕ × K → Option ℕ) (f g : Opens K N R) (k : ℕ × K)
-    (w : Option (Place N R)) → ((q : ℕ × K) → g.places q ≡ (with_place eq f k w).places q)
+    (w : Option (OpenFetch N R)) → ((q : ℕ × K) → g.by_key q ≡ (with_open eq f k w).by_key q)
     → ((q : ℕ × K) → same_key eq k q ≡ true → index k ≡ index q) → index k ≡ None → Apart index f → Apart index g
 placed_apart eq index f g k w places respects missing apart q id is = places q ∙ go (same_key eq k q) refl where
-  go : (b : Bool) → same_key eq k q ≡ b → cond b w (f.places q) ≡ None
+  go : (b : Bool) → same_key eq k q ≡ b → cond b w (f.by_key q) ≡ None
   go true same = (let e : None ≡ Some id = sym missing ∙ respects q same ∙ is in absurd cc)
   go false same = apart q id is
 
 -- a fetch of a key found nothing
 pub nothing_apart : {K N R : Type 0} (eq : K → K → Bool) (index : ℕ × K → Option ℕ) (f : Opens K N R) (k : ℕ × K) →
-    ((q : ℕ × K) → same_key eq k q ≡ true → f.places k ≡ f.places q) → Apart index f →
+    ((q : ℕ × K) → same_key eq k q ≡ true → f.by_key k ≡ f.by_key q) → Apart index f →
     Apart index (after_nothing eq f k)
 nothing_apart {K} {N} {R} eq index f k alike apart q id is = go (same_key eq k q) refl where
-  go : (b : Bool) → same_key eq k q ≡ b → cond b (option_and_then without_later (f.places k)) (f.places q) ≡ None
-  go true same = ap (λ (o : Option (Place N R)). option_and_then without_later o) (alike q same ∙ apart q id is)
+  go : (b : Bool) → same_key eq k q ≡ b → cond b (option_and_then without_later (f.by_key k)) (f.by_key q) ≡ None
+  go true same = ap (λ (o : Option (OpenFetch N R)). option_and_then without_later o) (alike q same ∙ apart q id is)
   go false same = apart q id is
 
--- open places that some step, where it answers, makes of others
+-- open fetches that some step, where it answers, makes of others
 pub step_apart : {K N R T : Type 0} (index : ℕ × K → Option ℕ) (f g to : Opens K N R) (r : Option T) →
     OnSome r (g ≡ to) → IfNone r (g ≡ f) → Apart index f → Apart index to → Apart index g
 step_apart index f g to (Some t) some none apart after = subst (Apart index) (sym some) after
@@ -104,7 +104,7 @@ module _ {K V P View C : Type 0} (m : Meaning K P View C) where
           before e = leave_within _ (ids_of (evicted m.policy (s.capacity - i.kept.weight) s.view)) s h.evictions _ h.mid
               h.evicts q id (way_within (h.mid.index (key_of i.kept)) h.mid h.replaced h.last h.gives_way q id e)
 
-          go : (b : Bool) → cond b (Some i.id) (h.last.index q) ≡ Some id → cond b None (f.places q) ≡ None
+          go : (b : Bool) → cond b (Some i.id) (h.last.index q) ≡ Some id → cond b None (f.by_key q) ≡ None
           go true e = refl
           go false e = apart q id (before e)
 
@@ -116,7 +116,7 @@ module _ {K V P View C : Type 0} (m : Meaning K P View C) where
         (way_within (s.index (key_of i.kept)) s h.replaced h.last h.gives_way q id
         (sym (ap (λ (x : State K V P View). x.index q) h.after) ∙ is)))
 
-    -- a record comes in, and its key's place is closed
+    -- a record comes in, and its key's fetch is closed
     pub inserts_apart : (source : Source) (s : State K V P View) (i : Incoming K V P) (ls : List (Event × Gone K V P))
         (entry : Held K V P) (t : State K V P View) → Inserts m source s i ls entry t
         → Apart s.index f → Apart t.index (closed m.same f (key_of i.kept))
@@ -126,7 +126,7 @@ module _ {K V P View C : Type 0} (m : Meaning K P View C) where
       go true h = phantom_apart source s i ls entry t h
       go false h = plain_apart source s i ls entry t h
 
-    -- the same, where the place is closed of the entry's key
+    -- the same, where the fetch is closed of the entry's key
     pub arrived_apart : (source : Source) (s : State K V P View) (i : Incoming K V P) (ls : List (Event × Gone K V P))
         (entry : Held K V P) (t : State K V P View) → Inserts m source s i ls entry t
         → (hash : ℕ) (key : K) → hash ≡ entry.kept.hash → key ≡ entry.kept.key → (g : Opens K N R) → g
@@ -152,7 +152,7 @@ module _ {K V P View C : Type 0} (m : Meaning K P View C) where
       go false NoMemory h = leave_within _ (ids_of h.1.left) s ls _ t h.1.leave
       go false _ h = absurd h
 
-    -- a piece's record comes in, and its key's place is closed
+    -- a piece's record comes in, and its key's fetch is closed
     pub returns_apart : (s : State K V P View) (piece : Carried K V P) (more : ℕ) (ls : List (Event × Gone K V P))
         (entry : Held K V P) (t : State K V P View) → Returns m s piece more ls entry t
         → Apart s.index f → Apart t.index (closed m.same f (key_of (returning s piece more).kept))

@@ -9,75 +9,75 @@ use Rattle.foyer_policy.specs.declared.types.Event.{Event}
 use Rattle.foyer_policy.specs.declared.types.Source.{Source}
 use Rattle.foyer_core.specs.declared.record.Data.{Data}
 use Rattle.foyer_core.specs.Core.{Core, shard_of}
-use Rattle.foyer_core.specs.CoreFetches.{AtOpen, CompletesAt, at_hash, place_in, replaced}
+use Rattle.foyer_core.specs.CoreFetches.{AtOpen, CompletesAt, at_hash, open_in, replaced}
 use Rattle.foyer_core.specs.Fetching.{Arrives, ArrivesBack, CompletesBackBy, CompletesBy}
-use Rattle.foyer_core.specs.Inflight.{Opens, Place, asked, closed}
+use Rattle.foyer_core.specs.Inflight.{Opens, OpenFetch, asked, closed}
 use Rattle.foyer_core.specs.State.{Meaning, State}
 use Rattle.foyer_core.specs.Steps.{newcomer}
 use Rattle.foyer_core.specs.Values.{Carried, Gone, Held}
 use Rattle.foyer_core.specs.Waited.{Ending}
 use Rattle.foyer_core.proofs.Completing.{closed_alike}
 
--- two keys have one place, where they have in each shard
+-- two keys have one fetch, where they have in each shard
 pub place_alike : {X K N R : Type 0} (h : X → Opens K N R) (xs : List X) (hash : ℕ) (a b : K) →
-    ((x : X) → (h x).places (hash, b) ≡ (h x).places (hash, a)) → place_in (map h xs) (hash, b)
-    ≡ place_in (map h xs) (hash, a)
+    ((x : X) → (h x).by_key (hash, b) ≡ (h x).by_key (hash, a)) → open_in (map h xs) (hash, b)
+    ≡ open_in (map h xs) (hash, a)
 place_alike {X} {K} {N} {R} h xs hash a b alike = at b ∙ go (slice_get xs i) ∙ sym (at a) where
   i : ℕ
   i = hash % length (map h xs)
 
-  at : (k : K) → place_in (map h xs) (hash, k)
-      ≡ option_and_then (λ f. f.places (hash, k)) (option_map h (slice_get xs i))
-  at k = ap (option_and_then (λ (f : Opens K N R). f.places (hash, k))) (slice_get-map h xs i)
+  at : (k : K) → open_in (map h xs) (hash, k)
+      ≡ option_and_then (λ f. f.by_key (hash, k)) (option_map h (slice_get xs i))
+  at k = ap (option_and_then (λ (f : Opens K N R). f.by_key (hash, k))) (slice_get-map h xs i)
 
-  go : (o : Option X) → option_and_then (λ (f : Opens K N R). f.places (hash, b)) (option_map h o)
-      ≡ option_and_then (λ (f : Opens K N R). f.places (hash, a)) (option_map h o)
+  go : (o : Option X) → option_and_then (λ (f : Opens K N R). f.by_key (hash, b)) (option_map h o)
+      ≡ option_and_then (λ (f : Opens K N R). f.by_key (hash, a)) (option_map h o)
   go None = refl
   go (Some x) = alike x
 
--- someone waits in each place that was asked for, where someone does in each shard's
+-- someone waits for each fetch that was asked for, where someone does in each shard's
 pub place_waited : {X K N R : Type 0} (h : X → Opens K N R) (xs : List X) (k : ℕ × K) (fetch : ℕ) →
-    ((x : X) (o : Place N R) → (h x).places k ≡ Some o → 0 < length o.tokens)
-    → (o : Place N R) → asked (Some fetch) (place_in (map h xs) k) ≡ Some o → 0 < length o.tokens
+    ((x : X) (o : OpenFetch N R) → (h x).by_key k ≡ Some o → 0 < length o.tokens)
+    → (o : OpenFetch N R) → asked (Some fetch) (open_in (map h xs) k) ≡ Some o → 0 < length o.tokens
 place_waited {X} {K} {N} {R} h xs k fetch waited o found =
     go (slice_get xs (k.0 % length (map h xs)))
-    (sym (ap (option_and_then (λ (f : Opens K N R). f.places k)) (slice_get-map h xs (k.0 % length (map h xs))))
-    ∙ is (place_in (map h xs) k) found) where
-      is : (p : Option (Place N R)) → asked (Some fetch) p ≡ Some o → p ≡ Some o
+    (sym (ap (option_and_then (λ (f : Opens K N R). f.by_key k)) (slice_get-map h xs (k.0 % length (map h xs))))
+    ∙ is (open_in (map h xs) k) found) where
+      is : (p : Option (OpenFetch N R)) → asked (Some fetch) p ≡ Some o → p ≡ Some o
       is None e = absurd cc
       is (Some q) e = pick (q.fetch == fetch) e where
-        pick : (b : Bool) → (let r : Option (Place N R) = if b then Some q else None in r) ≡ Some o → Some q ≡ Some o
+        pick : (b : Bool) → (let r : Option (OpenFetch N R) = if b then Some q else None in r) ≡ Some o → Some q ≡ Some o
         pick true e = e
         pick false e = absurd cc
 
-      go : (x : Option X) → option_and_then (λ (f : Opens K N R). f.places k) (option_map h x) ≡ Some o →
+      go : (x : Option X) → option_and_then (λ (f : Opens K N R). f.by_key k) (option_map h x) ≡ Some o →
           0 < length o.tokens
       go None e = absurd cc
       go (Some x) e = waited x o e
 
--- where a fetch is open, its place is the one that was asked for
-pub asked_open : {N R : Type 0} (fetch : ℕ) (p : Option (Place N R)) → IsSomeAnd p (λ o. o.fetch ≡ fetch) →
-    (o : Place N R) × (asked (Some fetch) p ≡ Some o)
+-- where a fetch is open, its fetch is the one that was asked for
+pub asked_open : {N R : Type 0} (fetch : ℕ) (p : Option (OpenFetch N R)) → IsSomeAnd p (λ o. o.fetch ≡ fetch) →
+    (o : OpenFetch N R) × (asked (Some fetch) p ≡ Some o)
 asked_open fetch None h = absurd h
 asked_open {N} {R} fetch (Some o) h =
-    (o, ap (λ (b : Bool). let q : Option (Place N R) = if b then Some o else None in q) (eq-eqb o.fetch fetch h))
+    (o, ap (λ (b : Bool). let q : Option (OpenFetch N R) = if b then Some o else None in q) (eq-eqb o.fetch fetch h))
 
 module _ {K V P View C S W A N R : Type 0} (m : Meaning K P View C) (laws : IsEquivalence m.same)
     (old new : Core K V P View S W A) (fs gs : List (Opens K N R)) (many : length fs ≡ length old.shards)
     (hash : ℕ) (key own : K) (same : m.same key own ≡ true)
-    (alike : place_in fs (hash, own) ≡ place_in fs (hash, key)) (fetch : ℕ) (o : Place N R)
-    (opened : asked (Some fetch) (place_in fs (hash, key)) ≡ Some o) (ended : Ending K V P N) where
+    (alike : open_in fs (hash, own) ≡ open_in fs (hash, key)) (fetch : ℕ) (o : OpenFetch N R)
+    (opened : asked (Some fetch) (open_in fs (hash, key)) ≡ Some o) (ended : Ending K V P N) where
   module _ (step : State K V P View → Opens K N R → State K V P View → Opens K N R → Type 0)
       (at : AtOpen step hash old fs new gs) where
     place_is : hash % length fs ≡ shard_of old hash
     place_is = ap (λ (n : ℕ). hash % n) many
 
-    -- the shard of the hash has the place
-    asked_is : asked (Some fetch) (at.open_before.places (hash, own)) ≡ Some o
+    -- the shard of the hash has the fetch
+    asked_is : asked (Some fetch) (at.open_before.by_key (hash, own)) ≡ Some o
     asked_is =
-        let here : place_in fs (hash, own) ≡ at.open_before.places (hash, own) =
-        ap (λ (i : ℕ). option_and_then (λ (f : Opens K N R). f.places (hash, own)) (slice_get fs i)) place_is
-        ∙ ap (option_and_then (λ (f : Opens K N R). f.places (hash, own))) at.open_there in
+        let here : open_in fs (hash, own) ≡ at.open_before.by_key (hash, own) =
+        ap (λ (i : ℕ). option_and_then (λ (f : Opens K N R). f.by_key (hash, own)) (slice_get fs i)) place_is
+        ∙ ap (option_and_then (λ (f : Opens K N R). f.by_key (hash, own))) at.open_there in
         ap (asked (Some fetch)) (sym here ∙ alike) ∙ opened
 
     closes_is : at.open_after ≡ closed m.same at.open_before (hash, own) → gs
@@ -103,27 +103,27 @@ module _ {K V P View C S W A N R : Type 0} (m : Meaning K P View C) (laws : IsEq
 
   -- with a new record of an equal key
   pub arrives_at : (source : Source) (d : Data K V P) →
-      AtOpen (λ s f t g. CompletesBy m (asked (Some fetch) (f.places (hash, own))) source s f (hash, own) d ended t g)
+      AtOpen (λ s f t g. CompletesBy m (asked (Some fetch) (f.by_key (hash, own))) source s f (hash, own) d ended t g)
       hash old fs new gs
       → CompletesAt m (λ s. Arrives m source s (newcomer s d (length o.tokens))) (hash, key) o ended old fs new gs
   arrives_at source d at =
       let step = λ (s : State K V P View) (f : Opens K N R) (t : State K V P View) (g : Opens K N R). CompletesBy m
-      (asked (Some fetch) (f.places (hash, own))) source s f (hash, own) d ended t g in
+      (asked (Some fetch) (f.by_key (hash, own))) source s f (hash, own) d ended t g in
       let did = subst
-      (λ (p : Option (Place N R)). CompletesBy m p source at.before at.open_before (hash, own) d ended at.after
+      (λ (p : Option (OpenFetch N R)). CompletesBy m p source at.before at.open_before (hash, own) d ended at.after
       at.open_after) (asked_is step at) at.stepped in
       completes_at step at (λ s. Arrives m source s (newcomer s d (length o.tokens))) did.found did.waiters
       did.arrives did.closes
 
   -- with the record of an equal key for which a known piece stands
   pub arrives_back_at : (piece : Carried K V P) →
-      AtOpen (λ s f t g. CompletesBackBy m (asked (Some fetch) (f.places (hash, own))) s f (hash, own) piece ended t
+      AtOpen (λ s f t g. CompletesBackBy m (asked (Some fetch) (f.by_key (hash, own))) s f (hash, own) piece ended t
       g) hash old fs new gs
       → CompletesAt m (λ s. ArrivesBack m s piece (length o.tokens)) (hash, key) o ended old fs new gs
   arrives_back_at piece at =
       let step = λ (s : State K V P View) (f : Opens K N R) (t : State K V P View) (g : Opens K N R). CompletesBackBy
-      m (asked (Some fetch) (f.places (hash, own))) s f (hash, own) piece ended t g in
+      m (asked (Some fetch) (f.by_key (hash, own))) s f (hash, own) piece ended t g in
       let did = subst
-      (λ (p : Option (Place N R)). CompletesBackBy m p at.before at.open_before (hash, own) piece ended at.after
+      (λ (p : Option (OpenFetch N R)). CompletesBackBy m p at.before at.open_before (hash, own) piece ended at.after
       at.open_after) (asked_is step at) at.stepped in
       completes_at step at (λ s. ArrivesBack m s piece (length o.tokens)) did.found did.waiters did.arrives did.closes

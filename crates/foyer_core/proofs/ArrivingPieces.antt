@@ -7,9 +7,9 @@ use Rattle.foyer_policy.specs.declared.types.Event.{Event}
 use Rattle.foyer_policy.specs.declared.types.Source.TheVariants.{Memory}
 use Rattle.foyer_core.specs.declared.record.Data.{Data}
 use Rattle.foyer_core.specs.Core.{Core, shard_at, shard_of}
-use Rattle.foyer_core.specs.CoreFetches.{AtOpen, CompletesAt, PieceArrives, PieceCompletes, is_of, place_in}
+use Rattle.foyer_core.specs.CoreFetches.{AtOpen, CompletesAt, PieceArrives, PieceCompletes, is_of, open_in}
 use Rattle.foyer_core.specs.Fetching.{Arrives, ArrivesBack, CompletesBackBy, CompletesBy}
-use Rattle.foyer_core.specs.Inflight.{Opens, Place, asked}
+use Rattle.foyer_core.specs.Inflight.{Opens, OpenFetch, asked}
 use Rattle.foyer_core.specs.Pieces.{coming_under, held_or, is_known}
 use Rattle.foyer_core.specs.State.{Meaning, State, key_of}
 use Rattle.foyer_core.specs.Steps.{newcomer}
@@ -47,7 +47,7 @@ module _ {K V P View C S W A N R : Type 0} (m : Meaning K P View C) (laws : IsEq
   same_state : (s : State K V P View) → shard_at old hash ≡ Some s → x ≡ s
   same_state s h = (let e : Some x ≡ Some s = sym there ∙ h in cc)
 
-  module _ (fetch : ℕ) (o : Place N R) (opened : asked (Some fetch) (place_in fs (hash, key)) ≡ Some o)
+  module _ (fetch : ℕ) (o : OpenFetch N R) (opened : asked (Some fetch) (open_in fs (hash, key)) ≡ Some o)
       (ended : Ending K V P N) where
     -- what comes in by a piece is one of both
     piece_by : (b : Bool) → is_known x own piece ≡ b →
@@ -79,7 +79,7 @@ module _ {K V P View C S W A N R : Type 0} (m : Meaning K P View C) (laws : IsEq
         }
 
     pub known_completes : is_of m old own piece (hash, key) (shard_at old hash) ≡ true → is_known x own piece ≡ true
-        → AtOpen (λ s f t g. CompletesBackBy m (asked (Some fetch) (f.places (hash, key))) s f (hash, key) piece ended
+        → AtOpen (λ s f t g. CompletesBackBy m (asked (Some fetch) (f.by_key (hash, key))) s f (hash, key) piece ended
         t g) hash old fs new gs
         → PieceCompletes m (is_of m old own piece (hash, key) (shard_at old hash)) weighs own piece (hash, key) o
         ended old fs new gs
@@ -87,9 +87,9 @@ module _ {K V P View C S W A N R : Type 0} (m : Meaning K P View C) (laws : IsEq
         (arrives_back_at m laws old new fs gs many hash key key (laws.refl key) refl fetch o opened ended piece at)
 
     pub foreign_completes : is_of m old own piece (hash, key) (shard_at old hash) ≡ true → is_known x own piece
-        ≡ false → own ≡ hash → place_in fs (hash, piece.kept.key) ≡ place_in fs (hash, key)
+        ≡ false → own ≡ hash → open_in fs (hash, piece.kept.key) ≡ open_in fs (hash, key)
         → AtOpen (λ s f t g. (weight : ℕ) × weighs weight
-        × CompletesBy m (asked (Some fetch) (f.places (own, piece.kept.key))) Memory s f (own, piece.kept.key)
+        × CompletesBy m (asked (Some fetch) (f.by_key (own, piece.kept.key))) Memory s f (own, piece.kept.key)
         (record piece.kept { hash = own; weight = weight }) ended t g) own old fs new gs
         → PieceCompletes m (is_of m old own piece (hash, key) (shard_at old hash)) weighs own piece (hash, key) o
         ended old fs new gs
@@ -98,7 +98,7 @@ module _ {K V P View C S W A N R : Type 0} (m : Meaning K P View C) (laws : IsEq
         let here = subst
         (λ (h : ℕ). AtOpen
         (λ s f t g. (weight : ℕ) × weighs weight
-        × CompletesBy m (asked (Some fetch) (f.places (h, piece.kept.key))) Memory s f (h, piece.kept.key)
+        × CompletesBy m (asked (Some fetch) (f.by_key (h, piece.kept.key))) Memory s f (h, piece.kept.key)
         (of weight) ended t g) h old fs new gs) hashes at in
         let weight = here.stepped.0 in
         let weighed = here.stepped.1 in

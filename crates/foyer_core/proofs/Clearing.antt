@@ -54,7 +54,7 @@ module _ {K V P View C : Type 0} (m : Meaning K P View C) where
     limits = o.limits;
     view = o.view;
     next = o.next;
-    kept = o.kept;
+    sound = o.sound;
     stored = o.stored;
   }
 
@@ -100,7 +100,7 @@ module _ {K V P View C : Type 0} (m : Meaning K P View C) where
         view = view';
         next = p.after.next;
         at = λ q. without x.id (p.after.at q);
-        kept = out_kept m laws good h i.id inside n known x there t' write recs (λ q. without x.id (p.after.at q))
+        sound = out_kept m laws good h i.id inside n known x there t' write recs (λ q. without x.id (p.after.at q))
             (λ q. refl) keys' gone view' refl;
         stored = out_stored m laws good h i.id inside n known x there t' write recs (λ q. without x.id (p.after.at q))
             (λ q. refl) keys' gone view' refl;
@@ -138,7 +138,7 @@ module _ {K V P View C : Type 0} (m : Meaning K P View C) where
         view = o.view;
         next = o.next;
         at = o.at;
-        kept = o.kept;
+        sound = o.sound;
         stored = o.stored;
         lined = all;
       }
@@ -178,7 +178,7 @@ module _ {K V P View C : Type 0} (m : Meaning K P View C) where
             (rearranged_keeps m (lined_state p.after) k' p.after.capacity view' same_items no_pin)
 
         pub cleared_kept : ∥ IsKept m final ∥₁
-        cleared_kept = ∥∥₁_map p.after.kept kept_by
+        cleared_kept = ∥∥₁_map p.after.sound kept_by
 
         -- no slot's record is in the index
         out_by : (n : ℕ) (x : Kept K V P) → slot_in t' n ≡ Some x → x.resident ≡ true → IsKept m (lined_state p.after)
@@ -202,7 +202,7 @@ module _ {K V P View C : Type 0} (m : Meaning K P View C) where
           go n None is = refl
           go n (Some x) is = item_outside m x
               (not_true x.resident
-              (λ res. true≢false (∥∥₁_elim p.after.kept (hlevel props) (out_by n x is res))))
+              (λ res. true≢false (∥∥₁_elim p.after.sound (hlevel props) (out_by n x is res))))
 
       pub cleared_weight : 0 ≡ weight_of (m.policy.order view')
       cleared_weight = sym (ap weight_of none_in)

@@ -55,7 +55,7 @@ module _ {K V P View C : Type 0} (m : Meaning K P View C) where
   handle_keeps s kept id r there room = handles_keep s kept id r 1 there (omega arith) (omega (arith, room))
 
   module _ (laws : IsEquivalence m.same) (good : IsPolicy m.policy) (o : Holding V m) (n : ℕ) (x : Kept K V P) where
-    open o use {at, keys, t, number, capacity, limits, view, next, kept, stored}
+    open o use {at, keys, t, number, capacity, limits, view, next, sound, stored}
 
     module _ (there : slot_in t n ≡ Some x) where
       there_record : (now_of o).records x.id ≡ Some (rec_of x)
@@ -74,7 +74,7 @@ module _ {K V P View C : Type 0} (m : Meaning K P View C) where
 
         pub gained_kept : 0 < more → x.handles + more ≤ limits.handles →
             ∥ IsKept m (state number capacity limits view keys t' next) ∥₁
-        gained_kept some room = ∥∥₁_map kept
+        gained_kept some room = ∥∥₁_map sound
             (λ k. subst (IsKept m) (sym gained_after)
             (handles_keep (now_of o) k x.id (rec_of x) more there_record some room))
 
@@ -120,6 +120,6 @@ module _ {K V P View C : Type 0} (m : Meaning K P View C) where
 
       pub outdated_tells : x.resident ≡ false ↔ IsOutdated (now_of o) x.id
       outdated_tells = (
-        λ out. ∥∥₁_elim kept (hlevel props) (λ k. out_by k out),
-        λ outdated. ∥∥₁_elim kept (hlevel props) (λ k. in_by k outdated),
+        λ out. ∥∥₁_elim sound (hlevel props) (λ k. out_by k out),
+        λ outdated. ∥∥₁_elim sound (hlevel props) (λ k. in_by k outdated),
       )

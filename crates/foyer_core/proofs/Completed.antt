@@ -8,7 +8,7 @@ use Rattle.foyer_policy.specs.declared.types.Source.{Source}
 use Rattle.foyer_core.specs.declared.record.Data.{Data}
 use Rattle.foyer_core.specs.Core.{AreHashed, Belong, shard_at}
 use Rattle.foyer_core.specs.Fetching.{Arrives, ArrivesBack, CompletesBackBy, CompletesBy}
-use Rattle.foyer_core.specs.Inflight.{Opens, Place}
+use Rattle.foyer_core.specs.Inflight.{Opens, OpenFetch}
 use Rattle.foyer_core.specs.Pieces.{held_or, is_known}
 use Rattle.foyer_core.specs.State.{Meaning, State, AllData}
 use Rattle.foyer_core.specs.Steps.{newcomer}
@@ -46,12 +46,12 @@ module _ {K V P View C : Type 0} (New : Data K V P → Type 0) (m : Meaning K P 
 module _ {K V P View C N R : Type 0} (New : Data K V P → Type 0) (m : Meaning K P View C) (s : State K V P View)
     (f : Opens K N R) (k : ℕ × K) (ended : Ending K V P N) (t : State K V P View) (g : Opens K N R) where
   -- only a record of these data comes in
-  pub completes_from : (p : Option (Place N R)) (source : Source) (d : Data K V P) →
+  pub completes_from : (p : Option (OpenFetch N R)) (source : Source) (d : Data K V P) →
       CompletesBy m p source s f k d ended t g → New d → RecordsFrom New s t
   completes_from None source d h so = from_same New s t h.same
   completes_from (Some o) source d h so = arrives_from New m s t ended.leaves source d _ so ended.outcome h.arrives
 
-  pub completes_back_from : (p : Option (Place N R)) (piece : Carried K V P) →
+  pub completes_back_from : (p : Option (OpenFetch N R)) (piece : Carried K V P) →
       CompletesBackBy m p s f k piece ended t g → New (held_or piece.kept (s.records piece.id)) → RecordsFrom New s t
   completes_back_from None piece h so = from_same New s t h.same
   completes_back_from (Some o) piece h so = back_from New m s t ended.leaves piece _ so ended.outcome h.arrives

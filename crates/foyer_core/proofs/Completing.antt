@@ -11,7 +11,7 @@ use Rattle.foyer_core.specs.declared.outcome.Waiting.{Waiting}
 use Rattle.foyer_core.specs.declared.record.Data.{Data}
 use Rattle.foyer_core.specs.Fetching.{ArrivesBack, CompletesBackBy, CompletesBy}
 use Rattle.foyer_core.specs.Indexer.{same_key, same_key_equiv}
-use Rattle.foyer_core.specs.Inflight.{Apart, Opens, Place, closed}
+use Rattle.foyer_core.specs.Inflight.{Apart, Opens, OpenFetch, closed}
 use Rattle.foyer_core.specs.Pieces.{RefusesReturn, Returns, held_or}
 use Rattle.foyer_core.specs.State.{Meaning, State, is_phantom_record}
 use Rattle.foyer_core.specs.Steps.{MayBy, RefusesInsert, newcomer}
@@ -23,7 +23,7 @@ use Rattle.foyer_core.proofs.InflightLemmas.{same_opens}
 use Rattle.foyer_core.proofs.Returning.{memory_refuses}
 use Rattle.foyer_core.proofs.WaitedLemmas.{completes_by}
 
--- the place of a key is closed, by another key that equals it
+-- the fetch of a key is closed, by another key that equals it
 pub closed_alike : {K N R : Type 0} {eq : K → K → Bool} → IsEquivalence eq →
     (f : Opens K N R) (hash hash' : ℕ) (key key' : K) → hash ≡ hash' → eq key key' ≡ true
     → closed eq f (hash', key') ≡ closed eq f (hash, key)
@@ -31,7 +31,7 @@ closed_alike {N = N} {R = R} {eq = eq} laws f hash hash' key key' hashes same =
     let alike : same_key eq (hash, key) (hash', key') ≡ true =
     subst (λ (h : ℕ). same_key eq (hash, key) (h, key') ≡ true) hashes (alike_key eq hash key key' same) in
     same_opens (closed eq f (hash', key')) (closed eq f (hash, key))
-    (λ q. ap (λ (b : Bool). let o : Option (Place N R) = cond b None (f.places q) in o)
+    (λ q. ap (λ (b : Bool). let o : Option (OpenFetch N R) = cond b None (f.by_key q) in o)
     (sym ((same_key_equiv laws).congr (hash, key) (hash', key') q alike))) refl refl
 
 -- the refusal of a new record that was found, or for want of memory
@@ -46,7 +46,7 @@ refusal_is m s inc None some none value = memory_refuses m s (inc value) (none v
 -- a fetch ends with the refusal of a new record
 module _ {K V P View C N R : Type 0} (m : Meaning K P View C) (source : Source) (s t : State K V P View)
     (f g : Opens K N R) (k : ℕ × K) (d : Data K V P) (shut : g ≡ closed m.same f k)
-    (p : Option (Place N R)) (waiters : List (Waiting N)) (there : IsSomeAnd p (λ o. waiters ≡ o.tokens)) where
+    (p : Option (OpenFetch N R)) (waiters : List (Waiting N)) (there : IsSomeAnd p (λ o. waiters ≡ o.tokens)) where
   pub refused_ends : (n : ℕ) → length waiters ≡ n →
       (reason : Reason) (ls : List (Event × Gone K V P)) (ended : Ending K V P N) → ended
       ≡ record { found = true; waiters = waiters; outcome = Err reason; leaves = ls }
@@ -60,7 +60,7 @@ module _ {K V P View C N R : Type 0} (m : Meaning K P View C) (source : Source) 
 module _ {K V P View C N R : Type 0} (m : Meaning K P View C) (s t : State K V P View) (f g : Opens K N R) (k : ℕ × K)
     (piece : Carried K V P) (shut : g ≡ closed m.same f k)
     (waiters : List (Waiting N)) (count : ℕ) (many : length waiters ≡ 1 + count) where
-  back_by : (p : Option (Place N R)) → IsSomeAnd p (λ o. waiters ≡ o.tokens) →
+  back_by : (p : Option (OpenFetch N R)) → IsSomeAnd p (λ o. waiters ≡ o.tokens) →
       (outcome : Result (Option (List (Held K V P))) Reason) (ls : List (Event × Gone K V P))
       → ArrivesBack m s piece (length waiters) outcome ls t →
       CompletesBackBy m p s f k piece (record { found = true; waiters = waiters; outcome = outcome; leaves = ls })
@@ -73,7 +73,7 @@ module _ {K V P View C N R : Type 0} (m : Meaning K P View C) (s t : State K V P
     closes = shut;
   }
 
-  module _ (p : Option (Place N R)) (there : IsSomeAnd p (λ o. waiters ≡ o.tokens)) (ls : List (Event × Gone K V P))
+  module _ (p : Option (OpenFetch N R)) (there : IsSomeAnd p (λ o. waiters ≡ o.tokens)) (ls : List (Event × Gone K V P))
       (ended : Ending K V P N) where
     pub back_ends : (entry : Held K V P) (others : List (Held K V P)) → ended
         ≡ record { found = true; waiters = waiters; outcome = Ok (Some (others ++ entry ∷ [])); leaves = ls }
@@ -95,7 +95,7 @@ module _ {K V P View C N R : Type 0} (m : Meaning K P View C) (s t : State K V P
         subst (λ (e : Ending K V P N). CompletesBackBy m p s f k piece e t g) (sym is)
         (back_by p there (Err reason) ls (subst (λ (i : ℕ). RefusesReturn m s piece i reason ls t) (sym many) h))
 
--- what is in the index stays apart, where the place is closed of a key that equals the record's
+-- what is in the index stays apart, where the fetch is closed of a key that equals the record's
 module _ {K V P View C N R : Type 0} (m : Meaning K P View C) (laws : IsEquivalence m.same) (f : Opens K N R)
     (s t : State K V P View) (piece : Carried K V P) (more : ℕ) (hash : ℕ) (key : K)
     (hashed : hash ≡ (held_or piece.kept (s.records piece.id)).hash)

@@ -16,7 +16,7 @@ use Rattle.foyer_core.specs.Core.{Core, AtShard, shard_at, shard_of}
 use Rattle.foyer_core.specs.CoreFetches.{Completed, PieceArrives, PieceCompletes, ValueCompletes, is_of}
 use Rattle.foyer_core.specs.FetchLaws.{BoundsTarget, FindsTarget, IfEntries, IsToldByEnd}
 use Rattle.foyer_core.specs.Fetching.{Arrives}
-use Rattle.foyer_core.specs.Inflight.{Opens, Place}
+use Rattle.foyer_core.specs.Inflight.{Opens, OpenFetch}
 use Rattle.foyer_core.specs.Laws.{Finds, HandlesStay, IsBoundedAt}
 use Rattle.foyer_core.specs.Observed.{after_entry, after_leaves, known}
 use Rattle.foyer_core.specs.Pieces.{coming_under, is_known}
@@ -199,7 +199,7 @@ module _ {K V P View C S W A N R : Type 0} (m : Meaning K P View C) (laws : IsEq
   own = hashes old.hash_builder
 
   -- with a value
-  module _ (weighs : ℕ → Type 0) (admits : Bool → Type 0) (value : V) (properties : Bool → P) (o : Place N R)
+  module _ (weighs : ℕ → Type 0) (admits : Bool → Type 0) (value : V) (properties : Bool → P) (o : OpenFetch N R)
       (h : ValueCompletes m source weighs admits (own key, key) value properties o ended old fs new gs) where
     abbrev came : Data K V P
     came = record { key = h.own; value = value; properties = properties h.admitted; hash = own key; weight = h.weight }
@@ -230,7 +230,7 @@ module _ {K V P View C S W A N R : Type 0} (m : Meaning K P View C) (laws : IsEq
           (sure h.admitted h.answered) same
 
   -- with a piece
-  module _ (weighs : ℕ → Type 0) (piece : Carried K V P) (o : Place N R) where
+  module _ (weighs : ℕ → Type 0) (piece : Carried K V P) (o : OpenFetch N R) where
     abbrev Ends : Bool → Type 0
     Ends b = PieceCompletes m b weighs (own piece.kept.key) piece (own key, key) o ended old fs new gs
 
@@ -276,19 +276,19 @@ module _ {K V P View C S W A N R : Type 0} (m : Meaning K P View C) (laws : IsEq
   -- with either
   module _ (weighs : K → V → ℕ → Type 0) (admits : K → V → Bool → Type 0) (location : P → Option Location)
       (with_phantom : P → Bool → P) where
-    abbrev EndsWith : FetchTarget K V P → Option (Place N R) → Type 0
+    abbrev EndsWith : FetchTarget K V P → Option (OpenFetch N R) → Type 0
     EndsWith target p = Completed m own weighs admits (λ q admitted. coming_in location with_phantom admitted q)
         source target (own key, key) p ended old fs new gs
 
-    pub end_stays : (target : FetchTarget K V P) (p : Option (Place N R)) → EndsWith target p →
+    pub end_stays : (target : FetchTarget K V P) (p : Option (OpenFetch N R)) → EndsWith target p →
         HandlesStay (λ e. 0) old new
     end_stays target None h = same_stays old new h.1
     end_stays (Entry value q) (Some o) h = entry_stays (weighs key value) (admits key value) value
         (λ admitted. coming_in location with_phantom admitted q) o h
     end_stays (PieceOf piece) (Some o) h = of_stays (weighs piece.kept.key piece.kept.value) piece o _ refl h
 
-    pub end_told : (target : FetchTarget K V P) (p : Option (Place N R)) →
-        ((o : Place N R) → p ≡ Some o → 0 < length o.tokens) → EndsWith target p →
+    pub end_told : (target : FetchTarget K V P) (p : Option (OpenFetch N R)) →
+        ((o : OpenFetch N R) → p ≡ Some o → 0 < length o.tokens) → EndsWith target p →
         IsToldByEnd m.same own m.phantom old ended.leaves ended.outcome new
     end_told target None some h = subst
         (λ (e : Ending K V P N). IsToldByEnd m.same own m.phantom old e.leaves e.outcome new) (sym h.0)
@@ -299,7 +299,7 @@ module _ {K V P View C S W A N R : Type 0} (m : Meaning K P View C) (laws : IsEq
     end_told (PieceOf piece) (Some o) some h =
         of_told (weighs piece.kept.key piece.kept.value) piece o (some o refl) _ refl h
 
-    pub end_found : (target : FetchTarget K V P) (p : Option (Place N R)) → EndsWith target p →
+    pub end_found : (target : FetchTarget K V P) (p : Option (OpenFetch N R)) → EndsWith target p →
         FindsTarget m (hashes new.hash_builder) location admits target key ended.outcome new
     end_found (Entry value q) None h = λ plain sure. subst
         (λ (e : Ending K V P N). IfEntries e.outcome (λ _. Finds m (hashes new.hash_builder) new key value))
@@ -312,7 +312,7 @@ module _ {K V P View C S W A N R : Type 0} (m : Meaning K P View C) (laws : IsEq
         (λ admitted. coming_in location with_phantom admitted q) o h location with_phantom q refl plain sure
     end_found (PieceOf piece) (Some o) h = of_found (weighs piece.kept.key piece.kept.value) piece o _ refl h
 
-    pub end_bounded : (target : FetchTarget K V P) (p : Option (Place N R)) → EndsWith target p →
+    pub end_bounded : (target : FetchTarget K V P) (p : Option (OpenFetch N R)) → EndsWith target p →
         BoundsTarget m location admits target (own key) key ended.outcome old new
     end_bounded (Entry value q) None h = λ plain sure. subst
         (λ (e : Ending K V P N). IfEntries e.outcome (λ x. IsBoundedAt m (own key) x.kept.weight old new)) (sym h.0) tt

@@ -4,9 +4,9 @@ use Rattle.std.specs.Prelude.{All, IfNone, OnSome, slice_get, slice_set, slice_i
 use Rattle.std.proofs.lemmas.List.{length-map, map-append, map-set}
 use Rattle.std.proofs.lemmas.List.Elements.{All-push}
 use Rattle.std.proofs.lemmas.Option.{slice_get-map, slice_get_read}
-use Rattle.foyer_core.specs.CoreFetches.{AtOpen, EndsAt, EndsIn, at_hash, place_in, replaced}
+use Rattle.foyer_core.specs.CoreFetches.{AtOpen, EndsAt, EndsIn, at_hash, open_in, replaced}
 use Rattle.foyer_core.specs.Fetching.{EndsBy}
-use Rattle.foyer_core.specs.Inflight.{Opens, Place, asked, closed, no_opens}
+use Rattle.foyer_core.specs.Inflight.{Opens, OpenFetch, asked, closed, no_opens}
 use Rattle.foyer_core.specs.State.{State}
 use Rattle.foyer_core.specs.Waited.{Ending}
 use Rattle.foyer_policy.specs.declared.error.Reason.{Reason}
@@ -37,9 +37,9 @@ module _ {X K N R : Type 0} (h : X → Opens K N R) (xs : List X) (hash n i : �
   pub opens_over : slice_get (map h xs) i ≡ Some (h x)
   opens_over = slice_get-map h xs i ∙ ap (option_map h) (slice_get_read xs n i x many within read)
 
-  -- the place of a key of this hash
-  pub place_over : (key : K) → place_in (map h xs) (hash, key) ≡ (h x).places (hash, key)
-  place_over key = rw place_of (ap (option_and_then (λ (f : Opens K N R). f.places (hash, key))) opens_over)
+  -- the fetch of a key of this hash
+  pub opened_over : (key : K) → open_in (map h xs) (hash, key) ≡ (h x).by_key (hash, key)
+  opened_over key = rw place_of (ap (option_and_then (λ (f : Opens K N R). f.by_key (hash, key))) opens_over)
 
   -- where the open fetches of its shard stay, all do
   pub fetches_stay : (y : X) → h y ≡ h x → map h (slice_set xs i y) ≡ map h xs
@@ -79,13 +79,13 @@ open_over {K = K} {V = V} {P = P} {View = View} f h capacity b w a xs hash n i x
 pub ends_over : {X K V P N R : Type 0} (h : X → Opens K N R) (xs : List X) (hash n i : ℕ) (x y : X)
     (many : n ≡ length xs) (within : i < n) (place : i ≡ hash % n) (read : x ≡ slice_index_or xs i x)
     (eq : K → K → Bool) (key : K) (fetch : ℕ) (reason : Reason) (ended : Ending K V P N)
-    → EndsBy (asked (Some fetch) ((h x).places (hash, key))) eq (hash, key) reason (h x) ended (h y) →
+    → EndsBy (asked (Some fetch) ((h x).by_key (hash, key))) eq (hash, key) reason (h x) ended (h y) →
     EndsAt (hash, key) fetch eq reason (map h xs) ended (map h (slice_set xs i y))
 ends_over {X} {K} {V} {P} {N} {R} h xs hash n i x y many within place read eq key fetch reason ended did =
-    subst (λ (o : Option (Place N R)). EndsIn (asked (Some fetch) o) eq (hash, key) reason (map h xs) ended
-    (map h (slice_set xs i y))) (sym (place_over h xs hash n i x many within place read key))
-    (go (asked (Some fetch) ((h x).places (hash, key))) did) where
-      go : (o : Option (Place N R)) → EndsBy o eq (hash, key) reason (h x) ended (h y) →
+    subst (λ (o : Option (OpenFetch N R)). EndsIn (asked (Some fetch) o) eq (hash, key) reason (map h xs) ended
+    (map h (slice_set xs i y))) (sym (opened_over h xs hash n i x many within place read key))
+    (go (asked (Some fetch) ((h x).by_key (hash, key))) did) where
+      go : (o : Option (OpenFetch N R)) → EndsBy o eq (hash, key) reason (h x) ended (h y) →
           EndsIn o eq (hash, key) reason (map h xs) ended (map h (slice_set xs i y))
       go None e = (e.0, fetches_stay h xs hash n i x many within place read y e.1)
       go (Some o) e = (e.0, fetches_become h xs hash n i x many within place read (λ f. closed eq f (hash, key)) y e.1)

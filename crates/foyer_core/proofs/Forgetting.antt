@@ -24,7 +24,7 @@ use Rattle.foyer_core.proofs.StoredLemmas.{slot_record, items_write, item_outsid
 
 module _ {K V P View C : Type 0} (m : Meaning K P View C) (laws : IsEquivalence m.same) (good : IsPolicy m.policy)
     (o : Holding V m) where
-  open o use {at, keys, t, number, capacity, limits, view, next, kept, stored}
+  open o use {at, keys, t, number, capacity, limits, view, next, sound, stored}
 
   module _ (n : ℕ) (x : Kept K V P) (there : slot_in t n ≡ Some x) (out : x.resident ≡ false)
       (t' : Records K V P) (slots : (q : ℕ) → slot_in t' q ≡ update nat_eq (slot_in t) n None q) where
@@ -76,7 +76,7 @@ module _ {K V P View C : Type 0} (m : Meaning K P View C) (laws : IsEquivalence 
           records refl ∙ sym after_is
 
       pub forgot_kept : ∥ IsKept m (state number capacity limits view keys t' next) ∥₁
-      forgot_kept = ∥∥₁_map kept
+      forgot_kept = ∥∥₁_map sound
           (λ k. subst (IsKept m) (sym forgot_after)
           (give_back_keeps m laws good (now_of o) k x.id (rec_of x) (slot_record m at keys t n x there)
           (omega (arith, one))))

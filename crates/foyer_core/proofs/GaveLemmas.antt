@@ -35,7 +35,7 @@ alike_key eq h a b e = (let y : (h == h) ≡ true = grind (arith, nat_tests) in 
 
 module _ {K V P View C : Type 0} (m : Meaning K P View C) (laws : IsEquivalence m.same) (good : IsPolicy m.policy)
     (o : Holding V m) where
-  open o use {at, keys, t, number, capacity, limits, view, next, kept, stored}
+  open o use {at, keys, t, number, capacity, limits, view, next, sound, stored}
 
   abbrev now : State K V P View
   now = now_of o
@@ -164,7 +164,7 @@ module _ {K V P View C : Type 0} (m : Meaning K P View C) (laws : IsEquivalence 
 
         go : Gave gone replaced t2 at2 view2 → MayPush m laws good o inc n unled out view2
         go (inl g) = record {
-          new = rw g.viewed (∥∥₁_elim kept (hlevel props) (new_in now out));
+          new = rw g.viewed (∥∥₁_elim sound (hlevel props) (new_in now out));
           fits = rw g.viewed (let f = fits [] now (none_way g) in omega arith);
         }
         go (inr g) =

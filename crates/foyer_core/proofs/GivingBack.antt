@@ -38,7 +38,7 @@ module _ {K V P : Type 0} (t : Records K V P) (id n : ℕ) (named : number_of t 
 
 module _ {K V P View C : Type 0} (m : Meaning K P View C) (laws : IsEquivalence m.same) (good : IsPolicy m.policy)
     (o : Holding V m) where
-  open o use {at, keys, t, number, capacity, limits, view, next, kept, stored}
+  open o use {at, keys, t, number, capacity, limits, view, next, sound, stored}
 
   -- the record with one handle less
   module _ (n : ℕ) (x : Kept K V P) (there : slot_in t n ≡ Some x) (t' : Records K V P)
@@ -65,7 +65,7 @@ module _ {K V P View C : Type 0} (m : Meaning K P View C) (laws : IsEquivalence 
     module _ (view' : View) (held : 0 < x.handles)
         (after : state number capacity limits view' keys t' next ≡ after_give_back m (now_of o) x.id (rec_of x)) where
       stays_kept : ∥ IsKept m (state number capacity limits view' keys t' next) ∥₁
-      stays_kept = ∥∥₁_map kept
+      stays_kept = ∥∥₁_map sound
           (λ k. subst (IsKept m) (sym after)
           (give_back_keeps m laws good (now_of o) k x.id (rec_of x) (slot_record m at keys t n x there) held))
 
@@ -131,7 +131,7 @@ module _ {K V P View C : Type 0} (m : Meaning K P View C) (laws : IsEquivalence 
 
       pub released_weight : (usage : ℕ) → usage ≡ weight_of (m.policy.order view) → usage
           ≡ weight_of (m.policy.order view')
-      released_weight usage h = h ∙ sym (∥∥₁_elim kept (hlevel props) weight_same)
+      released_weight usage h = h ∙ sym (∥∥₁_elim sound (hlevel props) weight_same)
 
       length_same : IsKept m (now_of o) → length (m.policy.order view') ≡ length (m.policy.order view)
       length_same k = ap (λ (v : View). length (m.policy.order v)) viewed
@@ -140,4 +140,4 @@ module _ {K V P View C : Type 0} (m : Meaning K P View C) (laws : IsEquivalence 
 
       pub released_entries : (entries : ℕ) → entries ≡ length (m.policy.order view) → entries
           ≡ length (m.policy.order view')
-      released_entries entries h = h ∙ sym (∥∥₁_elim kept (hlevel props) length_same)
+      released_entries entries h = h ∙ sym (∥∥₁_elim sound (hlevel props) length_same)

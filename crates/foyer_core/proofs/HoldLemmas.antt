@@ -67,7 +67,7 @@ module _ {K V P View C : Type 0} (m : Meaning K P View C) (s : State K V P View)
   }
 
 module _ {K V P View C : Type 0} (m : Meaning K P View C) (o : Holding V m) where
-  open o use {at, keys, t, number, capacity, limits, view, next, kept, stored}
+  open o use {at, keys, t, number, capacity, limits, view, next, sound, stored}
 
   module _ (i : Incoming K V P) (n : ℕ) (unled : (q : ℕ × K) (k : ℕ) → keys q ≡ Some k → k ≢ n)
       (x : Kept K V P)
@@ -101,5 +101,5 @@ module _ {K V P View C : Type 0} (m : Meaning K P View C) (o : Holding V m) wher
 
       pub held_kept : ((r : Rec K V P) → record_in t i.id ≡ Some r → r.resident ≡ false) → 0 < i.handles →
           i.handles ≤ limits.handles → ∥ IsKept m (state number capacity limits view keys t' next') ∥₁
-      held_kept out held handles = ∥∥₁_map kept
+      held_kept out held handles = ∥∥₁_map sound
           (λ k. subst (IsKept m) (sym held_after) (hold_keeps m (now_of o) k i out held handles))

@@ -25,6 +25,6 @@ module _ {E K V P I C S : Type 0} {e : EvictionGhosts E C S} {e1 : CloneGhosts C
     limits = s.limits;
     view = e.view s.eviction;
     next = s.next;
-    kept = s.kept;
+    sound = s.sound;
     stored = s.stored;
   }

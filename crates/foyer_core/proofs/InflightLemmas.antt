@@ -1,4 +1,4 @@
--- Place fetches, as one opens, is waited for or is taken.
+-- OpenFetch fetches, as one opens, is waited for or is taken.
 use Rattle.std.proofs.Math.Path.{fun_ext}
 use Rattle.std.proofs.Common.{
   ◌≡◌,
@@ -50,7 +50,7 @@ use Rattle.foyer_core.specs.declared.outcome.Waiting.{Waiting}
 use Rattle.foyer_core.specs.Indexer.{same_key, same_key_equiv}
 use Rattle.foyer_core.specs.Chains.{entries_of, has}
 use Rattle.foyer_core.specs.Entries.{lookup_same}
-use Rattle.foyer_core.specs.Inflight.{Place, Opens, AreOpen, AreLinked, after_nothing, asked, closed, tokens_of, joined, opens_by, with_place, without_later}
+use Rattle.foyer_core.specs.Inflight.{OpenFetch, Opens, AreOpen, AreLinked, after_nothing, asked, closed, tokens_of, joined, opens_by, with_open, without_later}
 use Rattle.foyer_core.specs.Inflights.{opens_of}
 use Rattle.foyer_core.specs.Slots.{Slots, get, with_value}
 use Rattle.foyer_core.specs.declared.inflight.InflightManager.{InflightManager}
@@ -81,66 +81,66 @@ has_more t n ts h = go (tells (has t ts)) where
 
 module _ {N R : Type 0} where
   -- the tokens once one more waits
-  tokens-joined : (o : Place N R) (w : Waiting N) (later : Option R) → tokens_of (joined (Some o) o.fetch w later)
+  tokens-joined : (o : OpenFetch N R) (w : Waiting N) (later : Option R) → tokens_of (joined (Some o) o.fetch w later)
       ≡ tokens_of o ++ w.token ∷ []
   tokens-joined o w later = map_push (λ (w : Waiting N). w.token) o.tokens w
 
   -- the fetch that is open, where it is the one that was asked for
-  pub asked_is : (id : ℕ) (p : Option (Place N R)) → is_some (asked (Some id) p) ≡ true → (o : Place N R)
+  pub asked_is : (id : ℕ) (p : Option (OpenFetch N R)) → is_some (asked (Some id) p) ≡ true → (o : OpenFetch N R)
       × (p ≡ Some o) × (asked (Some id) p ≡ Some o)
   asked_is id None h = absurd cc
   asked_is id (Some o) h = go (o.fetch == id) h where
-    go : (b : Bool) → is_some (if b then Some o else None) ≡ true → (x : Place N R) × (Some o ≡ Some x)
+    go : (b : Bool) → is_some (if b then Some o else None) ≡ true → (x : OpenFetch N R) × (Some o ≡ Some x)
         × ((if b then Some o else None) ≡ Some x)
     go true h = (o, refl, refl)
     go false h = absurd cc
 
--- places with the same parts are one
-pub same_opens : {K N R : Type 0} (f g : Opens K N R) → ((q : ℕ × K) → f.places q ≡ g.places q) → f.next_fetch ≡
+-- open fetches with the same parts are one
+pub same_opens : {K N R : Type 0} (f g : Opens K N R) → ((q : ℕ × K) → f.by_key q ≡ g.by_key q) → f.next_fetch ≡
     g.next_fetch → f.next_token ≡ g.next_token → f ≡ g
 same_opens f g places fetch token =
-    let p : f.places ≡ g.places = fun_ext places in
-    λ i. record { places = p i; next_fetch = fetch i; next_token = token i }
+    let p : f.by_key ≡ g.by_key = fun_ext places in
+    λ i. record { by_key = p i; next_fetch = fetch i; next_token = token i }
 
 module _ {K N R : Type 0} where
-  pub places_same : (keys keys' : ℕ × K → Option ℕ) (slots slots' : ℕ → Option (Place N R)) →
+  pub opens_same : (keys keys' : ℕ × K → Option ℕ) (slots slots' : ℕ → Option (OpenFetch N R)) →
       ((q : ℕ × K) → keys' q ≡ keys q) → ((n : ℕ) → slots' n ≡ slots n) → (q : ℕ × K) → option_and_then slots' (keys' q)
       ≡ option_and_then slots (keys q)
-  places_same keys keys' slots slots' k s q = ap (option_and_then slots') (k q) ∙ go (keys q) where
+  opens_same keys keys' slots slots' k s q = ap (option_and_then slots') (k q) ∙ go (keys q) where
     go : (o : Option ℕ) → option_and_then slots' o ≡ option_and_then slots o
     go None = refl
     go (Some n) = s n
 
 module _ {K N R : Type 0} (eq : K → K → Bool) where
   -- what was written under a key is there
-  pub written_there : IsEquivalence eq → (f g : Opens K N R) (k : ℕ × K) (o : Place N R) →
-      ((q : ℕ × K) → g.places q ≡ update (same_key eq) f.places k (Some o) q) → g.places k ≡ Some o
+  pub written_there : IsEquivalence eq → (f g : Opens K N R) (k : ℕ × K) (o : OpenFetch N R) →
+      ((q : ℕ × K) → g.by_key q ≡ update (same_key eq) f.by_key k (Some o) q) → g.by_key k ≡ Some o
   written_there laws f g k o write = write k
-      ∙ update_same (same_key eq) f.places k (Some o) k ((same_key_equiv laws).refl k)
+      ∙ update_same (same_key eq) f.by_key k (Some o) k ((same_key_equiv laws).refl k)
 
   -- the fetch that is open under a key is written, which none under another key is like
-  pub record Fits (f : Opens K N R) (id token : ℕ) (k : ℕ × K) (o : Place N R) : Type 0 where
+  pub record Fits (f : Opens K N R) (id token : ℕ) (k : ℕ × K) (o : OpenFetch N R) : Type 0 where
     pub waited : 0 < length o.tokens
     pub below : o.fetch < id
     pub tokens_below : (t : ℕ) → has t (tokens_of o) ≡ true → t < token
     pub once : IsDistinct nat_eq (tokens_of o)
-    pub own_fetch : (q : ℕ × K) (x : Place N R) → f.places q ≡ Some x → x.fetch ≡ o.fetch → same_key eq k q ≡ true
-    pub own_tokens : (q : ℕ × K) (x : Place N R) (t : ℕ) → f.places q ≡ Some x → has t (tokens_of x) ≡ true → has t
+    pub own_fetch : (q : ℕ × K) (x : OpenFetch N R) → f.by_key q ≡ Some x → x.fetch ≡ o.fetch → same_key eq k q ≡ true
+    pub own_tokens : (q : ℕ × K) (x : OpenFetch N R) (t : ℕ) → f.by_key q ≡ Some x → has t (tokens_of x) ≡ true → has t
         (tokens_of o) ≡ true → same_key eq k q ≡ true
 
-  module _ (f g : Opens K N R) (k : ℕ × K) (w : Option (Place N R))
-      (write : (q : ℕ × K) → g.places q ≡ update (same_key eq) f.places k w q) where
+  module _ (f g : Opens K N R) (k : ℕ × K) (w : Option (OpenFetch N R))
+      (write : (q : ℕ × K) → g.by_key q ≡ update (same_key eq) f.by_key k w q) where
     -- what is open afterwards is what was written, or was open under another key
-    was : (q : ℕ × K) (o : Place N R) → g.places q ≡ Some o → ((same_key eq k q ≡ true) × (w ≡ Some o))
-        ⊎ ((same_key eq k q ≡ false) × (f.places q ≡ Some o))
+    was : (q : ℕ × K) (o : OpenFetch N R) → g.by_key q ≡ Some o → ((same_key eq k q ≡ true) × (w ≡ Some o))
+        ⊎ ((same_key eq k q ≡ false) × (f.by_key q ≡ Some o))
     was q o h = go (tells (same_key eq k q)) where
       go : (same_key eq k q ≡ true) ⊎ (same_key eq k q ≡ false) → ((same_key eq k q ≡ true) × (w ≡ Some o)) ⊎
-          ((same_key eq k q ≡ false) × (f.places q ≡ Some o))
-      go (inl e) = inl (e, sym (update_same (same_key eq) f.places k w q e) ∙ sym (write q) ∙ h)
-      go (inr e) = inr (e, sym (update_other (same_key eq) f.places k w q e) ∙ sym (write q) ∙ h)
+          ((same_key eq k q ≡ false) × (f.by_key q ≡ Some o))
+      go (inl e) = inl (e, sym (update_same (same_key eq) f.by_key k w q e) ∙ sym (write q) ∙ h)
+      go (inr e) = inr (e, sym (update_other (same_key eq) f.by_key k w q e) ∙ sym (write q) ∙ h)
 
 module _ {K N R : Type 0} {eq : K → K → Bool} where
-  pub open_same : (f g : Opens K N R) → ((q : ℕ × K) → g.places q ≡ f.places q) → g.next_fetch ≡ f.next_fetch →
+  pub open_same : (f g : Opens K N R) → ((q : ℕ × K) → g.by_key q ≡ f.by_key q) → g.next_fetch ≡ f.next_fetch →
       g.next_token ≡ f.next_token → AreOpen eq f → AreOpen eq g
   open_same f g same id token a = record {
     waited = λ q o h. a.waited q o (sym (same q) ∙ h);
@@ -148,11 +148,11 @@ module _ {K N R : Type 0} {eq : K → K → Bool} where
     tokens_below = λ q o t h there. rw token (a.tokens_below q o t (sym (same q) ∙ h) there);
     once = λ q o h. a.once q o (sym (same q) ∙ h);
     one_fetch = λ p q x y hp hq. a.one_fetch p q x y (sym (same p) ∙ hp) (sym (same q) ∙ hq);
-    one_place = λ p q x y t hp hq. a.one_place p q x y t (sym (same p) ∙ hp) (sym (same q) ∙ hq);
+    one_open = λ p q x y t hp hq. a.one_open p q x y t (sym (same p) ∙ hp) (sym (same q) ∙ hq);
   }
 
-  module _ (f g : Opens K N R) (k : ℕ × K) (w : Option (Place N R))
-      (write : (q : ℕ × K) → g.places q ≡ update (same_key eq) f.places k w q) where
+  module _ (f g : Opens K N R) (k : ℕ × K) (w : Option (OpenFetch N R))
+      (write : (q : ℕ × K) → g.by_key q ≡ update (same_key eq) f.by_key k w q) where
     pub open_none : w ≡ None → g.next_fetch ≡ f.next_fetch → g.next_token ≡ f.next_token → AreOpen eq f → AreOpen eq g
     open_none none id token a = record {
       waited = λ q o h. a.waited q o (old q o h);
@@ -160,30 +160,30 @@ module _ {K N R : Type 0} {eq : K → K → Bool} where
       tokens_below = λ q o t h there. rw token (a.tokens_below q o t (old q o h) there);
       once = λ q o h. a.once q o (old q o h);
       one_fetch = λ p q x y hp hq. a.one_fetch p q x y (old p x hp) (old q y hq);
-      one_place = λ p q x y t hp hq. a.one_place p q x y t (old p x hp) (old q y hq);
+      one_open = λ p q x y t hp hq. a.one_open p q x y t (old p x hp) (old q y hq);
     } where
-      old : (q : ℕ × K) (o : Place N R) → g.places q ≡ Some o → f.places q ≡ Some o
+      old : (q : ℕ × K) (o : OpenFetch N R) → g.by_key q ≡ Some o → f.by_key q ≡ Some o
       old q o h = go (was eq f g k w write q o h) where
-        go : ((same_key eq k q ≡ true) × (w ≡ Some o)) ⊎ ((same_key eq k q ≡ false) × (f.places q ≡ Some o)) →
-            f.places q ≡ Some o
+        go : ((same_key eq k q ≡ true) × (w ≡ Some o)) ⊎ ((same_key eq k q ≡ false) × (f.by_key q ≡ Some o)) →
+            f.by_key q ≡ Some o
         go (inl e) = absurd (none_some w o none e.1)
         go (inr e) = e.1
 
   -- no fetch is open
-  pub open_empty : (f : Opens K N R) → ((q : ℕ × K) → f.places q ≡ None) → AreOpen eq f
+  pub open_empty : (f : Opens K N R) → ((q : ℕ × K) → f.by_key q ≡ None) → AreOpen eq f
   open_empty f none = record {
-    waited = λ q o h. absurd (none_some (f.places q) o (none q) h);
-    below = λ q o h. absurd (none_some (f.places q) o (none q) h);
-    tokens_below = λ q o t h there. absurd (none_some (f.places q) o (none q) h);
-    once = λ q o h. absurd (none_some (f.places q) o (none q) h);
-    one_fetch = λ p q x y hp hq. absurd (none_some (f.places p) x (none p) hp);
-    one_place = λ p q x y t hp hq. absurd (none_some (f.places p) x (none p) hp);
+    waited = λ q o h. absurd (none_some (f.by_key q) o (none q) h);
+    below = λ q o h. absurd (none_some (f.by_key q) o (none q) h);
+    tokens_below = λ q o t h there. absurd (none_some (f.by_key q) o (none q) h);
+    once = λ q o h. absurd (none_some (f.by_key q) o (none q) h);
+    one_fetch = λ p q x y hp hq. absurd (none_some (f.by_key p) x (none p) hp);
+    one_open = λ p q x y t hp hq. absurd (none_some (f.by_key p) x (none p) hp);
   }
 
-  module _ (laws : IsEquivalence eq) (f g : Opens K N R) (k : ℕ × K) (new : Place N R)
-      (write : (q : ℕ × K) → g.places q ≡ update (same_key eq) f.places k (Some new) q) where
-    abbrev Was : ℕ × K → Place N R → Type 0
-    Was q o = ((same_key eq k q ≡ true) × (Some new ≡ Some o)) ⊎ ((same_key eq k q ≡ false) × (f.places q ≡ Some o))
+  module _ (laws : IsEquivalence eq) (f g : Opens K N R) (k : ℕ × K) (new : OpenFetch N R)
+      (write : (q : ℕ × K) → g.by_key q ≡ update (same_key eq) f.by_key k (Some new) q) where
+    abbrev Was : ℕ × K → OpenFetch N R → Type 0
+    Was q o = ((same_key eq k q ≡ true) × (Some new ≡ Some o)) ⊎ ((same_key eq k q ≡ false) × (f.by_key q ≡ Some o))
 
     both : (p q : ℕ × K) → same_key eq k p ≡ true → same_key eq k q ≡ true → same_key eq p q ≡ true
     both p q kp kq = sym ((same_key_equiv laws).congr k p q kp) ∙ kq
@@ -201,48 +201,48 @@ module _ {K N R : Type 0} {eq : K → K → Bool} where
       once = λ q o h. once o (was eq f g k (Some new) write q o h) (λ old. a.once q o old);
       one_fetch = λ p q x y hp hq same. one_fetch p q x y same (was eq f g k (Some new) write p x hp)
           (was eq f g k (Some new) write q y hq);
-      one_place = λ p q x y t hp hq tx ty. one_place p q x y t tx ty (was eq f g k (Some new) write p x hp)
+      one_open = λ p q x y t hp hq tx ty. one_open p q x y t tx ty (was eq f g k (Some new) write p x hp)
           (was eq f g k (Some new) write q y hq);
     } where
-      waited : {q : ℕ × K} (o : Place N R) → Was q o → (f.places q ≡ Some o → 0 < length o.tokens) → 0 < length o.tokens
-      waited o (inl e) old = subst (λ (x : Place N R). 0 < length x.tokens) (one new o e.1) fits.waited
+      waited : {q : ℕ × K} (o : OpenFetch N R) → Was q o → (f.by_key q ≡ Some o → 0 < length o.tokens) → 0 < length o.tokens
+      waited o (inl e) old = subst (λ (x : OpenFetch N R). 0 < length x.tokens) (one new o e.1) fits.waited
       waited o (inr e) old = old e.1
 
-      below : {q : ℕ × K} (o : Place N R) → Was q o → (f.places q ≡ Some o → o.fetch < f.next_fetch) →
+      below : {q : ℕ × K} (o : OpenFetch N R) → Was q o → (f.by_key q ≡ Some o → o.fetch < f.next_fetch) →
           o.fetch < g.next_fetch
-      below o (inl e) old = subst (λ (x : Place N R). x.fetch < g.next_fetch) (one new o e.1) fits.below
+      below o (inl e) old = subst (λ (x : OpenFetch N R). x.fetch < g.next_fetch) (one new o e.1) fits.below
       below o (inr e) old = (let lt = old e.1 in omega arith)
 
-      tokens_below : {q : ℕ × K} (o : Place N R) (t : ℕ) → has t (tokens_of o) ≡ true → Was q o →
-          (f.places q ≡ Some o → t < f.next_token) → t < g.next_token
+      tokens_below : {q : ℕ × K} (o : OpenFetch N R) (t : ℕ) → has t (tokens_of o) ≡ true → Was q o →
+          (f.by_key q ≡ Some o → t < f.next_token) → t < g.next_token
       tokens_below o t there (inl e) old = fits.tokens_below t
-          (ap (λ (x : Place N R). has t (tokens_of x)) (one new o e.1) ∙ there)
+          (ap (λ (x : OpenFetch N R). has t (tokens_of x)) (one new o e.1) ∙ there)
       tokens_below o t there (inr e) old = (let lt = old e.1 in omega arith)
 
-      once : {q : ℕ × K} (o : Place N R) → Was q o → (f.places q ≡ Some o → IsDistinct nat_eq (tokens_of o)) →
+      once : {q : ℕ × K} (o : OpenFetch N R) → Was q o → (f.by_key q ≡ Some o → IsDistinct nat_eq (tokens_of o)) →
           IsDistinct nat_eq (tokens_of o)
-      once o (inl e) old = subst (λ (x : Place N R). IsDistinct nat_eq (tokens_of x)) (one new o e.1) fits.once
+      once o (inl e) old = subst (λ (x : OpenFetch N R). IsDistinct nat_eq (tokens_of x)) (one new o e.1) fits.once
       once o (inr e) old = old e.1
 
       flip : (p q : ℕ × K) → same_key eq k q ≡ true → same_key eq k p ≡ true → same_key eq p q ≡ true
       flip p q kq kp = both p q kp kq
 
-      one_fetch : (p q : ℕ × K) (x y : Place N R) → x.fetch ≡ y.fetch → Was p x → Was q y → same_key eq p q ≡ true
+      one_fetch : (p q : ℕ × K) (x y : OpenFetch N R) → x.fetch ≡ y.fetch → Was p x → Was q y → same_key eq p q ≡ true
       one_fetch p q x y same (inl e) (inl d) = both p q e.0 d.0
       one_fetch p q x y same (inl e) (inr d) =
-          apart q d.0 (fits.own_fetch q y d.1 (sym same ∙ ap (λ (o : Place N R). o.fetch) (sym (one new x e.1))))
+          apart q d.0 (fits.own_fetch q y d.1 (sym same ∙ ap (λ (o : OpenFetch N R). o.fetch) (sym (one new x e.1))))
       one_fetch p q x y same (inr e) (inl d) =
-          apart p e.0 (fits.own_fetch p x e.1 (same ∙ ap (λ (o : Place N R). o.fetch) (sym (one new y d.1))))
+          apart p e.0 (fits.own_fetch p x e.1 (same ∙ ap (λ (o : OpenFetch N R). o.fetch) (sym (one new y d.1))))
       one_fetch p q x y same (inr e) (inr d) = a.one_fetch p q x y e.1 d.1 same
 
-      one_place : (p q : ℕ × K) (x y : Place N R) (t : ℕ) → has t (tokens_of x) ≡ true → has t (tokens_of y) ≡ true →
+      one_open : (p q : ℕ × K) (x y : OpenFetch N R) (t : ℕ) → has t (tokens_of x) ≡ true → has t (tokens_of y) ≡ true →
           Was p x → Was q y → same_key eq p q ≡ true
-      one_place p q x y t tx ty (inl e) (inl d) = both p q e.0 d.0
-      one_place p q x y t tx ty (inl e) (inr d) =
-          apart q d.0 (fits.own_tokens q y t d.1 ty (ap (λ (o : Place N R). has t (tokens_of o)) (one new x e.1) ∙ tx))
-      one_place p q x y t tx ty (inr e) (inl d) =
-          apart p e.0 (fits.own_tokens p x t e.1 tx (ap (λ (o : Place N R). has t (tokens_of o)) (one new y d.1) ∙ ty))
-      one_place p q x y t tx ty (inr e) (inr d) = a.one_place p q x y t e.1 d.1 tx ty
+      one_open p q x y t tx ty (inl e) (inl d) = both p q e.0 d.0
+      one_open p q x y t tx ty (inl e) (inr d) =
+          apart q d.0 (fits.own_tokens q y t d.1 ty (ap (λ (o : OpenFetch N R). has t (tokens_of o)) (one new x e.1) ∙ tx))
+      one_open p q x y t tx ty (inr e) (inl d) =
+          apart p e.0 (fits.own_tokens p x t e.1 tx (ap (λ (o : OpenFetch N R). has t (tokens_of o)) (one new y d.1) ∙ ty))
+      one_open p q x y t tx ty (inr e) (inr d) = a.one_open p q x y t e.1 d.1 tx ty
 
   -- a fetch opens
   pub fits_new : (f : Opens K N R) (k : ℕ × K) (w : Waiting N) → w.token ≡ f.next_token → AreOpen eq f → Fits eq f
@@ -262,8 +262,8 @@ module _ {K N R : Type 0} {eq : K → K → Bool} where
     only t h = grind (arith, nat_tests)
 
   -- one more waits
-  pub fits_joined : (laws : IsEquivalence eq) (f : Opens K N R) (k : ℕ × K) (o : Place N R) (w : Waiting N)
-      (later : Option R) → f.places k ≡ Some o → w.token ≡ f.next_token → AreOpen eq f → Fits eq f f.next_fetch
+  pub fits_joined : (laws : IsEquivalence eq) (f : Opens K N R) (k : ℕ × K) (o : OpenFetch N R) (w : Waiting N)
+      (later : Option R) → f.by_key k ≡ Some o → w.token ≡ f.next_token → AreOpen eq f → Fits eq f f.next_fetch
       (f.next_token + 1) k (joined (Some o) o.fetch w later)
   fits_joined laws f k o w later there token a = record {
     waited = subst (λ (n : ℕ). 0 < n) (sym (length_push o.tokens w)) (omega arith);
@@ -287,13 +287,13 @@ module _ {K N R : Type 0} {eq : K → K → Bool} where
     fresh (inl e) = (let lt = a.tokens_below k o w.token there e in absurd (omega (arith, lt, token)))
     fresh (inr e) = e
 
-    own_tokens : (q : ℕ × K) (x : Place N R) (t : ℕ) → f.places q ≡ Some x → has t (tokens_of x) ≡ true →
+    own_tokens : (q : ℕ × K) (x : OpenFetch N R) (t : ℕ) → f.by_key q ≡ Some x → has t (tokens_of x) ≡ true →
         (has t (tokens_of o) ≡ true) ⊎ (t ≡ w.token) → same_key eq k q ≡ true
-    own_tokens q x t h tx (inl e) = a.one_place k q o x t there h e tx
+    own_tokens q x t h tx (inl e) = a.one_open k q o x t there h e tx
     own_tokens q x t h tx (inr e) = (let lt = a.tokens_below q x t h tx in absurd (omega (arith, lt, e, token)))
 
   -- the kept builder is taken
-  pub fits_same : (f : Opens K N R) (k : ℕ × K) (o : Place N R) (later : Option R) → f.places k ≡ Some o → AreOpen eq
+  pub fits_same : (f : Opens K N R) (k : ℕ × K) (o : OpenFetch N R) (later : Option R) → f.by_key k ≡ Some o → AreOpen eq
       f → Fits eq f f.next_fetch f.next_token k (record { fetch = o.fetch; tokens = o.tokens; later = later })
   fits_same f k o later there a = record {
     waited = a.waited k o there;
@@ -301,12 +301,12 @@ module _ {K N R : Type 0} {eq : K → K → Bool} where
     tokens_below = λ t h. a.tokens_below k o t there h;
     once = a.once k o there;
     own_fetch = λ q x h same. a.one_fetch k q o x there h (sym same);
-    own_tokens = λ q x t h tx to. a.one_place k q o x t there h to tx;
+    own_tokens = λ q x t h tx to. a.one_open k q o x t there h to tx;
   }
 
   -- ---- keys and slots
 
-  pub linked_same : (keys keys' : ℕ × K → Option ℕ) (slots slots' : ℕ → Option (Place N R)) →
+  pub linked_same : (keys keys' : ℕ × K → Option ℕ) (slots slots' : ℕ → Option (OpenFetch N R)) →
       ((q : ℕ × K) → keys' q ≡ keys q) → ((n : ℕ) → slots' n ≡ slots n) → AreLinked eq keys slots → AreLinked eq keys'
       slots'
   linked_same keys keys' slots slots' k s a = record {
@@ -314,7 +314,7 @@ module _ {K N R : Type 0} {eq : K → K → Bool} where
     apart = λ p q n hp hq. a.apart p q n (sym (k p) ∙ hp) (sym (k q) ∙ hq);
   }
 
-  module _ (laws : IsEquivalence eq) (keys keys' : ℕ × K → Option ℕ) (slots slots' : ℕ → Option (Place N R))
+  module _ (laws : IsEquivalence eq) (keys keys' : ℕ × K → Option ℕ) (slots slots' : ℕ → Option (OpenFetch N R))
       (k : ℕ × K) (n : ℕ) (linked : AreLinked eq keys slots) where
     side : (w : Option ℕ) → ((q : ℕ × K) → keys' q ≡ update (same_key eq) keys k w q) → (q : ℕ × K) →
         ((same_key eq k q ≡ true) × (keys' q ≡ w)) ⊎ ((same_key eq k q ≡ false) × (keys' q ≡ keys q))
@@ -325,7 +325,7 @@ module _ {K N R : Type 0} {eq : K → K → Bool} where
       go (inr e) = inr (e, write q ∙ update_other (same_key eq) keys k w q e)
 
     -- a fetch opens in a free slot
-    module _ (new : Place N R) (free : slots n ≡ None)
+    module _ (new : OpenFetch N R) (free : slots n ≡ None)
         (put : (q : ℕ × K) → keys' q ≡ update (same_key eq) keys k (Some n) q)
         (write : (m : ℕ) → slots' m ≡ update nat_eq slots n (Some new) m) where
       here : slots' n ≡ Some new
@@ -356,7 +356,7 @@ module _ {K N R : Type 0} {eq : K → K → Bool} where
       lead_open id token w is made a =
           let f = opens_by keys slots id token in
           open_write laws f (opens_by keys' slots' (id + 1) (token + 1)) k new lead_places (omega arith) (omega arith)
-          (subst (λ (o : Place N R). Fits eq f (id + 1) (token + 1) k o) (sym made) (fits_new f k w is a)) a
+          (subst (λ (o : OpenFetch N R). Fits eq f (id + 1) (token + 1) k o) (sym made) (fits_new f k w is a)) a
 
       pub lead_linked : AreLinked eq keys' slots'
       lead_linked = record {
@@ -386,7 +386,7 @@ module _ {K N R : Type 0} {eq : K → K → Bool} where
       away q m other h e = true≢false (sym (linked.apart k q n there (h ∙ ap (λ (x : ℕ). Some x) e)) ∙ other)
 
       -- the open fetch of a key is written
-      module _ (respects : (p q : ℕ × K) → same_key eq p q ≡ true → keys p ≡ keys q) (new : Place N R)
+      module _ (respects : (p q : ℕ × K) → same_key eq p q ≡ true → keys p ≡ keys q) (new : OpenFetch N R)
           (write : (m : ℕ) → slots' m ≡ update nat_eq slots n (Some new) m) where
         pub write_places : (q : ℕ × K) → option_and_then slots' (keys q)
             ≡ update (same_key eq) (λ p. option_and_then slots (keys p)) k (Some new) q
@@ -415,25 +415,25 @@ module _ {K N R : Type 0} {eq : K → K → Bool} where
           led q m h (inr e) = ap is_some (write m ∙ update_apart slots n (Some new) m e.1) ∙ linked.led q m h
 
         -- what is open then, where one more waits
-        pub join_open : (id token : ℕ) (o : Place N R) (w : Waiting N) (later : Option R) → slots n ≡ Some o → w.token
+        pub join_open : (id token : ℕ) (o : OpenFetch N R) (w : Waiting N) (later : Option R) → slots n ≡ Some o → w.token
             ≡ token → new ≡ joined (Some o) o.fetch w later → AreOpen eq (opens_by keys slots id token) → AreOpen eq
             (opens_by keys slots' id (token + 1))
         join_open id token o w later was is made a =
             let f = opens_by keys slots id token in
-            let open_there : f.places k ≡ Some o = ap (option_and_then slots) there ∙ was in
+            let open_there : f.by_key k ≡ Some o = ap (option_and_then slots) there ∙ was in
             open_write laws f (opens_by keys slots' id (token + 1)) k new write_places (omega arith) (omega arith)
-            (subst (λ (x : Place N R). Fits eq f id (token + 1) k x) (sym made)
+            (subst (λ (x : OpenFetch N R). Fits eq f id (token + 1) k x) (sym made)
             (fits_joined laws f k o w later open_there is a)) a
 
         -- what is open then, where the builder alone is another
-        pub later_open : (id token : ℕ) (o : Place N R) (later : Option R) → slots n ≡ Some o → new ≡ record
+        pub later_open : (id token : ℕ) (o : OpenFetch N R) (later : Option R) → slots n ≡ Some o → new ≡ record
             { fetch = o.fetch; tokens = o.tokens; later = later } → AreOpen eq (opens_by keys slots id token) → AreOpen
             eq (opens_by keys slots' id token)
         later_open id token o later was made a =
             let f = opens_by keys slots id token in
-            let open_there : f.places k ≡ Some o = ap (option_and_then slots) there ∙ was in
+            let open_there : f.by_key k ≡ Some o = ap (option_and_then slots) there ∙ was in
             open_write laws f (opens_by keys slots' id token) k new write_places (omega arith) (omega arith)
-            (subst (λ (x : Place N R). Fits eq f id token k x) (sym made) (fits_same f k o later open_there a)) a
+            (subst (λ (x : OpenFetch N R). Fits eq f id token k x) (sym made) (fits_same f k o later open_there a)) a
 
       -- the open fetch of a key is taken
       module _ (out : (q : ℕ × K) → keys' q ≡ update (same_key eq) keys k None q)
@@ -502,13 +502,13 @@ write_again {T = T} s n x y there is m =
 
 module _ {N R : Type 0} where
   -- the fetch that is open, where it is said to be
-  pub open_asked : (id : ℕ) (p : Option (Place N R)) → IsSomeAnd p (λ o. o.fetch ≡ id) → (o : Place N R)
+  pub open_asked : (id : ℕ) (p : Option (OpenFetch N R)) → IsSomeAnd p (λ o. o.fetch ≡ id) → (o : OpenFetch N R)
       × (p ≡ Some o) × (asked (Some id) p ≡ Some o)
   open_asked id None h = absurd h
   open_asked id (Some o) h = (o, refl, rw (eq-eqb o.fetch id h) refl)
 
   -- and where it is not
-  pub not_asked : (id : ℕ) (p : Option (Place N R)) → (IsSomeAnd p (λ o. o.fetch ≡ id) → ⊥) → asked (Some id) p ≡ None
+  pub not_asked : (id : ℕ) (p : Option (OpenFetch N R)) → (IsSomeAnd p (λ o. o.fetch ≡ id) → ⊥) → asked (Some id) p ≡ None
   not_asked id None h = refl
   not_asked id (Some o) h = go (eqb_tells o.fetch id) where
     go : ((nat_eq o.fetch id ≡ true) × (o.fetch ≡ id)) ⊎ ((nat_eq o.fetch id ≡ false) × (o.fetch ≢ id)) →
@@ -516,43 +516,43 @@ module _ {N R : Type 0} where
     go (inl e) = absurd (h e.1)
     go (inr e) = rw e.0 refl
 
-module _ {K N R : Type 0} (eq : K → K → Bool) (f : Opens K N R) (k : ℕ × K) (o : Place N R)
-    (there : f.places k ≡ Some o) where
-  abbrev bare : Place N R
+module _ {K N R : Type 0} (eq : K → K → Bool) (f : Opens K N R) (k : ℕ × K) (o : OpenFetch N R)
+    (there : f.by_key k ≡ Some o) where
+  abbrev bare : OpenFetch N R
   bare = record { fetch = o.fetch; tokens = o.tokens; later = None }
 
   -- a fetch found nothing, and goes on with the builder that is kept
-  pub nothing_kept : is_some o.later ≡ true → with_place eq f k (Some bare) ≡ after_nothing eq f k
-  nothing_kept some = ap (with_place eq f k) (sym (ap (option_and_then without_later) there ∙ rw some refl))
+  pub nothing_kept : is_some o.later ≡ true → with_open eq f k (Some bare) ≡ after_nothing eq f k
+  nothing_kept some = ap (with_open eq f k) (sym (ap (option_and_then without_later) there ∙ rw some refl))
 
   -- or is closed
-  pub nothing_taken : is_some o.later ≡ false → closed eq (with_place eq f k (Some bare)) k ≡ after_nothing eq f k
-  nothing_taken none = same_opens (closed eq (with_place eq f k (Some bare)) k) (after_nothing eq f k)
+  pub nothing_taken : is_some o.later ≡ false → closed eq (with_open eq f k (Some bare)) k ≡ after_nothing eq f k
+  nothing_taken none = same_opens (closed eq (with_open eq f k (Some bare)) k) (after_nothing eq f k)
       (λ q. go q (same_key eq k q)) refl refl where
-        gone : option_and_then without_later (f.places k) ≡ None
+        gone : option_and_then without_later (f.by_key k) ≡ None
         gone = ap (option_and_then without_later) there ∙ rw none refl
 
-        go : (q : ℕ × K) (b : Bool) → cond b None (cond b (Some bare) (f.places q))
-            ≡ cond b (option_and_then without_later (f.places k)) (f.places q)
+        go : (q : ℕ × K) (b : Bool) → cond b None (cond b (Some bare) (f.by_key q))
+            ≡ cond b (option_and_then without_later (f.by_key k)) (f.by_key q)
         go q true = sym gone
         go q false = refl
 
--- a key that leads to no place leads nowhere
-pub led_none : {N R : Type 0} (slots : ℕ → Option (Place N R)) (o : Option ℕ) →
+-- a key that leads to no fetch leads nowhere
+pub led_none : {N R : Type 0} (slots : ℕ → Option (OpenFetch N R)) (o : Option ℕ) →
     ((n : ℕ) → o ≡ Some n → is_some (slots n) ≡ true) → option_and_then slots o ≡ None → o ≡ None
 led_none slots None led none = refl
 led_none slots (Some n) led none = absurd (led_to (slots n) (led n refl) none)
 
 module _ {K N R : Type 0} {q : EqGhosts K} {h : HashGhosts K} {c : CloneGhosts K} where
-  -- equal keys have the same place
-  pub places_alike : IsEquivalence q.eq → (m : InflightManager K N R q h c) (a b : ℕ × K) → same_key q.eq a b ≡ true →
-      (opens_of m).places a ≡ (opens_of m).places b
-  places_alike laws m a b same = ap (option_and_then (get m.inflights))
+  -- equal keys have the same fetch
+  pub opens_alike : IsEquivalence q.eq → (m : InflightManager K N R q h c) (a b : ℕ × K) → same_key q.eq a b ≡ true →
+      (opens_of m).by_key a ≡ (opens_of m).by_key b
+  opens_alike laws m a b same = ap (option_and_then (get m.inflights))
       (lookup_same laws a b same (entries_of m.index.pairs.items))
 
   pub alike_at : IsEquivalence q.eq → (m : InflightManager K N R q h c) (hash : ℕ) (a b : K) → q.eq a b ≡ true →
-      (opens_of m).places (hash, b) ≡ (opens_of m).places (hash, a)
-  alike_at laws m hash a b same = sym (places_alike laws m (hash, a) (hash, b) (rw (eq-eqb hash hash refl) same))
+      (opens_of m).by_key (hash, b) ≡ (opens_of m).by_key (hash, a)
+  alike_at laws m hash a b same = sym (opens_alike laws m (hash, a) (hash, b) (rw (eq-eqb hash hash refl) same))
 
 -- no key is found exactly where there is no pair
 pub none_in : {K : Type 0} {eq : K → K → Bool} → IsEquivalence eq → (pairs : List (Pair K)) →
@@ -572,13 +572,13 @@ empty_in eq (p ∷ ps) empty q =
 module _ {K N R : Type 0} (eq : K → K → Bool) where
   -- what is not open is closed already
   pub closed_already : (f : Opens K N R) (k : ℕ × K) →
-      ((q : ℕ × K) → same_key eq k q ≡ true → f.places k ≡ f.places q) → f.places k ≡ None → f ≡ closed eq f k
+      ((q : ℕ × K) → same_key eq k q ≡ true → f.by_key k ≡ f.by_key q) → f.by_key k ≡ None → f ≡ closed eq f k
   closed_already f k respects none = same_opens f (closed eq f k) (λ q. go q (same_key eq k q) refl) refl refl where
-    go : (q : ℕ × K) (b : Bool) → same_key eq k q ≡ b → f.places q ≡ cond b None (f.places q)
+    go : (q : ℕ × K) (b : Bool) → same_key eq k q ≡ b → f.by_key q ≡ cond b None (f.by_key q)
     go q true h = sym (respects q h) ∙ none
     go q false h = refl
 
 -- where any fetch was asked for, and there is none
-pub none_asked : {N R : Type 0} (p : Option (Place N R)) → asked None p ≡ None → p ≡ None
+pub none_asked : {N R : Type 0} (p : Option (OpenFetch N R)) → asked None p ≡ None → p ≡ None
 none_asked None h = refl
 none_asked (Some o) h = absurd cc

@@ -50,7 +50,7 @@ pub record IsStoredBy {K V P View C : Type 0} (m : Meaning K P View C) (at : ℕ
 
 module _ {K V P View C : Type 0} (m : Meaning K P View C) (laws : IsEquivalence m.same) (good : IsPolicy m.policy)
     (o : Holding V m) where
-  open o use {at, keys, t, number, capacity, limits, view, next, kept, stored}
+  open o use {at, keys, t, number, capacity, limits, view, next, sound, stored}
 
   abbrev now : State K V P View
   now = now_of o
@@ -66,7 +66,7 @@ module _ {K V P View C : Type 0} (m : Meaning K P View C) (laws : IsEquivalence 
 
     -- what leads to the slot is its record's key
     pub under : (q : ℕ × K) → keys q ≡ Some n → same_key m.same (key_of x.kept) q ≡ true
-    under q led = ∥∥₁_elim kept (hlevel props) (λ k'. under_by k' q led)
+    under q led = ∥∥₁_elim sound (hlevel props) (λ k'. under_by k' q led)
 
     -- what its record says to a key is what the keys say that lead to it
     answer_there : (k q : ℕ × K) → keys q ≡ Some n → has_key m.same (slot_in t n) k ≡ same_key m.same q k
@@ -158,12 +158,12 @@ module _ {K V P View C : Type 0} (m : Meaning K P View C) (laws : IsEquivalence 
   -- the victim of a pop
   module _ (i : Item) (v : View) (popped : m.policy.pop view ≡ Some (i, v)) where
     pub victim_lighter : (usage : ℕ) → usage ≡ weight_of (m.policy.order view) → i.weight ≤ usage
-    victim_lighter usage h = ∥∥₁_elim kept (hlevel props)
+    victim_lighter usage h = ∥∥₁_elim sound (hlevel props)
         (λ k'. omega (arith, popped_weight m laws good now k' i v popped))
 
     pub victim_weight : (usage : ℕ) → usage ≡ weight_of (m.policy.order view) → usage - i.weight
         ≡ weight_of (m.policy.order v)
-    victim_weight usage h = ∥∥₁_elim kept (hlevel props)
+    victim_weight usage h = ∥∥₁_elim sound (hlevel props)
         (λ k'. omega (arith, popped_weight m laws good now k' i v popped))
 
     pub victim_entries : (entries : ℕ) → entries ≡ length (m.policy.order view) → (1 ≤ entries)
@@ -201,10 +201,10 @@ module _ {K V P View C : Type 0} (m : Meaning K P View C) (laws : IsEquivalence 
 
       -- its key leads to it
       pub victim_led : keys (key_of x.kept) ≡ Some n
-      victim_led = ∥∥₁_elim kept (hlevel props) led_by
+      victim_led = ∥∥₁_elim sound (hlevel props) led_by
 
       pub victim_resident : x.resident ≡ true
-      victim_resident = ∥∥₁_elim kept (hlevel props) resident_by
+      victim_resident = ∥∥₁_elim sound (hlevel props) resident_by
 
       module _ (t' : Records K V P) (write : (q : ℕ) → slot_in t' q ≡ update nat_eq (slot_in t) n (slot_outside x) q)
           (recs : (id : ℕ) → record_in t' id ≡ update nat_eq (record_in t) x.id (outside (rec_of x)) id)
@@ -221,7 +221,7 @@ module _ {K V P View C : Type 0} (m : Meaning K P View C) (laws : IsEquivalence 
             (λ id. recs id ∙ ap (λ (a : ℕ). update nat_eq (record_in t) a (outside (rec_of x)) id) victim_id) refl
 
         pub victim_kept : ∥ IsKept m (state number capacity limits v keys' t' next) ∥₁
-        victim_kept = ∥∥₁_map kept
+        victim_kept = ∥∥₁_map sound
             (λ k'. subst (IsKept m) (sym victim_after)
             (popped_keeps m laws good now k' i v popped (rec_of x) rec_there))
 
@@ -236,7 +236,7 @@ module _ {K V P View C : Type 0} (m : Meaning K P View C) (laws : IsEquivalence 
   -- the same view, at the same places
   module _ (v : View) (same : v ≡ view) where
     pub still_kept : ∥ IsKept m (state number capacity limits v keys t next) ∥₁
-    still_kept = subst (λ (w : View). ∥ IsKept m (state number capacity limits w keys t next) ∥₁) (sym same) kept
+    still_kept = subst (λ (w : View). ∥ IsKept m (state number capacity limits w keys t next) ∥₁) (sym same) sound
 
     pub still_stored : (at' : ℕ → Option Item) → ((p : ℕ) → at' p ≡ at p) → IsStored m at' keys t
     still_stored at' places = record { led = stored.led; placed = λ n. places n ∙ stored.placed n }

@@ -28,7 +28,7 @@ some_number a b h = cc
 
 module _ {K V P View C : Type 0} (m : Meaning K P View C) (laws : IsEquivalence m.same) (good : IsPolicy m.policy)
     (o : Holding V m) where
-  open o use {at, keys, t, number, capacity, limits, view, next, kept}
+  open o use {at, keys, t, number, capacity, limits, view, next, sound}
 
   abbrev now : State K V P View
   now = now_of o
@@ -42,7 +42,7 @@ module _ {K V P View C : Type 0} (m : Meaning K P View C) (laws : IsEquivalence 
       go (Some n) h = refl
 
     pub out_known : is_some (number_of t id) ≡ true
-    out_known = ∥∥₁_elim kept (hlevel props) known_by
+    out_known = ∥∥₁_elim sound (hlevel props) known_by
 
     module _ (n : ℕ) (known : number_of t id ≡ Some n) where
       pub out_there : is_some (slot_in t n) ≡ true
@@ -67,7 +67,7 @@ module _ {K V P View C : Type 0} (m : Meaning K P View C) (laws : IsEquivalence 
 
         -- its key leads to it
         pub out_led : keys (key_of x.kept) ≡ Some n
-        out_led = ∥∥₁_elim kept (hlevel props) led_by
+        out_led = ∥∥₁_elim sound (hlevel props) led_by
 
         module _ (t' : Records K V P)
             (write : (q : ℕ) → slot_in t' q ≡ update nat_eq (slot_in t) n (slot_outside x) q)
@@ -83,7 +83,7 @@ module _ {K V P View C : Type 0} (m : Meaning K P View C) (laws : IsEquivalence 
               (λ j. recs j ∙ ap (λ (a : ℕ). update nat_eq (record_in t) a (outside (rec_of x)) j) out_id) refl
 
           pub out_kept : ∥ IsKept m (state number capacity limits view' keys' t' next) ∥₁
-          out_kept = ∥∥₁_map kept (λ k'. subst (IsKept m) (sym out_after)
+          out_kept = ∥∥₁_map sound (λ k'. subst (IsKept m) (sym out_after)
               (removed_keeps m laws good now k' (key_of x.kept) id
               (hits m laws good o (key_of x.kept) n out_led x there ∙ ap (λ (a : ℕ). Some a) out_id) (rec_of x)
               out_record))

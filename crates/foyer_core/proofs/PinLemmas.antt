@@ -86,7 +86,7 @@ module _ {K P V View C : Type 0} (m : Meaning K P View C) (laws : IsEquivalence 
 
   pub own_pinned_weight : 0 < count_of x.id (m.policy.pinned o.view) →
       x.kept.weight + pinned_beside m (now m laws good o) k ≡ weight_of (m.policy.pinned o.view)
-  own_pinned_weight pos = ∥∥₁_elim o.kept (hlevel props) (own_pinned_by pos)
+  own_pinned_weight pos = ∥∥₁_elim o.sound (hlevel props) (own_pinned_by pos)
 
   pub own_free_weight : ¬ (0 < count_of x.id (m.policy.pinned o.view)) → 0 + pinned_beside m (now m laws good o) k
       ≡ weight_of (m.policy.pinned o.view)

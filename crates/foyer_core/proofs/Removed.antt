@@ -39,7 +39,7 @@ more_there t t1 n x write = write n ∙ update_here (slot_in t) n (Some (with_ha
 
 module _ {K V P View C : Type 0} (m : Meaning K P View C) (laws : IsEquivalence m.same) (good : IsPolicy m.policy)
     (o : Holding V m) where
-  open o use {at, keys, t, number, capacity, limits, view, next, kept, stored}
+  open o use {at, keys, t, number, capacity, limits, view, next, sound, stored}
 
   module _ (k : ℕ × K) (n : ℕ) (led : keys k ≡ Some n) (x : Kept K V P) (there : slot_in t n ≡ Some x) where
     weight_by : IsKept m (now_of o) → weight_of (m.policy.order (m.policy.remove view x.id)) + x.kept.weight
@@ -48,11 +48,11 @@ module _ {K V P View C : Type 0} (m : Meaning K P View C) (laws : IsEquivalence 
         (found m laws good o k n led x there)
 
     pub removed_lighter : (usage : ℕ) → usage ≡ weight_of (m.policy.order view) → x.kept.weight ≤ usage
-    removed_lighter usage h = ∥∥₁_elim kept (hlevel props) (λ k'. omega (arith, weight_by k'))
+    removed_lighter usage h = ∥∥₁_elim sound (hlevel props) (λ k'. omega (arith, weight_by k'))
 
     pub removed_usage : (usage : ℕ) → usage ≡ weight_of (m.policy.order view) → usage - x.kept.weight
         ≡ weight_of (m.policy.order (m.policy.remove view x.id))
-    removed_usage usage h = ∥∥₁_elim kept (hlevel props) (λ k'. omega (arith, weight_by k'))
+    removed_usage usage h = ∥∥₁_elim sound (hlevel props) (λ k'. omega (arith, weight_by k'))
 
     shorter_by : IsKept m (now_of o) → length (m.policy.order (m.policy.remove view x.id)) + 1
         ≡ length (m.policy.order view)
@@ -62,11 +62,11 @@ module _ {K V P View C : Type 0} (m : Meaning K P View C) (laws : IsEquivalence 
         ∙ length-remove_id x.id (item_of m x.id f.0.kept) (m.policy.order view) f.4
 
     pub removed_fewer : (entries : ℕ) → entries ≡ length (m.policy.order view) → 1 ≤ entries
-    removed_fewer entries h = ∥∥₁_elim kept (hlevel props) (λ k'. omega (arith, shorter_by k'))
+    removed_fewer entries h = ∥∥₁_elim sound (hlevel props) (λ k'. omega (arith, shorter_by k'))
 
     pub removed_entries : (entries : ℕ) → entries ≡ length (m.policy.order view) → entries - 1
         ≡ length (m.policy.order (m.policy.remove view x.id))
-    removed_entries entries h = ∥∥₁_elim kept (hlevel props) (λ k'. omega (arith, shorter_by k'))
+    removed_entries entries h = ∥∥₁_elim sound (hlevel props) (λ k'. omega (arith, shorter_by k'))
 
     module _ (room : x.handles < limits.handles) (t1 t2 : Records K V P)
         (write1 : (q : ℕ) → slot_in t1 q ≡ update nat_eq (slot_in t) n (Some (with_handles x (x.handles + 1))) q)
@@ -92,7 +92,7 @@ module _ {K V P View C : Type 0} (m : Meaning K P View C) (laws : IsEquivalence 
         limits = limits;
         view = view;
         next = next;
-        kept = cloned_kept m laws good o n x there t1 write1 ids1 room;
+        sound = cloned_kept m laws good o n x there t1 write1 ids1 room;
         stored = cloned_stored m laws good o n x there t1 write1 ids1;
       }
 
@@ -119,7 +119,7 @@ module _ {K V P View C : Type 0} (m : Meaning K P View C) (laws : IsEquivalence 
           (left_index m laws good mid n more there1 (slot_in t2) write2 at' places keys' gone) recs2 refl
 
       pub removed_kept : ∥ IsKept m (state number capacity limits view' keys' t2 next) ∥₁
-      removed_kept = ∥∥₁_map mid.kept
+      removed_kept = ∥∥₁_map mid.sound
           (λ k'. subst (IsKept m) (sym after)
           (removed_keeps m laws good (now_of mid) k' k x.id hits1 (rec_of more) record1))
 

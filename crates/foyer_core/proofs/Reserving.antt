@@ -17,7 +17,7 @@ and_then_alike : {A B : Type 0} (f g : A → Option B) (o : Option A) → ((a : 
 and_then_alike f g o same = ap (λ h. option_and_then h o) (fun_ext same)
 
 module _ {K V P View C : Type 0} (m : Meaning K P View C) (o : Holding V m) where
-  open o use {at, keys, t, number, capacity, limits, view, next, kept, stored}
+  open o use {at, keys, t, number, capacity, limits, view, next, sound, stored}
 
   module _ (t' : Records K V P) (slots : (n : ℕ) → slot_in t' n ≡ slot_in t n) where
     pub reserved_stored : (at' : ℕ → Option Item) → ((p : ℕ) → at' p ≡ at p) → IsStored m at' keys t'
@@ -40,4 +40,4 @@ module _ {K V P View C : Type 0} (m : Meaning K P View C) (o : Holding V m) wher
           reserved_hit reserved_record refl
 
       pub reserved_kept : ∥ IsKept m (state number capacity limits view' keys t' next) ∥₁
-      reserved_kept = subst (λ (s : State K V P View). ∥ IsKept m s ∥₁) (sym reserved_same) kept
+      reserved_kept = subst (λ (s : State K V P View). ∥ IsKept m s ∥₁) (sym reserved_same) sound

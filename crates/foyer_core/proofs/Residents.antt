@@ -220,7 +220,7 @@ weight_at (Some r) = r.kept.weight
 
 module _ {K V P View C : Type 0} (m : Meaning K P View C) (laws : IsEquivalence m.same) (good : IsPolicy m.policy)
     (o : Holding V m) where
-  open o use {at, keys, t, view, kept}
+  open o use {at, keys, t, view, sound}
 
   abbrev now : State K V P View
   now = now_of o
@@ -271,7 +271,7 @@ module _ {K V P View C : Type 0} (m : Meaning K P View C) (laws : IsEquivalence 
 
   -- the weights of the slots' records make the usage
   pub slots_weigh : sum_by weight_in (entries t.slots) ≡ weight_of (m.policy.order view)
-  slots_weigh = ∥∥₁_elim kept (hlevel props) weighed_by
+  slots_weigh = ∥∥₁_elim sound (hlevel props) weighed_by
 
   -- what the index holds stands in the order
   resident_by : IsKept m now → (id : ℕ) (r : Rec K V P) → now.records id ≡ Some r → r.resident ≡ true →
@@ -280,7 +280,7 @@ module _ {K V P View C : Type 0} (m : Meaning K P View C) (laws : IsEquivalence 
 
   pub resident_counted : (id : ℕ) (r : Rec K V P) → now.records id ≡ Some r → r.resident ≡ true →
       0 < count_of id (m.policy.order view)
-  resident_counted id r there res = ∥∥₁_elim kept (hlevel props) (λ k'. resident_by k' id r there res)
+  resident_counted id r there res = ∥∥₁_elim sound (hlevel props) (λ k'. resident_by k' id r there res)
 
   -- a record is that of a slot
   pub record_slot : (id : ℕ) (r : Rec K V P) → now.records id ≡ Some r → (n : ℕ) × (x : Kept K V P)

@@ -31,7 +31,7 @@ pub record Holding {K P View C : Type 0} (V : Type 0) (m : Meaning K P View C) :
   pub limits : Limits
   pub view : View
   pub next : ℕ
-  pub kept : ∥ IsKept m (state number capacity limits view keys t next) ∥₁
+  pub sound : ∥ IsKept m (state number capacity limits view keys t next) ∥₁
   pub stored : IsStored m at keys t
 
 -- the state that they stand for
@@ -40,7 +40,7 @@ now_of o = state o.number o.capacity o.limits o.view o.keys o.t o.next
 
 module _ {K V P View C : Type 0} (m : Meaning K P View C) (laws : IsEquivalence m.same) (good : IsPolicy m.policy)
     (o : Holding V m) where
-  open o use {at, keys, t, number, capacity, limits, view, next, kept, stored}
+  open o use {at, keys, t, number, capacity, limits, view, next, sound, stored}
 
   abbrev pub now : State K V P View
   now = now_of o
@@ -62,7 +62,7 @@ module _ {K V P View C : Type 0} (m : Meaning K P View C) (laws : IsEquivalence 
         ap (λ (r : Rec K V P). r.resident) (same_rec (rec_of x) r.0 (sym found ∙ r.1)) ∙ r.2
 
     pub resident : x.resident ≡ true
-    resident = ∥∥₁_elim kept (hlevel props) resident_by
+    resident = ∥∥₁_elim sound (hlevel props) resident_by
 
     pub placed : at n ≡ Some (item_of m x.id x.kept)
     placed = item_there m at keys t stored n x there resident
@@ -79,7 +79,7 @@ module _ {K V P View C : Type 0} (m : Meaning K P View C) (laws : IsEquivalence 
           (with_handles x (x.handles + 1)) there refl write ids) refl
 
       pub got_kept : x.handles < limits.handles → ∥ IsKept m (state number capacity limits view' keys t' next) ∥₁
-      got_kept room = ∥∥₁_map kept
+      got_kept room = ∥∥₁_map sound
           (λ k'. subst (IsKept m) (sym got_after) (get_keeps m laws good now k' k x.id (rec_of x) hits found room))
 
       got_weight : IsKept m now → weight_of (m.policy.order view') ≡ weight_of (m.policy.order view)
@@ -88,7 +88,7 @@ module _ {K V P View C : Type 0} (m : Meaning K P View C) (laws : IsEquivalence 
           (m.policy.order (m.policy.acquire view x.id)) (good.acquire_order view x.id k'.once)
 
       pub got_counted : (usage : ℕ) → usage ≡ weight_of (m.policy.order view) → usage ≡ weight_of (m.policy.order view')
-      got_counted usage h = h ∙ sym (∥∥₁_elim kept (hlevel props) got_weight)
+      got_counted usage h = h ∙ sym (∥∥₁_elim sound (hlevel props) got_weight)
 
       got_length : IsKept m now → length (m.policy.order view') ≡ length (m.policy.order view)
       got_length k' = ap (λ (v : View). length (m.policy.order v)) viewed
@@ -96,4 +96,4 @@ module _ {K V P View C : Type 0} (m : Meaning K P View C) (laws : IsEquivalence 
           (good.acquire_order view x.id k'.once)
 
       pub got_entries : (entries : ℕ) → entries ≡ length (m.policy.order view) → entries ≡ length (m.policy.order view')
-      got_entries entries h = h ∙ sym (∥∥₁_elim kept (hlevel props) got_length)
+      got_entries entries h = h ∙ sym (∥∥₁_elim sound (hlevel props) got_length)

@@ -37,7 +37,7 @@ back_again f id a b is j = elim (eqb_tells j id) [
 
 module _ {K V P View C : Type 0} (m : Meaning K P View C) (laws : IsEquivalence m.same) (good : IsPolicy m.policy)
     (o : Holding V m) where
-  open o use {at, keys, t, number, capacity, limits, view, next, kept, stored}
+  open o use {at, keys, t, number, capacity, limits, view, next, sound, stored}
 
   -- what the policy makes of a use whose handle goes at once
   abbrev pub used : ℕ → ℕ → View
@@ -128,7 +128,7 @@ module _ {K V P View C : Type 0} (m : Meaning K P View C) (laws : IsEquivalence 
     touched = (entry, mid, gets, gives)
 
     pub touched_kept : ∥ IsKept m (state number capacity limits view' keys t next) ∥₁
-    touched_kept = ∥∥₁_map kept
+    touched_kept = ∥∥₁_map sound
         (λ k'. gives_back_keeps m laws good mid (gets_keeps m laws good (now_of o) k' k (Ok (Some entry)) mid gets)
         x.id None (state number capacity limits view' keys t next) gives)
 
@@ -171,8 +171,8 @@ module _ {K V P View C : Type 0} (m : Meaning K P View C) (laws : IsEquivalence 
 
     pub touched_weight : (usage : ℕ) → usage ≡ weight_of (m.policy.order view) → usage
         ≡ weight_of (m.policy.order view')
-    touched_weight usage h = h ∙ sym (∥∥₁_elim kept (hlevel props) (λ k'. (same_by k').0))
+    touched_weight usage h = h ∙ sym (∥∥₁_elim sound (hlevel props) (λ k'. (same_by k').0))
 
     pub touched_entries : (entries : ℕ) → entries ≡ length (m.policy.order view) → entries
         ≡ length (m.policy.order view')
-    touched_entries entries h = h ∙ sym (∥∥₁_elim kept (hlevel props) (λ k'. (same_by k').1))
+    touched_entries entries h = h ∙ sym (∥∥₁_elim sound (hlevel props) (λ k'. (same_by k').1))

@@ -46,7 +46,7 @@ rearranged_keeps m s kept capacity v perm pins = record {
 module _ {K V P View C : Type 0} (m : Meaning K P View C) (laws : IsEquivalence m.same) (good : IsPolicy m.policy)
     (o : Holding V m) (capacity' : ℕ) (config : Option C)
     (v : View) (updated : v ≡ m.policy.update o.view capacity' config) where
-  open o use {keys, t, number, limits, view, next, kept}
+  open o use {keys, t, number, limits, view, next, sound}
 
   update_after : state number capacity' limits v keys t next ≡ after_update m (now_of o) capacity' config
   update_after = ap (λ (w : View). state number capacity' limits w keys t next) updated
@@ -57,7 +57,7 @@ module _ {K V P View C : Type 0} (m : Meaning K P View C) (laws : IsEquivalence 
       (λ j pos. subst (λ l. 0 < count_of j l) (good.update_pinned view capacity' config) pos)
 
   pub update_kept : ∥ IsKept m (state number capacity' limits v keys t next) ∥₁
-  update_kept = ∥∥₁_map kept (λ k'. subst (IsKept m) (sym update_after) (kept_by k'))
+  update_kept = ∥∥₁_map sound (λ k'. subst (IsKept m) (sym update_after) (kept_by k'))
 
   same_weight : IsKept m (now_of o) → weight_of (m.policy.order v) ≡ weight_of (m.policy.order view)
   same_weight k' = ap (λ (w : View). weight_of (m.policy.order w)) updated
@@ -70,7 +70,7 @@ module _ {K V P View C : Type 0} (m : Meaning K P View C) (laws : IsEquivalence 
       (good.update_order view capacity' config k'.once)
 
   pub update_weighed : (usage : ℕ) → usage ≡ weight_of (m.policy.order view) → usage ≡ weight_of (m.policy.order v)
-  update_weighed usage h = h ∙ sym (∥∥₁_elim kept (hlevel props) same_weight)
+  update_weighed usage h = h ∙ sym (∥∥₁_elim sound (hlevel props) same_weight)
 
   pub update_counted : (entries : ℕ) → entries ≡ length (m.policy.order view) → entries ≡ length (m.policy.order v)
-  update_counted entries h = h ∙ sym (∥∥₁_elim kept (hlevel props) same_length)
+  update_counted entries h = h ∙ sym (∥∥₁_elim sound (hlevel props) same_length)

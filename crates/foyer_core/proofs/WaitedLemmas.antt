@@ -13,7 +13,7 @@ use Rattle.foyer_core.specs.declared.outcome.Waiting.{Waiting}
 use Rattle.foyer_core.specs.declared.record.Data.{Data}
 use Rattle.foyer_core.specs.Fetching.{Arrives, CompletesBy}
 use Rattle.foyer_core.specs.Indexer.{same_key, same_key_equiv}
-use Rattle.foyer_core.specs.Inflight.{Apart, Opens, Place, after_enqueue, closed, joined}
+use Rattle.foyer_core.specs.Inflight.{Apart, Opens, OpenFetch, after_enqueue, closed, joined}
 use Rattle.foyer_core.specs.State.{Meaning, State, IsKept}
 use Rattle.foyer_core.specs.Steps.{Inserts, newcomer}
 use Rattle.foyer_core.specs.Values.{Gone, Held}
@@ -33,21 +33,21 @@ pub enqueued_apart : {K N R : Type 0} (eq : K → K → Bool) (index : ℕ × K 
     Apart index (after_enqueue eq f k w later)
 enqueued_apart {N = N} eq index f k w later respects missing apart =
     let asks : Waiting N = record { token = f.next_token; waiter = w } in
-    placed_apart eq index f (after_enqueue eq f k w later) k (Some (joined (f.places k) f.next_fetch asks later))
+    placed_apart eq index f (after_enqueue eq f k w later) k (Some (joined (f.by_key k) f.next_fetch asks later))
     (λ q. refl) respects missing apart
 
 -- one more asks for a key, by another that equals it
 module _ {K N R : Type 0} {eq : K → K → Bool} (laws : IsEquivalence eq) (f : Opens K N R) (k l : ℕ × K)
-    (same : same_key eq k l ≡ true) (alike : f.places k ≡ f.places l) where
+    (same : same_key eq k l ≡ true) (alike : f.by_key k ≡ f.by_key l) where
   pub enqueued_alike : (w : N) (later : Option R) → after_enqueue eq f k w later ≡ after_enqueue eq f l w later
   enqueued_alike w later =
       let asks : Waiting N = record { token = f.next_token; waiter = w } in
       same_opens (after_enqueue eq f k w later) (after_enqueue eq f l w later)
-      (λ q. ap (λ (b : Bool). cond b (Some (joined (f.places k) f.next_fetch asks later)) (f.places q))
+      (λ q. ap (λ (b : Bool). cond b (Some (joined (f.by_key k) f.next_fetch asks later)) (f.by_key q))
       ((same_key_equiv laws).congr k l q same)
-      ∙ ap (λ (o : Option (Place N R)). update (same_key eq) f.places l (Some (joined o f.next_fetch asks later)) q)
+      ∙ ap (λ (o : Option (OpenFetch N R)). update (same_key eq) f.by_key l (Some (joined o f.next_fetch asks later)) q)
       alike)
-      (ap (λ (o : Option (Place N R)). if is_some o then f.next_fetch else f.next_fetch + 1) alike) refl
+      (ap (λ (o : Option (OpenFetch N R)). if is_some o then f.next_fetch else f.next_fetch + 1) alike) refl
 
 -- what holds by an answer, either way
 pub either_way : {T E C : Type 0} (r : Result T E) {A : T → Type 0} {B : E → Type 0} → MatchResult r A B →
@@ -58,7 +58,7 @@ either_way (Err e) h done refused = refused e h
 -- a fetch ends with a record that came in, of which those who waited have all handles
 module _ {K V P View C N R : Type 0} (m : Meaning K P View C) (source : Source) (s t : State K V P View)
     (f g : Opens K N R) (k : ℕ × K) (d : Data K V P) (shut : g ≡ closed m.same f k) where
-  pub completes_by : (p : Option (Place N R)) (waiters : List (Waiting N)) → IsSomeAnd p (λ o. waiters ≡ o.tokens) →
+  pub completes_by : (p : Option (OpenFetch N R)) (waiters : List (Waiting N)) → IsSomeAnd p (λ o. waiters ≡ o.tokens) →
       (outcome : Result (Option (List (Held K V P))) Reason) (ls : List (Event × Gone K V P))
       → Arrives m source s (newcomer s d (length waiters)) outcome ls t →
       CompletesBy m p source s f k d (record { found = true; waiters = waiters; outcome = outcome; leaves = ls })
@@ -83,7 +83,7 @@ module _ {K V P View C N R : Type 0} (m : Meaning K P View C) (source : Source) 
         ∙ ap (λ (i : ℕ). replicate i entry) (let more : count + 1 ≡ n = omega (arith, many) in more),
   )
 
-  pub completed : (p : Option (Place N R)) (waiters : List (Waiting N)) → IsSomeAnd p (λ o. waiters ≡ o.tokens) →
+  pub completed : (p : Option (OpenFetch N R)) (waiters : List (Waiting N)) → IsSomeAnd p (λ o. waiters ≡ o.tokens) →
       (count : ℕ) → length waiters ≡ 1 + count
       → (entry : Held K V P) (others : List (Held K V P)) (ls : List (Event × Gone K V P)) (ended : Ending K V P N) →
       ended ≡ record { found = true; waiters = waiters; outcome = Ok (Some (others ++ entry ∷ [])); leaves = ls }

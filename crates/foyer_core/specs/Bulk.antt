@@ -95,7 +95,7 @@ pub record Lined {K V P View C : Type 0} (m : Meaning K P View C) (number : ℕ)
   pub view : View
   pub next : ℕ
   pub at : ℕ → Option Item
-  pub kept : ∥ IsKept m (state number capacity limits view keys records next) ∥₁
+  pub sound : ∥ IsKept m (state number capacity limits view keys records next) ∥₁
   pub stored : IsStored m at keys records
   pub lined : m.policy.order view ≡ items
 

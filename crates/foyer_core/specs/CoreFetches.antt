@@ -1,4 +1,4 @@
--- The open fetches of a core: a list of places, one for each shard.
+-- The open fetches of a core: a list of those of each shard.
 use Rattle.std.specs.Prelude.{◌≡◌, ℕ, ◌%◌, ◌==◌, ◌&&◌, Bool, true, false, List, [], Option, Some, None, Result, Err, IsSomeAnd, length, option_and_then, slice_get, slice_set}
 use Rattle.foyer_policy.specs.declared.error.Reason.{Reason}
 use Rattle.foyer_policy.specs.declared.error.Reason.TheVariants.{WrongKey}
@@ -9,7 +9,7 @@ use Rattle.foyer_core.specs.declared.outcome.FetchTarget.{FetchTarget}
 use Rattle.foyer_core.specs.declared.outcome.FetchTarget.TheVariants.{Entry, Piece as PieceOf}
 use Rattle.foyer_core.specs.Core.{Core, AtShard, shard_at, shard_of}
 use Rattle.foyer_core.specs.Fetching.{Arrives, ArrivesBack}
-use Rattle.foyer_core.specs.Inflight.{Opens, Place, asked, closed}
+use Rattle.foyer_core.specs.Inflight.{Opens, OpenFetch, asked, closed}
 use Rattle.foyer_core.specs.Pieces.{coming_under, is_known}
 use Rattle.foyer_core.specs.State.{Meaning, State}
 use Rattle.foyer_core.specs.Steps.{newcomer}
@@ -17,13 +17,13 @@ use Rattle.foyer_core.specs.Values.{Carried, Gone, Held}
 use Rattle.foyer_core.specs.Waited.{Ending, lost}
 
 module _ {K N R : Type 0} where
-  -- the place of a hashed key, in its shard
-  abbrev pub place_in : List (Opens K N R) → ℕ × K → Option (Place N R)
-  place_in fetches k = option_and_then (λ f. f.places k) (slice_get fetches (k.0 % length fetches))
+  -- the open fetch of a hashed key, in its shard
+  abbrev pub open_in : List (Opens K N R) → ℕ × K → Option (OpenFetch N R)
+  open_in fetches k = option_and_then (λ f. f.by_key k) (slice_get fetches (k.0 % length fetches))
 
   -- this fetch of a hashed key is open
   abbrev pub IsOpenIn : List (Opens K N R) → ℕ × K → ℕ → Type 0
-  IsOpenIn fetches k fetch = IsSomeAnd (place_in fetches k) (λ o. o.fetch ≡ fetch)
+  IsOpenIn fetches k fetch = IsSomeAnd (open_in fetches k) (λ o. o.fetch ≡ fetch)
 
   -- the open fetches of one shard become others
   abbrev pub replaced : List (Opens K N R) → ℕ → (Opens K N R → Opens K N R) → Option (Opens K N R) → List (Opens K N R)
@@ -50,9 +50,9 @@ pub record AtOpen {K V P View S W A N R : Type 0}
   pub open_rest : g ≡ slice_set f (shard_of old hash) open_after
 
 module _ {K V P N R : Type 0} where
-  -- The end of a fetch with a refusal, where it is open: those who wait get it, and the place is closed. The end of one
+  -- The end of a fetch with a refusal, where it is open: those who wait get it, and the fetch is closed. The end of one
   -- that is not open changes nothing.
-  abbrev pub EndsIn : Option (Place N R) → (K → K → Bool) → ℕ × K → Reason → List (Opens K N R) → Ending K V P N →
+  abbrev pub EndsIn : Option (OpenFetch N R) → (K → K → Bool) → ℕ × K → Reason → List (Opens K N R) → Ending K V P N →
       List (Opens K N R) → Type 0
   EndsIn None eq k reason fetches ended after = (ended ≡ lost) × (after ≡ fetches)
   EndsIn (Some o) eq k reason fetches ended after =
@@ -62,7 +62,7 @@ module _ {K V P N R : Type 0} where
   abbrev pub EndsAt : ℕ × K → ℕ → (K → K → Bool) → Reason → List (Opens K N R) → Ending K V P N → List (Opens K N R) →
       Type 0
   EndsAt k fetch eq reason fetches ended after =
-      EndsIn (asked (Some fetch) (place_in fetches k)) eq k reason fetches ended after
+      EndsIn (asked (Some fetch) (open_in fetches k)) eq k reason fetches ended after
 
 module _ {K V P View C S W A : Type 0} (m : Meaning K P View C) where
   -- whether a piece, whose key has this hash, stands for a record of this key in the shard of the key
@@ -82,10 +82,10 @@ module _ {K V P View C : Type 0} (m : Meaning K P View C) where
 
 module _ {K V P View C S W A N R : Type 0} (m : Meaning K P View C) where
   -- The end of an open fetch of a hashed key with a record of it: `arrives` says what comes in in its shard, and what
-  -- those get who wait. Its place is closed, even where the record is refused.
+  -- those get who wait. Its fetch is closed, even where the record is refused.
   pub record CompletesAt
       (arrives : State K V P View → Result (Option (List (Held K V P))) Reason → List (Event × Gone K V P) →
-      State K V P View → Type 0) (k : ℕ × K) (o : Place N R) (ended : Ending K V P N)
+      State K V P View → Type 0) (k : ℕ × K) (o : OpenFetch N R) (ended : Ending K V P N)
       (old : Core K V P View S W A) (f : List (Opens K N R)) (new : Core K V P View S W A) (g : List (Opens K N R)) :
       Type 0 where
     pub found : ended.found ≡ true
@@ -96,7 +96,7 @@ module _ {K V P View C S W A N R : Type 0} (m : Meaning K P View C) where
   -- With a value: under a key that equals the one that was asked for, of a weight that the weighter may give it, and
   -- with an answer that the filter may give.
   pub record ValueCompletes (source : Source) (weighs : ℕ → Type 0) (admits : Bool → Type 0) (k : ℕ × K) (value : V)
-      (properties : Bool → P) (o : Place N R) (ended : Ending K V P N)
+      (properties : Bool → P) (o : OpenFetch N R) (ended : Ending K V P N)
       (old : Core K V P View S W A) (f : List (Opens K N R)) (new : Core K V P View S W A) (g : List (Opens K N R)) :
       Type 0 where
     pub own : K
@@ -113,7 +113,7 @@ module _ {K V P View C S W A N R : Type 0} (m : Meaning K P View C) where
         k o ended old f new g
 
   -- With a piece: it comes in where it stands for a record of the key, and else those who wait get F12.
-  abbrev pub PieceCompletes : Bool → (ℕ → Type 0) → ℕ → Carried K V P → ℕ × K → Place N R → Ending K V P N →
+  abbrev pub PieceCompletes : Bool → (ℕ → Type 0) → ℕ → Carried K V P → ℕ × K → OpenFetch N R → Ending K V P N →
       Core K V P View S W A → List (Opens K N R) → Core K V P View S W A → List (Opens K N R) → Type 0
   PieceCompletes true weighs hash piece k o ended old f new g =
       CompletesAt (λ s. PieceArrives m (is_known s hash piece) weighs hash piece (length o.tokens) s) k o ended old f
@@ -123,7 +123,7 @@ module _ {K V P View C S W A N R : Type 0} (m : Meaning K P View C) where
 
   -- The end of a fetch with a target, where it is open. The end of one that is not open changes nothing.
   abbrev pub CompletesFrom : (K → ℕ) → (K → V → ℕ → Type 0) → (K → V → Bool → Type 0) → (P → Bool → P) → Source →
-      FetchTarget K V P → ℕ × K → Place N R → Ending K V P N
+      FetchTarget K V P → ℕ × K → OpenFetch N R → Ending K V P N
       → Core K V P View S W A → List (Opens K N R) → Core K V P View S W A → List (Opens K N R) → Type 0
   CompletesFrom hash weighs admits properties source (Entry value p) k o ended old f new g =
       ValueCompletes source (weighs k.1 value) (admits k.1 value) k value (properties p) o ended old f new g
@@ -132,7 +132,7 @@ module _ {K V P View C S W A N R : Type 0} (m : Meaning K P View C) where
       (weighs piece.kept.key piece.kept.value) (hash piece.kept.key) piece k o ended old f new g
 
   abbrev pub Completed : (K → ℕ) → (K → V → ℕ → Type 0) → (K → V → Bool → Type 0) → (P → Bool → P) → Source →
-      FetchTarget K V P → ℕ × K → Option (Place N R) → Ending K V P N
+      FetchTarget K V P → ℕ × K → Option (OpenFetch N R) → Ending K V P N
       → Core K V P View S W A → List (Opens K N R) → Core K V P View S W A → List (Opens K N R) → Type 0
   Completed hash weighs admits properties source target k None ended old f new g = (ended ≡ lost) × (new ≡ old)
       × (g ≡ f)

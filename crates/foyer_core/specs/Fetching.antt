@@ -8,7 +8,7 @@ use Rattle.foyer_core.specs.declared.inflight.Enqueue.TheVariants.{Lead as Leads
 use Rattle.foyer_core.specs.declared.outcome.Lookup.{Lookup}
 use Rattle.foyer_core.specs.declared.outcome.Lookup.TheVariants.{Hit, Lead, Wait}
 use Rattle.foyer_core.specs.declared.record.Data.{Data}
-use Rattle.foyer_core.specs.Inflight.{HasNumbers, Opens, Place, RefusesEnqueue, after_enqueue, closed, enqueued}
+use Rattle.foyer_core.specs.Inflight.{HasNumbers, Opens, OpenFetch, RefusesEnqueue, after_enqueue, closed, enqueued}
 use Rattle.foyer_core.specs.State.{Meaning, State, hit}
 use Rattle.foyer_core.specs.Pieces.{RefusesReturn, Returns}
 use Rattle.foyer_core.specs.Steps.{Gets, Inserts, RefusesInsert, newcomer}
@@ -38,7 +38,7 @@ module _ {K V P View C N R : Type 0} (m : Meaning K P View C) where
       Opens K N R → Type 0
   Enqueues old f k waiter later answer new g =
       (hit old k ≡ None) × HasNumbers old.limits.ids f k
-      × (answer ≡ enqueued (f.places k) f.next_fetch f.next_token later)
+      × (answer ≡ enqueued (f.by_key k) f.next_fetch f.next_token later)
       × (new ≡ old) × (g ≡ after_enqueue m.same f k waiter later)
 
   -- why a look-up is refused, by what the key hits: as a get is, or for want of a number or of memory
@@ -57,9 +57,9 @@ module _ {K V P View C N R : Type 0} (m : Meaning K P View C) where
   LooksUp old f k waiter later (Err reason) new g = RefusesLookUp (hit old k) old f k reason new × (g ≡ f)
 
   -- The end of an open fetch of a key with a new record of it: the record comes in, with a handle for each who waits,
-  -- and the place is closed, even where the record is refused.
+  -- and the fetch is closed, even where the record is refused.
   pub record Completes (source : Source) (old : State K V P View) (f : Opens K N R) (k : ℕ × K) (d : Data K V P)
-      (o : Place N R) (ended : Ending K V P N) (new : State K V P View) (g : Opens K N R) : Type 0 where
+      (o : OpenFetch N R) (ended : Ending K V P N) (new : State K V P View) (g : Opens K N R) : Type 0 where
     pub found : ended.found ≡ true
     pub waiters : ended.waiters ≡ o.tokens
     pub arrives : Arrives m source old (newcomer old d (length o.tokens)) ended.outcome ended.leaves new
@@ -72,7 +72,7 @@ module _ {K V P View C N R : Type 0} (m : Meaning K P View C) where
     pub same : new ≡ old
     pub same_opens : g ≡ f
 
-  abbrev pub CompletesBy : Option (Place N R) → Source → State K V P View → Opens K N R → ℕ × K → Data K V P →
+  abbrev pub CompletesBy : Option (OpenFetch N R) → Source → State K V P View → Opens K N R → ℕ × K → Data K V P →
       Ending K V P N → State K V P View → Opens K N R → Type 0
   CompletesBy None source old f k d ended new g = Loses old f ended new g
   CompletesBy (Some o) source old f k d ended new g = Completes source old f k d o ended new g
@@ -80,20 +80,20 @@ module _ {K V P View C N R : Type 0} (m : Meaning K P View C) where
 -- the same with the record that a known piece stands for
 module _ {K V P View C N R : Type 0} (m : Meaning K P View C) where
   pub record CompletesBack (old : State K V P View) (f : Opens K N R) (k : ℕ × K) (piece : Carried K V P)
-      (o : Place N R) (ended : Ending K V P N) (new : State K V P View) (g : Opens K N R) : Type 0 where
+      (o : OpenFetch N R) (ended : Ending K V P N) (new : State K V P View) (g : Opens K N R) : Type 0 where
     pub found : ended.found ≡ true
     pub waiters : ended.waiters ≡ o.tokens
     pub arrives : ArrivesBack m old piece (length o.tokens) ended.outcome ended.leaves new
     pub closes : g ≡ closed m.same f k
 
-  abbrev pub CompletesBackBy : Option (Place N R) → State K V P View → Opens K N R → ℕ × K → Carried K V P →
+  abbrev pub CompletesBackBy : Option (OpenFetch N R) → State K V P View → Opens K N R → ℕ × K → Carried K V P →
       Ending K V P N → State K V P View → Opens K N R → Type 0
   CompletesBackBy None old f k piece ended new g = Loses m old f ended new g
   CompletesBackBy (Some o) old f k piece ended new g = CompletesBack old f k piece o ended new g
 
--- The end of a fetch with a refusal, where it is open: those who wait get it, and the place is closed. The end of one
+-- The end of a fetch with a refusal, where it is open: those who wait get it, and the fetch is closed. The end of one
 -- that is not open changes nothing.
-abbrev pub EndsBy : {K V P N R : Type 0} → Option (Place N R) → (K → K → Bool) → ℕ × K → Reason → Opens K N R →
+abbrev pub EndsBy : {K V P N R : Type 0} → Option (OpenFetch N R) → (K → K → Bool) → ℕ × K → Reason → Opens K N R →
     Ending K V P N → Opens K N R → Type 0
 EndsBy None eq k reason f ended g = (ended ≡ lost) × (g ≡ f)
 EndsBy (Some o) eq k reason f ended g =

@@ -1,4 +1,4 @@
--- A shard as a state and the places of open fetches.
+-- A shard as a state and its open fetches.
 use Rattle.std.specs.declared.cmp.PartialEq.{Ghosts as EqGhosts}
 use Rattle.std.specs.declared.hash.Hash.{Ghosts as HashGhosts}
 use Rattle.std.specs.declared.clone.Clone.{Ghosts as CloneGhosts}
@@ -25,6 +25,6 @@ module _ {E K V P N R I C S : Type 0} {e : EvictionGhosts E C S} {e1 : CloneGhos
   abbrev pub meaning_of : Shard E K V P N R I C S e e1 e2 e3 e4 q h c p d i → Meaning K P e.View C
   meaning_of s = store_meaning s.store
 
-  -- the places of open fetches
+  -- the open fetches
   abbrev pub opens_of : Shard E K V P N R I C S e e1 e2 e3 e4 q h c p d i → Opens K N R
   opens_of s = manager_opens s.inflights

@@ -31,7 +31,7 @@ entries_in _ = None
 
 -- how many wait for a key
 abbrev pub waiting_for : {K N R : Type 0} → Opens K N R → ℕ × K → ℕ
-waiting_for f k = length (waiters_of (f.places k))
+waiting_for f k = length (waiters_of (f.by_key k))
 
 -- these waited, and get an entry like this one each
 abbrev pub AnswersEach : {K V P N : Type 0} → List (Waiting N) → Held K V P → Answers K V P N → Type 0

@@ -111,7 +111,7 @@ impl<
     R: Drop,
     I: Finder<K>,
 > CacheCore<E, K, V, P, S, W, A, N, R, I> {
-    ghost use Rattle.foyer_core.specs.CoreFetches.{at_hash, place_in};
+    ghost use Rattle.foyer_core.specs.CoreFetches.{at_hash, open_in};
     ghost use Rattle.foyer_core.specs.Core.{AtShard, InsertsWeighed, IsNewCore, Owns, core_fault, entries_of_core, hit_in, usage_of_core};
     ghost use Rattle.foyer_core.specs.Cores.{core_of, fetches_of, hashes_of, meaning_of_core};
     ghost use Rattle.foyer_core.specs.Laws.{Finds, HandlesStay, IsBoundedAt, one_of};
@@ -150,7 +150,7 @@ impl<
         self.capacity
     }
 
-    /// How many shards there are. A record stands in the shard whose place is its hash modulo this number.
+    /// How many shards there are. A record stands in the shard of its hash modulo this number.
     pub fn shards(&self) -> usize
         ensures many { result ≡ length (core_of self.now).shards }
         ensures belong { Belong (core_of self.now).shards }
@@ -196,7 +196,7 @@ impl<
             result ≡ is_some (hit_in (core_of self.now) (hash, key.now)) }
     {
         let hash = self.hash(key);
-        self.shards[self.place(hash)].contains(hash, key)
+        self.shards[self.shard_index(hash)].contains(hash, key)
     }
 
     /// An entry of the key's record, where there is one, which counts as a handle and as a use. Refused at
@@ -212,7 +212,7 @@ impl<
         ensures told { IsTold K.eq (hashes_of self.old) (core_of self.old) [] (core_of self.new) }
     {
         let hash = self.hash(key);
-        let place = self.place(hash);
+        let place = self.shard_index(hash);
         self.shards[place].get(hash, key)
     }
 
@@ -227,9 +227,9 @@ impl<
             (p : P) × P.is_default p
             × InsertsWeighed (meaning_of_core self.old) Outer (W.weighs (core_of self.old).weighter key value) (A.admits (core_of self.old).filter key value)
             hash key value (λ admitted. coming_in P.location_of P.with_phantom_of admitted p)
-            (1 + length (waiters_of (place_in (fetches_of self.old) (hash, key)))) (insertion_of result) (core_of self.old) (core_of self.new) }
+            (1 + length (waiters_of (open_in (fetches_of self.old) (hash, key)))) (insertion_of result) (core_of self.old) (core_of self.new) }
         ensures answers { let hash = S.hash_of (core_of self.old).hash_builder (K.hash_input key) in
-            IfOk result (λ made. AnswersEach (waiters_of (place_in (fetches_of self.old) (hash, key))) made.entry made.answers) }
+            IfOk result (λ made. AnswersEach (waiters_of (open_in (fetches_of self.old) (hash, key))) made.entry made.answers) }
         ensures closed { let hash = S.hash_of (core_of self.old).hash_builder (K.hash_input key) in
             OnOk result (fetches_of self.new ≡ at_hash (λ f. closed K.eq f (hash, key)) (fetches_of self.old) hash) }
         ensures fetches { OnErr result (fetches_of self.new ≡ fetches_of self.old) }
@@ -249,8 +249,9 @@ impl<
     }
 
     /// Puts a record in, of the weight that the weighter gives it, and answers an entry of it, one more for each who
-    /// waits for the key, whose place is closed, and what left. A clone of the key must equal it. Where the filter, which is asked after the weighter, does not admit the
-    /// record, or it is to be on disk alone, its properties are made to say that it is phantom.
+    /// waits for the key, whose fetch is closed, and what left. A clone of the key must equal it. Where the filter,
+    /// which is asked after the weighter, does not admit the record, or it is to be on disk alone, its properties are
+    /// made to say that it is phantom.
     ///
     /// For a plain record others are evicted until its shard's capacity has room for it, or nothing more leaves,
     /// and then the key's record gives way (`Replace`). Afterwards a get of an equal key finds the value, however
@@ -272,9 +273,9 @@ impl<
         ensures inserted { let hash = S.hash_of (core_of self.old).hash_builder (K.hash_input key) in
             InsertsWeighed (meaning_of_core self.old) Outer (W.weighs (core_of self.old).weighter key value) (A.admits (core_of self.old).filter key value)
             hash key value (λ admitted. coming_in P.location_of P.with_phantom_of admitted properties)
-            (1 + length (waiters_of (place_in (fetches_of self.old) (hash, key)))) (insertion_of result) (core_of self.old) (core_of self.new) }
+            (1 + length (waiters_of (open_in (fetches_of self.old) (hash, key)))) (insertion_of result) (core_of self.old) (core_of self.new) }
         ensures answers { let hash = S.hash_of (core_of self.old).hash_builder (K.hash_input key) in
-            IfOk result (λ made. AnswersEach (waiters_of (place_in (fetches_of self.old) (hash, key))) made.entry made.answers) }
+            IfOk result (λ made. AnswersEach (waiters_of (open_in (fetches_of self.old) (hash, key))) made.entry made.answers) }
         ensures closed { let hash = S.hash_of (core_of self.old).hash_builder (K.hash_input key) in
             OnOk result (fetches_of self.new ≡ at_hash (λ f. closed K.eq f (hash, key)) (fetches_of self.old) hash) }
         ensures fetches { OnErr result (fetches_of self.new ≡ fetches_of self.old) }
@@ -310,7 +311,7 @@ impl<
     pub fn owns(&self, entry: &CoreEntry<K, V, P>) -> bool
         ensures { IsTrue result ↔ Owns (core_of self.now) entry.now }
     {
-        self.shards[self.place(entry.hash())].owns(entry)
+        self.shards[self.shard_index(entry.hash())].owns(entry)
     }
 
     /// Takes an entry back: its record has one handle less. With its last handle a record that a get finds is
@@ -333,7 +334,7 @@ impl<
             (λ leave. IsTold K.eq (hashes_of self.old) (core_of self.old) (option_to_list leave) (core_of self.new))
             (λ _. IsTold K.eq (hashes_of self.old) (core_of self.old) [] (core_of self.new)) }
     {
-        let place = self.place(entry.hash());
+        let place = self.shard_index(entry.hash());
         self.shards[place].give_back(entry)
     }
 }

@@ -4,7 +4,7 @@ ghost use Rattle.std.specs.Prelude.{◌≡◌, ◌↔◌, ℕ, ◌+◌, ◌<◌,
 ghost use Rattle.foyer_core.specs.Slots.{get};
 ghost use Rattle.foyer_policy.specs.declared.error.Reason.TheVariants.{NoMemory};
 ghost use Rattle.foyer_core.specs.Indexer.{same_key};
-ghost use Rattle.foyer_core.specs.Inflight.{AreLinked, AreOpen, AreOpen-prop, HasNumbers, IsFetchOrTake, IsOpen, LacksNumber, Place, RefusesEnqueue, after_enqueue, after_nothing, asked, closed, enqueued, joined, no_opens, numbers_in, opens_by, waiters_of, with_place};
+ghost use Rattle.foyer_core.specs.Inflight.{AreLinked, AreOpen, AreOpen-prop, HasNumbers, IsFetchOrTake, IsOpen, LacksNumber, OpenFetch, RefusesEnqueue, after_enqueue, after_nothing, asked, closed, enqueued, joined, no_opens, numbers_in, opens_by, waiters_of, with_open};
 
 use crate::indexer::{HashTableIndexer, Indexer};
 use crate::outcome::Waiting;
@@ -15,7 +15,7 @@ use std::marker::Model;
 
 mod answering;
 
-/// The place of a fetch that is open.
+/// A fetch that is open.
 #[derive(Drop)]
 struct Inflight<N, R> {
     id: u64,
@@ -25,9 +25,9 @@ struct Inflight<N, R> {
 }
 
 impl<N, R> Model for Inflight<N, R> {
-    ghost use Rattle.foyer_core.specs.Inflight.{Place};
+    ghost use Rattle.foyer_core.specs.Inflight.{OpenFetch};
 
-    ghost Value = { Place N R };
+    ghost Value = { OpenFetch N R };
 
     ghost view = { λ p. record { fetch = p.id; tokens = p.waiters.items; later = p.later } };
 }
@@ -152,7 +152,7 @@ impl<K: Key, N: Drop, R: Drop> InflightManager<K, N, R> {
         waiter: N,
         ids: u64,
     ) -> Result<Enqueue<R>>
-        ensures answer { IfOk result (λ answer. answer ≡ enqueued ((opens_of self.old).places (hash, key))
+        ensures answer { IfOk result (λ answer. answer ≡ enqueued ((opens_of self.old).by_key (hash, key))
             (opens_of self.old).next_fetch (opens_of self.old).next_token required_fetch_builder) }
         ensures opens { OnOk result (opens_of self.new ≡ after_enqueue K.eq (opens_of self.old) (hash, key) waiter required_fetch_builder) }
         ensures numbers { OnOk result (HasNumbers ids (opens_of self.old) (hash, key)) }
@@ -217,8 +217,8 @@ impl<K: Key, N: Drop, R: Drop> InflightManager<K, N, R> {
     /// or another one than was asked for. It takes no memory.
     pub fn take(&mut self, hash: u64, key: &K, id: Option<u64>) -> Option<Vec<Waiting<N>>>
         ensures waited { IfSome result (λ waiters. 0 < length waiters.items) }
-        ensures taken { IfSome result (λ waiters. IsSomeAnd (asked id ((opens_of self.old).places (hash, key.now))) (λ o. waiters.items ≡ o.tokens)) }
-        ensures none { IfNone result (asked id ((opens_of self.old).places (hash, key.now)) ≡ None) }
+        ensures taken { IfSome result (λ waiters. IsSomeAnd (asked id ((opens_of self.old).by_key (hash, key.now))) (λ o. waiters.items ≡ o.tokens)) }
+        ensures none { IfNone result (asked id ((opens_of self.old).by_key (hash, key.now)) ≡ None) }
         ensures opens { OnSome result (opens_of self.new ≡ closed K.eq (opens_of self.old) (hash, key.now)) }
         ensures same { IfNone result (opens_of self.new ≡ opens_of self.old) }
     {
@@ -234,10 +234,10 @@ impl<K: Key, N: Drop, R: Drop> InflightManager<K, N, R> {
         Some(waiters)
     }
 
-    // Who waits for a key's fetch, if one is open, whose place is closed. It takes no memory.
+    // Who waits for a key's fetch, if one is open, which is closed. It takes no memory.
     #[inline(always)]
     fn close(&mut self, hash: u64, key: &K) -> Vec<Waiting<N>>
-        ensures waiters { result.items ≡ waiters_of ((opens_of self.old).places (hash, key.now)) }
+        ensures waiters { result.items ≡ waiters_of ((opens_of self.old).by_key (hash, key.now)) }
         ensures closed { opens_of self.new ≡ closed K.eq (opens_of self.old) (hash, key.now) }
     {
         if self.is_empty() {
@@ -252,8 +252,8 @@ impl<K: Key, N: Drop, R: Drop> InflightManager<K, N, R> {
     /// A fetch of a key found nothing: the builder that is kept, to fetch with. Without one it is not open any more,
     /// and who waits is answered. None where that fetch is not open. It takes no memory.
     pub fn fetch_or_take(&mut self, hash: u64, key: &K, id: u64) -> Option<FetchOrTake<R, N>>
-        ensures answer { IfSome result (λ answer. IsSomeAnd (asked (Some id) ((opens_of self.old).places (hash, key.now))) (λ o. IsFetchOrTake o answer)) }
-        ensures none { IfNone result (asked (Some id) ((opens_of self.old).places (hash, key.now)) ≡ None) }
+        ensures answer { IfSome result (λ answer. IsSomeAnd (asked (Some id) ((opens_of self.old).by_key (hash, key.now))) (λ o. IsFetchOrTake o answer)) }
+        ensures none { IfNone result (asked (Some id) ((opens_of self.old).by_key (hash, key.now)) ≡ None) }
         ensures opens { OnSome result (opens_of self.new ≡ after_nothing K.eq (opens_of self.old) (hash, key.now)) }
         ensures same { IfNone result (opens_of self.new ≡ opens_of self.old) }
     {
@@ -271,10 +271,10 @@ impl<K: Key, N: Drop, R: Drop> InflightManager<K, N, R> {
 
     // The builder that a key's open fetch keeps, which it keeps no longer.
     fn take_later(&mut self, hash: u64, key: &K) -> Option<R>
-        requires { is_some ((opens_of self.old).places (hash, key.now)) ≡ true }
-        ensures later { (o : Place N R) → (opens_of self.old).places (hash, key.now) ≡ Some o → result ≡ o.later }
-        ensures opens { (o : Place N R) → (opens_of self.old).places (hash, key.now) ≡ Some o
-            → opens_of self.new ≡ with_place K.eq (opens_of self.old) (hash, key.now) (Some (record { fetch = o.fetch; tokens = o.tokens; later = None })) }
+        requires { is_some ((opens_of self.old).by_key (hash, key.now)) ≡ true }
+        ensures later { (o : OpenFetch N R) → (opens_of self.old).by_key (hash, key.now) ≡ Some o → result ≡ o.later }
+        ensures opens { (o : OpenFetch N R) → (opens_of self.old).by_key (hash, key.now) ≡ Some o
+            → opens_of self.new ≡ with_open K.eq (opens_of self.old) (hash, key.now) (Some (record { fetch = o.fetch; tokens = o.tokens; later = None })) }
     {
         let number = self.index.get(hash, key)?;
         let Some(inflight) = self.inflights.get_mut(number as usize) else {
@@ -287,7 +287,7 @@ impl<K: Key, N: Drop, R: Drop> InflightManager<K, N, R> {
     pub fn is_open(&self, hash: u64, key: &K, id: u64) -> bool
         ensures is_open { IsTrue result ↔ IsOpen (opens_of self.now) (hash, key.now) id }
         ensures equal_keys { (other : K) → IsTrue (K.eq key.now other)
-            → (opens_of self.now).places (hash, other) ≡ (opens_of self.now).places (hash, key.now) }
+            → (opens_of self.now).by_key (hash, other) ≡ (opens_of self.now).by_key (hash, key.now) }
     {
         match self.find(hash, key) {
             Some(inflight) => inflight.id == id,
@@ -307,7 +307,7 @@ impl<K: Key, N: Drop, R: Drop> InflightManager<K, N, R> {
     /// How many wait for a key's fetch: 0 where none is open. It takes no memory.
     #[inline(always)]
     pub fn waiters(&self, hash: u64, key: &K) -> usize
-        ensures { result ≡ length (waiters_of ((opens_of self.now).places (hash, key.now))) }
+        ensures { result ≡ length (waiters_of ((opens_of self.now).by_key (hash, key.now))) }
     {
         match self.find(hash, key) {
             Some(inflight) => inflight.waiters.len(),
@@ -318,14 +318,14 @@ impl<K: Key, N: Drop, R: Drop> InflightManager<K, N, R> {
     /// Whether no fetch is open. It takes no memory.
     #[inline(always)]
     pub fn is_empty(&self) -> bool
-        ensures { IsTrue result ↔ ((q : ℕ × K) → (opens_of self.now).places q ≡ None) }
+        ensures { IsTrue result ↔ ((q : ℕ × K) → (opens_of self.now).by_key q ≡ None) }
     {
         self.index.is_empty()
     }
 
-    // The place of a key.
+    // The open fetch of a key.
     fn find(&self, hash: u64, key: &K) -> Option<&Inflight<N, R>>
-        ensures { option_copied result ≡ (opens_of self.now).places (hash, key.now) }
+        ensures { option_copied result ≡ (opens_of self.now).by_key (hash, key.now) }
     {
         let number = self.index.get(hash, key)? as usize;
         self.inflights.get(number)

@@ -80,7 +80,13 @@ impl<K: Drop, V: Drop, P: Drop> Arrival<K, V, P> {
     // What a fetch's end answers, where these waited, of whom each gets one of the handles.
     pub(crate) fn ending<N>(self, waiters: Vec<Waiting<N>>) -> Ended<K, V, P, N>
         requires room { vec_len self.others + 1 ≤ vec_capacity self.others }
-        ensures { ending_of result ≡ record { found = true; waiters = waiters.items; outcome = Ok (Some (self.others.items ++ self.entry ∷ [])); leaves = self.leaves.items } }
+        ensures { ending_of result ≡ record {
+          found = true;
+          waiters = waiters.items;
+          outcome = Ok
+              (Some (self.others.items ++ self.entry ∷ []));
+          leaves = self.leaves.items;
+        } }
     {
         let Arrival {
             entry,

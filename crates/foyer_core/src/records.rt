@@ -176,8 +176,12 @@ impl<K: Drop, V: Drop, P: Drop> Records<K, V, P> {
     #[inline(always)]
     pub fn add_handles(&mut self, slot: usize, more: usize)
         requires { IsSomeAnd (slot_in self.old slot) (λ s. s.handles + more < 2 ^ 64) }
-        ensures slots { (s : Kept K V P) → slot_in self.old slot ≡ Some s → (n : ℕ) → slot_in self.new n ≡ update nat_eq (slot_in self.old) slot (Some (record s { handles = s.handles + more })) n }
-        ensures records { (s : Kept K V P) → slot_in self.old slot ≡ Some s → (id : ℕ) → record_in self.new id ≡ update nat_eq (record_in self.old) s.id (Some (rec_of (record s { handles = s.handles + more }))) id }
+        ensures slots { (s : Kept K V P) → slot_in self.old slot ≡ Some s → (n : ℕ)
+            → slot_in self.new n ≡ update nat_eq (slot_in self.old) slot
+            (Some (record s { handles = s.handles + more })) n }
+        ensures records { (s : Kept K V P) → slot_in self.old slot ≡ Some s → (id : ℕ)
+            → record_in self.new id ≡ update nat_eq (record_in self.old) s.id
+            (Some (rec_of (record s { handles = s.handles + more }))) id }
         ensures ids { (id : ℕ) → number_of self.new id ≡ number_of self.old id }
         ensures room { HasRoom self.old → HasRoom self.new }
     {
@@ -191,8 +195,12 @@ impl<K: Drop, V: Drop, P: Drop> Records<K, V, P> {
     #[inline(always)]
     pub fn add_handle(&mut self, slot: usize)
         requires { IsSomeAnd (slot_in self.old slot) (λ s. s.handles + 1 < 2 ^ 64) }
-        ensures slots { (s : Kept K V P) → slot_in self.old slot ≡ Some s → (n : ℕ) → slot_in self.new n ≡ update nat_eq (slot_in self.old) slot (Some (record s { handles = s.handles + 1 })) n }
-        ensures records { (s : Kept K V P) → slot_in self.old slot ≡ Some s → (id : ℕ) → record_in self.new id ≡ update nat_eq (record_in self.old) s.id (Some (rec_of (record s { handles = s.handles + 1 }))) id }
+        ensures slots { (s : Kept K V P) → slot_in self.old slot ≡ Some s → (n : ℕ)
+            → slot_in self.new n ≡ update nat_eq (slot_in self.old) slot
+            (Some (record s { handles = s.handles + 1 })) n }
+        ensures records { (s : Kept K V P) → slot_in self.old slot ≡ Some s → (id : ℕ)
+            → record_in self.new id ≡ update nat_eq (record_in self.old) s.id
+            (Some (rec_of (record s { handles = s.handles + 1 }))) id }
         ensures ids { (id : ℕ) → number_of self.new id ≡ number_of self.old id }
         ensures room { HasRoom self.old → HasRoom self.new }
     {
@@ -203,8 +211,12 @@ impl<K: Drop, V: Drop, P: Drop> Records<K, V, P> {
     #[inline(always)]
     pub fn take_handle(&mut self, slot: usize)
         requires { IsSomeAnd (slot_in self.old slot) (λ s. 0 < s.handles) }
-        ensures slots { (s : Kept K V P) → slot_in self.old slot ≡ Some s → (n : ℕ) → slot_in self.new n ≡ update nat_eq (slot_in self.old) slot (Some (record s { handles = s.handles - 1 })) n }
-        ensures records { (s : Kept K V P) → slot_in self.old slot ≡ Some s → (id : ℕ) → record_in self.new id ≡ update nat_eq (record_in self.old) s.id (Some (rec_of (record s { handles = s.handles - 1 }))) id }
+        ensures slots { (s : Kept K V P) → slot_in self.old slot ≡ Some s → (n : ℕ)
+            → slot_in self.new n ≡ update nat_eq (slot_in self.old) slot
+            (Some (record s { handles = s.handles - 1 })) n }
+        ensures records { (s : Kept K V P) → slot_in self.old slot ≡ Some s → (id : ℕ)
+            → record_in self.new id ≡ update nat_eq (record_in self.old) s.id
+            (Some (rec_of (record s { handles = s.handles - 1 }))) id }
         ensures ids { (id : ℕ) → number_of self.new id ≡ number_of self.old id }
     {
         let Some(found) = self.slots.get_mut(slot) else {
@@ -235,8 +247,10 @@ impl<K: Drop, V: Drop, P: Drop> Records<K, V, P> {
     pub fn leave(&mut self, slot: usize, number: u64) -> Left<K, V, P>
         requires { IsSomeAnd (slot_in self.old slot) (λ s. s.resident ≡ true) }
         ensures left { (s : Kept K V P) → slot_in self.old slot ≡ Some s → result ≡ record { number = number; id = s.id; kept = s.kept } }
-        ensures slots { (s : Kept K V P) → slot_in self.old slot ≡ Some s → (n : ℕ) → slot_in self.new n ≡ update nat_eq (slot_in self.old) slot (slot_outside s) n }
-        ensures records { (s : Kept K V P) → slot_in self.old slot ≡ Some s → (id : ℕ) → record_in self.new id ≡ update nat_eq (record_in self.old) s.id (outside (rec_of s)) id }
+        ensures slots { (s : Kept K V P) → slot_in self.old slot ≡ Some s → (n : ℕ)
+            → slot_in self.new n ≡ update nat_eq (slot_in self.old) slot (slot_outside s) n }
+        ensures records { (s : Kept K V P) → slot_in self.old slot ≡ Some s → (id : ℕ)
+            → record_in self.new id ≡ update nat_eq (record_in self.old) s.id (outside (rec_of s)) id }
         ensures room { HasRoom self.old → HasRoom self.new }
         ensures count { count_in self.new ≡ count_in self.old }
     {

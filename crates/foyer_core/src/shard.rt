@@ -24,12 +24,12 @@ mod keys;
 mod questions;
 
 /// One shard of a cache. Contracts see its `State`: maps from hashed keys to ids and from ids to records; and its
-/// `Opens`: the places of open fetches. `N` is what waits for an answer, and `R` what builds a fetch.
+/// `Opens`: the open fetches by their keys. `N` is what waits for an answer, and `R` what builds a fetch.
 #[derive(Drop)]
 pub struct Shard<E: Eviction, K: Key, V: Value, P: Properties, N: Drop, R: Drop, I: Finder<K>> {
     store: Store<E, K, V, P, I>,
     inflights: InflightManager<K, N, R>,
-    // a key that is in the index has no place
+    // a key that is in the index has no open fetch
     ghost apart: { Apart (store_state store).index (manager_opens inflights) },
 }
 

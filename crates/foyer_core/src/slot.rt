@@ -156,7 +156,8 @@ impl<K: Drop, V: Drop, P: Drop> Slot<K, V, P> {
         further: Further,
     ) -> Result<Vec<CoreEntry<K, V, P>>>
         requires { further.count + further.room < 2 ^ 64 }
-        ensures entries { IfOk result (λ es. es.items ≡ replicate further.count (record { number = number; id = self.now.id; kept = self.now.kept; source = source; left = true })) }
+        ensures entries { IfOk result (λ es. es.items ≡ replicate further.count
+            (record { number = number; id = self.now.id; kept = self.now.kept; source = source; left = true })) }
         ensures refused { IfErr result (λ e. e ≡ NoMemory) }
         ensures room { IfOk result (λ es. vec_len es + further.room ≤ vec_capacity es) }
     {

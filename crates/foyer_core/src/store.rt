@@ -40,7 +40,7 @@ pub struct Store<E: Eviction, K: Key, V: Value, P: Properties, I: Finder<K>> {
     number: u64,
     next: u64,
     limits: Limits,
-    ghost kept: { ∥ IsKept (meaning K.eq E.model P.hint_of P.phantom_of) (state number capacity limits (E.view eviction) (I.view index) records next) ∥₁ },
+    ghost sound: { ∥ IsKept (meaning K.eq E.model P.hint_of P.phantom_of) (state number capacity limits (E.view eviction) (I.view index) records next) ∥₁ },
     ghost stored: { IsStored (meaning K.eq E.model P.hint_of P.phantom_of) (E.at eviction) (I.view index) records },
     ghost weighed: { usage ≡ weight_of (E.model.order (E.view eviction)) },
     ghost counted: { entries ≡ length (E.model.order (E.view eviction)) },

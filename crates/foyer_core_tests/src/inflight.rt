@@ -23,7 +23,7 @@ fn join_and_take<K: Key, N: Drop, R: Drop>(
     requires { K.eq key equal.now ≡ true }
     ensures some { IfOk result (λ waiters. IsSome waiters) }
     ensures others { IfOk result (λ waiters. (q : ℕ × K) → same_key K.eq (hash, key) q ≡ false →
-        (opens_of fetches.new).places q ≡ (opens_of fetches.old).places q) }
+        (opens_of fetches.new).by_key q ≡ (opens_of fetches.old).by_key q) }
 {
     let _ = fetches.enqueue(hash, key, None, waiter, IDS)?;
     Ok(fetches.take(hash, equal, None))

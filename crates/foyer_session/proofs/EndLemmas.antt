@@ -13,7 +13,7 @@ use Rattle.foyer_core.specs.declared.record.Data.{Data}
 use Rattle.foyer_core.specs.Core.{Core, AtShard, shard_at, shard_of}
 use Rattle.foyer_core.specs.CoreFetches.{Completed, CompletesAt, EndsIn, PieceArrives, PieceCompletes, at_hash, is_of}
 use Rattle.foyer_core.specs.Fetching.{Arrives, ArrivesBack}
-use Rattle.foyer_core.specs.Inflight.{Opens, Place, closed, waiters_of}
+use Rattle.foyer_core.specs.Inflight.{Opens, OpenFetch, closed, waiters_of}
 use Rattle.foyer_core.specs.Pieces.{ReturnsBy, is_in, is_known, returning}
 use Rattle.foyer_core.specs.State.{AllData, Meaning, State, handles_in, is_phantom_record}
 use Rattle.foyer_core.specs.Steps.{newcomer}
@@ -83,7 +83,7 @@ module _ {K V P View C S W A N R : Type 0} (m : Meaning K P View C) (old : Core 
     lost_is = λ e. is;
   }
 
-  pub ends_answers : (p : Option (Place N R)) (reason : Reason) → EndsIn p m.same k reason f ended g →
+  pub ends_answers : (p : Option (OpenFetch N R)) (reason : Reason) → EndsIn p m.same k reason f ended g →
       Answering m.same k p f g ended
   ends_answers None reason h = lost_answers h.0 h.1
   ends_answers (Some o) reason h = record {
@@ -96,7 +96,7 @@ module _ {K V P View C S W A N R : Type 0} (m : Meaning K P View C) (old : Core 
 
   completes_answers :
       (arrives : State K V P View → Result (Option (List (Held K V P))) Reason → List (Event × Gone K V P) →
-      State K V P View → Type 0) (o : Place N R)
+      State K V P View → Type 0) (o : OpenFetch N R)
       → ((s t : State K V P View) → arrives s ended.outcome ended.leaves t →
       (length (entries_by ended.outcome) ≤ length o.tokens) × AreAlike (entries_by ended.outcome))
       → CompletesAt m arrives k o ended old f new g → Answering m.same k (Some o) f g ended
@@ -106,7 +106,7 @@ module _ {K V P View C S W A N R : Type 0} (m : Meaning K P View C) (old : Core 
 
   module _ (hash : K → ℕ) (weighs : K → V → ℕ → Type 0) (admits : K → V → Bool → Type 0) (properties : P → Bool → P)
       (source : Source) where
-    piece_answers : (b : Bool) (piece : Carried K V P) (o : Place N R) →
+    piece_answers : (b : Bool) (piece : Carried K V P) (o : OpenFetch N R) →
         PieceCompletes m b (weighs piece.kept.key piece.kept.value) (hash piece.kept.key) piece k o ended old f new g
         → Answering m.same k (Some o) f g ended
     piece_answers true piece o h =
@@ -117,7 +117,7 @@ module _ {K V P View C S W A N R : Type 0} (m : Meaning K P View C) (old : Core 
         piece (length o.tokens) (is_known s (hash piece.kept.key) piece) ended.outcome came) h
     piece_answers false piece o h = ends_answers (Some o) WrongKey h.0
 
-    pub completed_answers : (target : FetchTarget K V P) (p : Option (Place N R)) →
+    pub completed_answers : (target : FetchTarget K V P) (p : Option (OpenFetch N R)) →
         Completed m hash weighs admits properties source target k p ended old f new g → Answering m.same k p f g ended
     completed_answers target None h = lost_answers h.0 h.2
     completed_answers (Entry value own) (Some o) h =
@@ -136,7 +136,7 @@ module _ {K V P View C S W A N R : Type 0} (m : Meaning K P View C) (old : Core 
         piece_answers (is_of m old (hash piece.kept.key) piece k (shard_at old k.0)) piece o h
 
 -- who ends with a refusal gets no entry
-pub ends_none : {K V P N R : Type 0} (eq : K → K → Bool) (k : ℕ × K) (ended : Ending K V P N) (p : Option (Place N R))
+pub ends_none : {K V P N R : Type 0} (eq : K → K → Bool) (k : ℕ × K) (ended : Ending K V P N) (p : Option (OpenFetch N R))
     (reason : Reason) (f g : List (Opens K N R)) → EndsIn p eq k reason f ended g → entries_by ended.outcome ≡ []
 ends_none {K} {V} {P} {N} eq k ended None reason f g h = ap (λ (x : Ending K V P N). entries_by x.outcome) h.0
 ends_none {K} {V} {P} {N} eq k ended (Some o) reason f g h = ap (λ (x : Ending K V P N). entries_by x.outcome) h.0

@@ -8,7 +8,7 @@ use Rattle.foyer_core.specs.declared.record.Data.{Data}
 use Rattle.foyer_core.specs.Core.{Core, AtShard, shard_at, shard_of}
 use Rattle.foyer_core.specs.CoreFetches.{Completed, PieceArrives, PieceCompletes, is_of}
 use Rattle.foyer_core.specs.Fetching.{Arrives}
-use Rattle.foyer_core.specs.Inflight.{Opens, Place}
+use Rattle.foyer_core.specs.Inflight.{Opens, OpenFetch}
 use Rattle.foyer_core.specs.Pieces.{coming_under, is_known}
 use Rattle.foyer_core.specs.State.{AllData, Meaning, State, handles_in}
 use Rattle.foyer_core.specs.Steps.{newcomer}
@@ -45,7 +45,7 @@ module _ {K V P View C S W A N R : Type 0} (m : Meaning K P View C) (old : Core 
 
   module _ (hash : K → ℕ) (weighs : K → V → ℕ → Type 0) (admits : K → V → Bool → Type 0) (properties : P → Bool → P)
       (source : Source) where
-    piece_end : (b : Bool) (piece : Carried K V P) (o : Place N R) →
+    piece_end : (b : Bool) (piece : Carried K V P) (o : OpenFetch N R) →
         is_of m old (hash piece.kept.key) piece k (shard_at old k.0) ≡ b
         → PieceCompletes m b (weighs piece.kept.key piece.kept.value) (hash piece.kept.key) piece k o ended old f new
         g → OwnsHandles new (handles ++ map given (entries_by ended.outcome))
@@ -60,7 +60,7 @@ module _ {K V P View C S W A N R : Type 0} (m : Meaning K P View C) (old : Core 
     piece_end false piece o is h = same_owns old new handles (entries_by ended.outcome)
         (ap (λ (x : Ending K V P N). entries_by x.outcome) h.0.0) h.1 owns
 
-    pub completed_owns : (target : FetchTarget K V P) (p : Option (Place N R)) →
+    pub completed_owns : (target : FetchTarget K V P) (p : Option (OpenFetch N R)) →
         Completed m hash weighs admits properties source target k p ended old f new g →
         OwnsHandles new (handles ++ map given (entries_by ended.outcome))
     completed_owns target None h = same_owns old new handles (entries_by ended.outcome)

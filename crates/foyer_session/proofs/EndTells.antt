@@ -3,8 +3,8 @@ use Rattle.std.proofs.Common.{◌≡◌, ℕ, ◌%◌, ◌+◌, ◌≤◌, ◌==
 use Rattle.std.proofs.Math.Logic.{∥∥₁_map}
 use Rattle.std.specs.Prelude.{IsSomeAnd, option_and_then, slice_get, slice_set}
 use Rattle.foyer_policy.specs.declared.types.Event.{Event}
-use Rattle.foyer_core.specs.CoreFetches.{at_hash, place_in, replaced}
-use Rattle.foyer_core.specs.Inflight.{AreOpen, Opens, Place, after_nothing, asked, closed, waiters_of}
+use Rattle.foyer_core.specs.CoreFetches.{at_hash, open_in, replaced}
+use Rattle.foyer_core.specs.Inflight.{AreOpen, Opens, OpenFetch, after_nothing, asked, closed, waiters_of}
 use Rattle.foyer_core.specs.Values.{Gone, Held}
 use Rattle.foyer_core.specs.Waited.{Ending, lost}
 use Rattle.foyer_session.specs.declared.command.Answer.{Answer}
@@ -38,7 +38,7 @@ tells_end {K} {V} {P} old new ended answer leaves answered gone lost_is left han
       )
 
 module _ {N R : Type 0} where
-  pub asked_some : (fetch : ℕ) (o : Option (Place N R)) (p : Place N R) → asked (Some fetch) o ≡ Some p → o ≡ Some p
+  pub asked_some : (fetch : ℕ) (o : Option (OpenFetch N R)) (p : OpenFetch N R) → asked (Some fetch) o ≡ Some p → o ≡ Some p
   asked_some fetch None p h = absurd cc
   asked_some fetch (Some o) p h = go (o.fetch == fetch) h where
     go : (b : Bool) → cond b (Some o) None ≡ Some p → Some o ≡ Some p
@@ -48,15 +48,15 @@ module _ {N R : Type 0} where
 module _ {K N R : Type 0} (eq : K → K → Bool) (f : List (Opens K N R))
     (sound : (i : ℕ) (x : Opens K N R) → slice_get f i ≡ Some x → AreOpen eq x) (k : ℕ × K) (fetch count : ℕ) where
   -- no more wait for an open fetch than wait
-  pub asked_counted : (p : Option (Place N R)) → asked (Some fetch) (place_in f k) ≡ p → ∥ AtMost f count ∥₁ →
+  pub asked_counted : (p : Option (OpenFetch N R)) → asked (Some fetch) (open_in f k) ≡ p → ∥ AtMost f count ∥₁ →
       length (waiters_of p) ≤ count
   asked_counted None is most = omega arith
   asked_counted (Some o) is most =
-      subst (λ (x : Option (Place N R)). length (waiters_of x) ≤ count) (asked_some fetch (place_in f k) o is)
+      subst (λ (x : Option (OpenFetch N R)). length (waiters_of x) ≤ count) (asked_some fetch (open_in f k) o is)
       (waiting_counted eq f sound k k.0 refl count most)
 
   -- and so many less once it has ended
-  pub ended_waiting : (p : Option (Place N R)) → asked (Some fetch) (place_in f k) ≡ p →
+  pub ended_waiting : (p : Option (OpenFetch N R)) → asked (Some fetch) (open_in f k) ≡ p →
       (g : List (Opens K N R)) (left : ℕ) → ClosedBy p eq k f g → left + length (waiters_of p) ≡ count →
       ∥ AtMost f count ∥₁ → ∥ AtMost g left ∥₁
   ended_waiting None is g left closes less most =
@@ -64,11 +64,11 @@ module _ {K N R : Type 0} (eq : K → K → Bool) (f : List (Opens K N R))
       subst (λ (n : ℕ). ∥ AtMost g n ∥₁) same (still_waiting f g count closes most)
   ended_waiting (Some o) is g left closes less most =
       closed_waiting eq f sound k k.0 refl count g left closes
-      (ap (λ (x : Option (Place N R)). left + length (waiters_of x)) (asked_some fetch (place_in f k) o is)
+      (ap (λ (x : Option (OpenFetch N R)). left + length (waiters_of x)) (asked_some fetch (open_in f k) o is)
       ∙ less) most
 
   -- a fetch goes on with a builder that was kept: who waited still does
-  pub taken_waiting : (o : Place N R) (r : R) → asked (Some fetch) (place_in f k) ≡ Some o → o.later ≡ Some r →
+  pub taken_waiting : (o : OpenFetch N R) (r : R) → asked (Some fetch) (open_in f k) ≡ Some o → o.later ≡ Some r →
       (g : List (Opens K N R)) → g ≡ at_hash (λ q. after_nothing eq q k) f k.0 → ∥ AtMost f count ∥₁ →
       ∥ AtMost g count ∥₁
   taken_waiting o r is later g goes most = rw goes (go (slice_get f (k.0 % length f)) refl) where
@@ -76,12 +76,12 @@ module _ {K N R : Type 0} (eq : K → K → Bool) (f : List (Opens K N R))
         ∥ AtMost (replaced f (k.0 % length f) (λ q. after_nothing eq q k) x) count ∥₁
     go None there = most
     go (Some x) there =
-        let place : x.places k ≡ Some o = sym (ap (option_and_then (λ (y : Opens K N R). y.places k)) there)
-        ∙ asked_some fetch (place_in f k) o is in
-        ∥∥₁_map most (λ y. taken_waits f (k.0 % length f) x there eq k refl count o r place later y)
+        let opened : x.by_key k ≡ Some o = sym (ap (option_and_then (λ (y : Opens K N R). y.by_key k)) there)
+        ∙ asked_some fetch (open_in f k) o is in
+        ∥∥₁_map most (λ y. taken_waits f (k.0 % length f) x there eq k refl count o r opened later y)
 
   -- a fetch that found nothing ends where no builder is kept
-  pub nothing_waiting : (o : Place N R) → asked (Some fetch) (place_in f k) ≡ Some o → o.later ≡ None →
+  pub nothing_waiting : (o : OpenFetch N R) → asked (Some fetch) (open_in f k) ≡ Some o → o.later ≡ None →
       (g : List (Opens K N R)) (left : ℕ) → g ≡ at_hash (λ q. after_nothing eq q k) f k.0 → left + length o.tokens
       ≡ count
       → ∥ AtMost f count ∥₁ → ∥ AtMost g left ∥₁
@@ -91,10 +91,10 @@ module _ {K N R : Type 0} (eq : K → K → Bool) (f : List (Opens K N R))
             replaced f (k.0 % length f) (λ q. after_nothing eq q k) x ≡ replaced f (k.0 % length f) (λ q. closed eq q k) x
         go None there = refl
         go (Some x) there =
-            let place : x.places k ≡ Some o = sym (ap (option_and_then (λ (y : Opens K N R). y.places k)) there)
-            ∙ asked_some fetch (place_in f k) o is in
+            let opened : x.by_key k ≡ Some o = sym (ap (option_and_then (λ (y : Opens K N R). y.by_key k)) there)
+            ∙ asked_some fetch (open_in f k) o is in
             ap (λ (y : Opens K N R). slice_set f (k.0 % length f) y)
-            (nothing_closes f (k.0 % length f) x there eq k refl o place later)
+            (nothing_closes f (k.0 % length f) x there eq k refl o opened later)
 
 -- what there is, where there is something so
 pub some_so : {A : Type 0} {P : A → Type 0} (o : Option A) → IsSomeAnd o P → (x : A) × (o ≡ Some x) × P x

@@ -12,7 +12,7 @@ use Rattle.foyer_core.specs.Core.{Core, shard_at}
 use Rattle.foyer_core.specs.CoreFetches.{Completed, CompletesAt, EndsIn, PieceCompletes, is_of}
 use Rattle.foyer_core.specs.FetchLaws.{IsToldByEnd}
 use Rattle.foyer_core.specs.Fetching.{Arrives}
-use Rattle.foyer_core.specs.Inflight.{Opens, Place}
+use Rattle.foyer_core.specs.Inflight.{Opens, OpenFetch}
 use Rattle.foyer_core.specs.State.{Meaning, coming_in}
 use Rattle.foyer_core.specs.Steps.{newcomer}
 use Rattle.foyer_core.specs.Waited.{Ending}
@@ -41,7 +41,7 @@ module _ {K V P View C S W A N R : Type 0} (m : Meaning K P View C) (laws : IsEq
 
   -- The index is told by the leaves and the entries of the end of a fetch, and the hash builder stays.
   pub completed_told : (weighs : K → V → ℕ → Type 0) (admits : K → V → Bool → Type 0) (properties : P → Bool → P)
-      (target : FetchTarget K V P) (p : Option (Place N R)) → ((o : Place N R) → p ≡ Some o → 0 < length o.tokens)
+      (target : FetchTarget K V P) (p : Option (OpenFetch N R)) → ((o : OpenFetch N R) → p ≡ Some o → 0 < length o.tokens)
       → Completed m own weighs admits properties source target (own key, key) p ended old f new g →
       (new.hash_builder ≡ old.hash_builder) × IsToldByEnd m.same own m.phantom old ended.leaves ended.outcome new
   completed_told weighs admits properties target None waited h = (
@@ -84,7 +84,7 @@ module _ {K V P View C S W A N R : Type 0} (m : Meaning K P View C) (laws : IsEq
     (old new : Core K V P View S W A) (sound : AreSound m laws good hash equal (length old.shards) old.shards)
     (k : ℕ × K) where
   -- nothing is told by an end with a refusal
-  pub ends_told : (p : Option (Place N R)) (reason : Reason) (f g : List (Opens K N R)) (ended : Ending K V P N) →
+  pub ends_told : (p : Option (OpenFetch N R)) (reason : Reason) (f g : List (Opens K N R)) (ended : Ending K V P N) →
       EndsIn p m.same k reason f ended g → new ≡ old →
       IsToldByEnd m.same hash m.phantom old ended.leaves ended.outcome new
   ends_told None reason f g ended h same = subst

@@ -10,8 +10,8 @@ use Rattle.foyer_policy.specs.declared.types.Source.{Source}
 use Rattle.foyer_policy.specs.declared.types.Source.TheVariants.{Memory}
 use Rattle.foyer_core.specs.declared.outcome.FetchTarget.{FetchTarget}
 use Rattle.foyer_core.specs.declared.outcome.FetchTarget.TheVariants.{Entry as ValueTarget, Piece as PieceTarget}
-use Rattle.foyer_core.specs.CoreFetches.{Completed, EndsIn, place_in}
-use Rattle.foyer_core.specs.Inflight.{Place, waiters_of}
+use Rattle.foyer_core.specs.CoreFetches.{Completed, EndsIn, open_in}
+use Rattle.foyer_core.specs.Inflight.{OpenFetch, waiters_of}
 use Rattle.foyer_core.specs.Values.{Carried, Gone, Held}
 use Rattle.foyer_core.specs.Waited.{Ending}
 use Rattle.foyer_session.specs.declared.command.Answer.{Answer}
@@ -42,7 +42,7 @@ module _ {K V P View C S W A : Type 0} (Q : Type 0) (t : Terms K V P View C S W 
   told_end : (command : Command K V P Q C) (k : K) (fetch : ℕ) (ended : Ending K V P (Unit {0}))
       (answer : Answer K V P) (leaves : List (Event × Gone K V P))
       → ended.waiters ≡ waiters_of (open_at t old k fetch)
-      → ((o : Place (Unit {0}) ℕ) → open_at t old k fetch ≡ Some o → Right command k (length o.tokens) ended.outcome)
+      → ((o : OpenFetch (Unit {0}) ℕ) → open_at t old k fetch ≡ Some o → Right command k (length o.tokens) ended.outcome)
       → TellsEnd old ended answer leaves new → AllIs command k answer
   told_end command k fetch ended (Answered answers told) leaves waited right h =
       open_all Q t laws old new command k fetch ended answers told (open_at t old k fetch) refl waited right h.2 h.3 h.4
@@ -51,7 +51,7 @@ module _ {K V P View C S W A : Type 0} (Q : Type 0) (t : Terms K V P View C S W 
 
   complete_with : (end : End V P) (k : K) (fetch : ℕ) (source : Source) (target : FetchTarget K V P)
       (answer : Answer K V P) (leaves : List (Event × Gone K V P))
-      → ((ended : Ending K V P (Unit {0})) (o : Place (Unit {0}) ℕ)
+      → ((ended : Ending K V P (Unit {0})) (o : OpenFetch (Unit {0}) ℕ)
       → Completed t.meaning (hash_in t old) (t.weighs old.core.weighter) (t.admits old.core.filter)
       (λ p admitted. t.incoming admitted p) source target (hashed t old k) (Some o) ended old.core old.fetches
       new.core new.fetches
@@ -64,7 +64,7 @@ module _ {K V P View C S W A : Type 0} (Q : Type 0) (t : Terms K V P View C S W 
       (open_at t old k fetch) h.1 in
       told_end (Complete k fetch end) k fetch h.0 answer leaves ends.0.waiters
       (λ o is. right h.0 o
-      (subst (λ (p : Option (Place (Unit {0}) ℕ)). Completed t.meaning (hash_in t old) (t.weighs old.core.weighter)
+      (subst (λ (p : Option (OpenFetch (Unit {0}) ℕ)). Completed t.meaning (hash_in t old) (t.weighs old.core.weighter)
       (t.admits old.core.filter) (λ p admitted. t.incoming admitted p) source target
       (hashed t old k) p h.0 old.core old.fetches new.core new.fetches) is h.1))
       h.2
@@ -100,7 +100,7 @@ module _ {K V P View C S W A : Type 0} (Q : Type 0) (t : Terms K V P View C S W 
       complete_piece k fetch n (slice_get old.pieces n) answer leaves h
 
   ended_right : (command : Command K V P Q C) (k : K) (reason : Reason) → MayRefuse command reason
-      → (ended : Ending K V P (Unit {0})) (o : Place (Unit {0}) ℕ) →
+      → (ended : Ending K V P (Unit {0})) (o : OpenFetch (Unit {0}) ℕ) →
       EndsIn (Some o) t.meaning.same (hashed t old k) reason old.fetches ended new.fetches
       → Right command k (length o.tokens) ended.outcome
   ended_right command k reason may ended o h =
@@ -114,12 +114,12 @@ module _ {K V P View C S W A : Type 0} (Q : Type 0) (t : Terms K V P View C S W 
       (ends_place t.meaning.same (hashed t old k) old.fetches new.fetches h.0 (open_at t old k fetch) reason
       h.1).waiters
       (λ o is. ended_right command k reason may h.0 o
-      (subst (λ (p : Option (Place (Unit {0}) ℕ)). EndsIn p t.meaning.same (hashed t old k) reason old.fetches h.0
+      (subst (λ (p : Option (OpenFetch (Unit {0}) ℕ)). EndsIn p t.meaning.same (hashed t old k) reason old.fetches h.0
       new.fetches) is h.1)) h.3
 
   -- nothing was found
   nothing_told : (command : Command K V P Q C) (k : K) (fetch : ℕ) (outcome : Option Reason)
-      (answers : List (ℕ × Result (Option ℕ) Reason)) (told : Option (Gone K V P)) (p : Option (Place (Unit {0}) ℕ)) →
+      (answers : List (ℕ × Result (Option ℕ) Reason)) (told : Option (Gone K V P)) (p : Option (OpenFetch (Unit {0}) ℕ)) →
       open_at t old k fetch ≡ p
       → MayGet t.meaning.same (IsHandleOf new.handles) command told k (nothing_by outcome) →
       IsSomeAnd p (λ o. (o.later ≡ None) × (answers ≡ each_gets (nothing_by outcome) (numbers_of o.tokens)))
@@ -127,8 +127,8 @@ module _ {K V P View C S W A : Type 0} (Q : Type 0) (t : Terms K V P View C S W 
   nothing_told command k fetch outcome answers told None is may h = absurd h
   nothing_told command k fetch outcome answers told (Some o) is may h =
       all_told Q t laws old new command told (hashed t old k) (nothing_by outcome) answers may
-      (h.1 ∙ ap (λ (x : Option (Place (Unit {0}) ℕ)). each_gets (nothing_by outcome) (numbers_of (waiters_of x)))
-      (sym (asked_some fetch (place_in old.fetches (hashed t old k)) o is)))
+      (h.1 ∙ ap (λ (x : Option (OpenFetch (Unit {0}) ℕ)). each_gets (nothing_by outcome) (numbers_of (waiters_of x)))
+      (sym (asked_some fetch (open_in old.fetches (hashed t old k)) o is)))
 
   fetch_or_take_answered : (command : Command K V P Q C) (k : K) (fetch : ℕ) (outcome : Option Reason)
       → ((told : Option (Gone K V P)) → MayGet t.meaning.same (IsHandleOf new.handles) command told k

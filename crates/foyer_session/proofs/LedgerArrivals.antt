@@ -9,7 +9,7 @@ use Rattle.foyer_core.specs.declared.record.Data.{Data}
 use Rattle.foyer_core.specs.Core.{Core, shard_at, shard_of}
 use Rattle.foyer_core.specs.CoreFetches.{Completed, PieceArrives, PieceCompletes, is_of}
 use Rattle.foyer_core.specs.Fetching.{Arrives}
-use Rattle.foyer_core.specs.Inflight.{Opens, Place}
+use Rattle.foyer_core.specs.Inflight.{Opens, OpenFetch}
 use Rattle.foyer_core.specs.Pieces.{PieceBy, RefusesReturnBy, coming_under, is_in, is_known, returning}
 use Rattle.foyer_core.specs.State.{Meaning, State, is_phantom_record}
 use Rattle.foyer_core.specs.Steps.{RefusesBy, RefusesHandles, newcomer}
@@ -120,7 +120,7 @@ wrong_too of_key n (Err reason) h = inl h
 module _ {K V P View C S W A N R : Type 0} (m : Meaning K P View C) (old new : Core K V P View S W A)
     (f g : List (Opens K N R)) (k : ℕ × K) (ended : Ending K V P N)
     (hash : K → ℕ) (weighs : K → V → ℕ → Type 0) (admits : K → V → Bool → Type 0) (properties : P → Bool → P)
-    (source : Source) (o : Place N R) where
+    (source : Source) (o : OpenFetch N R) where
   pub value_all : (v : V) (p : P) → Completed m hash weighs admits properties source (Entry v p) k (Some o) ended old
       f new g
       → AllAre (λ x. m.same k.1 x ≡ true) IsRefusal (length o.tokens) ended.outcome

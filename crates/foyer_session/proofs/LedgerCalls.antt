@@ -20,7 +20,7 @@ use Rattle.foyer_core.specs.Indexer.{same_key}
 use Rattle.foyer_core.specs.Inflight.{Opens}
 use Rattle.foyer_core.specs.Pieces.{coming_under}
 use Rattle.foyer_core.specs.Shards.{opens_of}
-use Rattle.foyer_core.proofs.InflightLemmas.{places_alike}
+use Rattle.foyer_core.proofs.InflightLemmas.{opens_alike}
 use Rattle.foyer_session.specs.declared.session.Session.{Session}
 use Rattle.foyer_session.specs.Sessions.{session_of, terms_of}
 use Rattle.foyer_session.specs.declared.command.Command.{Command}
@@ -39,19 +39,19 @@ module _ {E K V P S W A N R I C X : Type 0} {e : EvictionGhosts E C X} {e1 : Clo
     {e3 : _} {e4 : DefaultGhosts X}
     {q : EqGhosts K} {h : HashGhosts K} {c : CloneGhosts K} {p : PropertiesGhosts P} {d : DefaultGhosts P}
     {b : HashBuilderGhosts S} {w : WeighterGhosts W K V} {f : FilterGhosts A K V} {i : FinderGhosts I K} where
-  -- equal keys have one place in the open fetches of a shard
+  -- equal keys have one fetch in the open fetches of a shard
   pub alike_at : IsEquivalence q.eq → (core : CacheCore E K V P S W A N R I C X e e1 e2 e3 e4 q h c p d b w f i)
       (n : ℕ) (o : Opens K N R)
       → slice_get (fetches_of core) n ≡ Some o
-      → (x y : ℕ × K) → same_key q.eq x y ≡ true → o.places x ≡ o.places y
+      → (x y : ℕ × K) → same_key q.eq x y ≡ true → o.by_key x ≡ o.by_key y
   alike_at laws core n o there x y same = alike_in (slice_get core.shards.items n)
       (sym (slice_get-map opens_of core.shards.items n) ∙ there)
     where
       alike_in : (found : Option (Shard E K V P N R I C X e e1 e2 e3 e4 q h c p d i)) → option_map opens_of found
-          ≡ Some o → o.places x ≡ o.places y
+          ≡ Some o → o.by_key x ≡ o.by_key y
       alike_in None is = absurd cc
       alike_in (Some shard) is = (let one : opens_of shard ≡ o = cc in subst
-          (λ (g : Opens K N R). g.places x ≡ g.places y) one (places_alike laws shard.inflights x y same))
+          (λ (g : Opens K N R). g.by_key x ≡ g.by_key y) one (opens_alike laws shard.inflights x y same))
 
 module _ {E K V P S W A I C X : Type 0} {e : EvictionGhosts E C X} {e1 : CloneGhosts C} {e2 : DefaultGhosts C}
     {e3 : _} {e4 : DefaultGhosts X}

@@ -1,4 +1,4 @@
--- Whom the end of a fetch answers, and which place it closes.
+-- Whom the end of a fetch answers, and which fetch it closes.
 use Rattle.std.proofs.Common.{◌≡◌, ℕ, Bool, true, false, List, [], ◌∷◌, Option, Some, None, Result, Ok, Err, refl, ap}
 use Rattle.foyer_policy.specs.declared.error.Reason.{Reason}
 use Rattle.foyer_policy.specs.declared.types.Source.{Source}
@@ -6,7 +6,7 @@ use Rattle.foyer_core.specs.declared.outcome.FetchTarget.{FetchTarget}
 use Rattle.foyer_core.specs.declared.outcome.FetchTarget.TheVariants.{Entry, Piece as PieceOf}
 use Rattle.foyer_core.specs.Core.{Core, shard_at}
 use Rattle.foyer_core.specs.CoreFetches.{Completed, EndsIn, PieceCompletes, is_of}
-use Rattle.foyer_core.specs.Inflight.{Opens, Place, waiters_of}
+use Rattle.foyer_core.specs.Inflight.{Opens, OpenFetch, waiters_of}
 use Rattle.foyer_core.specs.State.{Meaning}
 use Rattle.foyer_core.specs.Values.{Carried, Held}
 use Rattle.foyer_core.specs.Waited.{Ending}
@@ -30,18 +30,18 @@ who_got_all next (Ok (Some entries)) tokens = who_got_handles next tokens
 who_got_all next (Ok None) tokens = who_got_each (Ok None) tokens
 who_got_all next (Err reason) tokens = who_got_each (Err reason) tokens
 
--- Those who waited in this place are answered, and it is closed. The end of what is not open is not found.
-pub record EndsPlace {K V P N R : Type 0} (eq : K → K → Bool) (k : ℕ × K) (p : Option (Place N R))
+-- Those who waited for this fetch are answered, and it is closed. The end of what is not open is not found.
+pub record EndsPlace {K V P N R : Type 0} (eq : K → K → Bool) (k : ℕ × K) (p : Option (OpenFetch N R))
     (f g : List (Opens K N R)) (ended : Ending K V P N) : Type 0 where
   pub waiters : ended.waiters ≡ waiters_of p
   pub closes : ClosedBy p eq k f g
-  pub found : (o : Place N R) → p ≡ Some o → ended.found ≡ true
+  pub found : (o : OpenFetch N R) → p ≡ Some o → ended.found ≡ true
 
 module _ {K V P N R : Type 0} (eq : K → K → Bool) (k : ℕ × K) (f g : List (Opens K N R)) (ended : Ending K V P N) where
-  none_some : (o : Place N R) → ◌≡◌ {A = Option (Place N R)} None (Some o) → ended.found ≡ true
+  none_some : (o : OpenFetch N R) → ◌≡◌ {A = Option (OpenFetch N R)} None (Some o) → ended.found ≡ true
   none_some o h = absurd cc
 
-  pub ends_place : (p : Option (Place N R)) (reason : Reason) → EndsIn p eq k reason f ended g →
+  pub ends_place : (p : Option (OpenFetch N R)) (reason : Reason) → EndsIn p eq k reason f ended g →
       EndsPlace eq k p f g ended
   ends_place None reason h =
       record { waiters = ap (λ (x : Ending K V P N). x.waiters) h.0; closes = h.1; found = none_some }
@@ -57,17 +57,17 @@ module _ {K V P View C S W A N R : Type 0} (m : Meaning K P View C) (old new : C
     (f g : List (Opens K N R)) (k : ℕ × K) (ended : Ending K V P N)
     (hash : K → ℕ) (weighs : K → V → ℕ → Type 0) (admits : K → V → Bool → Type 0) (properties : P → Bool → P)
     (source : Source) where
-  none_found : (o : Place N R) → ◌≡◌ {A = Option (Place N R)} None (Some o) → ended.found ≡ true
+  none_found : (o : OpenFetch N R) → ◌≡◌ {A = Option (OpenFetch N R)} None (Some o) → ended.found ≡ true
   none_found o h = absurd cc
 
-  piece_place : (b : Bool) (piece : Carried K V P) (o : Place N R)
+  piece_place : (b : Bool) (piece : Carried K V P) (o : OpenFetch N R)
       → PieceCompletes m b (weighs piece.kept.key piece.kept.value) (hash piece.kept.key) piece k o ended old f new g
       → EndsPlace m.same k (Some o) f g ended × StaysBuilt old new
   piece_place true piece o h =
       (record { waiters = h.waiters; closes = h.closes; found = λ p is. h.found }, shard_built old new _ k.0 h.arrived)
   piece_place false piece o h = (ends_place m.same k f g ended (Some o) _ h.0, same_built old new h.1)
 
-  pub completed_place : (target : FetchTarget K V P) (p : Option (Place N R)) →
+  pub completed_place : (target : FetchTarget K V P) (p : Option (OpenFetch N R)) →
       Completed m hash weighs admits properties source target k p ended old f new g
       → EndsPlace m.same k p f g ended × StaysBuilt old new
   completed_place target None h = (

@@ -4,9 +4,9 @@ use Rattle.std.proofs.Math.Logic.{∥∥₁_elim}
 use Rattle.std.proofs.Props.{props}
 use Rattle.std.specs.Prelude.{slice_get, slice_set, option_and_then, is_some}
 use Rattle.std.specs.Cmp.{IsEquivalence}
-use Rattle.foyer_core.specs.CoreFetches.{at_hash, place_in, replaced}
+use Rattle.foyer_core.specs.CoreFetches.{at_hash, open_in, replaced}
 use Rattle.foyer_core.specs.Indexer.{same_key}
-use Rattle.foyer_core.specs.Inflight.{AreOpen, Opens, Place, after_enqueue, after_nothing, closed, waiters_of}
+use Rattle.foyer_core.specs.Inflight.{AreOpen, Opens, OpenFetch, after_enqueue, after_nothing, closed, waiters_of}
 use Rattle.foyer_session.specs.Ledger.{IsEven, IsWaiting, Settles, next_token_in, of_shard}
 use Rattle.foyer_session.specs.Tokens.{numbers_of}
 use Rattle.foyer_session.specs.Waits.{WaitsIn, times}
@@ -86,7 +86,7 @@ module _ {K N R : Type 0} where
 module _ {K N R : Type 0} (eq : K → K → Bool) (fetches : List (Opens K N R))
     (sound : (i : ℕ) (f : Opens K N R) → slice_get fetches i ≡ Some f → AreOpen eq f)
     (alike : (i : ℕ) (f : Opens K N R) → slice_get fetches i ≡ Some f → (p q : ℕ × K) → same_key eq p q ≡ true →
-    f.places p ≡ f.places q) where
+    f.by_key p ≡ f.by_key q) where
   known : (shard token : ℕ) → WaitsIn fetches shard token → token < next_token_in fetches shard
   known = all_known eq fetches sound
 
@@ -110,37 +110,37 @@ module _ {K N R : Type 0} (eq : K → K → Bool) (fetches : List (Opens K N R))
     abbrev shard : ℕ
     shard = hash % length fetches
 
-    place_of : (o : Option (Opens K N R)) → slice_get fetches shard ≡ o → place_in fetches k
-        ≡ option_and_then (λ (g : Opens K N R). g.places k) o
-    place_of o is = ap (λ (j : ℕ). option_and_then (λ (g : Opens K N R). g.places k) (slice_get fetches j)) (sym same)
-        ∙ ap (option_and_then (λ (g : Opens K N R). g.places k)) is
+    place_of : (o : Option (Opens K N R)) → slice_get fetches shard ≡ o → open_in fetches k
+        ≡ option_and_then (λ (g : Opens K N R). g.by_key k) o
+    place_of o is = ap (λ (j : ℕ). option_and_then (λ (g : Opens K N R). g.by_key k) (slice_get fetches j)) (sym same)
+        ∙ ap (option_and_then (λ (g : Opens K N R). g.by_key k)) is
 
-    -- its place is closed
+    -- its fetch is closed
     closed_by : (o : Option (Opens K N R)) → slice_get fetches shard ≡ o
         → Settles fetches (replaced fetches shard (λ f. closed eq f k) o) []
-        (of_shard shard (numbers_of (waiters_of (place_in fetches k))))
+        (of_shard shard (numbers_of (waiters_of (open_in fetches k))))
     closed_by None is = subst
-        (λ (p : Option (Place N R)). Settles fetches fetches [] (of_shard shard (numbers_of (waiters_of p))))
+        (λ (p : Option (OpenFetch N R)). Settles fetches fetches [] (of_shard shard (numbers_of (waiters_of p))))
         (sym (place_of None is)) (same_settled fetches refl)
     closed_by (Some f) is =
-        subst (λ (p : Option (Place N R)). Settles fetches (slice_set fetches shard (closed eq f k)) []
+        subst (λ (p : Option (OpenFetch N R)). Settles fetches (slice_set fetches shard (closed eq f k)) []
         (of_shard shard (numbers_of (waiters_of p)))) (sym (place_of (Some f) is))
         (closed_settled eq fetches known shard f is (sound shard f is) (alike shard f is) k (sym same))
 
     pub closed_at : (new : List (Opens K N R)) → new ≡ at_hash (λ f. closed eq f k) fetches hash
-        → Settles fetches new [] (of_shard shard (numbers_of (waiters_of (place_in fetches k))))
+        → Settles fetches new [] (of_shard shard (numbers_of (waiters_of (open_in fetches k))))
     closed_at new is = subst
         (λ (g : List (Opens K N R)). Settles fetches g []
-        (of_shard shard (numbers_of (waiters_of (place_in fetches k))))) (sym is)
+        (of_shard shard (numbers_of (waiters_of (open_in fetches k))))) (sym is)
         (closed_by (slice_get fetches shard) refl)
 
-    module _ (o : Place N R) (placed : place_in fetches k ≡ Some o) where
+    module _ (o : OpenFetch N R) (is_open : open_in fetches k ≡ Some o) where
       -- a builder is taken
       taken_by : is_some o.later ≡ true → (x : Option (Opens K N R)) → slice_get fetches shard ≡ x
           → Settles fetches (replaced fetches shard (λ f. after_nothing eq f k) x) [] []
       taken_by later None is = same_settled fetches refl
       taken_by later (Some f) is = taken_settled eq fetches known shard f is (sound shard f is) (alike shard f is) k
-          (sym same) o (sym (place_of (Some f) is) ∙ placed) later
+          (sym same) o (sym (place_of (Some f) is) ∙ is_open) later
 
       pub taken_at : (new : List (Opens K N R)) → is_some o.later ≡ true → new
           ≡ at_hash (λ f. after_nothing eq f k) fetches hash → Settles fetches new [] []
@@ -154,11 +154,11 @@ module _ {K N R : Type 0} (eq : K → K → Bool) (fetches : List (Opens K N R))
       nothing_by later (Some f) is =
           ap (slice_set fetches shard)
           (nothing_closed eq fetches known shard f is (sound shard f is) (alike shard f is) k (sym same) o
-          (sym (place_of (Some f) is) ∙ placed) later)
+          (sym (place_of (Some f) is) ∙ is_open) later)
 
       pub nothing_at : (new : List (Opens K N R)) → o.later ≡ None → new
           ≡ at_hash (λ f. after_nothing eq f k) fetches hash
           → Settles fetches new [] (of_shard shard (numbers_of o.tokens))
       nothing_at new later is =
-          subst (λ (p : Option (Place N R)). Settles fetches new [] (of_shard shard (numbers_of (waiters_of p))))
-          placed (closed_at new (is ∙ nothing_by later (slice_get fetches shard) refl))
+          subst (λ (p : Option (OpenFetch N R)). Settles fetches new [] (of_shard shard (numbers_of (waiters_of p))))
+          is_open (closed_at new (is ∙ nothing_by later (slice_get fetches shard) refl))

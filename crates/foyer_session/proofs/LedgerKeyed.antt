@@ -10,7 +10,7 @@ use Rattle.foyer_core.specs.declared.outcome.FetchTarget.{FetchTarget}
 use Rattle.foyer_core.specs.declared.outcome.FetchTarget.TheVariants.{Entry as ValueTarget, Piece as PieceTarget}
 use Rattle.foyer_core.specs.Core.{shard_of}
 use Rattle.foyer_core.specs.Indexer.{same_key}
-use Rattle.foyer_core.specs.Inflight.{Opens, Place, after_enqueue}
+use Rattle.foyer_core.specs.Inflight.{Opens, OpenFetch, after_enqueue}
 use Rattle.foyer_core.specs.State.{key_of}
 use Rattle.foyer_core.specs.Values.{Carried, Gone}
 use Rattle.foyer_core.specs.Waited.{Ending}
@@ -30,7 +30,7 @@ use Rattle.foyer_session.proofs.LedgerSteps.{lead_token, wait_token}
 
 module _ {K V P View C S W A : Type 0} (t : Terms K V P View C S W A) (old new : SessionState K V P View S W A)
     (alike : (i : ℕ) (f : Opens K (Unit {0}) ℕ) → slice_get old.fetches i ≡ Some f → (p q : ℕ × K) →
-    same_key t.meaning.same p q ≡ true → f.places p ≡ f.places q) where
+    same_key t.meaning.same p q ≡ true → f.by_key p ≡ f.by_key q) where
   abbrev pub KeyedBy : Option (ℕ × K) → Answer K V P → Type 0
   KeyedBy key answer = Keyed t.meaning.same old.fetches new.fetches (of_key key (issues answer))
 
@@ -66,13 +66,13 @@ module _ {K V P View C S W A : Type 0} (t : Terms K V P View C S W A) (old new :
       let at = h.1 in
       let i = shard_of old.core (hash_in t old k) in
       one_keyed k i at.open_before at.open_there later (at.open_rest ∙ ap (slice_set old.fetches i) at.stepped.4) token
-      (lead_token (at.open_before.places (hashed t old k)) fetch token at.open_before.next_fetch
+      (lead_token (at.open_before.by_key (hashed t old k)) fetch token at.open_before.next_fetch
       at.open_before.next_token h.0 later at.stepped.2)
   get_or_fetch_keyed k later (Wait token) leaves h =
       let at = h.0 in
       let i = shard_of old.core (hash_in t old k) in
       one_keyed k i at.open_before at.open_there later (at.open_rest ∙ ap (slice_set old.fetches i) at.stepped.4) token
-      (wait_token (at.open_before.places (hashed t old k)) token at.open_before.next_fetch at.open_before.next_token
+      (wait_token (at.open_before.by_key (hashed t old k)) token at.open_before.next_fetch at.open_before.next_token
       later at.stepped.2)
   get_or_fetch_keyed k later (Refused reason) leaves h = unchanged h.2
   get_or_fetch_keyed k later _ leaves h = absurd h
@@ -90,7 +90,7 @@ module _ {K V P View C S W A : Type 0} (t : Terms K V P View C S W A) (old new :
   insert_piece_keyed n _ leaves h = absurd h
 
   -- a fetch ends
-  closes_keyed : (k : K) (p : Option (Place (Unit {0}) ℕ)) →
+  closes_keyed : (k : K) (p : Option (OpenFetch (Unit {0}) ℕ)) →
       ClosedBy p t.meaning.same (hashed t old k) old.fetches new.fetches
       → Keyed t.meaning.same old.fetches new.fetches []
   closes_keyed k None closes = same closes

@@ -6,7 +6,7 @@ use Rattle.std.proofs.lemmas.List.{length-set, map-append}
 use Rattle.foyer_core.specs.Chains.{has}
 use Rattle.foyer_core.specs.CoreFetches.{at_hash, replaced}
 use Rattle.foyer_core.specs.Indexer.{same_key}
-use Rattle.foyer_core.specs.Inflight.{Opens, Place, after_enqueue, after_nothing, closed, joined, tokens_of, without_later}
+use Rattle.foyer_core.specs.Inflight.{Opens, OpenFetch, after_enqueue, after_nothing, closed, joined, tokens_of, without_later}
 use Rattle.foyer_core.specs.declared.outcome.Waiting.{Waiting}
 use Rattle.foyer_core.proofs.CoreLemmas.{set_here}
 use Rattle.foyer_session.specs.Ledger.{IsIssuedFor, IsTokenOf, WaitsFor}
@@ -48,9 +48,9 @@ module _ {K N R : Type 0} (eq : K → K → Bool) where
   ]
 
   module _ (fetches : List (Opens K N R)) (i : ℕ) (f : Opens K N R) (there : slice_get fetches i ≡ Some f)
-      (alike : (p q : ℕ × K) → same_key eq p q ≡ true → f.places p ≡ f.places q) where
+      (alike : (p q : ℕ × K) → same_key eq p q ≡ true → f.by_key p ≡ f.by_key q) where
     abbrev At : Opens K N R → ℕ × K → ℕ → Type 0
-    At g key token = IsSomeAnd (g.places key) (λ place. has token (tokens_of place) ≡ true)
+    At g key token = IsSomeAnd (g.by_key key) (λ opened. has token (tokens_of opened) ≡ true)
 
     -- what is so in the shard is so
     shard_keyed : (g : Opens K N R) (issued : List ((ℕ × K) × ℕ))
@@ -62,28 +62,28 @@ module _ {K N R : Type 0} (eq : K → K → Bool) where
           (set_here fetches i f g there) e.1 (length-set fetches i g) in
           let was = place_at fetches i f there fetches f (length fetches) key there e.1 refl in
           elim (so key token
-          (subst (λ (o : Option (Place N R)). IsSomeAnd o (λ place. has token (tokens_of place) ≡ true)) now w)) [
+          (subst (λ (o : Option (OpenFetch N R)). IsSomeAnd o (λ opened. has token (tokens_of opened) ≡ true)) now w)) [
             | inl x ↦
-                inl (subst (λ (o : Option (Place N R)). IsSomeAnd o (λ place. has token (tokens_of place) ≡ true))
+                inl (subst (λ (o : Option (OpenFetch N R)). IsSomeAnd o (λ opened. has token (tokens_of opened) ≡ true))
                 (sym was) x)
             | inr y ↦ inr y
           ])
       | inr e ↦
-          inl (subst (λ (o : Option (Place N R)). IsSomeAnd o (λ place. has token (tokens_of place) ≡ true))
+          inl (subst (λ (o : Option (OpenFetch N R)). IsSomeAnd o (λ opened. has token (tokens_of opened) ≡ true))
           (apart_place fetches i f there g key (key.0 % length fetches) e.1 refl) w)
     ]
 
     module _ (k : ℕ × K) where
-      -- an equal key's place, or another's
-      by_key : (w : Option (Place N R)) (issued : List ((ℕ × K) × ℕ)) (key : ℕ × K) (token : ℕ) (b : Bool) →
+      -- an equal key's fetch, or another's
+      by_key : (w : Option (OpenFetch N R)) (issued : List ((ℕ × K) × ℕ)) (key : ℕ × K) (token : ℕ) (b : Bool) →
           same_key eq k key ≡ b
-          → (same_key eq k key ≡ true → IsSomeAnd w (λ place. has token (tokens_of place) ≡ true) → At f k token
+          → (same_key eq k key ≡ true → IsSomeAnd w (λ opened. has token (tokens_of opened) ≡ true) → At f k token
           ⊎ IsIssuedFor eq issued key token)
-          → IsSomeAnd (cond b w (f.places key)) (λ place. has token (tokens_of place) ≡ true) → At f key token
+          → IsSomeAnd (cond b w (f.by_key key)) (λ opened. has token (tokens_of opened) ≡ true) → At f key token
           ⊎ IsIssuedFor eq issued key token
       by_key w issued key token true is own h = elim (own is h) [
         | inl x ↦
-            inl (subst (λ (o : Option (Place N R)). IsSomeAnd o (λ place. has token (tokens_of place) ≡ true))
+            inl (subst (λ (o : Option (OpenFetch N R)). IsSomeAnd o (λ opened. has token (tokens_of opened) ≡ true))
             (alike k key is) x)
         | inr y ↦ inr y
       ]
@@ -93,21 +93,21 @@ module _ {K N R : Type 0} (eq : K → K → Bool) where
       closed_keyed = shard_keyed (closed eq f k) []
           (λ key token w. by_key None [] key token (same_key eq k key) refl (λ is h. absurd h) w)
 
-      kept_place : (p : Option (Place N R)) (token : ℕ) →
-          IsSomeAnd (option_and_then without_later p) (λ place. has token (tokens_of place) ≡ true)
-          → IsSomeAnd p (λ place. has token (tokens_of place) ≡ true)
+      kept_place : (p : Option (OpenFetch N R)) (token : ℕ) →
+          IsSomeAnd (option_and_then without_later p) (λ opened. has token (tokens_of opened) ≡ true)
+          → IsSomeAnd p (λ opened. has token (tokens_of opened) ≡ true)
       kept_place None token h = absurd h
       kept_place (Some o) token h = kept (is_some o.later) h where
         kept : (b : Bool) → IsSomeAnd
             (cond b (Some (record { fetch = o.fetch; tokens = o.tokens; later = None })) None)
-            (λ (place : Place N R). has token (tokens_of place) ≡ true) → has token (tokens_of o) ≡ true
+            (λ (opened : OpenFetch N R). has token (tokens_of opened) ≡ true) → has token (tokens_of o) ≡ true
         kept true h = h
         kept false h = absurd h
 
       pub nothing_keyed : Keyed fetches (slice_set fetches i (after_nothing eq f k)) []
       nothing_keyed = shard_keyed (after_nothing eq f k) []
-          (λ key token w. by_key (option_and_then without_later (f.places k)) [] key token (same_key eq k key) refl
-          (λ is h. inl (kept_place (f.places k) token h)) w)
+          (λ key token w. by_key (option_and_then without_later (f.by_key k)) [] key token (same_key eq k key) refl
+          (λ is h. inl (kept_place (f.by_key k) token h)) w)
 
       module _ (waiter : N) (later : Option R) where
         abbrev own : Waiting N
@@ -123,9 +123,9 @@ module _ {K N R : Type 0} (eq : K → K → Bool) where
           | inr e ↦ absurd (let x : false ≡ true = sym e.0 ∙ h in cc)
         ]
 
-        in_joined : (p : Option (Place N R)) (token : ℕ) → has token (tokens_of (joined p f.next_fetch own later))
+        in_joined : (p : Option (OpenFetch N R)) (token : ℕ) → has token (tokens_of (joined p f.next_fetch own later))
             ≡ true
-            → IsSomeAnd p (λ place. has token (tokens_of place) ≡ true) ⊎ (f.next_token ≡ token)
+            → IsSomeAnd p (λ opened. has token (tokens_of opened) ≡ true) ⊎ (f.next_token ≡ token)
         in_joined None token h = elim (one_of (nat_eq token f.next_token) false h) [
           | inl e ↦ inr (is_next token e)
           | inr e ↦ absurd cc
@@ -141,17 +141,17 @@ module _ {K N R : Type 0} (eq : K → K → Bool) where
         pub enqueued_keyed : Keyed fetches (slice_set fetches i (after_enqueue eq f k waiter later))
             ((k, f.next_token) ∷ [])
         enqueued_keyed = shard_keyed (after_enqueue eq f k waiter later) ((k, f.next_token) ∷ [])
-            (λ key token w. by_key (Some (joined (f.places k) f.next_fetch own later)) ((k, f.next_token) ∷ []) key
+            (λ key token w. by_key (Some (joined (f.by_key k) f.next_fetch own later)) ((k, f.next_token) ∷ []) key
             token (same_key eq k key) refl
-            (λ is h. elim (in_joined (f.places k) token h) [
+            (λ is h. elim (in_joined (f.by_key k) token h) [
               | inl x ↦ inl x
               | inr y ↦ inr (inl (is, y))
             ]) w)
 
-  -- so it is with the place of a hashed key
+  -- so it is with the fetch of a hashed key
   module _ (fetches : List (Opens K N R))
       (alike : (i : ℕ) (f : Opens K N R) → slice_get fetches i ≡ Some f → (p q : ℕ × K) → same_key eq p q ≡ true →
-      f.places p ≡ f.places q) (k : ℕ × K) (hash : ℕ) where
+      f.by_key p ≡ f.by_key q) (k : ℕ × K) (hash : ℕ) where
     closed_by : (o : Option (Opens K N R)) → slice_get fetches (hash % length fetches) ≡ o
         → Keyed fetches (replaced fetches (hash % length fetches) (λ f. closed eq f k) o) []
     closed_by None is = same_keyed fetches fetches refl

@@ -28,7 +28,7 @@ module _ {K V P View C S W A : Type 0} (t : Terms K V P View C S W A) (laws : Is
     (old new : SessionState K V P View S W A)
     (sound : (i : ℕ) (f : Opens K (Unit {0}) ℕ) → slice_get old.fetches i ≡ Some f → AreOpen t.meaning.same f)
     (alike : (i : ℕ) (f : Opens K (Unit {0}) ℕ) → slice_get old.fetches i ≡ Some f → (p q : ℕ × K) →
-    same_key t.meaning.same p q ≡ true → f.places p ≡ f.places q)
+    same_key t.meaning.same p q ≡ true → f.by_key p ≡ f.by_key q)
     (long : length old.fetches ≡ length old.core.shards) where
   abbrev Settled : ℕ → Answer K V P → Type 0
   Settled shard answer = AnswerSettles t laws old new sound alike long shard answer

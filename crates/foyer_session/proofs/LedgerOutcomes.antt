@@ -11,8 +11,8 @@ use Rattle.foyer_policy.specs.declared.types.Event.{Event}
 use Rattle.foyer_policy.specs.declared.types.Source.TheVariants.{Outer}
 use Rattle.foyer_core.specs.declared.outcome.Waiting.{Waiting}
 use Rattle.foyer_core.specs.Chains.{has}
-use Rattle.foyer_core.specs.CoreFetches.{place_in}
-use Rattle.foyer_core.specs.Inflight.{Place, tokens_of, waiters_of}
+use Rattle.foyer_core.specs.CoreFetches.{open_in}
+use Rattle.foyer_core.specs.Inflight.{OpenFetch, tokens_of, waiters_of}
 use Rattle.foyer_core.specs.State.{is_phantom_record, key_of}
 use Rattle.foyer_core.specs.Steps.{newcomer}
 use Rattle.foyer_core.specs.Values.{Gone, Held}
@@ -89,9 +89,9 @@ none_waits : (ws : List (Waiting (Unit {0}))) → length ws ≡ zero → numbers
 none_waits [] h = refl
 none_waits (w ∷ ws) h = absurd (omega (arith, h))
 
--- who waited in a place waited for its key
-waits_in : {N R : Type 0} (p : Option (Place N R)) (token : ℕ) → has token (numbers_of (waiters_of p)) ≡ true
-    → IsSomeAnd p (λ place. has token (tokens_of place) ≡ true)
+-- who waited for a fetch waited for its key
+waits_in : {N R : Type 0} (p : Option (OpenFetch N R)) (token : ℕ) → has token (numbers_of (waiters_of p)) ≡ true
+    → IsSomeAnd p (λ opened. has token (tokens_of opened) ≡ true)
 waits_in None token h = absurd cc
 waits_in (Some o) token h = h
 
@@ -106,23 +106,23 @@ module _ {K V P View C S W A : Type 0} (Q : Type 0) (t : Terms K V P View C S W 
   pub all_handed : (command : Command K V P Q C) (key : ℕ × K) (entry : Held K V P) (told : Gone K V P) (n : ℕ)
       (answers : List (ℕ × Result (Option ℕ) Reason)) → told ≡ record_of entry → t.meaning.same key.1 entry.kept.key
       ≡ true
-      → new.handles ≡ old.handles ++ replicate n (given entry) → length (waiters_of (place_in old.fetches key)) ≤ n
-      → answers ≡ handles_from (length old.handles) (numbers_of (waiters_of (place_in old.fetches key))) →
+      → new.handles ≡ old.handles ++ replicate n (given entry) → length (waiters_of (open_in old.fetches key)) ≤ n
+      → answers ≡ handles_from (length old.handles) (numbers_of (waiters_of (open_in old.fetches key))) →
       AllByRecursion (OneIs command (Some told) key) answers
   all_handed command key entry told n answers is same handed few answered =
       subst (AllByRecursion (OneIs command (Some told) key)) (sym answered)
       (handles_all (OneIs command (Some told) key) (length old.handles) tokens one) where
         tokens : List ℕ
-        tokens = numbers_of (waiters_of (place_in old.fetches key))
+        tokens = numbers_of (waiters_of (open_in old.fetches key))
 
-        long : length tokens ≡ length (waiters_of (place_in old.fetches key))
-        long = length-map (waiters_of (place_in old.fetches key)) (λ (w : Waiting (Unit {0})). w.token)
+        long : length tokens ≡ length (waiters_of (open_in old.fetches key))
+        long = length-map (waiters_of (open_in old.fetches key)) (λ (w : Waiting (Unit {0})). w.token)
 
         one : (token number : ℕ) → has token tokens ≡ true → length old.handles ≤ number →
             number < length old.handles + length tokens
             → OneIs command (Some told) key (token, Ok (Some number))
         one token number there from to = (
-          waits_in (place_in old.fetches key) token there,
+          waits_in (open_in old.fetches key) token there,
           (
             ap (λ (g : Gone K V P). t.meaning.same key.1 g.kept.key) is ∙ same,
             is_handle new.handles entry told number
@@ -135,12 +135,12 @@ module _ {K V P View C S W A : Type 0} (Q : Type 0) (t : Terms K V P View C S W 
   pub all_told : (command : Command K V P Q C) (came : Option (Gone K V P)) (key : ℕ × K)
       (got : Result (Option ℕ) Reason) (answers : List (ℕ × Result (Option ℕ) Reason))
       → MayGet t.meaning.same (IsHandleOf new.handles) command came key.1 got → answers
-      ≡ each_gets got (numbers_of (waiters_of (place_in old.fetches key))) →
+      ≡ each_gets got (numbers_of (waiters_of (open_in old.fetches key))) →
       AllByRecursion (OneIs command came key) answers
   all_told command came key got answers may answered =
       subst (AllByRecursion (OneIs command came key)) (sym answered)
-      (same_all (OneIs command came key) got (numbers_of (waiters_of (place_in old.fetches key)))
-      (λ token there. (waits_in (place_in old.fetches key) token there, may)))
+      (same_all (OneIs command came key) got (numbers_of (waiters_of (open_in old.fetches key)))
+      (λ token there. (waits_in (open_in old.fetches key) token there, may)))
 
   pub insert_answered : (k : K) (v : V) (p : P) (answer : Answer K V P) (leaves : List (Event × Gone K V P)) →
       InsertStep t old k v p answer leaves new
@@ -204,9 +204,9 @@ module _ {K V P View C S W A : Type 0} (Q : Type 0) (t : Terms K V P View C S W 
 
   -- nobody waits where nothing is open
   pub open_all : (command : Command K V P Q C) (k : K) (fetch : ℕ) (ended : Ending K V P (Unit {0}))
-      (answers : List (ℕ × Result (Option ℕ) Reason)) (told : Option (Gone K V P)) (p : Option (Place (Unit {0}) ℕ))
+      (answers : List (ℕ × Result (Option ℕ) Reason)) (told : Option (Gone K V P)) (p : Option (OpenFetch (Unit {0}) ℕ))
       → open_at t old k fetch ≡ p → ended.waiters ≡ waiters_of p
-      → ((o : Place (Unit {0}) ℕ) → p ≡ Some o →
+      → ((o : OpenFetch (Unit {0}) ℕ) → p ≡ Some o →
       AllAre (λ x. t.meaning.same k x ≡ true) (MayRefuse command) (length o.tokens) ended.outcome)
       → answers ≡ got_of (length old.handles) ended.outcome (numbers_of ended.waiters) → told
       ≡ first_told (entries_by ended.outcome) → new.handles ≡ old.handles ++ map given (entries_by ended.outcome)
@@ -217,9 +217,9 @@ module _ {K V P View C S W A : Type 0} (Q : Type 0) (t : Terms K V P View C S W 
       ap (λ (ws : List (Waiting (Unit {0}))). got_of (length old.handles) ended.outcome (numbers_of ws))
       waited ∙ got_none (length old.handles) ended.outcome)) tt
   open_all command k fetch ended answers told (Some o) is waited all answered first handles =
-      let placed : place_in old.fetches (hashed t old k) ≡ Some o =
-      asked_some fetch (place_in old.fetches (hashed t old k)) o is in
-      let these : waiting_at t old (hashed t old k) ≡ o.tokens = ap waiters_of placed in
+      let is_open : open_in old.fetches (hashed t old k) ≡ Some o =
+      asked_some fetch (open_in old.fetches (hashed t old k)) o is in
+      let these : waiting_at t old (hashed t old k) ≡ o.tokens = ap waiters_of is_open in
       told_all command k answers told ended.outcome
       (subst (λ (ws : List (Waiting (Unit {0}))). AllAre (λ x. t.meaning.same k x ≡ true) (MayRefuse command)
       (length ws) ended.outcome) (sym these) (all o refl))

@@ -1,4 +1,4 @@
--- The ledger of the open fetches of a shard: one more waits, a place is closed, or its builder is taken.
+-- The ledger of the open fetches of a shard: one more waits, a fetch is closed, or its builder is taken.
 use Rattle.std.proofs.Common.{◌≡◌, ℕ, ◌+◌, ◌<◌, ◌≤◌, ◌%◌, ◌||◌, Bool, true, false, cond, nat_eq, List, [], ◌∷◌, length, Option, Some, None, refl, sym, ap, ◌∙◌, subst, arith, inl, inr}
 use Rattle.std.specs.Prelude.{slice_get, slice_set, option_and_then, is_some}
 use Rattle.std.specs.Cmp.{IsEquivalence}
@@ -6,7 +6,7 @@ use Rattle.std.proofs.lemmas.Bool.Decides.{eqb_tells, nat_tests}
 use Rattle.std.proofs.lemmas.List.{map-append}
 use Rattle.foyer_core.specs.Chains.{has}
 use Rattle.foyer_core.specs.Indexer.{same_key, same_key_equiv}
-use Rattle.foyer_core.specs.Inflight.{AreOpen, Opens, Place, after_enqueue, after_nothing, closed, joined, tokens_of, waiters_of, with_place, without_later}
+use Rattle.foyer_core.specs.Inflight.{AreOpen, Opens, OpenFetch, after_enqueue, after_nothing, closed, joined, tokens_of, waiters_of, with_open, without_later}
 use Rattle.foyer_core.specs.declared.outcome.Waiting.{Waiting}
 use Rattle.foyer_session.specs.Ledger.{Settles, next_token_in, of_shard}
 use Rattle.foyer_session.specs.Tokens.{numbers_of}
@@ -36,73 +36,73 @@ itself n = grind (arith, nat_tests)
 module _ {K N R : Type 0} (eq : K → K → Bool) (fetches : List (Opens K N R))
     (known : (shard token : ℕ) → WaitsIn fetches shard token → token < next_token_in fetches shard)
     (i : ℕ) (f : Opens K N R) (there : slice_get fetches i ≡ Some f) (sound : AreOpen eq f)
-    (alike : (p q : ℕ × K) → same_key eq p q ≡ true → f.places p ≡ f.places q)
+    (alike : (p q : ℕ × K) → same_key eq p q ≡ true → f.by_key p ≡ f.by_key q)
     (k : ℕ × K) (home : k.0 % length fetches ≡ i) where
   abbrev Waits : Opens K N R → ℕ → Type 0
   Waits g token = WaitsAt (length fetches) i g token
 
-  -- the place of another key stays
-  other_place : (w v : Option (Place N R)) (q : ℕ × K) (o : Place N R) → same_key eq k q ≡ false →
+  -- the fetch of another key stays
+  other_open : (w v : Option (OpenFetch N R)) (q : ℕ × K) (o : OpenFetch N R) → same_key eq k q ≡ false →
       cond (same_key eq k q) w v ≡ Some o → v ≡ Some o
-  other_place w v q o apart h = sym (ap (λ (b : Bool). cond b w v) apart) ∙ h
+  other_open w v q o apart h = sym (ap (λ (b : Bool). cond b w v) apart) ∙ h
 
-  own_place : (w v : Option (Place N R)) (q : ℕ × K) (o : Place N R) → same_key eq k q ≡ true →
+  own_open : (w v : Option (OpenFetch N R)) (q : ℕ × K) (o : OpenFetch N R) → same_key eq k q ≡ true →
       cond (same_key eq k q) w v ≡ Some o → w ≡ Some o
-  own_place w v q o one h = sym (ap (λ (b : Bool). cond b w v) one) ∙ h
+  own_open w v q o one h = sym (ap (λ (b : Bool). cond b w v) one) ∙ h
 
-  set_other : (w : Option (Place N R)) (token : ℕ) (x : Waits f token) → same_key eq k x.key ≡ false →
-      Waits (with_place eq f k w) token
+  set_other : (w : Option (OpenFetch N R)) (token : ℕ) (x : Waits f token) → same_key eq k x.key ≡ false →
+      Waits (with_open eq f k w) token
   set_other w token x apart =
       record {
         key = x.key;
         home = x.home;
-        place = x.place;
-        placed =
-            ap (λ (b : Bool). cond b w (f.places x.key)) apart ∙ x.placed;
+        opened = x.opened;
+        is_open =
+            ap (λ (b : Bool). cond b w (f.by_key x.key)) apart ∙ x.is_open;
         waits = x.waits;
       }
 
-  -- who waits for an equal key waits in the one place
-  in_place : (token : ℕ) (x : Waits f token) → same_key eq k x.key ≡ true → f.places k ≡ Some x.place
-  in_place token x one = alike k x.key one ∙ x.placed
+  -- who waits for an equal key waits in the one fetch
+  in_open : (token : ℕ) (x : Waits f token) → same_key eq k x.key ≡ true → f.by_key k ≡ Some x.opened
+  in_open token x one = alike k x.key one ∙ x.is_open
 
-  -- a place is closed
+  -- a fetch is closed
   no_place : (token : ℕ) → Waits (closed eq f k) token → Waits f token
   no_place token x = go (same_key eq k x.key) refl where
     go : (b : Bool) → same_key eq k x.key ≡ b → Waits f token
-    go true one = absurd (some_none (own_place None (f.places x.key) x.key x.place one x.placed))
+    go true one = absurd (some_none (own_open None (f.by_key x.key) x.key x.opened one x.is_open))
     go false apart =
         record {
           key = x.key;
           home = x.home;
-          place = x.place;
-          placed =
-              other_place None (f.places x.key) x.key x.place apart x.placed;
+          opened = x.opened;
+          is_open =
+              other_open None (f.by_key x.key) x.key x.opened apart x.is_open;
           waits = x.waits;
         }
 
-  still : (token : ℕ) → ((o : Place N R) → f.places k ≡ Some o → has token (tokens_of o) ≡ false) → Waits f token →
+  still : (token : ℕ) → ((o : OpenFetch N R) → f.by_key k ≡ Some o → has token (tokens_of o) ≡ false) → Waits f token →
       Waits (closed eq f k) token
   still token absent x = go (same_key eq k x.key) refl where
     go : (b : Bool) → same_key eq k x.key ≡ b → Waits (closed eq f k) token
-    go true one = absurd (let e : false ≡ true = sym (absent x.place (in_place token x one)) ∙ x.waits in cc)
+    go true one = absurd (let e : false ≡ true = sym (absent x.opened (in_open token x one)) ∙ x.waits in cc)
     go false apart = set_other None token x apart
 
-  gone : (token : ℕ) (o : Place N R) → f.places k ≡ Some o → has token (tokens_of o) ≡ true →
+  gone : (token : ℕ) (o : OpenFetch N R) → f.by_key k ≡ Some o → has token (tokens_of o) ≡ true →
       Waits (closed eq f k) token → ⊥
   gone token o is h x = go (same_key eq k x.key) refl where
     go : (b : Bool) → same_key eq k x.key ≡ b → ⊥
-    go true one = some_none (own_place None (f.places x.key) x.key x.place one x.placed)
+    go true one = some_none (own_open None (f.by_key x.key) x.key x.opened one x.is_open)
     go false apart =
-        let one = sound.one_place k x.key o x.place token is
-        (other_place None (f.places x.key) x.key x.place apart x.placed) h x.waits in
+        let one = sound.one_open k x.key o x.opened token is
+        (other_open None (f.by_key x.key) x.key x.opened apart x.is_open) h x.waits in
         absurd (let e : false ≡ true = sym apart ∙ one in cc)
 
   pub closed_settled : Settles fetches (slice_set fetches i (closed eq f k)) []
-      (of_shard i (numbers_of (waiters_of (f.places k))))
-  closed_settled = shard_settled fetches i f there (closed eq f k) [] (numbers_of (waiters_of (f.places k))) known
+      (of_shard i (numbers_of (waiters_of (f.by_key k))))
+  closed_settled = shard_settled fetches i f there (closed eq f k) [] (numbers_of (waiters_of (f.by_key k))) known
       (omega arith) (λ token some. absurd (omega (arith, some))) even where
-        at_place : (p : Option (Place N R)) → f.places k ≡ p → (token n : ℕ) → IsCount (Waits f token) n → (b : Bool) →
+        at_place : (p : Option (OpenFetch N R)) → f.by_key k ≡ p → (token n : ℕ) → IsCount (Waits f token) n → (b : Bool) →
             has token (numbers_of (waiters_of p)) ≡ b
             → (after : ℕ) × IsCount (Waits (closed eq f k) token) after
             × (n + 0 ≡ after + times i token (of_shard i (numbers_of (waiters_of p)))) × (n + 0 ≤ 1)
@@ -114,29 +114,29 @@ module _ {K N R : Type 0} (eq : K → K → Bool) (fetches : List (Opens K N R))
               omega (arith, one),
             )
         at_place (Some o) is token n h true has_it =
-            let one = count_there n (record { key = k; home = home; place = o; placed = is; waits = has_it }) h in
+            let one = count_there n (record { key = k; home = home; opened = o; is_open = is; waits = has_it }) h in
             let handed = times_once i token (tokens_of o) (sound.once k o is) has_it in
             (0, inr (gone token o is has_it, refl), omega (arith, one, handed), omega (arith, one))
         at_place (Some o) is token n h false has_it =
             let one = count_one n h in
             let handed = times_absent i token (tokens_of o) has_it in
-            let absent : (p : Place N R) → f.places k ≡ Some p → has token (tokens_of p) ≡ false =
-            λ p p_is. ap (λ (x : Place N R). has token (tokens_of x)) (some_one (sym p_is ∙ is)) ∙ has_it in
+            let absent : (p : OpenFetch N R) → f.by_key k ≡ Some p → has token (tokens_of p) ≡ false =
+            λ p p_is. ap (λ (x : OpenFetch N R). has token (tokens_of x)) (some_one (sym p_is ∙ is)) ∙ has_it in
             (n, same_count n (still token absent) (no_place token) h, omega (arith, handed), omega (arith, one))
 
         even : (token n : ℕ) → IsCount (Waits f token) n →
-            IsEvenAt fetches i f there (closed eq f k) [] (numbers_of (waiters_of (f.places k))) token n
-        even token n h = at_place (f.places k) refl token n h (has token (numbers_of (waiters_of (f.places k)))) refl
+            IsEvenAt fetches i f there (closed eq f k) [] (numbers_of (waiters_of (f.by_key k))) token n
+        even token n h = at_place (f.by_key k) refl token n h (has token (numbers_of (waiters_of (f.by_key k)))) refl
 
   -- a builder is taken: who waited still does
-  pub taken_settled : (o : Place N R) → f.places k ≡ Some o → is_some o.later ≡ true →
+  pub taken_settled : (o : OpenFetch N R) → f.by_key k ≡ Some o → is_some o.later ≡ true →
       Settles fetches (slice_set fetches i (after_nothing eq f k)) [] []
   taken_settled o is later = shard_settled fetches i f there (after_nothing eq f k) [] [] known (omega arith)
       (λ token some. absurd (omega (arith, some))) even where
-        left : Place N R
+        left : OpenFetch N R
         left = record { fetch = o.fetch; tokens = o.tokens; later = None }
 
-        left_is : option_and_then without_later (f.places k) ≡ Some left
+        left_is : option_and_then without_later (f.by_key k) ≡ Some left
         left_is = ap (option_and_then without_later) is ∙ ap (λ (b : Bool). cond b (Some left) None) later
 
         to : (token : ℕ) → Waits f token → Waits (after_nothing eq f k) token
@@ -145,11 +145,11 @@ module _ {K N R : Type 0} (eq : K → K → Bool) (fetches : List (Opens K N R))
           go true one = record {
             key = x.key;
             home = x.home;
-            place = left;
-            placed = ap (λ (b : Bool). cond b (option_and_then without_later (f.places k)) (f.places x.key)) one ∙ left_is;
-            waits = ap (λ (y : Place N R). has token (tokens_of y)) (some_one (sym is ∙ in_place token x one)) ∙ x.waits;
+            opened = left;
+            is_open = ap (λ (b : Bool). cond b (option_and_then without_later (f.by_key k)) (f.by_key x.key)) one ∙ left_is;
+            waits = ap (λ (y : OpenFetch N R). has token (tokens_of y)) (some_one (sym is ∙ in_open token x one)) ∙ x.waits;
           }
-          go false apart = set_other (option_and_then without_later (f.places k)) token x apart
+          go false apart = set_other (option_and_then without_later (f.by_key k)) token x apart
 
         from : (token : ℕ) → Waits (after_nothing eq f k) token → Waits f token
         from token x = go (same_key eq k x.key) refl where
@@ -157,34 +157,34 @@ module _ {K N R : Type 0} (eq : K → K → Bool) (fetches : List (Opens K N R))
           go true one = record {
             key = k;
             home = home;
-            place = o;
-            placed = is;
-            waits = ap (λ (y : Place N R). has token (tokens_of y))
+            opened = o;
+            is_open = is;
+            waits = ap (λ (y : OpenFetch N R). has token (tokens_of y))
                 (some_one
-                (sym left_is ∙ own_place (option_and_then without_later (f.places k)) (f.places x.key) x.key x.place
-                one x.placed)) ∙ x.waits;
+                (sym left_is ∙ own_open (option_and_then without_later (f.by_key k)) (f.by_key x.key) x.key x.opened
+                one x.is_open)) ∙ x.waits;
           }
           go false apart =
               record {
                 key = x.key;
                 home = x.home;
-                place = x.place;
-                placed =
-                    other_place (option_and_then without_later (f.places k)) (f.places x.key) x.key x.place apart x.placed;
+                opened = x.opened;
+                is_open =
+                    other_open (option_and_then without_later (f.by_key k)) (f.by_key x.key) x.key x.opened apart x.is_open;
                 waits = x.waits;
               }
 
         even : (token n : ℕ) → IsCount (Waits f token) n → IsEvenAt fetches i f there (after_nothing eq f k) [] [] token n
         even token n h = (let one = count_one n h in (n, same_count n (to token) (from token) h, refl, omega (arith, one)))
 
-  -- no builder is kept: the place is closed
-  pub nothing_closed : (o : Place N R) → f.places k ≡ Some o → o.later ≡ None → after_nothing eq f k ≡ closed eq f k
+  -- no builder is kept: the fetch is closed
+  pub nothing_closed : (o : OpenFetch N R) → f.by_key k ≡ Some o → o.later ≡ None → after_nothing eq f k ≡ closed eq f k
   nothing_closed o is later =
-      let none : option_and_then without_later (f.places k) ≡ None =
+      let none : option_and_then without_later (f.by_key k) ≡ None =
       ap (option_and_then without_later) is ∙
       ap (λ (x : Option R). cond (is_some x) (Some (record { fetch = o.fetch; tokens = o.tokens; later = None }))
       None) later in
-      ap (λ (w : Option (Place N R)). with_place eq f k w) none
+      ap (λ (w : Option (OpenFetch N R)). with_open eq f k w) none
 
   module _ (laws : IsEquivalence eq) (waiter : N) (later : Option R) where
     abbrev own : Waiting N
@@ -193,16 +193,16 @@ module _ {K N R : Type 0} (eq : K → K → Bool) (fetches : List (Opens K N R))
     abbrev g : Opens K N R
     g = after_enqueue eq f k waiter later
 
-    abbrev at : Option (Place N R) → Place N R
+    abbrev at : Option (OpenFetch N R) → OpenFetch N R
     at p = joined p f.next_fetch own later
 
-    -- who waits in the place that was joined
-    has_joined : (token : ℕ) (o : Place N R) → has token (tokens_of (at (Some o)))
+    -- who waits for the fetch that was joined
+    has_joined : (token : ℕ) (o : OpenFetch N R) → has token (tokens_of (at (Some o)))
         ≡ (has token (tokens_of o) || nat_eq token f.next_token)
     has_joined token o = ap (has token) (map-append (λ (w : Waiting N). w.token) o.tokens (own ∷ []))
         ∙ has_end token f.next_token (tokens_of o)
 
-    has_own : (p : Option (Place N R)) → has f.next_token (tokens_of (at p)) ≡ true
+    has_own : (p : Option (OpenFetch N R)) → has f.next_token (tokens_of (at p)) ≡ true
     has_own None = ap (λ (b : Bool). b || false) (itself f.next_token)
     has_own (Some o) = has_joined f.next_token o
         ∙ or_true (has f.next_token (tokens_of o)) (nat_eq f.next_token f.next_token) (itself f.next_token)
@@ -218,9 +218,9 @@ module _ {K N R : Type 0} (eq : K → K → Bool) (fetches : List (Opens K N R))
       new = record {
         key = k;
         home = home;
-        place = at (f.places k);
-        placed = ap (λ (b : Bool). cond b (Some (at (f.places k))) (f.places k)) ((same_key_equiv laws).refl k);
-        waits = has_own (f.places k);
+        opened = at (f.by_key k);
+        is_open = ap (λ (b : Bool). cond b (Some (at (f.by_key k))) (f.by_key k)) ((same_key_equiv laws).refl k);
+        waits = has_own (f.by_key k);
       }
 
       to : (token : ℕ) → Waits f token → Waits g token
@@ -229,22 +229,22 @@ module _ {K N R : Type 0} (eq : K → K → Bool) (fetches : List (Opens K N R))
         go true one = record {
           key = x.key;
           home = x.home;
-          place = at (Some x.place);
-          placed = ap (λ (b : Bool). cond b (Some (at (f.places k))) (f.places x.key)) one
-              ∙ ap (λ (p : Option (Place N R)). Some (at p)) (in_place token x one);
-          waits = has_joined token x.place ∙ ap (λ (b : Bool). b || nat_eq token f.next_token) x.waits;
+          opened = at (Some x.opened);
+          is_open = ap (λ (b : Bool). cond b (Some (at (f.by_key k))) (f.by_key x.key)) one
+              ∙ ap (λ (p : Option (OpenFetch N R)). Some (at p)) (in_open token x one);
+          waits = has_joined token x.opened ∙ ap (λ (b : Bool). b || nat_eq token f.next_token) x.waits;
         }
         go false apart =
             record {
               key = x.key;
               home = x.home;
-              place = x.place;
-              placed =
-                  ap (λ (b : Bool). cond b (Some (at (f.places k))) (f.places x.key)) apart ∙ x.placed;
+              opened = x.opened;
+              is_open =
+                  ap (λ (b : Bool). cond b (Some (at (f.by_key k))) (f.by_key x.key)) apart ∙ x.is_open;
               waits = x.waits;
             }
 
-      in_joined : (token : ℕ) → nat_eq token f.next_token ≡ false → (p : Option (Place N R)) → f.places k ≡ p →
+      in_joined : (token : ℕ) → nat_eq token f.next_token ≡ false → (p : Option (OpenFetch N R)) → f.by_key k ≡ p →
           has token (tokens_of (at p)) ≡ true
           → Waits f token
       in_joined token differs None is h =
@@ -252,8 +252,8 @@ module _ {K N R : Type 0} (eq : K → K → Bool) (fetches : List (Opens K N R))
       in_joined token differs (Some o) is h = record {
         key = k;
         home = home;
-        place = o;
-        placed = is;
+        opened = o;
+        is_open = is;
         waits = or_first (has token (tokens_of o)) (nat_eq token f.next_token) (sym (has_joined token o) ∙ h) differs;
       }
 
@@ -261,22 +261,22 @@ module _ {K N R : Type 0} (eq : K → K → Bool) (fetches : List (Opens K N R))
       from token differs x = go (same_key eq k x.key) refl where
         go : (b : Bool) → same_key eq k x.key ≡ b → Waits f token
         go true one =
-            in_joined token differs (f.places k) refl
-            (ap (λ (y : Place N R). has token (tokens_of y))
-            (some_one (own_place (Some (at (f.places k))) (f.places x.key) x.key x.place one x.placed)) ∙ x.waits)
+            in_joined token differs (f.by_key k) refl
+            (ap (λ (y : OpenFetch N R). has token (tokens_of y))
+            (some_one (own_open (Some (at (f.by_key k))) (f.by_key x.key) x.key x.opened one x.is_open)) ∙ x.waits)
         go false apart =
             record {
               key = x.key;
               home = x.home;
-              place = x.place;
-              placed =
-                  other_place (Some (at (f.places k))) (f.places x.key) x.key x.place apart x.placed;
+              opened = x.opened;
+              is_open =
+                  other_open (Some (at (f.by_key k))) (f.by_key x.key) x.key x.opened apart x.is_open;
               waits = x.waits;
             }
 
       older : (token : ℕ) → token ≡ f.next_token → Waits f token → ⊥
       older token same x =
-          (let below = sound.tokens_below x.key x.place token x.placed x.waits in omega (arith, below, same))
+          (let below = sound.tokens_below x.key x.opened token x.is_open x.waits in omega (arith, below, same))
 
       even : (token n : ℕ) → IsCount (Waits f token) n → IsEvenAt fetches i f there g (f.next_token ∷ []) [] token n
       even token n h = elim (eqb_tells token f.next_token) [

@@ -11,9 +11,9 @@ use Rattle.foyer_core.specs.declared.inflight.Enqueue.TheVariants.{Lead as Leads
 use Rattle.foyer_core.specs.declared.outcome.FetchTarget.{FetchTarget}
 use Rattle.foyer_core.specs.declared.outcome.FetchTarget.TheVariants.{Entry as ValueTarget, Piece as PieceTarget}
 use Rattle.foyer_core.specs.Core.{shard_of}
-use Rattle.foyer_core.specs.CoreFetches.{at_hash, place_in}
+use Rattle.foyer_core.specs.CoreFetches.{at_hash, open_in}
 use Rattle.foyer_core.specs.Indexer.{same_key}
-use Rattle.foyer_core.specs.Inflight.{AreOpen, Opens, Place, after_nothing, enqueued, waiters_of}
+use Rattle.foyer_core.specs.Inflight.{AreOpen, Opens, OpenFetch, after_nothing, enqueued, waiters_of}
 use Rattle.foyer_core.specs.State.{key_of}
 use Rattle.foyer_core.specs.Values.{Carried, Gone, Made}
 use Rattle.foyer_core.specs.Waited.{Ending, lost}
@@ -32,12 +32,12 @@ use Rattle.foyer_session.proofs.LedgerEnds.{EndsPlace, completed_place, ends_pla
 use Rattle.foyer_session.proofs.LedgerFetches.{closed_at, enqueued_at, nothing_at, same_settled, taken_at}
 
 -- who leads or waits has the next token
-pub lead_token : {N R : Type 0} (p : Option (Place N R)) (fetch token next_fetch next : ℕ) (required later : Option R)
+pub lead_token : {N R : Type 0} (p : Option (OpenFetch N R)) (fetch token next_fetch next : ℕ) (required later : Option R)
     → LeadsFetch fetch token required ≡ enqueued p next_fetch next later → token ≡ next
 lead_token None fetch token next_fetch next required later h = cc
 lead_token (Some o) fetch token next_fetch next required later h = absurd cc
 
-pub wait_token : {N R : Type 0} (p : Option (Place N R)) (token next_fetch next : ℕ) (later : Option R) →
+pub wait_token : {N R : Type 0} (p : Option (OpenFetch N R)) (token next_fetch next : ℕ) (later : Option R) →
     WaitsFetch token ≡ enqueued p next_fetch next later
     → token ≡ next
 wait_token None token next_fetch next later h = absurd cc
@@ -53,7 +53,7 @@ module _ {K V P View C S W A : Type 0} (t : Terms K V P View C S W A) (laws : Is
     (old new : SessionState K V P View S W A)
     (sound : (i : ℕ) (f : Opens K (Unit {0}) ℕ) → slice_get old.fetches i ≡ Some f → AreOpen t.meaning.same f)
     (alike : (i : ℕ) (f : Opens K (Unit {0}) ℕ) → slice_get old.fetches i ≡ Some f → (p q : ℕ × K) →
-    same_key t.meaning.same p q ≡ true → f.places p ≡ f.places q)
+    same_key t.meaning.same p q ≡ true → f.by_key p ≡ f.by_key q)
     (long : length old.fetches ≡ length old.core.shards) where
   abbrev hash : K → ℕ
   hash = hash_in t old
@@ -79,7 +79,7 @@ module _ {K V P View C S W A : Type 0} (t : Terms K V P View C S W A) (laws : Is
   unchanged same = quiet (ap (λ (s : SessionState K V P View S W A). s.fetches) same)
       (same_built old.core new.core (ap (λ (s : SessionState K V P View S W A). s.core) same))
 
-  -- a place is closed, and who waited there is answered
+  -- a fetch is closed, and who waited there is answered
   hands : (h : ℕ) (tokens got : List ℕ) → got ≡ tokens →
       Settles old.fetches new.fetches [] (of_shard (h % length old.fetches) tokens)
       → Settles old.fetches new.fetches [] (of_shard (shard_by h) got)
@@ -110,7 +110,7 @@ module _ {K V P View C S W A : Type 0} (t : Terms K V P View C S W A) (laws : Is
         enqueued_at t.meaning.same old.fetches sound alike laws (hashed t old k) (shard_by (hash k)) at.open_before
             at.open_there (ap (λ (n : ℕ). hash k % n) long) tt later new.fetches token
             (at.open_rest ∙ ap (slice_set old.fetches (shard_by (hash k))) at.stepped.4)
-            (lead_token (at.open_before.places (hashed t old k)) fetch token at.open_before.next_fetch
+            (lead_token (at.open_before.by_key (hashed t old k)) fetch token at.open_before.next_fetch
             at.open_before.next_token h.0 later at.stepped.2),
         rest_built old.core new.core (shard_of old.core (hash k)) at.after at.rest,
       )
@@ -119,7 +119,7 @@ module _ {K V P View C S W A : Type 0} (t : Terms K V P View C S W A) (laws : Is
         enqueued_at t.meaning.same old.fetches sound alike laws (hashed t old k) (shard_by (hash k)) at.open_before
             at.open_there (ap (λ (n : ℕ). hash k % n) long) tt later new.fetches token
             (at.open_rest ∙ ap (slice_set old.fetches (shard_by (hash k))) at.stepped.4)
-            (wait_token (at.open_before.places (hashed t old k)) token at.open_before.next_fetch
+            (wait_token (at.open_before.by_key (hashed t old k)) token at.open_before.next_fetch
             at.open_before.next_token later at.stepped.2),
         rest_built old.core new.core (shard_of old.core (hash k)) at.after at.rest,
       )
@@ -127,17 +127,17 @@ module _ {K V P View C S W A : Type 0} (t : Terms K V P View C S W A) (laws : Is
   get_or_fetch_settled k later _ leaves h = absurd h
 
   -- a fetch ends
-  ends_by : (k : K) (fetch : ℕ) (p : Option (Place (Unit {0}) ℕ)) → open_at t old k fetch ≡ p
+  ends_by : (k : K) (fetch : ℕ) (p : Option (OpenFetch (Unit {0}) ℕ)) → open_at t old k fetch ≡ p
       → ClosedBy p t.meaning.same (hashed t old k) old.fetches new.fetches
       → Settles old.fetches new.fetches [] (of_shard (hash k % length old.fetches) (numbers_of (waiters_of p)))
   ends_by k fetch None is closes = same_settled t.meaning.same old.fetches sound alike new.fetches closes
   ends_by k fetch (Some o) is closes =
-      subst (λ (x : Option (Place (Unit {0}) ℕ)). Settles old.fetches new.fetches []
+      subst (λ (x : Option (OpenFetch (Unit {0}) ℕ)). Settles old.fetches new.fetches []
       (of_shard (hash k % length old.fetches) (numbers_of (waiters_of x))))
-      (asked_some fetch (place_in old.fetches (hashed t old k)) o is)
+      (asked_some fetch (open_in old.fetches (hashed t old k)) o is)
       (closed_at t.meaning.same old.fetches sound alike (hashed t old k) (hash k) refl new.fetches closes)
 
-  lost_same : (k : K) (fetch : ℕ) (ended : Ending K V P (Unit {0})) (p : Option (Place (Unit {0}) ℕ)) → ended ≡ lost
+  lost_same : (k : K) (fetch : ℕ) (ended : Ending K V P (Unit {0})) (p : Option (OpenFetch (Unit {0}) ℕ)) → ended ≡ lost
       → EndsPlace t.meaning.same (hashed t old k) p old.fetches new.fetches ended → new.fetches ≡ old.fetches
   lost_same k fetch ended None is ends = ends.closes
   lost_same k fetch ended (Some o) is ends =
@@ -194,18 +194,18 @@ module _ {K V P View C S W A : Type 0} (t : Terms K V P View C S W A) (laws : Is
       (same_built old.core new.core h.2) h.3
 
   -- a builder is kept, or the fetch ends with nothing
-  later_place : (k : K) (fetch label : ℕ) (p : Option (Place (Unit {0}) ℕ)) → open_at t old k fetch ≡ p →
+  later_place : (k : K) (fetch label : ℕ) (p : Option (OpenFetch (Unit {0}) ℕ)) → open_at t old k fetch ≡ p →
       IsSomeAnd p (λ o. o.later ≡ Some label)
       → new.fetches ≡ at_hash (λ f. after_nothing t.meaning.same f (hashed t old k)) old.fetches (hash k) →
       Settles old.fetches new.fetches [] []
   later_place k fetch label None is h rest = absurd h
   later_place k fetch label (Some o) is h rest =
       taken_at t.meaning.same old.fetches sound alike (hashed t old k) (hash k) refl o
-      (asked_some fetch (place_in old.fetches (hashed t old k)) o is) new.fetches
+      (asked_some fetch (open_in old.fetches (hashed t old k)) o is) new.fetches
       (ap (λ (x : Option ℕ). is_some x) h) rest
 
   none_place : (k : K) (fetch : ℕ) (outcome : Option Reason) (answers : List (ℕ × Result (Option ℕ) Reason))
-      (p : Option (Place (Unit {0}) ℕ))
+      (p : Option (OpenFetch (Unit {0}) ℕ))
       → open_at t old k fetch ≡ p
       → IsSomeAnd p (λ o. (o.later ≡ None) × (answers ≡ each_gets (nothing_by outcome) (numbers_of o.tokens)))
       → new.fetches ≡ at_hash (λ f. after_nothing t.meaning.same f (hashed t old k)) old.fetches (hash k) →
@@ -215,7 +215,7 @@ module _ {K V P View C S W A : Type 0} (t : Terms K V P View C S W A) (laws : Is
       hands (hash k) (numbers_of o.tokens) _
       (ap (map (λ got. got.0)) h.1 ∙ who_got_each (nothing_by outcome) (numbers_of o.tokens))
       (nothing_at t.meaning.same old.fetches sound alike (hashed t old k) (hash k) refl o
-      (asked_some fetch (place_in old.fetches (hashed t old k)) o is) new.fetches h.0 rest)
+      (asked_some fetch (open_in old.fetches (hashed t old k)) o is) new.fetches h.0 rest)
 
   pub fetch_or_take_settled : (k : K) (fetch : ℕ) (outcome : Option Reason) (answer : Answer K V P)
       (leaves : List (Event × Gone K V P))

@@ -4,8 +4,8 @@ use Rattle.std.specs.Prelude.{slice_get, slice_set, option_and_then}
 use Rattle.std.proofs.lemmas.Bool.Decides.{eqb_tells}
 use Rattle.std.proofs.lemmas.List.{length-set}
 use Rattle.foyer_core.specs.Chains.{has}
-use Rattle.foyer_core.specs.CoreFetches.{place_in}
-use Rattle.foyer_core.specs.Inflight.{AreOpen, Opens, Place, tokens_of}
+use Rattle.foyer_core.specs.CoreFetches.{open_in}
+use Rattle.foyer_core.specs.Inflight.{AreOpen, Opens, OpenFetch, tokens_of}
 use Rattle.foyer_core.proofs.CoreLemmas.{set_apart, set_here}
 use Rattle.foyer_session.specs.Ledger.{IsEven, IsWaiting, Settles, next_token_in, next_token_of, of_shard}
 use Rattle.foyer_session.specs.Waits.{WaitsIn, times}
@@ -15,9 +15,9 @@ use Rattle.foyer_session.proofs.LedgerTokens.{IsCount, count_one, same_count, ti
 pub record WaitsAt {K N R : Type 0} (shards shard : ℕ) (f : Opens K N R) (token : ℕ) : Type 0 where
   pub key : ℕ × K
   pub home : key.0 % shards ≡ shard
-  pub place : Place N R
-  pub placed : f.places key ≡ Some place
-  pub waits : has token (tokens_of place) ≡ true
+  pub opened : OpenFetch N R
+  pub is_open : f.by_key key ≡ Some opened
+  pub waits : has token (tokens_of opened) ≡ true
 
 module _ {K N R : Type 0} where
   -- what waits has a number below the next one
@@ -25,15 +25,15 @@ module _ {K N R : Type 0} where
       ((i : ℕ) (f : Opens K N R) → slice_get fetches i ≡ Some f → AreOpen eq f)
       → (shard token : ℕ) → WaitsIn fetches shard token → token < next_token_in fetches shard
   all_known eq fetches sound shard token w = go (slice_get fetches shard) refl where
-    at : place_in fetches w.key ≡ option_and_then (λ (g : Opens K N R). g.places w.key) (slice_get fetches shard)
-    at = ap (λ (j : ℕ). option_and_then (λ (g : Opens K N R). g.places w.key) (slice_get fetches j)) w.home
+    at : open_in fetches w.key ≡ option_and_then (λ (g : Opens K N R). g.by_key w.key) (slice_get fetches shard)
+    at = ap (λ (j : ℕ). option_and_then (λ (g : Opens K N R). g.by_key w.key) (slice_get fetches j)) w.home
 
     go : (o : Option (Opens K N R)) → slice_get fetches shard ≡ o → token < next_token_of o
     go None is =
-        absurd (let e : ◌≡◌ {A = Option (Place N R)} None (Some w.place) =
-        sym (at ∙ ap (option_and_then (λ (g : Opens K N R). g.places w.key)) is) ∙ w.placed in cc)
-    go (Some f) is = (sound shard f is).tokens_below w.key w.place token
-        (sym (at ∙ ap (option_and_then (λ (g : Opens K N R). g.places w.key)) is) ∙ w.placed) w.waits
+        absurd (let e : ◌≡◌ {A = Option (OpenFetch N R)} None (Some w.opened) =
+        sym (at ∙ ap (option_and_then (λ (g : Opens K N R). g.by_key w.key)) is) ∙ w.is_open in cc)
+    go (Some f) is = (sound shard f is).tokens_below w.key w.opened token
+        (sym (at ∙ ap (option_and_then (λ (g : Opens K N R). g.by_key w.key)) is) ∙ w.is_open) w.waits
 
   -- where the open fetches stay, nothing is issued or handed out
   pub stays_settled : (old new : List (Opens K N R)) → new ≡ old →
@@ -54,11 +54,11 @@ module _ {K N R : Type 0} where
   module _ (fetches : List (Opens K N R)) (i : ℕ) (f : Opens K N R) (there : slice_get fetches i ≡ Some f) where
     pub place_at : (fs : List (Opens K N R)) (g : Opens K N R) (n : ℕ) (q : ℕ × K) → slice_get fs i ≡ Some g → q.0 % n
         ≡ i → length fs ≡ n
-        → place_in fs q ≡ g.places q
+        → open_in fs q ≡ g.by_key q
     place_at fs g n q is home long =
-        ap (λ (m : ℕ). option_and_then (λ (x : Opens K N R). x.places q) (slice_get fs (q.0 % m))) long
-        ∙ ap (λ (j : ℕ). option_and_then (λ (x : Opens K N R). x.places q) (slice_get fs j)) home
-        ∙ ap (option_and_then (λ (x : Opens K N R). x.places q)) is
+        ap (λ (m : ℕ). option_and_then (λ (x : Opens K N R). x.by_key q) (slice_get fs (q.0 % m))) long
+        ∙ ap (λ (j : ℕ). option_and_then (λ (x : Opens K N R). x.by_key q) (slice_get fs j)) home
+        ∙ ap (option_and_then (λ (x : Opens K N R). x.by_key q)) is
 
     -- who waits in the shard
     from_shard : (t : ℕ) → WaitsIn fetches i t → WaitsAt (length fetches) i f t
@@ -66,9 +66,9 @@ module _ {K N R : Type 0} where
         record {
           key = w.key;
           home = w.home;
-          place = w.place;
-          placed =
-              sym (place_at fetches f (length fetches) w.key there w.home refl) ∙ w.placed;
+          opened = w.opened;
+          is_open =
+              sym (place_at fetches f (length fetches) w.key there w.home refl) ∙ w.is_open;
           waits = w.waits;
         }
 
@@ -77,9 +77,9 @@ module _ {K N R : Type 0} where
         record {
           key = w.key;
           home = w.home;
-          place = w.place;
-          placed =
-              place_at fetches f (length fetches) w.key there w.home refl ∙ w.placed;
+          opened = w.opened;
+          is_open =
+              place_at fetches f (length fetches) w.key there w.home refl ∙ w.is_open;
           waits = w.waits;
         }
 
@@ -103,9 +103,9 @@ module _ {K N R : Type 0} where
           record {
             key = w.key;
             home = home;
-            place = w.place;
-            placed =
-                sym (place_at new g (length fetches) w.key (set_here fetches i f g there) home long) ∙ w.placed;
+            opened = w.opened;
+            is_open =
+                sym (place_at new g (length fetches) w.key (set_here fetches i f g there) home long) ∙ w.is_open;
             waits =
                 w.waits;
           }
@@ -115,18 +115,18 @@ module _ {K N R : Type 0} where
           record {
             key = w.key;
             home = new_home w.key i w.home;
-            place = w.place;
-            placed =
-                place_at new g (length fetches) w.key (set_here fetches i f g there) w.home long ∙ w.placed;
+            opened = w.opened;
+            is_open =
+                place_at new g (length fetches) w.key (set_here fetches i f g there) w.home long ∙ w.is_open;
             waits =
                 w.waits;
           }
 
       -- and in another shard
-      pub apart_place : (q : ℕ × K) (j : ℕ) → j ≢ i → q.0 % length fetches ≡ j → place_in new q ≡ place_in fetches q
+      pub apart_place : (q : ℕ × K) (j : ℕ) → j ≢ i → q.0 % length fetches ≡ j → open_in new q ≡ open_in fetches q
       apart_place q j apart home =
-          ap (λ (m : ℕ). option_and_then (λ (x : Opens K N R). x.places q) (slice_get new (q.0 % m))) long
-          ∙ ap (option_and_then (λ (x : Opens K N R). x.places q))
+          ap (λ (m : ℕ). option_and_then (λ (x : Opens K N R). x.by_key q) (slice_get new (q.0 % m))) long
+          ∙ ap (option_and_then (λ (x : Opens K N R). x.by_key q))
           (ap (slice_get new) home ∙ set_apart fetches i j g apart ∙ ap (slice_get fetches) (sym home))
 
       apart_from : (j t : ℕ) → j ≢ i → WaitsIn new j t → WaitsIn fetches j t
@@ -135,9 +135,9 @@ module _ {K N R : Type 0} where
           record {
             key = w.key;
             home = home;
-            place = w.place;
-            placed = sym (apart_place w.key j apart home)
-                ∙ w.placed;
+            opened = w.opened;
+            is_open = sym (apart_place w.key j apart home)
+                ∙ w.is_open;
             waits = w.waits;
           }
 
@@ -146,9 +146,9 @@ module _ {K N R : Type 0} where
           record {
             key = w.key;
             home = new_home w.key j w.home;
-            place = w.place;
-            placed =
-                apart_place w.key j apart w.home ∙ w.placed;
+            opened = w.opened;
+            is_open =
+                apart_place w.key j apart w.home ∙ w.is_open;
             waits = w.waits;
           }
 

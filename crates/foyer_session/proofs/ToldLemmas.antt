@@ -14,9 +14,9 @@ use Rattle.foyer_core.specs.Core.{Core, AtShard}
 use Rattle.foyer_core.specs.CoreBulk.{OfShards}
 use Rattle.foyer_core.specs.Observed.{IsTold as CoreTold, after_entry, after_leaves, known}
 use Rattle.foyer_core.specs.State.{State}
-use Rattle.foyer_core.specs.CoreFetches.{place_in}
+use Rattle.foyer_core.specs.CoreFetches.{open_in}
 use Rattle.foyer_core.specs.FetchLaws.{IsToldByEnd}
-use Rattle.foyer_core.specs.Inflight.{Place}
+use Rattle.foyer_core.specs.Inflight.{OpenFetch}
 use Rattle.foyer_core.specs.Pieces.{coming_under}
 use Rattle.foyer_core.specs.Values.{Carried, Gone, Held}
 use Rattle.foyer_core.specs.Waited.{Ending}
@@ -88,7 +88,7 @@ module _ {K V P View C S W A : Type 0} (t : Terms K V P View C S W A) where
       (old new : SessionState K V P View S W A)
       (equal : (a b : K) → t.meaning.same a b ≡ true → hash_in t old a ≡ hash_in t old b)
       (sound : AreSound t.meaning laws good (hash_in t old) equal (length old.core.shards) old.core.shards)
-      (waited : (q : ℕ × K) (o : Place (Unit {0}) ℕ) → place_in old.fetches q ≡ Some o → 0 < length o.tokens) where
+      (waited : (q : ℕ × K) (o : OpenFetch (Unit {0}) ℕ) → open_in old.fetches q ≡ Some o → 0 < length o.tokens) where
     abbrev same : K → K → Bool
     same = t.meaning.same
 
@@ -306,7 +306,7 @@ module _ {K V P View C S W A : Type 0} (t : Terms K V P View C S W A) where
         source k h.0
         (t.weighs old.core.weighter) (t.admits old.core.filter) (λ p admitted. t.incoming admitted p) target
         (open_at t old k fetch)
-        (λ o is. waited (hashed t old k) o (asked_some fetch (place_in old.fetches (hashed t old k)) o is)) h.1 in
+        (λ o is. waited (hashed t old k) o (asked_some fetch (open_in old.fetches (hashed t old k)) o is)) h.1 in
         told_end h.0 answer leaves told.0 told.1 h.2
 
     complete_piece_step : (k : K) (fetch : ℕ) (piece : Option (Carried K V P)) (answer : Answer K V P)

@@ -4,7 +4,7 @@ use Rattle.std.specs.List.{AllByRecursion}
 use Rattle.foyer_policy.specs.declared.error.Reason.{Reason}
 use Rattle.foyer_policy.specs.declared.error.Reason.TheVariants.{Fetch, Handles, Ids, NoMemory, TaskCancelled, Weight, WrongKey}
 use Rattle.foyer_core.specs.Chains.{has}
-use Rattle.foyer_core.specs.CoreFetches.{place_in}
+use Rattle.foyer_core.specs.CoreFetches.{open_in}
 use Rattle.foyer_core.specs.Indexer.{same_key}
 use Rattle.foyer_core.specs.Inflight.{Opens, tokens_of}
 use Rattle.foyer_core.specs.State.{key_of}
@@ -56,7 +56,7 @@ module _ {K N R : Type 0} where
 
 -- a token waits for a hashed key
 abbrev pub WaitsFor : {K N R : Type 0} → List (Opens K N R) → ℕ × K → ℕ → Type 0
-WaitsFor fetches key token = IsSomeAnd (place_in fetches key) (λ place. has token (tokens_of place) ≡ true)
+WaitsFor fetches key token = IsSomeAnd (open_in fetches key) (λ opened. has token (tokens_of opened) ≡ true)
 
 -- a token was issued for this hashed key, where these were issued; `same` says when keys are equal
 abbrev pub IsIssuedFor : {K : Type 0} → (K → K → Bool) → List ((ℕ × K) × ℕ) → ℕ × K → ℕ → Type 0

@@ -11,9 +11,9 @@ use Rattle.foyer_core.specs.declared.record.Data.{Data}
 use Rattle.foyer_core.specs.Values.{Carried, Denied, Gone, Held, Made}
 use Rattle.foyer_core.specs.Bulk.{Clears, EvictsIf, EvictsUnpinned, EvictingUnpinned}
 use Rattle.foyer_core.specs.CoreBulk.{InTurn, InTurnUntil, OfShards, EvictsToCapacity, EvictingToCapacity, Resizes, Configures}
-use Rattle.foyer_core.specs.CoreFetches.{AtOpen, Completed, EndsAt, IsOpenIn, at_hash, place_in}
+use Rattle.foyer_core.specs.CoreFetches.{AtOpen, Completed, EndsAt, IsOpenIn, at_hash, open_in}
 use Rattle.foyer_core.specs.Fetching.{LooksUp}
-use Rattle.foyer_core.specs.Inflight.{Opens, Place, after_nothing, asked, closed, waiters_of}
+use Rattle.foyer_core.specs.Inflight.{Opens, OpenFetch, after_nothing, asked, closed, waiters_of}
 use Rattle.foyer_core.specs.Pieces.{InsertsPiece, coming_under}
 use Rattle.foyer_core.specs.State.{State, key_of}
 use Rattle.foyer_core.specs.Waited.{Ending, lost}
@@ -151,13 +151,13 @@ module _ {K V P View C S W A : Type 0} (t : Terms K V P View C S W A) where
 
   -- who waits for a hashed key
   abbrev pub waiting_at : SessionState K V P View S W A → ℕ × K → List (Waiting (Unit {0}))
-  waiting_at s q = waiters_of (place_in s.fetches q)
+  waiting_at s q = waiters_of (open_in s.fetches q)
 
-  -- the place of a key whose fetch of this number is open
-  abbrev pub open_at : SessionState K V P View S W A → K → ℕ → Option (Place (Unit {0}) ℕ)
-  open_at s k fetch = asked (Some fetch) (place_in s.fetches (hashed s k))
+  -- the open fetch of this number and key
+  abbrev pub open_at : SessionState K V P View S W A → K → ℕ → Option (OpenFetch (Unit {0}) ℕ)
+  open_at s k fetch = asked (Some fetch) (open_in s.fetches (hashed s k))
 
-  -- the place of a hashed key is closed, and all other places stay
+  -- the open fetch of a hashed key is closed, and all others stay
   abbrev pub Closes : SessionState K V P View S W A → ℕ × K → SessionState K V P View S W A → Type 0
   Closes old q new = new.fetches ≡ at_hash (λ f. closed t.meaning.same f q) old.fetches q.0
 

@@ -1,16 +1,16 @@
 -- Who waits with a token, and how many.
 use Rattle.std.specs.Prelude.{◌≡◌, ℕ, suc, ◌+◌, ◌<◌, ◌≤◌, ◌%◌, ◌==◌, ◌&&◌, Bool, true, cond, List, [], ◌∷◌, Option, Some, length}
 use Rattle.foyer_core.specs.Chains.{has}
-use Rattle.foyer_core.specs.CoreFetches.{place_in}
-use Rattle.foyer_core.specs.Inflight.{Opens, Place, tokens_of}
+use Rattle.foyer_core.specs.CoreFetches.{open_in}
+use Rattle.foyer_core.specs.Inflight.{Opens, OpenFetch, tokens_of}
 
 -- a token of the shard of this number waits for a key
 pub record WaitsIn {K N R : Type 0} (fetches : List (Opens K N R)) (shard token : ℕ) : Type 0 where
   pub key : ℕ × K
   pub home : key.0 % length fetches ≡ shard
-  pub place : Place N R
-  pub placed : place_in fetches key ≡ Some place
-  pub waits : has token (tokens_of place) ≡ true
+  pub opened : OpenFetch N R
+  pub is_open : open_in fetches key ≡ Some opened
+  pub waits : has token (tokens_of opened) ≡ true
 
 -- whether a token of a shard is this one
 abbrev pub is_token : ℕ → ℕ → ℕ × ℕ → Bool

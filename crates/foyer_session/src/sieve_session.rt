@@ -36,7 +36,8 @@ pub fn run_sieve<
         (session_of session.old) commands.items replies.items (session_of session.new)) }
     ensures told { IfOk result (λ replies. IsTold (terms_of session.old) (session_of session.old) replies.items (session_of session.new)) }
     ensures settled { IfOk result (λ replies. IsSettled (terms_of session.old) (session_of session.old) commands.items replies.items (session_of session.new)) }
-    ensures answered { IfOk result (λ replies. AreAnswered (terms_of session.old) (session_of session.old) commands.items replies.items (session_of session.new)) }
+    ensures answered { IfOk result (λ replies. AreAnswered (terms_of session.old)
+        (session_of session.old) commands.items replies.items (session_of session.new)) }
     ensures refused { IfErr result (λ e. e ≡ NoMemory) }
     ensures err { OnErr result (session_of session.new ≡ session_of session.old) }
 {

@@ -87,11 +87,11 @@ impl<
         };
         let number = book.apply(made)?;
         calls.add(mine, 1);
-        let (told, kept) = book.copies(number);
+        let (told, copy) = book.copies(number);
         receipts.push_reserved(Receipt {
             number,
             command,
-            reply: kept,
+            reply: copy,
         });
         Ok((told, number))
     }

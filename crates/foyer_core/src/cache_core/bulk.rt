@@ -40,7 +40,8 @@ impl<
     pub fn evict_all(&mut self) -> std::result::Result<Vec<Leave<K, V, P>>, Refused<K, V, P>>
         ensures done { IfOk result (λ leaves. OfShards (InTurn (EvictsUnpinned (meaning_of_core self.old)))
             (core_of self.old) leaves.items (core_of self.new)) }
-        ensures refused { IfErr result (λ refused. OfShards (InTurnUntil (EvictsUnpinned (meaning_of_core self.old)) (EvictingUnpinned (meaning_of_core self.old)))
+        ensures refused { IfErr result (λ refused. OfShards
+            (InTurnUntil (EvictsUnpinned (meaning_of_core self.old)) (EvictingUnpinned (meaning_of_core self.old)))
             (core_of self.old) refused.leaves.items (core_of self.new)) }
         ensures reason { IfErr result (λ refused. refused.error ≡ NoMemory) }
         ensures emptied { OnOk result (NothingPinned (meaning_of_core self.old) (core_of self.old) → IsEmptied (meaning_of_core self.new) (core_of self.new)) }
@@ -70,7 +71,9 @@ impl<
     ) -> std::result::Result<Vec<Leave<K, V, P>>, Refused<K, V, P>>
         ensures done { IfOk result (λ leaves. Resizes (meaning_of_core self.old) (InTurn (EvictsToCapacity (meaning_of_core self.old)))
             capacity (core_of self.old) leaves.items (core_of self.new)) }
-        ensures refused { IfErr result (λ refused. Resizes (meaning_of_core self.old) (InTurnUntil (EvictsToCapacity (meaning_of_core self.old)) (EvictingToCapacity (meaning_of_core self.old)))
+        ensures refused { IfErr result (λ refused. Resizes (meaning_of_core self.old)
+            (InTurnUntil (EvictsToCapacity (meaning_of_core self.old))
+            (EvictingToCapacity (meaning_of_core self.old)))
             capacity (core_of self.old) refused.leaves.items (core_of self.new)) }
         ensures reason { IfErr result (λ refused. refused.error ≡ NoMemory) }
         ensures fits { OnOk result (FitsOrPinned (meaning_of_core self.new) (core_of self.new)) }

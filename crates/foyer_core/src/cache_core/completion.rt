@@ -3,7 +3,7 @@
 ghost use Rattle.std.specs.Prelude.{◌≡◌, ℕ, IsSomeAnd, Some, true};
 ghost use Rattle.foyer_policy.specs.declared.types.Source.{Source as SourceOf};
 ghost use Rattle.foyer_policy.specs.declared.types.Source.TheVariants.{Memory};
-ghost use Rattle.foyer_core.specs.Inflight.{Place, asked};
+ghost use Rattle.foyer_core.specs.Inflight.{OpenFetch, asked};
 ghost use Rattle.foyer_core.specs.State.{coming_in};
 ghost use Rattle.foyer_core.specs.Waited.{ending_of};
 
@@ -31,7 +31,7 @@ impl<
     I: Finder<K>,
 > CacheCore<E, K, V, P, S, W, A, N, R, I> {
     ghost use Rattle.foyer_core.specs.Core.{shard_at};
-    ghost use Rattle.foyer_core.specs.CoreFetches.{AtOpen, Completed, PieceCompletes, ValueCompletes, is_of, place_in};
+    ghost use Rattle.foyer_core.specs.CoreFetches.{AtOpen, Completed, PieceCompletes, ValueCompletes, is_of, open_in};
     ghost use Rattle.foyer_core.specs.Cores.{core_of, fetches_of, hashes_of, meaning_of_core};
     ghost use Rattle.foyer_core.specs.FetchLaws.{BoundsTarget, FindsTarget, IsToldByEnd};
     ghost use Rattle.foyer_core.specs.Fetching.{CompletesBackBy, CompletesBy};
@@ -39,7 +39,7 @@ impl<
     ghost use Rattle.foyer_core.specs.Pieces.{held_or, is_known};
 
     /// Ends an open fetch of a key with a record of it, of which each who waits gets an entry, and answers what left. The
-    /// key's place is closed. A clone of the key must equal it.
+    /// key's fetch is closed. A clone of the key must equal it.
     ///
     /// A value comes in as an insert's does, with this source: the weighter is asked and then the filter. A piece comes
     /// in as an inserted one does, with the source `Memory`, where the record that it stands for has this key; else those
@@ -56,15 +56,20 @@ impl<
         source: Source,
     ) -> Ended<K, V, P, N>
         requires clones { (k c : K) → K.is_clone k c → K.eq c k ≡ true }
-        ensures completed { Completed (meaning_of_core self.old) (hashes_of self.old) (W.weighs (core_of self.old).weighter) (A.admits (core_of self.old).filter)
+        ensures completed { Completed (meaning_of_core self.old) (hashes_of self.old)
+            (W.weighs (core_of self.old).weighter) (A.admits (core_of self.old).filter)
             (λ properties admitted. coming_in P.location_of P.with_phantom_of admitted properties) source target (hashes_of self.old key.now, key.now)
-            (asked (Some fetch) (place_in (fetches_of self.old) (hashes_of self.old key.now, key.now))) (ending_of result)
+            (asked (Some fetch) (open_in (fetches_of self.old) (hashes_of self.old key.now, key.now))) (ending_of result)
             (core_of self.old) (fetches_of self.old) (core_of self.new) (fetches_of self.new) }
-        ensures found { FindsTarget (meaning_of_core self.new) (hashes_of self.new) P.location_of (A.admits (core_of self.old).filter) target key.now (ending_of result).outcome (core_of self.new) }
-        ensures bounded { BoundsTarget (meaning_of_core self.old) P.location_of (A.admits (core_of self.old).filter) target (hashes_of self.old key.now) key.now (ending_of result).outcome
+        ensures found { FindsTarget (meaning_of_core self.new) (hashes_of self.new) P.location_of
+            (A.admits (core_of self.old).filter) target key.now (ending_of result).outcome (core_of self.new) }
+        ensures bounded { BoundsTarget (meaning_of_core self.old) P.location_of
+            (A.admits (core_of self.old).filter) target (hashes_of self.old key.now) key.now
+            (ending_of result).outcome
             (core_of self.old) (core_of self.new) }
         ensures stay { HandlesStay (λ _. 0) (core_of self.old) (core_of self.new) }
-        ensures told { IsToldByEnd K.eq (hashes_of self.old) P.phantom_of (core_of self.old) (ending_of result).leaves (ending_of result).outcome (core_of self.new) }
+        ensures told { IsToldByEnd K.eq (hashes_of self.old) P.phantom_of (core_of self.old) (ending_of result).leaves
+            (ending_of result).outcome (core_of self.new) }
     {
         if !self.is_open(key, fetch) {
             return Ended::lost(self.alloc);
@@ -88,9 +93,11 @@ impl<
     ) -> Ended<K, V, P, N>
         requires clones { (k c : K) → K.is_clone k c → K.eq c k ≡ true }
         ensures completed { let k : ℕ × K = (hashes_of self.old key.now, key.now) in
-            (o : Place N R) → asked (Some fetch) (place_in (fetches_of self.old) k) ≡ Some o
-            → ValueCompletes (meaning_of_core self.old) source (W.weighs (core_of self.old).weighter key.now value) (A.admits (core_of self.old).filter key.now value) k value
-            (λ admitted. coming_in P.location_of P.with_phantom_of admitted properties) o (ending_of result) (core_of self.old) (fetches_of self.old) (core_of self.new) (fetches_of self.new) }
+            (o : OpenFetch N R) → asked (Some fetch) (open_in (fetches_of self.old) k) ≡ Some o
+            → ValueCompletes (meaning_of_core self.old) source (W.weighs (core_of self.old).weighter key.now value)
+            (A.admits (core_of self.old).filter key.now value) k value
+            (λ admitted. coming_in P.location_of P.with_phantom_of admitted properties) o (ending_of result)
+            (core_of self.old) (fetches_of self.old) (core_of self.new) (fetches_of self.new) }
     {
         let hash = self.hash(key);
         let weight = self.weighter.weigh(key, &value);
@@ -119,10 +126,10 @@ impl<
         requires clones { (k c : K) → K.is_clone k c → K.eq c k ≡ true }
         requires hashed { kept.hash ≡ hashes_of self.old kept.key }
         ensures completed { let k : ℕ × K = (kept.hash, kept.key) in
-            AtOpen (λ s f t g. CompletesBy (meaning_of_core self.old) (asked (Some fetch) (f.places k)) source s f k kept (ending_of result) t g)
+            AtOpen (λ s f t g. CompletesBy (meaning_of_core self.old) (asked (Some fetch) (f.by_key k)) source s f k kept (ending_of result) t g)
             kept.hash (core_of self.old) (fetches_of self.old) (core_of self.new) (fetches_of self.new) }
     {
-        let place = self.place(kept.hash);
+        let place = self.shard_index(kept.hash);
         let before = Load::of(&self.shards[place]);
         let ended = self.shards[place].complete(self.alloc, fetch, kept, source);
         let after = Load::of(&self.shards[place]);
@@ -140,11 +147,11 @@ impl<
         weight: usize,
     ) -> Ended<K, V, P, N>
         ensures completed { let k : ℕ × K = (hash, key.now) in (source : SourceOf) (value : V) →
-            AtOpen (λ s f t g. CompletesBy (meaning_of_core self.old) (asked (Some fetch) (f.places k)) source s f k
+            AtOpen (λ s f t g. CompletesBy (meaning_of_core self.old) (asked (Some fetch) (f.by_key k)) source s f k
             (record { key = key.now; value = value; properties = properties.now; hash = hash; weight = weight }) (ending_of result) t g)
             hash (core_of self.old) (fetches_of self.old) (core_of self.new) (fetches_of self.new) }
     {
-        let place = self.place(hash);
+        let place = self.shard_index(hash);
         self.shards[place].refuse_value(self.alloc, hash, key, fetch, properties, weight)
     }
 
@@ -152,16 +159,17 @@ impl<
     fn complete_piece(&mut self, key: &K, fetch: u64, piece: Piece<K, V, P>) -> Ended<K, V, P, N>
         requires clones { (k c : K) → K.is_clone k c → K.eq c k ≡ true }
         ensures completed { let k : ℕ × K = (hashes_of self.old key.now, key.now) in let hash = hashes_of self.old piece.kept.key in
-            (o : Place N R) → asked (Some fetch) (place_in (fetches_of self.old) k) ≡ Some o
+            (o : OpenFetch N R) → asked (Some fetch) (open_in (fetches_of self.old) k) ≡ Some o
             → PieceCompletes (meaning_of_core self.old) (is_of (meaning_of_core self.old) (core_of self.old) hash piece k (shard_at (core_of self.old) k.0))
-            (W.weighs (core_of self.old).weighter piece.kept.key piece.kept.value) hash piece k o (ending_of result) (core_of self.old) (fetches_of self.old) (core_of self.new) (fetches_of self.new) }
+            (W.weighs (core_of self.old).weighter piece.kept.key piece.kept.value) hash piece k o (ending_of result)
+            (core_of self.old) (fetches_of self.old) (core_of self.new) (fetches_of self.new) }
     {
         let hash = self.hash(key);
         let own = self.hash(piece.key());
         if !self.stands_for(own, &piece, hash, key) {
             return self.end(key, fetch, Error::new(Reason::WrongKey));
         }
-        if self.shards[self.place(hash)].knows(own, &piece) {
+        if self.shards[self.shard_index(hash)].knows(own, &piece) {
             return self.complete_known(hash, key, fetch, piece);
         }
         self.complete_foreign(own, fetch, piece)
@@ -171,8 +179,8 @@ impl<
     fn stands_for(&self, own: u64, piece: &Piece<K, V, P>, hash: u64, key: &K) -> bool
         ensures { result ≡ is_of (meaning_of_core self.now) (core_of self.now) own piece.now (hash, key.now) (shard_at (core_of self.now) hash) }
     {
-        let place = self.place(hash);
-        self.place(own) == place && self.shards[place].is_under(own, piece, key)
+        let place = self.shard_index(hash);
+        self.shard_index(own) == place && self.shards[place].is_under(own, piece, key)
     }
 
     // Ends an open fetch with the record of its key for which a piece stands.
@@ -188,10 +196,10 @@ impl<
         requires known { IsSomeAnd (shard_at (core_of self.old) hash) (λ s. is_known s (hashes_of self.old piece.kept.key) piece ≡ true) }
         requires same { IsSomeAnd (shard_at (core_of self.old) hash) (λ s. K.eq key.now (held_or piece.kept (s.records piece.id)).key ≡ true) }
         ensures completed { let k : ℕ × K = (hash, key.now) in
-            AtOpen (λ s f t g. CompletesBackBy (meaning_of_core self.old) (asked (Some fetch) (f.places k)) s f k piece (ending_of result) t g)
+            AtOpen (λ s f t g. CompletesBackBy (meaning_of_core self.old) (asked (Some fetch) (f.by_key k)) s f k piece (ending_of result) t g)
             hash (core_of self.old) (fetches_of self.old) (core_of self.new) (fetches_of self.new) }
     {
-        let place = self.place(hash);
+        let place = self.shard_index(hash);
         let before = Load::of(&self.shards[place]);
         let ended = self.shards[place].complete_back(self.alloc, hash, key, fetch, piece);
         let after = Load::of(&self.shards[place]);
@@ -210,10 +218,11 @@ impl<
         requires hashed { hash ≡ hashes_of self.old piece.kept.key }
         ensures completed { let k : ℕ × K = (hash, piece.kept.key) in
             AtOpen (λ s f t g. (weight : ℕ) × W.weighs (core_of self.old).weighter piece.kept.key piece.kept.value weight
-            × CompletesBy (meaning_of_core self.old) (asked (Some fetch) (f.places k)) Memory s f k (record piece.kept { hash = hash; weight = weight }) (ending_of result) t g)
+            × CompletesBy (meaning_of_core self.old) (asked (Some fetch) (f.by_key k)) Memory s f k
+            (record piece.kept { hash = hash; weight = weight }) (ending_of result) t g)
             hash (core_of self.old) (fetches_of self.old) (core_of self.new) (fetches_of self.new) }
     {
-        let place = self.place(hash);
+        let place = self.shard_index(hash);
         let weight = self.weighter.weigh(piece.key(), piece.value());
         let before = Load::of(&self.shards[place]);
         let ended = self.shards[place].complete_new(self.alloc, fetch, piece, hash, weight);

@@ -42,7 +42,7 @@ impl<
         ensures told { IsTold K.eq (hashes_of self.old) (core_of self.old) [] (core_of self.new) }
     {
         let hash = self.hash(key);
-        let place = self.place(hash);
+        let place = self.shard_index(hash);
         self.shards[place].touch(hash, key)
     }
 
@@ -60,7 +60,7 @@ impl<
             (λ _. IsTold K.eq (hashes_of self.old) (core_of self.old) [] (core_of self.new)) }
     {
         let hash = self.hash(key);
-        let place = self.place(hash);
+        let place = self.shard_index(hash);
         let before = Load::of(&self.shards[place]);
         let removed = self.shards[place].remove(hash, key);
         let after = Load::of(&self.shards[place]);
@@ -79,7 +79,7 @@ impl<
         ensures stay { HandlesStay (λ _. 0) (core_of self.old) (core_of self.new) }
         ensures told { IsTold K.eq (hashes_of self.old) (core_of self.old) [] (core_of self.new) }
     {
-        let place = self.place(entry.hash());
+        let place = self.shard_index(entry.hash());
         self.shards[place].clone_handle(entry)
     }
 
@@ -88,7 +88,7 @@ impl<
         requires owned { Owns (core_of self.now) entry.now }
         ensures { result ≡ refs_in (core_of self.now) entry.now }
     {
-        self.shards[self.place(entry.hash())].refs(entry)
+        self.shards[self.shard_index(entry.hash())].refs(entry)
     }
 
     /// Whether an entry's record is in the index no more: it left, or gave way to another. It asks for an
@@ -97,7 +97,7 @@ impl<
         requires owned { Owns (core_of self.now) entry.now }
         ensures { IsTrue result ↔ IsOutdatedIn (core_of self.now) entry.now }
     {
-        self.shards[self.place(entry.hash())].is_outdated(entry)
+        self.shards[self.shard_index(entry.hash())].is_outdated(entry)
     }
 
     /// Ends an entry, as `give_back` does, and answers what left with it. One that the core does not own is

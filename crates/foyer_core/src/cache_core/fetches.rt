@@ -27,7 +27,7 @@ impl<
     R: Drop,
     I: Finder<K>,
 > CacheCore<E, K, V, P, S, W, A, N, R, I> {
-    ghost use Rattle.foyer_core.specs.CoreFetches.{AtOpen, EndsAt, IsOpenIn, at_hash, place_in};
+    ghost use Rattle.foyer_core.specs.CoreFetches.{AtOpen, EndsAt, IsOpenIn, at_hash, open_in};
     ghost use Rattle.foyer_core.specs.Cores.{core_of, fetches_of, hashes_of, meaning_of_core};
     ghost use Rattle.foyer_core.specs.Fetching.{LooksUp};
     ghost use Rattle.foyer_core.specs.Laws.{HandlesStay};
@@ -53,7 +53,7 @@ impl<
         ensures told { IsTold K.eq (hashes_of self.old) (core_of self.old) [] (core_of self.new) }
     {
         let hash = self.hash(key);
-        let place = self.place(hash);
+        let place = self.shard_index(hash);
         self.shards[place].get_or_enqueue(hash, key, required, waiter)
     }
 
@@ -63,12 +63,12 @@ impl<
         ensures is_open { let hash = S.hash_of (core_of self.now).hash_builder (K.hash_input key.now) in
             IsTrue result ↔ IsOpenIn (fetches_of self.now) (hash, key.now) fetch }
         ensures equal_keys { let hash = S.hash_of (core_of self.now).hash_builder (K.hash_input key.now) in
-            (other : K) → IsTrue (K.eq key.now other) → place_in (fetches_of self.now) (hash, other) ≡ place_in (fetches_of self.now) (hash, key.now) }
+            (other : K) → IsTrue (K.eq key.now other) → open_in (fetches_of self.now) (hash, other) ≡ open_in (fetches_of self.now) (hash, key.now) }
         ensures apart { let hash = S.hash_of (core_of self.now).hash_builder (K.hash_input key.now) in
-            (id : ℕ) → known (hashes_of self.now) (core_of self.now) key.now ≡ Some id → place_in (fetches_of self.now) (hash, key.now) ≡ None }
+            (id : ℕ) → known (hashes_of self.now) (core_of self.now) key.now ≡ Some id → open_in (fetches_of self.now) (hash, key.now) ≡ None }
     {
         let hash = self.hash(key);
-        self.shards[self.place(hash)].is_open(hash, key, fetch)
+        self.shards[self.shard_index(hash)].is_open(hash, key, fetch)
     }
 
     /// Ends an open fetch of a key with a fault, which those get who wait (F11). A fetch that is not open ends as lost,
@@ -98,24 +98,24 @@ impl<
         ensures core { core_of self.new ≡ core_of self.old }
     {
         let hash = self.hash(key);
-        let place = self.place(hash);
+        let place = self.shard_index(hash);
         self.shards[place].end(self.alloc, hash, key, fetch, error)
     }
 
-    /// A fetch of a key found nothing: the builder that is kept, to fetch with. Without one its place is closed, and
+    /// A fetch of a key found nothing: the builder that is kept, to fetch with. Without one it is closed, and
     /// who waits is to be answered. None where that fetch is not open. It takes no memory.
     pub fn fetch_or_take(&mut self, key: &K, fetch: u64) -> Option<FetchOrTake<R, N>>
         ensures answer { let hash = S.hash_of (core_of self.old).hash_builder (K.hash_input key.now) in
-            IfSome result (λ answer. IsSomeAnd (asked (Some fetch) (place_in (fetches_of self.old) (hash, key.now))) (λ o. IsFetchOrTake o answer)) }
+            IfSome result (λ answer. IsSomeAnd (asked (Some fetch) (open_in (fetches_of self.old) (hash, key.now))) (λ o. IsFetchOrTake o answer)) }
         ensures none { let hash = S.hash_of (core_of self.old).hash_builder (K.hash_input key.now) in
-            IfNone result (asked (Some fetch) (place_in (fetches_of self.old) (hash, key.now)) ≡ None) }
+            IfNone result (asked (Some fetch) (open_in (fetches_of self.old) (hash, key.now)) ≡ None) }
         ensures opens { let hash = S.hash_of (core_of self.old).hash_builder (K.hash_input key.now) in
             OnSome result (fetches_of self.new ≡ at_hash (λ f. after_nothing K.eq f (hash, key.now)) (fetches_of self.old) hash) }
         ensures same { IfNone result (fetches_of self.new ≡ fetches_of self.old) }
         ensures core { core_of self.new ≡ core_of self.old }
     {
         let hash = self.hash(key);
-        let place = self.place(hash);
+        let place = self.shard_index(hash);
         self.shards[place].fetch_or_take(hash, key, fetch)
     }
 }

@@ -29,7 +29,9 @@ pub(super) fn evict_each<
 >(shards: &mut Vec<Shard<E, K, V, P, N, R, I>>, leaves: &mut Vec<Leave<K, V, P>>) -> Result<()>
     ensures done { OnOk result (GoesOn leaves.old.items leaves.new.items (λ ls. InTurn (EvictsUnpinned (meaning K.eq E.model P.hint_of P.phantom_of))
         (map state_of shards.old.items) ls (map state_of shards.new.items))) }
-    ensures refused { OnErr result (GoesOn leaves.old.items leaves.new.items (λ ls. InTurnUntil (EvictsUnpinned (meaning K.eq E.model P.hint_of P.phantom_of)) (EvictingUnpinned (meaning K.eq E.model P.hint_of P.phantom_of))
+    ensures refused { OnErr result (GoesOn leaves.old.items leaves.new.items
+        (λ ls. InTurnUntil (EvictsUnpinned (meaning K.eq E.model P.hint_of P.phantom_of))
+        (EvictingUnpinned (meaning K.eq E.model P.hint_of P.phantom_of))
         (map state_of shards.old.items) ls (map state_of shards.new.items))) }
     ensures reason { IfErr result (λ e. e ≡ NoMemory) }
     ensures opens { map opens_of shards.new.items ≡ map opens_of shards.old.items }
@@ -54,7 +56,9 @@ pub(super) fn evict_each_to_capacity<
 >(shards: &mut Vec<Shard<E, K, V, P, N, R, I>>, leaves: &mut Vec<Leave<K, V, P>>) -> Result<()>
     ensures done { OnOk result (GoesOn leaves.old.items leaves.new.items (λ ls. InTurn (EvictsToCapacity (meaning K.eq E.model P.hint_of P.phantom_of))
         (map state_of shards.old.items) ls (map state_of shards.new.items))) }
-    ensures refused { OnErr result (GoesOn leaves.old.items leaves.new.items (λ ls. InTurnUntil (EvictsToCapacity (meaning K.eq E.model P.hint_of P.phantom_of)) (EvictingToCapacity (meaning K.eq E.model P.hint_of P.phantom_of))
+    ensures refused { OnErr result (GoesOn leaves.old.items leaves.new.items
+        (λ ls. InTurnUntil (EvictsToCapacity (meaning K.eq E.model P.hint_of P.phantom_of))
+        (EvictingToCapacity (meaning K.eq E.model P.hint_of P.phantom_of))
         (map state_of shards.old.items) ls (map state_of shards.new.items))) }
     ensures reason { IfErr result (λ e. e ≡ NoMemory) }
     ensures opens { map opens_of shards.new.items ≡ map opens_of shards.old.items }
@@ -118,7 +122,8 @@ pub(super) fn clear_each<
     R: Drop,
     I: Finder<K>,
 >(shards: &mut Vec<Shard<E, K, V, P, N, R, I>>, alloc: Global) -> Result<Vec<Leave<K, V, P>>>
-    ensures done { IfOk result (λ leaves. InTurn (Clears (meaning K.eq E.model P.hint_of P.phantom_of)) (map state_of shards.old.items) leaves.items (map state_of shards.new.items)) }
+    ensures done { IfOk result (λ leaves. InTurn (Clears (meaning K.eq E.model P.hint_of P.phantom_of))
+        (map state_of shards.old.items) leaves.items (map state_of shards.new.items)) }
     ensures err { OnErr result (map state_of shards.new.items ≡ map state_of shards.old.items) }
     ensures refused { IfErr result (λ e. e ≡ NoMemory) }
     ensures opens { map opens_of shards.new.items ≡ map opens_of shards.old.items }
@@ -139,7 +144,8 @@ fn reserve_each<E: Eviction, K: Key, V: Value, P: Properties, N: Drop, R: Drop, 
     alloc: Global,
 ) -> Result<Vec<Vec<Item>>>
     ensures same { map state_of shards.new.items ≡ map state_of shards.old.items }
-    ensures ready { IfOk result (λ lists. AllZip (λ s list. E.can_clear s.store.eviction × (list.items ≡ E.model.order (E.view s.store.eviction))) shards.new.items lists.items) }
+    ensures ready { IfOk result (λ lists. AllZip (λ s list. E.can_clear s.store.eviction
+        × (list.items ≡ E.model.order (E.view s.store.eviction))) shards.new.items lists.items) }
     ensures refused { IfErr result (λ e. e ≡ NoMemory) }
     ensures opens { map opens_of shards.new.items ≡ map opens_of shards.old.items }
     ensures len { vec_len shards.new ≡ vec_len shards.old }
@@ -168,7 +174,8 @@ pub(super) fn evict_each_if<
     predicate: &F,
 ) -> Result<Vec<Leave<K, V, P>>>
     requires { F.IsAlwaysCallable predicate.now }
-    ensures done { IfOk result (λ leaves. InTurn (EvictsIf (meaning K.eq E.model P.hint_of P.phantom_of) (Says F.Fn predicate.now)) (map state_of shards.old.items) leaves.items (map state_of shards.new.items)) }
+    ensures done { IfOk result (λ leaves. InTurn (EvictsIf (meaning K.eq E.model P.hint_of P.phantom_of)
+        (Says F.Fn predicate.now)) (map state_of shards.old.items) leaves.items (map state_of shards.new.items)) }
     ensures err { OnErr result (map state_of shards.new.items ≡ map state_of shards.old.items) }
     ensures refused { IfErr result (λ e. e ≡ NoMemory) }
     ensures opens { map opens_of shards.new.items ≡ map opens_of shards.old.items }
@@ -195,7 +202,8 @@ fn pick_each<
 >(shards: &[Shard<E, K, V, P, N, R, I>], alloc: Global, predicate: &F) -> Result<Vec<Vec<Item>>>
     requires { F.IsAlwaysCallable predicate.now }
     ensures picks { IfOk result (λ lists. AllZip
-        (λ s list. Picks (meaning K.eq E.model P.hint_of P.phantom_of) (Says F.Fn predicate.now) (state_of s) list.items × IsWithin list.items (E.model.order (E.view s.store.eviction)))
+        (λ s list. Picks (meaning K.eq E.model P.hint_of P.phantom_of) (Says F.Fn predicate.now)
+        (state_of s) list.items × IsWithin list.items (E.model.order (E.view s.store.eviction)))
         shards.now lists.items) }
     ensures refused { IfErr result (λ e. e ≡ NoMemory) }
 {

@@ -31,7 +31,7 @@ impl<
     I: Finder<K>,
 > CacheCore<E, K, V, P, S, W, A, N, R, I> {
     ghost use Rattle.foyer_core.specs.Bulk.{GoesOn};
-    ghost use Rattle.foyer_core.specs.CoreFetches.{at_hash, place_in};
+    ghost use Rattle.foyer_core.specs.CoreFetches.{at_hash, open_in};
     ghost use Rattle.foyer_core.specs.Core.{InsertsWeighed};
     ghost use Rattle.foyer_core.specs.Cores.{core_of, fetches_of, hashes_of, meaning_of_core};
     ghost use Rattle.foyer_core.specs.Laws.{Finds, HandlesStay, IsBoundedAt};
@@ -52,9 +52,9 @@ impl<
             × GoesOn leaves.old.items leaves.new.items (λ ls.
             InsertsWeighed (meaning_of_core self.old) Outer (W.weighs (core_of self.old).weighter key value) (A.admits (core_of self.old).filter key value)
             hash key value (λ admitted. coming_in P.location_of P.with_phantom_of admitted p)
-            (1 + length (waiters_of (place_in (fetches_of self.old) (hash, key)))) (insertion_onto result ls) (core_of self.old) (core_of self.new)) }
+            (1 + length (waiters_of (open_in (fetches_of self.old) (hash, key)))) (insertion_onto result ls) (core_of self.old) (core_of self.new)) }
         ensures answers { let hash = S.hash_of (core_of self.old).hash_builder (K.hash_input key) in
-            IfOk result (λ made. AnswersEach (waiters_of (place_in (fetches_of self.old) (hash, key))) made.entry made.answers) }
+            IfOk result (λ made. AnswersEach (waiters_of (open_in (fetches_of self.old) (hash, key))) made.entry made.answers) }
         ensures closed { let hash = S.hash_of (core_of self.old).hash_builder (K.hash_input key) in
             OnOk result (fetches_of self.new ≡ at_hash (λ f. closed K.eq f (hash, key)) (fetches_of self.old) hash) }
         ensures fetches { OnErr result (fetches_of self.new ≡ fetches_of self.old) }
@@ -87,9 +87,9 @@ impl<
             GoesOn leaves.old.items leaves.new.items (λ ls.
             InsertsWeighed (meaning_of_core self.old) Outer (W.weighs (core_of self.old).weighter key value) (A.admits (core_of self.old).filter key value)
             hash key value (λ admitted. coming_in P.location_of P.with_phantom_of admitted properties)
-            (1 + length (waiters_of (place_in (fetches_of self.old) (hash, key)))) (insertion_onto result ls) (core_of self.old) (core_of self.new)) }
+            (1 + length (waiters_of (open_in (fetches_of self.old) (hash, key)))) (insertion_onto result ls) (core_of self.old) (core_of self.new)) }
         ensures answers { let hash = S.hash_of (core_of self.old).hash_builder (K.hash_input key) in
-            IfOk result (λ made. AnswersEach (waiters_of (place_in (fetches_of self.old) (hash, key))) made.entry made.answers) }
+            IfOk result (λ made. AnswersEach (waiters_of (open_in (fetches_of self.old) (hash, key))) made.entry made.answers) }
         ensures closed { let hash = S.hash_of (core_of self.old).hash_builder (K.hash_input key) in
             OnOk result (fetches_of self.new ≡ at_hash (λ f. closed K.eq f (hash, key)) (fetches_of self.old) hash) }
         ensures fetches { OnErr result (fetches_of self.new ≡ fetches_of self.old) }
@@ -116,7 +116,7 @@ impl<
             hash,
             weight,
         };
-        let place = self.place(hash);
+        let place = self.shard_index(hash);
         let before = Load::of(&self.shards[place]);
         let emplaced = self.shards[place].emplace_onto(self.alloc, kept, Source::Outer, leaves);
         let after = Load::of(&self.shards[place]);

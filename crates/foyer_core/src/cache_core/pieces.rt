@@ -28,7 +28,7 @@ impl<
     I: Finder<K>,
 > CacheCore<E, K, V, P, S, W, A, N, R, I> {
     ghost use Rattle.foyer_core.specs.Core.{AtShard, InsertsAnswering, shard_at};
-    ghost use Rattle.foyer_core.specs.CoreFetches.{at_hash, place_in};
+    ghost use Rattle.foyer_core.specs.CoreFetches.{at_hash, open_in};
     ghost use Rattle.foyer_core.specs.Cores.{core_of, fetches_of, hashes_of, meaning_of_core};
     ghost use Rattle.foyer_core.specs.Laws.{Finds, HandlesStay, IsBoundedAt, IsOutside};
     ghost use Rattle.foyer_core.specs.Observed.{IsTold, IsToldWith};
@@ -44,7 +44,7 @@ impl<
     /// and nothing else happens. Any other comes in again under its id, as an insert of it would. A piece of
     /// another core makes a new record, with a hash and a weight of its own, which shares the piece's key, value
     /// and properties. Neither the filter nor the location is asked; properties that say phantom count. Who waits for
-    /// the key of that record gets an entry of it each, and the key's place is closed.
+    /// the key of that record gets an entry of it each, and the key's fetch is closed.
     ///
     /// Refused as an insert is; a record that has an id needs no other (F10).
     pub fn insert_piece(
@@ -54,9 +54,9 @@ impl<
         requires clones { (k c : K) → K.is_clone k c → K.eq c k ≡ true }
         ensures inserted { let hash = S.hash_of (core_of self.old).hash_builder (K.hash_input piece.kept.key) in
             AtShard (λ s t. InsertsPiece (meaning_of_core self.old) (W.weighs (core_of self.old).weighter piece.kept.key piece.kept.value) hash piece
-            (1 + length (waiters_of (place_in (fetches_of self.old) (coming_under s hash piece)))) (insertion_of result) s t)
+            (1 + length (waiters_of (open_in (fetches_of self.old) (coming_under s hash piece)))) (insertion_of result) s t)
             hash (core_of self.old) (core_of self.new) }
-        ensures answers { IfOk result (λ made. AnswersEach (waiters_of (place_in (fetches_of self.old) (key_of made.entry.kept))) made.entry made.answers) }
+        ensures answers { IfOk result (λ made. AnswersEach (waiters_of (open_in (fetches_of self.old) (key_of made.entry.kept))) made.entry made.answers) }
         ensures closed { let hash = S.hash_of (core_of self.old).hash_builder (K.hash_input piece.kept.key) in
             IfOk result (λ made. fetches_of self.new ≡ at_hash (λ f. closed K.eq f (key_of made.entry.kept)) (fetches_of self.old) hash) }
         ensures fetches { OnErr result (fetches_of self.new ≡ fetches_of self.old) }
@@ -72,7 +72,7 @@ impl<
             (λ refused. IsTold K.eq (hashes_of self.old) (core_of self.old) refused.leaves.items (core_of self.new)) }
     {
         let hash = self.hash(piece.key());
-        let place = self.place(hash);
+        let place = self.shard_index(hash);
         if self.shards[place].knows(hash, &piece) {
             return self.insert_known(hash, piece);
         }
@@ -89,13 +89,15 @@ impl<
         requires hashed { hash ≡ hashes_of self.old piece.kept.key }
         requires known { IsSomeAnd (shard_at (core_of self.old) hash) (λ s. is_known s hash piece ≡ true) }
         ensures returned { AtShard (λ s t. ReturnsAnswering (meaning_of_core self.old) s piece
-            (1 + length (waiters_of (place_in (fetches_of self.old) (key_of (held_or piece.kept (s.records piece.id)))))) (insertion_of result) t) hash (core_of self.old) (core_of self.new) }
-        ensures answers { IfOk result (λ made. AnswersEach (waiters_of (place_in (fetches_of self.old) (key_of made.entry.kept))) made.entry made.answers) }
+            (1 + length (waiters_of (open_in (fetches_of self.old)
+            (key_of (held_or piece.kept (s.records piece.id)))))) (insertion_of result) t) hash (core_of self.old)
+            (core_of self.new) }
+        ensures answers { IfOk result (λ made. AnswersEach (waiters_of (open_in (fetches_of self.old) (key_of made.entry.kept))) made.entry made.answers) }
         ensures closed { IfOk result (λ made. fetches_of self.new ≡ at_hash (λ f. closed K.eq f (key_of made.entry.kept)) (fetches_of self.old) hash) }
         ensures fetches { OnErr result (fetches_of self.new ≡ fetches_of self.old) }
         ensures stay { HandlesStay (λ _. 0) (core_of self.old) (core_of self.new) }
     {
-        let place = self.place(hash);
+        let place = self.shard_index(hash);
         let before = Load::of(&self.shards[place]);
         let taken = self.shards[place].take_back(self.alloc, piece);
         let after = Load::of(&self.shards[place]);
@@ -113,14 +115,14 @@ impl<
         requires hashed { hash ≡ hashes_of self.old piece.kept.key }
         ensures inserted { AtShard (λ s t. (weight : ℕ) × W.weighs (core_of self.old).weighter piece.kept.key piece.kept.value weight
             × InsertsAnswering (meaning_of_core self.old) Memory s (newcomer s (record piece.kept { hash = hash; weight = weight })
-            (1 + length (waiters_of (place_in (fetches_of self.old) (hash, piece.kept.key))))) (insertion_of result) t)
+            (1 + length (waiters_of (open_in (fetches_of self.old) (hash, piece.kept.key))))) (insertion_of result) t)
             hash (core_of self.old) (core_of self.new) }
-        ensures answers { IfOk result (λ made. AnswersEach (waiters_of (place_in (fetches_of self.old) (key_of made.entry.kept))) made.entry made.answers) }
+        ensures answers { IfOk result (λ made. AnswersEach (waiters_of (open_in (fetches_of self.old) (key_of made.entry.kept))) made.entry made.answers) }
         ensures closed { IfOk result (λ made. fetches_of self.new ≡ at_hash (λ f. closed K.eq f (key_of made.entry.kept)) (fetches_of self.old) hash) }
         ensures fetches { OnErr result (fetches_of self.new ≡ fetches_of self.old) }
         ensures stay { HandlesStay (λ _. 0) (core_of self.old) (core_of self.new) }
     {
-        let place = self.place(hash);
+        let place = self.shard_index(hash);
         let weight = self.weighter.weigh(piece.key(), piece.value());
         let before = Load::of(&self.shards[place]);
         let taken = self.shards[place].take_new(self.alloc, piece, hash, weight);

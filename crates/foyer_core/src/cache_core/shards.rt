@@ -58,7 +58,8 @@ impl<
         config: &RawCacheConfig<E::Config, S, W, A>,
     ) -> Result<Vec<Shard<E, K, V, P, N, R, I>>>
         requires some { 0 < config.now.shards }
-        ensures made { IfOk result (λ shards. AreNewShards (meaning K.eq E.model P.hint_of P.phantom_of) config.now config.now.shards (map state_of shards.items)) }
+        ensures made { IfOk result (λ shards. AreNewShards
+            (meaning K.eq E.model P.hint_of P.phantom_of) config.now config.now.shards (map state_of shards.items)) }
         ensures opens { IfOk result (λ shards. All (λ f. f ≡ no_opens) (map opens_of shards.items)) }
         ensures accepted { OnOk result (E.model.fault config.now.eviction_config ≡ None) }
         ensures refused { IfSome (E.model.fault config.now.eviction_config) (λ reason. result ≡ Err reason) }
@@ -81,11 +82,11 @@ impl<
         Ok(shards)
     }
 
-    // The place of the shard of a hash.
+    // The shard of a hash, by its number.
     #[inline(always)]
-    pub(super) fn place(&self, hash: u64) -> usize
+    pub(super) fn shard_index(&self, hash: u64) -> usize
         ensures within { result < vec_len self.now.shards }
-        ensures place { result ≡ hash % vec_len self.now.shards }
+        ensures index { result ≡ hash % vec_len self.now.shards }
     {
         part_of(hash, self.shards.len() as u64) as usize
     }

@@ -14,7 +14,7 @@ impl<K: Key, N: Drop, R: Drop> InflightManager<K, N, R> {
     ghost use Rattle.foyer_core.specs.Inflights.{opens_of};
 
     // What an insert answers whose record came in so: those who wait for its key get the further entries, and the key's
-    // place is closed. It takes no memory.
+    // fetch is closed. It takes no memory.
     #[inline(always)]
     pub(crate) fn answer<V: Drop, P: Drop>(
         &mut self,
@@ -22,7 +22,7 @@ impl<K: Key, N: Drop, R: Drop> InflightManager<K, N, R> {
     ) -> Inserted<K, V, P, N>
         ensures entry { result.entry ≡ made.entry }
         ensures leaves { result.leaves ≡ made.leaves }
-        ensures waiters { result.answers.waiters.items ≡ waiters_of ((opens_of self.old).places (key_of made.entry.kept)) }
+        ensures waiters { result.answers.waiters.items ≡ waiters_of ((opens_of self.old).by_key (key_of made.entry.kept)) }
         ensures entries { entries_in result.answers.outcome ≡ Some made.others.items }
         ensures closed { opens_of self.new ≡ closed K.eq (opens_of self.old) (key_of made.entry.kept) }
     {
@@ -39,14 +39,14 @@ impl<K: Key, N: Drop, R: Drop> InflightManager<K, N, R> {
         }
     }
 
-    // What those get who wait for the key of a record that came in: one of these entries each. The key's place is
+    // What those get who wait for the key of a record that came in: one of these entries each. The key's fetch is
     // closed. It takes no memory.
     pub(crate) fn answers<V: Drop, P: Drop>(
         &mut self,
         entry: &CoreEntry<K, V, P>,
         others: Vec<CoreEntry<K, V, P>>,
     ) -> Answers<K, V, P, N>
-        ensures waiters { result.waiters.items ≡ waiters_of ((opens_of self.old).places (key_of entry.now.kept)) }
+        ensures waiters { result.waiters.items ≡ waiters_of ((opens_of self.old).by_key (key_of entry.now.kept)) }
         ensures entries { entries_in result.outcome ≡ Some others.items }
         ensures closed { opens_of self.new ≡ closed K.eq (opens_of self.old) (key_of entry.now.kept) }
     {

@@ -46,8 +46,10 @@ impl<E: Eviction, K: Key, V: Value, P: Properties, N: Drop, R: Drop, I: Finder<K
     /// Evicts until the usage is at most the capacity, or nothing more leaves, and appends what leaves. Refused
     /// for want of memory alone (F7); then some beginning of the evictions has left, and stands in the list.
     pub fn evict_to_capacity(&mut self, leaves: &mut Vec<Leave<K, V, P>>) -> Result<()>
-        ensures done { OnOk result (GoesOn leaves.old.items leaves.new.items (λ ls. EvictsToCapacity (meaning_of self.old) (state_of self.old) ls (state_of self.new))) }
-        ensures refused { OnErr result (GoesOn leaves.old.items leaves.new.items (λ ls. EvictingToCapacity (meaning_of self.old) (state_of self.old) ls (state_of self.new))) }
+        ensures done { OnOk result (GoesOn leaves.old.items leaves.new.items
+            (λ ls. EvictsToCapacity (meaning_of self.old) (state_of self.old) ls (state_of self.new))) }
+        ensures refused { OnErr result (GoesOn leaves.old.items leaves.new.items
+            (λ ls. EvictingToCapacity (meaning_of self.old) (state_of self.old) ls (state_of self.new))) }
         ensures reason { IfErr result (λ e. e ≡ NoMemory) }
         ensures opens { opens_of self.new ≡ opens_of self.old }
     {
@@ -57,8 +59,10 @@ impl<E: Eviction, K: Key, V: Value, P: Properties, N: Drop, R: Drop, I: Finder<K
     /// Evicts all that is not pinned, in the order in which the policy gives it, and appends what leaves.
     /// Refused for want of memory alone (F7); then some beginning of it has left, and stands in the list.
     pub fn evict_unpinned(&mut self, leaves: &mut Vec<Leave<K, V, P>>) -> Result<()>
-        ensures done { OnOk result (GoesOn leaves.old.items leaves.new.items (λ ls. EvictsUnpinned (meaning_of self.old) (state_of self.old) ls (state_of self.new))) }
-        ensures refused { OnErr result (GoesOn leaves.old.items leaves.new.items (λ ls. EvictingUnpinned (meaning_of self.old) (state_of self.old) ls (state_of self.new))) }
+        ensures done { OnOk result (GoesOn leaves.old.items leaves.new.items
+            (λ ls. EvictsUnpinned (meaning_of self.old) (state_of self.old) ls (state_of self.new))) }
+        ensures refused { OnErr result (GoesOn leaves.old.items leaves.new.items
+            (λ ls. EvictingUnpinned (meaning_of self.old) (state_of self.old) ls (state_of self.new))) }
         ensures reason { IfErr result (λ e. e ≡ NoMemory) }
         ensures opens { opens_of self.new ≡ opens_of self.old }
     {
@@ -83,8 +87,10 @@ impl<E: Eviction, K: Key, V: Value, P: Properties, N: Drop, R: Drop, I: Finder<K
     /// Evicts until the usage is at most the target, or nothing more leaves, and appends what leaves. Refused
     /// for want of memory alone (F7); then some beginning of the evictions has left, and stands in the list.
     pub fn evict_onto(&mut self, leaves: &mut Vec<Leave<K, V, P>>, target: usize) -> Result<()>
-        ensures done { OnOk result (GoesOn leaves.old.items leaves.new.items (λ ls. Evicts (meaning_of self.old) target (state_of self.old) ls (state_of self.new))) }
-        ensures refused { OnErr result (GoesOn leaves.old.items leaves.new.items (λ ls. Evicting (meaning_of self.old) target (state_of self.old) ls (state_of self.new))) }
+        ensures done { OnOk result (GoesOn leaves.old.items leaves.new.items
+            (λ ls. Evicts (meaning_of self.old) target (state_of self.old) ls (state_of self.new))) }
+        ensures refused { OnErr result (GoesOn leaves.old.items leaves.new.items
+            (λ ls. Evicting (meaning_of self.old) target (state_of self.old) ls (state_of self.new))) }
         ensures reason { IfErr result (λ e. e ≡ NoMemory) }
         ensures opens { opens_of self.new ≡ opens_of self.old }
     {

@@ -90,7 +90,9 @@ impl<E: Eviction, K: Key, V: Value, P: Properties, N: Drop, R: Drop, I: Finder<K
         leaves: &mut Vec<Leave<K, V, P>>,
     ) -> Result<()>
         requires { F.IsAlwaysCallable predicate.now }
-        ensures done { OnOk result (GoesOn leaves.old.items leaves.new.items (λ ls. EvictsIf (meaning_of self.old) (Says F.Fn predicate.now) (state_of self.old) ls (state_of self.new))) }
+        ensures done { OnOk result (GoesOn leaves.old.items leaves.new.items
+            (λ ls. EvictsIf (meaning_of self.old) (Says F.Fn predicate.now) (state_of self.old) ls
+            (state_of self.new))) }
         ensures err { OnErr result (state_of self.new ≡ state_of self.old) }
         ensures none { OnErr result (leaves.new.items ≡ leaves.old.items) }
         ensures refused { IfErr result (λ e. e ≡ NoMemory) }
@@ -120,7 +122,8 @@ impl<E: Eviction, K: Key, V: Value, P: Properties, N: Drop, R: Drop, I: Finder<K
     pub fn evict_picked(&mut self, picked: &[Item], leaves: &mut Vec<Leave<K, V, P>>)
         requires within { IsWithin picked.now (E.model.order (state_of self.old).view) }
         requires room { vec_len leaves.old + length picked.now ≤ vec_capacity leaves.old }
-        ensures told { GoesOn leaves.old.items leaves.new.items (λ ls. TakesOut (meaning_of self.old) Evict picked.now (state_of self.old) ls (state_of self.new)) }
+        ensures told { GoesOn leaves.old.items leaves.new.items
+            (λ ls. TakesOut (meaning_of self.old) Evict picked.now (state_of self.old) ls (state_of self.new)) }
         ensures len { vec_len leaves.new ≡ vec_len leaves.old + length picked.now }
         ensures capacity { vec_capacity leaves.new ≡ vec_capacity leaves.old }
         ensures opens { opens_of self.new ≡ opens_of self.old }

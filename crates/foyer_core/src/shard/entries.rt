@@ -40,7 +40,8 @@ impl<E: Eviction, K: Key, V: Value, P: Properties, N: Drop, R: Drop, I: Finder<K
         &mut self,
         entry: CoreEntry<K, V, P>,
     ) -> std::result::Result<Option<Leave<K, V, P>>, CoreEntry<K, V, P>>
-        ensures taken { IfOk result (λ leave. (entry.number ≡ (state_of self.old).number) × GivesBack (meaning_of self.old) (state_of self.old) entry.id leave (state_of self.new)) }
+        ensures taken { IfOk result (λ leave. (entry.number ≡ (state_of self.old).number)
+            × GivesBack (meaning_of self.old) (state_of self.old) entry.id leave (state_of self.new)) }
         ensures returned { IfErr result (λ e. e ≡ entry) }
         ensures foreign { OnErr result ((entry.number ≢ (state_of self.old).number) ⊎ (handles_in (state_of self.old) entry.id ≡ 0)) }
         ensures err { OnErr result (state_of self.new ≡ state_of self.old) }

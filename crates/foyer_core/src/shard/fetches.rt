@@ -44,7 +44,8 @@ impl<E: Eviction, K: Key, V: Value, P: Properties, N: Drop, R: Drop, I: Finder<K
         waiter: N,
     ) -> Result<Lookup<K, V, P, R>>
         requires clones { (k c : K) → K.is_clone k c → K.eq c k ≡ true }
-        ensures looked_up { LooksUp (meaning_of self.old) (state_of self.old) (opens_of self.old) (hash, key.now) waiter required result (state_of self.new) (opens_of self.new) }
+        ensures looked_up { LooksUp (meaning_of self.old) (state_of self.old) (opens_of self.old)
+            (hash, key.now) waiter required result (state_of self.new) (opens_of self.new) }
     {
         match self.get(hash, key) {
             Ok(None) => self.enqueue(hash, key, required, waiter),
@@ -63,7 +64,8 @@ impl<E: Eviction, K: Key, V: Value, P: Properties, N: Drop, R: Drop, I: Finder<K
     ) -> Result<Lookup<K, V, P, R>>
         requires clones { (k c : K) → K.is_clone k c → K.eq c k ≡ true }
         requires missing { hit (state_of self.old) (hash, key.now) ≡ None }
-        ensures looked_up { LooksUp (meaning_of self.old) (state_of self.old) (opens_of self.old) (hash, key.now) waiter required result (state_of self.new) (opens_of self.new) }
+        ensures looked_up { LooksUp (meaning_of self.old) (state_of self.old) (opens_of self.old)
+            (hash, key.now) waiter required result (state_of self.new) (opens_of self.new) }
     {
         let ids = self.store.ids();
         if self.inflights.lacks(hash, key, ids) {
@@ -94,17 +96,17 @@ impl<E: Eviction, K: Key, V: Value, P: Properties, N: Drop, R: Drop, I: Finder<K
     pub fn is_open(&self, hash: u64, key: &K, fetch: u64) -> bool
         ensures is_open { IsTrue result ↔ IsOpen (opens_of self.now) (hash, key.now) fetch }
         ensures equal_keys { (other : K) → IsTrue (K.eq key.now other)
-            → (opens_of self.now).places (hash, other) ≡ (opens_of self.now).places (hash, key.now) }
-        ensures apart { (id : ℕ) → (state_of self.now).index (hash, key.now) ≡ Some id → (opens_of self.now).places (hash, key.now) ≡ None }
+            → (opens_of self.now).by_key (hash, other) ≡ (opens_of self.now).by_key (hash, key.now) }
+        ensures apart { (id : ℕ) → (state_of self.now).index (hash, key.now) ≡ Some id → (opens_of self.now).by_key (hash, key.now) ≡ None }
     {
         self.inflights.is_open(hash, key, fetch)
     }
 
-    /// A fetch of a key found nothing: the builder that is kept, to fetch with. Without one its place is closed, and
+    /// A fetch of a key found nothing: the builder that is kept, to fetch with. Without one it is closed, and
     /// who waits is answered. None where that fetch is not open. It takes no memory.
     pub fn fetch_or_take(&mut self, hash: u64, key: &K, fetch: u64) -> Option<FetchOrTake<R, N>>
-        ensures answer { IfSome result (λ answer. IsSomeAnd (asked (Some fetch) ((opens_of self.old).places (hash, key.now))) (λ o. IsFetchOrTake o answer)) }
-        ensures none { IfNone result (asked (Some fetch) ((opens_of self.old).places (hash, key.now)) ≡ None) }
+        ensures answer { IfSome result (λ answer. IsSomeAnd (asked (Some fetch) ((opens_of self.old).by_key (hash, key.now))) (λ o. IsFetchOrTake o answer)) }
+        ensures none { IfNone result (asked (Some fetch) ((opens_of self.old).by_key (hash, key.now)) ≡ None) }
         ensures opens { OnSome result (opens_of self.new ≡ after_nothing K.eq (opens_of self.old) (hash, key.now)) }
         ensures same { IfNone result (opens_of self.new ≡ opens_of self.old) }
         ensures state { state_of self.new ≡ state_of self.old }
@@ -122,7 +124,8 @@ impl<E: Eviction, K: Key, V: Value, P: Properties, N: Drop, R: Drop, I: Finder<K
         fetch: u64,
         error: Error,
     ) -> Ended<K, V, P, N>
-        ensures ended { EndsBy (asked (Some fetch) ((opens_of self.old).places (hash, key.now))) K.eq (hash, key.now) error (opens_of self.old) (ending_of result) (opens_of self.new) }
+        ensures ended { EndsBy (asked (Some fetch) ((opens_of self.old).by_key (hash, key.now))) K.eq
+            (hash, key.now) error (opens_of self.old) (ending_of result) (opens_of self.new) }
         ensures state { state_of self.new ≡ state_of self.old }
     {
         match self.inflights.take(hash, key, Some(fetch)) {
@@ -132,7 +135,7 @@ impl<E: Eviction, K: Key, V: Value, P: Properties, N: Drop, R: Drop, I: Finder<K
     }
 
     /// Ends an open fetch of a key with a new record of it, as `emplace` takes one in, but with one handle for each who
-    /// waits and none beside. The place is closed, and where the record is refused, those who wait get the refusal.
+    /// waits and none beside. The fetch is closed, and where the record is refused, those who wait get the refusal.
     /// Where that fetch is not open, nothing happens. A clone of the key must equal it.
     pub fn complete(
         &mut self,
@@ -143,7 +146,9 @@ impl<E: Eviction, K: Key, V: Value, P: Properties, N: Drop, R: Drop, I: Finder<K
     ) -> Ended<K, V, P, N>
         requires clones { (k c : K) → K.is_clone k c → K.eq c k ≡ true }
         ensures completed { let key : ℕ × K = (kept.hash, kept.key) in
-            CompletesBy (meaning_of self.old) (asked (Some fetch) ((opens_of self.old).places key)) source (state_of self.old) (opens_of self.old) key kept (ending_of result) (state_of self.new) (opens_of self.new) }
+            CompletesBy (meaning_of self.old) (asked (Some fetch) ((opens_of self.old).by_key key)) source
+            (state_of self.old) (opens_of self.old) key kept (ending_of result) (state_of self.new)
+            (opens_of self.new) }
     {
         let Some(waiters) = self.inflights.take(kept.hash, &kept.key, Some(fetch)) else {
             return Ended::lost(alloc);
@@ -170,7 +175,8 @@ impl<E: Eviction, K: Key, V: Value, P: Properties, N: Drop, R: Drop, I: Finder<K
     ) -> Ended<K, V, P, N>
         requires clones { (k c : K) → K.is_clone k c → K.eq c k ≡ true }
         ensures completed { let key : ℕ × K = (hash, piece.kept.key) in
-            CompletesBy (meaning_of self.old) (asked (Some fetch) ((opens_of self.old).places key)) Memory (state_of self.old) (opens_of self.old) key (record piece.kept { hash = hash; weight = weight })
+            CompletesBy (meaning_of self.old) (asked (Some fetch) ((opens_of self.old).by_key key)) Memory
+            (state_of self.old) (opens_of self.old) key (record piece.kept { hash = hash; weight = weight })
             (ending_of result) (state_of self.new) (opens_of self.new) }
     {
         self.complete_share(alloc, fetch, piece.into_share().with(hash, weight))
@@ -185,7 +191,9 @@ impl<E: Eviction, K: Key, V: Value, P: Properties, N: Drop, R: Drop, I: Finder<K
     ) -> Ended<K, V, P, N>
         requires clones { (k c : K) → K.is_clone k c → K.eq c k ≡ true }
         ensures completed { let key : ℕ × K = (kept.hash, kept.key) in
-            CompletesBy (meaning_of self.old) (asked (Some fetch) ((opens_of self.old).places key)) Memory (state_of self.old) (opens_of self.old) key kept (ending_of result) (state_of self.new) (opens_of self.new) }
+            CompletesBy (meaning_of self.old) (asked (Some fetch) ((opens_of self.old).by_key key)) Memory
+            (state_of self.old) (opens_of self.old) key kept (ending_of result) (state_of self.new)
+            (opens_of self.new) }
     {
         let Some(waiters) = self.inflights.take(kept.hash(), kept.key(), Some(fetch)) else {
             return Ended::lost(alloc);
@@ -214,7 +222,9 @@ impl<E: Eviction, K: Key, V: Value, P: Properties, N: Drop, R: Drop, I: Finder<K
         requires given { piece.id < (state_of self.old).next }
         requires hashed { hash ≡ (held_or piece.kept ((state_of self.old).records piece.id)).hash }
         requires same { K.eq key.now (held_or piece.kept ((state_of self.old).records piece.id)).key ≡ true }
-        ensures completed { CompletesBackBy (meaning_of self.old) (asked (Some fetch) ((opens_of self.old).places (hash, key.now))) (state_of self.old) (opens_of self.old) (hash, key.now) piece (ending_of result) (state_of self.new) (opens_of self.new) }
+        ensures completed { CompletesBackBy (meaning_of self.old)
+            (asked (Some fetch) ((opens_of self.old).by_key (hash, key.now))) (state_of self.old) (opens_of self.old)
+            (hash, key.now) piece (ending_of result) (state_of self.new) (opens_of self.new) }
     {
         let Some(waiters) = self.inflights.take(hash, key, Some(fetch)) else {
             return Ended::lost(alloc);
@@ -240,8 +250,11 @@ impl<E: Eviction, K: Key, V: Value, P: Properties, N: Drop, R: Drop, I: Finder<K
         properties: &P,
         weight: usize,
     ) -> Ended<K, V, P, N>
-        ensures completed { (source : SourceOf) (value : V) → CompletesBy (meaning_of self.old) (asked (Some fetch) ((opens_of self.old).places (hash, key.now))) source (state_of self.old) (opens_of self.old) (hash, key.now)
-            (record { key = key.now; value = value; properties = properties.now; hash = hash; weight = weight }) (ending_of result) (state_of self.new) (opens_of self.new) }
+        ensures completed { (source : SourceOf) (value : V)
+            → CompletesBy (meaning_of self.old) (asked (Some fetch) ((opens_of self.old).by_key (hash, key.now)))
+            source (state_of self.old) (opens_of self.old) (hash, key.now)
+            (record { key = key.now; value = value; properties = properties.now; hash = hash; weight = weight })
+            (ending_of result) (state_of self.new) (opens_of self.new) }
         ensures state { state_of self.new ≡ state_of self.old }
     {
         let Some(waiters) = self.inflights.take(hash, key, Some(fetch)) else {

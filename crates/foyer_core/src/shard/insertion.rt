@@ -31,7 +31,7 @@ impl<E: Eviction, K: Key, V: Value, P: Properties, N: Drop, R: Drop, I: Finder<K
     ghost use Rattle.foyer_core.specs.Pieces.{Returns, RefusesReturn, held_or, is_known};
 
     /// Takes a record in, and answers an entry of it, with this source, one more for each who waits for its key,
-    /// whose place is closed, and what left. A clone of the key must equal it.
+    /// whose fetch is closed, and what left. A clone of the key must equal it.
     ///
     /// For a plain record others are evicted until the capacity has room for it, or nothing more leaves, and
     /// then the key's record gives way (`Replace`). For a phantom one, which its properties say, the key's
@@ -50,10 +50,12 @@ impl<E: Eviction, K: Key, V: Value, P: Properties, N: Drop, R: Drop, I: Finder<K
     ) -> std::result::Result<Inserted<K, V, P, N>, Refused<K, V, P>>
         requires clones { (k c : K) → K.is_clone k c → K.eq c k ≡ true }
         ensures inserted { let handles = 1 + waiting_for (opens_of self.old) (key_of kept) in MatchResult result
-            (λ made. Inserts (meaning_of self.old) source (state_of self.old) (newcomer (state_of self.old) kept handles) made.leaves.items made.entry (state_of self.new))
-            (λ refused. RefusesInsert (meaning_of self.old) (state_of self.old) (newcomer (state_of self.old) kept handles) refused.error refused.leaves.items (state_of self.new)) }
+            (λ made. Inserts (meaning_of self.old) source (state_of self.old)
+            (newcomer (state_of self.old) kept handles) made.leaves.items made.entry (state_of self.new))
+            (λ refused. RefusesInsert (meaning_of self.old) (state_of self.old)
+            (newcomer (state_of self.old) kept handles) refused.error refused.leaves.items (state_of self.new)) }
         ensures given { IfOk result (λ made. made.entry.kept ≡ kept) }
-        ensures answers { IfOk result (λ made. AnswersEach (waiters_of ((opens_of self.old).places (key_of kept))) made.entry made.answers) }
+        ensures answers { IfOk result (λ made. AnswersEach (waiters_of ((opens_of self.old).by_key (key_of kept))) made.entry made.answers) }
         ensures closed { OnOk result (opens_of self.new ≡ closed K.eq (opens_of self.old) (key_of kept)) }
         ensures opens { OnErr result (opens_of self.new ≡ opens_of self.old) }
     {
@@ -84,7 +86,7 @@ impl<E: Eviction, K: Key, V: Value, P: Properties, N: Drop, R: Drop, I: Finder<K
             (λ made. Inserts (meaning_of self.old) source (state_of self.old) (newcomer (state_of self.old) kept handles) ls made.entry (state_of self.new))
             (λ error. RefusesInsert (meaning_of self.old) (state_of self.old) (newcomer (state_of self.old) kept handles) error ls (state_of self.new))) }
         ensures given { IfOk result (λ made. made.entry.kept ≡ kept) }
-        ensures answers { IfOk result (λ made. AnswersEach (waiters_of ((opens_of self.old).places (key_of kept))) made.entry made.answers) }
+        ensures answers { IfOk result (λ made. AnswersEach (waiters_of ((opens_of self.old).by_key (key_of kept))) made.entry made.answers) }
         ensures closed { OnOk result (opens_of self.new ≡ closed K.eq (opens_of self.old) (key_of kept)) }
         ensures opens { OnErr result (opens_of self.new ≡ opens_of self.old) }
     {
@@ -115,7 +117,7 @@ impl<E: Eviction, K: Key, V: Value, P: Properties, N: Drop, R: Drop, I: Finder<K
             (λ made. Inserts (meaning_of self.old) source (state_of self.old) (newcomer (state_of self.old) kept handles) ls made.entry (state_of self.new))
             (λ error. RefusesInsert (meaning_of self.old) (state_of self.old) (newcomer (state_of self.old) kept handles) error ls (state_of self.new))) }
         ensures given { IfOk result (λ made. made.entry.kept ≡ kept) }
-        ensures answers { IfOk result (λ made. AnswersEach (waiters_of ((opens_of self.old).places (key_of kept))) made.entry made.answers) }
+        ensures answers { IfOk result (λ made. AnswersEach (waiters_of ((opens_of self.old).by_key (key_of kept))) made.entry made.answers) }
         ensures closed { OnOk result (opens_of self.new ≡ closed K.eq (opens_of self.old) (key_of kept)) }
         ensures opens { OnErr result (opens_of self.new ≡ opens_of self.old) }
     {
@@ -152,11 +154,15 @@ impl<E: Eviction, K: Key, V: Value, P: Properties, N: Drop, R: Drop, I: Finder<K
     ) -> std::result::Result<Inserted<K, V, P, N>, Refused<K, V, P>>
         requires clones { (k c : K) → K.is_clone k c → K.eq c k ≡ true }
         requires given { piece.id < (state_of self.old).next }
-        ensures returned { let handles = 1 + waiting_for (opens_of self.old) (key_of (held_or piece.kept ((state_of self.old).records piece.id))) in MatchResult result
+        ensures returned { let handles = 1 + waiting_for (opens_of self.old)
+            (key_of (held_or piece.kept ((state_of self.old).records piece.id))) in MatchResult result
             (λ made. Returns (meaning_of self.old) (state_of self.old) piece handles made.leaves.items made.entry (state_of self.new))
             (λ refused. RefusesReturn (meaning_of self.old) (state_of self.old) piece handles refused.error refused.leaves.items (state_of self.new)) }
-        ensures answers { IfOk result (λ made. AnswersEach (waiters_of ((opens_of self.old).places (key_of (held_or piece.kept ((state_of self.old).records piece.id))))) made.entry made.answers) }
-        ensures closed { OnOk result (opens_of self.new ≡ closed K.eq (opens_of self.old) (key_of (held_or piece.kept ((state_of self.old).records piece.id)))) }
+        ensures answers { IfOk result (λ made. AnswersEach
+            (waiters_of ((opens_of self.old).by_key (key_of
+            (held_or piece.kept ((state_of self.old).records piece.id))))) made.entry made.answers) }
+        ensures closed { OnOk result (opens_of self.new
+            ≡ closed K.eq (opens_of self.old) (key_of (held_or piece.kept ((state_of self.old).records piece.id)))) }
         ensures opens { OnErr result (opens_of self.new ≡ opens_of self.old) }
     {
         let further = self.further_of(&piece);
@@ -178,9 +184,13 @@ impl<E: Eviction, K: Key, V: Value, P: Properties, N: Drop, R: Drop, I: Finder<K
     ) -> std::result::Result<Inserted<K, V, P, N>, Refused<K, V, P>>
         requires clones { (k c : K) → K.is_clone k c → K.eq c k ≡ true }
         ensures inserted { let handles = 1 + waiting_for (opens_of self.old) (hash, piece.kept.key) in MatchResult result
-            (λ made. Inserts (meaning_of self.old) Memory (state_of self.old) (newcomer (state_of self.old) (record piece.kept { hash = hash; weight = weight }) handles) made.leaves.items made.entry (state_of self.new))
-            (λ refused. RefusesInsert (meaning_of self.old) (state_of self.old) (newcomer (state_of self.old) (record piece.kept { hash = hash; weight = weight }) handles) refused.error refused.leaves.items (state_of self.new)) }
-        ensures answers { IfOk result (λ made. AnswersEach (waiters_of ((opens_of self.old).places (hash, piece.kept.key))) made.entry made.answers) }
+            (λ made. Inserts (meaning_of self.old) Memory (state_of self.old)
+            (newcomer (state_of self.old) (record piece.kept { hash = hash; weight = weight }) handles)
+            made.leaves.items made.entry (state_of self.new))
+            (λ refused. RefusesInsert (meaning_of self.old) (state_of self.old)
+            (newcomer (state_of self.old) (record piece.kept { hash = hash; weight = weight }) handles) refused.error
+            refused.leaves.items (state_of self.new)) }
+        ensures answers { IfOk result (λ made. AnswersEach (waiters_of ((opens_of self.old).by_key (hash, piece.kept.key))) made.entry made.answers) }
         ensures closed { OnOk result (opens_of self.new ≡ closed K.eq (opens_of self.old) (hash, piece.kept.key)) }
         ensures opens { OnErr result (opens_of self.new ≡ opens_of self.old) }
     {
@@ -195,9 +205,11 @@ impl<E: Eviction, K: Key, V: Value, P: Properties, N: Drop, R: Drop, I: Finder<K
     ) -> std::result::Result<Inserted<K, V, P, N>, Refused<K, V, P>>
         requires clones { (k c : K) → K.is_clone k c → K.eq c k ≡ true }
         ensures inserted { let handles = 1 + waiting_for (opens_of self.old) (key_of kept) in MatchResult result
-            (λ made. Inserts (meaning_of self.old) Memory (state_of self.old) (newcomer (state_of self.old) kept handles) made.leaves.items made.entry (state_of self.new))
-            (λ refused. RefusesInsert (meaning_of self.old) (state_of self.old) (newcomer (state_of self.old) kept handles) refused.error refused.leaves.items (state_of self.new)) }
-        ensures answers { IfOk result (λ made. AnswersEach (waiters_of ((opens_of self.old).places (key_of kept))) made.entry made.answers) }
+            (λ made. Inserts (meaning_of self.old) Memory (state_of self.old)
+            (newcomer (state_of self.old) kept handles) made.leaves.items made.entry (state_of self.new))
+            (λ refused. RefusesInsert (meaning_of self.old) (state_of self.old)
+            (newcomer (state_of self.old) kept handles) refused.error refused.leaves.items (state_of self.new)) }
+        ensures answers { IfOk result (λ made. AnswersEach (waiters_of ((opens_of self.old).by_key (key_of kept))) made.entry made.answers) }
         ensures closed { OnOk result (opens_of self.new ≡ closed K.eq (opens_of self.old) (key_of kept)) }
         ensures opens { OnErr result (opens_of self.new ≡ opens_of self.old) }
     {

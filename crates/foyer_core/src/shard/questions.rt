@@ -28,7 +28,8 @@ impl<E: Eviction, K: Key, V: Value, P: Properties, N: Drop, R: Drop, I: Finder<K
     /// Why a `get` of a key would be refused now, whatever memory there is: where its record has as many handles as one
     /// may have (F9). Else none, also where the key has no record in the index.
     pub fn refuses_get(&self, hash: u64, key: &K) -> Option<Reason>
-        ensures some { IfSome result (λ reason. (reason ≡ Handles) × Gets (meaning_of self.now) (state_of self.now) (hash, key.now) (Err Handles) (state_of self.now)) }
+        ensures some { IfSome result (λ reason. (reason ≡ Handles)
+            × Gets (meaning_of self.now) (state_of self.now) (hash, key.now) (Err Handles) (state_of self.now)) }
         ensures none { IfNone result (MayGet (state_of self.now) (hash, key.now)) }
     {
         self.store.get_refusal(hash, key)
@@ -44,9 +45,24 @@ impl<E: Eviction, K: Key, V: Value, P: Properties, N: Drop, R: Drop, I: Finder<K
         weight: usize,
     ) -> Option<Reason>
         ensures some { IfSome result (λ reason. (value : V) → RefusesInsert (meaning_of self.now) (state_of self.now)
-            (newcomer (state_of self.now) (record { key = key.now; value = value; properties = properties.now; hash = hash; weight = weight }) (1 + waiting_for (opens_of self.now) (hash, key.now))) reason [] (state_of self.now)) }
+            (newcomer (state_of self.now) (record {
+              key = key.now;
+              value = value;
+              properties = properties.now;
+              hash =
+                  hash;
+              weight = weight;
+            }) (1 + waiting_for (opens_of self.now) (hash, key.now))) reason []
+            (state_of self.now)) }
         ensures none { IfNone result ((value : V) → MayBy (meaning_of self.now) (is_phantom (P.phantom_of properties.now)) (state_of self.now)
-            (newcomer (state_of self.now) (record { key = key.now; value = value; properties = properties.now; hash = hash; weight = weight }) (1 + waiting_for (opens_of self.now) (hash, key.now)))) }
+            (newcomer (state_of self.now) (record {
+              key = key.now;
+              value = value;
+              properties = properties.now;
+              hash =
+                  hash;
+              weight = weight;
+            }) (1 + waiting_for (opens_of self.now) (hash, key.now)))) }
         ensures memory { IfSome result (λ reason. reason ≢ NoMemory) }
     {
         let further = self.further(hash, key);

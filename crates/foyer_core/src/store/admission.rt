@@ -40,7 +40,9 @@ impl<E: Eviction, K: Key, V: Value, P: Properties, I: Finder<K>> Store<E, K, V, 
         requires number { HasId (state_of self.old) slot.id }
         requires held { 0 < slot.handles }
         requires handles { slot.handles ≤ self.old.limits.handles }
-        requires fits { (b : _) (last : _) → GivesWay (meaning_of self.old) ((state_of self.old).index (key_of slot.kept)) (state_of self.old) b last → usage_of (meaning_of self.old) last + slot.kept.weight < 2 ^ 64 }
+        requires fits { (b : _) (last : _) → GivesWay (meaning_of self.old)
+            ((state_of self.old).index (key_of slot.kept)) (state_of self.old) b last
+            → usage_of (meaning_of self.old) last + slot.kept.weight < 2 ^ 64 }
         ensures admitted { IfOk result (λ made. Admits (meaning_of self.old) (state_of self.old) (incoming_of slot) made.1 (state_of self.new)) }
         ensures err { OnErr result (state_of self.new ≡ state_of self.old) }
     {
@@ -104,10 +106,19 @@ fn give_way<E: Eviction, K: Drop, V: Drop, P: Drop>(
     ensures none_slots { was ≡ None → (n : ℕ) → slot_in records.new n ≡ slot_in records.old n }
     ensures none_records { was ≡ None → (id : ℕ) → record_in records.new id ≡ record_in records.old id }
     ensures none_places { was ≡ None → (p : ℕ) → E.at eviction.new p ≡ E.at eviction.old p }
-    ensures some { (n : ℕ) (s : Kept K V P) (i : Item) → was ≡ Some n → slot_in records.old n ≡ Some s → E.at eviction.old n ≡ Some i → (result ≡ (i.weight, Some record { number = number; id = s.id; kept = s.kept })) × (E.view eviction.new ≡ E.model.remove (E.view eviction.old) i.id) }
-    ensures some_slots { (n : ℕ) (s : Kept K V P) → was ≡ Some n → slot_in records.old n ≡ Some s → (q : ℕ) → slot_in records.new q ≡ update nat_eq (slot_in records.old) n (slot_outside s) q }
-    ensures some_records { (n : ℕ) (s : Kept K V P) → was ≡ Some n → slot_in records.old n ≡ Some s → (id : ℕ) → record_in records.new id ≡ update nat_eq (record_in records.old) s.id (outside (rec_of s)) id }
-    ensures some_places { (n : ℕ) (s : Kept K V P) (i : Item) → was ≡ Some n → slot_in records.old n ≡ Some s → E.at eviction.old n ≡ Some i → (p : ℕ) → E.at eviction.new p ≡ without i.id (E.at eviction.old p) }
+    ensures some { (n : ℕ) (s : Kept K V P) (i : Item) → was ≡ Some n → slot_in records.old n ≡ Some s
+        → E.at eviction.old n ≡ Some i → (result ≡ (
+          i.weight,
+          Some
+              record { number = number; id = s.id; kept = s.kept },
+        ))
+        × (E.view eviction.new ≡ E.model.remove (E.view eviction.old) i.id) }
+    ensures some_slots { (n : ℕ) (s : Kept K V P) → was ≡ Some n → slot_in records.old n ≡ Some s → (q : ℕ)
+        → slot_in records.new q ≡ update nat_eq (slot_in records.old) n (slot_outside s) q }
+    ensures some_records { (n : ℕ) (s : Kept K V P) → was ≡ Some n → slot_in records.old n ≡ Some s → (id : ℕ)
+        → record_in records.new id ≡ update nat_eq (record_in records.old) s.id (outside (rec_of s)) id }
+    ensures some_places { (n : ℕ) (s : Kept K V P) (i : Item) → was ≡ Some n → slot_in records.old n ≡ Some s
+        → E.at eviction.old n ≡ Some i → (p : ℕ) → E.at eviction.new p ≡ without i.id (E.at eviction.old p) }
     ensures span { E.span eviction.new ≡ E.span eviction.old }
 {
     let Some(slot) = was else {

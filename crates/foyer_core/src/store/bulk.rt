@@ -35,8 +35,10 @@ impl<E: Eviction, K: Key, V: Value, P: Properties, I: Finder<K>> Store<E, K, V, 
     /// Evicts until the usage is at most the capacity, or nothing more leaves, and appends what leaves. Refused
     /// for want of memory alone (F7); then some beginning of the evictions has left, and stands in the list.
     pub fn evict_to_capacity(&mut self, leaves: &mut Vec<Leave<K, V, P>>) -> Result<()>
-        ensures done { OnOk result (GoesOn leaves.old.items leaves.new.items (λ ls. EvictsToCapacity (meaning_of self.old) (state_of self.old) ls (state_of self.new))) }
-        ensures refused { OnErr result (GoesOn leaves.old.items leaves.new.items (λ ls. EvictingToCapacity (meaning_of self.old) (state_of self.old) ls (state_of self.new))) }
+        ensures done { OnOk result (GoesOn leaves.old.items leaves.new.items
+            (λ ls. EvictsToCapacity (meaning_of self.old) (state_of self.old) ls (state_of self.new))) }
+        ensures refused { OnErr result (GoesOn leaves.old.items leaves.new.items
+            (λ ls. EvictingToCapacity (meaning_of self.old) (state_of self.old) ls (state_of self.new))) }
         ensures reason { IfErr result (λ e. e ≡ NoMemory) }
     {
         self.evict_onto(leaves, self.capacity)
@@ -45,8 +47,10 @@ impl<E: Eviction, K: Key, V: Value, P: Properties, I: Finder<K>> Store<E, K, V, 
     /// Evicts all that is not pinned, in the order in which the policy gives it, and appends what leaves.
     /// Refused for want of memory alone (F7); then some beginning of it has left, and stands in the list.
     pub fn evict_unpinned(&mut self, leaves: &mut Vec<Leave<K, V, P>>) -> Result<()>
-        ensures done { OnOk result (GoesOn leaves.old.items leaves.new.items (λ ls. EvictsUnpinned (meaning_of self.old) (state_of self.old) ls (state_of self.new))) }
-        ensures refused { OnErr result (GoesOn leaves.old.items leaves.new.items (λ ls. EvictingUnpinned (meaning_of self.old) (state_of self.old) ls (state_of self.new))) }
+        ensures done { OnOk result (GoesOn leaves.old.items leaves.new.items
+            (λ ls. EvictsUnpinned (meaning_of self.old) (state_of self.old) ls (state_of self.new))) }
+        ensures refused { OnErr result (GoesOn leaves.old.items leaves.new.items
+            (λ ls. EvictingUnpinned (meaning_of self.old) (state_of self.old) ls (state_of self.new))) }
         ensures reason { IfErr result (λ e. e ≡ NoMemory) }
     {
         loop {

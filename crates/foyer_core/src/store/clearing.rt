@@ -65,7 +65,10 @@ impl<E: Eviction, K: Key, V: Value, P: Properties, I: Finder<K>> Store<E, K, V, 
     )
         requires lined { Lined (meaning K.eq E.model P.hint_of P.phantom_of) number (I.view index.old) records.old items.now }
         requires room { vec_len leaves.old + length items.now ≤ vec_capacity leaves.old }
-        ensures told { (o : Lined (meaning K.eq E.model P.hint_of P.phantom_of) number (I.view index.old) records.old items.now) → GoesOn leaves.old.items leaves.new.items (λ ls. Passes (meaning K.eq E.model P.hint_of P.phantom_of) o items.now [] ls (I.view index.new) records.new) }
+        ensures told { (o : Lined (meaning K.eq E.model P.hint_of P.phantom_of) number
+            (I.view index.old) records.old items.now) → GoesOn leaves.old.items leaves.new.items
+            (λ ls. Passes (meaning K.eq E.model P.hint_of P.phantom_of) o items.now [] ls
+            (I.view index.new) records.new) }
         ensures len { vec_len leaves.new ≡ vec_len leaves.old + length items.now }
         ensures capacity { vec_capacity leaves.new ≡ vec_capacity leaves.old }
     {
@@ -89,9 +92,12 @@ pub(super) fn leave_slot<K: Key, V: Drop, P: Drop, I: Finder<K>>(
     requires { IsSomeAnd (slot_in records.old slot) (λ s.
         (s.resident ≡ true) × (I.view index.old (key_of s.kept) ≡ Some slot)) }
     ensures left { (s : Kept K V P) → slot_in records.old slot ≡ Some s → result ≡ record { number = number; id = s.id; kept = s.kept } }
-    ensures index { (s : Kept K V P) → slot_in records.old slot ≡ Some s → (q : ℕ × K) → I.view index.new q ≡ update (same_key K.eq) (I.view index.old) (key_of s.kept) None q }
-    ensures slots { (s : Kept K V P) → slot_in records.old slot ≡ Some s → (q : ℕ) → slot_in records.new q ≡ update nat_eq (slot_in records.old) slot (slot_outside s) q }
-    ensures records { (s : Kept K V P) → slot_in records.old slot ≡ Some s → (id : ℕ) → record_in records.new id ≡ update nat_eq (record_in records.old) s.id (outside (rec_of s)) id }
+    ensures index { (s : Kept K V P) → slot_in records.old slot ≡ Some s → (q : ℕ × K)
+        → I.view index.new q ≡ update (same_key K.eq) (I.view index.old) (key_of s.kept) None q }
+    ensures slots { (s : Kept K V P) → slot_in records.old slot ≡ Some s → (q : ℕ)
+        → slot_in records.new q ≡ update nat_eq (slot_in records.old) slot (slot_outside s) q }
+    ensures records { (s : Kept K V P) → slot_in records.old slot ≡ Some s → (id : ℕ)
+        → record_in records.new id ≡ update nat_eq (record_in records.old) s.id (outside (rec_of s)) id }
     ensures room { HasRoom records.old → HasRoom records.new }
 {
     let Some(found) = records.get(slot) else {

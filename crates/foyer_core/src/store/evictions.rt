@@ -69,8 +69,10 @@ impl<E: Eviction, K: Key, V: Value, P: Properties, I: Finder<K>> Store<E, K, V, 
     /// for want of memory alone (F7); then some beginning of the evictions has left, and stands in the list.
     #[inline(always)]
     pub fn evict_onto(&mut self, leaves: &mut Vec<Leave<K, V, P>>, target: usize) -> Result<()>
-        ensures done { OnOk result (GoesOn leaves.old.items leaves.new.items (λ ls. Evicts (meaning_of self.old) target (state_of self.old) ls (state_of self.new))) }
-        ensures refused { OnErr result (GoesOn leaves.old.items leaves.new.items (λ ls. Evicting (meaning_of self.old) target (state_of self.old) ls (state_of self.new))) }
+        ensures done { OnOk result (GoesOn leaves.old.items leaves.new.items
+            (λ ls. Evicts (meaning_of self.old) target (state_of self.old) ls (state_of self.new))) }
+        ensures refused { OnErr result (GoesOn leaves.old.items leaves.new.items
+            (λ ls. Evicting (meaning_of self.old) target (state_of self.old) ls (state_of self.new))) }
         ensures reason { IfErr result (λ e. e ≡ NoMemory) }
         ensures one_more { vec_len leaves.old < vec_capacity leaves.old → vec_len leaves.new < vec_capacity leaves.new }
         ensures room { HasRoom self.old.records → HasRoom self.new.records }

@@ -50,7 +50,8 @@ impl<E: Eviction, K: Key, V: Value, P: Properties, I: Finder<K>> Store<E, K, V, 
         &mut self,
         entry: CoreEntry<K, V, P>,
     ) -> std::result::Result<Option<Leave<K, V, P>>, CoreEntry<K, V, P>>
-        ensures taken { IfOk result (λ leave. (entry.number ≡ (state_of self.old).number) × GivesBack (meaning_of self.old) (state_of self.old) entry.id leave (state_of self.new)) }
+        ensures taken { IfOk result (λ leave. (entry.number ≡ (state_of self.old).number)
+            × GivesBack (meaning_of self.old) (state_of self.old) entry.id leave (state_of self.new)) }
         ensures returned { IfErr result (λ e. e ≡ entry) }
         ensures foreign { OnErr result ((entry.number ≢ (state_of self.old).number) ⊎ (handles_in (state_of self.old) entry.id ≡ 0)) }
         ensures err { OnErr result (state_of self.new ≡ state_of self.old) }
@@ -84,7 +85,8 @@ impl<E: Eviction, K: Key, V: Value, P: Properties, I: Finder<K>> Store<E, K, V, 
     // The last handle of a record that is not in the index is gone.
     fn forget(&mut self, slot: usize) -> Option<Leave<K, V, P>>
         requires { IsSomeAnd (slot_in self.old.records slot) (λ s. (s.handles ≡ 1) × (s.resident ≡ false)) }
-        ensures { (s : Kept K V P) → slot_in self.old.records slot ≡ Some s → GivesBack (meaning_of self.old) (state_of self.old) s.id result (state_of self.new) }
+        ensures { (s : Kept K V P) → slot_in self.old.records slot ≡ Some s
+            → GivesBack (meaning_of self.old) (state_of self.old) s.id result (state_of self.new) }
     {
         let gone = self.records.forget(slot);
         if gone.properties().phantom().unwrap_or(false) {

@@ -45,8 +45,11 @@ impl<E: Eviction, K: Key, V: Value, P: Properties, I: Finder<K>> Store<E, K, V, 
         requires clones { (k c : K) → K.is_clone k c → K.eq c k ≡ true }
         requires listed { further.count + further.room < 2 ^ 64 }
         ensures inserted { MatchResult result
-            (λ made. Inserts (meaning_of self.old) source (state_of self.old) (newcomer (state_of self.old) kept (1 + further.count)) made.leaves.items made.entry (state_of self.new))
-            (λ refused. RefusesInsert (meaning_of self.old) (state_of self.old) (newcomer (state_of self.old) kept (1 + further.count)) refused.error refused.leaves.items (state_of self.new)) }
+            (λ made. Inserts (meaning_of self.old) source (state_of self.old)
+            (newcomer (state_of self.old) kept (1 + further.count)) made.leaves.items made.entry (state_of self.new))
+            (λ refused. RefusesInsert (meaning_of self.old) (state_of self.old)
+            (newcomer (state_of self.old) kept (1 + further.count)) refused.error refused.leaves.items
+            (state_of self.new)) }
         ensures others { IfOk result (λ made. made.others.items ≡ replicate further.count made.entry) }
         ensures room { IfOk result (λ made. vec_len made.others + further.room ≤ vec_capacity made.others) }
     {
@@ -73,8 +76,10 @@ impl<E: Eviction, K: Key, V: Value, P: Properties, I: Finder<K>> Store<E, K, V, 
         requires clones { (k c : K) → K.is_clone k c → K.eq c k ≡ true }
         requires listed { further.count + further.room < 2 ^ 64 }
         ensures inserted { GoesOn leaves.old.items leaves.new.items (λ ls. MatchResult result
-            (λ made. Inserts (meaning_of self.old) source (state_of self.old) (newcomer (state_of self.old) kept (1 + further.count)) ls made.0 (state_of self.new))
-            (λ error. RefusesInsert (meaning_of self.old) (state_of self.old) (newcomer (state_of self.old) kept (1 + further.count)) error ls (state_of self.new))) }
+            (λ made. Inserts (meaning_of self.old) source (state_of self.old)
+            (newcomer (state_of self.old) kept (1 + further.count)) ls made.0 (state_of self.new))
+            (λ error. RefusesInsert (meaning_of self.old) (state_of self.old)
+            (newcomer (state_of self.old) kept (1 + further.count)) error ls (state_of self.new))) }
         ensures others { IfOk result (λ made. made.1.items ≡ replicate further.count made.0) }
         ensures room { IfOk result (λ made. vec_len made.1 + further.room ≤ vec_capacity made.1) }
     {

@@ -65,7 +65,8 @@ impl<E: Eviction, K: Key, V: Value, P: Properties, I: Finder<K>> Store<E, K, V, 
 
     // The key's record, where it has one, gives way.
     fn make_way(&mut self, hash: u64, key: &K) -> Option<Left<K, V, P>>
-        ensures gives_way { GivesWay (meaning_of self.old) ((state_of self.old).index (hash, key.now)) (state_of self.old) (replaced_leaves result) (state_of self.new) }
+        ensures gives_way { GivesWay (meaning_of self.old) ((state_of self.old).index (hash, key.now))
+            (state_of self.old) (replaced_leaves result) (state_of self.new) }
         ensures room { HasRoom self.old.records → HasRoom self.new.records }
     {
         let Some(slot) = self.slot_under(hash, key) else {

@@ -79,7 +79,8 @@ impl<E: Eviction, K: Key, V: Value, P: Properties, I: Finder<K>> Store<E, K, V, 
     pub fn evict_picked(&mut self, picked: &[Item], leaves: &mut Vec<Leave<K, V, P>>)
         requires within { IsWithin picked.now (E.model.order (state_of self.old).view) }
         requires room { vec_len leaves.old + length picked.now ≤ vec_capacity leaves.old }
-        ensures told { GoesOn leaves.old.items leaves.new.items (λ ls. TakesOut (meaning_of self.old) Evict picked.now (state_of self.old) ls (state_of self.new)) }
+        ensures told { GoesOn leaves.old.items leaves.new.items
+            (λ ls. TakesOut (meaning_of self.old) Evict picked.now (state_of self.old) ls (state_of self.new)) }
         ensures len { vec_len leaves.new ≡ vec_len leaves.old + length picked.now }
         ensures capacity { vec_capacity leaves.new ≡ vec_capacity leaves.old }
     {

@@ -43,7 +43,8 @@ impl<E: Eviction, K: Key, V: Value, P: Properties, I: Finder<K>> Store<E, K, V, 
         requires listed { further.count + further.room < 2 ^ 64 }
         ensures returned { MatchResult result
             (λ made. Returns (meaning_of self.old) (state_of self.old) piece (1 + further.count) made.leaves.items made.entry (state_of self.new))
-            (λ refused. RefusesReturn (meaning_of self.old) (state_of self.old) piece (1 + further.count) refused.error refused.leaves.items (state_of self.new)) }
+            (λ refused. RefusesReturn (meaning_of self.old) (state_of self.old) piece
+            (1 + further.count) refused.error refused.leaves.items (state_of self.new)) }
         ensures others { IfOk result (λ made. made.others.items ≡ replicate further.count made.entry) }
         ensures room { IfOk result (λ made. vec_len made.others + further.room ≤ vec_capacity made.others) }
     {
@@ -64,8 +65,11 @@ impl<E: Eviction, K: Key, V: Value, P: Properties, I: Finder<K>> Store<E, K, V, 
         requires clones { (k c : K) → K.is_clone k c → K.eq c k ≡ true }
         requires listed { further.count + further.room < 2 ^ 64 }
         ensures inserted { MatchResult result
-            (λ made. Inserts (meaning_of self.old) Memory (state_of self.old) (newcomer (state_of self.old) kept (1 + further.count)) made.leaves.items made.entry (state_of self.new))
-            (λ refused. RefusesInsert (meaning_of self.old) (state_of self.old) (newcomer (state_of self.old) kept (1 + further.count)) refused.error refused.leaves.items (state_of self.new)) }
+            (λ made. Inserts (meaning_of self.old) Memory (state_of self.old)
+            (newcomer (state_of self.old) kept (1 + further.count)) made.leaves.items made.entry (state_of self.new))
+            (λ refused. RefusesInsert (meaning_of self.old) (state_of self.old)
+            (newcomer (state_of self.old) kept (1 + further.count)) refused.error refused.leaves.items
+            (state_of self.new)) }
         ensures others { IfOk result (λ made. made.others.items ≡ replicate further.count made.entry) }
         ensures room { IfOk result (λ made. vec_len made.others + further.room ≤ vec_capacity made.others) }
     {
@@ -85,7 +89,8 @@ impl<E: Eviction, K: Key, V: Value, P: Properties, I: Finder<K>> Store<E, K, V, 
         requires listed { further.count + further.room < 2 ^ 64 }
         ensures returned { (s : Kept K V P) → slot_in self.old.records slot ≡ Some s → (piece : Carried K V P) → piece.id ≡ s.id → MatchResult result
             (λ made. Returns (meaning_of self.old) (state_of self.old) piece (1 + further.count) made.leaves.items made.entry (state_of self.new))
-            (λ refused. RefusesReturn (meaning_of self.old) (state_of self.old) piece (1 + further.count) refused.error refused.leaves.items (state_of self.new)) }
+            (λ refused. RefusesReturn (meaning_of self.old) (state_of self.old) piece
+            (1 + further.count) refused.error refused.leaves.items (state_of self.new)) }
         ensures others { IfOk result (λ made. made.others.items ≡ replicate further.count made.entry) }
         ensures room { IfOk result (λ made. vec_len made.others + further.room ≤ vec_capacity made.others) }
     {
@@ -145,8 +150,12 @@ impl<E: Eviction, K: Key, V: Value, P: Properties, I: Finder<K>> Store<E, K, V, 
         requires there { IsSomeAnd (slot_in self.old.records slot) (λ s. (s.id < (state_of self.old).next) × (s.resident ≡ false)) }
         requires listed { further.count + further.room < 2 ^ 64 }
         ensures inserted { (s : Kept K V P) → slot_in self.old.records slot ≡ Some s → MatchResult result
-            (λ made. Inserts (meaning_of self.old) Memory (state_of self.old) (record { id = s.id; kept = s.kept; handles = s.handles + 1 + further.count }) made.leaves.items made.entry (state_of self.new))
-            (λ refused. RefusesInsert (meaning_of self.old) (state_of self.old) (record { id = s.id; kept = s.kept; handles = s.handles + 1 + further.count }) refused.error refused.leaves.items (state_of self.new)) }
+            (λ made. Inserts (meaning_of self.old) Memory (state_of self.old)
+            (record { id = s.id; kept = s.kept; handles = s.handles + 1 + further.count }) made.leaves.items
+            made.entry (state_of self.new))
+            (λ refused. RefusesInsert (meaning_of self.old) (state_of self.old)
+            (record { id = s.id; kept = s.kept; handles = s.handles + 1 + further.count }) refused.error
+            refused.leaves.items (state_of self.new)) }
         ensures others { IfOk result (λ made. made.others.items ≡ replicate further.count made.entry) }
         ensures room { IfOk result (λ made. vec_len made.others + further.room ≤ vec_capacity made.others) }
     {
@@ -177,8 +186,12 @@ impl<E: Eviction, K: Key, V: Value, P: Properties, I: Finder<K>> Store<E, K, V, 
         requires out { (r : Rec K V P) → (state_of self.old).records slot.id ≡ Some r → r.resident ≡ false }
         requires listed { further.count + further.room < 2 ^ 64 }
         ensures inserted { MatchResult result
-            (λ made. Inserts (meaning_of self.old) Memory (state_of self.old) (record (incoming_of slot) { handles = 1 + further.count }) made.leaves.items made.entry (state_of self.new))
-            (λ refused. RefusesInsert (meaning_of self.old) (state_of self.old) (record (incoming_of slot) { handles = 1 + further.count }) refused.error refused.leaves.items (state_of self.new)) }
+            (λ made. Inserts (meaning_of self.old) Memory (state_of self.old)
+            (record (incoming_of slot) { handles = 1 + further.count }) made.leaves.items made.entry
+            (state_of self.new))
+            (λ refused. RefusesInsert (meaning_of self.old) (state_of self.old)
+            (record (incoming_of slot) { handles = 1 + further.count }) refused.error refused.leaves.items
+            (state_of self.new)) }
         ensures others { IfOk result (λ made. made.others.items ≡ replicate further.count made.entry) }
         ensures room { IfOk result (λ made. vec_len made.others + further.room ≤ vec_capacity made.others) }
     {

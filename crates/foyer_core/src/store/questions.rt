@@ -16,7 +16,8 @@ impl<E: Eviction, K: Key, V: Value, P: Properties, I: Finder<K>> Store<E, K, V, 
 
     // Why the key's record cannot have a handle more, whatever memory there is.
     pub(crate) fn get_refusal(&self, hash: u64, key: &K) -> Option<Reason>
-        ensures some { IfSome result (λ reason. (reason ≡ Handles) × Gets (meaning_of self.now) (state_of self.now) (hash, key.now) (Err Handles) (state_of self.now)) }
+        ensures some { IfSome result (λ reason. (reason ≡ Handles)
+            × Gets (meaning_of self.now) (state_of self.now) (hash, key.now) (Err Handles) (state_of self.now)) }
         ensures none { IfNone result (MayGet (state_of self.now) (hash, key.now)) }
     {
         let Some(slot) = self.slot_under(hash, key) else {

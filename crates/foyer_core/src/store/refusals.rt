@@ -20,8 +20,10 @@ impl<E: Eviction, K: Key, V: Value, P: Properties, I: Finder<K>> Store<E, K, V, 
     // Why a new record cannot come in, with so many handles beside the first, whatever memory there is.
     #[inline(always)]
     pub(super) fn data_refusal(&self, kept: &Data<K, V, P>, further: usize) -> Option<Reason>
-        ensures some { IfSome result (λ reason. RefusesInsert (meaning_of self.now) (state_of self.now) (newcomer (state_of self.now) kept.now (1 + further)) reason [] (state_of self.now)) }
-        ensures none { IfNone result (MayBy (meaning_of self.now) (is_phantom_record (meaning_of self.now) kept.now) (state_of self.now) (newcomer (state_of self.now) kept.now (1 + further))) }
+        ensures some { IfSome result (λ reason. RefusesInsert (meaning_of self.now) (state_of self.now)
+            (newcomer (state_of self.now) kept.now (1 + further)) reason [] (state_of self.now)) }
+        ensures none { IfNone result (MayBy (meaning_of self.now) (is_phantom_record (meaning_of self.now) kept.now)
+            (state_of self.now) (newcomer (state_of self.now) kept.now (1 + further))) }
         ensures number { IfNone result (self.now.next + 1 < 2 ^ 64) }
         ensures count { IfNone result (1 + further < 2 ^ 64) }
     {
@@ -39,7 +41,14 @@ impl<E: Eviction, K: Key, V: Value, P: Properties, I: Finder<K>> Store<E, K, V, 
         further: usize,
     ) -> Option<Reason>
         ensures some { IfSome result (λ reason. (value : V) → RefusesInsert (meaning_of self.now) (state_of self.now)
-            (newcomer (state_of self.now) (record { key = key.now; value = value; properties = properties.now; hash = hash; weight = weight }) (1 + further)) reason [] (state_of self.now)) }
+            (newcomer (state_of self.now) (record {
+              key = key.now;
+              value = value;
+              properties = properties.now;
+              hash =
+                  hash;
+              weight = weight;
+            }) (1 + further)) reason [] (state_of self.now)) }
         ensures none { IfNone result ((value : V) → MayBy (meaning_of self.now) (is_phantom (P.phantom_of properties.now)) (state_of self.now)
             (newcomer (state_of self.now) (record { key = key.now; value = value; properties = properties.now; hash = hash; weight = weight }) (1 + further))) }
         ensures only { IfSome result (λ reason. (reason ≡ Ids) ⊎ ((reason ≡ Handles) ⊎ (reason ≡ Weight))) }
@@ -61,8 +70,11 @@ impl<E: Eviction, K: Key, V: Value, P: Properties, I: Finder<K>> Store<E, K, V, 
         held: usize,
         further: usize,
     ) -> Option<Reason>
-        ensures some { IfSome result (λ reason. RefusesInsert (meaning_of self.now) (state_of self.now) (record (incoming_of slot.now) { handles = held + 1 + further }) reason [] (state_of self.now)) }
-        ensures none { IfNone result (MayBy (meaning_of self.now) (is_phantom_record (meaning_of self.now) slot.now.kept) (state_of self.now) (record (incoming_of slot.now) { handles = held + 1 + further })) }
+        ensures some { IfSome result (λ reason. RefusesInsert (meaning_of self.now) (state_of self.now)
+            (record (incoming_of slot.now) { handles = held + 1 + further }) reason [] (state_of self.now)) }
+        ensures none { IfNone result (MayBy (meaning_of self.now)
+            (is_phantom_record (meaning_of self.now) slot.now.kept) (state_of self.now)
+            (record (incoming_of slot.now) { handles = held + 1 + further })) }
         ensures number { IfNone result (slot.now.id + 1 < 2 ^ 64) }
         ensures count { IfNone result (held + 1 + further < 2 ^ 64) }
     {
@@ -94,7 +106,9 @@ impl<E: Eviction, K: Key, V: Value, P: Properties, I: Finder<K>> Store<E, K, V, 
         ensures ids { result ≡ Some Ids ↔ LacksId (state_of self.now) id }
         ensures handles { result ≡ Some Handles ↔ (HasId (state_of self.now) id × (self.now.limits.handles < held + 1 + further)) }
         ensures number { IfNone result (id + 1 < 2 ^ 64) }
-        ensures weight { result ≡ Some Weight ↔ (HasId (state_of self.now) id × (held + 1 + further ≤ self.now.limits.handles) × (2 ^ 64 ≤ weight + pinned_beside (meaning_of self.now) (state_of self.now) (hash, key.now))) }
+        ensures weight { result ≡ Some Weight ↔ (HasId (state_of self.now) id
+            × (held + 1 + further ≤ self.now.limits.handles)
+            × (2 ^ 64 ≤ weight + pinned_beside (meaning_of self.now) (state_of self.now) (hash, key.now))) }
         ensures only { IfSome result (λ reason. (reason ≡ Ids) ⊎ ((reason ≡ Handles) ⊎ (reason ≡ Weight))) }
         ensures count { IfNone result (held + 1 + further < 2 ^ 64) }
     {

@@ -2,7 +2,7 @@
 
 ghost use Rattle.std.specs.Prelude.{◌≡◌, ℕ, List, [], ◌+◌, ◌<◌, ◌≤◌, Some, option_map, slice_get, true, vec_len, vec_capacity};
 ghost use Rattle.foyer_policy.specs.declared.error.Reason.TheVariants.{Fetch};
-ghost use Rattle.foyer_core.specs.CoreFetches.{Completed, EndsAt, place_in};
+ghost use Rattle.foyer_core.specs.CoreFetches.{Completed, EndsAt, open_in};
 ghost use Rattle.foyer_core.specs.Cores.{core_of, fetches_of, hashes_of, meaning_of_core};
 ghost use Rattle.foyer_core.specs.Inflight.{asked};
 ghost use Rattle.foyer_core.specs.State.{coming_in};
@@ -86,7 +86,8 @@ impl<
     // With a clone of the piece of a number, which stays held.
     fn complete_piece(&mut self, key: &K, fetch: u64, number: u64) -> Reply<K, V, P>
         requires clones { (k c : K) → K.is_clone k c → K.eq c k ≡ true }
-        ensures step { CompletesPiece (terms_of self.old) (session_of self.old) key.now fetch (slice_get (session_of self.old).pieces number) result.answer result.leaves (session_of self.new) }
+        ensures step { CompletesPiece (terms_of self.old) (session_of self.old) key.now fetch
+            (slice_get (session_of self.old).pieces number) result.answer result.leaves (session_of self.new) }
         ensures taken { taken self.new ≤ taken self.old }
         ensures capacity { vec_capacity self.new.handles ≡ vec_capacity self.old.handles }
         ensures pieces { self.new.pieces ≡ self.old.pieces }
@@ -125,7 +126,8 @@ impl<
         fetch: u64,
         fault: Option<Arc<Fault, Global>>,
     ) -> Reply<K, V, P>
-        ensures step { EndStep (terms_of self.old) (session_of self.old) key.now fetch (ended_by (option_map Fetch fault)) result.answer result.leaves (session_of self.new) }
+        ensures step { EndStep (terms_of self.old) (session_of self.old) key.now fetch
+            (ended_by (option_map Fetch fault)) result.answer result.leaves (session_of self.new) }
         ensures taken { taken self.new ≤ taken self.old }
         ensures capacity { vec_capacity self.new.handles ≡ vec_capacity self.old.handles }
         ensures pieces { self.new.pieces ≡ self.old.pieces }
@@ -141,7 +143,8 @@ impl<
         fetch: u64,
         outcome: Option<Arc<Fault, Global>>,
     ) -> Reply<K, V, P>
-        ensures step { FetchOrTakeStep (terms_of self.old) (session_of self.old) key.now fetch (option_map Fetch outcome) result.answer result.leaves (session_of self.new) }
+        ensures step { FetchOrTakeStep (terms_of self.old) (session_of self.old) key.now fetch
+            (option_map Fetch outcome) result.answer result.leaves (session_of self.new) }
         ensures taken { taken self.new ≤ taken self.old }
         ensures capacity { vec_capacity self.new.handles ≡ vec_capacity self.old.handles }
         ensures pieces { self.new.pieces ≡ self.old.pieces }
@@ -193,10 +196,10 @@ fn complete_in<
     ensures completed { let k : ℕ × K = (hashes_of core.old key.now, key.now) in
         Completed (meaning_of_core core.old) (hashes_of core.old) (W.weighs (core_of core.old).weighter) (A.admits (core_of core.old).filter)
         (λ properties admitted. coming_in P.location_of P.with_phantom_of admitted properties) source target k
-        (asked (Some fetch) (place_in (fetches_of core.old) k)) (ending_of result)
+        (asked (Some fetch) (open_in (fetches_of core.old) k)) (ending_of result)
         (core_of core.old) (fetches_of core.old) (core_of core.new) (fetches_of core.new) }
     ensures answering { let k : ℕ × K = (hashes_of core.old key.now, key.now) in
-        Answering K.eq k (asked (Some fetch) (place_in (fetches_of core.old) k)) (fetches_of core.old) (fetches_of core.new) (ending_of result) }
+        Answering K.eq k (asked (Some fetch) (open_in (fetches_of core.old) k)) (fetches_of core.old) (fetches_of core.new) (ending_of result) }
 {
     core.complete(key, fetch, target, source)
 }
@@ -217,10 +220,11 @@ fn end_in<
     fetch: u64,
     fault: Option<Arc<Fault, Global>>,
 ) -> Ended<K, V, P, ()>
-    ensures ended { EndsAt (hashes_of core.old key.now, key.now) fetch K.eq (ended_by (option_map Fetch fault)) (fetches_of core.old) (ending_of result) (fetches_of core.new) }
+    ensures ended { EndsAt (hashes_of core.old key.now, key.now) fetch K.eq (ended_by (option_map Fetch fault))
+        (fetches_of core.old) (ending_of result) (fetches_of core.new) }
     ensures core { core_of core.new ≡ core_of core.old }
     ensures answering { let k : ℕ × K = (hashes_of core.old key.now, key.now) in
-        Answering K.eq k (asked (Some fetch) (place_in (fetches_of core.old) k)) (fetches_of core.old) (fetches_of core.new) (ending_of result) }
+        Answering K.eq k (asked (Some fetch) (open_in (fetches_of core.old) k)) (fetches_of core.old) (fetches_of core.new) (ending_of result) }
     ensures nothing { entries_by (ending_of result).outcome ≡ [] }
 {
     match fault {

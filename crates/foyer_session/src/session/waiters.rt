@@ -22,7 +22,8 @@ pub fn tell_ended<K: Drop, V: Drop, P: Drop>(
     requires each { length (entries_by (ending_of ended).outcome) ≤ vec_len ended.answers.waiters }
     requires alike { AreAlike (entries_by (ending_of ended).outcome) }
     ensures answered { ended.found ≡ true → result.answer ≡ Answered
-        (got_of (length handles.old.items) (ending_of ended).outcome (numbers_of ended.answers.waiters.items)) (first_told (entries_by (ending_of ended).outcome)) }
+        (got_of (length handles.old.items) (ending_of ended).outcome (numbers_of ended.answers.waiters.items))
+        (first_told (entries_by (ending_of ended).outcome)) }
     ensures lost { ended.found ≡ false → result.answer ≡ Lost }
     ensures leaves { result.leaves ≡ ended.leaves.items }
     ensures handles { handles.new.items ≡ handles.old.items ++ map given (entries_by (ending_of ended).outcome) }

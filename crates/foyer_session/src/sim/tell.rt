@@ -47,7 +47,8 @@ pub fn tell<W: Write, E: Eviction, S: HashBuilder, I: Finder<u64>, H: HighRatio<
     line: Line,
 ) -> io::Result<()>
     ensures { (text : List ℕ)
-        × LineTold (meaning_of_session session.old) (λ builder key. S.hash_of builder (u64_input key)) (H.config_of high.now) (session_of session.old) line text (session_of session.new)
+        × LineTold (meaning_of_session session.old) (λ builder key. S.hash_of builder (u64_input key))
+        (H.config_of high.now) (session_of session.old) line text (session_of session.new)
         × WritesText (W.contents writer.old) (W.contents writer.new) result text }
 {
     match asked_by(high, line) {
@@ -119,7 +120,8 @@ fn tell_command<W: Write, E: Eviction, S: HashBuilder, I: Finder<u64>>(
     command: SimCommand<E::Config>,
 ) -> io::Result<()>
     ensures { (text : List ℕ)
-        × CommandTold (meaning_of_session session.old) (λ builder key. S.hash_of builder (u64_input key)) (session_of session.old) command text (session_of session.new)
+        × CommandTold (meaning_of_session session.old) (λ builder key. S.hash_of builder (u64_input key))
+        (session_of session.old) command text (session_of session.new)
         × WritesText (W.contents writer.old) (W.contents writer.new) result text }
 {
     let stepped = session.step(command);
@@ -151,7 +153,8 @@ fn tell_refusal<W: Write>(
     usage: u128,
     entries: u128,
 ) -> io::Result<()>
-    ensures { WritesText (W.contents writer.old) (W.contents writer.new) result (refusal_text (number_of error.now) ++ rest_text {P = Answered} [] usage entries) }
+    ensures { WritesText (W.contents writer.old) (W.contents writer.new) result (refusal_text (number_of error.now)
+        ++ rest_text {P = Answered} [] usage entries) }
 {
     write_refusal(writer, error)?;
     write_rest::<W, CacheProperties>(writer, &[], usage, entries)
@@ -162,7 +165,8 @@ fn tell_wrong_policy<W: Write, E: Eviction, S: HashBuilder, I: Finder<u64>>(
     writer: &mut W,
     session: &Session<E, u64, SimValue, CacheProperties, S, SimWeighter, AdmitAll, I>,
 ) -> io::Result<()>
-    ensures { WritesText (W.contents writer.old) (W.contents writer.new) result (line_text (meaning_of_session session.now) (refusal_text 17) [] (session_of session.now)) }
+    ensures { WritesText (W.contents writer.old) (W.contents writer.new) result
+        (line_text (meaning_of_session session.now) (refusal_text 17) [] (session_of session.now)) }
 {
     let error = Error::new(Reason::WrongPolicy);
     tell_refusal(writer, &error, session.usage(), session.entries())
@@ -173,7 +177,8 @@ fn tell_bad<W: Write, E: Eviction, S: HashBuilder, I: Finder<u64>>(
     writer: &mut W,
     session: &Session<E, u64, SimValue, CacheProperties, S, SimWeighter, AdmitAll, I>,
 ) -> io::Result<()>
-    ensures { WritesText (W.contents writer.old) (W.contents writer.new) result (line_text (meaning_of_session session.now) (codes "bad line") [] (session_of session.now)) }
+    ensures { WritesText (W.contents writer.old) (W.contents writer.new) result
+        (line_text (meaning_of_session session.now) (codes "bad line") [] (session_of session.now)) }
 {
     write_out(writer, b"bad line")?;
     write_rest::<W, CacheProperties>(writer, &[], session.usage(), session.entries())

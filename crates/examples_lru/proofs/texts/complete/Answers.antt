@@ -1,6 +1,6 @@
 use Rattle.std.proofs.Common.{◌≡◌, Some, None, true, refl}
 use Rattle.std.specs.String.{string_len}
-use Rattle.foyer_core.specs.CoreFetches.{place_in}
+use Rattle.foyer_core.specs.CoreFetches.{open_in}
 use Rattle.foyer_core.specs.Cores.{core_of, fetches_of, hashes_of, meaning_of_core}
 use Rattle.foyer_core.specs.Inflight.{asked}
 use Rattle.foyer_core.specs.State.{coming_in}
@@ -18,5 +18,5 @@ returns-clause-same c =
     (λ p admitted. coming_in (λ _. None) (λ p b. record p { phantom = Some b }) admitted p) _
     c.args.text c.default.result (hashes_of texts name, name) (ending_of c.complete-answers.result) (core_of texts)
     (fetches_of texts) (core_of after) (fetches_of after)
-    (asked (Some c.args.fetch) (place_in (fetches_of texts) (hashes_of texts name, name)))
+    (asked (Some c.args.fetch) (open_in (fetches_of texts) (hashes_of texts name, name)))
     c.complete-answers.result.answers.outcome refl c.complete-answers.ensures.completed

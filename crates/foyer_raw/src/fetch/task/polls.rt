@@ -46,7 +46,9 @@ where
         ensures value { IfReady result (λ _. ⊤) }
         ensures same { OnPending result (Unit {0} → ⊤ → ⊤) }
         ensures again { OnPending result (IfSome self.new.optional_fetch T.Optional.Fetch.can_poll × IfSome self.new.required_fetch T.Required.Fetch.can_poll) }
-        ensures registered { OnPending result (Covers cx.new (Awaits self.new.state T.Optional.Fetch.needs T.Required.Fetch.needs self.new.optional_fetch self.new.required_fetch)) }
+        ensures registered { OnPending result (Covers cx.new
+            (Awaits self.new.state T.Optional.Fetch.needs T.Required.Fetch.needs self.new.optional_fetch
+            self.new.required_fetch)) }
         ensures kept { Keeps cx.old cx.new }
         ensures leads { Leads 5 self.old.state self.new.state }
         ensures over { self.old.state ≡ RawFetchState.Ready → self.new ≡ self.old }
@@ -102,7 +104,9 @@ where
         ensures leads { Leads 4 self.old.state self.new.state }
         ensures ended { IfReady result (λ _. self.new.state ≡ RawFetchState.Ready) }
         ensures can { IfSome self.new.optional_fetch T.Optional.Fetch.can_poll × IfSome self.new.required_fetch T.Required.Fetch.can_poll }
-        ensures armed { OnPending result (Covers cx.new (Awaits self.new.state T.Optional.Fetch.needs T.Required.Fetch.needs self.new.optional_fetch self.new.required_fetch)) }
+        ensures armed { OnPending result (Covers cx.new
+            (Awaits self.new.state T.Optional.Fetch.needs T.Required.Fetch.needs self.new.optional_fetch
+            self.new.required_fetch)) }
         ensures kept { Keeps cx.old cx.new }
     {
         if self.state != RawFetchState::FetchOptional {
@@ -125,7 +129,9 @@ where
         ensures leads { Leads 3 self.old.state self.new.state }
         ensures ended { IfReady result (λ _. self.new.state ≡ RawFetchState.Ready) }
         ensures can { IfSome self.new.optional_fetch T.Optional.Fetch.can_poll × IfSome self.new.required_fetch T.Required.Fetch.can_poll }
-        ensures armed { OnPending result (Covers cx.new (Awaits self.new.state T.Optional.Fetch.needs T.Required.Fetch.needs self.new.optional_fetch self.new.required_fetch)) }
+        ensures armed { OnPending result (Covers cx.new
+            (Awaits self.new.state T.Optional.Fetch.needs T.Required.Fetch.needs self.new.optional_fetch
+            self.new.required_fetch)) }
         ensures kept { Keeps cx.old cx.new }
     {
         match self.state {
@@ -149,7 +155,9 @@ where
         ensures pending { OnPending result (self.new.state ≡ self.old.state) }
         ensures begun { self.new.state ≢ RawFetchState.Init }
         ensures can { IfSome self.new.optional_fetch T.Optional.Fetch.can_poll × IfSome self.new.required_fetch T.Required.Fetch.can_poll }
-        ensures armed { OnPending result (Covers cx.new (Awaits self.new.state T.Optional.Fetch.needs T.Required.Fetch.needs self.new.optional_fetch self.new.required_fetch)) }
+        ensures armed { OnPending result (Covers cx.new
+            (Awaits self.new.state T.Optional.Fetch.needs T.Required.Fetch.needs self.new.optional_fetch
+            self.new.required_fetch)) }
         ensures kept { Keeps cx.old cx.new }
     {
         let Some(mut fetch) = self.optional_fetch.take() else {
@@ -207,7 +215,9 @@ where
         ensures ended { IfReady result (λ _. self.new.state ≡ RawFetchState.Ready) }
         ensures pending { OnPending result (self.new.state ≡ self.old.state) }
         ensures can { IfSome self.new.optional_fetch T.Optional.Fetch.can_poll × IfSome self.new.required_fetch T.Required.Fetch.can_poll }
-        ensures armed { OnPending result (Covers cx.new (Awaits self.new.state T.Optional.Fetch.needs T.Required.Fetch.needs self.new.optional_fetch self.new.required_fetch)) }
+        ensures armed { OnPending result (Covers cx.new
+            (Awaits self.new.state T.Optional.Fetch.needs T.Required.Fetch.needs self.new.optional_fetch
+            self.new.required_fetch)) }
         ensures kept { Keeps cx.old cx.new }
     {
         if !self.is_open() {

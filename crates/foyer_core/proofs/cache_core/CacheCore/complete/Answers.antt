@@ -1,9 +1,9 @@
 use Rattle.std.proofs.Common.{◌≡◌, ℕ, Option, Some, true, refl, sym, ap, subst}
 use Rattle.foyer_core.specs.declared.outcome.FetchTarget.{FetchTarget}
 use Rattle.foyer_core.specs.declared.outcome.FetchTarget.TheVariants.{Entry, Piece as PieceOf}
-use Rattle.foyer_core.specs.CoreFetches.{Completed, place_in}
+use Rattle.foyer_core.specs.CoreFetches.{Completed, open_in}
 use Rattle.foyer_core.specs.Cores.{core_of, fetches_of, hashes_of, meaning_of_core}
-use Rattle.foyer_core.specs.Inflight.{Place, asked}
+use Rattle.foyer_core.specs.Inflight.{OpenFetch, asked}
 use Rattle.foyer_core.specs.Shards.{opens_of}
 use Rattle.foyer_core.specs.State.{coming_in}
 use Rattle.foyer_core.specs.Waited.{ending_of}
@@ -17,10 +17,10 @@ returns-in-Entry-clause-completed g c =
     let s = c.args.self.now in
     let t = c.complete_value.new.self in
     let k : ℕ × g.row.K.Denot = (hashes_of s c.args.key.now, c.args.key.now) in
-    let found = asked_open c.args.fetch (place_in (fetches_of s) k)
+    let found = asked_open c.args.fetch (open_in (fetches_of s) k)
     (c.is_open.ensures.is_open.0 c.if-not-is_open.false) in
     let comes : (target : FetchTarget g.row.K.Denot g.row.V.Denot g.row.P.Denot)
-    (p : Option (Place g.row.N.Denot g.row.R.Denot)) → Type 0 = λ target p.
+    (p : Option (OpenFetch g.row.N.Denot g.row.R.Denot)) → Type 0 = λ target p.
     Completed (meaning_of_core s) (hashes_of s) (g.W.Weighter.weighs s.weighter) (g.A.Filter.admits s.filter)
     (λ properties admitted. coming_in g.P.Properties.location_of g.P.Properties.with_phantom_of admitted properties)
     c.args.source target k p (ending_of c.complete_value.result) (core_of s) (fetches_of s) (core_of t)
@@ -34,10 +34,10 @@ returns-in-Piece-clause-completed g c =
     let s = c.args.self.now in
     let t = c.complete_piece.new.self in
     let k : ℕ × g.row.K.Denot = (hashes_of s c.args.key.now, c.args.key.now) in
-    let found = asked_open c.args.fetch (place_in (fetches_of s) k)
+    let found = asked_open c.args.fetch (open_in (fetches_of s) k)
     (c.is_open.ensures.is_open.0 c.if-not-is_open.false) in
     let comes : (target : FetchTarget g.row.K.Denot g.row.V.Denot g.row.P.Denot)
-    (p : Option (Place g.row.N.Denot g.row.R.Denot)) → Type 0 = λ target p.
+    (p : Option (OpenFetch g.row.N.Denot g.row.R.Denot)) → Type 0 = λ target p.
     Completed (meaning_of_core s) (hashes_of s) (g.W.Weighter.weighs s.weighter) (g.A.Filter.admits s.filter)
     (λ properties admitted. coming_in g.P.Properties.location_of g.P.Properties.with_phantom_of admitted properties)
     c.args.source target k p (ending_of c.complete_piece.result) (core_of s) (fetches_of s) (core_of t)
@@ -60,7 +60,7 @@ returns-in-Entry-clause-found g c =
     (λ b k. g.S.HashBuilder.hash_of b (g.K.Hash.hash_input k)) (core_of s) (core_of t) equal sound (fetches_of s)
     (fetches_of t) c.args.source c.args.key.now (ending_of c.complete_value.result)
     (g.W.Weighter.weighs s.weighter) (g.A.Filter.admits s.filter) g.P.Properties.location_of
-    g.P.Properties.with_phantom_of c.args.target (asked (Some c.args.fetch) (place_in (fetches_of s) k))
+    g.P.Properties.with_phantom_of c.args.target (asked (Some c.args.fetch) (open_in (fetches_of s) k))
     (returns-in-Entry-clause-completed g c)
 
 pub returns-in-Entry-clause-bounded : goal.returns-in-Entry-clause-bounded
@@ -75,7 +75,7 @@ returns-in-Entry-clause-bounded g c =
     (λ b k. g.S.HashBuilder.hash_of b (g.K.Hash.hash_input k)) (core_of s) (core_of t) equal sound (fetches_of s)
     (fetches_of t) c.args.source c.args.key.now (ending_of c.complete_value.result)
     (g.W.Weighter.weighs s.weighter) (g.A.Filter.admits s.filter) g.P.Properties.location_of
-    g.P.Properties.with_phantom_of c.args.target (asked (Some c.args.fetch) (place_in (fetches_of s) k))
+    g.P.Properties.with_phantom_of c.args.target (asked (Some c.args.fetch) (open_in (fetches_of s) k))
     (returns-in-Entry-clause-completed g c)
 
 pub returns-in-Entry-clause-stay : goal.returns-in-Entry-clause-stay
@@ -90,7 +90,7 @@ returns-in-Entry-clause-stay g c =
     (λ b k. g.S.HashBuilder.hash_of b (g.K.Hash.hash_input k)) (core_of s) (core_of t) equal sound (fetches_of s)
     (fetches_of t) c.args.source c.args.key.now (ending_of c.complete_value.result)
     (g.W.Weighter.weighs s.weighter) (g.A.Filter.admits s.filter) g.P.Properties.location_of
-    g.P.Properties.with_phantom_of c.args.target (asked (Some c.args.fetch) (place_in (fetches_of s) k))
+    g.P.Properties.with_phantom_of c.args.target (asked (Some c.args.fetch) (open_in (fetches_of s) k))
     (returns-in-Entry-clause-completed g c)
 
 pub returns-in-Entry-clause-told : goal.returns-in-Entry-clause-told
@@ -105,7 +105,7 @@ returns-in-Entry-clause-told g c =
     (λ b k. g.S.HashBuilder.hash_of b (g.K.Hash.hash_input k)) (core_of s) (core_of t) equal sound (fetches_of s)
     (fetches_of t) c.args.source c.args.key.now (ending_of c.complete_value.result)
     (g.W.Weighter.weighs s.weighter) (g.A.Filter.admits s.filter) g.P.Properties.location_of
-    g.P.Properties.with_phantom_of c.args.target (asked (Some c.args.fetch) (place_in (fetches_of s) k))
+    g.P.Properties.with_phantom_of c.args.target (asked (Some c.args.fetch) (open_in (fetches_of s) k))
     (λ o is. place_waited opens_of s.shards.items k c.args.fetch
     (λ x q there. x.inflights.sound.waited k q there) o is) (returns-in-Entry-clause-completed g c)
 
@@ -121,7 +121,7 @@ returns-in-Piece-clause-found g c =
     (λ b k. g.S.HashBuilder.hash_of b (g.K.Hash.hash_input k)) (core_of s) (core_of t) equal sound (fetches_of s)
     (fetches_of t) c.args.source c.args.key.now (ending_of c.complete_piece.result)
     (g.W.Weighter.weighs s.weighter) (g.A.Filter.admits s.filter) g.P.Properties.location_of
-    g.P.Properties.with_phantom_of c.args.target (asked (Some c.args.fetch) (place_in (fetches_of s) k))
+    g.P.Properties.with_phantom_of c.args.target (asked (Some c.args.fetch) (open_in (fetches_of s) k))
     (returns-in-Piece-clause-completed g c)
 
 pub returns-in-Piece-clause-stay : goal.returns-in-Piece-clause-stay
@@ -136,7 +136,7 @@ returns-in-Piece-clause-stay g c =
     (λ b k. g.S.HashBuilder.hash_of b (g.K.Hash.hash_input k)) (core_of s) (core_of t) equal sound (fetches_of s)
     (fetches_of t) c.args.source c.args.key.now (ending_of c.complete_piece.result)
     (g.W.Weighter.weighs s.weighter) (g.A.Filter.admits s.filter) g.P.Properties.location_of
-    g.P.Properties.with_phantom_of c.args.target (asked (Some c.args.fetch) (place_in (fetches_of s) k))
+    g.P.Properties.with_phantom_of c.args.target (asked (Some c.args.fetch) (open_in (fetches_of s) k))
     (returns-in-Piece-clause-completed g c)
 
 pub returns-in-Piece-clause-told : goal.returns-in-Piece-clause-told
@@ -151,6 +151,6 @@ returns-in-Piece-clause-told g c =
     (λ b k. g.S.HashBuilder.hash_of b (g.K.Hash.hash_input k)) (core_of s) (core_of t) equal sound (fetches_of s)
     (fetches_of t) c.args.source c.args.key.now (ending_of c.complete_piece.result)
     (g.W.Weighter.weighs s.weighter) (g.A.Filter.admits s.filter) g.P.Properties.location_of
-    g.P.Properties.with_phantom_of c.args.target (asked (Some c.args.fetch) (place_in (fetches_of s) k))
+    g.P.Properties.with_phantom_of c.args.target (asked (Some c.args.fetch) (open_in (fetches_of s) k))
     (λ o is. place_waited opens_of s.shards.items k c.args.fetch
     (λ x q there. x.inflights.sound.waited k q there) o is) (returns-in-Piece-clause-completed g c)

@@ -21,11 +21,11 @@ invariant_of-self-clause-belong g c =
     let y = c.complete_new-ended.new.self in
     let d : Data g.row.K.Denot g.row.V.Denot g.row.P.Denot =
     record c.args.piece.kept { hash = c.args.hash; weight = c.weigh-weight.result } in
-    belongs_over state_of s.shards.items c.args.hash (vec_len s.shards) c.place-place.result x s.shards.ok.0
-    c.place-place.ensures.within c.place-place.ensures.place c.index_mut.ensures.value
+    belongs_over state_of s.shards.items c.args.hash (vec_len s.shards) c.shard_index-place.result x s.shards.ok.0
+    c.shard_index-place.ensures.within c.shard_index-place.ensures.index c.index_mut.ensures.value
     y (completes_from (λ e. e.hash ≡ c.args.hash) (meaning_of x) (state_of x) (opens_of x) (key_of d)
     (ending_of c.complete_new-ended.result) (state_of y) (opens_of y)
-    (asked (Some c.args.fetch) ((opens_of x).places (key_of d))) Memory d
+    (asked (Some c.args.fetch) ((opens_of x).by_key (key_of d))) Memory d
     c.complete_new-ended.ensures.completed refl) s.belong
 
 pub invariant_of-self-clause-hashed : goal.invariant_of-self-clause-hashed
@@ -35,11 +35,11 @@ invariant_of-self-clause-hashed g c =
     let y = c.complete_new-ended.new.self in
     let d : Data g.row.K.Denot g.row.V.Denot g.row.P.Denot =
     record c.args.piece.kept { hash = c.args.hash; weight = c.weigh-weight.result } in
-    hashed_over (hashes_of s) state_of s.shards.items (vec_len s.shards) c.place-place.result x s.shards.ok.0
-    c.place-place.ensures.within c.index_mut.ensures.value
+    hashed_over (hashes_of s) state_of s.shards.items (vec_len s.shards) c.shard_index-place.result x s.shards.ok.0
+    c.shard_index-place.ensures.within c.index_mut.ensures.value
     y (completes_from (IsHashed (hashes_of s)) (meaning_of x) (state_of x) (opens_of x) (key_of d)
     (ending_of c.complete_new-ended.result) (state_of y) (opens_of y)
-    (asked (Some c.args.fetch) ((opens_of x).places (key_of d))) Memory d
+    (asked (Some c.args.fetch) ((opens_of x).by_key (key_of d))) Memory d
     c.complete_new-ended.ensures.completed c.requires.hashed) s.hashed
 
 pub invariant_of-self-clause-summed : goal.invariant_of-self-clause-summed
@@ -47,9 +47,9 @@ invariant_of-self-clause-summed g c =
     let s = c.args.self.now in
     let before = c.of-before in
     let after = c.of-after in
-    sums_set (meaning_of_core s) state_of s.shards.items (vec_len s.shards) c.place-place.result c.index.result.now
+    sums_set (meaning_of_core s) state_of s.shards.items (vec_len s.shards) c.shard_index-place.result c.index.result.now
     s.load.usage s.load.entries
-    s.shards.ok.0 (omega (arith, s.shards.ok.1, s.shards.small)) c.place-place.ensures.within c.index.ensures s.summed
+    s.shards.ok.0 (omega (arith, s.shards.ok.1, s.shards.small)) c.shard_index-place.ensures.within c.index.ensures s.summed
     before.result.usage before.result.entries before.ensures.usage before.ensures.entries
     c.complete_new-ended.new.self c.index-2.result.now c.index-2.ensures after.result.usage after.result.entries
     after.ensures.usage after.ensures.entries after.ensures.small
@@ -60,9 +60,9 @@ replace-requires-clause-usage g c =
     let s = c.args.self.now in
     let before = c.of-before in
     let after = c.of-after in
-    usage_fits (meaning_of_core s) state_of s.shards.items (vec_len s.shards) c.place-place.result c.index.result.now
+    usage_fits (meaning_of_core s) state_of s.shards.items (vec_len s.shards) c.shard_index-place.result c.index.result.now
     s.load.usage s.load.entries
-    s.shards.ok.0 (omega (arith, s.shards.ok.1, s.shards.small)) c.place-place.ensures.within c.index.ensures s.summed
+    s.shards.ok.0 (omega (arith, s.shards.ok.1, s.shards.small)) c.shard_index-place.ensures.within c.index.ensures s.summed
     before.result.usage before.result.entries before.ensures.usage before.ensures.entries
     c.complete_new-ended.new.self c.index-2.result.now c.index-2.ensures after.result.usage after.result.entries
     after.ensures.usage after.ensures.entries after.ensures.small
@@ -72,9 +72,9 @@ replace-requires-clause-entries g c =
     let s = c.args.self.now in
     let before = c.of-before in
     let after = c.of-after in
-    entries_fit (meaning_of_core s) state_of s.shards.items (vec_len s.shards) c.place-place.result c.index.result.now
+    entries_fit (meaning_of_core s) state_of s.shards.items (vec_len s.shards) c.shard_index-place.result c.index.result.now
     s.load.usage s.load.entries
-    s.shards.ok.0 (omega (arith, s.shards.ok.1, s.shards.small)) c.place-place.ensures.within c.index.ensures s.summed
+    s.shards.ok.0 (omega (arith, s.shards.ok.1, s.shards.small)) c.shard_index-place.ensures.within c.index.ensures s.summed
     before.result.usage before.result.entries before.ensures.usage before.ensures.entries
     c.complete_new-ended.new.self c.index-2.result.now c.index-2.ensures after.result.usage after.result.entries
     after.ensures.usage after.ensures.entries after.ensures.small
@@ -92,9 +92,9 @@ returns g c =
     let did = c.complete_new-ended.ensures.completed in
     record {
       completed = open_over state_of opens_of s.capacity s.hash_builder s.weighter s.filter s.shards.items c.args.hash
-          (vec_len s.shards) c.place-place.result x s.shards.ok.0 c.place-place.ensures.within
-          c.place-place.ensures.place c.index_mut.ensures.value y
+          (vec_len s.shards) c.shard_index-place.result x s.shards.ok.0 c.shard_index-place.ensures.within
+          c.shard_index-place.ensures.index c.index_mut.ensures.value y
           (λ a f b h. (weight : ℕ) × weighs weight
-          × CompletesBy (meaning_of_core s) (asked (Some c.args.fetch) (f.places k)) Memory a f k (of weight)
+          × CompletesBy (meaning_of_core s) (asked (Some c.args.fetch) (f.by_key k)) Memory a f k (of weight)
           (ending_of c.complete_new-ended.result) b h) (c.weigh-weight.result, weighed, did);
     }

@@ -17,9 +17,9 @@ complete_back-ended-requires-clause-given g c κs within =
     let equal : (a b : g.row.K.Denot) → g.K.PartialEq.eq a b ≡ true → hashes_of s a ≡ hashes_of s b =
     λ a b same. ap (g.S.HashBuilder.hash_of s.hash_builder) (g.met.K.Hash.respects_eq a b same) in
     given_over g.K.PartialEq.eq (hashes_of s) equal state_of s.capacity s.hash_builder s.weighter s.filter
-    s.shards.items (vec_len s.shards) c.place-place.result c.index_mut.result.now s.shards.ok.0
-    c.place-place.ensures.within c.index_mut.ensures.value s.belong s.hashed
-    c.args.key.now c.args.hash c.requires.hashed c.place-place.ensures.place c.args.piece c.requires.known
+    s.shards.items (vec_len s.shards) c.shard_index-place.result c.index_mut.result.now s.shards.ok.0
+    c.shard_index-place.ensures.within c.index_mut.ensures.value s.belong s.hashed
+    c.args.key.now c.args.hash c.requires.hashed c.shard_index-place.ensures.index c.args.piece c.requires.known
 
 pub complete_back-ended-requires-clause-hashed : goal.complete_back-ended-requires-clause-hashed
 complete_back-ended-requires-clause-hashed g c κs within =
@@ -27,9 +27,9 @@ complete_back-ended-requires-clause-hashed g c κs within =
     let equal : (a b : g.row.K.Denot) → g.K.PartialEq.eq a b ≡ true → hashes_of s a ≡ hashes_of s b =
     λ a b same. ap (g.S.HashBuilder.hash_of s.hash_builder) (g.met.K.Hash.respects_eq a b same) in
     hash_over g.K.PartialEq.eq (hashes_of s) equal state_of s.capacity s.hash_builder s.weighter s.filter
-    s.shards.items (vec_len s.shards) c.place-place.result c.index_mut.result.now s.shards.ok.0
-    c.place-place.ensures.within c.index_mut.ensures.value s.belong s.hashed
-    c.args.key.now c.args.hash c.requires.hashed c.place-place.ensures.place c.args.piece c.requires.known
+    s.shards.items (vec_len s.shards) c.shard_index-place.result c.index_mut.result.now s.shards.ok.0
+    c.shard_index-place.ensures.within c.index_mut.ensures.value s.belong s.hashed
+    c.args.key.now c.args.hash c.requires.hashed c.shard_index-place.ensures.index c.args.piece c.requires.known
     c.requires.same
 
 pub complete_back-ended-requires-clause-same : goal.complete_back-ended-requires-clause-same
@@ -38,9 +38,9 @@ complete_back-ended-requires-clause-same g c κs within =
     let equal : (a b : g.row.K.Denot) → g.K.PartialEq.eq a b ≡ true → hashes_of s a ≡ hashes_of s b =
     λ a b same. ap (g.S.HashBuilder.hash_of s.hash_builder) (g.met.K.Hash.respects_eq a b same) in
     alike_over g.K.PartialEq.eq (hashes_of s) equal state_of s.capacity s.hash_builder s.weighter s.filter
-    s.shards.items (vec_len s.shards) c.place-place.result c.index_mut.result.now s.shards.ok.0
-    c.place-place.ensures.within c.index_mut.ensures.value s.belong s.hashed
-    c.args.key.now c.args.hash c.requires.hashed c.place-place.ensures.place c.args.piece c.requires.known
+    s.shards.items (vec_len s.shards) c.shard_index-place.result c.index_mut.result.now s.shards.ok.0
+    c.shard_index-place.ensures.within c.index_mut.ensures.value s.belong s.hashed
+    c.args.key.now c.args.hash c.requires.hashed c.shard_index-place.ensures.index c.args.piece c.requires.known
     c.requires.same
 
 pub invariant_of-self-clause-belong : goal.invariant_of-self-clause-belong
@@ -52,15 +52,15 @@ invariant_of-self-clause-belong g c =
     let equal : (a b : g.row.K.Denot) → g.K.PartialEq.eq a b ≡ true → hashes_of s a ≡ hashes_of s b =
     λ a b same. ap (g.S.HashBuilder.hash_of s.hash_builder) (g.met.K.Hash.respects_eq a b same) in
     let own = hash_over g.K.PartialEq.eq (hashes_of s) equal state_of s.capacity s.hash_builder s.weighter s.filter
-    s.shards.items (vec_len s.shards) c.place-place.result x s.shards.ok.0 c.place-place.ensures.within
+    s.shards.items (vec_len s.shards) c.shard_index-place.result x s.shards.ok.0 c.shard_index-place.ensures.within
     c.index_mut.ensures.value s.belong s.hashed
-    c.args.key.now c.args.hash c.requires.hashed c.place-place.ensures.place c.args.piece c.requires.known
+    c.args.key.now c.args.hash c.requires.hashed c.shard_index-place.ensures.index c.args.piece c.requires.known
     c.requires.same in
-    belongs_over state_of s.shards.items c.args.hash (vec_len s.shards) c.place-place.result x s.shards.ok.0
-    c.place-place.ensures.within c.place-place.ensures.place c.index_mut.ensures.value
+    belongs_over state_of s.shards.items c.args.hash (vec_len s.shards) c.shard_index-place.result x s.shards.ok.0
+    c.shard_index-place.ensures.within c.shard_index-place.ensures.index c.index_mut.ensures.value
     y (completes_back_from (λ e. e.hash ≡ c.args.hash) (meaning_of x) (state_of x) (opens_of x) k
     (ending_of c.complete_back-ended.result) (state_of y) (opens_of y)
-    (asked (Some c.args.fetch) ((opens_of x).places k)) c.args.piece c.complete_back-ended.ensures.completed
+    (asked (Some c.args.fetch) ((opens_of x).by_key k)) c.args.piece c.complete_back-ended.ensures.completed
     (sym own)) s.belong
 
 pub invariant_of-self-clause-hashed : goal.invariant_of-self-clause-hashed
@@ -72,15 +72,15 @@ invariant_of-self-clause-hashed g c =
     let equal : (a b : g.row.K.Denot) → g.K.PartialEq.eq a b ≡ true → hashes_of s a ≡ hashes_of s b =
     λ a b same. ap (g.S.HashBuilder.hash_of s.hash_builder) (g.met.K.Hash.respects_eq a b same) in
     let own = held_over g.K.PartialEq.eq (hashes_of s) equal state_of s.capacity s.hash_builder s.weighter s.filter
-    s.shards.items (vec_len s.shards) c.place-place.result x s.shards.ok.0 c.place-place.ensures.within
+    s.shards.items (vec_len s.shards) c.shard_index-place.result x s.shards.ok.0 c.shard_index-place.ensures.within
     c.index_mut.ensures.value s.belong s.hashed
-    c.args.key.now c.args.hash c.requires.hashed c.place-place.ensures.place c.args.piece c.requires.known
+    c.args.key.now c.args.hash c.requires.hashed c.shard_index-place.ensures.index c.args.piece c.requires.known
     c.requires.same in
-    hashed_over (hashes_of s) state_of s.shards.items (vec_len s.shards) c.place-place.result x s.shards.ok.0
-    c.place-place.ensures.within c.index_mut.ensures.value
+    hashed_over (hashes_of s) state_of s.shards.items (vec_len s.shards) c.shard_index-place.result x s.shards.ok.0
+    c.shard_index-place.ensures.within c.index_mut.ensures.value
     y (completes_back_from (IsHashed (hashes_of s)) (meaning_of x) (state_of x) (opens_of x) k
     (ending_of c.complete_back-ended.result) (state_of y) (opens_of y)
-    (asked (Some c.args.fetch) ((opens_of x).places k)) c.args.piece c.complete_back-ended.ensures.completed
+    (asked (Some c.args.fetch) ((opens_of x).by_key k)) c.args.piece c.complete_back-ended.ensures.completed
     own) s.hashed
 
 pub invariant_of-self-clause-summed : goal.invariant_of-self-clause-summed
@@ -88,9 +88,9 @@ invariant_of-self-clause-summed g c =
     let s = c.args.self.now in
     let before = c.of-before in
     let after = c.of-after in
-    sums_set (meaning_of_core s) state_of s.shards.items (vec_len s.shards) c.place-place.result c.index.result.now
+    sums_set (meaning_of_core s) state_of s.shards.items (vec_len s.shards) c.shard_index-place.result c.index.result.now
     s.load.usage s.load.entries
-    s.shards.ok.0 (omega (arith, s.shards.ok.1, s.shards.small)) c.place-place.ensures.within c.index.ensures s.summed
+    s.shards.ok.0 (omega (arith, s.shards.ok.1, s.shards.small)) c.shard_index-place.ensures.within c.index.ensures s.summed
     before.result.usage before.result.entries before.ensures.usage before.ensures.entries
     c.complete_back-ended.new.self c.index-2.result.now c.index-2.ensures after.result.usage after.result.entries
     after.ensures.usage after.ensures.entries after.ensures.small
@@ -101,9 +101,9 @@ replace-requires-clause-usage g c =
     let s = c.args.self.now in
     let before = c.of-before in
     let after = c.of-after in
-    usage_fits (meaning_of_core s) state_of s.shards.items (vec_len s.shards) c.place-place.result c.index.result.now
+    usage_fits (meaning_of_core s) state_of s.shards.items (vec_len s.shards) c.shard_index-place.result c.index.result.now
     s.load.usage s.load.entries
-    s.shards.ok.0 (omega (arith, s.shards.ok.1, s.shards.small)) c.place-place.ensures.within c.index.ensures s.summed
+    s.shards.ok.0 (omega (arith, s.shards.ok.1, s.shards.small)) c.shard_index-place.ensures.within c.index.ensures s.summed
     before.result.usage before.result.entries before.ensures.usage before.ensures.entries
     c.complete_back-ended.new.self c.index-2.result.now c.index-2.ensures after.result.usage after.result.entries
     after.ensures.usage after.ensures.entries after.ensures.small
@@ -113,9 +113,9 @@ replace-requires-clause-entries g c =
     let s = c.args.self.now in
     let before = c.of-before in
     let after = c.of-after in
-    entries_fit (meaning_of_core s) state_of s.shards.items (vec_len s.shards) c.place-place.result c.index.result.now
+    entries_fit (meaning_of_core s) state_of s.shards.items (vec_len s.shards) c.shard_index-place.result c.index.result.now
     s.load.usage s.load.entries
-    s.shards.ok.0 (omega (arith, s.shards.ok.1, s.shards.small)) c.place-place.ensures.within c.index.ensures s.summed
+    s.shards.ok.0 (omega (arith, s.shards.ok.1, s.shards.small)) c.shard_index-place.ensures.within c.index.ensures s.summed
     before.result.usage before.result.entries before.ensures.usage before.ensures.entries
     c.complete_back-ended.new.self c.index-2.result.now c.index-2.ensures after.result.usage after.result.entries
     after.ensures.usage after.ensures.entries after.ensures.small
@@ -128,8 +128,8 @@ returns g c =
     let k : ℕ × g.row.K.Denot = (c.args.hash, c.args.key.now) in
     record {
       completed = open_over state_of opens_of s.capacity s.hash_builder s.weighter s.filter s.shards.items c.args.hash
-          (vec_len s.shards) c.place-place.result x s.shards.ok.0 c.place-place.ensures.within
-          c.place-place.ensures.place c.index_mut.ensures.value y
-          (λ a f b h. CompletesBackBy (meaning_of_core s) (asked (Some c.args.fetch) (f.places k)) a f k c.args.piece
+          (vec_len s.shards) c.shard_index-place.result x s.shards.ok.0 c.shard_index-place.ensures.within
+          c.shard_index-place.ensures.index c.index_mut.ensures.value y
+          (λ a f b h. CompletesBackBy (meaning_of_core s) (asked (Some c.args.fetch) (f.by_key k)) a f k c.args.piece
           (ending_of c.complete_back-ended.result) b h) c.complete_back-ended.ensures.completed;
     }

@@ -19,7 +19,7 @@ complete_known-requires-clause-known g c κs within =
     let own : c.hash-own.result ≡ hashes_of s c.args.piece.kept.key = c.hash-own.ensures.hash
     ∙ ap (hashes_of s) c.key.ensures in
     let there = shard_over state_of s.capacity s.hash_builder s.weighter s.filter s.shards.items c.hash-hash.result
-    (vec_len s.shards) c.place.result x s.shards.ok.0 c.place.ensures.within c.place.ensures.place
+    (vec_len s.shards) c.shard_index.result x s.shards.ok.0 c.shard_index.ensures.within c.shard_index.ensures.index
     c.index.ensures in
     let known : is_known (state_of x) (hashes_of s c.args.piece.kept.key) c.args.piece ≡ true =
     rw own at (sym c.knows.ensures ∙ c.if-knows.true) in
@@ -30,7 +30,7 @@ complete_known-requires-clause-same g c κs within =
     let s = c.args.self.now in
     let x = c.index.result.now in
     let there = shard_over state_of s.capacity s.hash_builder s.weighter s.filter s.shards.items c.hash-hash.result
-    (vec_len s.shards) c.place.result x s.shards.ok.0 c.place.ensures.within c.place.ensures.place
+    (vec_len s.shards) c.shard_index.result x s.shards.ok.0 c.shard_index.ensures.within c.shard_index.ensures.index
     c.index.ensures in
     let is = sym c.stands_for.ensures ∙ c.if-not-stands_for.false in
     let same = known_under (meaning_of_core s) (core_of s) c.hash-hash.result c.hash-own.result c.args.key.now
@@ -49,9 +49,9 @@ returns-then-knows g c = record {
       let hash : c.hash-hash.result ≡ hashes_of s key = c.hash-hash.ensures.hash in
       let own : c.hash-own.result ≡ hashes_of s piece.kept.key = c.hash-own.ensures.hash
       ∙ ap (hashes_of s) c.key.ensures in
-      let at = c.place.ensures.place ∙ ap (λ (n : ℕ). n % vec_len s.shards) hash in
+      let at = c.shard_index.ensures.index ∙ ap (λ (n : ℕ). n % vec_len s.shards) hash in
       let there = shard_over state_of s.capacity s.hash_builder s.weighter s.filter s.shards.items (hashes_of s key)
-      (vec_len s.shards) c.place.result x s.shards.ok.0 c.place.ensures.within at c.index.ensures in
+      (vec_len s.shards) c.shard_index.result x s.shards.ok.0 c.shard_index.ensures.within at c.index.ensures in
       let is : is_of m (core_of s) (hashes_of s piece.kept.key) piece (hashes_of s key, key)
       (shard_at (core_of s) (hashes_of s key)) ≡ true =
       rw (own, hash) at (sym c.stands_for.ensures ∙ c.if-not-stands_for.false) in
@@ -78,9 +78,9 @@ returns g c = record {
       let hash : c.hash-hash.result ≡ hashes_of s key = c.hash-hash.ensures.hash in
       let own : c.hash-own.result ≡ hashes_of s piece.kept.key = c.hash-own.ensures.hash
       ∙ ap (hashes_of s) c.key.ensures in
-      let at = c.place.ensures.place ∙ ap (λ (n : ℕ). n % vec_len s.shards) hash in
+      let at = c.shard_index.ensures.index ∙ ap (λ (n : ℕ). n % vec_len s.shards) hash in
       let there = shard_over state_of s.capacity s.hash_builder s.weighter s.filter s.shards.items (hashes_of s key)
-      (vec_len s.shards) c.place.result x s.shards.ok.0 c.place.ensures.within at c.index.ensures in
+      (vec_len s.shards) c.shard_index.result x s.shards.ok.0 c.shard_index.ensures.within at c.index.ensures in
       let is : is_of m (core_of s) (hashes_of s piece.kept.key) piece (hashes_of s key, key)
       (shard_at (core_of s) (hashes_of s key)) ≡ true =
       rw (own, hash) at (sym c.stands_for.ensures ∙ c.if-not-stands_for.false) in

@@ -12,8 +12,8 @@ invariant_of-self-clause-belong g c =
     let s = c.args.self.now in
     let x = c.index_mut.result.now in
     let y = c.end.new.self in
-    let same = map-write state_of s.shards.items (vec_len s.shards) c.place-place.result x y s.shards.ok.0
-    c.place-place.ensures.within c.index_mut.ensures.value c.end.ensures.state in
+    let same = map-write state_of s.shards.items (vec_len s.shards) c.shard_index-place.result x y s.shards.ok.0
+    c.shard_index-place.ensures.within c.index_mut.ensures.value c.end.ensures.state in
     rw same s.belong
 
 pub invariant_of-self-clause-hashed : goal.invariant_of-self-clause-hashed
@@ -21,8 +21,8 @@ invariant_of-self-clause-hashed g c =
     let s = c.args.self.now in
     let x = c.index_mut.result.now in
     let y = c.end.new.self in
-    let same = map-write state_of s.shards.items (vec_len s.shards) c.place-place.result x y s.shards.ok.0
-    c.place-place.ensures.within c.index_mut.ensures.value c.end.ensures.state in
+    let same = map-write state_of s.shards.items (vec_len s.shards) c.shard_index-place.result x y s.shards.ok.0
+    c.shard_index-place.ensures.within c.index_mut.ensures.value c.end.ensures.state in
     rw same s.hashed
 
 pub invariant_of-self-clause-summed : goal.invariant_of-self-clause-summed
@@ -30,8 +30,8 @@ invariant_of-self-clause-summed g c =
     let s = c.args.self.now in
     let x = c.index_mut.result.now in
     let y = c.end.new.self in
-    let same = map-write state_of s.shards.items (vec_len s.shards) c.place-place.result x y s.shards.ok.0
-    c.place-place.ensures.within c.index_mut.ensures.value c.end.ensures.state in
+    let same = map-write state_of s.shards.items (vec_len s.shards) c.shard_index-place.result x y s.shards.ok.0
+    c.shard_index-place.ensures.within c.index_mut.ensures.value c.end.ensures.state in
     rw same s.summed
 
 pub returns-clause-core : goal.returns-clause-core
@@ -40,8 +40,8 @@ returns-clause-core g c =
     let x = c.index_mut.result.now in
     let y = c.end.new.self in
     same_over state_of s.capacity s.hash_builder s.weighter s.filter s.shards.items c.hash-hash.result
-    (vec_len s.shards) c.place-place.result x
-    s.shards.ok.0 c.place-place.ensures.within c.place-place.ensures.place c.index_mut.ensures.value y
+    (vec_len s.shards) c.shard_index-place.result x
+    s.shards.ok.0 c.shard_index-place.ensures.within c.shard_index-place.ensures.index c.index_mut.ensures.value y
     c.end.ensures.state
 
 pub returns-clause-ended : goal.returns-clause-ended
@@ -50,7 +50,7 @@ returns-clause-ended g c =
     let x = c.index_mut.result.now in
     let y = c.end.new.self in
     let hash = hashes_of s c.args.key.now in
-    let at = c.place-place.ensures.place ∙ ap (λ (n : ℕ). n % vec_len s.shards) c.hash-hash.ensures.hash in
-    ends_over opens_of s.shards.items hash (vec_len s.shards) c.place-place.result x y s.shards.ok.0
-    c.place-place.ensures.within at c.index_mut.ensures.value g.K.PartialEq.eq c.args.key.now c.args.fetch
+    let at = c.shard_index-place.ensures.index ∙ ap (λ (n : ℕ). n % vec_len s.shards) c.hash-hash.ensures.hash in
+    ends_over opens_of s.shards.items hash (vec_len s.shards) c.shard_index-place.result x y s.shards.ok.0
+    c.shard_index-place.ensures.within at c.index_mut.ensures.value g.K.PartialEq.eq c.args.key.now c.args.fetch
     c.args.error (ending_of c.end.result) (rw c.hash-hash.ensures.hash at c.end.ensures.ended)

@@ -19,8 +19,8 @@ invariant_of-self-clause-belong g c =
     let s = c.args.self.now in
     let x = c.index_mut.result.now in
     let y = c.get.new.self in
-    belongs_over state_of s.shards.items c.hash-hash.result (vec_len s.shards) c.place-place.result x s.shards.ok.0
-    c.place-place.ensures.within c.place-place.ensures.place c.index_mut.ensures.value
+    belongs_over state_of s.shards.items c.hash-hash.result (vec_len s.shards) c.shard_index-place.result x s.shards.ok.0
+    c.shard_index-place.ensures.within c.shard_index-place.ensures.index c.index_mut.ensures.value
     y (gets_from (λ d. d.hash ≡ c.hash-hash.result) (meaning_of x) (state_of x) (c.hash-hash.result, c.args.key.now)
     c.get.result (state_of y) c.get.ensures.gets) s.belong
 
@@ -30,7 +30,7 @@ invariant_of-self-clause-hashed g c =
     let x = c.index_mut.result.now in
     let y = c.get.new.self in
     hashed_over (λ k. g.S.HashBuilder.hash_of s.hash_builder (g.K.Hash.hash_input k)) state_of s.shards.items
-    (vec_len s.shards) c.place-place.result x s.shards.ok.0 c.place-place.ensures.within c.index_mut.ensures.value
+    (vec_len s.shards) c.shard_index-place.result x s.shards.ok.0 c.shard_index-place.ensures.within c.index_mut.ensures.value
     y (gets_from (IsHashed (λ k. g.S.HashBuilder.hash_of s.hash_builder (g.K.Hash.hash_input k))) (meaning_of x)
     (state_of x) (c.hash-hash.result, c.args.key.now) c.get.result (state_of y) c.get.ensures.gets) s.hashed
 
@@ -39,10 +39,10 @@ invariant_of-self-clause-summed g c =
     let s = c.args.self.now in
     let x = c.index_mut.result.now in
     let y = c.get.new.self in
-    sums_same (meaning_of_core s) state_of s.shards.items (vec_len s.shards) c.place-place.result x s.load.usage
-    s.load.entries s.shards.ok.0 c.place-place.ensures.within c.index_mut.ensures.value s.summed
+    sums_same (meaning_of_core s) state_of s.shards.items (vec_len s.shards) c.shard_index-place.result x s.load.usage
+    s.load.entries s.shards.ok.0 c.shard_index-place.ensures.within c.index_mut.ensures.value s.summed
     y (gets_load (meaning_of x) g.met.E.Eviction.lawful (state_of x) (state_of y) (c.hash-hash.result, c.args.key.now)
-    c.get.result x.store.kept c.get.ensures.gets)
+    c.get.result x.store.sound c.get.ensures.gets)
 
 pub returns : goal.returns
 returns g c =
@@ -52,9 +52,9 @@ returns g c =
     let hash = g.S.HashBuilder.hash_of s.hash_builder (g.K.Hash.hash_input c.args.key.now) in
     let did = rw c.hash-hash.ensures.hash at c.get.ensures.gets in
     let over = at_over state_of s.capacity s.hash_builder s.weighter s.filter s.shards.items hash (vec_len s.shards)
-    c.place-place.result x
-    s.shards.ok.0 c.place-place.ensures.within
-    (c.place-place.ensures.place ∙ ap (λ (n : ℕ). n % vec_len s.shards) c.hash-hash.ensures.hash)
+    c.shard_index-place.result x
+    s.shards.ok.0 c.shard_index-place.ensures.within
+    (c.shard_index-place.ensures.index ∙ ap (λ (n : ℕ). n % vec_len s.shards) c.hash-hash.ensures.hash)
     c.index_mut.ensures.value in
     let m = meaning_of_core s in
     let equal : (a b : g.row.K.Denot) → g.K.PartialEq.eq a b ≡ true → hashes_of s a ≡ hashes_of s b =
@@ -62,11 +62,11 @@ returns g c =
     let sound = core_sound s g.met.K.Eq.laws g.met.E.Eviction.lawful equal in
     let step = over (λ a b. Gets (meaning_of x) a (hash, c.args.key.now) c.get.result b) y did in
     let new = core_over state_of s.capacity s.hash_builder s.weighter s.filter
-    (slice_set s.shards.items c.place-place.result y) in
+    (slice_set s.shards.items c.shard_index-place.result y) in
     record {
       gets = step;
-      fetches = map-write opens_of s.shards.items (vec_len s.shards) c.place-place.result x y s.shards.ok.0
-          c.place-place.ensures.within c.index_mut.ensures.value c.get.ensures.opens;
+      fetches = map-write opens_of s.shards.items (vec_len s.shards) c.shard_index-place.result x y s.shards.ok.0
+          c.shard_index-place.ensures.within c.index_mut.ensures.value c.get.ensures.opens;
       stay = stays_at (core_of s) _ hash
           (over (RecordsStay nothing) y
           (gets_stay (meaning_of x) (state_of x) (hash, c.args.key.now) c.get.result (state_of y) did));

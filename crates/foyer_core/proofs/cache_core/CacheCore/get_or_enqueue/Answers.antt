@@ -21,8 +21,8 @@ invariant_of-self-clause-belong g c =
     let s = c.args.self.now in
     let x = c.index_mut.result.now in
     let y = c.get_or_enqueue.new.self in
-    belongs_over state_of s.shards.items c.hash-hash.result (vec_len s.shards) c.place-place.result x s.shards.ok.0
-    c.place-place.ensures.within c.place-place.ensures.place c.index_mut.ensures.value
+    belongs_over state_of s.shards.items c.hash-hash.result (vec_len s.shards) c.shard_index-place.result x s.shards.ok.0
+    c.shard_index-place.ensures.within c.shard_index-place.ensures.index c.index_mut.ensures.value
     y (looks_from (meaning_of x) (state_of x) (opens_of x) (c.hash-hash.result, c.args.key.now) c.args.waiter
     c.args.required (state_of y) (opens_of y) c.get_or_enqueue.result c.get_or_enqueue.ensures.looked_up
     (λ d. d.hash ≡ c.hash-hash.result)) s.belong
@@ -32,8 +32,8 @@ invariant_of-self-clause-hashed g c =
     let s = c.args.self.now in
     let x = c.index_mut.result.now in
     let y = c.get_or_enqueue.new.self in
-    hashed_over (hashes_of s) state_of s.shards.items (vec_len s.shards) c.place-place.result x s.shards.ok.0
-    c.place-place.ensures.within c.index_mut.ensures.value
+    hashed_over (hashes_of s) state_of s.shards.items (vec_len s.shards) c.shard_index-place.result x s.shards.ok.0
+    c.shard_index-place.ensures.within c.index_mut.ensures.value
     y (looks_from (meaning_of x) (state_of x) (opens_of x) (c.hash-hash.result, c.args.key.now) c.args.waiter
     c.args.required (state_of y) (opens_of y) c.get_or_enqueue.result c.get_or_enqueue.ensures.looked_up
     (IsHashed (hashes_of s))) s.hashed
@@ -43,11 +43,11 @@ invariant_of-self-clause-summed g c =
     let s = c.args.self.now in
     let x = c.index_mut.result.now in
     let y = c.get_or_enqueue.new.self in
-    sums_same (meaning_of_core s) state_of s.shards.items (vec_len s.shards) c.place-place.result x s.load.usage
-    s.load.entries s.shards.ok.0 c.place-place.ensures.within c.index_mut.ensures.value s.summed
+    sums_same (meaning_of_core s) state_of s.shards.items (vec_len s.shards) c.shard_index-place.result x s.load.usage
+    s.load.entries s.shards.ok.0 c.shard_index-place.ensures.within c.index_mut.ensures.value s.summed
     y (looks_load (meaning_of x) (state_of x) (opens_of x) (c.hash-hash.result, c.args.key.now) c.args.waiter
     c.args.required (state_of y) (opens_of y) c.get_or_enqueue.result c.get_or_enqueue.ensures.looked_up
-    g.met.E.Eviction.lawful x.store.kept)
+    g.met.E.Eviction.lawful x.store.sound)
 
 pub returns : goal.returns
 returns g c =
@@ -57,20 +57,20 @@ returns g c =
     let m = meaning_of_core s in
     let hash = hashes_of s c.args.key.now in
     let did = rw c.hash-hash.ensures.hash at c.get_or_enqueue.ensures.looked_up in
-    let at = c.place-place.ensures.place ∙ ap (λ (n : ℕ). n % vec_len s.shards) c.hash-hash.ensures.hash in
+    let at = c.shard_index-place.ensures.index ∙ ap (λ (n : ℕ). n % vec_len s.shards) c.hash-hash.ensures.hash in
     let over = at_over state_of s.capacity s.hash_builder s.weighter s.filter s.shards.items hash (vec_len s.shards)
-    c.place-place.result x s.shards.ok.0 c.place-place.ensures.within at c.index_mut.ensures.value in
+    c.shard_index-place.result x s.shards.ok.0 c.shard_index-place.ensures.within at c.index_mut.ensures.value in
     let equal : (a b : g.row.K.Denot) → g.K.PartialEq.eq a b ≡ true → hashes_of s a ≡ hashes_of s b =
     λ a b same. ap (g.S.HashBuilder.hash_of s.hash_builder) (g.met.K.Hash.respects_eq a b same) in
     let sound = core_sound s g.met.K.Eq.laws g.met.E.Eviction.lawful equal in
     let new = core_over state_of s.capacity s.hash_builder s.weighter s.filter
-    (slice_set s.shards.items c.place-place.result y) in
+    (slice_set s.shards.items c.shard_index-place.result y) in
     let index = over (λ s t. SameIndex s t) y
     (looks_index (meaning_of x) (state_of x) (opens_of x) (c.hash-hash.result, c.args.key.now) c.args.waiter
     c.args.required (state_of y) (opens_of y) c.get_or_enqueue.result c.get_or_enqueue.ensures.looked_up) in
     record {
       looked_up = open_over state_of opens_of s.capacity s.hash_builder s.weighter s.filter s.shards.items hash
-          (vec_len s.shards) c.place-place.result x s.shards.ok.0 c.place-place.ensures.within at
+          (vec_len s.shards) c.shard_index-place.result x s.shards.ok.0 c.shard_index-place.ensures.within at
           c.index_mut.ensures.value y
           (λ s f t g. LooksUp m s f (hash, c.args.key.now) c.args.waiter c.args.required c.get_or_enqueue.result t g)
           did;

@@ -23,8 +23,8 @@ invariant_of-self-clause-belong g c =
     let e = c.args.entry in
     let x = c.index_mut.result.now in
     let y = c.give_back.new.self in
-    belongs_over state_of s.shards.items c.hash.result (vec_len s.shards) c.place-place.result x s.shards.ok.0
-    c.place-place.ensures.within c.place-place.ensures.place c.index_mut.ensures.value
+    belongs_over state_of s.shards.items c.hash.result (vec_len s.shards) c.shard_index-place.result x s.shards.ok.0
+    c.shard_index-place.ensures.within c.shard_index-place.ensures.index c.index_mut.ensures.value
     y (given_back_from (λ d. d.hash ≡ c.hash.result) (meaning_of x) (state_of x) e.id
     (λ leave. e.number ≡ (state_of x).number) c.give_back.result (state_of y) c.give_back.ensures.taken
     c.give_back.ensures.err) s.belong
@@ -36,7 +36,7 @@ invariant_of-self-clause-hashed g c =
     let x = c.index_mut.result.now in
     let y = c.give_back.new.self in
     hashed_over (λ k. g.S.HashBuilder.hash_of s.hash_builder (g.K.Hash.hash_input k)) state_of s.shards.items
-    (vec_len s.shards) c.place-place.result x s.shards.ok.0 c.place-place.ensures.within c.index_mut.ensures.value
+    (vec_len s.shards) c.shard_index-place.result x s.shards.ok.0 c.shard_index-place.ensures.within c.index_mut.ensures.value
     y (given_back_from (IsHashed (λ k. g.S.HashBuilder.hash_of s.hash_builder (g.K.Hash.hash_input k))) (meaning_of x)
     (state_of x) e.id (λ leave. e.number ≡ (state_of x).number) c.give_back.result (state_of y)
     c.give_back.ensures.taken c.give_back.ensures.err) s.hashed
@@ -47,10 +47,10 @@ invariant_of-self-clause-summed g c =
     let e = c.args.entry in
     let x = c.index_mut.result.now in
     let y = c.give_back.new.self in
-    sums_same (meaning_of_core s) state_of s.shards.items (vec_len s.shards) c.place-place.result x s.load.usage
-    s.load.entries s.shards.ok.0 c.place-place.ensures.within c.index_mut.ensures.value s.summed
+    sums_same (meaning_of_core s) state_of s.shards.items (vec_len s.shards) c.shard_index-place.result x s.load.usage
+    s.load.entries s.shards.ok.0 c.shard_index-place.ensures.within c.index_mut.ensures.value s.summed
     y (given_back_load (meaning_of x) g.met.E.Eviction.lawful (state_of x) (state_of y) e.id
-    (λ leave. e.number ≡ (state_of x).number) c.give_back.result x.store.kept c.give_back.ensures.taken
+    (λ leave. e.number ≡ (state_of x).number) c.give_back.result x.store.sound c.give_back.ensures.taken
     c.give_back.ensures.err)
 
 pub returns-clause-taken : goal.returns-clause-taken
@@ -59,9 +59,9 @@ returns-clause-taken g c =
     let e = c.args.entry in
     let x = c.index_mut.result.now in
     let over = at_over state_of s.capacity s.hash_builder s.weighter s.filter s.shards.items e.kept.hash
-    (vec_len s.shards) c.place-place.result x
-    s.shards.ok.0 c.place-place.ensures.within
-    (c.place-place.ensures.place ∙ ap (λ (n : ℕ). n % vec_len s.shards) c.hash.ensures) c.index_mut.ensures.value in
+    (vec_len s.shards) c.shard_index-place.result x
+    s.shards.ok.0 c.shard_index-place.ensures.within
+    (c.shard_index-place.ensures.index ∙ ap (λ (n : ℕ). n % vec_len s.shards) c.hash.ensures) c.index_mut.ensures.value in
     IfOk-weaker c.give_back.result _ _
     (λ leave given. over (λ a b. GivesBack (meaning_of x) a e.id leave b) c.give_back.new.self given.1)
     c.give_back.ensures.taken
@@ -71,9 +71,9 @@ returns-clause-err g c =
     let s = c.args.self.now in
     let e = c.args.entry in
     let same = same_over state_of s.capacity s.hash_builder s.weighter s.filter s.shards.items e.kept.hash
-    (vec_len s.shards) c.place-place.result c.index_mut.result.now
-    s.shards.ok.0 c.place-place.ensures.within
-    (c.place-place.ensures.place ∙ ap (λ (n : ℕ). n % vec_len s.shards) c.hash.ensures) c.index_mut.ensures.value in
+    (vec_len s.shards) c.shard_index-place.result c.index_mut.result.now
+    s.shards.ok.0 c.shard_index-place.ensures.within
+    (c.shard_index-place.ensures.index ∙ ap (λ (n : ℕ). n % vec_len s.shards) c.hash.ensures) c.index_mut.ensures.value in
     on_err_weaker c.give_back.result (same c.give_back.new.self) c.give_back.ensures.err
 
 pub returns-clause-stay : goal.returns-clause-stay
@@ -83,9 +83,9 @@ returns-clause-stay g c =
     let x = c.index_mut.result.now in
     let y = c.give_back.new.self in
     let over = at_over state_of s.capacity s.hash_builder s.weighter s.filter s.shards.items e.kept.hash
-    (vec_len s.shards) c.place-place.result x
-    s.shards.ok.0 c.place-place.ensures.within
-    (c.place-place.ensures.place ∙ ap (λ (n : ℕ). n % vec_len s.shards) c.hash.ensures) c.index_mut.ensures.value in
+    (vec_len s.shards) c.shard_index-place.result x
+    s.shards.ok.0 c.shard_index-place.ensures.within
+    (c.shard_index-place.ensures.index ∙ ap (λ (n : ℕ). n % vec_len s.shards) c.hash.ensures) c.index_mut.ensures.value in
     gives_at (core_of s) _ e (over (RecordsStay (one e.id)) y
     (given_back_stays (meaning_of x) (state_of x) e.id (λ leave. e.number ≡ (state_of x).number) c.give_back.result
     (state_of y) c.give_back.ensures.taken c.give_back.ensures.err))
@@ -97,15 +97,15 @@ returns-clause-told g c =
     let x = c.index_mut.result.now in
     let y = c.give_back.new.self in
     let over = at_over state_of s.capacity s.hash_builder s.weighter s.filter s.shards.items e.kept.hash
-    (vec_len s.shards) c.place-place.result x
-    s.shards.ok.0 c.place-place.ensures.within
-    (c.place-place.ensures.place ∙ ap (λ (n : ℕ). n % vec_len s.shards) c.hash.ensures) c.index_mut.ensures.value in
+    (vec_len s.shards) c.shard_index-place.result x
+    s.shards.ok.0 c.shard_index-place.ensures.within
+    (c.shard_index-place.ensures.index ∙ ap (λ (n : ℕ). n % vec_len s.shards) c.hash.ensures) c.index_mut.ensures.value in
     let same = same_over state_of s.capacity s.hash_builder s.weighter s.filter s.shards.items e.kept.hash
-    (vec_len s.shards) c.place-place.result x
-    s.shards.ok.0 c.place-place.ensures.within
-    (c.place-place.ensures.place ∙ ap (λ (n : ℕ). n % vec_len s.shards) c.hash.ensures) c.index_mut.ensures.value in
+    (vec_len s.shards) c.shard_index-place.result x
+    s.shards.ok.0 c.shard_index-place.ensures.within
+    (c.shard_index-place.ensures.index ∙ ap (λ (n : ℕ). n % vec_len s.shards) c.hash.ensures) c.index_mut.ensures.value in
     let new = core_over state_of s.capacity s.hash_builder s.weighter s.filter
-    (slice_set s.shards.items c.place-place.result y) in
+    (slice_set s.shards.items c.shard_index-place.result y) in
     let m = meaning_of_core s in
     let equal : (a b : g.row.K.Denot) → g.K.PartialEq.eq a b ≡ true → hashes_of s a ≡ hashes_of s b =
     λ a b same. ap (g.S.HashBuilder.hash_of s.hash_builder) (g.met.K.Hash.respects_eq a b same) in
@@ -123,6 +123,6 @@ returns-clause-told g c =
 pub returns-clause-fetches : goal.returns-clause-fetches
 returns-clause-fetches g c =
     let s = c.args.self.now in
-    map-write opens_of s.shards.items (vec_len s.shards) c.place-place.result c.index_mut.result.now
-    c.give_back.new.self s.shards.ok.0 c.place-place.ensures.within c.index_mut.ensures.value
+    map-write opens_of s.shards.items (vec_len s.shards) c.shard_index-place.result c.index_mut.result.now
+    c.give_back.new.self s.shards.ok.0 c.shard_index-place.ensures.within c.index_mut.ensures.value
     c.give_back.ensures.opens

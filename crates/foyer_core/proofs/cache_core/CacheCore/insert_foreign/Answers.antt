@@ -2,7 +2,7 @@ use Rattle.std.proofs.Common.{◌≡◌, refl, ◌+◌, sym, ◌∙◌, ap, map,
 use Rattle.std.specs.Prelude.{slice_set}
 use Rattle.foyer_policy.specs.declared.types.Source.TheVariants.{Memory}
 use Rattle.foyer_core.specs.declared.record.Data.{Data}
-use Rattle.foyer_core.specs.CoreFetches.{at_hash, place_in}
+use Rattle.foyer_core.specs.CoreFetches.{at_hash, open_in}
 use Rattle.foyer_core.specs.Cores.{core_of, fetches_of, hashes_of, meaning_of_core}
 use Rattle.foyer_core.specs.Inflight.{closed, waiters_of}
 use Rattle.foyer_core.specs.Shards.{meaning_of, opens_of, state_of}
@@ -26,8 +26,8 @@ invariant_of-self-clause-belong g c =
     let y = c.take_new-taken.new.self in
     let d : Data g.row.K.Denot g.row.V.Denot g.row.P.Denot =
     record c.args.piece.kept { hash = c.args.hash; weight = c.weigh-weight.result } in
-    belongs_over state_of s.shards.items c.args.hash (vec_len s.shards) c.place-place.result x s.shards.ok.0
-    c.place-place.ensures.within c.place-place.ensures.place c.index_mut.ensures.value
+    belongs_over state_of s.shards.items c.args.hash (vec_len s.shards) c.shard_index-place.result x s.shards.ok.0
+    c.shard_index-place.ensures.within c.shard_index-place.ensures.index c.index_mut.ensures.value
     y (emplaced_from (λ e. e.hash ≡ c.args.hash) (meaning_of x) c.take_new-taken.result (λ made. made.leaves.items)
     (λ made. made.entry) (λ refused. refused.error) (λ refused. refused.leaves.items)
     Memory (state_of x) d (1 + waiting_for (opens_of x) (key_of d)) (state_of y) c.take_new-taken.ensures.inserted
@@ -40,8 +40,8 @@ invariant_of-self-clause-hashed g c =
     let y = c.take_new-taken.new.self in
     let d : Data g.row.K.Denot g.row.V.Denot g.row.P.Denot =
     record c.args.piece.kept { hash = c.args.hash; weight = c.weigh-weight.result } in
-    hashed_over (hashes_of s) state_of s.shards.items (vec_len s.shards) c.place-place.result x s.shards.ok.0
-    c.place-place.ensures.within c.index_mut.ensures.value
+    hashed_over (hashes_of s) state_of s.shards.items (vec_len s.shards) c.shard_index-place.result x s.shards.ok.0
+    c.shard_index-place.ensures.within c.index_mut.ensures.value
     y (emplaced_from (IsHashed (hashes_of s)) (meaning_of x) c.take_new-taken.result (λ made. made.leaves.items)
     (λ made. made.entry) (λ refused. refused.error) (λ refused. refused.leaves.items)
     Memory (state_of x) d (1 + waiting_for (opens_of x) (key_of d)) (state_of y) c.take_new-taken.ensures.inserted
@@ -52,9 +52,9 @@ invariant_of-self-clause-summed g c =
     let s = c.args.self.now in
     let before = c.of-before in
     let after = c.of-after in
-    sums_set (meaning_of_core s) state_of s.shards.items (vec_len s.shards) c.place-place.result c.index.result.now
+    sums_set (meaning_of_core s) state_of s.shards.items (vec_len s.shards) c.shard_index-place.result c.index.result.now
     s.load.usage s.load.entries
-    s.shards.ok.0 (omega (arith, s.shards.ok.1, s.shards.small)) c.place-place.ensures.within c.index.ensures s.summed
+    s.shards.ok.0 (omega (arith, s.shards.ok.1, s.shards.small)) c.shard_index-place.ensures.within c.index.ensures s.summed
     before.result.usage before.result.entries before.ensures.usage before.ensures.entries
     c.take_new-taken.new.self c.index-2.result.now c.index-2.ensures after.result.usage after.result.entries
     after.ensures.usage after.ensures.entries after.ensures.small
@@ -65,9 +65,9 @@ replace-requires-clause-usage g c =
     let s = c.args.self.now in
     let before = c.of-before in
     let after = c.of-after in
-    usage_fits (meaning_of_core s) state_of s.shards.items (vec_len s.shards) c.place-place.result c.index.result.now
+    usage_fits (meaning_of_core s) state_of s.shards.items (vec_len s.shards) c.shard_index-place.result c.index.result.now
     s.load.usage s.load.entries
-    s.shards.ok.0 (omega (arith, s.shards.ok.1, s.shards.small)) c.place-place.ensures.within c.index.ensures s.summed
+    s.shards.ok.0 (omega (arith, s.shards.ok.1, s.shards.small)) c.shard_index-place.ensures.within c.index.ensures s.summed
     before.result.usage before.result.entries before.ensures.usage before.ensures.entries
     c.take_new-taken.new.self c.index-2.result.now c.index-2.ensures after.result.usage after.result.entries
     after.ensures.usage after.ensures.entries after.ensures.small
@@ -77,9 +77,9 @@ replace-requires-clause-entries g c =
     let s = c.args.self.now in
     let before = c.of-before in
     let after = c.of-after in
-    entries_fit (meaning_of_core s) state_of s.shards.items (vec_len s.shards) c.place-place.result c.index.result.now
+    entries_fit (meaning_of_core s) state_of s.shards.items (vec_len s.shards) c.shard_index-place.result c.index.result.now
     s.load.usage s.load.entries
-    s.shards.ok.0 (omega (arith, s.shards.ok.1, s.shards.small)) c.place-place.ensures.within c.index.ensures s.summed
+    s.shards.ok.0 (omega (arith, s.shards.ok.1, s.shards.small)) c.shard_index-place.ensures.within c.index.ensures s.summed
     before.result.usage before.result.entries before.ensures.usage before.ensures.entries
     c.take_new-taken.new.self c.index-2.result.now c.index-2.ensures after.result.usage after.result.entries
     after.ensures.usage after.ensures.entries after.ensures.small
@@ -96,8 +96,8 @@ returns-clause-inserted g c =
     let weighs = g.W.Weighter.weighs s.weighter c.args.piece.kept.key c.args.piece.kept.value in
     let weighed : weighs c.weigh-weight.result = rw (c.key.ensures, c.value.ensures) at c.weigh-weight.ensures in
     let step = comes_over m state_of opens_of s.capacity s.hash_builder s.weighter s.filter s.shards.items
-    (vec_len s.shards) c.place-place.result x y Memory d s.shards.ok.0 c.place-place.ensures.within
-    c.place-place.ensures.place c.index_mut.ensures.value c.take_new-taken.result did in
+    (vec_len s.shards) c.shard_index-place.result x y Memory d s.shards.ok.0 c.shard_index-place.ensures.within
+    c.shard_index-place.ensures.index c.index_mut.ensures.value c.take_new-taken.result did in
     record {
       before = step.before;
       after = step.after;
@@ -121,9 +121,9 @@ returns-clause-answers g c =
     (answering m Memory (state_of x) (newcomer (state_of x) d (1 + waiting_for (opens_of x) (key_of d)))
     c.take_new-taken.result (state_of y) did) in
     under_entry d c.take_new-taken.result
-    (λ k made. AnswersEach (waiters_of (place_in (fetches_of s) k)) made.entry made.answers) is_of
+    (λ k made. AnswersEach (waiters_of (open_in (fetches_of s) k)) made.entry made.answers) is_of
     (answers_over m state_of opens_of s.capacity s.hash_builder s.weighter s.filter s.shards.items (vec_len s.shards)
-    c.place-place.result x y Memory d s.shards.ok.0 c.place-place.ensures.within c.place-place.ensures.place
+    c.shard_index-place.result x y Memory d s.shards.ok.0 c.shard_index-place.ensures.within c.shard_index-place.ensures.index
     c.index_mut.ensures.value c.take_new-taken.result (c.take_new-taken.ensures.answers))
 
 pub returns-clause-closed : goal.returns-clause-closed
@@ -140,10 +140,10 @@ returns-clause-closed g c =
     (answering m Memory (state_of x) (newcomer (state_of x) d (1 + waiting_for (opens_of x) (key_of d)))
     c.take_new-taken.result (state_of y) did) in
     on_entry d c.take_new-taken.result
-    (λ k. map opens_of (slice_set s.shards.items c.place-place.result y)
+    (λ k. map opens_of (slice_set s.shards.items c.shard_index-place.result y)
     ≡ at_hash (λ f. closed m.same f k) (fetches_of s) c.args.hash) is_of
     (closes_over m state_of opens_of s.capacity s.hash_builder s.weighter s.filter s.shards.items (vec_len s.shards)
-    c.place-place.result x y Memory d s.shards.ok.0 c.place-place.ensures.within c.place-place.ensures.place
+    c.shard_index-place.result x y Memory d s.shards.ok.0 c.shard_index-place.ensures.within c.shard_index-place.ensures.index
     c.index_mut.ensures.value c.take_new-taken.result (c.take_new-taken.ensures.closed))
 
 pub returns-clause-fetches : goal.returns-clause-fetches
@@ -156,7 +156,7 @@ returns-clause-fetches g c =
     record c.args.piece.kept { hash = c.args.hash; weight = c.weigh-weight.result } in
     let did = c.take_new-taken.ensures.inserted in
     opens_stay m state_of opens_of s.capacity s.hash_builder s.weighter s.filter s.shards.items (vec_len s.shards)
-    c.place-place.result x y Memory d s.shards.ok.0 c.place-place.ensures.within c.place-place.ensures.place
+    c.shard_index-place.result x y Memory d s.shards.ok.0 c.shard_index-place.ensures.within c.shard_index-place.ensures.index
     c.index_mut.ensures.value c.take_new-taken.result c.take_new-taken.ensures.opens
 
 pub returns-clause-stay : goal.returns-clause-stay
@@ -169,9 +169,9 @@ returns-clause-stay g c =
     record c.args.piece.kept { hash = c.args.hash; weight = c.weigh-weight.result } in
     let did = c.take_new-taken.ensures.inserted in
     let over = at_over state_of s.capacity s.hash_builder s.weighter s.filter s.shards.items c.args.hash
-    (vec_len s.shards) c.place-place.result x s.shards.ok.0 c.place-place.ensures.within
-    c.place-place.ensures.place c.index_mut.ensures.value in
+    (vec_len s.shards) c.shard_index-place.result x s.shards.ok.0 c.shard_index-place.ensures.within
+    c.shard_index-place.ensures.index c.index_mut.ensures.value in
     stays_at (core_of s) _ c.args.hash
     (over (RecordsStay nothing) y
-    (answer_stays m Memory (state_of x) (state_of y) d (1 + waiting_for (opens_of x) (key_of d)) x.store.kept
+    (answer_stays m Memory (state_of x) (state_of y) d (1 + waiting_for (opens_of x) (key_of d)) x.store.sound
     c.take_new-taken.result did))

@@ -2,7 +2,7 @@ use Rattle.std.proofs.Common.{◌≡◌, ℕ, ◌+◌, Bool, true, false, length
 use Rattle.std.specs.Prelude.{IfOk, if◌then◌else◌}
 use Rattle.foyer_core.specs.Cores.{core_of, fetches_of, hashes_of, meaning_of_core}
 use Rattle.foyer_core.specs.Core.{AtShard, shard_of}
-use Rattle.foyer_core.specs.CoreFetches.{at_hash, place_in}
+use Rattle.foyer_core.specs.CoreFetches.{at_hash, open_in}
 use Rattle.foyer_core.specs.Inflight.{closed, waiters_of}
 use Rattle.foyer_core.specs.Pieces.{InsertsPiece, coming_under, held_or, is_known}
 use Rattle.foyer_core.specs.Shards.{state_of}
@@ -26,8 +26,8 @@ insert_known-requires-clause-known g c κs within =
     let s = c.args.self.now in
     let x = c.index.result.now in
     let there = shard_over state_of s.capacity s.hash_builder s.weighter s.filter s.shards.items c.hash-hash.result
-    (vec_len s.shards) c.place-place.result x
-    s.shards.ok.0 c.place-place.ensures.within c.place-place.ensures.place c.index.ensures in
+    (vec_len s.shards) c.shard_index-place.result x
+    s.shards.ok.0 c.shard_index-place.ensures.within c.shard_index-place.ensures.index c.index.ensures in
     rw there (sym c.knows.ensures ∙ c.if-knows.true)
 
 pub insert_foreign-requires-clause-hashed : goal.insert_foreign-requires-clause-hashed
@@ -45,11 +45,11 @@ returns-then-knows-clause-inserted g c =
     let hash : c.hash-hash.result ≡ hashes_of s piece.kept.key = c.hash-hash.ensures.hash
     ∙ ap (λ (k : g.row.K.Denot). g.S.HashBuilder.hash_of s.hash_builder (g.K.Hash.hash_input k)) c.key.ensures in
     let there = shard_over state_of s.capacity s.hash_builder s.weighter s.filter s.shards.items c.hash-hash.result
-    (vec_len s.shards) c.place-place.result x
-    s.shards.ok.0 c.place-place.ensures.within c.place-place.ensures.place c.index.ensures in
+    (vec_len s.shards) c.shard_index-place.result x
+    s.shards.ok.0 c.shard_index-place.ensures.within c.shard_index-place.ensures.index c.index.ensures in
     let weighs = g.W.Weighter.weighs s.weighter piece.kept.key piece.kept.value in
     let known : is_known (state_of x) c.hash-hash.result piece ≡ true = sym c.knows.ensures ∙ c.if-knows.true in
-    let waits = λ (k : ℕ × g.row.K.Denot). 1 + length (waiters_of (place_in (fetches_of s) k)) in
+    let waits = λ (k : ℕ × g.row.K.Denot). 1 + length (waiters_of (open_in (fetches_of s) k)) in
     let count =
     ap (λ (b : Bool). waits
     (if b then key_of (held_or piece.kept ((state_of x).records piece.id))
@@ -82,11 +82,11 @@ returns-then-knows-clause-found g c =
     let hash : c.hash-hash.result ≡ hashes_of s piece.kept.key = c.hash-hash.ensures.hash
     ∙ ap (λ (k : g.row.K.Denot). g.S.HashBuilder.hash_of s.hash_builder (g.K.Hash.hash_input k)) c.key.ensures in
     let there = shard_over state_of s.capacity s.hash_builder s.weighter s.filter s.shards.items c.hash-hash.result
-    (vec_len s.shards) c.place-place.result x
-    s.shards.ok.0 c.place-place.ensures.within c.place-place.ensures.place c.index.ensures in
+    (vec_len s.shards) c.shard_index-place.result x
+    s.shards.ok.0 c.shard_index-place.ensures.within c.shard_index-place.ensures.index c.index.ensures in
     let weighs = g.W.Weighter.weighs s.weighter piece.kept.key piece.kept.value in
     let known : is_known (state_of x) c.hash-hash.result piece ≡ true = sym c.knows.ensures ∙ c.if-knows.true in
-    let waits = λ (k : ℕ × g.row.K.Denot). 1 + length (waiters_of (place_in (fetches_of s) k)) in
+    let waits = λ (k : ℕ × g.row.K.Denot). 1 + length (waiters_of (open_in (fetches_of s) k)) in
     let count =
     ap (λ (b : Bool). waits
     (if b then key_of (held_or piece.kept ((state_of x).records piece.id))
@@ -114,11 +114,11 @@ returns-then-knows-clause-bounded g c =
     let hash : c.hash-hash.result ≡ hashes_of s piece.kept.key = c.hash-hash.ensures.hash
     ∙ ap (λ (k : g.row.K.Denot). g.S.HashBuilder.hash_of s.hash_builder (g.K.Hash.hash_input k)) c.key.ensures in
     let there = shard_over state_of s.capacity s.hash_builder s.weighter s.filter s.shards.items c.hash-hash.result
-    (vec_len s.shards) c.place-place.result x
-    s.shards.ok.0 c.place-place.ensures.within c.place-place.ensures.place c.index.ensures in
+    (vec_len s.shards) c.shard_index-place.result x
+    s.shards.ok.0 c.shard_index-place.ensures.within c.shard_index-place.ensures.index c.index.ensures in
     let weighs = g.W.Weighter.weighs s.weighter piece.kept.key piece.kept.value in
     let known : is_known (state_of x) c.hash-hash.result piece ≡ true = sym c.knows.ensures ∙ c.if-knows.true in
-    let waits = λ (k : ℕ × g.row.K.Denot). 1 + length (waiters_of (place_in (fetches_of s) k)) in
+    let waits = λ (k : ℕ × g.row.K.Denot). 1 + length (waiters_of (open_in (fetches_of s) k)) in
     let count =
     ap (λ (b : Bool). waits
     (if b then key_of (held_or piece.kept ((state_of x).records piece.id))
@@ -146,11 +146,11 @@ returns-then-knows-clause-told g c =
     let hash : c.hash-hash.result ≡ hashes_of s piece.kept.key = c.hash-hash.ensures.hash
     ∙ ap (λ (k : g.row.K.Denot). g.S.HashBuilder.hash_of s.hash_builder (g.K.Hash.hash_input k)) c.key.ensures in
     let there = shard_over state_of s.capacity s.hash_builder s.weighter s.filter s.shards.items c.hash-hash.result
-    (vec_len s.shards) c.place-place.result x
-    s.shards.ok.0 c.place-place.ensures.within c.place-place.ensures.place c.index.ensures in
+    (vec_len s.shards) c.shard_index-place.result x
+    s.shards.ok.0 c.shard_index-place.ensures.within c.shard_index-place.ensures.index c.index.ensures in
     let weighs = g.W.Weighter.weighs s.weighter piece.kept.key piece.kept.value in
     let known : is_known (state_of x) c.hash-hash.result piece ≡ true = sym c.knows.ensures ∙ c.if-knows.true in
-    let waits = λ (k : ℕ × g.row.K.Denot). 1 + length (waiters_of (place_in (fetches_of s) k)) in
+    let waits = λ (k : ℕ × g.row.K.Denot). 1 + length (waiters_of (open_in (fetches_of s) k)) in
     let count =
     ap (λ (b : Bool). waits
     (if b then key_of (held_or piece.kept ((state_of x).records piece.id))
@@ -178,11 +178,11 @@ returns-clause-inserted g c =
     let hash : c.hash-hash.result ≡ hashes_of s piece.kept.key = c.hash-hash.ensures.hash
     ∙ ap (λ (k : g.row.K.Denot). g.S.HashBuilder.hash_of s.hash_builder (g.K.Hash.hash_input k)) c.key.ensures in
     let there = shard_over state_of s.capacity s.hash_builder s.weighter s.filter s.shards.items c.hash-hash.result
-    (vec_len s.shards) c.place-place.result x
-    s.shards.ok.0 c.place-place.ensures.within c.place-place.ensures.place c.index.ensures in
+    (vec_len s.shards) c.shard_index-place.result x
+    s.shards.ok.0 c.shard_index-place.ensures.within c.shard_index-place.ensures.index c.index.ensures in
     let weighs = g.W.Weighter.weighs s.weighter piece.kept.key piece.kept.value in
     let known : is_known (state_of x) c.hash-hash.result piece ≡ false = sym c.knows.ensures ∙ c.if-knows.false in
-    let waits = λ (k : ℕ × g.row.K.Denot). 1 + length (waiters_of (place_in (fetches_of s) k)) in
+    let waits = λ (k : ℕ × g.row.K.Denot). 1 + length (waiters_of (open_in (fetches_of s) k)) in
     let count =
     ap (λ (b : Bool). waits
     (if b then key_of (held_or piece.kept ((state_of x).records piece.id))
@@ -215,11 +215,11 @@ returns-clause-found g c =
     let hash : c.hash-hash.result ≡ hashes_of s piece.kept.key = c.hash-hash.ensures.hash
     ∙ ap (λ (k : g.row.K.Denot). g.S.HashBuilder.hash_of s.hash_builder (g.K.Hash.hash_input k)) c.key.ensures in
     let there = shard_over state_of s.capacity s.hash_builder s.weighter s.filter s.shards.items c.hash-hash.result
-    (vec_len s.shards) c.place-place.result x
-    s.shards.ok.0 c.place-place.ensures.within c.place-place.ensures.place c.index.ensures in
+    (vec_len s.shards) c.shard_index-place.result x
+    s.shards.ok.0 c.shard_index-place.ensures.within c.shard_index-place.ensures.index c.index.ensures in
     let weighs = g.W.Weighter.weighs s.weighter piece.kept.key piece.kept.value in
     let known : is_known (state_of x) c.hash-hash.result piece ≡ false = sym c.knows.ensures ∙ c.if-knows.false in
-    let waits = λ (k : ℕ × g.row.K.Denot). 1 + length (waiters_of (place_in (fetches_of s) k)) in
+    let waits = λ (k : ℕ × g.row.K.Denot). 1 + length (waiters_of (open_in (fetches_of s) k)) in
     let count =
     ap (λ (b : Bool). waits
     (if b then key_of (held_or piece.kept ((state_of x).records piece.id))
@@ -247,11 +247,11 @@ returns-clause-bounded g c =
     let hash : c.hash-hash.result ≡ hashes_of s piece.kept.key = c.hash-hash.ensures.hash
     ∙ ap (λ (k : g.row.K.Denot). g.S.HashBuilder.hash_of s.hash_builder (g.K.Hash.hash_input k)) c.key.ensures in
     let there = shard_over state_of s.capacity s.hash_builder s.weighter s.filter s.shards.items c.hash-hash.result
-    (vec_len s.shards) c.place-place.result x
-    s.shards.ok.0 c.place-place.ensures.within c.place-place.ensures.place c.index.ensures in
+    (vec_len s.shards) c.shard_index-place.result x
+    s.shards.ok.0 c.shard_index-place.ensures.within c.shard_index-place.ensures.index c.index.ensures in
     let weighs = g.W.Weighter.weighs s.weighter piece.kept.key piece.kept.value in
     let known : is_known (state_of x) c.hash-hash.result piece ≡ false = sym c.knows.ensures ∙ c.if-knows.false in
-    let waits = λ (k : ℕ × g.row.K.Denot). 1 + length (waiters_of (place_in (fetches_of s) k)) in
+    let waits = λ (k : ℕ × g.row.K.Denot). 1 + length (waiters_of (open_in (fetches_of s) k)) in
     let count =
     ap (λ (b : Bool). waits
     (if b then key_of (held_or piece.kept ((state_of x).records piece.id))
@@ -279,11 +279,11 @@ returns-clause-told g c =
     let hash : c.hash-hash.result ≡ hashes_of s piece.kept.key = c.hash-hash.ensures.hash
     ∙ ap (λ (k : g.row.K.Denot). g.S.HashBuilder.hash_of s.hash_builder (g.K.Hash.hash_input k)) c.key.ensures in
     let there = shard_over state_of s.capacity s.hash_builder s.weighter s.filter s.shards.items c.hash-hash.result
-    (vec_len s.shards) c.place-place.result x
-    s.shards.ok.0 c.place-place.ensures.within c.place-place.ensures.place c.index.ensures in
+    (vec_len s.shards) c.shard_index-place.result x
+    s.shards.ok.0 c.shard_index-place.ensures.within c.shard_index-place.ensures.index c.index.ensures in
     let weighs = g.W.Weighter.weighs s.weighter piece.kept.key piece.kept.value in
     let known : is_known (state_of x) c.hash-hash.result piece ≡ false = sym c.knows.ensures ∙ c.if-knows.false in
-    let waits = λ (k : ℕ × g.row.K.Denot). 1 + length (waiters_of (place_in (fetches_of s) k)) in
+    let waits = λ (k : ℕ × g.row.K.Denot). 1 + length (waiters_of (open_in (fetches_of s) k)) in
     let count =
     ap (λ (b : Bool). waits
     (if b then key_of (held_or piece.kept ((state_of x).records piece.id))

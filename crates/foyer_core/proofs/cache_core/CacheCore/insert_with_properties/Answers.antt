@@ -2,7 +2,7 @@ use Rattle.std.proofs.Common.{◌+◌, length}
 use Rattle.std.specs.Prelude.{IfOk}
 use Rattle.foyer_policy.specs.declared.types.Source.TheVariants.{Outer}
 use Rattle.foyer_core.specs.Core.{InsertsWeighed}
-use Rattle.foyer_core.specs.CoreFetches.{place_in}
+use Rattle.foyer_core.specs.CoreFetches.{open_in}
 use Rattle.foyer_core.specs.Cores.{core_of, fetches_of, hashes_of, meaning_of_core}
 use Rattle.foyer_core.specs.Inflight.{waiters_of}
 use Rattle.foyer_core.specs.Observed.{IsTold, IsToldWith}
@@ -22,7 +22,7 @@ returns-in-Ok-clause-inserted g c =
     (g.A.Filter.admits (core_of s).filter c.args.key c.args.value)
     hash c.args.key c.args.value
     (λ admitted. coming_in g.P.Properties.location_of g.P.Properties.with_phantom_of admitted c.args.properties)
-    (1 + length (waiters_of (place_in (fetches_of s) (hash, c.args.key))))
+    (1 + length (waiters_of (open_in (fetches_of s) (hash, c.args.key))))
     (Ok record { entry = c.in-Ok.made.entry; leaves = ls }) (core_of s)
     (core_of c.insert_with_properties_onto.new.self))
     (rw c.new-leaves.ensures.items at c.in-Ok.ensures.inserted)
@@ -45,7 +45,7 @@ returns-in-Err-clause-inserted g c =
     (g.A.Filter.admits (core_of s).filter c.args.key c.args.value)
     hash c.args.key c.args.value
     (λ admitted. coming_in g.P.Properties.location_of g.P.Properties.with_phantom_of admitted c.args.properties)
-    (1 + length (waiters_of (place_in (fetches_of s) (hash, c.args.key))))
+    (1 + length (waiters_of (open_in (fetches_of s) (hash, c.args.key))))
     (Err record { reason = c.in-Err.error; leaves = ls }) (core_of s)
     (core_of c.insert_with_properties_onto.new.self))
     (rw c.new-leaves.ensures.items at c.in-Err.ensures.inserted)

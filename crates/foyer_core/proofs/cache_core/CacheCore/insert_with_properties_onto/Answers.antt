@@ -2,7 +2,7 @@ use Rattle.std.proofs.Common.{[], refl, ap, ◌∙◌, ℕ, ◌+◌, ◌%◌, ve
 use Rattle.std.specs.Prelude.{slice_set}
 use Rattle.foyer_policy.specs.declared.types.Source.TheVariants.{Outer}
 use Rattle.foyer_core.specs.declared.record.Data.{Data}
-use Rattle.foyer_core.specs.CoreFetches.{place_in}
+use Rattle.foyer_core.specs.CoreFetches.{open_in}
 use Rattle.foyer_core.specs.Cores.{core_of, fetches_of, hashes_of, meaning_of_core}
 use Rattle.foyer_core.specs.Inflight.{waiters_of}
 use Rattle.foyer_core.specs.Shards.{meaning_of, opens_of, state_of}
@@ -30,8 +30,8 @@ invariant_of-self-clause-belong g c =
           c.hash-hash.result;
       weight = c.weigh-weight.result;
     } in
-    belongs_over state_of s.shards.items c.hash-hash.result (vec_len s.shards) c.place-place.result x s.shards.ok.0
-    c.place-place.ensures.within c.place-place.ensures.place c.index_mut.ensures.value
+    belongs_over state_of s.shards.items c.hash-hash.result (vec_len s.shards) c.shard_index-place.result x s.shards.ok.0
+    c.shard_index-place.ensures.within c.shard_index-place.ensures.index c.index_mut.ensures.value
     y (emplaced_from (λ e. e.hash ≡ c.hash-hash.result) (meaning_of x) c.emplace_onto-emplaced.result
     (λ made. c.emplace_onto-emplaced.ensures.inserted.more) (λ made. made.entry) (λ reason. reason)
     (λ reason. c.emplace_onto-emplaced.ensures.inserted.more)
@@ -53,7 +53,7 @@ invariant_of-self-clause-hashed g c =
       weight = c.weigh-weight.result;
     } in
     hashed_over (λ k. g.S.HashBuilder.hash_of s.hash_builder (g.K.Hash.hash_input k)) state_of s.shards.items
-    (vec_len s.shards) c.place-place.result x s.shards.ok.0 c.place-place.ensures.within c.index_mut.ensures.value
+    (vec_len s.shards) c.shard_index-place.result x s.shards.ok.0 c.shard_index-place.ensures.within c.index_mut.ensures.value
     y (emplaced_from (IsHashed (λ k. g.S.HashBuilder.hash_of s.hash_builder (g.K.Hash.hash_input k))) (meaning_of x)
     c.emplace_onto-emplaced.result (λ made. c.emplace_onto-emplaced.ensures.inserted.more) (λ made. made.entry)
     (λ reason. reason) (λ reason. c.emplace_onto-emplaced.ensures.inserted.more)
@@ -65,9 +65,9 @@ invariant_of-self-clause-summed g c =
     let s = c.args.self.now in
     let before = c.of-before in
     let after = c.of-after in
-    sums_set (meaning_of_core s) state_of s.shards.items (vec_len s.shards) c.place-place.result c.index.result.now
+    sums_set (meaning_of_core s) state_of s.shards.items (vec_len s.shards) c.shard_index-place.result c.index.result.now
     s.load.usage s.load.entries
-    s.shards.ok.0 (omega (arith, s.shards.ok.1, s.shards.small)) c.place-place.ensures.within c.index.ensures s.summed
+    s.shards.ok.0 (omega (arith, s.shards.ok.1, s.shards.small)) c.shard_index-place.ensures.within c.index.ensures s.summed
     before.result.usage before.result.entries before.ensures.usage before.ensures.entries
     c.emplace_onto-emplaced.new.self c.index-2.result.now c.index-2.ensures after.result.usage after.result.entries
     after.ensures.usage after.ensures.entries after.ensures.small
@@ -78,9 +78,9 @@ replace-requires-clause-usage g c =
     let s = c.args.self.now in
     let before = c.of-before in
     let after = c.of-after in
-    usage_fits (meaning_of_core s) state_of s.shards.items (vec_len s.shards) c.place-place.result c.index.result.now
+    usage_fits (meaning_of_core s) state_of s.shards.items (vec_len s.shards) c.shard_index-place.result c.index.result.now
     s.load.usage s.load.entries
-    s.shards.ok.0 (omega (arith, s.shards.ok.1, s.shards.small)) c.place-place.ensures.within c.index.ensures s.summed
+    s.shards.ok.0 (omega (arith, s.shards.ok.1, s.shards.small)) c.shard_index-place.ensures.within c.index.ensures s.summed
     before.result.usage before.result.entries before.ensures.usage before.ensures.entries
     c.emplace_onto-emplaced.new.self c.index-2.result.now c.index-2.ensures after.result.usage after.result.entries
     after.ensures.usage after.ensures.entries after.ensures.small
@@ -90,9 +90,9 @@ replace-requires-clause-entries g c =
     let s = c.args.self.now in
     let before = c.of-before in
     let after = c.of-after in
-    entries_fit (meaning_of_core s) state_of s.shards.items (vec_len s.shards) c.place-place.result c.index.result.now
+    entries_fit (meaning_of_core s) state_of s.shards.items (vec_len s.shards) c.shard_index-place.result c.index.result.now
     s.load.usage s.load.entries
-    s.shards.ok.0 (omega (arith, s.shards.ok.1, s.shards.small)) c.place-place.ensures.within c.index.ensures s.summed
+    s.shards.ok.0 (omega (arith, s.shards.ok.1, s.shards.small)) c.shard_index-place.ensures.within c.index.ensures s.summed
     before.result.usage before.result.entries before.ensures.usage before.ensures.entries
     c.emplace_onto-emplaced.new.self c.index-2.result.now c.index-2.ensures after.result.usage after.result.entries
     after.ensures.usage after.ensures.entries after.ensures.small
@@ -113,11 +113,11 @@ returns-clause-inserted g c =
       hash = hash;
       weight = c.weigh-weight.result;
     } in
-    let at = c.place-place.ensures.place ∙ ap (λ (n : ℕ). n % vec_len s.shards) c.hash-hash.ensures.hash in
+    let at = c.shard_index-place.ensures.index ∙ ap (λ (n : ℕ). n % vec_len s.shards) c.hash-hash.ensures.hash in
     let went = rw (c.hash-hash.ensures.hash, c.marked-properties.ensures) at c.emplace_onto-emplaced.ensures.inserted in
     let did = went.so in
     let step = comes_over (meaning_of_core s) state_of opens_of s.capacity s.hash_builder s.weighter s.filter
-    s.shards.items (vec_len s.shards) c.place-place.result x y Outer d s.shards.ok.0 c.place-place.ensures.within
+    s.shards.items (vec_len s.shards) c.shard_index-place.result x y Outer d s.shards.ok.0 c.shard_index-place.ensures.within
     at c.index_mut.ensures.value c.emplace_onto-emplaced.result went.more did in
     record {
       more = went.more;
@@ -147,9 +147,9 @@ returns-clause-answers g c =
       hash = hash;
       weight = c.weigh-weight.result;
     } in
-    let at = c.place-place.ensures.place ∙ ap (λ (n : ℕ). n % vec_len s.shards) c.hash-hash.ensures.hash in
+    let at = c.shard_index-place.ensures.index ∙ ap (λ (n : ℕ). n % vec_len s.shards) c.hash-hash.ensures.hash in
     answers_over (meaning_of_core s) state_of opens_of s.capacity s.hash_builder s.weighter s.filter s.shards.items
-    (vec_len s.shards) c.place-place.result x y Outer d s.shards.ok.0 c.place-place.ensures.within at
+    (vec_len s.shards) c.shard_index-place.result x y Outer d s.shards.ok.0 c.shard_index-place.ensures.within at
     c.index_mut.ensures.value c.emplace_onto-emplaced.result []
     (rw c.hash-hash.ensures.hash at c.emplace_onto-emplaced.ensures.answers)
 
@@ -169,9 +169,9 @@ returns-clause-closed g c =
       hash = hash;
       weight = c.weigh-weight.result;
     } in
-    let at = c.place-place.ensures.place ∙ ap (λ (n : ℕ). n % vec_len s.shards) c.hash-hash.ensures.hash in
+    let at = c.shard_index-place.ensures.index ∙ ap (λ (n : ℕ). n % vec_len s.shards) c.hash-hash.ensures.hash in
     closes_over (meaning_of_core s) state_of opens_of s.capacity s.hash_builder s.weighter s.filter s.shards.items
-    (vec_len s.shards) c.place-place.result x y Outer d s.shards.ok.0 c.place-place.ensures.within at
+    (vec_len s.shards) c.shard_index-place.result x y Outer d s.shards.ok.0 c.shard_index-place.ensures.within at
     c.index_mut.ensures.value c.emplace_onto-emplaced.result []
     (rw c.hash-hash.ensures.hash at c.emplace_onto-emplaced.ensures.closed)
 
@@ -191,9 +191,9 @@ returns-clause-fetches g c =
       hash = hash;
       weight = c.weigh-weight.result;
     } in
-    let at = c.place-place.ensures.place ∙ ap (λ (n : ℕ). n % vec_len s.shards) c.hash-hash.ensures.hash in
+    let at = c.shard_index-place.ensures.index ∙ ap (λ (n : ℕ). n % vec_len s.shards) c.hash-hash.ensures.hash in
     opens_stay (meaning_of_core s) state_of opens_of s.capacity s.hash_builder s.weighter s.filter s.shards.items
-    (vec_len s.shards) c.place-place.result x y Outer d s.shards.ok.0 c.place-place.ensures.within at
+    (vec_len s.shards) c.shard_index-place.result x y Outer d s.shards.ok.0 c.shard_index-place.ensures.within at
     c.index_mut.ensures.value c.emplace_onto-emplaced.result [] c.emplace_onto-emplaced.ensures.opens
 
 pub returns-clause-plain : goal.returns-clause-plain
@@ -212,20 +212,20 @@ returns-clause-plain g c plain sure =
       hash = hash;
       weight = c.weigh-weight.result;
     } in
-    let at = c.place-place.ensures.place ∙ ap (λ (n : ℕ). n % vec_len s.shards) c.hash-hash.ensures.hash in
+    let at = c.shard_index-place.ensures.index ∙ ap (λ (n : ℕ). n % vec_len s.shards) c.hash-hash.ensures.hash in
     let m = meaning_of_core s in
     let equal : (a b : g.row.K.Denot) → g.K.PartialEq.eq a b ≡ true → hashes_of s a ≡ hashes_of s b =
     λ a b same. ap (g.S.HashBuilder.hash_of s.hash_builder) (g.met.K.Hash.respects_eq a b same) in
     let sound = core_sound s g.met.K.Eq.laws g.met.E.Eviction.lawful equal in
     let new = core_over state_of s.capacity s.hash_builder s.weighter s.filter
-    (slice_set s.shards.items c.place-place.result y) in
+    (slice_set s.shards.items c.shard_index-place.result y) in
     let went = rw (c.hash-hash.ensures.hash, c.marked-properties.ensures) at c.emplace_onto-emplaced.ensures.inserted in
     let did = went.so in
     let step = comes_over (meaning_of_core s) state_of opens_of s.capacity s.hash_builder s.weighter s.filter
-    s.shards.items (vec_len s.shards) c.place-place.result x y Outer d s.shards.ok.0 c.place-place.ensures.within
+    s.shards.items (vec_len s.shards) c.shard_index-place.result x y Outer d s.shards.ok.0 c.shard_index-place.ensures.within
     at c.index_mut.ensures.value c.emplace_onto-emplaced.result went.more did in
     comes_plain m g.met.K.Eq.laws g.met.E.Eviction.lawful (hashes_of s) equal (core_of s) new sound Outer d refl
-    (1 + length (waiters_of (place_in (fetches_of s) (hash, c.args.key)))) went.more g.P.Properties.location_of
+    (1 + length (waiters_of (open_in (fetches_of s) (hash, c.args.key)))) went.more g.P.Properties.location_of
     g.P.Properties.with_phantom_of c.admit-admitted.result c.args.properties plain
     (sure c.admit-admitted.result c.admit-admitted.ensures) refl c.emplace_onto-emplaced.result step
 
@@ -245,20 +245,20 @@ returns-clause-found g c =
       hash = hash;
       weight = c.weigh-weight.result;
     } in
-    let at = c.place-place.ensures.place ∙ ap (λ (n : ℕ). n % vec_len s.shards) c.hash-hash.ensures.hash in
+    let at = c.shard_index-place.ensures.index ∙ ap (λ (n : ℕ). n % vec_len s.shards) c.hash-hash.ensures.hash in
     let m = meaning_of_core s in
     let equal : (a b : g.row.K.Denot) → g.K.PartialEq.eq a b ≡ true → hashes_of s a ≡ hashes_of s b =
     λ a b same. ap (g.S.HashBuilder.hash_of s.hash_builder) (g.met.K.Hash.respects_eq a b same) in
     let sound = core_sound s g.met.K.Eq.laws g.met.E.Eviction.lawful equal in
     let new = core_over state_of s.capacity s.hash_builder s.weighter s.filter
-    (slice_set s.shards.items c.place-place.result y) in
+    (slice_set s.shards.items c.shard_index-place.result y) in
     let went = rw (c.hash-hash.ensures.hash, c.marked-properties.ensures) at c.emplace_onto-emplaced.ensures.inserted in
     let did = went.so in
     let step = comes_over (meaning_of_core s) state_of opens_of s.capacity s.hash_builder s.weighter s.filter
-    s.shards.items (vec_len s.shards) c.place-place.result x y Outer d s.shards.ok.0 c.place-place.ensures.within
+    s.shards.items (vec_len s.shards) c.shard_index-place.result x y Outer d s.shards.ok.0 c.shard_index-place.ensures.within
     at c.index_mut.ensures.value c.emplace_onto-emplaced.result went.more did in
     comes_found m g.met.K.Eq.laws g.met.E.Eviction.lawful (hashes_of s) equal (core_of s) new sound Outer d refl
-    (1 + length (waiters_of (place_in (fetches_of s) (hash, c.args.key)))) went.more
+    (1 + length (waiters_of (open_in (fetches_of s) (hash, c.args.key)))) went.more
     c.emplace_onto-emplaced.result step
 
 pub returns-clause-bounded : goal.returns-clause-bounded
@@ -277,20 +277,20 @@ returns-clause-bounded g c =
       hash = hash;
       weight = c.weigh-weight.result;
     } in
-    let at = c.place-place.ensures.place ∙ ap (λ (n : ℕ). n % vec_len s.shards) c.hash-hash.ensures.hash in
+    let at = c.shard_index-place.ensures.index ∙ ap (λ (n : ℕ). n % vec_len s.shards) c.hash-hash.ensures.hash in
     let m = meaning_of_core s in
     let equal : (a b : g.row.K.Denot) → g.K.PartialEq.eq a b ≡ true → hashes_of s a ≡ hashes_of s b =
     λ a b same. ap (g.S.HashBuilder.hash_of s.hash_builder) (g.met.K.Hash.respects_eq a b same) in
     let sound = core_sound s g.met.K.Eq.laws g.met.E.Eviction.lawful equal in
     let new = core_over state_of s.capacity s.hash_builder s.weighter s.filter
-    (slice_set s.shards.items c.place-place.result y) in
+    (slice_set s.shards.items c.shard_index-place.result y) in
     let went = rw (c.hash-hash.ensures.hash, c.marked-properties.ensures) at c.emplace_onto-emplaced.ensures.inserted in
     let did = went.so in
     let step = comes_over (meaning_of_core s) state_of opens_of s.capacity s.hash_builder s.weighter s.filter
-    s.shards.items (vec_len s.shards) c.place-place.result x y Outer d s.shards.ok.0 c.place-place.ensures.within
+    s.shards.items (vec_len s.shards) c.shard_index-place.result x y Outer d s.shards.ok.0 c.shard_index-place.ensures.within
     at c.index_mut.ensures.value c.emplace_onto-emplaced.result went.more did in
     comes_bounded m g.met.K.Eq.laws g.met.E.Eviction.lawful (hashes_of s) equal (core_of s) new sound Outer d refl
-    (1 + length (waiters_of (place_in (fetches_of s) (hash, c.args.key)))) went.more
+    (1 + length (waiters_of (open_in (fetches_of s) (hash, c.args.key)))) went.more
     c.emplace_onto-emplaced.result step
 
 pub returns-clause-stay : goal.returns-clause-stay
@@ -309,20 +309,20 @@ returns-clause-stay g c =
       hash = hash;
       weight = c.weigh-weight.result;
     } in
-    let at = c.place-place.ensures.place ∙ ap (λ (n : ℕ). n % vec_len s.shards) c.hash-hash.ensures.hash in
+    let at = c.shard_index-place.ensures.index ∙ ap (λ (n : ℕ). n % vec_len s.shards) c.hash-hash.ensures.hash in
     let m = meaning_of_core s in
     let equal : (a b : g.row.K.Denot) → g.K.PartialEq.eq a b ≡ true → hashes_of s a ≡ hashes_of s b =
     λ a b same. ap (g.S.HashBuilder.hash_of s.hash_builder) (g.met.K.Hash.respects_eq a b same) in
     let sound = core_sound s g.met.K.Eq.laws g.met.E.Eviction.lawful equal in
     let new = core_over state_of s.capacity s.hash_builder s.weighter s.filter
-    (slice_set s.shards.items c.place-place.result y) in
+    (slice_set s.shards.items c.shard_index-place.result y) in
     let went = rw (c.hash-hash.ensures.hash, c.marked-properties.ensures) at c.emplace_onto-emplaced.ensures.inserted in
     let did = went.so in
     let step = comes_over (meaning_of_core s) state_of opens_of s.capacity s.hash_builder s.weighter s.filter
-    s.shards.items (vec_len s.shards) c.place-place.result x y Outer d s.shards.ok.0 c.place-place.ensures.within
+    s.shards.items (vec_len s.shards) c.shard_index-place.result x y Outer d s.shards.ok.0 c.shard_index-place.ensures.within
     at c.index_mut.ensures.value c.emplace_onto-emplaced.result went.more did in
     comes_stay m g.met.K.Eq.laws g.met.E.Eviction.lawful (hashes_of s) equal (core_of s) new sound Outer d refl
-    (1 + length (waiters_of (place_in (fetches_of s) (hash, c.args.key)))) went.more
+    (1 + length (waiters_of (open_in (fetches_of s) (hash, c.args.key)))) went.more
     c.emplace_onto-emplaced.result step
 
 pub returns-clause-told : goal.returns-clause-told
@@ -341,23 +341,23 @@ returns-clause-told g c =
       hash = hash;
       weight = c.weigh-weight.result;
     } in
-    let at = c.place-place.ensures.place ∙ ap (λ (n : ℕ). n % vec_len s.shards) c.hash-hash.ensures.hash in
+    let at = c.shard_index-place.ensures.index ∙ ap (λ (n : ℕ). n % vec_len s.shards) c.hash-hash.ensures.hash in
     let m = meaning_of_core s in
     let equal : (a b : g.row.K.Denot) → g.K.PartialEq.eq a b ≡ true → hashes_of s a ≡ hashes_of s b =
     λ a b same. ap (g.S.HashBuilder.hash_of s.hash_builder) (g.met.K.Hash.respects_eq a b same) in
     let sound = core_sound s g.met.K.Eq.laws g.met.E.Eviction.lawful equal in
     let new = core_over state_of s.capacity s.hash_builder s.weighter s.filter
-    (slice_set s.shards.items c.place-place.result y) in
+    (slice_set s.shards.items c.shard_index-place.result y) in
     let went = rw (c.hash-hash.ensures.hash, c.marked-properties.ensures) at c.emplace_onto-emplaced.ensures.inserted in
     let did = went.so in
     let step = comes_over (meaning_of_core s) state_of opens_of s.capacity s.hash_builder s.weighter s.filter
-    s.shards.items (vec_len s.shards) c.place-place.result x y Outer d s.shards.ok.0 c.place-place.ensures.within
+    s.shards.items (vec_len s.shards) c.shard_index-place.result x y Outer d s.shards.ok.0 c.shard_index-place.ensures.within
     at c.index_mut.ensures.value c.emplace_onto-emplaced.result went.more did in
     record {
       more = went.more;
       told = went.told;
       so =
           comes_told m g.met.K.Eq.laws g.met.E.Eviction.lawful (hashes_of s) equal (core_of s) new sound Outer d refl
-          (1 + length (waiters_of (place_in (fetches_of s) (hash, c.args.key)))) went.more
+          (1 + length (waiters_of (open_in (fetches_of s) (hash, c.args.key)))) went.more
           c.emplace_onto-emplaced.result step;
     }

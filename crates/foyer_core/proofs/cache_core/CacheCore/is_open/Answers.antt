@@ -2,7 +2,7 @@ use Rattle.std.proofs.Common.{ap, sym, ◌∙◌, ℕ, ◌%◌, vec_len}
 use Rattle.foyer_core.specs.Cores.{hashes_of}
 use Rattle.foyer_core.specs.Shards.{opens_of, state_of}
 use Rattle.foyer_core.proofs.CoreLemmas.{shard_over}
-use Rattle.foyer_core.proofs.FetchesOver.{place_over}
+use Rattle.foyer_core.proofs.FetchesOver.{opened_over}
 use Rattle.foyer_core.proofs.cache_core.CacheCore.is_open.Goals as goal
 
 pub returns-clause-is_open : goal.returns-clause-is_open
@@ -10,9 +10,9 @@ returns-clause-is_open g c =
     let s = c.args.self.now in
     let x = c.index.result.now in
     let hash = hashes_of s c.args.key.now in
-    let at = c.place.ensures.place ∙ ap (λ (n : ℕ). n % vec_len s.shards) c.hash-hash.ensures.hash in
-    let placed = λ (key : g.row.K.Denot). place_over opens_of s.shards.items hash (vec_len s.shards) c.place.result x
-    s.shards.ok.0 c.place.ensures.within at c.index.ensures key in
+    let at = c.shard_index.ensures.index ∙ ap (λ (n : ℕ). n % vec_len s.shards) c.hash-hash.ensures.hash in
+    let placed = λ (key : g.row.K.Denot). opened_over opens_of s.shards.items hash (vec_len s.shards) c.shard_index.result x
+    s.shards.ok.0 c.shard_index.ensures.within at c.index.ensures key in
     rw (placed c.args.key.now) (rw c.hash-hash.ensures.hash at c.is_open.ensures.is_open)
 
 pub returns-clause-equal_keys : goal.returns-clause-equal_keys
@@ -20,9 +20,9 @@ returns-clause-equal_keys g c other same =
     let s = c.args.self.now in
     let x = c.index.result.now in
     let hash = hashes_of s c.args.key.now in
-    let at = c.place.ensures.place ∙ ap (λ (n : ℕ). n % vec_len s.shards) c.hash-hash.ensures.hash in
-    let placed = λ (key : g.row.K.Denot). place_over opens_of s.shards.items hash (vec_len s.shards) c.place.result x
-    s.shards.ok.0 c.place.ensures.within at c.index.ensures key in
+    let at = c.shard_index.ensures.index ∙ ap (λ (n : ℕ). n % vec_len s.shards) c.hash-hash.ensures.hash in
+    let placed = λ (key : g.row.K.Denot). opened_over opens_of s.shards.items hash (vec_len s.shards) c.shard_index.result x
+    s.shards.ok.0 c.shard_index.ensures.within at c.index.ensures key in
     placed other ∙ (rw c.hash-hash.ensures.hash at c.is_open.ensures.equal_keys) other same
     ∙ sym (placed c.args.key.now)
 
@@ -31,9 +31,9 @@ returns-clause-apart g c id known =
     let s = c.args.self.now in
     let x = c.index.result.now in
     let hash = hashes_of s c.args.key.now in
-    let at = c.place.ensures.place ∙ ap (λ (n : ℕ). n % vec_len s.shards) c.hash-hash.ensures.hash in
-    let placed = λ (key : g.row.K.Denot). place_over opens_of s.shards.items hash (vec_len s.shards) c.place.result x
-    s.shards.ok.0 c.place.ensures.within at c.index.ensures key in
+    let at = c.shard_index.ensures.index ∙ ap (λ (n : ℕ). n % vec_len s.shards) c.hash-hash.ensures.hash in
+    let placed = λ (key : g.row.K.Denot). opened_over opens_of s.shards.items hash (vec_len s.shards) c.shard_index.result x
+    s.shards.ok.0 c.shard_index.ensures.within at c.index.ensures key in
     let there = shard_over state_of s.capacity s.hash_builder s.weighter s.filter s.shards.items hash
-    (vec_len s.shards) c.place.result x s.shards.ok.0 c.place.ensures.within at c.index.ensures in
+    (vec_len s.shards) c.shard_index.result x s.shards.ok.0 c.shard_index.ensures.within at c.index.ensures in
     placed c.args.key.now ∙ (rw c.hash-hash.ensures.hash at c.is_open.ensures.apart) id (rw there at known)

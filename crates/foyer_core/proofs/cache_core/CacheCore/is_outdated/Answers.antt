@@ -11,8 +11,8 @@ returns g c =
     let s = c.args.self.now in
     let e = c.args.entry.now in
     let here = shard_over state_of s.capacity s.hash_builder s.weighter s.filter s.shards.items e.kept.hash
-    (vec_len s.shards) c.place.result c.index.result.now
-    s.shards.ok.0 c.place.ensures.within (c.place.ensures.place ∙ ap (λ (n : ℕ). n % vec_len s.shards) c.hash.ensures)
+    (vec_len s.shards) c.shard_index.result c.index.result.now
+    s.shards.ok.0 c.shard_index.ensures.within (c.shard_index.ensures.index ∙ ap (λ (n : ℕ). n % vec_len s.shards) c.hash.ensures)
     c.index.ensures in
     subst (λ (o : Option (State g.row.K.Denot g.row.V.Denot g.row.P.Denot g.E.Eviction.View)). c.is_outdated.result
     ≡ true ↔ IsSomeAnd o (λ t. IsOutdated t e.id))

@@ -25,7 +25,7 @@ pub invariant_of-self-clause-summed : goal.invariant_of-self-clause-summed
 invariant_of-self-clause-summed g c =
     let s = c.args.self.now in
     configured_sums (meaning_of_core s) g.met.E.Eviction.lawful state_of s.shards.items
-    (map state_of c.configure_each.new.shards.items) (λ x. x.store.kept) c.args.config.now
+    (map state_of c.configure_each.new.shards.items) (λ x. x.store.sound) c.args.config.now
     c.configure_each.ensures.configured
     s.load.usage s.load.entries s.summed
 

@@ -13,24 +13,24 @@ use Rattle.foyer_core.proofs.cache_core.CacheCore.refuse_value.Goals as goal
 pub invariant_of-self-clause-belong : goal.invariant_of-self-clause-belong
 invariant_of-self-clause-belong g c =
     let s = c.args.self.now in
-    let same = map-write state_of s.shards.items (vec_len s.shards) c.place-place.result c.index_mut.result.now
-    c.refuse_value.new.self s.shards.ok.0 c.place-place.ensures.within c.index_mut.ensures.value
+    let same = map-write state_of s.shards.items (vec_len s.shards) c.shard_index-place.result c.index_mut.result.now
+    c.refuse_value.new.self s.shards.ok.0 c.shard_index-place.ensures.within c.index_mut.ensures.value
     c.refuse_value.ensures.state in
     rw same s.belong
 
 pub invariant_of-self-clause-hashed : goal.invariant_of-self-clause-hashed
 invariant_of-self-clause-hashed g c =
     let s = c.args.self.now in
-    let same = map-write state_of s.shards.items (vec_len s.shards) c.place-place.result c.index_mut.result.now
-    c.refuse_value.new.self s.shards.ok.0 c.place-place.ensures.within c.index_mut.ensures.value
+    let same = map-write state_of s.shards.items (vec_len s.shards) c.shard_index-place.result c.index_mut.result.now
+    c.refuse_value.new.self s.shards.ok.0 c.shard_index-place.ensures.within c.index_mut.ensures.value
     c.refuse_value.ensures.state in
     rw same s.hashed
 
 pub invariant_of-self-clause-summed : goal.invariant_of-self-clause-summed
 invariant_of-self-clause-summed g c =
     let s = c.args.self.now in
-    let same = map-write state_of s.shards.items (vec_len s.shards) c.place-place.result c.index_mut.result.now
-    c.refuse_value.new.self s.shards.ok.0 c.place-place.ensures.within c.index_mut.ensures.value
+    let same = map-write state_of s.shards.items (vec_len s.shards) c.shard_index-place.result c.index_mut.result.now
+    c.refuse_value.new.self s.shards.ok.0 c.shard_index-place.ensures.within c.index_mut.ensures.value
     c.refuse_value.ensures.state in
     rw same s.summed
 
@@ -50,8 +50,8 @@ returns g c = record {
         weight = c.args.weight;
       } in
       open_over state_of opens_of s.capacity s.hash_builder s.weighter s.filter s.shards.items c.args.hash
-      (vec_len s.shards) c.place-place.result x s.shards.ok.0 c.place-place.ensures.within
-      c.place-place.ensures.place c.index_mut.ensures.value y
-      (λ a f b h. CompletesBy (meaning_of_core s) (asked (Some c.args.fetch) (f.places k)) source a f k d
+      (vec_len s.shards) c.shard_index-place.result x s.shards.ok.0 c.shard_index-place.ensures.within
+      c.shard_index-place.ensures.index c.index_mut.ensures.value y
+      (λ a f b h. CompletesBy (meaning_of_core s) (asked (Some c.args.fetch) (f.by_key k)) source a f k d
       (ending_of c.refuse_value.result) b h) (c.refuse_value.ensures.completed source value);
 }

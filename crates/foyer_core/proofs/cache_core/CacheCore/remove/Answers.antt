@@ -19,8 +19,8 @@ invariant_of-self-clause-belong g c =
     let s = c.args.self.now in
     let x = c.index_mut.result.now in
     let y = c.remove-removed.new.self in
-    belongs_over state_of s.shards.items c.hash-hash.result (vec_len s.shards) c.place-place.result x s.shards.ok.0
-    c.place-place.ensures.within c.place-place.ensures.place c.index_mut.ensures.value
+    belongs_over state_of s.shards.items c.hash-hash.result (vec_len s.shards) c.shard_index-place.result x s.shards.ok.0
+    c.shard_index-place.ensures.within c.shard_index-place.ensures.index c.index_mut.ensures.value
     y (removes_from (λ d. d.hash ≡ c.hash-hash.result) (meaning_of x) (state_of x)
     (c.hash-hash.result, c.args.key.now) c.remove-removed.result (state_of y) c.remove-removed.ensures.removes)
     s.belong
@@ -31,7 +31,7 @@ invariant_of-self-clause-hashed g c =
     let x = c.index_mut.result.now in
     let y = c.remove-removed.new.self in
     hashed_over (λ k. g.S.HashBuilder.hash_of s.hash_builder (g.K.Hash.hash_input k)) state_of s.shards.items
-    (vec_len s.shards) c.place-place.result x s.shards.ok.0 c.place-place.ensures.within c.index_mut.ensures.value
+    (vec_len s.shards) c.shard_index-place.result x s.shards.ok.0 c.shard_index-place.ensures.within c.index_mut.ensures.value
     y (removes_from (IsHashed (λ k. g.S.HashBuilder.hash_of s.hash_builder (g.K.Hash.hash_input k))) (meaning_of x)
     (state_of x) (c.hash-hash.result, c.args.key.now) c.remove-removed.result (state_of y)
     c.remove-removed.ensures.removes) s.hashed
@@ -41,9 +41,9 @@ invariant_of-self-clause-summed g c =
     let s = c.args.self.now in
     let before = c.of-before in
     let after = c.of-after in
-    sums_set (meaning_of_core s) state_of s.shards.items (vec_len s.shards) c.place-place.result c.index.result.now
+    sums_set (meaning_of_core s) state_of s.shards.items (vec_len s.shards) c.shard_index-place.result c.index.result.now
     s.load.usage s.load.entries
-    s.shards.ok.0 (omega (arith, s.shards.ok.1, s.shards.small)) c.place-place.ensures.within c.index.ensures s.summed
+    s.shards.ok.0 (omega (arith, s.shards.ok.1, s.shards.small)) c.shard_index-place.ensures.within c.index.ensures s.summed
     before.result.usage before.result.entries before.ensures.usage before.ensures.entries
     c.remove-removed.new.self c.index-2.result.now c.index-2.ensures after.result.usage after.result.entries
     after.ensures.usage after.ensures.entries after.ensures.small
@@ -54,9 +54,9 @@ replace-requires-clause-usage g c =
     let s = c.args.self.now in
     let before = c.of-before in
     let after = c.of-after in
-    usage_fits (meaning_of_core s) state_of s.shards.items (vec_len s.shards) c.place-place.result c.index.result.now
+    usage_fits (meaning_of_core s) state_of s.shards.items (vec_len s.shards) c.shard_index-place.result c.index.result.now
     s.load.usage s.load.entries
-    s.shards.ok.0 (omega (arith, s.shards.ok.1, s.shards.small)) c.place-place.ensures.within c.index.ensures s.summed
+    s.shards.ok.0 (omega (arith, s.shards.ok.1, s.shards.small)) c.shard_index-place.ensures.within c.index.ensures s.summed
     before.result.usage before.result.entries before.ensures.usage before.ensures.entries
     c.remove-removed.new.self c.index-2.result.now c.index-2.ensures after.result.usage after.result.entries
     after.ensures.usage after.ensures.entries after.ensures.small
@@ -66,9 +66,9 @@ replace-requires-clause-entries g c =
     let s = c.args.self.now in
     let before = c.of-before in
     let after = c.of-after in
-    entries_fit (meaning_of_core s) state_of s.shards.items (vec_len s.shards) c.place-place.result c.index.result.now
+    entries_fit (meaning_of_core s) state_of s.shards.items (vec_len s.shards) c.shard_index-place.result c.index.result.now
     s.load.usage s.load.entries
-    s.shards.ok.0 (omega (arith, s.shards.ok.1, s.shards.small)) c.place-place.ensures.within c.index.ensures s.summed
+    s.shards.ok.0 (omega (arith, s.shards.ok.1, s.shards.small)) c.shard_index-place.ensures.within c.index.ensures s.summed
     before.result.usage before.result.entries before.ensures.usage before.ensures.entries
     c.remove-removed.new.self c.index-2.result.now c.index-2.ensures after.result.usage after.result.entries
     after.ensures.usage after.ensures.entries after.ensures.small
@@ -81,9 +81,9 @@ returns g c =
     let hash = g.S.HashBuilder.hash_of s.hash_builder (g.K.Hash.hash_input c.args.key.now) in
     let did = rw c.hash-hash.ensures.hash at c.remove-removed.ensures.removes in
     let over = at_over state_of s.capacity s.hash_builder s.weighter s.filter s.shards.items hash (vec_len s.shards)
-    c.place-place.result x
-    s.shards.ok.0 c.place-place.ensures.within
-    (c.place-place.ensures.place ∙ ap (λ (n : ℕ). n % vec_len s.shards) c.hash-hash.ensures.hash)
+    c.shard_index-place.result x
+    s.shards.ok.0 c.shard_index-place.ensures.within
+    (c.shard_index-place.ensures.index ∙ ap (λ (n : ℕ). n % vec_len s.shards) c.hash-hash.ensures.hash)
     c.index_mut.ensures.value in
     let m = meaning_of_core s in
     let equal : (a b : g.row.K.Denot) → g.K.PartialEq.eq a b ≡ true → hashes_of s a ≡ hashes_of s b =
@@ -91,11 +91,11 @@ returns g c =
     let sound = core_sound s g.met.K.Eq.laws g.met.E.Eviction.lawful equal in
     let step = over (λ a b. Removes (meaning_of x) a (hash, c.args.key.now) c.remove-removed.result b) y did in
     let new = core_over state_of s.capacity s.hash_builder s.weighter s.filter
-    (slice_set s.shards.items c.place-place.result y) in
+    (slice_set s.shards.items c.shard_index-place.result y) in
     record {
       removes = step;
-      fetches = map-write opens_of s.shards.items (vec_len s.shards) c.place-place.result x y s.shards.ok.0
-          c.place-place.ensures.within c.index_mut.ensures.value c.remove-removed.ensures.opens;
+      fetches = map-write opens_of s.shards.items (vec_len s.shards) c.shard_index-place.result x y s.shards.ok.0
+          c.shard_index-place.ensures.within c.index_mut.ensures.value c.remove-removed.ensures.opens;
       stay = stays_at (core_of s) _ hash
           (over (RecordsStay nothing) y
           (removes_stay (meaning_of x) (state_of x) (hash, c.args.key.now) c.remove-removed.result (state_of y)

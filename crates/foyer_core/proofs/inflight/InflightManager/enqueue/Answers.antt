@@ -6,11 +6,11 @@ use Rattle.foyer_core.specs.declared.outcome.Waiting.{Waiting}
 use Rattle.foyer_core.specs.Chains.{entries_of}
 use Rattle.foyer_core.specs.Entries.{lookup_same}
 use Rattle.foyer_core.specs.Indexer.{same_key}
-use Rattle.foyer_core.specs.Inflight.{Place, after_enqueue, opens_by, joined, numbers_in}
+use Rattle.foyer_core.specs.Inflight.{OpenFetch, after_enqueue, opens_by, joined, numbers_in}
 use Rattle.foyer_core.specs.Inflights.{opens_of}
 use Rattle.foyer_core.specs.Slots.{get, with_value}
 use Rattle.foyer_core.proofs.SlotLemmas.{write_at}
-use Rattle.foyer_core.proofs.InflightLemmas.{join_open, linked_same, led_to, open_same, places_same, same_opens, write_again, write_linked, write_places}
+use Rattle.foyer_core.proofs.InflightLemmas.{join_open, linked_same, led_to, open_same, opens_same, same_opens, write_again, write_linked, write_places}
 use Rattle.foyer_core.proofs.inflight.InflightManager.enqueue.Goals as goal
 
 pub unreachable-requires : goal.unreachable-requires
@@ -31,7 +31,7 @@ invariant_of-self g c =
           (get (with_value s.inflights n c.join.new.self)) (λ q. refl) slots s.linked;
       sound = open_same (opens_of s)
           (opens_by (numbers_in s.index) (get (with_value s.inflights n c.join.new.self)) s.next_fetch s.next_token)
-          (places_same (numbers_in s.index) (numbers_in s.index) (get s.inflights)
+          (opens_same (numbers_in s.index) (numbers_in s.index) (get s.inflights)
           (get (with_value s.inflights n c.join.new.self)) (λ q. refl) slots) refl refl s.sound;
     }
 
@@ -76,10 +76,10 @@ returns-clause-opens g c =
     (after_enqueue g.K.PartialEq.eq (opens_of s) k c.args.waiter c.args.required_fetch_builder)
     (λ q. write_places g.met.K.Eq.laws (numbers_in s.index) (numbers_in s.index) (get s.inflights)
     (get (with_value s.inflights n c.join.new.self)) k n s.linked there respects c.join.new.self write q
-    ∙ ap (λ (o : Place g.row.N.Denot g.row.R.Denot). update (same_key g.K.PartialEq.eq) (opens_of s).places k (Some o)
+    ∙ ap (λ (o : OpenFetch g.row.N.Denot g.row.R.Denot). update (same_key g.K.PartialEq.eq) (opens_of s).by_key k (Some o)
     q)
     (c.in_ok-join.ensures.joined ∙
-    ap (λ (o : Option (Place g.row.N.Denot g.row.R.Denot)). joined o s.next_fetch w c.args.required_fetch_builder)
+    ap (λ (o : Option (OpenFetch g.row.N.Denot g.row.R.Denot)). joined o s.next_fetch w c.args.required_fetch_builder)
     (sym open_there)))
-    (ap (λ (o : Option (Place g.row.N.Denot g.row.R.Denot)). if is_some o then s.next_fetch else s.next_fetch + 1)
+    (ap (λ (o : Option (OpenFetch g.row.N.Denot g.row.R.Denot)). if is_some o then s.next_fetch else s.next_fetch + 1)
     (sym open_there)) refl

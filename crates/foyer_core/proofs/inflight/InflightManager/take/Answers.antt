@@ -1,6 +1,6 @@
 use Rattle.std.proofs.Common.{◌≡◌, ℕ, ◌<◌, ◌∙◌, Some, length, refl, sym, ap}
 use Rattle.std.specs.Prelude.{option_and_then}
-use Rattle.foyer_core.specs.Inflight.{Place, closed, numbers_in, opens_by}
+use Rattle.foyer_core.specs.Inflight.{OpenFetch, closed, numbers_in, opens_by}
 use Rattle.foyer_core.specs.Inflights.{opens_of}
 use Rattle.foyer_core.specs.Slots.{get}
 use Rattle.foyer_core.proofs.InflightLemmas.{led_to, same_opens, take_linked, take_open, take_places}
@@ -42,9 +42,9 @@ pub returns-clause-waited : goal.returns-clause-waited
 returns-clause-waited g c =
     let s = c.args.self.now in
     let k : ℕ × g.row.K.Denot = (c.args.hash, c.args.key.now) in
-    let there : (opens_of s).places k ≡ Some c.remove-2.result =
+    let there : (opens_of s).by_key k ≡ Some c.remove-2.result =
     ap (option_and_then (get s.inflights)) (sym c.in_ok-number.ensures) ∙ c.remove-2.ensures.value in
     let some : 0 < length c.remove-2.result.tokens = s.sound.waited k c.remove-2.result there in
     let view : c.waiters.inside.waiters.items ≡ c.remove-2.result.tokens =
-    ap (λ (o : Place g.row.N.Denot g.row.R.Denot). o.tokens) c.waiters.view_is in
+    ap (λ (o : OpenFetch g.row.N.Denot g.row.R.Denot). o.tokens) c.waiters.view_is in
     rw view some

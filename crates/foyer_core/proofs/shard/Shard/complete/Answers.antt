@@ -50,7 +50,7 @@ returns-in-Ok g c =
     record {
       completed = completed (meaning_of s.store) c.args.source (state_of s.store) (state_of c.emplace.new.self) f
           (opens_of c.take.new.self) k c.args.kept c.in-Some.ensures.opens
-          (asked (Some c.args.fetch) (f.places k)) c.in-Some.waiters.items c.in-Some.ensures.taken (c.len.result - 1)
+          (asked (Some c.args.fetch) (f.by_key k)) c.in-Some.waiters.items c.in-Some.ensures.taken (c.len.result - 1)
           len made.entry made.others.items made.leaves.items (ending_of c.ending.result) c.ending.ensures
           c.in-Ok.ensures.others c.in-Ok.ensures.inserted;
     }

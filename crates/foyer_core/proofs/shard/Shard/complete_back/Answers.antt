@@ -50,7 +50,7 @@ returns-in-Ok g c =
     record {
       completed = back_ends (meaning_of s.store) (state_of s.store) (state_of c.take_back.new.self) f
           (opens_of c.take.new.self) k c.args.piece c.in-Some.ensures.opens
-          c.in-Some.waiters.items (c.len.result - 1) len (asked (Some c.args.fetch) (f.places k))
+          c.in-Some.waiters.items (c.len.result - 1) len (asked (Some c.args.fetch) (f.by_key k))
           c.in-Some.ensures.taken made.leaves.items (ending_of c.ending.result) made.entry made.others.items
           c.ending.ensures
           c.in-Ok.ensures.others c.in-Ok.ensures.returned;

@@ -54,13 +54,13 @@ returns-in-Ok g c =
     let len : length c.in-Some.waiters.items ≡ 1 + (c.len.result - 1) =
     omega (arith, c.len.ensures, c.in-Some.ensures.waited, c.in-Some.waiters.ok.0) in
     let taken = subst
-    (λ (q : ℕ × g.row.K.Denot). IsSomeAnd (asked (Some c.args.fetch) (f.places q))
+    (λ (q : ℕ × g.row.K.Denot). IsSomeAnd (asked (Some c.args.fetch) (f.by_key q))
     (λ o. c.in-Some.waiters.items ≡ o.tokens)) named c.in-Some.ensures.taken in
     record {
       completed = completed (meaning_of s.store) Memory (state_of s.store) (state_of c.take_new.new.self) f
           (opens_of c.take.new.self) k c.args.kept
           (c.in-Some.ensures.opens ∙ ap (λ (q : ℕ × g.row.K.Denot). closed g.K.PartialEq.eq f q) named)
-          (asked (Some c.args.fetch) (f.places k)) c.in-Some.waiters.items taken (c.len.result - 1) len made.entry
+          (asked (Some c.args.fetch) (f.by_key k)) c.in-Some.waiters.items taken (c.len.result - 1) len made.entry
           made.others.items made.leaves.items (ending_of c.ending.result) c.ending.ensures
           c.in-Ok.ensures.others c.in-Ok.ensures.inserted;
     }

@@ -1,14 +1,14 @@
 use Rattle.std.proofs.Common.{◌≡◌, ◌∙◌, ℕ, ◌+◌, [], None, Some, length, replicate, refl, sym, ap, subst}
 use Rattle.std.specs.Prelude.{Option}
 use Rattle.foyer_core.specs.Bulk.{GoesOn}
-use Rattle.foyer_core.specs.Inflight.{Place, waiters_of}
+use Rattle.foyer_core.specs.Inflight.{OpenFetch, waiters_of}
 use Rattle.foyer_core.specs.Inflights.{opens_of}
 use Rattle.foyer_core.specs.Steps.{Inserts, RefusesInsert, newcomer}
 use Rattle.foyer_core.specs.Values.{Held}
 use Rattle.foyer_core.specs.declared.record.Data.{Data}
 use Rattle.foyer_core.specs.Stores.{meaning_of, state_of}
 use Rattle.foyer_core.proofs.ApartLemmas.{arrived_apart, refuses_apart}
-use Rattle.foyer_core.proofs.InflightLemmas.{closed_already, places_alike}
+use Rattle.foyer_core.proofs.InflightLemmas.{closed_already, opens_alike}
 use Rattle.foyer_core.proofs.Returning.{inserted_entry}
 use Rattle.foyer_core.proofs.WaitedLemmas.{either_way}
 use Rattle.foyer_core.proofs.shard.Shard.emplace_onto.Goals as goal
@@ -23,7 +23,7 @@ invariant_of-self g c =
     let k : ℕ × g.row.K.Denot = (c.args.kept.hash, c.args.kept.key) in
     let i = newcomer old c.args.kept 1 in
     let went = c.emplace_one.ensures.inserted in
-    let shut = closed_already g.K.PartialEq.eq f k (λ q h. places_alike g.met.K.Eq.laws s.inflights k q h)
+    let shut = closed_already g.K.PartialEq.eq f k (λ q h. opens_alike g.met.K.Eq.laws s.inflights k q h)
     (c.is_empty.ensures.0 c.if-not-is_empty.false k) in
     record {
       apart = either_way c.emplace_one.result went.so
@@ -41,8 +41,8 @@ returns-in-Ok-clause-inserted g c =
     let f = opens_of s.inflights in
     let old = state_of s.store in
     let k : ℕ × g.row.K.Denot = (c.args.kept.hash, c.args.kept.key) in
-    let none : f.places k ≡ None = c.is_empty.ensures.0 c.if-not-is_empty.false k in
-    subst (λ (o : Option (Place g.row.N.Denot g.row.R.Denot)). GoesOn c.args.leaves.now.items
+    let none : f.by_key k ≡ None = c.is_empty.ensures.0 c.if-not-is_empty.false k in
+    subst (λ (o : Option (OpenFetch g.row.N.Denot g.row.R.Denot)). GoesOn c.args.leaves.now.items
     c.emplace_one.new.leaves.items
     (λ ls. Inserts (meaning_of s.store) c.args.source old
     (newcomer old c.args.kept (1 + length (waiters_of o))) ls c.in-Ok.entry
@@ -62,14 +62,14 @@ pub returns-in-Ok-clause-answers : goal.returns-in-Ok-clause-answers
 returns-in-Ok-clause-answers g c =
     let f = opens_of c.args.self.now.inflights in
     let k : ℕ × g.row.K.Denot = (c.args.kept.hash, c.args.kept.key) in
-    let none : f.places k ≡ None = c.is_empty.ensures.0 c.if-not-is_empty.false k in
+    let none : f.by_key k ≡ None = c.is_empty.ensures.0 c.if-not-is_empty.false k in
     rw none (c.nobody.ensures.waiters, c.nobody.ensures.entries)
 
 pub returns-in-Ok-clause-closed : goal.returns-in-Ok-clause-closed
 returns-in-Ok-clause-closed g c =
     let s = c.args.self.now in
     let k : ℕ × g.row.K.Denot = (c.args.kept.hash, c.args.kept.key) in
-    closed_already g.K.PartialEq.eq (opens_of s.inflights) k (λ q h. places_alike g.met.K.Eq.laws s.inflights k q h)
+    closed_already g.K.PartialEq.eq (opens_of s.inflights) k (λ q h. opens_alike g.met.K.Eq.laws s.inflights k q h)
     (c.is_empty.ensures.0 c.if-not-is_empty.false k)
 
 pub returns-in-Err-clause-inserted : goal.returns-in-Err-clause-inserted
@@ -78,8 +78,8 @@ returns-in-Err-clause-inserted g c =
     let f = opens_of s.inflights in
     let old = state_of s.store in
     let k : ℕ × g.row.K.Denot = (c.args.kept.hash, c.args.kept.key) in
-    let none : f.places k ≡ None = c.is_empty.ensures.0 c.if-not-is_empty.false k in
-    subst (λ (o : Option (Place g.row.N.Denot g.row.R.Denot)). GoesOn c.args.leaves.now.items
+    let none : f.by_key k ≡ None = c.is_empty.ensures.0 c.if-not-is_empty.false k in
+    subst (λ (o : Option (OpenFetch g.row.N.Denot g.row.R.Denot)). GoesOn c.args.leaves.now.items
     c.emplace_one.new.leaves.items
     (λ ls. RefusesInsert (meaning_of s.store) old (newcomer old c.args.kept (1 + length (waiters_of o)))
     c.in-Err.error ls (state_of c.emplace_one.new.self)))

@@ -1,11 +1,11 @@
 use Rattle.std.proofs.Common.{◌≡◌, ℕ, ◌∙◌, Option, None, true, refl, sym, ap, subst}
 use Rattle.std.proofs.lemmas.Bool.{eq-eqb}
 use Rattle.foyer_core.specs.Indexer.{same_key}
-use Rattle.foyer_core.specs.Inflight.{HasNumbers, Place, after_enqueue, enqueued}
+use Rattle.foyer_core.specs.Inflight.{HasNumbers, OpenFetch, after_enqueue, enqueued}
 use Rattle.foyer_core.specs.Inflights.{opens_of}
 use Rattle.foyer_core.specs.Stores.{meaning_of, state_of}
 use Rattle.foyer_core.proofs.ApartLemmas.{asked_apart}
-use Rattle.foyer_core.proofs.InflightLemmas.{places_alike}
+use Rattle.foyer_core.proofs.InflightLemmas.{opens_alike}
 use Rattle.foyer_core.proofs.WaitedLemmas.{enqueued_alike, enqueued_apart, index_alike}
 use Rattle.foyer_core.proofs.shard.Shard.enqueue.Goals as goal
 
@@ -20,13 +20,13 @@ invariant_of-self g c =
     (c.requires.clones c.args.key.now c.in-Ok.own c.in-Ok.ensures.cases) in
     let m = meaning_of s.store in
     let index = (state_of s.store).index in
-    let missing : index own ≡ None = index_alike m (state_of s.store) s.store.kept own k same ∙ c.requires.missing in
+    let missing : index own ≡ None = index_alike m (state_of s.store) s.store.sound own k same ∙ c.requires.missing in
     let to = after_enqueue eq f own c.args.waiter c.args.required in
     record {
       apart = asked_apart index f (opens_of c.enqueue.new.self) to c.enqueue.result c.enqueue.ensures.opens
           c.enqueue.ensures.err s.apart
           (enqueued_apart eq index f own c.args.waiter c.args.required
-          (λ q h. index_alike m (state_of s.store) s.store.kept own q h) missing s.apart);
+          (λ q h. index_alike m (state_of s.store) s.store.sound own q h) missing s.apart);
     }
 
 pub returns-in-Ok-Lead : goal.returns-in-Ok-Lead
@@ -38,7 +38,7 @@ returns-in-Ok-Lead g c =
     let own : ℕ × g.row.K.Denot = (c.args.hash, c.in-Ok.own) in
     let same : same_key eq own k ≡ true = rw (eq-eqb c.args.hash c.args.hash refl)
     (c.requires.clones c.args.key.now c.in-Ok.own c.in-Ok.ensures.cases) in
-    let alike : f.places own ≡ f.places k = places_alike g.met.K.Eq.laws s.inflights own k same in
+    let alike : f.by_key own ≡ f.by_key k = opens_alike g.met.K.Eq.laws s.inflights own k same in
     let numbers : HasNumbers s.store.limits.ids f k =
     subst (λ (n : ℕ). HasNumbers n f k) c.ids-ids.ensures (c.lacks.ensures.no c.if-lacks.false) in
     record {
@@ -46,7 +46,7 @@ returns-in-Ok-Lead g c =
         c.requires.missing,
         numbers,
         sym c.in-Ok-Lead.field-0-is ∙ c.in-Ok-Lead.ensures.answer
-            ∙ ap (λ (o : Option (Place g.row.N.Denot g.row.R.Denot)). enqueued o s.inflights.next_fetch
+            ∙ ap (λ (o : Option (OpenFetch g.row.N.Denot g.row.R.Denot)). enqueued o s.inflights.next_fetch
             s.inflights.next_token c.args.required) alike,
         refl,
         c.in-Ok-Lead.ensures.opens ∙ enqueued_alike g.met.K.Eq.laws f own k same alike c.args.waiter c.args.required,
@@ -62,7 +62,7 @@ returns-in-Ok-Wait g c =
     let own : ℕ × g.row.K.Denot = (c.args.hash, c.in-Ok.own) in
     let same : same_key eq own k ≡ true = rw (eq-eqb c.args.hash c.args.hash refl)
     (c.requires.clones c.args.key.now c.in-Ok.own c.in-Ok.ensures.cases) in
-    let alike : f.places own ≡ f.places k = places_alike g.met.K.Eq.laws s.inflights own k same in
+    let alike : f.by_key own ≡ f.by_key k = opens_alike g.met.K.Eq.laws s.inflights own k same in
     let numbers : HasNumbers s.store.limits.ids f k =
     subst (λ (n : ℕ). HasNumbers n f k) c.ids-ids.ensures (c.lacks.ensures.no c.if-lacks.false) in
     record {
@@ -70,7 +70,7 @@ returns-in-Ok-Wait g c =
         c.requires.missing,
         numbers,
         sym c.in-Ok-Wait.field-0-is ∙ c.in-Ok-Wait.ensures.answer
-            ∙ ap (λ (o : Option (Place g.row.N.Denot g.row.R.Denot)). enqueued o s.inflights.next_fetch
+            ∙ ap (λ (o : Option (OpenFetch g.row.N.Denot g.row.R.Denot)). enqueued o s.inflights.next_fetch
             s.inflights.next_token c.args.required) alike,
         refl,
         c.in-Ok-Wait.ensures.opens ∙ enqueued_alike g.met.K.Eq.laws f own k same alike c.args.waiter c.args.required,

@@ -3,7 +3,7 @@ use Rattle.foyer_core.specs.Inflight.{after_nothing}
 use Rattle.foyer_core.specs.Inflights.{opens_of}
 use Rattle.foyer_core.specs.Stores.{state_of}
 use Rattle.foyer_core.proofs.ApartLemmas.{nothing_apart, step_apart}
-use Rattle.foyer_core.proofs.InflightLemmas.{places_alike}
+use Rattle.foyer_core.proofs.InflightLemmas.{opens_alike}
 use Rattle.foyer_core.proofs.shard.Shard.fetch_or_take.Goals as goal
 
 pub invariant_of-self : goal.invariant_of-self
@@ -16,6 +16,6 @@ invariant_of-self g c =
     record {
       apart = step_apart index f (opens_of c.fetch_or_take.new.self) to c.fetch_or_take.result
           c.fetch_or_take.ensures.opens c.fetch_or_take.ensures.same s.apart
-          (nothing_apart g.K.PartialEq.eq index f k (λ q same. places_alike g.met.K.Eq.laws s.inflights k q same)
+          (nothing_apart g.K.PartialEq.eq index f k (λ q same. opens_alike g.met.K.Eq.laws s.inflights k q same)
           s.apart);
     }

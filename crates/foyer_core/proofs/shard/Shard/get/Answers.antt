@@ -21,5 +21,5 @@ invariant_of-self g c =
 pub returns-clause-asked : goal.returns-clause-asked
 returns-clause-asked g c =
     let s = c.args.self.now in
-    got_key (meaning_of s.store) (state_of s.store) s.store.kept (c.args.hash, c.args.key.now)
+    got_key (meaning_of s.store) (state_of s.store) s.store.sound (c.args.hash, c.args.key.now)
     (state_of c.get.new.self) c.get.result c.get.ensures.gets

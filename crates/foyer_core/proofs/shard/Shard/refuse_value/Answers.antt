@@ -57,7 +57,7 @@ returns-clause-completed g c source value =
           c.new-2.ensures.items j;
     }) in
     refused_ends m source old old f (opens_of c.take.new.self) k (of value) c.in-Some.ensures.opens
-    (asked (Some c.args.fetch) (f.places k)) c.in-Some.waiters.items c.in-Some.ensures.taken
+    (asked (Some c.args.fetch) (f.by_key k)) c.in-Some.waiters.items c.in-Some.ensures.taken
     (1 + count) many reason [] (ending_of c.refused.result) is
     (refusal_is m old (λ v. newcomer old (of v) (1 + count)) c.new_refusal-refusal.result
     c.new_refusal-refusal.ensures.some c.new_refusal-refusal.ensures.none value)

@@ -41,7 +41,7 @@ returns-in-Ok-clause-answers g c =
     c.in-Ok.ensures.returned
     made.entry.kept.hash made.entry.kept.key refl refl in
     rw (c.answer.ensures.waiters, c.answer.ensures.entries, c.answer.ensures.entry) (
-      ap (λ (q : ℕ × g.row.K.Denot). waiters_of (f.places q)) named,
+      ap (λ (q : ℕ × g.row.K.Denot). waiters_of (f.by_key q)) named,
       ap Some (c.in-Ok.ensures.others ∙ ap (λ (n : ℕ). replicate n made.entry) c.further_of-further.ensures.count),
     )
 

@@ -33,7 +33,7 @@ invariant_of-self g c =
     let s = c.args.self.now in
     let back = reindexed (meaning_of s) g.met.K.Eq.laws g.met.E.Eviction.lawful (holding s)
     (g.I.Finder.view c.put.new.self) c.in_err-put.ensures.err in
-    record { kept = back.kept0; stored = back.stored0; weighed = s.weighed; counted = s.counted; numbered = s.numbered }
+    record { sound = back.kept0; stored = back.stored0; weighed = s.weighed; counted = s.counted; numbered = s.numbered }
 
 pub returns-in_err-put-clause-err : goal.returns-in_err-put-clause-err
 returns-in_err-put-clause-err g c =
@@ -411,7 +411,7 @@ invariant_of-self-2 g c =
     (state s.number s.capacity s.limits (g.E.Eviction.view c.push_at.new.self) (g.I.Finder.view c.put.new.self)
     c.give_way-gone.new.records c.above-self.result) k) in
     record {
-      kept = done.kept3;
+      sound = done.kept3;
       stored = done.stored3;
       weighed = rw c.weight-weight.ensures done.weighed3;
       counted = rw (c.is_some.ensures, byte_is) done.counted3;

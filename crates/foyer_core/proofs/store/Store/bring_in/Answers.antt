@@ -138,7 +138,7 @@ admit-requires-clause-fits g c κs within b last h =
     last = subst
     (λ (d : Data g.row.K.Denot g.row.V.Denot g.row.P.Denot). GivesWay m
     ((state_of c.evict_onto.new.self).index (key_of d)) (state_of c.evict_onto.new.self) b last) kept h in
-    rw kept (∥∥₁_elim s.kept (hlevel props)
+    rw kept (∥∥₁_elim s.sound (hlevel props)
     (λ k. fits_after m g.met.K.Eq.laws g.met.E.Eviction.lawful (state_of s) k inc.kept went.more
     (state_of c.evict_onto.new.self) went.so b last way c.requires.may.2 (omega arith) (omega arith)))
 

@@ -19,7 +19,7 @@ invariant_of-self g c =
     (line m g.met.K.Eq.laws g.met.E.Eviction.lawful (holding s) c.args.items.now all keys t view
     c.clear.ensures.view) in
     record {
-      kept = cleared_kept m g.met.K.Eq.laws g.met.E.Eviction.lawful (holding s) c.args.items.now all keys t view
+      sound = cleared_kept m g.met.K.Eq.laws g.met.E.Eviction.lawful (holding s) c.args.items.now all keys t view
           c.clear.ensures.view left.more left.so;
       stored = cleared_stored m g.met.K.Eq.laws g.met.E.Eviction.lawful (holding s) c.args.items.now all keys t view
           c.clear.ensures.view left.more left.so (g.E.Eviction.at c.clear.new.self) c.clear.ensures.places;

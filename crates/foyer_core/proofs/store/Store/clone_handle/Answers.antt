@@ -52,7 +52,7 @@ invariant_of-self g c =
     let t = c.add_handle.new.self in
     let write = c.add_handle.ensures.slots x there in
     record {
-      kept = cloned_kept m g.met.K.Eq.laws g.met.E.Eviction.lawful (holding s) c.in-Some.slot x there t write
+      sound = cloned_kept m g.met.K.Eq.laws g.met.E.Eviction.lawful (holding s) c.in-Some.slot x there t write
           c.add_handle.ensures.ids (omega (arith, c.handles.ensures, c.if-handles-self.false));
       stored = cloned_stored m g.met.K.Eq.laws g.met.E.Eviction.lawful (holding s) c.in-Some.slot x there t write
           c.add_handle.ensures.ids;

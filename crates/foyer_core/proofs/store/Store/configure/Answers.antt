@@ -13,7 +13,7 @@ invariant_of-self g c =
     let v = g.E.Eviction.view c.tell_config.new.eviction in
     let same = c.tell_config.ensures.view in
     record {
-      kept = update_kept m g.met.K.Eq.laws g.met.E.Eviction.lawful (holding s) s.capacity config v same;
+      sound = update_kept m g.met.K.Eq.laws g.met.E.Eviction.lawful (holding s) s.capacity config v same;
       stored = still_stored m g.met.K.Eq.laws g.met.E.Eviction.lawful (holding s) (g.E.Eviction.view s.eviction) refl
           (g.E.Eviction.at c.tell_config.new.eviction) c.tell_config.ensures.places;
       weighed = update_weighed m g.met.K.Eq.laws g.met.E.Eviction.lawful (holding s) s.capacity config v same s.usage

@@ -33,7 +33,7 @@ invariant_of-self g c =
     let lawful = g.met.E.Eviction.lawful in
     let laws = g.met.K.Eq.laws in
     record {
-      kept = still_kept (meaning_of s) laws lawful (holding s) (g.E.Eviction.view c.pop_at.new.self)
+      sound = still_kept (meaning_of s) laws lawful (holding s) (g.E.Eviction.view c.pop_at.new.self)
           c.in_err-victim.ensures.err_view;
       stored = still_stored (meaning_of s) laws lawful (holding s) (g.E.Eviction.view c.pop_at.new.self)
           c.in_err-victim.ensures.err_view (g.E.Eviction.at c.pop_at.new.self) c.in_err-victim.ensures.err_places;
@@ -53,7 +53,7 @@ invariant_of-self-in_default g c =
     rw c.in_default.is at c.in_ok-victim.ensures.pops in
     let places = rw c.in_default.is at c.in_ok-victim.ensures.none in
     record {
-      kept = still_kept (meaning_of s) laws lawful (holding s) (g.E.Eviction.view c.pop_at.new.self) p.1;
+      sound = still_kept (meaning_of s) laws lawful (holding s) (g.E.Eviction.view c.pop_at.new.self) p.1;
       stored = still_stored (meaning_of s) laws lawful (holding s) (g.E.Eviction.view c.pop_at.new.self) p.1
           (g.E.Eviction.at c.pop_at.new.self) places;
       weighed = still_weighed (meaning_of s) laws lawful (holding s) (g.E.Eviction.view c.pop_at.new.self) p.1 s.usage
@@ -142,7 +142,7 @@ invariant_of-self-2 g c =
     let lighter = victim_lighter (meaning_of s) laws lawful (holding s) c.in-Some.victim.1 v p s.usage s.weighed in
     let fewer = victim_entries (meaning_of s) laws lawful (holding s) c.in-Some.victim.1 v p s.entries s.counted in
     record {
-      kept = victim_kept (meaning_of s) laws lawful (holding s) c.in-Some.victim.1 v p c.number-slot.result x known there
+      sound = victim_kept (meaning_of s) laws lawful (holding s) c.in-Some.victim.1 v p c.number-slot.result x known there
           c.leave.new.self (c.leave.ensures.slots x there) (c.leave.ensures.records x there)
           (g.E.Eviction.at c.pop_at.new.self) places (g.I.Finder.view c.take.new.self) gone;
       stored = victim_stored (meaning_of s) laws lawful (holding s) c.in-Some.victim.1 v p c.number-slot.result x known

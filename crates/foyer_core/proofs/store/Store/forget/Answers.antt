@@ -14,7 +14,7 @@ invariant_of-self g c =
     let needs : (x.handles ≡ 1) × (x.resident ≡ false) = rw there at c.requires in
     let t = c.forget-gone.new.self in
     record {
-      kept = forgot_kept m g.met.K.Eq.laws g.met.E.Eviction.lawful (holding s) c.args.slot x there needs.1 t
+      sound = forgot_kept m g.met.K.Eq.laws g.met.E.Eviction.lawful (holding s) c.args.slot x there needs.1 t
           c.forget-gone.ensures.slots c.forget-gone.ensures.records needs.0;
       stored = forgot_stored m g.met.K.Eq.laws g.met.E.Eviction.lawful (holding s) c.args.slot x there needs.1 t
           c.forget-gone.ensures.slots;

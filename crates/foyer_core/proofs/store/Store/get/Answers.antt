@@ -90,7 +90,7 @@ invariant_of-self-2 g c =
     rw at at c.acquire.ensures.view in
     let write = c.add_handle.ensures.slots x there in
     record {
-      kept = got_kept m laws lawful (holding s) (c.args.hash, c.args.key.now) c.in-Some.slot led x there
+      sound = got_kept m laws lawful (holding s) (c.args.hash, c.args.key.now) c.in-Some.slot led x there
           c.add_handle.new.self (g.E.Eviction.view c.acquire.new.self) viewed write c.add_handle.ensures.ids
           (omega (arith, c.handles.ensures, c.if-handles-self.false));
       stored = count_stored m (g.E.Eviction.at s.eviction) (g.I.Finder.view s.index) s.records

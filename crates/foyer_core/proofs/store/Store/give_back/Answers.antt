@@ -35,7 +35,7 @@ invariant_of-self g c =
     let t = c.take_handle.new.self in
     let write = c.take_handle.ensures.slots x there in
     record {
-      kept = took_kept m laws lawful (holding s) c.in-Some.slot x there t write c.take_handle.ensures.ids
+      sound = took_kept m laws lawful (holding s) c.in-Some.slot x there t write c.take_handle.ensures.ids
           (omega (arith, c.handles-handles.ensures, c.if-handles-gt1.true));
       stored = took_stored m laws lawful (holding s) c.in-Some.slot x there t write c.take_handle.ensures.ids
           (g.E.Eviction.at s.eviction) (λ p. refl);
@@ -99,7 +99,7 @@ invariant_of-self-2 g c =
     let t = c.take_handle-2.new.self in
     let write = c.take_handle-2.ensures.slots x there in
     record {
-      kept = released_kept m laws lawful (holding s) c.in-Some.slot x there t write c.take_handle-2.ensures.ids one
+      sound = released_kept m laws lawful (holding s) c.in-Some.slot x there t write c.take_handle-2.ensures.ids one
           res view viewed;
       stored = took_stored m laws lawful (holding s) c.in-Some.slot x there t write c.take_handle-2.ensures.ids
           (g.E.Eviction.at c.release.new.self) c.release.ensures.places;

@@ -21,7 +21,7 @@ invariant_of-self g c =
     let t = c.add_handles.new.self in
     let write = c.add_handles.ensures.slots x there in
     record {
-      kept = gained_kept m laws lawful (holding s) c.args.slot x there (1 + c.args.further.count) t write
+      sound = gained_kept m laws lawful (holding s) c.args.slot x there (1 + c.args.further.count) t write
           c.add_handles.ensures.ids (omega arith) (omega
           (arith, c.handles.ensures, c.passes_limit.ensures.within c.if-passes_limit.false));
       stored = gained_stored m laws lawful (holding s) c.args.slot x there (1 + c.args.further.count) t write

@@ -20,7 +20,7 @@ invariant_of-self g c =
     let next : c.above-self.result ≡ max s.next (inc.id + 1) = c.above-self.ensures
     ∙ ap (λ (a : ℕ). max s.next (a + 1)) c.id-id.ensures in
     record {
-      kept = held_kept m (holding s) inc n unled c.args.slot c.requires.apart c.put-place.new.self
+      sound = held_kept m (holding s) inc n unled c.args.slot c.requires.apart c.put-place.new.self
           c.put-place.ensures.slots c.put-place.ensures.records c.above-self.result next c.requires.out
           c.requires.held c.requires.handles;
       stored = held_stored m (holding s) inc n unled c.args.slot c.requires.apart c.put-place.new.self

@@ -26,7 +26,7 @@ take_out-requires-after_bounds g c κs within =
     let there : slot_in s.records c.in-Some.slot ≡ Some x = sym (rw c.in-Some-get.is at c.get.ensures) in
     let hit = hits m g.met.K.Eq.laws g.met.E.Eviction.lawful (holding s) k c.in-Some.slot
     (sym c.slot_under.ensures ∙ c.in-Some.is) x there in
-    rw c.id-id.ensures (∥∥₁_elim s.kept (hlevel props) (λ kept. (kept.indexed k x.id hit).0))
+    rw c.id-id.ensures (∥∥₁_elim s.sound (hlevel props) (λ kept. (kept.indexed k x.id hit).0))
 
 pub returns-clause-gives_way : goal.returns-clause-gives_way
 returns-clause-gives_way g c =

@@ -11,7 +11,7 @@ invariant_of-result g c =
     let t = c.new-2.result in
     let sound = c.in_ok-eviction.ensures.accepted in
     record {
-      kept = opened_kept m keys t c.requires c.new-2.ensures.slots c.new-2.ensures.ids g.met.K.Eq.laws
+      sound = opened_kept m keys t c.requires c.new-2.ensures.slots c.new-2.ensures.ids g.met.K.Eq.laws
           g.met.E.Eviction.lawful c.args.capacity c.args.config.now (g.E.Eviction.view s) sound
           c.in_ok-eviction.ensures.view c.args.number c.args.limits;
       stored = opened_stored m keys t c.requires c.new-2.ensures.slots c.new-2.ensures.ids (g.E.Eviction.at s)

@@ -10,7 +10,7 @@ invariant_of-self g c =
     let m = meaning_of s in
     let t = c.reserve.new.self in
     record {
-      kept = reserved_kept m (holding s) t c.reserve.ensures.slots c.reserve.ensures.ids
+      sound = reserved_kept m (holding s) t c.reserve.ensures.slots c.reserve.ensures.ids
           (g.E.Eviction.view s.eviction) refl;
       stored = reserved_stored m (holding s) t c.reserve.ensures.slots (g.E.Eviction.at s.eviction) (λ p. refl);
       weighed = s.weighed;
@@ -24,7 +24,7 @@ invariant_of-self-in_default g c =
     let m = meaning_of s in
     let t = c.reserve.new.self in
     record {
-      kept = reserved_kept m (holding s) t c.reserve.ensures.slots c.reserve.ensures.ids
+      sound = reserved_kept m (holding s) t c.reserve.ensures.slots c.reserve.ensures.ids
           (g.E.Eviction.view s.eviction) refl;
       stored = reserved_stored m (holding s) t c.reserve.ensures.slots (g.E.Eviction.at s.eviction) (λ p. refl);
       weighed = s.weighed;
@@ -39,7 +39,7 @@ invariant_of-self-2 g c =
     let t = c.reserve.new.self in
     let e = c.reserve_to.new.self in
     record {
-      kept = reserved_kept m (holding s) t c.reserve.ensures.slots c.reserve.ensures.ids (g.E.Eviction.view e)
+      sound = reserved_kept m (holding s) t c.reserve.ensures.slots c.reserve.ensures.ids (g.E.Eviction.view e)
           c.reserve_to.ensures.view;
       stored = reserved_stored m (holding s) t c.reserve.ensures.slots (g.E.Eviction.at e) c.reserve_to.ensures.places;
       weighed = rw c.reserve_to.ensures.view s.weighed;

@@ -10,7 +10,7 @@ invariant_of-self g c =
     let m = meaning_of s in
     let t = c.reserve-2.new.self in
     record {
-      kept = reserved_kept m (holding s) t c.reserve-2.ensures.slots c.reserve-2.ensures.ids
+      sound = reserved_kept m (holding s) t c.reserve-2.ensures.slots c.reserve-2.ensures.ids
           (g.E.Eviction.view s.eviction) refl;
       stored = reserved_stored m (holding s) t c.reserve-2.ensures.slots (g.E.Eviction.at s.eviction) (λ p. refl);
       weighed = s.weighed;

@@ -126,7 +126,7 @@ invariant_of-self g c =
     let there1 = more_there s.records c.add_handle.new.self c.in-Some.slot x write1 in
     let room : x.handles < s.limits.handles = omega (arith, c.handles.ensures, c.if-handles-self.false) in
     record {
-      kept = removed_kept m laws lawful (holding s) k c.in-Some.slot led x there room c.add_handle.new.self
+      sound = removed_kept m laws lawful (holding s) k c.in-Some.slot led x there room c.add_handle.new.self
           c.leave.new.self write1 c.add_handle.ensures.ids (c.leave.ensures.slots _ there1)
           (c.leave.ensures.records _ there1) (g.I.Finder.view c.take.new.self) c.take.ensures
           (g.E.Eviction.at c.remove-item.new.self) places view viewed;

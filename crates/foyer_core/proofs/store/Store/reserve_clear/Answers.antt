@@ -10,7 +10,7 @@ invariant_of-self g c =
     let view = g.E.Eviction.view c.reserve_clear.new.self in
     let same = c.reserve_clear.ensures.view in
     record {
-      kept = still_kept m g.met.K.Eq.laws g.met.E.Eviction.lawful (holding s) view same;
+      sound = still_kept m g.met.K.Eq.laws g.met.E.Eviction.lawful (holding s) view same;
       stored = still_stored m g.met.K.Eq.laws g.met.E.Eviction.lawful (holding s) view same
           (g.E.Eviction.at c.reserve_clear.new.self) c.reserve_clear.ensures.places;
       weighed = still_weighed m g.met.K.Eq.laws g.met.E.Eviction.lawful (holding s) view same s.usage s.weighed;

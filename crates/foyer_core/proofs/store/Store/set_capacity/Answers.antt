@@ -12,7 +12,7 @@ invariant_of-self g c =
     let v = g.E.Eviction.view c.tell_capacity.new.eviction in
     let same = c.tell_capacity.ensures.view in
     record {
-      kept = update_kept m g.met.K.Eq.laws g.met.E.Eviction.lawful (holding s) c.args.capacity None v same;
+      sound = update_kept m g.met.K.Eq.laws g.met.E.Eviction.lawful (holding s) c.args.capacity None v same;
       stored = still_stored m g.met.K.Eq.laws g.met.E.Eviction.lawful (holding s) (g.E.Eviction.view s.eviction) refl
           (g.E.Eviction.at c.tell_capacity.new.eviction) c.tell_capacity.ensures.places;
       weighed = update_weighed m g.met.K.Eq.laws g.met.E.Eviction.lawful (holding s) c.args.capacity None v same

@@ -95,7 +95,7 @@ invariant_of-self g c =
     let places : (p : ℕ) → g.E.Eviction.at c.remove-item.new.self p ≡ without x.id (g.E.Eviction.at s.eviction p) =
     λ p. c.remove-item.ensures.places p ∙ ap (λ (i : Item). without i.id (g.E.Eviction.at s.eviction p)) item in
     record {
-      kept = out_kept m laws lawful (holding s) c.args.id c.requires c.in-Some.slot known x there
+      sound = out_kept m laws lawful (holding s) c.args.id c.requires c.in-Some.slot known x there
           c.leave_slot.new.records (c.leave_slot.ensures.slots x there) (c.leave_slot.ensures.records x there)
           (g.E.Eviction.at c.remove-item.new.self) places (g.I.Finder.view c.leave_slot.new.index)
           (c.leave_slot.ensures.index x there) view viewed_id;

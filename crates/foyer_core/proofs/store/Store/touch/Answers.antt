@@ -62,7 +62,7 @@ invariant_of-self g c =
     x.handles (omega (arith, c.handles-handles.ensures, c.if-handles-gt0.true)) in
     let room : x.handles < s.limits.handles = omega (arith, c.handles-handles.ensures, c.if-handles-self.false) in
     record {
-      kept = touched_kept m laws lawful (holding s) k c.in-Some.slot led x there room view is;
+      sound = touched_kept m laws lawful (holding s) k c.in-Some.slot led x there room view is;
       stored = touched_stored m laws lawful (holding s) k c.in-Some.slot led x there room view is
           (g.E.Eviction.at c.acquire.new.self) c.acquire.ensures.places;
       weighed = touched_weight m laws lawful (holding s) k c.in-Some.slot led x there room view is s.usage s.weighed;
@@ -122,7 +122,7 @@ invariant_of-self-2 g c =
     x.id x.handles (omega (arith, c.handles-handles.ensures, c.if-handles-gt0.false)) in
     let room : x.handles < s.limits.handles = omega (arith, c.handles-handles.ensures, c.if-handles-self.false) in
     record {
-      kept = touched_kept m laws lawful (holding s) k c.in-Some.slot led x there room view is;
+      sound = touched_kept m laws lawful (holding s) k c.in-Some.slot led x there room view is;
       stored = touched_stored m laws lawful (holding s) k c.in-Some.slot led x there room view is
           (g.E.Eviction.at c.release.new.self) (λ p. c.release.ensures.places p ∙ c.acquire.ensures.places p);
       weighed = touched_weight m laws lawful (holding s) k c.in-Some.slot led x there room view is s.usage s.weighed;

@@ -1,7 +1,7 @@
 use Rattle.std.proofs.Math.Logic.{∥∥₁_elim, ∥∥₁_map}
 use Rattle.std.proofs.Props.{props}
 use Rattle.std.proofs.Common.{◌≡◌, ℕ, Some, length, refl, ap, arith}
-use Rattle.foyer_core.specs.CoreFetches.{place_in}
+use Rattle.foyer_core.specs.CoreFetches.{open_in}
 use Rattle.foyer_core.specs.Core.{shard_of}
 use Rattle.foyer_core.specs.Cores.{core_of, fetches_of, hashes_of}
 use Rattle.foyer_core.specs.Inflight.{asked}
@@ -51,7 +51,7 @@ invariant_of-self-clause-owns g c =
     (λ x there. ∥∥₁_elim (kept_at s.core k.0 x there) (hlevel props) (λ kept. next_unused m x kept))
     (hashes_of s.core) (g.W.Weighter.weighs s.core.weighter) (g.A.Filter.admits s.core.filter)
     (λ properties admitted. coming_in g.P.Properties.location_of g.P.Properties.with_phantom_of admitted properties)
-    c.args.source c.args.target (asked (Some c.args.fetch) (place_in (fetches_of s.core) k))
+    c.args.source c.args.target (asked (Some c.args.fetch) (open_in (fetches_of s.core) k))
     c.complete_in-ended.ensures.completed))
 
 pub invariant_of-self-clause-waits : goal.invariant_of-self-clause-waits

@@ -1,5 +1,5 @@
 use Rattle.std.proofs.Common.{◌≡◌, ◌∙◌, ℕ, Some, length, refl, ap, sym, arith}
-use Rattle.foyer_core.specs.CoreFetches.{at_hash, place_in}
+use Rattle.foyer_core.specs.CoreFetches.{at_hash, open_in}
 use Rattle.foyer_core.specs.Cores.{core_of, fetches_of, hashes_of}
 use Rattle.foyer_core.specs.Inflight.{after_nothing, asked}
 use Rattle.foyer_session.specs.Sessions.{session_of}
@@ -15,7 +15,7 @@ invariant_of-self-in-Fetch-1 g c =
     let s = c.args.self.now in
     let k : ℕ × g.row.K.Denot = (hashes_of s.core c.args.key.now, c.args.key.now) in
     let t = c.fetch_or_take.new.self in
-    let so = some_so (asked (Some c.args.fetch) (place_in (fetches_of s.core) k))
+    let so = some_so (asked (Some c.args.fetch) (open_in (fetches_of s.core) k))
     (rw c.in-Some-Fetch.field-0-is at c.in-Some-Fetch.ensures.answer) in
     record {
       owns = owns_still (core_of s.core) (core_of t) s.handles.items c.fetch_or_take.ensures.«core» s.owns;
@@ -28,7 +28,7 @@ pub overflow_sub-self : goal.overflow_sub-self
 overflow_sub-self g c =
     let s = c.args.self.now in
     let k : ℕ × g.row.K.Denot = (hashes_of s.core c.args.key.now, c.args.key.now) in
-    let so = some_so (asked (Some c.args.fetch) (place_in (fetches_of s.core) k))
+    let so = some_so (asked (Some c.args.fetch) (open_in (fetches_of s.core) k))
     (rw c.in-Some-Notifiers.field-0-is at c.in-Some-Notifiers.ensures.answer) in
     let few = asked_counted g.K.PartialEq.eq (fetches_of s.core) (open_at s.core) k c.args.fetch s.waiting (Some so.0)
     so.1 s.waits in
@@ -39,7 +39,7 @@ invariant_of-self-in-Some-Notifiers g c =
     let s = c.args.self.now in
     let k : ℕ × g.row.K.Denot = (hashes_of s.core c.args.key.now, c.args.key.now) in
     let t = c.fetch_or_take.new.self in
-    let so = some_so (asked (Some c.args.fetch) (place_in (fetches_of s.core) k))
+    let so = some_so (asked (Some c.args.fetch) (open_in (fetches_of s.core) k))
     (rw c.in-Some-Notifiers.field-0-is at c.in-Some-Notifiers.ensures.answer) in
     let few = asked_counted g.K.PartialEq.eq (fetches_of s.core) (open_at s.core) k c.args.fetch s.waiting (Some so.0)
     so.1 s.waits in

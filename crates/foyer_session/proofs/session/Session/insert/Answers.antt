@@ -3,7 +3,7 @@ use Rattle.std.proofs.Props.{props}
 use Rattle.std.proofs.Common.{◌≡◌, ◌+◌, ◌%◌, ◌++◌, ℕ, List, Ok, Err, length, refl, replicate, sym, ap, ◌∙◌, arith}
 use Rattle.foyer_policy.specs.declared.types.Source.TheVariants.{Outer}
 use Rattle.foyer_core.specs.Core.{InsertsAnswering, shard_of}
-use Rattle.foyer_core.specs.CoreFetches.{place_in}
+use Rattle.foyer_core.specs.CoreFetches.{open_in}
 use Rattle.foyer_core.specs.Cores.{core_of, fetches_of, hashes_of}
 use Rattle.foyer_core.specs.Inflight.{waiters_of}
 use Rattle.foyer_core.specs.Steps.{newcomer}
@@ -48,7 +48,7 @@ invariant_of-self-clause-owns g c =
     let did = c.in-Ok.ensures.inserted in
     let each = c.in-Ok.ensures.answers.0 in
     let hash = hashes_of s.core c.args.key in
-    let n : ℕ = 1 + length (waiters_of (place_in (fetches_of s.core) (hash, c.args.key))) in
+    let n : ℕ = 1 + length (waiters_of (open_in (fetches_of s.core) (hash, c.args.key))) in
     let d = data_of (terms_of s) (session_of s) c.args.key c.args.value c.args.properties did.weight did.admitted in
     rw (told.handles, each)
     (∥∥₁_elim (kept_at s.core hash did.inserts.before did.inserts.there) (hlevel props) (λ k. ∥∥₁_map s.owns (λ o.
@@ -80,7 +80,7 @@ invariant_of-self-in-Err-1 g c =
     let new = core_of c.insert_with_properties.new.self in
     let did = c.in-Err.ensures.inserted in
     let hash = hashes_of s.core c.args.key in
-    let n : ℕ = 1 + length (waiters_of (place_in (fetches_of s.core) (hash, c.args.key))) in
+    let n : ℕ = 1 + length (waiters_of (open_in (fetches_of s.core) (hash, c.args.key))) in
     let d = data_of (terms_of s) (session_of s) c.args.key c.args.value c.args.properties did.weight did.admitted in
     record {
       owns = ∥∥₁_map s.owns

@@ -3,7 +3,7 @@ use Rattle.std.proofs.Props.{props}
 use Rattle.std.proofs.Common.{◌≡◌, ◌+◌, ◌%◌, ◌++◌, ℕ, Some, Ok, Err, length, inl, inr, refl, replicate, sym, ap, ◌∙◌, arith}
 use Rattle.std.specs.Prelude.{slice_get}
 use Rattle.foyer_core.specs.Core.{shard_of}
-use Rattle.foyer_core.specs.CoreFetches.{place_in}
+use Rattle.foyer_core.specs.CoreFetches.{open_in}
 use Rattle.foyer_core.specs.Cores.{core_of, fetches_of, hashes_of}
 use Rattle.foyer_core.specs.Inflight.{waiters_of}
 use Rattle.foyer_core.specs.Pieces.{InsertsPiece, coming_under}
@@ -53,15 +53,15 @@ invariant_of-self-clause-owns g c =
     let place = shard_of (core_of s.core) hash in
     let weighs = g.W.Weighter.weighs s.core.weighter piece.kept.key piece.kept.value in
     let at = c.in-Ok-insert_piece.ensures.inserted in
-    let n : ℕ = 1 + length (waiters_of (place_in (fetches_of s.core) (coming_under at.before hash piece))) in
+    let n : ℕ = 1 + length (waiters_of (open_in (fetches_of s.core) (coming_under at.before hash piece))) in
     let each = c.in-Ok-insert_piece.ensures.answers.0 in
     let key = piece_key m at.before at.after weighs hash piece (made_of made) n at.stepped in
     let shape = told.handles ∙ ap (λ ws. s.handles.items ++ replicate (1 + length ws) (given made.entry))
-    (each ∙ ap (λ q. waiters_of (place_in (fetches_of s.core) q)) key) in
+    (each ∙ ap (λ q. waiters_of (open_in (fetches_of s.core) q)) key) in
     rw shape (∥∥₁_elim (kept_at s.core hash at.before at.there) (hlevel props) (λ k. ∥∥₁_map s.owns (λ o.
     given_owns m (core_of s.core) new s.handles.items o
     (λ a b. InsertsPiece m weighs hash piece
-    (1 + length (waiters_of (place_in (fetches_of s.core) (coming_under a hash piece)))) (Ok (made_of made)) a
+    (1 + length (waiters_of (open_in (fetches_of s.core) (coming_under a hash piece)))) (Ok (made_of made)) a
     b) hash at made.entry n
     (piece_gives m (length (core_of s.core).shards) place at.before at.after (s.core.belong place at.before at.there)
     weighs hash piece (made_of made) n at.stepped refl (next_unused m at.before k)))))
@@ -90,11 +90,11 @@ invariant_of-self-in-Err-insert_piece g c =
     let hash = hashes_of s.core piece.kept.key in
     let weighs = g.W.Weighter.weighs s.core.weighter piece.kept.key piece.kept.value in
     let at = c.in-Err.ensures.inserted in
-    let n : ℕ = 1 + length (waiters_of (place_in (fetches_of s.core) (coming_under at.before hash piece))) in
+    let n : ℕ = 1 + length (waiters_of (open_in (fetches_of s.core) (coming_under at.before hash piece))) in
     record {
       owns = ∥∥₁_map s.owns (λ o. stayed_owns m (core_of s.core) new s.handles.items o
           (λ a b. InsertsPiece m weighs hash piece
-          (1 + length (waiters_of (place_in (fetches_of s.core) (coming_under a hash piece))))
+          (1 + length (waiters_of (open_in (fetches_of s.core) (coming_under a hash piece))))
           (Err (denied_of c.in-Err.refused)) a b) hash at
           (piece_alike m at.before at.after weighs hash piece (denied_of c.in-Err.refused) n at.stepped));
       waits = (let s = c.args.self.now in still_waiting (fetches_of s.core) (fetches_of c.insert_piece.new.self)

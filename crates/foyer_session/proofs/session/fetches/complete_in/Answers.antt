@@ -1,5 +1,5 @@
 use Rattle.std.proofs.Common.{ℕ, Some}
-use Rattle.foyer_core.specs.CoreFetches.{place_in}
+use Rattle.foyer_core.specs.CoreFetches.{open_in}
 use Rattle.foyer_core.specs.Cores.{core_of, fetches_of, hashes_of, meaning_of_core}
 use Rattle.foyer_core.specs.Inflight.{asked}
 use Rattle.foyer_core.specs.State.{coming_in}
@@ -16,4 +16,4 @@ returns-clause-answering g c =
     (ending_of c.complete.result)
     (hashes_of s) (g.W.Weighter.weighs s.weighter) (g.A.Filter.admits s.filter)
     (λ properties admitted. coming_in g.P.Properties.location_of g.P.Properties.with_phantom_of admitted properties)
-    c.args.source c.args.target (asked (Some c.args.fetch) (place_in (fetches_of s) k)) c.complete.ensures.completed
+    c.args.source c.args.target (asked (Some c.args.fetch) (open_in (fetches_of s) k)) c.complete.ensures.completed

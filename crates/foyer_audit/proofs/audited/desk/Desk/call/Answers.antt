@@ -27,7 +27,7 @@ returns-clause-recorded g c =
       applied.1,
       applied.2,
       record {
-        kept = told.1;
+        copy = told.1;
         copies = c.copies-told.ensures made applied.0 stands;
         receipts = rw (c.push_reserved.ensures.items, c.reserve.ensures.items) refl;
       },
