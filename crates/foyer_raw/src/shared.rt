@@ -100,9 +100,16 @@ where
         self.hash_builder.hash_one(key)
     }
 
+    // The place of the shard in which the keys of a hash live.
+    pub(crate) fn shard_index(&self, hash: u64) -> usize
+        ensures { result < vec_len self.now.shards }
+    {
+        (hash % self.shards.len() as u64) as usize
+    }
+
     // The shard of a hash, locked. A lock that is free is had without waiting, which is cheaper.
     pub(crate) fn lock(&self, hash: u64) -> MutexGuard<'_, RawShard<E, K, V, P, R, I>> {
-        let place = (hash % self.shards.len() as u64) as usize;
+        let place = self.shard_index(hash);
         match self.shards[place].try_lock() {
             Some(shard) => shard,
             None => self.shards[place].lock(&self.rt),

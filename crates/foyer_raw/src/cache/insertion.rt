@@ -80,7 +80,7 @@ where
         let shares = self.shares.try_clone();
         let hash = self.hash(piece.key());
         let shared = &self.shares.shared;
-        let weight = shared.weighter.weigh(piece.key(), piece.value());
+        let weight = shared.weight_of(hash, &piece);
         let shares = match shares {
             Ok(shares) => shares,
             Err(refused) => {

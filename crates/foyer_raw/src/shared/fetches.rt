@@ -80,24 +80,31 @@ where
         self.lock(hash).complete(self.alloc, fetch, kept, source)
     }
 
-    // Ends an open fetch of a key, which has this hash, with a piece, whose key has the hash `own`, and for which the
-    // weighter gave this weight. F12 where the record for which the piece stands has another key.
+    // Ends an open fetch of a key, which has this hash, with a piece. F12 where the record for which the piece stands has
+    // another key, or lives in another shard. The weighter is asked of a piece that stands for none here and has this key.
     pub(crate) fn complete_piece(
         &self,
         hash: u64,
         key: &K,
         fetch: u64,
-        own: u64,
-        weight: usize,
         piece: Piece<K, V, P>,
     ) -> RawEnded<K, V, P>
         requires clones { (k c : K) → K.is_clone k c → K.eq c k ≡ true }
     {
+        let own = self.hash(piece.key());
+        let is_of_key = own == hash && *key == *piece.key();
+        let weight = if is_of_key {
+            self.weight_of(own, &piece)
+        } else {
+            0
+        };
         let mut shard = self.lock(hash);
-        if shard.stands_for(own, &piece, hash, key) {
+        if self.shard_index(own) == self.shard_index(hash)
+            && shard.stands_for(own, &piece, hash, key)
+        {
             return shard.complete_back(self.alloc, hash, key, fetch, piece);
         }
-        if own != hash || shard.knows(own, &piece) || *key != *piece.key() {
+        if !is_of_key || shard.knows(own, &piece) {
             let error = Error::new(Reason::WrongKey);
             return shard.end(self.alloc, hash, key, fetch, error);
         }

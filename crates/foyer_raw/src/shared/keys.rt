@@ -83,7 +83,17 @@ where
         self.lock(hash).emplace(self.alloc, kept, source)
     }
 
-    // Takes the record of a piece in, whose key has this hash, and for which the weighter gave this weight.
+    // The weight that the weighter gives a piece, whose key has this hash, and 0 of one that its shard knows, of which it
+    // is not asked. A piece that the shard knows once it knows from then on.
+    pub(crate) fn weight_of(&self, hash: u64, piece: &Piece<K, V, P>) -> usize {
+        let is_known = self.lock(hash).knows(hash, piece);
+        if is_known {
+            return 0;
+        }
+        self.weighter.weigh(piece.key(), piece.value())
+    }
+
+    // Takes the record of a piece in, whose key has this hash, and which has this weight if its shard does not know it.
     pub(crate) fn take(
         &self,
         hash: u64,

@@ -62,16 +62,10 @@ where
 
     // Ends the fetch with a piece.
     fn complete_piece(&self, key: &K, piece: Piece<K, V, P>) {
-        let own = self.shares.shared.hash(piece.key());
-        let weight = self
-            .shares
-            .shared
-            .weighter
-            .weigh(piece.key(), piece.value());
         let ended = self
             .shares
             .shared
-            .complete_piece(self.hash, key, self.id, own, weight, piece);
+            .complete_piece(self.hash, key, self.id, piece);
         self.shares.ended(ended);
     }
 
