@@ -7,7 +7,7 @@ use Rattle.foyer_policy.specs.Policy.{Policy}
 use Rattle.foyer_policy.specs.S3Fifo.{s3fifo}
 use Rattle.foyer_policy.specs.Sieve.{sieve}
 use Rattle.foyer_policy.specs.declared.error.Reason.{Reason}
-use Rattle.foyer_policy.specs.declared.error.Reason.TheVariants.{NoShards}
+use Rattle.foyer_policy.specs.declared.error.Reason.TheVariants.{NoShards, WrongPolicy}
 use Rattle.foyer_policy.specs.declared.fifo.FifoConfig.{FifoConfig}
 use Rattle.foyer_policy.specs.declared.sieve.SieveConfig.{SieveConfig}
 use Rattle.foyer_core.specs.declared.config.RawCacheConfig.{RawCacheConfig}
@@ -38,3 +38,12 @@ fault_of shards (Sieve c) = fault_with (sieve SieveConfig) shards c
 -- the first fault of what a builder is to make, where there is one
 abbrev pub build_fault : {S W A : Type 0} → RawCacheConfig EvictionConfig S W A → Option Reason
 build_fault config = fault_of config.shards config.eviction_config
+
+-- why a cache of this policy refuses to take this configuration while it runs, where it does
+abbrev pub reconfigure_fault : Kind → EvictionConfig → Option Reason
+reconfigure_fault of_fifo (Fifo c) = (fifo FifoConfig).fault c
+reconfigure_fault of_s3fifo (S3Fifo c) = s3fifo.fault c
+reconfigure_fault of_lru (Lru c) = lru.fault c
+reconfigure_fault of_lfu (Lfu c) = lfu.fault c
+reconfigure_fault of_sieve (Sieve c) = (sieve SieveConfig).fault c
+reconfigure_fault _ _ = Some WrongPolicy

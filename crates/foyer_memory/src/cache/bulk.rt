@@ -1,10 +1,14 @@
 //! What a cache does with all of its records.
 
 ghost use Rattle.std.specs.Prelude.{◌≡◌, IfSome};
+ghost use Rattle.foyer_policy.specs.Limit.{ok_unless};
+ghost use Rattle.foyer_memory.specs.Caches.{kind_of};
+ghost use Rattle.foyer_memory.specs.Faults.{reconfigure_fault};
 
 use super::Cache;
+use crate::config::EvictionConfig;
 use foyer_core::{Filter, Finder, Weighter};
-use foyer_policy::{EventListener, HashBuilder, Key, Properties, Result, Value};
+use foyer_policy::{Error, EventListener, HashBuilder, Key, Properties, Reason, Result, Value};
 use foyer_raw::{FetchTypes, Flush, FlushIf, Pipe};
 use std::sync::Wait;
 
@@ -56,6 +60,25 @@ where
             Cache::LruCache(cache) => cache.resize(capacity),
             Cache::LfuCache(cache) => cache.resize(capacity),
             Cache::SieveCache(cache) => cache.resize(capacity),
+        }
+    }
+
+    /// Tells each shard's policy in turn another configuration. It counts for what the policy does from then on, with the
+    /// capacity that the shard has, and for every later `resize`. Nothing leaves. Refused with F17 where it is a
+    /// configuration of another policy, and else with its first fault alone, F2 to F6; then nothing has changed in any
+    /// shard. It takes no memory, and takes turns with resizes.
+    pub fn reconfigure(&self, config: EvictionConfig) -> Result<()>
+        ensures { result ≡ ok_unless (reconfigure_fault (kind_of self.now) config) }
+    {
+        match (self, &config) {
+            (Cache::FifoCache(cache), EvictionConfig::Fifo(config)) => cache.reconfigure(config),
+            (Cache::S3FifoCache(cache), EvictionConfig::S3Fifo(config)) => {
+                cache.reconfigure(config)
+            }
+            (Cache::LruCache(cache), EvictionConfig::Lru(config)) => cache.reconfigure(config),
+            (Cache::LfuCache(cache), EvictionConfig::Lfu(config)) => cache.reconfigure(config),
+            (Cache::SieveCache(cache), EvictionConfig::Sieve(config)) => cache.reconfigure(config),
+            _ => Err(Error::new(Reason::WrongPolicy)),
         }
     }
 

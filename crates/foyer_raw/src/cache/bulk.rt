@@ -1,6 +1,7 @@
 //! What a cache does with all of its records.
 
-ghost use Rattle.std.specs.Prelude.{◌≡◌, IfSome};
+ghost use Rattle.std.specs.Prelude.{◌≡◌, IfSome, None};
+ghost use Rattle.foyer_policy.specs.Limit.{ok_unless};
 
 use super::RawCache;
 use crate::fetch::FetchTypes;
@@ -90,6 +91,28 @@ where
                 .evict_to_capacity(leaves)?;
         }
         Ok(())
+    }
+
+    /// Tells each shard's policy in turn another configuration. It counts for what the policy does from then on, with the
+    /// capacity that the shard has, and for every later `resize`. Nothing leaves. Refused with the configuration's first
+    /// fault alone, F2 to F6, and then nothing has changed in any shard. It takes no memory, and takes turns with resizes.
+    pub fn reconfigure(&self, config: &E::Config) -> Result<()>
+        ensures { result ≡ ok_unless (E.model.fault config.now) }
+    {
+        E::check(config)?;
+        let resizing = self.shares.shared.resizing.lock(&self.shares.shared.rt);
+        self.configure_each(config);
+        drop(resizing);
+        Ok(())
+    }
+
+    // Tells each shard's policy in turn another configuration, one that it accepts.
+    fn configure_each(&self, config: &E::Config)
+        requires { E.model.fault config.now ≡ None }
+    {
+        for shard in self.shares.shared.shards.as_slice() {
+            shard.lock(&self.shares.shared.rt).configure(config);
+        }
     }
 
     /// Evicts all that is not pinned, as `evict_all` does, tells the listener all of it, and hands all its pieces to the pipe,
