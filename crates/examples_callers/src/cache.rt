@@ -49,7 +49,7 @@ impl<K> Weighter<K, u64> for OwnWeight {
 }
 
 /// An LRU cache of one shard that holds nothing.
-pub fn lru(alloc: Global, capacity: usize) -> Result<Numbers<Lru>> {
+pub fn empty(alloc: Global, capacity: usize) -> Result<Numbers<Lru>> {
     let base = RawCacheConfig::new(capacity).with_weighter(OwnWeight);
     CacheCore::new(alloc, RawCacheConfig { shards: 1, ..base })
 }
