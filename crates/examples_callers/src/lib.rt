@@ -1,5 +1,6 @@
 //! Callers of the libraries, each proved from their public contracts alone.
 #![tactic(auto)]
 
+pub mod cache;
 pub mod policy;
 pub mod session;

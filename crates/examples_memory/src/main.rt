@@ -1,10 +1,13 @@
-//! A cache of squares: two callers wait for one fetch of what is missing, and a listener counts what leaves.
+//! A cache of squares: a listener counts what leaves, two callers wait for one fetch, and four threads share it.
 #![tactic(auto)]
 
-use examples_squares::{AllTasks, Counter, Squares, fetch, square};
+mod squares;
+
 use foyer_memory::CacheBuilder;
 use foyer_raw::ListSpawner;
 use futures::executor::block_on;
+use squares::{AllTasks, Counter, Squares, THREADS, fetch, found_by, square};
+use std::thread::map_indices;
 
 fn main(rt: HostRuntime) -> anyhow::Result<()> {
     let alloc = rt.alloc();
@@ -15,7 +18,7 @@ fn main(rt: HostRuntime) -> anyhow::Result<()> {
         .build(rt, alloc, &rt)?;
     for number in 1..5 {
         let entry = squares.insert(number, square(number))?;
-        println!(rt; "{} squared is {}", entry.key(), *entry)?;
+        println!(rt; "{number} squared is {}", *entry)?;
     }
     if let Some(entry) = squares.get(&4)? {
         println!(rt; "found {}", *entry)?;
@@ -29,5 +32,9 @@ fn main(rt: HostRuntime) -> anyhow::Result<()> {
     let (ann, ben) = (block_on(&rt, ann)??, block_on(&rt, ben)??);
     println!(rt; "Ann gets {}, Ben gets {}", *ann, *ben)?;
     println!(rt; "{} fetched, {} left", fetched.count(), gone.count())?;
+    squares.resize(500)?; // Four threads share the cache, with room for all that they put in.
+    for all in map_indices(&rt, alloc, THREADS, &|thread| found_by(&squares, thread))? {
+        println!(rt; "a thread found all of its squares: {}", all?)?;
+    }
     Ok(())
 }

@@ -2,12 +2,12 @@ use Rattle.std.proofs.Common.{rules, ◌≡◌, refl, ap, subst}
 use Rattle.std.specs.Prelude.{IsSomeAnd, Ok}
 use Rattle.foyer_policy.specs.Properties.{is_phantom}
 use Rattle.foyer_core.specs.Cores.{core_of}
-use Rattle.examples_lru.proofs.texts.put_and_get.Goals as goal
+use Rattle.examples_callers.proofs.cache.put_and_get.Goals as goal
 
 pub returns : goal.returns
-returns c =
+returns g c =
     let found = c.in_ok-entry.ensures.found
     (c.in_ok-entry.ensures.plain (λ p d. (ap (λ q. is_phantom q.phantom) d, refl)) (λ answer yes. yes))
-    c.args.name (search rules) (Ok c.in_ok-found.field-0) (core_of c.get-found.new.self)
+    c.args.key (search rules) (Ok c.in_ok-found.field-0) (core_of c.get-found.new.self)
     c.in_ok-found.ensures.gets in
-    subst (λ o. IsSomeAnd o (λ entry. entry.kept.value ≡ c.args.text)) c.unwrap.ensures found
+    subst (λ o. IsSomeAnd o (λ entry. entry.kept.value ≡ c.args.number)) c.unwrap.ensures found

@@ -1,7 +1,6 @@
-//! A cache of the squares of numbers, for the programs that show how a cache is called.
-#![tactic(auto)]
+//! A cache of the squares of numbers, what counts and fetches them, and what threads do that share it.
 
-ghost use Rattle.std.specs.Prelude.{◌≡◌, ◌*◌, IfOk};
+ghost use Rattle.std.specs.Prelude.{◌≡◌, ◌*◌, ◌<◌, IfOk};
 
 use foyer_core::{AdmitAll, UnitWeighter};
 use foyer_memory::{Cache, CacheProperties, FetchTarget};
@@ -12,6 +11,12 @@ use futures::task::{Context, Poll};
 use std::alloc::{AllocError, Global};
 use std::sync::atomic::{AtomicU64, Ordering};
 use std::sync::{Arc, Wait};
+
+/// How many threads share the cache.
+pub const THREADS: usize = 4;
+
+/// How many numbers each of them has.
+const EACH: u32 = 100;
 
 /// A cache of squares. It counts what leaves, and fetches what is missing.
 pub type Squares<H> = Cache<
@@ -121,4 +126,26 @@ pub fn put<H: Wait + Drop>(squares: &Squares<H>, number: u32) -> Result<u64>
 {
     let entry = squares.insert(number, square(number))?;
     Ok(*entry)
+}
+
+/// Puts the squares of a thread's numbers in and looks each up. Whether all were found.
+pub fn found_by<H: Wait + Drop>(squares: &Squares<H>, thread: usize) -> Result<bool>
+    requires { thread < THREADS }
+{
+    let first = thread as u32 * EACH;
+    for number in first..first + EACH {
+        if !put_and_find(squares, number)? {
+            return Ok(false);
+        }
+    }
+    Ok(true)
+}
+
+/// Puts the square of a number in and looks it up. Whether it was found.
+fn put_and_find<H: Wait + Drop>(squares: &Squares<H>, number: u32) -> Result<bool> {
+    put(squares, number)?;
+    match squares.get(&number)? {
+        Some(entry) => Ok(*entry == square(number)),
+        None => Ok(false),
+    }
 }
