@@ -192,6 +192,7 @@ where
         ensures kept { Keeps cx.old cx.new }
         ensures hit { is_miss self.old ≡ false → MatchOption (entry_of self.old) (result ≡ Poll.Ready (Err Spent)) (λ e. result ≡ Poll.Ready (Ok e)) }
         ensures spent { is_miss self.old ≡ false → (entry_of self.new ≡ None) × (is_miss self.new ≡ false) }
+        ensures kind { kind_of_look self.new ≡ kind_of_look self.old }
     {
         match self.poll_inner(cx) {
             Poll::Ready(Ok(Some(entry))) => Poll::Ready(Ok(entry)),
