@@ -1,8 +1,8 @@
 //! Cores of a cache: an example of each call, and what no contract says of them.
 
 use foyer_core::{
-    AdmitAll, Answers, CacheCore, CacheProperties, CoreEntry, Filter, Inserted, InsertedOnto, Left,
-    Limits, RawCacheConfig, UnitWeighter, Weighter,
+    AdmitAll, Answers, CacheCore, CacheProperties, CoreEntry, Filter, Finder, Inserted,
+    InsertedOnto, Left, Limits, Lookup, RawCacheConfig, TagFinder, UnitWeighter, Weighter,
 };
 use foyer_policy::{
     Error, Event, Eviction, Fifo, HashBuilder, Hint, ModHasher, Properties, Result, Source,
@@ -17,14 +17,13 @@ mod drops;
 mod entries;
 mod fetches;
 mod memory;
-mod pieces;
 mod refused;
 mod shards;
 
 type Done = std::result::Result<(), Fail>;
 
 // A core over numbers, where numbers wait for fetches and numbers build them.
-type Core<E = Fifo, W = UnitWeighter, A = AdmitAll> = CacheCore<
+type Core<E = Fifo, W = UnitWeighter, A = AdmitAll, I = TagFinder<u64>> = CacheCore<
     E,
     u64,
     u64,
@@ -34,11 +33,20 @@ type Core<E = Fifo, W = UnitWeighter, A = AdmitAll> = CacheCore<
     A,
     u64,
     u64,
+    I,
 >;
 
 type Entry = CoreEntry<u64, u64, CacheProperties>;
 
 type Leaves = Vec<(Event, Left<u64, u64, CacheProperties>)>;
+
+// A configuration of one shard.
+fn one_shard<C: Default>(capacity: usize) -> RawCacheConfig<C, ModHasher, UnitWeighter, AdmitAll> {
+    RawCacheConfig {
+        shards: 1,
+        ..RawCacheConfig::new(capacity)
+    }
+}
 
 // A core that holds nothing.
 fn core(alloc: Global, capacity: usize, shards: usize) -> Result<Core> {
@@ -50,9 +58,9 @@ fn core(alloc: Global, capacity: usize, shards: usize) -> Result<Core> {
 }
 
 // Puts a value in, for which nobody waits: its entry, and what left.
-fn put<E: Eviction, W: Weighter<u64, u64>, A: Filter<u64, u64>>(
+fn put<E: Eviction, W: Weighter<u64, u64>, A: Filter<u64, u64>, I: Finder<u64>>(
     rt: &impl Abort,
-    core: &mut Core<E, W, A>,
+    core: &mut Core<E, W, A, I>,
     key: u64,
     value: u64,
 ) -> (Entry, Leaves) {
@@ -61,9 +69,9 @@ fn put<E: Eviction, W: Weighter<u64, u64>, A: Filter<u64, u64>>(
 }
 
 // What came in, for which nobody waited: its entry, and what left.
-fn taken<E: Eviction, W: Weighter<u64, u64>, A: Filter<u64, u64>>(
+fn taken<E: Eviction, W: Weighter<u64, u64>, A: Filter<u64, u64>, I: Finder<u64>>(
     rt: &impl Abort,
-    core: &mut Core<E, W, A>,
+    core: &mut Core<E, W, A, I>,
     made: Inserted<u64, u64, CacheProperties, u64>,
 ) -> (Entry, Leaves) {
     let Inserted {
@@ -84,18 +92,18 @@ fn put_tenfold(rt: &impl Abort, core: &mut Core, key: u64) -> Leaves {
 }
 
 // An entry of a key that is in.
-fn found<E: Eviction, W: Weighter<u64, u64>, A: Filter<u64, u64>>(
+fn found<E: Eviction, W: Weighter<u64, u64>, A: Filter<u64, u64>, I: Finder<u64>>(
     rt: &impl Abort,
-    core: &mut Core<E, W, A>,
+    core: &mut Core<E, W, A, I>,
     key: u64,
 ) -> Entry {
     core.get(&key).expect(rt, "a get").expect(rt, "an entry")
 }
 
 // An entry that the core owns goes back, and nothing leaves with it.
-fn release<E: Eviction, W: Weighter<u64, u64>, A: Filter<u64, u64>>(
+fn release<E: Eviction, W: Weighter<u64, u64>, A: Filter<u64, u64>, I: Finder<u64>>(
     rt: &impl Abort,
-    core: &mut Core<E, W, A>,
+    core: &mut Core<E, W, A, I>,
     entry: Entry,
 ) {
     match core.give_back(entry) {
@@ -103,6 +111,40 @@ fn release<E: Eviction, W: Weighter<u64, u64>, A: Filter<u64, u64>>(
         Err(entry) => {
             entry.discard();
             panic!(rt; "the entry came back");
+        }
+    }
+}
+
+// What a look-up answers: the value of a hit, or the fetch where the one who asks leads, the token, and the builder
+// that came back.
+#[derive(Clone, Copy, PartialEq, Eq, Debug)]
+enum Asked {
+    Hit(u64),
+    Leads(u64, u64, Option<u64>),
+    Waits(u64),
+}
+
+// Asks for a key. The entry of a hit goes back.
+fn ask<E: Eviction, W: Weighter<u64, u64>, A: Filter<u64, u64>, I: Finder<u64>>(
+    rt: &impl Abort,
+    core: &mut Core<E, W, A, I>,
+    key: u64,
+    builder: Option<u64>,
+) -> Asked {
+    match core
+        .get_or_enqueue(&key, builder, key)
+        .expect(rt, "a look-up")
+    {
+        Lookup::Lead {
+            fetch,
+            token,
+            required,
+        } => Asked::Leads(fetch, token, required),
+        Lookup::Wait { token } => Asked::Waits(token),
+        Lookup::Hit(entry) => {
+            let value = *entry.value();
+            release(rt, core, entry);
+            Asked::Hit(value)
         }
     }
 }
@@ -124,7 +166,7 @@ fn gets_find_what_was_inserted(rt: HostRuntime) -> Done {
     for key in 0..100 {
         let entry = found(&rt, &mut core, key);
         assert_eq!(rt; (*entry.key(), *entry.value()), (key, key * 10));
-        assert_eq!(rt; (entry.source(), entry.weight()), (Source::Memory, 1));
+        assert_eq!(rt; (entry.source(), core.owns(&entry)), (Source::Memory, true));
         release(&rt, &mut core, entry);
     }
     assert!(rt; core.contains(&99) && !core.contains(&100));
@@ -174,8 +216,12 @@ fn a_phantom_record_leaves_with_its_last_handle(rt: HostRuntime) -> Done {
     Ok(())
 }
 
-// What left for an insert is behind what a list has. Nobody waits.
-fn settle(rt: &impl Abort, core: &mut Core, made: InsertedOnto<u64, u64, CacheProperties, u64>) {
+// What came in, for which nobody waited, goes back.
+fn settle<E: Eviction, W: Weighter<u64, u64>, A: Filter<u64, u64>, I: Finder<u64>>(
+    rt: &impl Abort,
+    core: &mut Core<E, W, A, I>,
+    made: InsertedOnto<u64, u64, CacheProperties, u64>,
+) {
     let InsertedOnto { entry, answers } = made;
     assert!(rt; answers.waiters.is_empty());
     core.drop_answers(answers);
@@ -197,23 +243,6 @@ fn leaves_go_onto_a_list(rt: HostRuntime) -> Done {
 }
 
 #[test]
-fn another_core_s_entry_comes_back(rt: HostRuntime) -> Done {
-    let mut one = core(rt.alloc(), 2, 1)?;
-    let config = RawCacheConfig {
-        number: 1,
-        ..RawCacheConfig::new(2)
-    };
-    let mut two: Core = CacheCore::new(rt.alloc(), config)?;
-    let (entry, _) = put(&rt, &mut one, 1, 10);
-    assert!(rt; one.owns(&entry) && !two.owns(&entry));
-    let Err(entry) = two.give_back(entry) else {
-        panic!(&rt; "another core's entry was taken");
-    };
-    release(&rt, &mut one, entry);
-    Ok(())
-}
-
-#[test]
 fn a_refusal_has_a_text(rt: HostRuntime) -> Done {
     let config = RawCacheConfig {
         limits: Limits { handles: 1, ids: 0 },
@@ -229,9 +258,10 @@ fn a_refusal_has_a_text(rt: HostRuntime) -> Done {
             let text = format!(in rt.alloc(); "{refused}")?;
             assert_eq!(rt; text.as_str(), "no number is left");
             let text = format!(in rt.alloc(); "{refused:?}")?;
-            let error = format!(in rt.alloc(); "{:?}", refused.error)?;
-            let wanted = format!(in rt.alloc(); "Refused {{ error: {error} }}")?;
-            assert_eq!(rt; text.as_str(), wanted.as_str());
+            assert_eq!(rt;
+                text.as_str(),
+                "Refused { error: Error { kind: Limit, reason: Ids } }"
+            );
             assert_eq!(rt; Error::from(refused).number(), 10);
         }
     }

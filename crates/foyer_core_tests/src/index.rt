@@ -24,24 +24,6 @@ fn a_slot_is_found_where_the_question_says_yes(rt: HostRuntime) -> Done {
     Ok(())
 }
 
-// So many that they are moved to more room several times.
-#[test]
-fn many_slots_have_room(rt: HostRuntime) -> Done {
-    let mut tags = Tags::new(rt.alloc());
-    for slot in 0..1000usize {
-        tags.reserve(1)?;
-        tags.insert(slot as u64 % 300, slot);
-    }
-    assert_eq!(rt; tags.len(), 1000);
-    for slot in 0..1000usize {
-        assert_eq!(rt;
-            tags.find(slot as u64 % 300, |other| other == slot),
-            Some(slot)
-        );
-    }
-    Ok(())
-}
-
 // Three keys of one hash, and one of them under another.
 fn keeps_keys_apart<I: Indexer<u64>>(rt: &impl Abort, index: &mut I) -> Done {
     for (hash, key, id) in [(7, 10, 1), (7, 20, 2), (7, 30, 3), (8, 10, 4)] {
@@ -98,13 +80,4 @@ fn keys_lead_to_slots_near_and_far(rt: HostRuntime) -> Done {
         leads_to(&rt, index, first, second)?;
     }
     leads_to(&rt, Indexed::from(Sentry::new(alloc)), 1, 2)
-}
-
-#[test]
-fn equal_texts_lead_to_one_slot(rt: HostRuntime) -> Done {
-    let mut tags: TagFinder<String> = TagFinder::empty(rt.alloc());
-    tags.put(1, "a".to_string(rt.alloc())?, None, 7)?;
-    let equal = "a".to_string(rt.alloc())?;
-    assert_eq!(rt; tags.find(1, &equal, |_| true), Some(7));
-    Ok(())
 }

@@ -23,52 +23,26 @@ fn ask(
     }
 }
 
+// The first builder that one who waits brings is kept, and given once.
 #[test]
 fn one_leads_and_others_wait(rt: HostRuntime) -> std::result::Result<(), Fail> {
     let mut fetches = Fetches::new(rt.alloc());
-    assert!(rt; fetches.is_empty());
+    assert!(rt; fetches.is_empty() && !fetches.lacks(7, &1, 1));
     assert_eq!(rt; ask(&mut fetches, 1, Some(5))?, (Some(0), 0, Some(5)));
     assert_eq!(rt; ask(&mut fetches, 1, Some(6))?, (None, 1, None));
     assert_eq!(rt; ask(&mut fetches, 2, None)?, (Some(1), 2, None));
     assert_eq!(rt; (fetches.waiters(7, &1), fetches.waiters(8, &1)), (2, 0));
-    assert!(rt; fetches.is_open(7, &1, 0) && !fetches.is_open(7, &1, 1));
-    let Some(waiters) = fetches.take(7, &1, Some(0)) else {
-        panic!(&rt; "nobody waits");
-    };
-    assert_eq!(rt; (waiters[0].token, waiters[0].waiter), (0, 101));
-    assert_eq!(rt; (waiters[1].token, waiters[1].waiter), (1, 101));
-    assert!(rt; !fetches.is_open(7, &1, 0) && fetches.is_open(7, &2, 1));
-    Ok(())
-}
-
-// The first builder that one who waits brings is kept, and given once.
-#[test]
-fn a_later_builder_is_given_once(rt: HostRuntime) -> std::result::Result<(), Fail> {
-    let mut fetches = Fetches::new(rt.alloc());
-    for builder in [Some(5), None, Some(6), Some(7)] {
-        ask(&mut fetches, 1, builder)?;
-    }
+    assert!(rt; fetches.is_open(7, &1, 0) && fetches.lacks(7, &1, 3));
     match fetches.fetch_or_take(7, &1, 0) {
         Some(FetchOrTake::Fetch(builder)) => assert_eq!(rt; builder, 6),
         _ => panic!(rt; "no builder was kept"),
     }
     match fetches.fetch_or_take(7, &1, 0) {
-        Some(FetchOrTake::Notifiers(waiters)) => assert_eq!(rt; waiters.len(), 4),
+        Some(FetchOrTake::Notifiers(waiters)) => assert_eq!(rt; waiters.len(), 2),
         _ => panic!(rt; "nobody waits"),
     }
+    let waiters = fetches.take(7, &2, Some(1)).expect(&rt, "an open fetch");
+    assert_eq!(rt; (waiters[0].token, waiters[0].waiter), (2, 102));
     assert!(rt; fetches.is_empty());
-    Ok(())
-}
-
-// A new fetch needs a number of its own, and each who waits a token.
-#[test]
-fn no_number_passes_the_limit(rt: HostRuntime) -> std::result::Result<(), Fail> {
-    let mut fetches = Fetches::new(rt.alloc());
-    ask(&mut fetches, 1, None)?;
-    assert!(rt; fetches.lacks(7, &1, 1) && !fetches.lacks(7, &1, 2));
-    match fetches.enqueue(7, 1, None, 0, 1) {
-        Ok(_) => panic!(rt; "a token passed the limit"),
-        Err(error) => assert_eq!(rt; error.number(), 10),
-    }
     Ok(())
 }

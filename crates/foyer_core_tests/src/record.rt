@@ -47,23 +47,14 @@ fn a_record_counts_handles_and_keeps_flags(rt: HostRuntime) -> std::result::Resu
 }
 
 #[test]
-fn a_piece_has_its_record_s_data(rt: HostRuntime) -> std::result::Result<(), Fail> {
-    let record = seven(rt.alloc())?;
-    let piece = Piece::new(&record, 4, 9)?;
-    drop(record);
-    let copy = piece.clone()?;
-    drop(piece);
-    assert_eq!(rt; (*copy.key(), *copy.value()), (7, 70));
-    assert_eq!(rt; (copy.properties().hint(), copy.hash()), (Hint::Low, 3));
-    Ok(())
-}
-
-#[test]
-fn records_pieces_and_targets_show_no_data(rt: HostRuntime) -> std::result::Result<(), Fail> {
+fn texts_of_records_pieces_and_targets_show_no_data(
+    rt: HostRuntime,
+) -> std::result::Result<(), Fail> {
     let record = seven(rt.alloc())?;
     let text = format!(in rt.alloc(); "{record:?}")?;
     assert_eq!(rt; text.as_str(), "Record { hash: 3 }");
-    let piece = Piece::new(&record, 4, 9)?;
+    let piece = Piece::new(&record, 4, 9)?.clone()?;
+    assert_eq!(rt; (*piece.key(), *piece.value(), piece.hash()), (7, 70, 3));
     let text = format!(in rt.alloc(); "{piece:?}")?;
     assert_eq!(rt; text.as_str(), "Piece { record: 9, hash: 3 }");
     let target: FetchTarget<u64, u64, CacheProperties> = FetchTarget::from(70);

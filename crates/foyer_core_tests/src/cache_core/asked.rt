@@ -1,7 +1,7 @@
 //! How often a weighter, a filter and a predicate are asked, and in which order.
 
 use super::*;
-use foyer_core::{Ended, FetchTarget, Lookup};
+use foyer_core::{Ended, FetchTarget};
 use std::sync::Arc;
 use std::sync::atomic::{AtomicU64, Ordering};
 
@@ -92,9 +92,7 @@ fn an_insert_asks_the_weighter_and_then_the_filter(rt: HostRuntime) -> Done {
     assert_eq!(rt; asked(&trail), 0);
     let mut leaves = Vec::new(rt.alloc());
     let made = core.insert_onto(4, 40, &mut leaves);
-    let InsertedOnto { entry, answers } = made.expect(&rt, "an insert");
-    core.drop_answers(answers);
-    release(&rt, &mut core, entry);
+    settle(&rt, &mut core, made.expect(&rt, "an insert"));
     assert_eq!(rt; asked(&trail), 12);
     Ok(())
 }
@@ -103,15 +101,7 @@ fn an_insert_asks_the_weighter_and_then_the_filter(rt: HostRuntime) -> Done {
 fn a_completion_asks_as_an_insert_does(rt: HostRuntime) -> Done {
     let trail = Arc::new(rt.alloc(), AtomicU64::new(0))?;
     let mut core = traced(rt.alloc(), &trail)?;
-    match core.get_or_enqueue(&1, None, 0)? {
-        Lookup::Hit(entry) => release(&rt, &mut core, entry),
-        Lookup::Lead {
-            fetch: _,
-            token: _,
-            required: _,
-        } => (),
-        Lookup::Wait { token: _ } => (),
-    }
+    ask(&rt, &mut core, 1, None);
     assert_eq!(rt; asked(&trail), 0);
     let Ended {
         found,

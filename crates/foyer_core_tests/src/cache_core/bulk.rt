@@ -39,11 +39,7 @@ fn a_smaller_capacity_evicts_and_a_clear_takes_all(rt: HostRuntime) -> Done {
 // What is held is pinned under LRU.
 #[test]
 fn what_is_pinned_survives(rt: HostRuntime) -> Done {
-    let config = RawCacheConfig {
-        shards: 1,
-        ..RawCacheConfig::new(5)
-    };
-    let mut core: Core<Lru> = CacheCore::new(rt.alloc(), config)?;
+    let mut core: Core<Lru> = CacheCore::new(rt.alloc(), one_shard(5))?;
     let ratio = Ratio { num: 1, den: 1 };
     core.reconfigure(&LruConfig {
         high_priority_pool_ratio: ratio,

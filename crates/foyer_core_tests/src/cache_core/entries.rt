@@ -1,4 +1,4 @@
-//! Entries: touches, removes and clones, and what leaves with them.
+//! Entries: touches, removes, clones, leaves and pieces.
 
 use super::*;
 
@@ -35,37 +35,51 @@ fn touches_keep_no_handle(rt: HostRuntime) -> Done {
     Ok(())
 }
 
+// An entry makes a leave of its record's data once.
 #[test]
 fn a_leave_has_its_record_s_data(rt: HostRuntime) -> Done {
     let mut core = core(rt.alloc(), 1, 1)?;
-    put_tenfold(&rt, &mut core, 7);
-    let mut leaves = put_tenfold(&rt, &mut core, 8);
-    let (event, left) = leaves.pop().expect(&rt, "a leave");
-    assert_eq!(rt;
-        (event, left.id(), *left.key(), *left.value()),
-        (Event::Evict, 0, 7, 70)
-    );
-    assert_eq!(rt;
-        (left.hash(), left.weight(), left.properties().hint()),
-        (7, 1, Hint::Normal)
-    );
-    assert!(rt; left.clone()? == left);
-    let piece = left.piece();
-    assert_eq!(rt; (*piece.key(), *piece.value()), (7, 70));
-    Ok(())
-}
-
-// An entry makes a leave of its record's data once.
-#[test]
-fn an_entry_tells_a_leave_once(rt: HostRuntime) -> Done {
-    let mut core = core(rt.alloc(), 1, 1)?;
     let (mut entry, _) = put(&rt, &mut core, 7, 70);
+    let left = entry.left().expect(&rt, "a leave");
+    assert!(rt; entry.left().is_none());
     assert_eq!(rt;
         (entry.hash(), entry.weight(), entry.properties().hint()),
         (7, 1, Hint::Normal)
     );
-    let left = entry.left().expect(&rt, "a leave");
-    assert!(rt; entry.left().is_none() && *left.value() == 70);
     release(&rt, &mut core, entry);
+    assert_eq!(rt;
+        (left.hash(), left.weight(), left.properties().hint()),
+        (7, 1, Hint::Normal)
+    );
+    let leaves = put_tenfold(&rt, &mut core, 8);
+    assert!(rt; leaves[0].1 == left && left.clone()? == left);
+    let piece = left.piece();
+    assert_eq!(rt;
+        (*piece.key(), *piece.value(), piece.properties().hint()),
+        (7, 70, Hint::Normal)
+    );
+    Ok(())
+}
+
+// Under its id: as one handle more where it is in, and else anew.
+#[test]
+fn a_piece_brings_its_record_back(rt: HostRuntime) -> Done {
+    let mut core = core(rt.alloc(), 1, 1)?;
+    let (first, _) = put(&rt, &mut core, 1, 10);
+    let piece = first.piece().expect(&rt, "a piece");
+    let made = core.insert_piece(first.piece().expect(&rt, "a piece"));
+    let (second, leaves) = taken(&rt, &mut core, made.expect(&rt, "an insert"));
+    assert_eq!(rt; (second.id(), core.refs(&first), leaves.len()), (0, 2, 0));
+    release(&rt, &mut core, first);
+    release(&rt, &mut core, second);
+    put_tenfold(&rt, &mut core, 2);
+    let made = core.insert_piece(piece);
+    let (third, leaves) = taken(&rt, &mut core, made.expect(&rt, "an insert"));
+    assert_eq!(rt;
+        (third.id(), *third.value(), third.source()),
+        (0, 10, Source::Memory)
+    );
+    release(&rt, &mut core, third);
+    assert_left(&rt, &leaves, &[(Event::Evict, 2)]);
     Ok(())
 }

@@ -1,42 +1,13 @@
 //! Fetches of missing keys.
 
 use super::*;
-use foyer_core::{Ended, FetchOrTake, FetchTarget, Lookup, Outcome};
+use foyer_core::{Ended, FetchOrTake, FetchTarget, Outcome};
 use foyer_policy::Fault;
 use std::sync::Arc;
 
 type Waited = Answers<u64, u64, CacheProperties, u64>;
 
 type End = Ended<u64, u64, CacheProperties, u64>;
-
-// What a look-up answers: the value of a hit, or the fetch where the one who asks leads, the token, and the builder
-// that came back.
-#[derive(Clone, Copy, PartialEq, Eq, Debug)]
-enum Asked {
-    Hit(u64),
-    Leads(u64, u64, Option<u64>),
-    Waits(u64),
-}
-
-// Asks for a key. The entry of a hit goes back.
-fn ask(rt: &impl Abort, core: &mut Core, key: u64, builder: Option<u64>) -> Asked {
-    match core
-        .get_or_enqueue(&key, builder, key)
-        .expect(rt, "a look-up")
-    {
-        Lookup::Lead {
-            fetch,
-            token,
-            required,
-        } => Asked::Leads(fetch, token, required),
-        Lookup::Wait { token } => Asked::Waits(token),
-        Lookup::Hit(entry) => {
-            let value = *entry.value();
-            release(rt, core, entry);
-            Asked::Hit(value)
-        }
-    }
-}
 
 // What those got who waited.
 #[derive(Clone, Copy, PartialEq, Eq, Debug)]
@@ -95,7 +66,7 @@ fn a_fetch_answers_all_who_wait(rt: HostRuntime) -> Done {
     Ok(())
 }
 
-// The overtaken fetch writes nothing.
+// The overtaken fetch writes nothing. Answers that nobody wants give their handles back.
 #[test]
 fn an_insert_overtakes_a_fetch(rt: HostRuntime) -> Done {
     let mut core = core(rt.alloc(), 4, 1)?;
@@ -108,8 +79,7 @@ fn an_insert_overtakes_a_fetch(rt: HostRuntime) -> Done {
         leaves,
     } = core.insert(7, 70).expect(&rt, "an insert");
     assert_eq!(rt; (core.refs(&entry), leaves.len()), (3, 0));
-    let answered = answered(&rt, &mut core, 7, answers);
-    assert_eq!(rt; answered, (2, Got::Value(70, Source::Outer)));
+    core.drop_answers(answers);
     assert_eq!(rt; core.refs(&entry), 1);
     release(&rt, &mut core, entry);
     let ended = core.complete(&7, 0, FetchTarget::from(69), Source::Outer);
@@ -175,24 +145,5 @@ fn a_fetch_fails_or_is_cancelled_or_finds_nothing(rt: HostRuntime) -> Done {
         _ => panic!(rt; "nobody waits"),
     }
     assert!(rt; core.fetch_or_take(&9, 2).is_none() && core.entries() == 0);
-    Ok(())
-}
-
-// Answers that nobody wants give their handles back.
-#[test]
-fn dropped_answers_keep_no_handle(rt: HostRuntime) -> Done {
-    let mut core = core(rt.alloc(), 4, 1)?;
-    for _ in 0..3 {
-        ask(&rt, &mut core, 7, None);
-    }
-    let Inserted {
-        entry,
-        answers,
-        leaves: _,
-    } = core.insert(7, 70).expect(&rt, "an insert");
-    assert_eq!(rt; core.refs(&entry), 4);
-    core.drop_answers(answers);
-    assert_eq!(rt; core.refs(&entry), 1);
-    release(&rt, &mut core, entry);
     Ok(())
 }

@@ -3,7 +3,7 @@
 
 use super::*;
 use crate::refusing::{RefusingIndex, RefusingPolicy};
-use foyer_core::{Finder, HashTableIndexer, Indexed, TagFinder};
+use foyer_core::{HashTableIndexer, Indexed};
 
 mod keys;
 
@@ -22,16 +22,10 @@ impl Weighter<u64, u64> for ByValue {
 }
 
 // A core each of whose shards has a policy that refuses the request of this number.
-type Hostile<const AT: u64, I = TagFinder<u64>> = CacheCore<
+type Hostile<const AT: u64, I = TagFinder<u64>> = Core<
     RefusingPolicy<Fifo, AT>,
-    u64,
-    u64,
-    CacheProperties,
-    ModHasher,
     ByValue,
     AdmitAll,
-    (),
-    (),
     I,
 >;
 
@@ -57,14 +51,9 @@ fn put_weight<const AT: u64, I: Finder<u64>>(
 ) -> (Option<u64>, Leaves) {
     match core.insert(key, weight) {
         Ok(made) => {
-            let Inserted {
-                entry,
-                answers,
-                leaves,
-            } = made;
-            core.drop_answers(answers);
+            let (entry, leaves) = taken(rt, core, made);
             let id = entry.id();
-            drop(core.drop_entry(entry));
+            release(rt, core, entry);
             (Some(id), leaves)
         }
         Err(refused) => {
@@ -115,66 +104,19 @@ fn a_refused_insert_has_evicted_a_beginning(rt: HostRuntime) -> Done {
     insert_is_refused::<NEVER, Refusing>(&rt, rt.alloc(), 3)
 }
 
-// The keys of two shards, of which the second has five: its policy alone is asked as often as five times.
-const KEYS: [u64; 6] = [0, 1, 3, 5, 7, 9];
-
-// A core of two shards with these keys.
-fn filled<const AT: u64>(rt: &impl Abort, alloc: Global) -> Result<Hostile<AT>> {
-    let mut core = hostile(alloc, 64, 2)?;
-    for key in KEYS {
-        assert!(rt; put_weight(rt, &mut core, key, 1).0.is_some());
-    }
-    Ok(core)
-}
-
+// Of two shards the second has five records: its policy alone is asked as often as five times.
 #[test]
 fn a_refused_eviction_of_all_has_a_beginning(rt: HostRuntime) -> Done {
-    let mut core: Hostile<7> = filled(&rt, rt.alloc())?;
+    let keys = [0, 1, 3, 5, 7, 9];
+    let mut core: Hostile<7> = hostile(rt.alloc(), 64, 2)?;
+    for key in keys {
+        assert!(rt; put_weight(&rt, &mut core, key, 1).0.is_some());
+    }
     let Err(refused) = core.evict_all() else {
         panic!(&rt; "the eviction is not refused");
     };
     assert_eq!(rt; (refused.error.number(), core.usage()), (7, 3));
-    assert_evicted(&rt, &refused.leaves, &KEYS[..3]);
-    assert_evicted(&rt, &core.evict_all()?, &KEYS[3..]);
-    Ok(())
-}
-
-#[test]
-fn a_refused_resize_has_set_the_capacity(rt: HostRuntime) -> Done {
-    let mut core: Hostile<9> = filled(&rt, rt.alloc())?;
-    let Err(refused) = core.resize(0) else {
-        panic!(&rt; "the resize is not refused");
-    };
-    assert_eq!(rt; (refused.error.number(), core.capacity()), (7, 0));
-    assert_evicted(&rt, &refused.leaves, &KEYS[..5]);
-    assert_evicted(&rt, &core.resize(0)?, &KEYS[5..]);
-    Ok(())
-}
-
-// A clear asks each shard's policy for room, and then for the order.
-fn clear_is_refused<const AT: u64>(rt: &impl Abort, alloc: Global) -> Done {
-    let mut core: Hostile<AT> = filled(rt, alloc)?;
-    let Err(error) = core.clear() else {
-        panic!(rt; "the clear is not refused");
-    };
-    assert_eq!(rt; (error.number(), core.usage(), core.entries()), (7, 6, 6));
-    assert_eq!(rt; (core.clear()?.len(), core.usage()), (6, 0));
-    Ok(())
-}
-
-#[test]
-fn a_refused_clear_changes_no_shard(rt: HostRuntime) -> Done {
-    clear_is_refused::<5>(&rt, rt.alloc())?;
-    clear_is_refused::<6>(&rt, rt.alloc())
-}
-
-#[test]
-fn a_refused_flush_changes_no_shard(rt: HostRuntime) -> Done {
-    let mut core: Hostile<5> = filled(&rt, rt.alloc())?;
-    let Err(error) = core.flush_if(&|key, _| *key < 4) else {
-        panic!(&rt; "the flush is not refused");
-    };
-    assert_eq!(rt; (error.number(), core.usage(), core.entries()), (7, 6, 6));
-    assert_evicted(&rt, &core.flush_if(&|key, _| *key < 4)?, &KEYS[..3]);
+    assert_evicted(&rt, &refused.leaves, &keys[..3]);
+    assert_evicted(&rt, &core.evict_all()?, &keys[3..]);
     Ok(())
 }

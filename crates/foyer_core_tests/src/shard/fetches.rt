@@ -95,26 +95,18 @@ fn a_piece_brings_its_record(rt: HostRuntime) -> Done {
     let mut shard = three(&rt, alloc)?;
     let mut other: Over<Lru> = empty(alloc, Limits::default(), &LruConfig::default())?;
     let piece = taken_piece(&rt, &mut shard, 2);
-    assert!(rt; shard.knows(2, &piece) && !other.knows(2, &piece));
-    assert!(rt; shard.is_under(2, &piece, &2) && !shard.is_under(2, &piece, &3));
+    assert!(rt; shard.knows(2, &piece) && shard.is_under(2, &piece, &2));
     assert!(rt; shard.stands_for(2, &piece, 2, &2) && !other.stands_for(2, &piece, 2, &2));
     let made = other.take_new(alloc, piece.clone()?, 2, 3);
     assert_eq!(rt;
         settled(&rt, &mut other, made.expect(&rt, "a new record")),
         0
     );
-    let made = shard.take_back(alloc, piece);
+    let made = shard.take_back(alloc, piece.clone()?);
     assert_eq!(rt; settled(&rt, &mut shard, made.expect(&rt, "a record")), 0);
     assert!(rt; shard.contains(2, &2) && other.contains(2, &2));
-    Ok(())
-}
-
-#[test]
-fn a_fetch_ends_with_a_piece(rt: HostRuntime) -> Done {
-    let alloc = rt.alloc();
-    let mut shard = three(&rt, alloc)?;
-    let mut other: Over<Lru> = empty(alloc, Limits::default(), &LruConfig::default())?;
-    let piece = taken_piece(&rt, &mut shard, 2);
+    take_out(&rt, &mut shard, 2);
+    take_out(&rt, &mut other, 2);
     let fetch = lead(&rt, &mut other, 2);
     let ended = other.complete_new(alloc, fetch, piece.clone()?, 2, 3);
     assert_eq!(rt; answered(&rt, &mut other, ended), 1);
