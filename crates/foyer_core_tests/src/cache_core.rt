@@ -1,15 +1,15 @@
 //! Cores of a cache: an example of each call, and what no contract says of them.
 
+use crate::testing::{Done, Entry, Leaves, assert_left};
 use foyer_core::{
-    AdmitAll, Answers, CacheCore, CacheProperties, CoreEntry, Filter, Finder, Inserted,
-    InsertedOnto, Left, Limits, Lookup, RawCacheConfig, TagFinder, UnitWeighter, Weighter,
+    AdmitAll, CacheCore, CacheProperties, Filter, Finder, Inserted, InsertedOnto, Limits, Lookup,
+    RawCacheConfig, TagFinder, UnitWeighter, Weighter,
 };
 use foyer_policy::{
     Error, Event, Eviction, Fifo, HashBuilder, Hint, ModHasher, Properties, Result, Source,
 };
 use std::alloc::Global;
 use std::process::Abort;
-use std::test::Fail;
 
 mod asked;
 mod bulk;
@@ -19,8 +19,6 @@ mod fetches;
 mod memory;
 mod refused;
 mod shards;
-
-type Done = std::result::Result<(), Fail>;
 
 // A core over numbers, where numbers wait for fetches and numbers build them.
 type Core<E = Fifo, W = UnitWeighter, A = AdmitAll, I = TagFinder<u64>> = CacheCore<
@@ -35,10 +33,6 @@ type Core<E = Fifo, W = UnitWeighter, A = AdmitAll, I = TagFinder<u64>> = CacheC
     u64,
     I,
 >;
-
-type Entry = CoreEntry<u64, u64, CacheProperties>;
-
-type Leaves = Vec<(Event, Left<u64, u64, CacheProperties>)>;
 
 // A configuration of one shard.
 fn one_shard<C: Default>(capacity: usize) -> RawCacheConfig<C, ModHasher, UnitWeighter, AdmitAll> {
@@ -146,14 +140,6 @@ fn ask<E: Eviction, W: Weighter<u64, u64>, A: Filter<u64, u64>, I: Finder<u64>>(
             release(rt, core, entry);
             Asked::Hit(value)
         }
-    }
-}
-
-// These left, in this order.
-fn assert_left(rt: &impl Abort, leaves: &Leaves, told: &[(Event, u64)]) {
-    assert_eq!(rt; leaves.len(), told.len());
-    for ((event, left), (reason, key)) in leaves.iter().zip(told) {
-        assert_eq!(rt; (*event, *left.key()), (*reason, *key));
     }
 }
 

@@ -1,10 +1,8 @@
 //! What leads from a key to its record: tags, indexes and finders.
 
+use crate::testing::Done;
 use foyer_core::{Finder, HashTableIndexer, Indexed, Indexer, Sentry, TagFinder, Tags};
 use std::process::Abort;
-use std::test::Fail;
-
-type Done = std::result::Result<(), Fail>;
 
 #[test]
 fn a_slot_is_found_where_the_question_says_yes(rt: HostRuntime) -> Done {

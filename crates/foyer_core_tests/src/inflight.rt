@@ -1,8 +1,8 @@
 //! Open fetches of missing keys, and who waits for them.
 
+use crate::testing::Done;
 use foyer_core::{Enqueue, FetchOrTake, InflightManager};
 use foyer_policy::Result;
-use std::test::Fail;
 
 // Numbers wait, and builders are numbers.
 type Fetches = InflightManager<u64, u64, u64>;
@@ -25,7 +25,7 @@ fn ask(
 
 // The first builder that one who waits brings is kept, and given once.
 #[test]
-fn one_leads_and_others_wait(rt: HostRuntime) -> std::result::Result<(), Fail> {
+fn one_leads_and_others_wait(rt: HostRuntime) -> Done {
     let mut fetches = Fetches::new(rt.alloc());
     assert!(rt; fetches.is_empty() && !fetches.lacks(7, &1, 1));
     assert_eq!(rt; ask(&mut fetches, 1, Some(5))?, (Some(0), 0, Some(5)));

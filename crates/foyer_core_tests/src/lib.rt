@@ -12,3 +12,5 @@ mod record;
 pub mod refusing;
 #[cfg(test)]
 mod shard;
+#[cfg(test)]
+mod testing;

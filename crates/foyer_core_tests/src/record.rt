@@ -1,9 +1,9 @@
 //! Records, their properties, and pieces of records that no core has.
 
+use crate::testing::Done;
 use foyer_core::{CacheProperties, Data, FetchTarget, Flags, Piece, Record, marked};
 use foyer_policy::{Age, Hint, Location, Properties, Result};
 use std::alloc::Global;
-use std::test::Fail;
 
 // A record of the key 7.
 fn seven(alloc: Global) -> Result<Record<u64, u64, CacheProperties>> {
@@ -18,7 +18,7 @@ fn seven(alloc: Global) -> Result<Record<u64, u64, CacheProperties>> {
 }
 
 #[test]
-fn a_record_has_what_it_was_made_of(rt: HostRuntime) -> std::result::Result<(), Fail> {
+fn a_record_has_what_it_was_made_of(rt: HostRuntime) -> Done {
     let record = seven(rt.alloc())?;
     assert_eq!(rt; (*record.key(), *record.value()), (7, 70));
     assert_eq!(rt; record.properties().hint(), Hint::Low);
@@ -29,7 +29,7 @@ fn a_record_has_what_it_was_made_of(rt: HostRuntime) -> std::result::Result<(), 
 }
 
 #[test]
-fn a_record_counts_handles_and_keeps_flags(rt: HostRuntime) -> std::result::Result<(), Fail> {
+fn a_record_counts_handles_and_keeps_flags(rt: HostRuntime) -> Done {
     let mut record = seven(rt.alloc())?;
     assert_eq!(rt; record.inc_refs(2, 2)?, 2);
     assert!(rt; record.inc_refs(1, 2).is_err());
@@ -47,9 +47,7 @@ fn a_record_counts_handles_and_keeps_flags(rt: HostRuntime) -> std::result::Resu
 }
 
 #[test]
-fn texts_of_records_pieces_and_targets_show_no_data(
-    rt: HostRuntime,
-) -> std::result::Result<(), Fail> {
+fn texts_of_records_pieces_and_targets_show_no_data(rt: HostRuntime) -> Done {
     let record = seven(rt.alloc())?;
     let text = format!(in rt.alloc(); "{record:?}")?;
     assert_eq!(rt; text.as_str(), "Record { hash: 3 }");

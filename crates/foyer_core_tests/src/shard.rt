@@ -1,25 +1,18 @@
 //! One shard by itself: an example of each call that a core doesn't make alone.
 
+use crate::testing::{Done, Entry, assert_left};
 use foyer_core::{
-    Answers, CacheProperties, CoreEntry, Data, Finder, Inserted, InsertedOnto, Left, Limits, Shard,
-    TagFinder,
+    Answers, CacheProperties, Data, Finder, Inserted, InsertedOnto, Limits, Shard, TagFinder,
 };
 use foyer_policy::{Event, Eviction, Fifo, FifoConfig, Lru, LruConfig, Reason, Result, Source};
 use std::alloc::Global;
 use std::process::Abort;
-use std::test::Fail;
 
 mod ending;
 mod fetches;
 
-type Done = std::result::Result<(), Fail>;
-
 // A shard over numbers, where numbers wait for fetches and numbers build them.
 type Over<E> = Shard<E, u64, u64, CacheProperties, u64, u64, TagFinder<u64>>;
-
-type Entry = CoreEntry<u64, u64, CacheProperties>;
-
-type Leaves = Vec<(Event, Left<u64, u64, CacheProperties>)>;
 
 // A shard of capacity 5 that holds nothing.
 fn empty<E: Eviction>(alloc: Global, limits: Limits, config: &E::Config) -> Result<Over<E>> {
@@ -111,37 +104,6 @@ fn take_out<E: Eviction>(rt: &impl Abort, shard: &mut Over<E>, key: u64) {
     release(rt, shard, entry);
 }
 
-// What left, as reasons and keys.
-fn told(alloc: Global, leaves: &Leaves) -> std::result::Result<Vec<(Event, u64)>, Fail> {
-    let mut told = Vec::new(alloc);
-    for (event, left) in leaves {
-        told.push((*event, *left.key()))?;
-    }
-    Ok(told)
-}
-
-#[test]
-fn a_shard_counts_what_is_in(rt: HostRuntime) -> Done {
-    let mut shard = three(&rt, rt.alloc())?;
-    assert_eq!(rt;
-        (shard.usage(), shard.entries(), shard.fits()),
-        (4, 3, true)
-    );
-    let first = hold(&rt, &mut shard, 2);
-    let second = shard.clone_handle(&first).expect(&rt, "a clone");
-    assert!(rt; shard.owns(&second) && shard.refs(&first) == 2);
-    take_out(&rt, &mut shard, 2);
-    assert!(rt; shard.is_outdated(&first) && !shard.contains(2, &2));
-    release(&rt, &mut shard, first);
-    release(&rt, &mut shard, second);
-    assert!(rt; shard.touch(1, &1)? && !shard.touch(2, &2)?);
-    assert_eq!(rt;
-        (shard.usage(), shard.entries(), shard.fits()),
-        (1, 2, true)
-    );
-    Ok(())
-}
-
 // What leaves goes behind what a list has.
 #[test]
 fn leaves_go_onto_a_list(rt: HostRuntime) -> Done {
@@ -153,16 +115,15 @@ fn leaves_go_onto_a_list(rt: HostRuntime) -> Done {
     assert_eq!(rt; all_back(&rt, &mut shard, answers), 0);
     release(&rt, &mut shard, entry);
     shard.clear_onto(&mut leaves)?;
-    let told = told(rt.alloc(), &leaves)?;
-    assert_eq!(rt;
-        told.as_slice(),
-        [
+    assert_left(
+        &rt,
+        &leaves,
+        &[
             (Event::Evict, 2),
             (Event::Evict, 1),
             (Event::Evict, 3),
             (Event::Clear, 4),
-        ]
-        .as_slice()
+        ],
     );
     Ok(())
 }
@@ -180,13 +141,13 @@ fn records_are_evicted_by_weight(rt: HostRuntime) -> Done {
     shard.evict_onto(&mut leaves, 2)?;
     put(&rt, rt.alloc(), &mut shard, 5, 1);
     shard.set_capacity(1);
-    assert_eq!(rt; shard.entries(), 2);
+    assert_eq!(rt; (shard.entries(), shard.fits()), (2, true));
     shard.evict_to_capacity(&mut leaves)?;
     shard.evict_unpinned(&mut leaves)?;
-    let told = told(rt.alloc(), &leaves)?;
-    assert_eq!(rt;
-        told.as_slice(),
-        [(Event::Evict, 3), (Event::Evict, 4), (Event::Evict, 5)].as_slice()
+    assert_left(
+        &rt,
+        &leaves,
+        &[(Event::Evict, 3), (Event::Evict, 4), (Event::Evict, 5)],
     );
     Ok(())
 }
@@ -201,10 +162,10 @@ fn bulk_calls_have_two_steps(rt: HostRuntime) -> Done {
     shard.evict_picked(&picked, &mut leaves);
     let items = shard.reserve_clear()?;
     shard.clear(&items, &mut leaves);
-    let told = told(rt.alloc(), &leaves)?;
-    assert_eq!(rt;
-        told.as_slice(),
-        [(Event::Evict, 2), (Event::Clear, 1), (Event::Clear, 3)].as_slice()
+    assert_left(
+        &rt,
+        &leaves,
+        &[(Event::Evict, 2), (Event::Clear, 1), (Event::Clear, 3)],
     );
     let mut shard = three(&rt, rt.alloc())?;
     assert_eq!(rt;

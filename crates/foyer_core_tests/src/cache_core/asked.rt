@@ -4,6 +4,7 @@ use super::*;
 use foyer_core::{Ended, FetchTarget};
 use std::sync::Arc;
 use std::sync::atomic::{AtomicU64, Ordering};
+use std::test::Fail;
 
 // Who was asked, in order: the weighter writes a digit 1 behind the others, and the filter a digit 2.
 type Trail = Arc<AtomicU64, Global>;

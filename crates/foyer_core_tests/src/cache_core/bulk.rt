@@ -21,21 +21,6 @@ fn what_a_predicate_takes_leaves_in_order(rt: HostRuntime) -> Done {
     Ok(())
 }
 
-#[test]
-fn a_smaller_capacity_evicts_and_a_clear_takes_all(rt: HostRuntime) -> Done {
-    let mut core = core(rt.alloc(), 8, 2)?;
-    for key in 0..4 {
-        put_tenfold(&rt, &mut core, key);
-    }
-    let leaves = core.resize(2)?;
-    assert_left(&rt, &leaves, &[(Event::Evict, 0), (Event::Evict, 1)]);
-    assert_eq!(rt; (core.usage(), core.capacity()), (2, 2));
-    let leaves = core.clear()?;
-    assert_left(&rt, &leaves, &[(Event::Clear, 2), (Event::Clear, 3)]);
-    assert_eq!(rt; (core.usage(), core.entries()), (0, 0));
-    Ok(())
-}
-
 // What is held is pinned under LRU.
 #[test]
 fn what_is_pinned_survives(rt: HostRuntime) -> Done {

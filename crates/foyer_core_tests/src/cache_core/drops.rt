@@ -1,6 +1,7 @@
 //! Each value is dropped once, by whoever has it last.
 
 use super::*;
+use foyer_core::CoreEntry;
 use std::sync::Arc;
 use std::sync::atomic::{AtomicU64, Ordering};
 

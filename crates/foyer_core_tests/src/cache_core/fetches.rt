@@ -1,11 +1,9 @@
 //! Fetches of missing keys.
 
 use super::*;
-use foyer_core::{Ended, FetchOrTake, FetchTarget, Outcome};
+use foyer_core::{Ended, FetchOrTake, FetchTarget};
 use foyer_policy::Fault;
 use std::sync::Arc;
-
-type Waited = Answers<u64, u64, CacheProperties, u64>;
 
 type End = Ended<u64, u64, CacheProperties, u64>;
 
@@ -17,14 +15,17 @@ enum Got {
     Value(u64, Source),
 }
 
-// Who is answered for a key, as how many they are, and what they got. Their entries go back.
-fn answered(rt: &impl Abort, core: &mut Core, key: u64, answers: Waited) -> (usize, Got) {
-    let Answers { waiters, outcome } = answers;
-    assert!(rt; waiters.iter().all(|waiting| waiting.waiter == key));
-    let got = match outcome {
-        Outcome::None => Got::Nothing,
-        Outcome::Fault(error) => Got::Refusal(error.number()),
-        Outcome::Entries(mut entries) => {
+// How a fetch ended: whether it was open, how many were answered, and what they got. Their entries go back.
+fn ending(rt: &impl Abort, core: &mut Core, ended: End) -> (bool, usize, Got) {
+    let Ended {
+        found,
+        answers,
+        leaves: _,
+    } = ended;
+    let (waiters, entries) = answers.into_parts();
+    let got = match entries {
+        Err(error) => Got::Refusal(error.number()),
+        Ok(mut entries) => {
             assert_eq!(rt; entries.len(), waiters.len());
             let mut got = Got::Nothing;
             while let Some(entry) = entries.pop() {
@@ -35,18 +36,7 @@ fn answered(rt: &impl Abort, core: &mut Core, key: u64, answers: Waited) -> (usi
             got
         }
     };
-    (waiters.len(), got)
-}
-
-// How a fetch ended: whether it was open, how many were answered, and what they got.
-fn ending(rt: &impl Abort, core: &mut Core, key: u64, ended: End) -> (bool, usize, Got) {
-    let Ended {
-        found,
-        answers,
-        leaves: _,
-    } = ended;
-    let (count, got) = answered(rt, core, key, answers);
-    (found, count, got)
+    (found, waiters.len(), got)
 }
 
 #[test]
@@ -60,7 +50,7 @@ fn a_fetch_answers_all_who_wait(rt: HostRuntime) -> Done {
     assert_eq!(rt; ask(&rt, &mut core, 8, None), Asked::Leads(1, 2, None));
     assert!(rt; core.is_open(&7, 0) && core.is_open(&8, 1) && !core.is_open(&8, 0));
     let ended = core.complete(&7, 0, FetchTarget::from(70), Source::Disk);
-    let ended = ending(&rt, &mut core, 7, ended);
+    let ended = ending(&rt, &mut core, ended);
     assert_eq!(rt; ended, (true, 2, Got::Value(70, Source::Disk)));
     assert_eq!(rt; ask(&rt, &mut core, 7, None), Asked::Hit(70));
     Ok(())
@@ -83,7 +73,7 @@ fn an_insert_overtakes_a_fetch(rt: HostRuntime) -> Done {
     assert_eq!(rt; core.refs(&entry), 1);
     release(&rt, &mut core, entry);
     let ended = core.complete(&7, 0, FetchTarget::from(69), Source::Outer);
-    assert_eq!(rt; ending(&rt, &mut core, 7, ended), (false, 0, Got::Nothing));
+    assert_eq!(rt; ending(&rt, &mut core, ended), (false, 0, Got::Nothing));
     assert_eq!(rt; ask(&rt, &mut core, 7, None), Asked::Hit(70));
     Ok(())
 }
@@ -95,7 +85,7 @@ fn a_fetch_completes_with_a_phantom_or_a_piece(rt: HostRuntime) -> Done {
     ask(&rt, &mut core, 7, None);
     let phantom = CacheProperties::default().with_phantom(true);
     let ended = core.complete(&7, 0, FetchTarget::from((70, phantom)), Source::Outer);
-    let ended = ending(&rt, &mut core, 7, ended);
+    let ended = ending(&rt, &mut core, ended);
     assert_eq!(rt; ended, (true, 1, Got::Value(70, Source::Outer)));
     assert_eq!(rt; (core.contains(&7), core.entries()), (false, 0));
     let (entry, _) = put(&rt, &mut core, 8, 80);
@@ -111,7 +101,7 @@ fn a_fetch_completes_with_a_phantom_or_a_piece(rt: HostRuntime) -> Done {
             FetchTarget::from(piece.clone()?),
             Source::Outer,
         );
-        assert_eq!(rt; ending(&rt, &mut core, key, ended), (true, 1, got));
+        assert_eq!(rt; ending(&rt, &mut core, ended), (true, 1, got));
     }
     Ok(())
 }
@@ -127,15 +117,9 @@ fn a_fetch_fails_or_is_cancelled_or_finds_nothing(rt: HostRuntime) -> Done {
         message: String::new(rt.alloc()),
     };
     let ended = core.fail(&7, 0, Arc::new(rt.alloc(), fault)?);
-    assert_eq!(rt;
-        ending(&rt, &mut core, 7, ended),
-        (true, 1, Got::Refusal(11))
-    );
+    assert_eq!(rt; ending(&rt, &mut core, ended), (true, 1, Got::Refusal(11)));
     let ended = core.cancel(&8, 1);
-    assert_eq!(rt;
-        ending(&rt, &mut core, 8, ended),
-        (true, 1, Got::Refusal(15))
-    );
+    assert_eq!(rt; ending(&rt, &mut core, ended), (true, 1, Got::Refusal(15)));
     match core.fetch_or_take(&9, 2) {
         Some(FetchOrTake::Fetch(builder)) => assert_eq!(rt; builder, 19),
         _ => panic!(rt; "no builder was kept"),

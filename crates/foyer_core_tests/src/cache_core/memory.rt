@@ -43,10 +43,11 @@ fn filled(rt: &impl Abort, alloc: Global, count: u64) -> Result<Core> {
 
 #[test]
 fn no_call_on_many_records_is_refused(rt: HostRuntime) -> Done {
-    assert_eq!(rt; filled(&rt, rt.alloc(), 2000)?.clear()?.len(), 2000);
-    assert_eq!(rt; filled(&rt, rt.alloc(), 2000)?.evict_all()?.len(), 2000);
-    assert_eq!(rt; filled(&rt, rt.alloc(), 2000)?.resize(500)?.len(), 1500);
-    let half = filled(&rt, rt.alloc(), 2000)?.flush_if(&|key, _| *key % 2 == 0)?;
-    assert_eq!(rt; half.len(), 1000);
+    let many = || filled(&rt, rt.alloc(), 2000).expect(&rt, "a core");
+    assert_eq!(rt; many().clear().expect(&rt, "a clear").len(), 2000);
+    assert_eq!(rt; many().evict_all().expect(&rt, "an eviction").len(), 2000);
+    assert_eq!(rt; many().resize(500).expect(&rt, "a resize").len(), 1500);
+    let half = many().flush_if(&|key, _| *key % 2 == 0);
+    assert_eq!(rt; half.expect(&rt, "a flush").len(), 1000);
     Ok(())
 }

@@ -3,6 +3,7 @@
 use super::*;
 use crate::refusing::RefusingPolicy;
 use std::cell::RefCell;
+use std::test::Fail;
 
 // The keys and values that a shard's end tells, in order.
 fn ending<E: Eviction>(

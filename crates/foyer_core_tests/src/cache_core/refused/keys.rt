@@ -5,6 +5,7 @@ use crate::refusing::{Grants, RefusingKey};
 use foyer_core::{Ended, FetchTarget, Lookup, Outcome, Refused};
 use std::sync::Arc;
 use std::sync::atomic::{AtomicU64, Ordering};
+use std::test::Fail;
 
 // A core over keys whose clones are refused, where numbers wait.
 type Keyed = CacheCore<
