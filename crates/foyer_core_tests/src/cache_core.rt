@@ -34,21 +34,20 @@ type Core<E = Fifo, W = UnitWeighter, A = AdmitAll, I = TagFinder<u64>> = CacheC
     I,
 >;
 
-// A configuration of one shard.
-fn one_shard<C: Default>(capacity: usize) -> RawCacheConfig<C, ModHasher, UnitWeighter, AdmitAll> {
+// A configuration of this capacity, with so many shards.
+fn config<C: Default>(
+    capacity: usize,
+    shards: usize,
+) -> RawCacheConfig<C, ModHasher, UnitWeighter, AdmitAll> {
     RawCacheConfig {
-        shards: 1,
+        shards,
         ..RawCacheConfig::new(capacity)
     }
 }
 
 // A core that holds nothing.
 fn core(alloc: Global, capacity: usize, shards: usize) -> Result<Core> {
-    let config = RawCacheConfig {
-        shards,
-        ..RawCacheConfig::new(capacity)
-    };
-    CacheCore::new(alloc, config)
+    CacheCore::new(alloc, config(capacity, shards))
 }
 
 // Puts a value in, for which nobody waits: its entry, and what left.
@@ -232,7 +231,7 @@ fn leaves_go_onto_a_list(rt: HostRuntime) -> Done {
 fn a_refusal_has_a_text(rt: HostRuntime) -> Done {
     let config = RawCacheConfig {
         limits: Limits { handles: 1, ids: 0 },
-        ..RawCacheConfig::new(2)
+        ..config(2, 1)
     };
     let mut core: Core = CacheCore::new(rt.alloc(), config)?;
     match core.insert(1, 10) {

@@ -11,10 +11,8 @@ type Trail = Arc<AtomicU64, Global>;
 
 fn write(trail: &Trail, digit: u64) {
     let before = trail.load(Ordering::SeqCst);
-    trail.store(
-        before.wrapping_mul(10).wrapping_add(digit),
-        Ordering::SeqCst,
-    );
+    let after = before.wrapping_mul(10).wrapping_add(digit);
+    trail.store(after, Ordering::SeqCst);
 }
 
 // Who was asked since this was last called.
@@ -61,9 +59,8 @@ type Traced = Core<Fifo, TracedWeighter, TracedFilter>;
 // A core with room for two records, whose weighter and filter write this trail.
 fn traced(alloc: Global, trail: &Trail) -> std::result::Result<Traced, Fail> {
     let config = RawCacheConfig {
-        shards: 1,
         number: 2,
-        ..RawCacheConfig::new(4)
+        ..config(4, 1)
     };
     let weighter = TracedWeighter {
         trail: Arc::try_clone(trail)?,

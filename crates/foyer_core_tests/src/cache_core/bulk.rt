@@ -24,7 +24,7 @@ fn what_a_predicate_takes_leaves_in_order(rt: HostRuntime) -> Done {
 // What is held is pinned under LRU.
 #[test]
 fn what_is_pinned_survives(rt: HostRuntime) -> Done {
-    let mut core: Core<Lru> = CacheCore::new(rt.alloc(), one_shard(5))?;
+    let mut core: Core<Lru> = CacheCore::new(rt.alloc(), config(5, 1))?;
     let ratio = Ratio { num: 1, den: 1 };
     core.reconfigure(&LruConfig {
         high_priority_pool_ratio: ratio,

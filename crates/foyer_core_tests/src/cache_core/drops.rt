@@ -60,7 +60,7 @@ fn put_counted(
 #[test]
 fn each_value_is_dropped_once(rt: HostRuntime) -> Done {
     let drops: Drops = Arc::new(rt.alloc(), AtomicU64::new(0))?;
-    let mut core: CountedCore = CacheCore::new(rt.alloc(), one_shard(2))?;
+    let mut core: CountedCore = CacheCore::new(rt.alloc(), config(2, 1))?;
     for (key, digit) in [(1, 1), (2, 10), (2, 100)] {
         let entry = put_counted(&rt, &mut core, &drops, key, digit, false);
         drop(core.drop_entry(entry));

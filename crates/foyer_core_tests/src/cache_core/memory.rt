@@ -32,18 +32,18 @@ fn no_get_is_refused(rt: HostRuntime) -> Done {
     Ok(())
 }
 
-// A core of two shards with so many records.
-fn filled(rt: &impl Abort, alloc: Global, count: u64) -> Result<Core> {
-    let mut core = core(alloc, 4000, 2)?;
-    for key in 0..count {
+// A core of two shards with 2,000 records.
+fn many(rt: &impl Abort, alloc: Global) -> Core {
+    let mut core = core(alloc, 4000, 2).expect(rt, "a core");
+    for key in 0..2000 {
         assert!(rt; put_tenfold(rt, &mut core, key).is_empty());
     }
-    Ok(core)
+    core
 }
 
 #[test]
 fn no_call_on_many_records_is_refused(rt: HostRuntime) -> Done {
-    let many = || filled(&rt, rt.alloc(), 2000).expect(&rt, "a core");
+    let many = || many(&rt, rt.alloc());
     assert_eq!(rt; many().clear().expect(&rt, "a clear").len(), 2000);
     assert_eq!(rt; many().evict_all().expect(&rt, "an eviction").len(), 2000);
     assert_eq!(rt; many().resize(500).expect(&rt, "a resize").len(), 1500);

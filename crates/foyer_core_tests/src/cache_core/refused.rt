@@ -35,11 +35,7 @@ fn hostile<const AT: u64, I: Finder<u64>>(
     capacity: usize,
     shards: usize,
 ) -> Result<Hostile<AT, I>> {
-    let config = RawCacheConfig {
-        shards,
-        ..RawCacheConfig::new(capacity)
-    };
-    CacheCore::with_index(alloc, config.with_weighter(ByValue))
+    CacheCore::with_index(alloc, config(capacity, shards).with_weighter(ByValue))
 }
 
 // Puts a record in and lets its entry go: its id, or none where memory is refused, and what left.

@@ -23,7 +23,7 @@ type Keyed = CacheCore<
 // One of capacity 2 that holds the keys 1 and 2, and for whose keys no further clone is granted.
 fn keyed(rt: &impl Abort, alloc: Global) -> std::result::Result<(Keyed, Grants), Fail> {
     let grants = Arc::new(alloc, AtomicU64::new(2))?;
-    let mut core = CacheCore::new(alloc, one_shard(2))?;
+    let mut core = CacheCore::new(alloc, config(2, 1))?;
     for number in 1..3 {
         let made = core.insert(RefusingKey::new(number, &grants)?, 0);
         assert_eq!(rt; came_in(rt, &mut core, made), (true, 0));
