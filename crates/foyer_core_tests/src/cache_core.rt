@@ -1,254 +1,254 @@
+//! Cores of a cache: an example of each call, and what no contract says of them.
+
+use crate::testing::{Done, Entry, Leaves, assert_left};
 use foyer_core::{
-    AdmitAll, CacheCore, CacheProperties, CoreEntry, Filter, Inserted, Left, Limits,
-    RawCacheConfig, UnitWeighter, Weighter,
+    AdmitAll, CacheCore, CacheProperties, Filter, Finder, Inserted, InsertedOnto, Limits, Lookup,
+    RawCacheConfig, TagFinder, UnitWeighter, Weighter,
 };
 use foyer_policy::{
-    Event, Eviction, Fifo, FifoConfig, HashBuilder, Hint, Location, ModHasher, Properties, Result,
-    Source, Value,
+    Error, Event, Eviction, Fifo, HashBuilder, Hint, ModHasher, Properties, Result, Source,
 };
 use std::alloc::Global;
 use std::process::Abort;
-use std::test::Fail;
 
-mod answers;
 mod asked;
 mod bulk;
-mod collisions;
+mod drops;
 mod entries;
 mod fetches;
-mod filter;
-mod generic;
-mod limits;
-mod location;
 mod memory;
-mod phantom;
-mod pieces;
-mod reconfigure;
 mod refused;
 mod shards;
-mod weights;
 
-type Core = CacheCore<Fifo, u64, u64, CacheProperties, ModHasher, UnitWeighter, AdmitAll, (), ()>;
+// A core over numbers, where numbers wait for fetches and numbers build them.
+type Core<E = Fifo, W = UnitWeighter, A = AdmitAll, I = TagFinder<u64>> = CacheCore<
+    E,
+    u64,
+    u64,
+    CacheProperties,
+    ModHasher,
+    W,
+    A,
+    u64,
+    u64,
+    I,
+>;
 
-type Entry = CoreEntry<u64, u64, CacheProperties>;
-
-type Leaves = Vec<(Event, Left<u64, u64, CacheProperties>)>;
-
-// A core of one shard that holds nothing.
-fn core(alloc: Global, capacity: usize, number: u64, limits: Limits) -> Result<Core> {
-    sharded(alloc, capacity, 1, number, limits)
-}
-
-// A core of so many shards that holds nothing.
-fn sharded(
-    alloc: Global,
+// A configuration of this capacity, with so many shards.
+fn config<C: Default>(
     capacity: usize,
     shards: usize,
-    number: u64,
-    limits: Limits,
-) -> Result<Core> {
-    CacheCore::new(
-        alloc,
-        RawCacheConfig {
-            capacity,
-            shards,
-            eviction_config: FifoConfig {},
-            hash_builder: ModHasher::default(),
-            weighter: UnitWeighter,
-            filter: AdmitAll,
-            number,
-            limits,
-        },
-    )
-}
-
-// What an insert answers, which is not refused.
-fn put(rt: &impl Abort, core: &mut Core, key: u64, value: u64) -> (Entry, Leaves) {
-    match core.insert(key, value) {
-        Ok(made) => came_in(core, made),
-        Err(refused) => panic!(rt; "refused: {}", refused.error),
+) -> RawCacheConfig<C, ModHasher, UnitWeighter, AdmitAll> {
+    RawCacheConfig {
+        shards,
+        ..RawCacheConfig::new(capacity)
     }
 }
 
-// The entry of what came in, and what left. Nobody gets an entry beside.
-fn came_in<E: Eviction, V: Value, P: Properties, W: Weighter<u64, V>, A: Filter<u64, V>>(
-    core: &mut CacheCore<E, u64, V, P, ModHasher, W, A>,
-    made: Inserted<u64, V, P, ()>,
-) -> (CoreEntry<u64, V, P>, Vec<(Event, Left<u64, V, P>)>) {
+// A core that holds nothing.
+fn core(alloc: Global, capacity: usize, shards: usize) -> Result<Core> {
+    CacheCore::new(alloc, config(capacity, shards))
+}
+
+// Puts a value in, for which nobody waits: its entry, and what left.
+fn put<E: Eviction, W: Weighter<u64, u64>, A: Filter<u64, u64>, I: Finder<u64>>(
+    rt: &impl Abort,
+    core: &mut Core<E, W, A, I>,
+    key: u64,
+    value: u64,
+) -> (Entry, Leaves) {
+    let made = core.insert(key, value).expect(rt, "an insert");
+    taken(rt, core, made)
+}
+
+// What came in, for which nobody waited: its entry, and what left.
+fn taken<E: Eviction, W: Weighter<u64, u64>, A: Filter<u64, u64>, I: Finder<u64>>(
+    rt: &impl Abort,
+    core: &mut Core<E, W, A, I>,
+    made: Inserted<u64, u64, CacheProperties, u64>,
+) -> (Entry, Leaves) {
     let Inserted {
         entry,
         answers,
         leaves,
     } = made;
+    assert!(rt; answers.waiters.is_empty());
     core.drop_answers(answers);
     (entry, leaves)
 }
 
+// Puts ten times the key in under it, and lets its entry go: what left.
+fn put_tenfold(rt: &impl Abort, core: &mut Core, key: u64) -> Leaves {
+    let (entry, leaves) = put(rt, core, key, key * 10);
+    release(rt, core, entry);
+    leaves
+}
+
+// An entry of a key that is in.
+fn found<E: Eviction, W: Weighter<u64, u64>, A: Filter<u64, u64>, I: Finder<u64>>(
+    rt: &impl Abort,
+    core: &mut Core<E, W, A, I>,
+    key: u64,
+) -> Entry {
+    core.get(&key).expect(rt, "a get").expect(rt, "an entry")
+}
+
 // An entry that the core owns goes back, and nothing leaves with it.
-fn release(rt: &impl Abort, core: &mut Core, entry: Entry) {
+fn release<E: Eviction, W: Weighter<u64, u64>, A: Filter<u64, u64>, I: Finder<u64>>(
+    rt: &impl Abort,
+    core: &mut Core<E, W, A, I>,
+    entry: Entry,
+) {
     match core.give_back(entry) {
         Ok(leave) => assert!(rt; leave.is_none()),
         Err(entry) => {
             entry.discard();
-            assert!(rt; false, "the entry came back");
+            panic!(rt; "the entry came back");
         }
     }
 }
 
-// An entry of a key that is in.
-fn found(rt: &impl Abort, core: &mut Core, key: u64) -> Entry {
-    match core.get(&key) {
-        Ok(Some(entry)) => entry,
-        Ok(None) => panic!(rt; "nothing is found under {key}"),
-        Err(error) => panic!(rt; "refused: {error}"),
-    }
+// What a look-up answers: the value of a hit, or the fetch where the one who asks leads, the token, and the builder
+// that came back.
+#[derive(Clone, Copy, PartialEq, Eq, Debug)]
+enum Asked {
+    Hit(u64),
+    Leads(u64, u64, Option<u64>),
+    Waits(u64),
 }
 
-// An entry that the core does not own comes back.
-fn returned(rt: &impl Abort, core: &mut Core, entry: Entry) -> Entry {
-    match core.give_back(entry) {
-        Ok(_) => panic!(rt; "another core's entry was taken"),
-        Err(entry) => entry,
-    }
-}
-
-// Puts a value in and lets its entry go: what left, as reasons and keys.
-fn leaves_of(
+// Asks for a key. The entry of a hit goes back.
+fn ask<E: Eviction, W: Weighter<u64, u64>, A: Filter<u64, u64>, I: Finder<u64>>(
     rt: &impl Abort,
-    alloc: Global,
-    core: &mut Core,
+    core: &mut Core<E, W, A, I>,
     key: u64,
-) -> std::result::Result<Vec<(Event, u64)>, Fail> {
-    let (entry, leaves) = put(rt, core, key, key.wrapping_mul(10));
-    release(rt, core, entry);
-    let mut told = Vec::new(alloc);
-    for (event, left) in &leaves {
-        assert_eq!(rt; *left.value(), left.key().wrapping_mul(10));
-        told.push((*event, *left.key()))?;
-    }
-    Ok(told)
-}
-
-#[test]
-fn evictions_come_before_the_replaced_record(rt: HostRuntime) -> std::result::Result<(), Fail> {
-    let mut core = core(rt.alloc(), 2, 0, Limits::default())?;
-    assert!(rt; leaves_of(&rt, rt.alloc(), &mut core, 1)?.is_empty());
-    assert!(rt; leaves_of(&rt, rt.alloc(), &mut core, 2)?.is_empty());
-    let told = leaves_of(&rt, rt.alloc(), &mut core, 2)?;
-    assert_eq!(rt;
-        told.as_slice(),
-        [(Event::Evict, 1), (Event::Replace, 2)].as_slice()
-    );
-    assert_eq!(rt; core.usage(), 1);
-    assert_eq!(rt; core.entries(), 1);
-    Ok(())
-}
-
-#[test]
-fn an_evicted_record_is_not_replaced(rt: HostRuntime) -> std::result::Result<(), Fail> {
-    let mut core = core(rt.alloc(), 2, 0, Limits::default())?;
-    assert!(rt; leaves_of(&rt, rt.alloc(), &mut core, 1)?.is_empty());
-    assert!(rt; leaves_of(&rt, rt.alloc(), &mut core, 2)?.is_empty());
-    for (key, gone) in [(1, 1), (3, 2), (4, 1)] {
-        let told = leaves_of(&rt, rt.alloc(), &mut core, key)?;
-        assert_eq!(rt;
-            told.as_slice(),
-            [(Event::Evict, gone)].as_slice(),
-            "insert of {key}"
-        );
-        assert_eq!(rt; core.usage(), 2, "insert of {key}");
-        assert!(rt; core.contains(&key) && !core.contains(&gone) || key == gone);
-    }
-    Ok(())
-}
-
-#[test]
-fn handles_have_a_limit(rt: HostRuntime) -> std::result::Result<(), Fail> {
-    let limits = Limits {
-        handles: 2,
-        ids: 10,
-    };
-    let mut core = core(rt.alloc(), 2, 0, limits)?;
-    let (first, leaves) = put(&rt, &mut core, 1, 10);
-    assert!(rt; leaves.is_empty());
-    let second = found(&rt, &mut core, 1);
-    match core.get(&1) {
-        Ok(Some(entry)) => {
-            entry.discard();
-            assert!(rt; false, "a third handle");
+    builder: Option<u64>,
+) -> Asked {
+    match core
+        .get_or_enqueue(&key, builder, key)
+        .expect(rt, "a look-up")
+    {
+        Lookup::Lead {
+            fetch,
+            token,
+            required,
+        } => Asked::Leads(fetch, token, required),
+        Lookup::Wait { token } => Asked::Waits(token),
+        Lookup::Hit(entry) => {
+            let value = *entry.value();
+            release(rt, core, entry);
+            Asked::Hit(value)
         }
-        Ok(None) => assert!(rt; false, "nothing is found"),
-        Err(error) => assert_eq!(rt; error.number(), 9),
     }
-    release(&rt, &mut core, first);
-    let third = found(&rt, &mut core, 1);
-    assert_eq!(rt; *third.value(), 10);
-    release(&rt, &mut core, second);
-    release(&rt, &mut core, third);
-    Ok(())
 }
 
 #[test]
-fn a_core_owns_its_entries_alone(rt: HostRuntime) -> std::result::Result<(), Fail> {
-    let mut one = core(rt.alloc(), 2, 1, Limits::default())?;
-    let mut two = core(rt.alloc(), 2, 2, Limits::default())?;
-    let (entry, _) = put(&rt, &mut one, 1, 10);
-    let (other, _) = put(&rt, &mut two, 1, 20);
-    assert!(rt; one.owns(&entry) && !two.owns(&entry) && two.owns(&other) && !one.owns(&other));
-    let entry = returned(&rt, &mut two, entry);
-    assert!(rt; two.contains(&1) && two.usage() == 1);
-    release(&rt, &mut one, entry);
-    release(&rt, &mut two, other);
-    Ok(())
-}
-
-// Where both cores have one number, an entry comes back whose id this one has not.
-#[test]
-fn an_entry_of_no_record_comes_back(rt: HostRuntime) -> std::result::Result<(), Fail> {
-    let mut one = core(rt.alloc(), 2, 1, Limits::default())?;
-    let mut two = core(rt.alloc(), 2, 1, Limits::default())?;
-    let (entry, _) = put(&rt, &mut one, 1, 10);
-    assert!(rt; !two.owns(&entry));
-    let entry = returned(&rt, &mut two, entry);
-    assert_eq!(rt; (two.usage(), two.entries()), (0, 0));
-    release(&rt, &mut one, entry);
-    Ok(())
-}
-
-#[test]
-fn gets_find_what_was_inserted(rt: HostRuntime) -> std::result::Result<(), Fail> {
-    let mut core = core(rt.alloc(), 100, 0, Limits::default())?;
-    assert_eq!(rt; core.capacity(), 100);
-    assert_eq!(rt; core.shards(), 1);
-    assert_eq!(rt; core.hash(&7), 7);
-    assert_eq!(rt; HashBuilder::hash_one(core.hash_builder(), &7u64), 7);
+fn gets_find_what_was_inserted(rt: HostRuntime) -> Done {
+    let mut core = core(rt.alloc(), 100, 1)?;
     for key in 0..100 {
-        assert!(rt; leaves_of(&rt, rt.alloc(), &mut core, key)?.is_empty());
+        assert!(rt; put_tenfold(&rt, &mut core, key).is_empty());
     }
-    for turn in 0..1000u64 {
-        let entry = found(&rt, &mut core, turn % 100);
-        assert_eq!(rt; *entry.value(), 10 * (turn % 100));
-        assert_eq!(rt; entry.source(), Source::Memory);
+    for key in 0..100 {
+        let entry = found(&rt, &mut core, key);
+        assert_eq!(rt; (*entry.key(), *entry.value()), (key, key * 10));
+        assert_eq!(rt; (entry.source(), core.owns(&entry)), (Source::Memory, true));
         release(&rt, &mut core, entry);
     }
-    assert_eq!(rt; core.usage(), 100);
-    assert_eq!(rt; core.entries(), 100);
+    assert!(rt; core.contains(&99) && !core.contains(&100));
+    assert_eq!(rt; (core.capacity(), core.shards()), (100, 1));
+    assert_eq!(rt; (core.usage(), core.entries()), (100, 100));
+    assert_eq!(rt;
+        (
+            core.hash(&7),
+            HashBuilder::hash_one(core.hash_builder(), &7u64)
+        ),
+        (7, 7)
+    );
     Ok(())
 }
 
 #[test]
-fn low_records_are_inserted_too(rt: HostRuntime) -> std::result::Result<(), Fail> {
-    let mut core = core(rt.alloc(), 2, 0, Limits::default())?;
-    let low = CacheProperties::default().with_hint(Hint::Low);
-    match core.insert_with_properties(1, 10, low) {
-        Ok(made) => {
-            let (entry, leaves) = came_in(&mut core, made);
-            assert!(rt; leaves.is_empty());
-            assert_eq!(rt; entry.properties().hint(), Hint::Low);
-            release(&rt, &mut core, entry);
-        }
-        Err(refused) => panic!(rt; "refused: {}", refused.error),
+fn evictions_come_before_the_replaced_record(rt: HostRuntime) -> Done {
+    let mut core = core(rt.alloc(), 2, 1)?;
+    assert!(rt; put_tenfold(&rt, &mut core, 1).is_empty());
+    assert!(rt; put_tenfold(&rt, &mut core, 2).is_empty());
+    let leaves = put_tenfold(&rt, &mut core, 2);
+    assert_left(&rt, &leaves, &[(Event::Evict, 1), (Event::Replace, 2)]);
+    assert_eq!(rt; (core.usage(), core.entries()), (1, 1));
+    Ok(())
+}
+
+// An entry of a phantom record is never found, and its record leaves with its last handle.
+#[test]
+fn a_phantom_record_leaves_with_its_last_handle(rt: HostRuntime) -> Done {
+    let mut core = core(rt.alloc(), 2, 1)?;
+    put_tenfold(&rt, &mut core, 1);
+    let phantom = CacheProperties::default()
+        .with_hint(Hint::Low)
+        .with_phantom(true);
+    let made = core.insert_with_properties(1, 100, phantom);
+    let (entry, leaves) = taken(&rt, &mut core, made.expect(&rt, "an insert"));
+    assert_left(&rt, &leaves, &[(Event::Replace, 1), (Event::Remove, 1)]);
+    assert_eq!(rt;
+        (entry.properties().hint(), core.contains(&1)),
+        (Hint::Low, false)
+    );
+    let (event, left) = core.drop_entry(entry).expect(&rt, "a leave");
+    assert_eq!(rt;
+        (event, *left.value(), core.entries()),
+        (Event::Evict, 100, 0)
+    );
+    Ok(())
+}
+
+// What came in, for which nobody waited, goes back.
+fn settle<E: Eviction, W: Weighter<u64, u64>, A: Filter<u64, u64>, I: Finder<u64>>(
+    rt: &impl Abort,
+    core: &mut Core<E, W, A, I>,
+    made: InsertedOnto<u64, u64, CacheProperties, u64>,
+) {
+    let InsertedOnto { entry, answers } = made;
+    assert!(rt; answers.waiters.is_empty());
+    core.drop_answers(answers);
+    release(rt, core, entry);
+}
+
+#[test]
+fn leaves_go_onto_a_list(rt: HostRuntime) -> Done {
+    let mut core = core(rt.alloc(), 1, 1)?;
+    let mut leaves = Vec::new(rt.alloc());
+    for key in [1, 2] {
+        let made = core.insert_onto(key, key, &mut leaves);
+        settle(&rt, &mut core, made.expect(&rt, "an insert"));
     }
-    assert!(rt; core.contains(&1));
+    let made = core.insert_with_properties_onto(3, 3, CacheProperties::default(), &mut leaves);
+    settle(&rt, &mut core, made.expect(&rt, "an insert"));
+    assert_left(&rt, &leaves, &[(Event::Evict, 1), (Event::Evict, 2)]);
+    Ok(())
+}
+
+#[test]
+fn a_refusal_has_a_text(rt: HostRuntime) -> Done {
+    let config = RawCacheConfig {
+        limits: Limits { handles: 1, ids: 0 },
+        ..config(2, 1)
+    };
+    let mut core: Core = CacheCore::new(rt.alloc(), config)?;
+    match core.insert(1, 10) {
+        Ok(made) => {
+            taken(&rt, &mut core, made).0.discard();
+            panic!(rt; "a record without a number");
+        }
+        Err(refused) => {
+            let text = format!(in rt.alloc(); "{refused}")?;
+            assert_eq!(rt; text.as_str(), "no number is left");
+            let text = format!(in rt.alloc(); "{refused:?}")?;
+            assert_eq!(rt;
+                text.as_str(),
+                "Refused { error: Error { kind: Limit, reason: Ids } }"
+            );
+            assert_eq!(rt; Error::from(refused).number(), 10);
+        }
+    }
     Ok(())
 }

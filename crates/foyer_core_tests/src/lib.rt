@@ -1,13 +1,10 @@
-//! Tests of `foyer_core` through its public calls alone. They stand in a crate of their own, so that they are
-//! proved over the contracts of `foyer_core`, and it is not proved once more for them.
+//! Tests of `foyer_core` through its public calls alone: of what no contract says, and an example of each call.
 #![tactic(auto)]
 
 #[cfg(test)]
 mod cache_core;
 #[cfg(test)]
-mod finder;
-#[cfg(test)]
-mod indexer;
+mod index;
 #[cfg(test)]
 mod inflight;
 #[cfg(test)]
@@ -16,4 +13,4 @@ pub mod refusing;
 #[cfg(test)]
 mod shard;
 #[cfg(test)]
-mod tags;
+mod testing;

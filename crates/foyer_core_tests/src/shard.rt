@@ -1,76 +1,49 @@
-ghost use Rattle.std.specs.Prelude.{◌≡◌};
+//! One shard by itself: an example of each call that a core doesn't make alone.
 
+use crate::testing::{Done, Entry, assert_left};
 use foyer_core::{
-    CacheProperties, CoreEntry, Data, Finder, Inserted, Left, Limits, Shard, TagFinder,
+    Answers, CacheProperties, Data, Finder, Inserted, InsertedOnto, Limits, Shard, TagFinder,
 };
-use foyer_policy::{Event, Eviction, Lru, LruConfig, Ratio, Result, Source};
+use foyer_policy::{Event, Eviction, Fifo, FifoConfig, Lru, LruConfig, Reason, Result, Source};
 use std::alloc::Global;
 use std::process::Abort;
-use std::test::Fail;
 
 mod ending;
-mod hashes;
-mod questions;
+mod fetches;
 
-type Over<E> = Shard<E, u64, u64, CacheProperties, (), (), TagFinder<u64>>;
+// A shard over numbers, where numbers wait for fetches and numbers build them.
+type Over<E> = Shard<E, u64, u64, CacheProperties, u64, u64, TagFinder<u64>>;
 
-type Plain = Over<Lru>;
-
-type Entry = CoreEntry<u64, u64, CacheProperties>;
-
-type Leaves = Vec<(Event, Left<u64, u64, CacheProperties>)>;
-
-// A shard that holds nothing.
-fn shard(alloc: Global, capacity: usize) -> Result<Plain> {
-    limited(alloc, capacity, Limits::default())
+// A shard of capacity 5 that holds nothing.
+fn empty<E: Eviction>(alloc: Global, limits: Limits, config: &E::Config) -> Result<Over<E>> {
+    Shard::new(alloc, 0, 5, limits, config, TagFinder::empty(alloc))
 }
 
-// A shard with these limits that holds nothing.
-fn limited(alloc: Global, capacity: usize, limits: Limits) -> Result<Plain> {
-    let index = TagFinder::empty(alloc);
-    Shard::new(alloc, 0, capacity, limits, &LruConfig::default(), index)
-}
-
-// Puts a record in, lets its entry go, and sees that nothing left.
-fn put<E: Eviction>(rt: &impl Abort, alloc: Global, shard: &mut Over<E>, key: u64, weight: usize) {
-    let made = shard.emplace(
-        alloc,
-        Data {
-            key,
-            value: key.wrapping_mul(10),
-            properties: CacheProperties::default(),
-            hash: key,
-            weight,
-        },
-        Source::Outer,
-    );
-    match made {
-        Ok(made) => {
-            let Inserted {
-                entry,
-                answers,
-                leaves,
-            } = made;
-            let (_, others) = answers.into_parts();
-            let Ok(others) = others else {
-                panic!(rt; "the waiters are refused");
-            };
-            assert!(rt; others.is_empty());
-            others.destroy_empty();
-            release(rt, shard, entry);
-            assert!(rt; leaves.is_empty());
-        }
-        Err(refused) => panic!(rt; "refused: {}", refused.error),
+// A record whose value is ten times its key.
+fn data(key: u64, weight: usize) -> Data<u64, u64, CacheProperties> {
+    Data {
+        key,
+        value: key * 10,
+        properties: CacheProperties::default(),
+        hash: key,
+        weight,
     }
 }
 
-// An entry of a key that is in, which pins its record.
-fn hold<E: Eviction>(rt: &impl Abort, shard: &mut Over<E>, key: u64) -> Entry {
-    match shard.get(key, &key) {
-        Ok(Some(entry)) => entry,
-        Ok(None) => panic!(rt; "nothing is found under {key}"),
-        Err(error) => panic!(rt; "refused: {error}"),
-    }
+// What came in, for which nobody waited, goes back: how many left for it.
+fn settled<E: Eviction>(
+    rt: &impl Abort,
+    shard: &mut Over<E>,
+    made: Inserted<u64, u64, CacheProperties, u64>,
+) -> usize {
+    let Inserted {
+        entry,
+        answers,
+        leaves,
+    } = made;
+    assert_eq!(rt; all_back(rt, shard, answers), 0);
+    release(rt, shard, entry);
+    leaves.len()
 }
 
 // An entry of the shard goes back, and nothing leaves with it.
@@ -79,175 +52,140 @@ fn release<E: Eviction>(rt: &impl Abort, shard: &mut Over<E>, entry: Entry) {
         Ok(leave) => assert!(rt; leave.is_none()),
         Err(entry) => {
             entry.discard();
-            assert!(rt; false, "the entry came back");
+            panic!(rt; "the entry came back");
         }
     }
 }
 
-// What left, as reasons and keys.
-fn told(alloc: Global, leaves: &Leaves) -> std::result::Result<Vec<(Event, u64)>, Fail> {
-    let mut told = Vec::new(alloc);
-    for (event, left) in leaves {
-        told.push((*event, *left.key()))?;
+// The entries of those who waited go back: how many they were.
+fn all_back<E: Eviction>(
+    rt: &impl Abort,
+    shard: &mut Over<E>,
+    answers: Answers<u64, u64, CacheProperties, u64>,
+) -> usize {
+    let (waiters, entries) = answers.into_parts();
+    let mut entries = entries.expect(rt, "the answers");
+    while let Some(entry) = entries.pop() {
+        release(rt, shard, entry);
     }
-    Ok(told)
+    entries.destroy_empty();
+    waiters.len()
 }
 
-// Takes everything out.
-fn cleared(rt: &impl Abort, alloc: Global, shard: &mut Plain) -> Leaves {
-    let mut leaves = Vec::new(alloc);
-    match shard.reserve_clear() {
-        Ok(items) => {
-            let Ok(()) = leaves.reserve(items.len()) else {
-                panic!(rt; "no room for the leaves");
-            };
-            shard.clear(&items, &mut leaves);
-        }
-        Err(error) => panic!(rt; "refused: {error}"),
-    }
-    leaves
-}
-
-// A pool of all of the capacity, or of none of it.
-fn pool(num: u32) -> LruConfig
-    ensures { result ≡ record { high_priority_pool_ratio = record { num = num; den = 1 } } }
-{
-    LruConfig {
-        high_priority_pool_ratio: Ratio { num, den: 1 },
-    }
+// Puts a record in, for which nothing leaves, and lets its entry go.
+fn put<E: Eviction>(rt: &impl Abort, alloc: Global, shard: &mut Over<E>, key: u64, weight: usize) {
+    let made = shard.emplace(alloc, data(key, weight), Source::Outer);
+    let left = settled(rt, shard, made.expect(rt, "an insert"));
+    assert_eq!(rt; left, 0, "insert of {key}");
 }
 
 // Records of the keys 1 to 3, of the weights 0, 3 and 1.
-fn three(rt: &impl Abort, alloc: Global) -> Result<Plain> {
-    let mut shard = shard(alloc, 5)?;
-    put(rt, alloc, &mut shard, 1, 0);
-    put(rt, alloc, &mut shard, 2, 3);
-    put(rt, alloc, &mut shard, 3, 1);
+fn three(rt: &impl Abort, alloc: Global) -> Result<Over<Lru>> {
+    let mut shard = empty(alloc, Limits::default(), &LruConfig::default())?;
+    for (key, weight) in [(1, 0), (2, 3), (3, 1)] {
+        put(rt, alloc, &mut shard, key, weight);
+    }
     Ok(shard)
 }
 
-#[test]
-fn all_that_is_not_pinned_is_evicted(rt: HostRuntime) -> std::result::Result<(), Fail> {
-    let mut shard = three(&rt, rt.alloc())?;
-    let held = hold(&rt, &mut shard, 2);
-    let mut leaves = Vec::new(rt.alloc());
-    let done = shard.evict_unpinned(&mut leaves);
-    release(&rt, &mut shard, held);
-    done?;
-    let told = told(rt.alloc(), &leaves)?;
-    assert_eq!(rt;
-        told.as_slice(),
-        [(Event::Evict, 1), (Event::Evict, 3)].as_slice()
-    );
-    assert_eq!(rt; shard.usage(), 3);
-    assert_eq!(rt; shard.entries(), 1);
-    Ok(())
+// An entry of a key that is in.
+fn hold<E: Eviction>(rt: &impl Abort, shard: &mut Over<E>, key: u64) -> Entry {
+    shard
+        .get(key, &key)
+        .expect(rt, "a get")
+        .expect(rt, "an entry")
 }
 
-#[test]
-fn records_without_weight_are_evicted_too(rt: HostRuntime) -> std::result::Result<(), Fail> {
-    let mut shard = three(&rt, rt.alloc())?;
-    put(&rt, rt.alloc(), &mut shard, 4, 0);
-    let mut leaves = Vec::new(rt.alloc());
-    shard.evict_unpinned(&mut leaves)?;
-    assert_eq!(rt; leaves.len(), 4);
-    assert_eq!(rt; shard.usage(), 0);
-    assert_eq!(rt; shard.entries(), 0);
-    Ok(())
+// Takes a key's record out.
+fn take_out<E: Eviction>(rt: &impl Abort, shard: &mut Over<E>, key: u64) {
+    let removed = shard.remove(key, &key).expect(rt, "a remove");
+    let (entry, left) = removed.expect(rt, "a record");
+    assert_eq!(rt; *left.key(), key);
+    release(rt, shard, entry);
 }
 
+// What leaves goes behind what a list has.
 #[test]
-fn clear_tells_everything(rt: HostRuntime) -> std::result::Result<(), Fail> {
-    let mut shard = three(&rt, rt.alloc())?;
-    let held = hold(&rt, &mut shard, 1);
-    let leaves = cleared(&rt, rt.alloc(), &mut shard);
-    release(&rt, &mut shard, held);
-    let told = told(rt.alloc(), &leaves)?;
-    assert_eq!(rt;
-        told.as_slice(),
-        [(Event::Clear, 2), (Event::Clear, 3), (Event::Clear, 1)].as_slice()
-    );
-    assert!(rt; !shard.contains(1, &1));
-    assert_eq!(rt; shard.usage(), 0);
-    assert_eq!(rt; shard.entries(), 0);
-    Ok(())
-}
-
-#[test]
-fn a_predicate_takes_pinned_records_too(rt: HostRuntime) -> std::result::Result<(), Fail> {
-    let mut shard = three(&rt, rt.alloc())?;
-    let held = hold(&rt, &mut shard, 1);
-    let done = shard.evict_if(
-        rt.alloc(),
-        &|key: &u64, value: &u64| *key == 1 || *value == 30,
-    );
-    release(&rt, &mut shard, held);
-    let told = told(rt.alloc(), &done?)?;
-    assert_eq!(rt;
-        told.as_slice(),
-        [(Event::Evict, 3), (Event::Evict, 1)].as_slice()
-    );
-    assert_eq!(rt; shard.usage(), 3);
-    Ok(())
-}
-
-#[test]
-fn a_lower_capacity_evicts_nothing_by_itself(rt: HostRuntime) -> std::result::Result<(), Fail> {
-    let mut shard = three(&rt, rt.alloc())?;
-    shard.set_capacity(1);
-    assert_eq!(rt; shard.entries(), 3);
-    let Ok(leaves) = shard.evict_to(rt.alloc(), 1) else {
-        panic!(&rt; "an eviction is refused");
-    };
-    let told = told(rt.alloc(), &leaves)?;
-    assert_eq!(rt;
-        told.as_slice(),
-        [(Event::Evict, 1), (Event::Evict, 2)].as_slice()
-    );
-    assert_eq!(rt; shard.usage(), 1);
-    Ok(())
-}
-
-// What falls out of a pool that goes stays low when it comes back. The capacity stays, so nothing leaves for a
-// record that fills it.
-#[test]
-fn another_configuration_takes_nothing_out(rt: HostRuntime) -> std::result::Result<(), Fail> {
-    let mut shard = three(&rt, rt.alloc())?;
-    shard.configure(&pool(0));
-    assert_eq!(rt; (shard.usage(), shard.entries()), (4, 3));
-    shard.configure(&pool(1));
-    put(&rt, rt.alloc(), &mut shard, 4, 1);
-    let held = hold(&rt, &mut shard, 1);
-    release(&rt, &mut shard, held);
-    let mut leaves = Vec::new(rt.alloc());
-    shard.evict_unpinned(&mut leaves)?;
-    let told = told(rt.alloc(), &leaves)?;
-    assert_eq!(rt;
-        told.as_slice(),
-        [
-            (Event::Evict, 2),
-            (Event::Evict, 3),
-            (Event::Evict, 1),
-            (Event::Evict, 4)
-        ]
-        .as_slice()
-    );
-    Ok(())
-}
-
-// What leaves goes behind what a list has: those of which a predicate says yes, and then all others.
-#[test]
-fn leaves_go_onto_a_list(rt: HostRuntime) -> std::result::Result<(), Fail> {
+fn leaves_go_onto_a_list(rt: HostRuntime) -> Done {
     let mut shard = three(&rt, rt.alloc())?;
     let mut leaves = Vec::new(rt.alloc());
     shard.evict_if_onto(rt.alloc(), &|key: &u64, _: &u64| *key == 2, &mut leaves)?;
-    assert_eq!(rt; (shard.usage(), shard.entries()), (1, 2));
+    let made = shard.emplace_onto(rt.alloc(), data(4, 5), Source::Outer, &mut leaves);
+    let InsertedOnto { entry, answers } = made.expect(&rt, "an insert");
+    assert_eq!(rt; all_back(&rt, &mut shard, answers), 0);
+    release(&rt, &mut shard, entry);
     shard.clear_onto(&mut leaves)?;
-    let told = told(rt.alloc(), &leaves)?;
-    assert_eq!(rt;
-        told.as_slice(),
-        [(Event::Evict, 2), (Event::Clear, 1), (Event::Clear, 3)].as_slice()
+    assert_left(
+        &rt,
+        &leaves,
+        &[
+            (Event::Evict, 2),
+            (Event::Evict, 1),
+            (Event::Evict, 3),
+            (Event::Clear, 4),
+        ],
     );
-    assert_eq!(rt; shard.entries(), 0);
+    Ok(())
+}
+
+#[test]
+fn records_are_evicted_by_weight(rt: HostRuntime) -> Done {
+    let mut shard = three(&rt, rt.alloc())?;
+    shard.configure(&LruConfig::default());
+    let Ok(leaves) = shard.evict_to(rt.alloc(), 3) else {
+        panic!(&rt; "an eviction is refused");
+    };
+    assert_eq!(rt; (leaves.len(), shard.usage()), (2, 1));
+    let mut leaves = Vec::new(rt.alloc());
+    put(&rt, rt.alloc(), &mut shard, 4, 2);
+    shard.evict_onto(&mut leaves, 2)?;
+    put(&rt, rt.alloc(), &mut shard, 5, 1);
+    shard.set_capacity(1);
+    assert_eq!(rt; (shard.entries(), shard.fits()), (2, true));
+    shard.evict_to_capacity(&mut leaves)?;
+    shard.evict_unpinned(&mut leaves)?;
+    assert_left(
+        &rt,
+        &leaves,
+        &[(Event::Evict, 3), (Event::Evict, 4), (Event::Evict, 5)],
+    );
+    Ok(())
+}
+
+// The room is asked for first, and the second step takes no memory.
+#[test]
+fn bulk_calls_have_two_steps(rt: HostRuntime) -> Done {
+    let mut shard = three(&rt, rt.alloc())?;
+    let mut leaves = Vec::new(rt.alloc());
+    leaves.reserve(3)?;
+    let picked = shard.pick(rt.alloc(), &|_: &u64, value: &u64| *value == 20)?;
+    shard.evict_picked(&picked, &mut leaves);
+    let items = shard.reserve_clear()?;
+    shard.clear(&items, &mut leaves);
+    assert_left(
+        &rt,
+        &leaves,
+        &[(Event::Evict, 2), (Event::Clear, 1), (Event::Clear, 3)],
+    );
+    let mut shard = three(&rt, rt.alloc())?;
+    assert_eq!(rt;
+        shard.evict_if(rt.alloc(), &|_: &u64, _: &u64| true)?.len(),
+        3
+    );
+    Ok(())
+}
+
+#[test]
+fn refusals_are_foreseen(rt: HostRuntime) -> Done {
+    let limits = Limits { handles: 1, ids: 1 };
+    let mut shard: Over<Fifo> = empty(rt.alloc(), limits, &FifoConfig {})?;
+    let properties = CacheProperties::default();
+    assert!(rt; shard.refuses_insert(1, &1, &properties, 1).is_none());
+    put(&rt, rt.alloc(), &mut shard, 1, 1);
+    assert!(rt; shard.refuses_insert(2, &2, &properties, 1) == Some(Reason::Ids));
+    assert!(rt; shard.refuses_get(1, &1).is_none());
+    let held = hold(&rt, &mut shard, 1);
+    assert!(rt; shard.refuses_get(1, &1) == Some(Reason::Handles));
+    release(&rt, &mut shard, held);
     Ok(())
 }

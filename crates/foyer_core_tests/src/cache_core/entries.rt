@@ -1,132 +1,85 @@
-// Touches, removes and clones, and what they make of handles.
-
-ghost use Rattle.std.specs.Prelude.{◌≡◌, ◌↔◌, IsTrue};
-ghost use Rattle.foyer_core.specs.Core.{Owns};
-ghost use Rattle.foyer_core.specs.Cores.{core_of};
+//! Entries: touches, removes, clones, leaves and pieces.
 
 use super::*;
 
-// A clone of an entry that the core owns.
-fn cloned(rt: &impl Abort, core: &mut Core, entry: &Entry) -> Entry {
-    assert!(rt; core.owns(entry));
-    match core.clone_handle(entry) {
-        Ok(clone) => clone,
-        Err(error) => panic!(rt; "refused: {error}"),
-    }
-}
-
-// How many handles an entry's record has, and whether it is outdated.
-fn state_of_entry(rt: &impl Abort, core: &Core, entry: &Entry) -> (usize, bool) {
-    assert!(rt; core.owns(entry));
-    (core.refs(entry), core.is_outdated(entry))
-}
-
-// The entry and the value of what a remove takes out.
-fn removed(rt: &impl Abort, core: &mut Core, key: u64) -> (Entry, u64) {
-    match core.remove(&key) {
-        Ok(Some((entry, left))) => {
-            assert_eq!(rt; *left.key(), key);
-            assert_eq!(rt; left.id(), entry.id());
-            (entry, *left.value())
-        }
-        Ok(None) => panic!(rt; "nothing to remove under {key}"),
-        Err(error) => panic!(rt; "refused: {error}"),
-    }
-}
-
-// A key that has no record.
-fn nothing_to_remove(rt: &impl Abort, core: &mut Core, key: u64) {
-    match core.remove(&key) {
-        Ok(Some((entry, left))) => {
-            entry.discard();
-            drop(left);
-            assert!(rt; false, "{key} is removed");
-        }
-        Ok(None) => (),
-        Err(error) => panic!(rt; "refused: {error}"),
-    }
-}
-
 #[test]
-fn touches_keep_no_handle(rt: HostRuntime) -> std::result::Result<(), Fail> {
-    let limits = Limits {
-        handles: 1,
-        ids: 10,
-    };
-    let mut core = core(rt.alloc(), 2, 0, limits)?;
-    let (entry, _) = put(&rt, &mut core, 1, 10);
-    match core.touch(&1) {
-        Ok(_) => assert!(rt; false, "a second handle"),
-        Err(error) => assert_eq!(rt; error.number(), 9),
-    }
-    assert_eq!(rt; state_of_entry(&rt, &core, &entry), (1, false));
-    release(&rt, &mut core, entry);
-    for _ in 0..3 {
-        assert!(rt; core.touch(&1)?);
-        assert!(rt; !core.touch(&2)?);
-    }
-    let entry = found(&rt, &mut core, 1);
-    assert_eq!(rt; state_of_entry(&rt, &core, &entry), (1, false));
-    release(&rt, &mut core, entry);
-    Ok(())
-}
-
-#[test]
-fn removed_records_stay_with_their_handles(rt: HostRuntime) -> std::result::Result<(), Fail> {
-    let mut core = core(rt.alloc(), 2, 0, Limits::default())?;
+fn removed_records_stay_with_their_handles(rt: HostRuntime) -> Done {
+    let mut core = core(rt.alloc(), 2, 1)?;
     let (first, _) = put(&rt, &mut core, 1, 10);
-    let (entry, value) = removed(&rt, &mut core, 1);
-    assert_eq!(rt; (value, *entry.value()), (10, 10));
-    assert_eq!(rt; entry.source(), Source::Memory);
-    assert!(rt; !core.contains(&1));
-    assert_eq!(rt; (core.usage(), core.entries()), (0, 0));
-    assert_eq!(rt; state_of_entry(&rt, &core, &first), (2, true));
-    nothing_to_remove(&rt, &mut core, 1);
-    let (newer, leaves) = put(&rt, &mut core, 1, 11);
-    assert!(rt; leaves.is_empty());
-    assert_eq!(rt; state_of_entry(&rt, &core, &newer), (1, false));
-    assert_eq!(rt; state_of_entry(&rt, &core, &entry), (2, true));
-    assert_eq!(rt; *first.value(), 10);
+    let second = core.clone_handle(&first).expect(&rt, "a clone");
+    assert_eq!(rt; (core.refs(&first), core.is_outdated(&first)), (2, false));
+    let removed = core.remove(&1).expect(&rt, "a remove");
+    let (third, left) = removed.expect(&rt, "a record");
+    assert_eq!(rt; (*left.key(), left.id(), third.id()), (1, 0, 0));
+    assert_eq!(rt; (core.refs(&second), core.is_outdated(&second)), (3, true));
+    assert_eq!(rt;
+        (first.source(), third.source()),
+        (Source::Outer, Source::Memory)
+    );
+    assert_eq!(rt; (core.usage(), *third.value()), (0, 10));
     release(&rt, &mut core, first);
-    release(&rt, &mut core, entry);
-    assert!(rt; core.contains(&1));
-    release(&rt, &mut core, newer);
-    Ok(())
-}
-
-#[test]
-fn clones_are_handles(rt: HostRuntime) -> std::result::Result<(), Fail> {
-    let limits = Limits {
-        handles: 3,
-        ids: 10,
-    };
-    let mut core = core(rt.alloc(), 1, 0, limits)?;
-    let (first, _) = put(&rt, &mut core, 1, 10);
-    let second = cloned(&rt, &mut core, &first);
-    assert_eq!(rt; (second.source(), *second.value()), (Source::Outer, 10));
-    let third = found(&rt, &mut core, 1);
-    assert_eq!(rt; state_of_entry(&rt, &core, &second), (3, false));
-    assert!(rt; core.owns(&third));
-    match core.clone_handle(&third) {
-        Ok(clone) => {
-            clone.discard();
-            assert!(rt; false, "a fourth handle");
-        }
-        Err(error) => assert_eq!(rt; error.number(), 9),
-    }
-    release(&rt, &mut core, first);
-    let fourth = cloned(&rt, &mut core, &third);
-    assert_eq!(rt; fourth.source(), Source::Memory);
-    let (newer, leaves) = put(&rt, &mut core, 2, 20);
-    assert_eq!(rt; leaves.len(), 1);
-    for (event, left) in &leaves {
-        assert!(rt; *event == Event::Evict && *left.key() == 1);
-    }
-    assert_eq!(rt; state_of_entry(&rt, &core, &fourth), (3, true));
     release(&rt, &mut core, second);
     release(&rt, &mut core, third);
-    release(&rt, &mut core, fourth);
-    release(&rt, &mut core, newer);
-    assert!(rt; !core.contains(&1) && core.contains(&2));
+    assert!(rt; !core.contains(&1));
+    Ok(())
+}
+
+#[test]
+fn touches_keep_no_handle(rt: HostRuntime) -> Done {
+    let mut core = core(rt.alloc(), 2, 1)?;
+    put_tenfold(&rt, &mut core, 1);
+    assert!(rt; core.touch(&1)? && !core.touch(&2)?);
+    let entry = found(&rt, &mut core, 1);
+    assert_eq!(rt; core.refs(&entry), 1);
+    release(&rt, &mut core, entry);
+    Ok(())
+}
+
+// An entry makes a leave of its record's data once.
+#[test]
+fn a_leave_has_its_record_s_data(rt: HostRuntime) -> Done {
+    let mut core = core(rt.alloc(), 1, 1)?;
+    let (mut entry, _) = put(&rt, &mut core, 7, 70);
+    let left = entry.left().expect(&rt, "a leave");
+    assert!(rt; entry.left().is_none());
+    assert_eq!(rt;
+        (entry.hash(), entry.weight(), entry.properties().hint()),
+        (7, 1, Hint::Normal)
+    );
+    release(&rt, &mut core, entry);
+    assert_eq!(rt;
+        (left.hash(), left.weight(), left.properties().hint()),
+        (7, 1, Hint::Normal)
+    );
+    let leaves = put_tenfold(&rt, &mut core, 8);
+    assert!(rt; leaves[0].1 == left && left.clone()? == left);
+    let piece = left.piece();
+    assert_eq!(rt;
+        (*piece.key(), *piece.value(), piece.properties().hint()),
+        (7, 70, Hint::Normal)
+    );
+    Ok(())
+}
+
+// Under its id: as one handle more where it is in, and else anew.
+#[test]
+fn a_piece_brings_its_record_back(rt: HostRuntime) -> Done {
+    let mut core = core(rt.alloc(), 1, 1)?;
+    let (first, _) = put(&rt, &mut core, 1, 10);
+    let piece = first.piece().expect(&rt, "a piece");
+    let made = core.insert_piece(first.piece().expect(&rt, "a piece"));
+    let (second, leaves) = taken(&rt, &mut core, made.expect(&rt, "an insert"));
+    assert_eq!(rt; (second.id(), core.refs(&first), leaves.len()), (0, 2, 0));
+    release(&rt, &mut core, first);
+    release(&rt, &mut core, second);
+    put_tenfold(&rt, &mut core, 2);
+    let made = core.insert_piece(piece);
+    let (third, leaves) = taken(&rt, &mut core, made.expect(&rt, "an insert"));
+    assert_eq!(rt;
+        (third.id(), *third.value(), third.source()),
+        (0, 10, Source::Memory)
+    );
+    release(&rt, &mut core, third);
+    assert_left(&rt, &leaves, &[(Event::Evict, 2)]);
     Ok(())
 }

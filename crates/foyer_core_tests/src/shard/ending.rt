@@ -1,8 +1,9 @@
-// The end of a shard tells what is in.
+//! The end of a shard tells what is in, each record once.
 
 use super::*;
 use crate::refusing::RefusingPolicy;
 use std::cell::RefCell;
+use std::test::Fail;
 
 // The keys and values that a shard's end tells, in order.
 fn ending<E: Eviction>(
@@ -20,18 +21,15 @@ fn ending<E: Eviction>(
     Ok(told.into_inner())
 }
 
-// The least recently used comes first, where all are in the pool. What was taken out is not told.
+// The least recently used comes first. What was taken out is not told.
 #[test]
-fn all_that_is_in_is_told_in_order(rt: HostRuntime) -> std::result::Result<(), Fail> {
-    let mut shard = three(&rt, rt.alloc())?;
-    shard.configure(&pool(1));
-    put(&rt, rt.alloc(), &mut shard, 4, 1);
-    let held = hold(&rt, &mut shard, 1);
-    release(&rt, &mut shard, held);
-    match shard.remove(3, &3)? {
-        Some((entry, _)) => release(&rt, &mut shard, entry),
-        None => panic!(&rt; "3 is not found"),
+fn all_that_is_in_is_told_in_order(rt: HostRuntime) -> Done {
+    let mut shard: Over<Lru> = empty(rt.alloc(), Limits::default(), &LruConfig::default())?;
+    for key in 1..5 {
+        put(&rt, rt.alloc(), &mut shard, key, 1);
     }
+    assert!(rt; shard.touch(1, &1)?);
+    take_out(&rt, &mut shard, 3);
     let told = ending(rt.alloc(), shard)?;
     assert_eq!(rt; told.as_slice(), [(2, 20), (4, 40), (1, 10)].as_slice());
     Ok(())
@@ -43,27 +41,18 @@ fn end_of_three<const AT: u64>(
     rt: &impl Abort,
     alloc: Global,
 ) -> std::result::Result<Vec<(u64, u64)>, Fail> {
-    let index = TagFinder::empty(alloc);
     let config = LruConfig::default();
-    let mut shard: Over<RefusingPolicy<Lru, AT>> = Shard::new(
-        alloc,
-        0,
-        5,
-        Limits::default(),
-        &config,
-        index,
-    )?;
+    let mut shard: Over<RefusingPolicy<Lru, AT>> = empty(alloc, Limits::default(), &config)?;
     for key in 1..4 {
         put(rt, alloc, &mut shard, key, 1);
     }
-    let held = hold(rt, &mut shard, 1);
-    release(rt, &mut shard, held);
+    shard.touch(1, &1)?;
     ending(alloc, shard)
 }
 
 // Where the policy's order is refused, all are told by their slots.
 #[test]
-fn a_refused_order_loses_none(rt: HostRuntime) -> std::result::Result<(), Fail> {
+fn a_refused_order_loses_none(rt: HostRuntime) -> Done {
     let told = end_of_three::<3>(&rt, rt.alloc())?;
     assert_eq!(rt; told.as_slice(), [(1, 10), (2, 20), (3, 30)].as_slice());
     let told = end_of_three::<4>(&rt, rt.alloc())?;
@@ -73,16 +62,15 @@ fn a_refused_order_loses_none(rt: HostRuntime) -> std::result::Result<(), Fail> 
 
 // A shard that holds nothing tells nothing, and so does one whose only record is held outside of the index.
 #[test]
-fn what_is_not_in_is_not_told(rt: HostRuntime) -> std::result::Result<(), Fail> {
-    let told = ending(rt.alloc(), shard(rt.alloc(), 5)?)?;
-    assert!(rt; told.is_empty());
-    let mut shard = shard(rt.alloc(), 5)?;
+fn what_is_not_in_is_not_told(rt: HostRuntime) -> Done {
+    let nothing: Over<Fifo> = empty(rt.alloc(), Limits::default(), &FifoConfig {})?;
+    assert!(rt; ending(rt.alloc(), nothing)?.is_empty());
+    let mut shard: Over<Fifo> = empty(rt.alloc(), Limits::default(), &FifoConfig {})?;
     put(&rt, rt.alloc(), &mut shard, 1, 1);
-    let Some((entry, _)) = shard.remove(1, &1)? else {
-        panic!(&rt; "1 is not found");
-    };
+    let held = hold(&rt, &mut shard, 1);
+    take_out(&rt, &mut shard, 1);
     let told = ending(rt.alloc(), shard);
-    entry.discard();
+    held.discard();
     assert!(rt; told?.is_empty());
     Ok(())
 }
