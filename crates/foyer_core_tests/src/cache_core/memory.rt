@@ -3,7 +3,7 @@
 use super::*;
 
 #[test]
-fn no_insert_is_refused(rt: HostRuntime) -> Done {
+fn every_growth_is_refused(rt: HostRuntime) -> Done {
     let mut core = core(rt.alloc(), 3, 1)?;
     for key in 0..40 {
         let left = put_tenfold(&rt, &mut core, key).len();
@@ -21,7 +21,7 @@ fn no_insert_is_refused(rt: HostRuntime) -> Done {
 }
 
 #[test]
-fn no_get_is_refused(rt: HostRuntime) -> Done {
+fn get_refuses_memory(rt: HostRuntime) -> Done {
     let mut core = core(rt.alloc(), 3, 1)?;
     let (entry, _) = put(&rt, &mut core, 1, 10);
     for _ in 0..100 {
@@ -42,7 +42,7 @@ fn many(rt: &impl Abort, alloc: Global) -> Core {
 }
 
 #[test]
-fn no_call_on_many_records_is_refused(rt: HostRuntime) -> Done {
+fn clear_of_many_is_refused(rt: HostRuntime) -> Done {
     let many = || many(&rt, rt.alloc());
     assert_eq!(rt; many().clear().expect(&rt, "a clear").len(), 2000);
     assert_eq!(rt; many().evict_all().expect(&rt, "an eviction").len(), 2000);
