@@ -56,7 +56,7 @@ pub fn drive<E: Eviction, S: HashBuilder>(
     // One list of what leaves serves all inserts.
     let mut leaves = Vec::new(alloc);
     for key in keys {
-        // Without a `?`, which would copy each answer.
+        // No `?` here and below: it would copy each answer.
         let found = match look_up(core, *key, &mut leaves) {
             Ok(found) => found,
             Err(error) => return Err(error),

@@ -1,5 +1,5 @@
-//! `foyer-bench` looks the keys of a trace up in a cache, puts in each that is not found, and prints how many were found
-//! and how long it took.
+//! `foyer-bench` looks the keys of a trace up in a cache, puts in each that is not found, and prints how many were
+//! found and how long it took.
 #![tactic(auto)]
 
 use foyer_core::RawCacheConfig;
@@ -128,8 +128,8 @@ fn run<R: AllocGlobal + Clock + Print + Eprint + Threads + Wait + Sync>(
     Ok(())
 }
 
-// Runs once, over a new cache. Whether threads may share a cache is known of each type of caches, and not of a type that
-// is generic in its policy and its hasher: so a macro writes both out.
+// Runs once, over a new cache. Whether threads may share a cache is known of each type of caches, and not of a type
+// that is generic in its policy and its hasher: so a macro writes both out.
 fn run_once<R: AllocGlobal + Clock + Eprint + Threads + Wait + Sync>(
     rt: &R,
     args: &BenchArgs,
@@ -140,9 +140,15 @@ fn run_once<R: AllocGlobal + Clock + Eprint + Threads + Wait + Sync>(
         ($policy:ty) => {
             match (args.threads, args.hasher) {
                 (None, Hasher::Mod) => on_core::<R, $policy, ModHasher>(rt, args, traces, progress),
-                (None, Hasher::Default) => on_core::<R, $policy, DefaultHasher>(rt, args, traces, progress),
-                (Some(_), Hasher::Mod) => run_threads(rt, rt.alloc(), cache::<R, $policy, ModHasher>(rt, args)?, traces),
-                (Some(_), Hasher::Default) => run_threads(rt, rt.alloc(), cache::<R, $policy, DefaultHasher>(rt, args)?, traces),
+                (None, Hasher::Default) => {
+                    on_core::<R, $policy, DefaultHasher>(rt, args, traces, progress)
+                }
+                (Some(_), Hasher::Mod) => {
+                    run_threads(rt, rt.alloc(), shared::<R, $policy, ModHasher>(rt, args)?, traces)
+                }
+                (Some(_), Hasher::Default) => {
+                    run_threads(rt, rt.alloc(), shared::<R, $policy, DefaultHasher>(rt, args)?, traces)
+                }
             }
         };
     }
@@ -174,7 +180,7 @@ fn on_core<R: AllocGlobal + Clock + Eprint, E: Eviction, S: HashBuilder + Defaul
 }
 
 // A cache behind locks, in its policy's default configuration.
-fn cache<'a, R: AllocGlobal + Wait, E: Eviction, S: HashBuilder + Default>(
+fn shared<'a, R: AllocGlobal + Wait, E: Eviction, S: HashBuilder + Default>(
     rt: &'a R,
     args: &BenchArgs,
 ) -> Result<RawCache<&'a R, E, u64, u64, S>, Failure> {

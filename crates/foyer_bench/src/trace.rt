@@ -24,7 +24,8 @@ impl Ranks {
         Ok(Ranks::Weighed(sums_of(alloc, keyspace, skew)?))
     }
 
-    /// The rank that a random number hits: the first one whose sum is above the number's part of the sum of all weights.
+    /// The rank that a random number hits: the first one whose sum is above the number's part of the sum of all
+    /// weights.
     #[inline]
     pub fn rank(&self, random: u64) -> u64 {
         match self {

@@ -90,8 +90,8 @@ fn taken(alloc: Global, told: Result<Leaves>) -> Called {
     }
 }
 
-// Makes a call with which nothing leaves. What leaves with a removal is told by the entry's id alone, since a list of it
-// would take memory.
+// Makes a call with which nothing leaves. What leaves with a removal is told by the entry's id alone, since a list of
+// it would take memory.
 fn looked<E: Eviction>(core: &mut Core<E>, op: Op) -> Result<Option<u64>> {
     let found = match op {
         Op::Ask(key) => match core.get_or_enqueue(&key, None, 0)? {

@@ -174,7 +174,8 @@ pub fn compared<E: Eviction>(
     settled(core, look, first.leaves.len(), &second, wanted).behind_a_refusal()
 }
 
-// Whether what a call told is all that is wanted, and the core looks so, where it looked so before and so many had left.
+// Whether what a call told is all that is wanted, and the core looks so, where it looked so before and so many had
+// left.
 fn settled<E: Eviction>(
     core: &Core<E>,
     before: Look,

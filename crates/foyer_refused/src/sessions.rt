@@ -71,8 +71,8 @@ struct Wanted {
     usage: u128,
 }
 
-// The command of a name, in a session of capacity 4 whose records are the keys 0 to 3, and what is wanted of it. A fetch
-// fails with this fault.
+// The command of a name, in a session of capacity 4 whose records are the keys 0 to 3, and what is wanted of it. A
+// fetch fails with this fault.
 fn command<E: Eviction>(name: &str, fault: &Shared) -> Option<(Asked<E>, Wanted)> {
     let (command, kind, leaves, usage) = match name {
         "step_insert" | "run" => (inserting::<E>(7), Kind::Entry, 1, 4),
