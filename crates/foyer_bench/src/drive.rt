@@ -1,49 +1,68 @@
-//! A run over keys: what is not found is put in.
+//! A run over a core, in one thread: what is not found is put in.
 
-ghost use Rattle.std.specs.Prelude.{◌≡◌, ◌≤◌, None, IfOk, IfErr, length};
-ghost use Rattle.std.specs.Hash.{u64 as u64_input};
-ghost use Rattle.foyer_core.specs.Core.{AtShard, Owns};
-ghost use Rattle.foyer_core.specs.Cores.{core_of, fetches_of, meaning_of_core};
-ghost use Rattle.foyer_core.specs.Idle.{NoneOpen};
-ghost use Rattle.foyer_core.specs.Steps.{GivesBack, RefusesInsert, newcomer};
-ghost use Rattle.foyer_bench.specs.Drive.{LooksUp, NoMoreHandles, PutsIn, RefusesLookUp, Runs, Stops, data_of};
-
+use crate::failure::Failure;
+use crate::progress::Progress;
+use crate::report::Report;
 use foyer_core::{
     AdmitAll, CacheCore, CacheProperties, CoreEntry, InsertedOnto, Leave, UnitWeighter,
 };
 use foyer_policy::{Eviction, HashBuilder, Result};
 use std::alloc::Global;
+use std::rt::Clock;
+use std::time::{Duration, Instant};
 
 /// A core of `u64` keys and values that weigh 1 each.
 pub type Core<E, S> = CacheCore<E, u64, u64, CacheProperties, S, UnitWeighter, AdmitAll>;
 
+// How many keys are looked up between two looks at the clock.
+const PART: usize = 1 << 18;
+
+/// Runs over the keys as `drive` does, and says how long it took.
+pub fn run_core<R: Clock + Eprint, E: Eviction, S: HashBuilder>(
+    rt: &R,
+    alloc: Global,
+    core: &mut Core<E, S>,
+    keys: &[u64],
+    progress: &mut Progress,
+) -> std::result::Result<Report, Failure> {
+    let mut hits = 0usize;
+    let mut time = Duration::ZERO;
+    let mut done = 0usize;
+    for part in keys.chunks(PART) {
+        let start = Instant::now(rt)?;
+        let found = drive(alloc, core, part)?;
+        time = time.saturating_add(start.elapsed(rt)?);
+        hits = hits.saturating_add(found);
+        done = done.saturating_add(part.len());
+        progress.say(rt, done, keys.len());
+    }
+    progress.end(rt);
+    Ok(Report {
+        usage: core.usage(),
+        ops: keys.len(),
+        hits,
+        nanos: u64::try_from(time.as_nanos()).unwrap_or(u64::MAX),
+    })
+}
+
 /// Looks each key up, and puts in each that is not found, as its own value. Each entry is given back at once.
-/// Answers how many keys were found. Refused where a key is: it and the keys after it are left out. It asks that no
-/// fetch is open, as in a new core, and opens none.
+/// Answers how many keys were found. Refused where a key is: it and the keys after it are left out.
 pub fn drive<E: Eviction, S: HashBuilder>(
     alloc: Global,
     core: &mut Core<E, S>,
     keys: &[u64],
-) -> Result<usize>
-    requires idle { NoneOpen (fetches_of core.old) }
-    ensures runs { IfOk result (λ hits. Runs (meaning_of_core core.old) (λ builder key. S.hash_of builder (u64_input key))
-        (core_of core.old) keys.now hits (core_of core.new)) }
-    ensures handles { IfOk result (λ _. NoMoreHandles (core_of core.old) (core_of core.new)) }
-    ensures stops { IfErr result (λ reason. Stops (meaning_of_core core.old) (λ builder key. S.hash_of builder (u64_input key))
-        (core_of core.old) keys.now reason (core_of core.new)) }
-    ensures most { IfOk result (λ hits. hits ≤ length keys.now) }
-    ensures idle { NoneOpen (fetches_of core.new) }
-{
-    let mut hits = 0;
+) -> Result<usize> {
+    let mut hits = 0usize;
     // One list of what leaves serves all inserts.
     let mut leaves = Vec::new(alloc);
     for key in keys {
+        // No `?` here and below: it would copy each answer.
         let found = match look_up(core, *key, &mut leaves) {
             Ok(found) => found,
             Err(error) => return Err(error),
         };
         if found {
-            hits += 1;
+            hits = hits.wrapping_add(1);
         }
     }
     Ok(hits)
@@ -55,15 +74,7 @@ fn look_up<E: Eviction, S: HashBuilder>(
     core: &mut Core<E, S>,
     key: u64,
     leaves: &mut Vec<Leave<u64, u64, CacheProperties>>,
-) -> Result<bool>
-    requires idle { NoneOpen (fetches_of core.old) }
-    ensures looks_up { IfOk result (λ found. LooksUp (meaning_of_core core.old) (λ builder key. S.hash_of builder (u64_input key))
-        (core_of core.old) key found (core_of core.new)) }
-    ensures refused { let hash = S.hash_of (core_of core.old).hash_builder (u64_input key) in
-        IfErr result (λ reason. AtShard (λ s t. RefusesLookUp (meaning_of_core core.old) s (hash, key) reason t)
-        hash (core_of core.old) (core_of core.new)) }
-    ensures idle { NoneOpen (fetches_of core.new) }
-{
+) -> Result<bool> {
     match core.get(&key) {
         Ok(Some(entry)) => {
             end(core, entry);
@@ -83,15 +94,7 @@ fn put_in<E: Eviction, S: HashBuilder>(
     core: &mut Core<E, S>,
     key: u64,
     leaves: &mut Vec<Leave<u64, u64, CacheProperties>>,
-) -> Result<()>
-    requires idle { NoneOpen (fetches_of core.old) }
-    ensures put { let hash = S.hash_of (core_of core.old).hash_builder (u64_input key) in
-        IfOk result (λ _. AtShard (λ s t. PutsIn (meaning_of_core core.old) s (hash, key) t) hash (core_of core.old) (core_of core.new)) }
-    ensures refused { let hash = S.hash_of (core_of core.old).hash_builder (u64_input key) in
-        IfErr result (λ reason. AtShard (λ s t. (leaves : _) × RefusesInsert (meaning_of_core core.old) s (newcomer s (data_of (hash, key)) 1) reason leaves t)
-        hash (core_of core.old) (core_of core.new)) }
-    ensures idle { NoneOpen (fetches_of core.new) }
-{
+) -> Result<()> {
     match core.insert_onto(key, key, leaves) {
         Ok(made) => {
             let InsertedOnto { entry, answers } = made;
@@ -104,23 +107,15 @@ fn put_in<E: Eviction, S: HashBuilder>(
     }
 }
 
-// Gives an entry back that the core owns.
+// Gives an entry back, which is the core's.
 #[inline(always)]
 fn end<E: Eviction, S: HashBuilder>(
     core: &mut Core<E, S>,
     entry: CoreEntry<u64, u64, CacheProperties>,
-)
-    requires owned { Owns (core_of core.old) entry }
-    ensures given_back { (leave : _) × AtShard (λ s t. GivesBack (meaning_of_core core.old) s entry.id leave t)
-        entry.kept.hash (core_of core.old) (core_of core.new) }
-    ensures fetches { fetches_of core.new ≡ fetches_of core.old }
-{
+) {
     match core.give_back(entry) {
         Ok(_) => {}
-        Err(entry) => {
-            entry.discard();
-            unreachable!()
-        }
+        Err(entry) => entry.discard(),
     }
 }
 

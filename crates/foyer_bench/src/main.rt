@@ -1,116 +1,167 @@
-//! `foyer-bench POLICY CAPACITY SHARDS OPS KEYSPACE SKEW SEED [--hasher mod|default] [--reps N] [--hits]`:
-//! looks the keys of a trace up in a cache of this policy, puts in each that is not found, and prints how
-//! many were found and how long it took.
+//! `foyer-bench` looks the keys of a trace up in a cache, puts in each that is not found, and prints how many were
+//! found and how long it took.
 #![tactic(auto)]
 
-ghost use Rattle.std.specs.Prelude.{◌<◌};
-
-use foyer_bench_common::{
-    BenchArgs, Failure, Hasher, Policy, Report, bench_args, keys_of, print_report, ranks_of,
-    words_of,
-};
-use foyer_core::{AdmitAll, Limits, RawCacheConfig, UnitWeighter};
+use foyer_core::RawCacheConfig;
 use foyer_policy::{
     DefaultHasher, Eviction, Fifo, HashBuilder, Lfu, Lru, ModHasher, S3Fifo, Sieve,
 };
-use std::alloc::Global;
-use std::io::IsTerminal;
+use foyer_raw::{NoListener, RawCache};
+use std::env::{self, Env};
+use std::io::{ErrorKind, IsTerminal};
 use std::process::ExitCode;
+use std::sync::Wait;
+use std::thread::Threads;
+use std::time::Clock;
 
-mod clocked;
+mod args;
 mod drive;
+mod failure;
+mod locked;
 mod progress;
+mod random;
+mod report;
+mod trace;
+mod zipf;
 
-use clocked::run_clocked;
-use drive::Core;
+use args::{BenchArgs, Hasher, Policy, are_locked, bench_args};
+use drive::{Core, run_core};
+use failure::Failure;
+use locked::run_threads;
 use progress::Progress;
+use report::Report;
+use trace::traces_of;
 
 // How the program is called.
-const USAGE: &str =
-    "foyer-bench POLICY CAPACITY SHARDS OPS KEYSPACE SKEW SEED [--hasher mod|default] [--reps N] [--hits]";
+const WORDS: &str =
+    "POLICY CAPACITY SHARDS OPS KEYSPACE SKEW SEED [--hasher mod|default] [--reps N] [--hits]";
 
 fn main(rt: HostRuntime) -> ExitCode {
-    let Err(failure) = run(&rt) else {
-        return ExitCode::SUCCESS;
+    let is_terminal = rt.stderr().is_terminal();
+    match words_of(&rt) {
+        Ok(words) => answer(&rt, words.as_slice(), is_terminal),
+        Err(failure) => fail(&rt, failure, ""),
+    }
+}
+
+// The words that the program was started with, without its name. Words that aren't text are bad arguments.
+fn words_of<R: Env + AllocGlobal>(rt: &R) -> Result<Vec<String>, Failure> {
+    let args = match env::args(rt) {
+        Ok(args) => args,
+        Err(error) if error.kind() == ErrorKind::OutOfMemory => return Err(Failure::Memory),
+        Err(_) => return Err(Failure::Arguments),
     };
-    failure.tell(&rt, USAGE);
+    let mut words = Vec::new(rt.alloc());
+    for word in args.skip(1) {
+        words.push(word)?;
+    }
+    Ok(words)
+}
+
+// Does what the words ask for.
+fn answer<R: AllocGlobal + Clock + Print + Eprint + Threads + Wait + Sync>(
+    rt: &R,
+    words: &[String],
+    is_terminal: bool,
+) -> ExitCode {
+    match run(rt, words, is_terminal) {
+        Ok(()) => ExitCode::SUCCESS,
+        Err(failure) if are_locked(words) => fail(rt, failure, "--locked THREADS "),
+        Err(failure) => fail(rt, failure, ""),
+    }
+}
+
+// Says on standard error why the program ends, and how it is called where its arguments are bad.
+fn fail<R: Eprint>(rt: &R, failure: Failure, locked: &str) -> ExitCode {
+    // The status says it where standard error can't.
+    let _ = match failure {
+        Failure::Arguments => eprintln!(rt; "usage: foyer-bench {locked}{WORDS}"),
+        Failure::Memory => eprintln!(rt; "foyer-bench: out of memory"),
+        Failure::InputOrOutput => eprintln!(rt; "foyer-bench: input or output failed"),
+    };
     ExitCode::from(failure.status())
 }
 
-fn run(rt: &HostRuntime) -> Result<(), Failure> {
-    let words = words_of(rt)?;
-    let args = bench_args(words.as_slice()).ok_or(Failure::Arguments)?;
-    let keys = trace_of(rt.alloc(), &args)?;
-    let keys = keys.as_slice();
-    match args.policy {
-        Policy::Fifo => run_policy::<Fifo>(rt, &args, keys),
-        Policy::Lru => run_policy::<Lru>(rt, &args, keys),
-        Policy::Lfu => run_policy::<Lfu>(rt, &args, keys),
-        Policy::S3Fifo => run_policy::<S3Fifo>(rt, &args, keys),
-        Policy::Sieve => run_policy::<Sieve>(rt, &args, keys),
-    }
-}
-
-// The keys that are looked up.
-fn trace_of(alloc: Global, args: &BenchArgs) -> Result<Vec<u64>, Failure>
-    requires { 0 < args.now.skew.den }
-{
-    let ranks = ranks_of(alloc, args)?;
-    keys_of(alloc, &ranks, args.seed, args.ops as usize).map_err(|_| Failure::Memory)
-}
-
-// Runs over a cache of this policy.
-fn run_policy<E: Eviction>(
-    rt: &HostRuntime,
-    args: &BenchArgs,
-    keys: &[u64],
-) -> Result<(), Failure> {
-    match args.options.hasher {
-        Hasher::Mod => run_reps::<E, ModHasher>(rt, args, keys),
-        Hasher::Default => run_reps::<E, DefaultHasher>(rt, args, keys),
-    }
-}
-
 // Runs as often as is asked for, and prints a line for each.
-fn run_reps<E: Eviction, S: HashBuilder + Default>(
-    rt: &HostRuntime,
-    args: &BenchArgs,
-    keys: &[u64],
+fn run<R: AllocGlobal + Clock + Print + Eprint + Threads + Wait + Sync>(
+    rt: &R,
+    words: &[String],
+    is_terminal: bool,
 ) -> Result<(), Failure> {
-    let mut progress = Progress::new(rt, rt.stderr().is_terminal());
-    for rep in 0..args.options.reps {
-        let report = run_once::<E, S>(rt, args, keys, &mut progress)?;
-        progress.end(rt);
-        print_report(rt, args.options, report)?;
+    let args = bench_args(words).ok_or(Failure::Arguments)?;
+    let traces = traces_of(rt.alloc(), &args)?;
+    let mut progress = Progress::new(rt, is_terminal);
+    for _rep in 0..args.reps {
+        let report = run_once(rt, &args, traces.as_slice(), &mut progress)?;
+        let hits = report.hits;
+        if args.hits_alone {
+            println!(rt; "hits={hits}")?;
+        } else {
+            println!(rt; "{report}")?;
+        }
     }
     Ok(())
 }
 
-// Runs over a new cache, in its policy's default configuration.
-fn run_once<E: Eviction, S: HashBuilder + Default>(
-    rt: &HostRuntime,
+// Runs once, over a new cache. Whether threads may share a cache is known of each type of caches, and not of a type
+// that is generic in its policy and its hasher: so a macro writes both out.
+fn run_once<R: AllocGlobal + Clock + Eprint + Threads + Wait + Sync>(
+    rt: &R,
     args: &BenchArgs,
-    keys: &[u64],
+    traces: &[Vec<u64>],
     progress: &mut Progress,
 ) -> Result<Report, Failure> {
+    macro_rules! over {
+        ($policy:ty) => {
+            match (args.threads, args.hasher) {
+                (None, Hasher::Mod) => on_core::<R, $policy, ModHasher>(rt, args, traces, progress),
+                (None, Hasher::Default) => {
+                    on_core::<R, $policy, DefaultHasher>(rt, args, traces, progress)
+                }
+                (Some(_), Hasher::Mod) => {
+                    run_threads(rt, rt.alloc(), shared::<R, $policy, ModHasher>(rt, args)?, traces)
+                }
+                (Some(_), Hasher::Default) => {
+                    run_threads(rt, rt.alloc(), shared::<R, $policy, DefaultHasher>(rt, args)?, traces)
+                }
+            }
+        };
+    }
+    match args.policy {
+        Policy::Fifo => over!(Fifo),
+        Policy::Lru => over!(Lru),
+        Policy::Lfu => over!(Lfu),
+        Policy::S3Fifo => over!(S3Fifo),
+        Policy::Sieve => over!(Sieve),
+    }
+}
+
+// Runs over a core, in its policy's default configuration.
+fn on_core<R: AllocGlobal + Clock + Eprint, E: Eviction, S: HashBuilder + Default>(
+    rt: &R,
+    args: &BenchArgs,
+    traces: &[Vec<u64>],
+    progress: &mut Progress,
+) -> Result<Report, Failure> {
+    let Some(keys) = traces.first() else {
+        return Err(Failure::Arguments);
+    };
     let config = RawCacheConfig {
-        capacity: args.capacity as usize,
         shards: args.shards as usize,
-        eviction_config: E::Config::default(),
-        hash_builder: S::default(),
-        weighter: UnitWeighter,
-        filter: AdmitAll,
-        number: 0,
-        limits: Limits::default(),
+        ..RawCacheConfig::new(args.capacity as usize)
     };
-    let Ok(mut core) = Core::<E, S>::new(rt.alloc(), config) else {
-        return Err(Failure::Memory);
+    let mut core = Core::<E, S>::new(rt.alloc(), config)?;
+    run_core(rt, rt.alloc(), &mut core, keys.as_slice(), progress)
+}
+
+// A cache behind locks, in its policy's default configuration.
+fn shared<'a, R: AllocGlobal + Wait, E: Eviction, S: HashBuilder + Default>(
+    rt: &'a R,
+    args: &BenchArgs,
+) -> Result<RawCache<&'a R, E, u64, u64, S>, Failure> {
+    let config = RawCacheConfig {
+        shards: args.shards as usize,
+        ..RawCacheConfig::new(args.capacity as usize)
     };
-    let run = run_clocked(rt, rt.alloc(), &mut core, keys, progress)?;
-    Ok(Report {
-        usage: core.usage(),
-        ops: keys.len(),
-        hits: run.hits,
-        nanos: run.nanos,
-    })
+    Ok(RawCache::new(rt, rt.alloc(), config, NoListener::new())?)
 }

@@ -1,7 +1,5 @@
 //! How far a run is, on a terminal.
 
-ghost use Rattle.std.specs.Prelude.{◌≡◌, false, None};
-
 use std::rt::Clock;
 use std::time::{Duration, Instant};
 
@@ -15,10 +13,7 @@ pub struct Progress {
 
 impl Progress {
     /// Of a run that begins now. Nothing is said yet, and nothing ever where it is no terminal.
-    pub fn new(rt: &impl Clock, is_terminal: bool) -> Self
-        ensures quiet { is_terminal ≡ false → result.start ≡ None }
-        ensures nothing { result.is_shown ≡ false }
-    {
+    pub fn new(rt: &impl Clock, is_terminal: bool) -> Self {
         let start = if is_terminal {
             Instant::now(rt).ok()
         } else {
@@ -31,10 +26,7 @@ impl Progress {
     }
 
     /// So many keys of all were looked up.
-    pub fn say<R: Clock + Eprint>(&mut self, rt: &R, done: usize, all: usize)
-        ensures quiet { self.old.start ≡ None → self.new ≡ self.old }
-        ensures run { self.new.start ≡ self.old.start }
-    {
+    pub fn say<R: Clock + Eprint>(&mut self, rt: &R, done: usize, all: usize) {
         let Some(start) = self.start else {
             return;
         };
@@ -49,10 +41,7 @@ impl Progress {
     }
 
     /// Takes away what it said.
-    pub fn end(&mut self, rt: &impl Eprint)
-        ensures quiet { self.old.is_shown ≡ false → self.new ≡ self.old }
-        ensures run { self.new.start ≡ self.old.start }
-    {
+    pub fn end(&mut self, rt: &impl Eprint) {
         if self.is_shown {
             self.is_shown = eprint!(rt; "\r     \r").is_err();
         }

@@ -1,7 +1,7 @@
 //! The calls of a core that may want memory, and what each of them makes of a core.
 
 use crate::cores::{Core, Leaves, ended, weighing};
-use foyer_core::{CacheProperties, Inserted, Lookup, Piece, Refused};
+use foyer_core::{CacheProperties, Lookup, Piece, Refused};
 use foyer_policy::{Error, Eviction, Properties, Result};
 use foyer_session::SimValue;
 use std::alloc::Global;
@@ -34,141 +34,90 @@ pub struct Told {
     pub number: Option<u64>,
 }
 
-impl Told {
-    fn new(leaves: Leaves, number: Option<u64>) -> Told {
-        Told {
+/// Makes a call, and lets go what it hands out. The piece is that which an `Op::Piece` puts in.
+pub fn make<E: Eviction>(alloc: Global, core: &mut Core<E>, op: Op, piece: Option<&Kept>) -> Told {
+    match called(alloc, core, op, piece) {
+        Ok((leaves, number)) => Told {
             refused: None,
             leaves,
             number,
-        }
-    }
-
-    fn refused(error: &Error, leaves: Leaves) -> Told {
-        Told {
+        },
+        Err(Refused { error, leaves }) => Told {
             refused: Some(error.number()),
             leaves,
             number: None,
-        }
+        },
     }
 }
 
-/// Makes a call, and lets go what it hands out. The piece is that which an `Op::Piece` puts in.
-pub fn make<E: Eviction>(alloc: Global, core: &mut Core<E>, op: Op, piece: Option<&Kept>) -> Told {
-    match op {
-        Op::Insert(key, weight) => {
-            let made = core.insert(key, weighing(weight));
-            came_in(core, made)
-        }
+type Called = std::result::Result<(Leaves, Option<u64>), Refused<u64, SimValue, CacheProperties>>;
+
+fn called<E: Eviction>(alloc: Global, core: &mut Core<E>, op: Op, piece: Option<&Kept>) -> Called {
+    let made = match op {
+        Op::Insert(key, weight) => core.insert(key, weighing(weight))?,
         Op::Phantom(key) => {
             let properties = CacheProperties::default().with_phantom(true);
-            let made = core.insert_with_properties(key, weighing(1), properties);
-            came_in(core, made)
+            core.insert_with_properties(key, weighing(1), properties)?
         }
-        Op::Piece(_) => put_piece(alloc, core, piece),
-        Op::Resize(capacity) => evicted(core.resize(capacity)),
-        Op::EvictAll => evicted(core.evict_all()),
-        Op::Clear => taken(alloc, core.clear()),
-        Op::FlushIf => taken(alloc, core.flush_if(&|key, _| *key % 2 == 0)),
-        Op::Ask(key) => ask(alloc, core, key),
-        Op::Get(key) => get(alloc, core, key),
-        Op::Remove(key) => remove(alloc, core, key),
-        Op::Touch(key) => touched(alloc, core.touch(&key)),
-        Op::Reconfigure => touched(
-            alloc,
-            core.reconfigure(&E::Config::default()).map(|()| true),
-        ),
-    }
-}
-
-fn put_piece<E: Eviction>(alloc: Global, core: &mut Core<E>, piece: Option<&Kept>) -> Told {
-    let Some(piece) = piece else {
-        return Told::new(Vec::new(alloc), None);
+        Op::Piece(_) => match piece.map(|piece| piece.clone()) {
+            Some(Ok(piece)) => core.insert_piece(piece)?,
+            Some(Err(refused)) => return bare(alloc, Err(Error::from(refused))),
+            None => return bare(alloc, Ok(None)),
+        },
+        Op::Resize(capacity) => return Ok((core.resize(capacity)?, None)),
+        Op::EvictAll => return Ok((core.evict_all()?, None)),
+        Op::Clear => return taken(alloc, core.clear()),
+        Op::FlushIf => return taken(alloc, core.flush_if(&|key, _| *key % 2 == 0)),
+        _ => return bare(alloc, looked(core, op)),
     };
-    match piece.clone() {
-        Ok(piece) => {
-            let made = core.insert_piece(piece);
-            came_in(core, made)
-        }
-        Err(refused) => Told::refused(&Error::from(refused), Vec::new(alloc)),
-    }
+    let (id, leaves) = ended(core, made);
+    Ok((leaves, Some(id)))
 }
 
-fn came_in<E: Eviction>(
-    core: &mut Core<E>,
-    made: std::result::Result<
-        Inserted<u64, SimValue, CacheProperties, u64>,
-        Refused<u64, SimValue, CacheProperties>,
-    >,
-) -> Told {
-    match made {
-        Ok(made) => {
-            let (id, leaves) = ended(core, made);
-            Told::new(leaves, Some(id))
-        }
-        Err(Refused { error, leaves }) => Told::refused(&error, leaves),
-    }
-}
-
-fn evicted(told: std::result::Result<Leaves, Refused<u64, SimValue, CacheProperties>>) -> Told {
+// An answer of a call with which nothing leaves.
+fn bare(alloc: Global, told: Result<Option<u64>>) -> Called {
+    let leaves = Vec::new(alloc);
     match told {
-        Ok(leaves) => Told::new(leaves, None),
-        Err(Refused { error, leaves }) => Told::refused(&error, leaves),
+        Ok(number) => Ok((leaves, number)),
+        Err(error) => Err(Refused { error, leaves }),
     }
 }
 
-fn taken(alloc: Global, told: Result<Leaves>) -> Told {
+fn taken(alloc: Global, told: Result<Leaves>) -> Called {
     match told {
-        Ok(leaves) => Told::new(leaves, None),
-        Err(error) => Told::refused(&error, Vec::new(alloc)),
+        Ok(leaves) => Ok((leaves, None)),
+        Err(error) => bare(alloc, Err(error)),
     }
 }
 
-fn touched(alloc: Global, told: Result<bool>) -> Told {
-    match told {
-        Ok(found) => Told::new(Vec::new(alloc), if found { None } else { Some(0) }),
-        Err(error) => Told::refused(&error, Vec::new(alloc)),
-    }
-}
-
-fn ask<E: Eviction>(alloc: Global, core: &mut Core<E>, key: u64) -> Told {
-    match core.get_or_enqueue(&key, None, 0) {
-        Ok(Lookup::Hit(entry)) => {
-            drop(core.drop_entry(entry));
-            Told::new(Vec::new(alloc), None)
-        }
-        Ok(
+// Makes a call with which nothing leaves. What leaves with a removal is told by the entry's id alone, since a list of
+// it would take memory.
+fn looked<E: Eviction>(core: &mut Core<E>, op: Op) -> Result<Option<u64>> {
+    let found = match op {
+        Op::Ask(key) => match core.get_or_enqueue(&key, None, 0)? {
+            Lookup::Hit(entry) => {
+                drop(core.drop_entry(entry));
+                return Ok(None);
+            }
             Lookup::Lead {
                 fetch: _,
                 token,
                 required: _,
-            },
-        ) => Told::new(Vec::new(alloc), Some(token)),
-        Ok(Lookup::Wait { token }) => Told::new(Vec::new(alloc), Some(token)),
-        Err(error) => Told::refused(&error, Vec::new(alloc)),
-    }
-}
-
-fn get<E: Eviction>(alloc: Global, core: &mut Core<E>, key: u64) -> Told {
-    match core.get(&key) {
-        Ok(Some(entry)) => {
-            let id = entry.id();
-            drop(core.drop_entry(entry));
-            Told::new(Vec::new(alloc), Some(id))
+            } => return Ok(Some(token)),
+            Lookup::Wait { token } => return Ok(Some(token)),
+        },
+        Op::Get(key) => core.get(&key)?,
+        Op::Remove(key) => core.remove(&key)?.map(|(entry, _)| entry),
+        Op::Touch(key) => return Ok(if core.touch(&key)? { None } else { Some(0) }),
+        _ => {
+            core.reconfigure(&E::Config::default())?;
+            return Ok(None);
         }
-        Ok(None) => Told::new(Vec::new(alloc), None),
-        Err(error) => Told::refused(&error, Vec::new(alloc)),
-    }
-}
-
-// What leaves with it is told by the entry's id alone, since a list of it would take memory.
-fn remove<E: Eviction>(alloc: Global, core: &mut Core<E>, key: u64) -> Told {
-    match core.remove(&key) {
-        Ok(Some((entry, _))) => {
-            let id = entry.id();
-            drop(core.drop_entry(entry));
-            Told::new(Vec::new(alloc), Some(id))
-        }
-        Ok(None) => Told::new(Vec::new(alloc), None),
-        Err(error) => Told::refused(&error, Vec::new(alloc)),
-    }
+    };
+    let Some(entry) = found else {
+        return Ok(None);
+    };
+    let id = entry.id();
+    drop(core.drop_entry(entry));
+    Ok(Some(id))
 }

@@ -2,89 +2,54 @@
 
 use crate::call::Op;
 use crate::cores::FETCHED;
-use crate::kept::{Filled, Wanted, compared, prepared};
+use crate::kept::{FULL, Filled, ROOMY, SHARDED, WAITED, Wanted, compared, prepared};
 use crate::word::Shown;
 use foyer_policy::{Event, Eviction};
 use std::alloc::Global;
 
-// A call of a core, by its name. It evicts so many records of the policy's order.
+// A call of a core that holds this. It evicts so many records of the policy's order.
 #[derive(Clone, Copy)]
 struct Row {
-    name: &'static str,
     filled: Filled,
     op: Op,
     evicts: usize,
 }
 
-fn over(name: &'static str, capacity: usize, records: u64, op: Op, evicts: usize) -> Row {
-    Row {
-        name,
-        filled: Filled {
-            shards: 1,
-            capacity,
-            records,
-            waits: false,
-        },
-        op,
-        evicts,
-    }
+// The call of a name.
+fn row(name: &str) -> Option<Row> {
+    let (filled, op, evicts) = match name {
+        "first_insert" => (holding(0), Op::Insert(FETCHED, 1), 0),
+        "insert" => (ROOMY, Op::Insert(FETCHED, 1), 0),
+        "insert_grows_4" => (holding(4), Op::Insert(FETCHED, 1), 0),
+        "insert_grows_8" => (holding(8), Op::Insert(FETCHED, 1), 0),
+        "replace" => (ROOMY, Op::Insert(5, 1), 0),
+        "insert_evicts_1" => (FULL, Op::Insert(FETCHED, 1), 1),
+        "insert_evicts_10" => (FULL, Op::Insert(FETCHED, 10), 10),
+        "phantom" => (ROOMY, Op::Phantom(5), 0),
+        "resident_piece" => (ROOMY, Op::Piece(5), 0),
+        "piece_comes_back" => (ROOMY, Op::Piece(11), 0),
+        "piece_evicts_1" => (FULL, Op::Piece(11), 1),
+        "foreign_piece" => (ROOMY, Op::Piece(FETCHED), 0),
+        "resize" => (FULL, Op::Resize(2), 10),
+        "evict_all" => (SHARDED, Op::EvictAll, 0),
+        "clear" => (SHARDED, Op::Clear, 0),
+        "flush_if" => (SHARDED, Op::FlushIf, 0),
+        "lead" => (ROOMY, Op::Ask(FETCHED), 0),
+        "wait" => (WAITED, Op::Ask(FETCHED), 0),
+        "insert_for_one_who_waits" => (WAITED, Op::Insert(FETCHED, 1), 1),
+        "get" => (ROOMY, Op::Get(5), 0),
+        "remove" => (ROOMY, Op::Remove(5), 0),
+        "touch" => (ROOMY, Op::Touch(5), 0),
+        "found_by_a_fetch" => (ROOMY, Op::Ask(5), 0),
+        "reconfigure" => (ROOMY, Op::Reconfigure, 0),
+        _ => return None,
+    };
+    Some(Row { filled, op, evicts })
 }
 
-fn sharded(name: &'static str, op: Op) -> Row {
-    Row {
-        name,
-        filled: Filled {
-            shards: 4,
-            capacity: 12,
-            records: 12,
-            waits: false,
-        },
-        op,
-        evicts: 0,
-    }
-}
-
-fn waited(name: &'static str, op: Op, evicts: usize) -> Row {
-    Row {
-        name,
-        filled: Filled {
-            shards: 1,
-            capacity: 12,
-            records: 12,
-            waits: true,
-        },
-        op,
-        evicts,
-    }
-}
-
-fn rows() -> [Row; 24] {
-    [
-        over("first_insert", 64, 0, Op::Insert(FETCHED, 1), 0),
-        over("insert", 64, 12, Op::Insert(FETCHED, 1), 0),
-        over("insert_grows_4", 64, 4, Op::Insert(FETCHED, 1), 0),
-        over("insert_grows_8", 64, 8, Op::Insert(FETCHED, 1), 0),
-        over("replace", 64, 12, Op::Insert(5, 1), 0),
-        over("insert_evicts_1", 12, 12, Op::Insert(FETCHED, 1), 1),
-        over("insert_evicts_10", 12, 12, Op::Insert(FETCHED, 10), 10),
-        over("phantom", 64, 12, Op::Phantom(5), 0),
-        over("resident_piece", 64, 12, Op::Piece(5), 0),
-        over("piece_comes_back", 64, 12, Op::Piece(11), 0),
-        over("piece_evicts_1", 12, 12, Op::Piece(11), 1),
-        over("foreign_piece", 64, 12, Op::Piece(FETCHED), 0),
-        over("resize", 12, 12, Op::Resize(2), 10),
-        sharded("evict_all", Op::EvictAll),
-        sharded("clear", Op::Clear),
-        sharded("flush_if", Op::FlushIf),
-        over("lead", 64, 12, Op::Ask(FETCHED), 0),
-        waited("wait", Op::Ask(FETCHED), 0),
-        waited("insert_for_one_who_waits", Op::Insert(FETCHED, 1), 1),
-        over("get", 64, 12, Op::Get(5), 0),
-        over("remove", 64, 12, Op::Remove(5), 0),
-        over("touch", 64, 12, Op::Touch(5), 0),
-        over("found_by_a_fetch", 64, 12, Op::Ask(5), 0),
-        over("reconfigure", 64, 12, Op::Reconfigure, 0),
-    ]
+// Room, and so many records.
+fn holding(records: u64) -> Filled {
+    Filled { records, ..ROOMY }
 }
 
 // In what order records of four shards leave, and those with even keys.
@@ -94,61 +59,63 @@ const EVEN: [u64; 6] = [0, 4, 8, 2, 6, 10];
 
 /// Shows a call of a core, where it has this name. The first ten victims of the policy are these.
 pub fn shown<E: Eviction>(alloc: Global, name: &str, victims: &'static [u64; 10]) -> Option<Shown> {
-    for row in &rows() {
-        if row.name == name {
-            let wanted = wanted(row, victims);
-            let Ok((mut core, piece)) = prepared::<E>(alloc, row.filled, row.op, wanted.capacity)
-            else {
-                return Some(Shown::Early);
-            };
-            return Some(compared(alloc, &mut core, row.op, piece.as_ref(), &wanted));
-        }
-    }
-    None
+    let row = row(name)?;
+    let wanted = wanted(row, victims);
+    let Ok((mut core, piece)) = prepared::<E>(alloc, row.filled, row.op, wanted.capacity) else {
+        return Some(Shown::Early);
+    };
+    Some(compared(alloc, &mut core, row.op, piece.as_ref(), &wanted))
 }
 
 // What a call is to make of a core.
-fn wanted(row: &Row, victims: &'static [u64; 10]) -> Wanted {
-    let Row { filled, op, .. } = row;
-    let evicted = victims.get(..row.evicts).unwrap_or(&[]);
-    let same = Wanted {
-        leaves: &[],
-        events: (Event::Evict, Event::Evict),
-        begins: false,
-        capacity: filled.capacity,
-        enters: None,
-        removes: None,
-        is_open: filled.waits,
-        number: None,
+fn wanted(row: Row, victims: &'static [u64; 10]) -> Wanted {
+    let Row { filled, op, evicts } = row;
+    let same = Wanted::same(filled);
+    let evicting = Wanted {
+        leaves: victims.get(..evicts).unwrap_or(&[]),
+        begins: true,
+        ..same
     };
-    match *op {
+    let next = Some(filled.records);
+    match op {
         Op::Insert(5, weight) => Wanted {
             leaves: &[5],
             events: (Event::Replace, Event::Replace),
             enters: Some((5, weight)),
-            number: Some(filled.records),
+            number: next,
             ..same
         },
         Op::Insert(key, weight) => Wanted {
-            leaves: evicted,
-            begins: true,
             enters: Some((key, weight)),
             is_open: false,
-            number: Some(filled.records),
-            ..same
+            number: next,
+            ..evicting
         },
         Op::Phantom(_) => Wanted {
             leaves: &[5, 5],
             events: (Event::Replace, Event::Remove),
-            number: Some(filled.records),
+            number: next,
             ..same
         },
-        Op::Piece(_) => of_piece(row, evicted, same),
-        Op::Resize(capacity) => Wanted {
-            leaves: evicted,
-            begins: true,
-            capacity,
+        // Of a record that is in, of one that left, or of another core.
+        Op::Piece(key) if key < 10 => Wanted {
+            number: Some(key),
             ..same
+        },
+        Op::Piece(key) if key < 20 => Wanted {
+            capacity: if evicts == 0 { filled.capacity } else { 11 },
+            enters: Some((key, 1)),
+            number: Some(key),
+            ..evicting
+        },
+        Op::Piece(key) => Wanted {
+            enters: Some((key, 1)),
+            number: next,
+            ..same
+        },
+        Op::Resize(capacity) => Wanted {
+            capacity,
+            ..evicting
         },
         Op::EvictAll => Wanted {
             leaves: &SHARD_BY_SHARD,
@@ -164,8 +131,7 @@ fn wanted(row: &Row, victims: &'static [u64; 10]) -> Wanted {
             leaves: &EVEN,
             ..same
         },
-        Op::Ask(5) => same,
-        Op::Ask(_) => Wanted {
+        Op::Ask(key) if key != 5 => Wanted {
             is_open: true,
             number: Some(filled.waits as u64),
             ..same
@@ -179,34 +145,6 @@ fn wanted(row: &Row, victims: &'static [u64; 10]) -> Wanted {
             number: Some(key),
             ..same
         },
-        Op::Touch(_) | Op::Reconfigure => same,
-    }
-}
-
-// The same of a piece: of a record that is in, of one that left, or of another core.
-fn of_piece(row: &Row, evicted: &'static [u64], same: Wanted) -> Wanted {
-    match row.op {
-        Op::Piece(key) if key < 10 => Wanted {
-            number: Some(key),
-            ..same
-        },
-        Op::Piece(key) if key < 20 => Wanted {
-            leaves: evicted,
-            begins: true,
-            capacity: if row.evicts == 0 {
-                row.filled.capacity
-            } else {
-                11
-            },
-            enters: Some((key, 1)),
-            number: Some(key),
-            ..same
-        },
-        Op::Piece(key) => Wanted {
-            enters: Some((key, 1)),
-            number: Some(row.filled.records),
-            ..same
-        },
-        _ => same,
+        Op::Ask(_) | Op::Touch(_) | Op::Reconfigure => same,
     }
 }

@@ -1,6 +1,6 @@
 //! Cores, and how they look.
 
-use foyer_core::{AdmitAll, CacheCore, CacheProperties, Inserted, Leave, Limits, RawCacheConfig};
+use foyer_core::{AdmitAll, CacheCore, CacheProperties, Inserted, Leave, RawCacheConfig};
 use foyer_policy::{Eviction, ModHasher, Result};
 use foyer_session::{SimValue, SimWeighter};
 use std::alloc::Global;
@@ -33,19 +33,13 @@ pub fn empty<E: Eviction>(
     shards: usize,
     number: u64,
 ) -> Result<Core<E>> {
-    CacheCore::new(
-        alloc,
-        RawCacheConfig {
-            capacity,
-            shards,
-            eviction_config: E::Config::default(),
-            hash_builder: ModHasher::default(),
-            weighter: SimWeighter,
-            filter: AdmitAll,
-            number,
-            limits: Limits::default(),
-        },
-    )
+    let config = RawCacheConfig {
+        shards,
+        hash_builder: ModHasher::default(),
+        number,
+        ..RawCacheConfig::new(capacity).with_weighter(SimWeighter)
+    };
+    CacheCore::new(alloc, config)
 }
 
 /// Puts records of the keys below `end` in, each of weight 1, and lets their entries go.

@@ -17,6 +17,29 @@ pub struct Filled {
     pub waits: bool,
 }
 
+/// One shard with room for more.
+pub const ROOMY: Filled = Filled {
+    shards: 1,
+    capacity: 64,
+    records: 12,
+    waits: false,
+};
+
+/// One shard that is full.
+pub const FULL: Filled = Filled {
+    capacity: 12,
+    ..ROOMY
+};
+
+/// The same, with one who waits.
+pub const WAITED: Filled = Filled {
+    waits: true,
+    ..FULL
+};
+
+/// Four shards that are full.
+pub const SHARDED: Filled = Filled { shards: 4, ..FULL };
+
 /// What a call is to make of a core.
 #[derive(Clone, Copy)]
 pub struct Wanted {
@@ -36,6 +59,22 @@ pub struct Wanted {
     pub is_open: bool,
     /// The number that is given.
     pub number: Option<u64>,
+}
+
+impl Wanted {
+    /// Nothing changes.
+    pub fn same(filled: Filled) -> Wanted {
+        Wanted {
+            leaves: &[],
+            events: (Event::Evict, Event::Evict),
+            begins: false,
+            capacity: filled.capacity,
+            enters: None,
+            removes: None,
+            is_open: filled.waits,
+            number: None,
+        }
+    }
 }
 
 /// A core before a call, and the piece of a record that the call puts in: of one that it holds, of one that left it, or
@@ -113,7 +152,7 @@ pub fn compared<E: Eviction>(
     let before = Look::of(core);
     let first = make(alloc, core, op, piece);
     let Some(number) = first.refused else {
-        return settled(core, before, &first.leaves, None, &first, wanted);
+        return settled(core, before, 0, &first, wanted);
     };
     if number != 7 {
         return Shown::Wrong("another refusal");
@@ -121,55 +160,34 @@ pub fn compared<E: Eviction>(
     if !(begin(&first.leaves, 0, wanted) && (wanted.begins || first.leaves.is_empty())) {
         return Shown::Wrong("what left a refused call");
     }
-    if Look::of(core) != refused_look(before, &first.leaves, op) {
+    let mut look = before.without(&first.leaves);
+    if let Op::Resize(capacity) = op {
+        look.capacity = capacity;
+    }
+    if Look::of(core) != look {
         return Shown::Wrong("the core after a refused call");
     }
     let second = make(alloc, core, op, piece);
     if second.refused.is_some() {
         return Shown::Wrong("refused twice");
     }
-    match settled(
-        core,
-        before,
-        &first.leaves,
-        Some(&second.leaves),
-        &second,
-        wanted,
-    ) {
-        Shown::Done => Shown::Kept,
-        shown => shown,
-    }
+    settled(core, look, first.leaves.len(), &second, wanted).behind_a_refusal()
 }
 
-// How a core looks after a refused call: some have left, and a resize has set the capacity.
-fn refused_look(before: Look, leaves: &Leaves, op: Op) -> Look {
-    let mut look = before.without(leaves);
-    if let Op::Resize(capacity) = op {
-        look.capacity = capacity;
-    }
-    look
-}
-
-// Whether what the calls told is all that is wanted, and the core looks so.
+// Whether what a call told is all that is wanted, and the core looks so, where it looked so before and so many had
+// left.
 fn settled<E: Eviction>(
     core: &Core<E>,
     before: Look,
-    first: &Leaves,
-    second: Option<&Leaves>,
+    gone: usize,
     told: &Told,
     wanted: &Wanted,
 ) -> Shown {
-    let mut look = before.without(first);
-    let mut count = first.len();
-    let mut begins = begin(first, 0, wanted);
-    if let Some(second) = second {
-        look = look.without(second);
-        begins = begins && begin(second, count, wanted);
-        count = count.saturating_add(second.len());
-    }
-    if !begins || count != wanted.leaves.len() {
+    let all = gone.saturating_add(told.leaves.len());
+    if !begin(&told.leaves, gone, wanted) || all != wanted.leaves.len() {
         return Shown::Wrong("what left");
     }
+    let mut look = before.without(&told.leaves);
     look.capacity = wanted.capacity;
     look.is_open = wanted.is_open;
     if let Some(key) = wanted.removes {
@@ -195,8 +213,7 @@ pub fn begin(leaves: &Leaves, at: usize, wanted: &Wanted) -> bool {
             return false;
         };
         place = place.saturating_add(1);
-        let is_last = place == wanted.leaves.len();
-        let reason = if is_last {
+        let reason = if place == wanted.leaves.len() {
             wanted.events.1
         } else {
             wanted.events.0

@@ -47,6 +47,7 @@ fn words(rt: &HostRuntime) -> Option<Vec<String>> {
 fn asked(alloc: Global, words: &[String]) -> Shown {
     match words {
         [policy, call] => of_name(alloc, policy.as_str(), call.as_str()),
+        [word] if matches!(word.as_str(), "-h" | "--help") => Shown::Usage,
         _ => Shown::Wrong("the arguments"),
     }
 }
@@ -69,30 +70,18 @@ fn of_name(alloc: Global, policy: &str, call: &str) -> Shown {
 
 // Shows a call over a policy, and then asks for one more box.
 fn of_policy<E: Eviction>(alloc: Global, call: &str, victims: &'static [u64; 10]) -> Shown {
-    let Some(shown) = of_call::<E>(alloc, call, victims) else {
-        return Shown::Wrong("the call");
-    };
-    match shown {
-        Shown::Done if Box::new(alloc, 0u8).is_err() => Shown::Behind,
-        shown => shown,
+    match of_call::<E>(alloc, call, victims) {
+        Some(Shown::Done) if Box::new(alloc, 0u8).is_err() => Shown::Behind,
+        Some(shown) => shown,
+        None => Shown::Wrong("the call"),
     }
 }
 
 fn of_call<E: Eviction>(alloc: Global, call: &str, victims: &'static [u64; 10]) -> Option<Shown> {
-    if let Some(shown) = calls::shown::<E>(alloc, call, victims) {
-        return Some(shown);
-    }
-    if let Some(shown) = others::shown::<E>(alloc, call, victims) {
-        return Some(shown);
-    }
-    if let Some(shown) = parts::shown(alloc, call) {
-        return Some(shown);
-    }
-    if let Some(shown) = policies::shown::<E>(alloc, call) {
-        return Some(shown);
-    }
-    if let Some(shown) = sessions::shown::<E>(alloc, call) {
-        return Some(shown);
-    }
-    told::shown::<E>(alloc, call)
+    calls::shown::<E>(alloc, call, victims)
+        .or_else(|| others::shown::<E>(alloc, call, victims))
+        .or_else(|| parts::shown(alloc, call))
+        .or_else(|| policies::shown::<E>(alloc, call))
+        .or_else(|| sessions::shown::<E>(alloc, call))
+        .or_else(|| told::shown::<E>(alloc, call))
 }

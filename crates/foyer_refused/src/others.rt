@@ -1,15 +1,11 @@
 //! The calls of a core that hand out more than leaves: a new core, the end of a fetch, and calls on an entry.
 
-ghost use Rattle.std.specs.Prelude.{◌≡◌, ◌↔◌, IsTrue};
-ghost use Rattle.foyer_core.specs.Core.{Owns};
-ghost use Rattle.foyer_core.specs.Cores.{core_of};
-
 use crate::call::{Op, make};
 use crate::cores::{Core, FETCHED, Leaves, Look, empty, weighing};
-use crate::kept::{Filled, Wanted, ask_for, begin, prepared};
+use crate::kept::{WAITED, Wanted, ask_for, begin, prepared};
 use crate::word::Shown;
 use foyer_core::{CacheProperties, CoreEntry, Ended, FetchTarget, InsertedOnto, Outcome};
-use foyer_policy::{Event, Eviction, Result, Source};
+use foyer_policy::{Eviction, Result, Source};
 use foyer_session::SimValue;
 use std::alloc::Global;
 
@@ -28,46 +24,46 @@ pub fn shown<E: Eviction>(alloc: Global, name: &str, victims: &'static [u64; 10]
     }
 }
 
-// A core of twelve records, with one who waits.
+// A full core, with one who waits.
 fn waited<E: Eviction>(alloc: Global) -> Result<Core<E>> {
-    let filled = Filled {
-        shards: 1,
-        capacity: 12,
-        records: 12,
-        waits: true,
-    };
-    Ok(prepared::<E>(alloc, filled, Op::Clear, 12)?.0)
+    Ok(prepared::<E>(alloc, WAITED, Op::Clear, 12)?.0)
+}
+
+// The first victims leave, in order.
+fn evicting(victims: &'static [u64; 10]) -> Wanted {
+    Wanted {
+        leaves: victims,
+        ..Wanted::same(WAITED)
+    }
 }
 
 fn changed<E: Eviction>(alloc: Global, name: &str, victims: &'static [u64; 10]) -> Shown {
     let Ok(mut core) = waited::<E>(alloc) else {
         return Shown::Early;
     };
+    let wanted = evicting(victims);
     match name {
-        "complete" => completed(&mut core, victims),
+        "complete" => completed(&mut core, &wanted),
         "cancel" => cancelled(&mut core),
-        "insert_onto_evicts_10" => lent(alloc, &mut core, victims),
-        _ => resized(alloc, &mut core, victims),
+        "insert_onto_evicts_10" => lent(alloc, &mut core, &wanted),
+        _ => resized(alloc, &mut core, &wanted),
     }
 }
 
 // A new core. Nothing is left of one that was refused.
 fn opened<E: Eviction>(alloc: Global, shards: usize) -> Shown {
-    match empty::<E>(alloc, 10, shards, 0) {
-        Ok(core) => is_new(&core, shards, Shown::Done),
-        Err(error) if error.number() == 7 => match empty::<E>(alloc, 10, shards, 0) {
-            Ok(core) => is_new(&core, shards, Shown::Kept),
-            Err(_) => Shown::Wrong("refused twice"),
-        },
+    let (made, shown) = match empty::<E>(alloc, 10, shards, 0) {
+        Err(error) if error.number() == 7 => (empty::<E>(alloc, 10, shards, 0), Shown::Kept),
+        made => (made, Shown::Done),
+    };
+    match made {
+        Ok(core) if core.shards() == shards && core.capacity() == 10 && core.entries() == 0 => {
+            shown
+        }
+        Ok(_) => Shown::Wrong("the new core"),
+        Err(error) if error.number() == 7 => Shown::Wrong("refused twice"),
         Err(_) => Shown::Wrong("another refusal"),
     }
-}
-
-fn is_new<E: Eviction>(core: &Core<E>, shards: usize, shown: Shown) -> Shown {
-    if core.shards() == shards && core.capacity() == 10 && core.entries() == 0 {
-        return shown;
-    }
-    Shown::Wrong("the new core")
 }
 
 // What the end of a fetch told: whether it was open, whom it answered, with what refusal, and what left.
@@ -105,11 +101,10 @@ fn complete<E: Eviction>(core: &mut Core<E>, fetch: u64) -> Ending {
 
 // A fetch completes with a value, for which four records leave. Where that is refused its place is closed, who waits is
 // told so, and some of them have left; the next fetch then completes.
-fn completed<E: Eviction>(core: &mut Core<E>, victims: &'static [u64; 10]) -> Shown {
+fn completed<E: Eviction>(core: &mut Core<E>, wanted: &Wanted) -> Shown {
     let before = Look::of(core);
-    let wanted = evicting(victims, 12);
     let first = complete(core, 0);
-    if !first.found || first.token != Some(0) || !begin(&first.leaves, 0, &wanted) {
+    if !first.found || first.token != Some(0) || !begin(&first.leaves, 0, wanted) {
         return Shown::Wrong("who is answered, or what left");
     }
     let mut look = before.without(&first.leaves);
@@ -120,7 +115,7 @@ fn completed<E: Eviction>(core: &mut Core<E>, victims: &'static [u64; 10]) -> Sh
             core,
             look,
             first.leaves.len(),
-            &wanted,
+            wanted,
         ),
         _ => Shown::Wrong("the core after the completion"),
     }
@@ -152,11 +147,10 @@ fn completed_again<E: Eviction>(
 }
 
 // A resize that is refused has set the capacity: an insert evicts the rest, and what gives way to it.
-fn resized<E: Eviction>(alloc: Global, core: &mut Core<E>, victims: &'static [u64; 10]) -> Shown {
-    let wanted = evicting(victims, 3);
+fn resized<E: Eviction>(alloc: Global, core: &mut Core<E>, wanted: &Wanted) -> Shown {
     let before = Look::of(core);
     let first = make(alloc, core, Op::Resize(3), None);
-    if !begin(&first.leaves, 0, &wanted) {
+    if !begin(&first.leaves, 0, wanted) {
         return Shown::Wrong("what left for a lower capacity");
     }
     let mut look = before.without(&first.leaves);
@@ -166,7 +160,7 @@ fn resized<E: Eviction>(alloc: Global, core: &mut Core<E>, victims: &'static [u6
     }
     match first.refused {
         None if first.leaves.len() == 9 => Shown::Done,
-        Some(7) => inserted(alloc, core, first.leaves.len(), &wanted),
+        Some(7) => inserted(alloc, core, first.leaves.len(), wanted),
         _ => Shown::Wrong("a resize"),
     }
 }
@@ -186,17 +180,16 @@ fn inserted<E: Eviction>(alloc: Global, core: &mut Core<E>, gone: usize, wanted:
 
 // An insert that appends what leaves to a list with room for it. Where it is refused, the same insert goes on with the
 // list.
-fn lent<E: Eviction>(alloc: Global, core: &mut Core<E>, victims: &'static [u64; 10]) -> Shown {
+fn lent<E: Eviction>(alloc: Global, core: &mut Core<E>, wanted: &Wanted) -> Shown {
     let Ok(mut leaves) = Vec::with_capacity(alloc, 16) else {
         return Shown::Early;
     };
-    let wanted = evicting(victims, 12);
     let before = Look::of(core);
     match put_onto(core, &mut leaves) {
-        None => appended(core, before, &leaves, &wanted, Shown::Done),
-        Some(7) if begin(&leaves, 0, &wanted) && Look::of(core) == before.without(&leaves) => {
+        None => appended(core, before, &leaves, wanted, Shown::Done),
+        Some(7) if begin(&leaves, 0, wanted) && Look::of(core) == before.without(&leaves) => {
             match put_onto(core, &mut leaves) {
-                None => appended(core, before, &leaves, &wanted, Shown::Kept),
+                None => appended(core, before, &leaves, wanted, Shown::Kept),
                 Some(_) => Shown::Wrong("refused twice"),
             }
         }
@@ -233,20 +226,6 @@ fn appended<E: Eviction>(
     shown
 }
 
-// The first victims leave, in order.
-fn evicting(victims: &'static [u64; 10], capacity: usize) -> Wanted {
-    Wanted {
-        leaves: victims,
-        events: (Event::Evict, Event::Evict),
-        begins: true,
-        capacity,
-        enters: None,
-        removes: None,
-        is_open: false,
-        number: None,
-    }
-}
-
 type Entry = CoreEntry<u64, SimValue, CacheProperties>;
 
 // A call on an entry of the key 5, which changes nothing, and the end of the entry.
@@ -276,18 +255,15 @@ fn cloned<E: Eviction>(core: &mut Core<E>, entry: &Entry) -> Shown {
     if !core.owns(entry) {
         return Shown::Wrong("the entry isn't owned");
     }
-    match core.clone_handle(entry) {
-        Ok(clone) => {
-            let same = clone.id() == 5;
-            drop(core.drop_entry(clone));
-            if same {
-                Shown::Done
-            } else {
-                Shown::Wrong("the clone")
-            }
-        }
-        Err(_) => Shown::Wrong("a clone is refused"),
+    let Ok(clone) = core.clone_handle(entry) else {
+        return Shown::Wrong("a clone is refused");
+    };
+    let id = clone.id();
+    drop(core.drop_entry(clone));
+    if id == 5 {
+        return Shown::Done;
     }
+    Shown::Wrong("the clone")
 }
 
 // A piece of an entry's record, and a clone of that.
@@ -327,10 +303,9 @@ fn cancelled<E: Eviction>(core: &mut Core<E>) -> Shown {
     let told = found && answers.waiters.len() == 1 && leaves.is_empty();
     core.drop_answers(answers);
     if told {
-        Shown::Done
-    } else {
-        Shown::Wrong("who is answered")
+        return Shown::Done;
     }
+    Shown::Wrong("who is answered")
 }
 
 // The sums and the hash of a key.

@@ -8,84 +8,62 @@ use std::alloc::Global;
 /// Shows the call of this name, where it is one of these.
 pub fn shown(alloc: Global, name: &str) -> Option<Shown> {
     match name {
-        "record" => Some(recorded(alloc)),
-        "sketch" => Some(of_sketch(alloc)),
-        "index_insert" => Some(of_index(alloc, false)),
-        "index_drain" => Some(of_index(alloc, true)),
+        "record" => Some(of_record(alloc)),
+        "sketch" => Some(twice(&mut (), |_| Sketch::new(alloc, 3, 33).map(|_| ()), |_| true)),
+        "index_insert" => Some(of_index(alloc, |index| index.insert(9, 9, 9).map(|_| ()))),
+        "index_drain" => Some(of_index(alloc, |index| index.drain().map(|_| ()))),
         "lists_reserve" => Some(of_lists(alloc)),
         "ghosts_push" => Some(of_ghosts(alloc)),
         _ => None,
     }
 }
 
-/// What a call shows that answers this first, and this second where it was refused.
-pub fn twice(first: Result<()>, second: Option<Result<()>>, same: bool) -> Shown {
-    let Err(error) = first else {
-        return Shown::Done;
-    };
-    if error.number() != 7 {
-        return Shown::Wrong("another refusal");
+/// Makes a call until it is not refused, and asks whether a refused one changed nothing.
+pub fn twice<T, C: Fn(&mut T) -> Result<()>, S: Fn(&mut T) -> bool>(
+    part: &mut T,
+    call: C,
+    is_same: S,
+) -> Shown {
+    match call(part) {
+        Ok(()) => return Shown::Done,
+        Err(error) if error.number() != 7 => return Shown::Wrong("another refusal"),
+        Err(_) => {}
     }
-    if !same {
+    if !is_same(part) {
         return Shown::Wrong("a refused call changed something");
     }
-    match second {
-        Some(Ok(())) => Shown::Kept,
-        _ => Shown::Wrong("refused twice"),
+    match call(part) {
+        Ok(()) => Shown::Kept,
+        Err(_) => Shown::Wrong("refused twice"),
     }
 }
 
-fn recorded(alloc: Global) -> Shown {
-    let first = made(alloc);
-    let second = match &first {
-        Ok(()) => None,
-        Err(_) => Some(made(alloc)),
-    };
-    twice(first, second, true)
-}
-
-fn made(alloc: Global) -> Result<()> {
-    let data = Data {
-        key: 1u64,
+fn of_record(alloc: Global) -> Shown {
+    let data = |key| Data {
+        key,
         value: 2u64,
         properties: CacheProperties::default(),
         hash: 1,
         weight: 1,
     };
-    Record::new(alloc, data).map(|_| ())
+    twice(
+        &mut (),
+        |_| Record::new(alloc, data(1u64)).map(|_| ()),
+        |_| true,
+    )
 }
 
-// An index of four keys, whose tables are full, which takes in one more, or gives all its numbers.
-fn of_index(alloc: Global, drains: bool) -> Shown {
+// A call of an index of four keys, whose tables are full.
+fn of_index<C: Fn(&mut HashTableIndexer<u64>) -> Result<()>>(alloc: Global, call: C) -> Shown {
     let mut index = HashTableIndexer::new(alloc);
     for key in 0..4u64 {
         let Ok(_) = index.insert(key, key, key) else {
             return Shown::Early;
         };
     }
-    let first = changed(&mut index, drains);
-    let same = holds(&index);
-    let second = match &first {
-        Ok(()) => None,
-        Err(_) => Some(changed(&mut index, drains)),
-    };
-    twice(first, second, same)
-}
-
-fn changed(index: &mut HashTableIndexer<u64>, drains: bool) -> Result<()> {
-    if drains {
-        return index.drain().map(|_| ());
-    }
-    index.insert(9, 9, 9).map(|_| ())
-}
-
-// Whether the first four keys are in, and the fifth is not.
-fn holds(index: &HashTableIndexer<u64>) -> bool {
-    let mut all = index.get(9, &9).is_none();
-    for key in 0..4u64 {
-        all = all && index.get(key, &key) == Some(key);
-    }
-    all
+    twice(&mut index, call, |index| {
+        index.get(9, &9).is_none() && (0..4u64).all(|key| index.get(key, &key) == Some(key))
+    })
 }
 
 // Room in lists that have a value.
@@ -95,15 +73,10 @@ fn of_lists(alloc: Global) -> Shown {
         return Shown::Early;
     };
     let place = lists.push_back(1, 7);
-    let first = lists.reserve(9);
-    let second = match &first {
-        Ok(()) => None,
-        Err(_) => Some(lists.reserve(9)),
-    };
     twice(
-        first,
-        second,
-        lists.pop_front(0).is_none() && lists.front(1) == Some(place),
+        &mut lists,
+        |lists| lists.reserve(9),
+        |lists| { lists.pop_front(0).is_none() && lists.front(1) == Some(place) },
     )
 }
 
@@ -115,25 +88,13 @@ fn of_ghosts(alloc: Global) -> Shown {
             return Shown::Early;
         };
     }
-    let first = ghosts.push(9, 3);
-    let refused = first.is_err();
-    let same = ghosts.weight() == 4 && ghosts.contains(0) && !ghosts.contains(9);
-    let second = if refused {
-        Some(ghosts.push(9, 3))
-    } else {
-        None
-    };
+    let shown = twice(
+        &mut ghosts,
+        |ghosts| ghosts.push(9, 3),
+        |ghosts| { ghosts.weight() == 4 && ghosts.contains(0) && !ghosts.contains(9) },
+    );
     if !ghosts.contains(9) || ghosts.contains(2) || !ghosts.contains(3) {
         return Shown::Wrong("the ghosts");
     }
-    twice(first, second, same)
-}
-
-fn of_sketch(alloc: Global) -> Shown {
-    let first = Sketch::new(alloc, 3, 33).map(|_| ());
-    let second = match &first {
-        Ok(()) => None,
-        Err(_) => Some(Sketch::new(alloc, 3, 33).map(|_| ())),
-    };
-    twice(first, second, true)
+    shown
 }

@@ -49,16 +49,6 @@ pub fn empty<E: Eviction>(alloc: Global, capacity: usize) -> Result<Simulated<E>
     Ok(Session::new(alloc, CacheCore::new(alloc, config)?))
 }
 
-// A command by its name, what it answers, how many records leave, and the usage then, in a session of capacity 4 whose
-// records are the keys 0 to 3.
-#[derive(Clone, Copy)]
-struct Row {
-    name: &'static str,
-    kind: Kind,
-    leaves: usize,
-    usage: u128,
-}
-
 // What a command answers.
 #[derive(Clone, Copy, PartialEq, Eq)]
 enum Kind {
@@ -73,106 +63,86 @@ enum Kind {
     Number,
 }
 
-fn answers(name: &'static str, kind: Kind, leaves: usize, usage: u128) -> Row {
-    Row {
-        name,
+// What a command answers, how many records leave, and the usage then.
+#[derive(Clone, Copy)]
+struct Wanted {
+    kind: Kind,
+    leaves: usize,
+    usage: u128,
+}
+
+// The command of a name, in a session of capacity 4 whose records are the keys 0 to 3, and what is wanted of it. A
+// fetch fails with this fault.
+fn command<E: Eviction>(name: &str, fault: &Shared) -> Option<(Asked<E>, Wanted)> {
+    let (command, kind, leaves, usage) = match name {
+        "step_insert" | "run" => (inserting::<E>(7), Kind::Entry, 1, 4),
+        "step_insert_piece" => (Command::InsertPiece(0), Kind::Entry, 0, 4),
+        "step_get" => (Command::Get(2), Kind::Found, 0, 4),
+        "step_contains" => (Command::Contains(2), Kind::Yes, 0, 4),
+        "step_touch" => (Command::Touch(2), Kind::Yes, 0, 4),
+        "step_remove" => (Command::Remove(2), Kind::Found, 1, 3),
+        "step_clone" => (Command::Clone(1), Kind::Found, 0, 4),
+        "step_drop" => (Command::Drop(1), Kind::Done, 0, 4),
+        "step_take_piece" => (Command::TakePiece(1), Kind::Piece, 0, 4),
+        "step_refs" => (Command::Refs(1), Kind::Number, 0, 4),
+        "step_outdated" => (Command::Outdated(1), Kind::No, 0, 4),
+        "step_lead" => (Command::GetOrFetch(8, None), Kind::Token, 0, 4),
+        "step_wait" => (Command::GetOrFetch(9, Some(5)), Kind::Token, 0, 4),
+        "step_complete" => {
+            let end = End::Value(weighing(1), CacheProperties::default(), Source::Outer);
+            (Command::Complete(9, 0, end), Kind::Answered, 1, 4)
+        }
+        "step_fail" => {
+            let fault = Arc::try_clone(fault).ok()?;
+            (Command::Fail(9, 0, fault), Kind::Answered, 0, 4)
+        },
+        "step_cancel" => (Command::Cancel(9, 0), Kind::Answered, 0, 4),
+        "step_fetch_or_take" => (Command::FetchOrTake(9, 0, None), Kind::Answered, 0, 4),
+        "step_is_open" => (Command::IsOpen(9, 0), Kind::Yes, 0, 4),
+        "step_clear" => (Command::Clear, Kind::Done, 4, 0),
+        "step_evict_all" => (Command::EvictAll, Kind::Done, 4, 0),
+        "step_flush_if" => (Command::FlushIf(EvenKeys), Kind::Done, 2, 2),
+        "step_resize" => (Command::Resize(2), Kind::Done, 2, 2),
+        "step_reconfigure" => {
+            let config = E::Config::default();
+            (Command::Reconfigure(config), Kind::Done, 0, 4)
+        }
+        "step_capacity" => (Command::Capacity, Kind::Number, 0, 4),
+        "step_usage" => (Command::Usage, Kind::Number, 0, 4),
+        "step_entries" => (Command::Entries, Kind::Number, 0, 4),
+        _ => return None,
+    };
+    let wanted = Wanted {
         kind,
         leaves,
         usage,
-    }
+    };
+    Some((command, wanted))
 }
 
-fn rows() -> [Row; 27] {
-    [
-        answers("step_insert", Kind::Entry, 1, 4),
-        answers("step_insert_piece", Kind::Entry, 0, 4),
-        answers("step_get", Kind::Found, 0, 4),
-        answers("step_contains", Kind::Yes, 0, 4),
-        answers("step_touch", Kind::Yes, 0, 4),
-        answers("step_remove", Kind::Found, 1, 3),
-        answers("step_clone", Kind::Found, 0, 4),
-        answers("step_drop", Kind::Done, 0, 4),
-        answers("step_take_piece", Kind::Piece, 0, 4),
-        answers("step_refs", Kind::Number, 0, 4),
-        answers("step_outdated", Kind::No, 0, 4),
-        answers("step_lead", Kind::Token, 0, 4),
-        answers("step_wait", Kind::Token, 0, 4),
-        answers("step_complete", Kind::Answered, 1, 4),
-        answers("step_fail", Kind::Answered, 0, 4),
-        answers("step_cancel", Kind::Answered, 0, 4),
-        answers("step_fetch_or_take", Kind::Answered, 0, 4),
-        answers("step_is_open", Kind::Yes, 0, 4),
-        answers("step_clear", Kind::Done, 4, 0),
-        answers("step_evict_all", Kind::Done, 4, 0),
-        answers("step_flush_if", Kind::Done, 2, 2),
-        answers("step_resize", Kind::Done, 2, 2),
-        answers("step_reconfigure", Kind::Done, 0, 4),
-        answers("step_capacity", Kind::Number, 0, 4),
-        answers("step_usage", Kind::Number, 0, 4),
-        answers("step_entries", Kind::Number, 0, 4),
-        answers("run", Kind::Entry, 1, 4),
-    ]
-}
-
-// The command of a name.
-fn command<E: Eviction>(name: &str) -> Asked<E> {
-    match name {
-        "step_insert_piece" => Command::InsertPiece(0),
-        "step_get" => Command::Get(2),
-        "step_contains" => Command::Contains(2),
-        "step_touch" => Command::Touch(2),
-        "step_remove" => Command::Remove(2),
-        "step_clone" => Command::Clone(1),
-        "step_drop" => Command::Drop(1),
-        "step_take_piece" => Command::TakePiece(1),
-        "step_refs" => Command::Refs(1),
-        "step_outdated" => Command::Outdated(1),
-        "step_lead" => Command::GetOrFetch(8, None),
-        "step_wait" => Command::GetOrFetch(9, Some(5)),
-        "step_complete" => {
-            Command::Complete(
-                9,
-                0,
-                End::Value(weighing(1), CacheProperties::default(), Source::Outer),
-            )
-        }
-        "step_cancel" => Command::Cancel(9, 0),
-        "step_fetch_or_take" => Command::FetchOrTake(9, 0, None),
-        "step_is_open" => Command::IsOpen(9, 0),
-        "step_clear" => Command::Clear,
-        "step_evict_all" => Command::EvictAll,
-        "step_flush_if" => Command::FlushIf(EvenKeys),
-        "step_resize" => Command::Resize(2),
-        "step_reconfigure" => Command::Reconfigure(E::Config::default()),
-        "step_capacity" => Command::Capacity,
-        "step_usage" => Command::Usage,
-        "step_entries" => Command::Entries,
-        _ => Command::Insert(7, weighing(1), CacheProperties::default()),
-    }
+fn inserting<E: Eviction>(key: u64) -> Asked<E> {
+    Command::Insert(key, weighing(1), CacheProperties::default())
 }
 
 /// Shows the command of this name, where there is one.
 pub fn shown<E: Eviction>(alloc: Global, name: &str) -> Option<Shown> {
-    for row in &rows() {
-        if row.name == name {
-            let Ok(mut session) = prepared::<E>(alloc) else {
-                return Some(Shown::Early);
-            };
-            let Ok(fault) = fault(alloc) else {
-                return Some(Shown::Early);
-            };
-            return Some(stepped(alloc, &mut session, row, &fault));
-        }
+    if !name.starts_with("step_") && name != "run" {
+        return None;
     }
-    None
+    let Ok(mut session) = prepared::<E>(alloc) else {
+        return Some(Shown::Early);
+    };
+    let Ok(fault) = fault(alloc) else {
+        return Some(Shown::Early);
+    };
+    stepped(alloc, &mut session, name, &fault)
 }
 
 // The keys 0 to 3 are in, with the handles 0 to 3, the piece 0 is of the key 0, and one waits for the key 9.
 fn prepared<E: Eviction>(alloc: Global) -> Result<Simulated<E>> {
     let mut session = empty::<E>(alloc, 4)?;
     for key in 0..4u64 {
-        let insert: Asked<E> = Command::Insert(key, weighing(1), CacheProperties::default());
-        granted(session.step(insert)?)?;
+        granted(session.step(inserting::<E>(key))?)?;
     }
     granted(session.step::<EvenKeys>(Command::TakePiece(0))?)?;
     granted(session.step::<EvenKeys>(Command::GetOrFetch(9, None))?)?;
@@ -185,10 +155,7 @@ fn fault(alloc: Global) -> Result<Shared> {
         code: 5,
         message: String::new(alloc),
     };
-    match Arc::new(alloc, fault) {
-        Ok(fault) => Ok(fault),
-        Err(_) => Err(Error::new(Reason::NoMemory)),
-    }
+    Arc::new(alloc, fault).map_err(|_| Error::new(Reason::NoMemory))
 }
 
 // What a reply refuses.
@@ -209,62 +176,34 @@ struct Step {
     leaves: usize,
 }
 
-// Makes the command of a name, or a run of one command alone.
+// Makes a command, or a run of it alone.
 fn make<E: Eviction>(
     alloc: Global,
     session: &mut Simulated<E>,
-    name: &str,
-    fault: &Shared,
+    command: Asked<E>,
+    runs: bool,
 ) -> Step {
-    if name == "run" {
-        return run(alloc, session);
-    }
-    let command = match name {
-        "step_fail" => fail::<E>(fault),
-        _ => Ok(command::<E>(name)),
+    let told = if runs {
+        run(alloc, session, command)
+    } else {
+        session.step(command).map(|reply| replied(&reply))
     };
-    match command {
-        Ok(command) => carry_out(session, command),
-        Err(error) => not_made(&error),
-    }
-}
-
-// Makes a command.
-fn carry_out<E: Eviction>(session: &mut Simulated<E>, command: Asked<E>) -> Step {
-    match session.step(command) {
-        Ok(reply) => replied(&reply),
-        Err(error) => not_made(&error),
-    }
-}
-
-fn fail<E: Eviction>(fault: &Shared) -> Result<Asked<E>> {
-    match Arc::try_clone(fault) {
-        Ok(fault) => Ok(Command::Fail(9, 0, fault)),
-        Err(_) => Err(Error::new(Reason::Handles)),
-    }
-}
-
-fn run<E: Eviction>(alloc: Global, session: &mut Simulated<E>) -> Step {
-    let mut commands: Vec<Asked<E>> = Vec::new(alloc);
-    let Ok(()) = commands.push(command::<E>("run")) else {
-        return not_made(&Error::new(Reason::NoMemory));
-    };
-    match session.run(commands) {
-        Ok(replies) => match replies.first() {
-            Some(reply) => replied(reply),
-            None => not_made(&Error::new(Reason::NoShards)),
-        },
-        Err(error) => not_made(&error),
-    }
-}
-
-fn not_made(error: &Error) -> Step {
-    Step {
+    told.unwrap_or_else(|error| Step {
         is_made: false,
         refused: Some(error.number()),
         kind: None,
         leaves: 0,
-    }
+    })
+}
+
+fn run<E: Eviction>(alloc: Global, session: &mut Simulated<E>, command: Asked<E>) -> Result<Step> {
+    let mut commands = Vec::new(alloc);
+    commands.push(command)?;
+    let replies = session.run(commands)?;
+    replies
+        .first()
+        .map(replied)
+        .ok_or(Error::new(Reason::NoShards))
 }
 
 fn replied(reply: &Told) -> Step {
@@ -300,46 +239,46 @@ fn answered(answer: &Answer<u64, SimValue, CacheProperties>) -> (Option<Kind>, O
     }
 }
 
-// Makes a command until it is not refused, and compares the sums with those that are wanted.
+// Makes the command of a name until it is not refused, and compares the sums with those that are wanted.
 fn stepped<E: Eviction>(
     alloc: Global,
     session: &mut Simulated<E>,
-    row: &Row,
+    name: &str,
     fault: &Shared,
-) -> Shown {
-    let first = make(alloc, session, row.name, fault);
+) -> Option<Shown> {
+    let runs = name == "run";
+    let (asked, wanted) = command::<E>(name, fault)?;
+    let first = make(alloc, session, asked, runs);
     let Some(number) = first.refused else {
-        return settled(session, row, first, 0);
+        return Some(settled(session, wanted, first, 0));
     };
     if number != 7 {
-        return Shown::Wrong("another refusal");
+        return Some(Shown::Wrong("another refusal"));
     }
     let gone = first.leaves as u128;
     if session.usage() != 4u128.saturating_sub(gone) || session.entries() != session.usage() {
-        return Shown::Wrong("the sums after a refused command");
+        return Some(Shown::Wrong("the sums after a refused command"));
     }
-    if first.leaves > 0 && !(first.is_made && row.leaves > 0) {
-        return Shown::Wrong("what left a refused command");
+    if first.leaves > 0 && !(first.is_made && wanted.leaves > 0) {
+        return Some(Shown::Wrong("what left a refused command"));
     }
     if first.kind == Some(Kind::Answered) {
-        return Shown::Kept;
+        return Some(Shown::Kept);
     }
-    let second = make(alloc, session, row.name, fault);
-    match settled(session, row, second, first.leaves) {
-        Shown::Done => Shown::Kept,
-        shown => shown,
-    }
+    let (asked, _) = command::<E>(name, fault)?;
+    let second = make(alloc, session, asked, runs);
+    Some(settled(session, wanted, second, first.leaves).behind_a_refusal())
 }
 
 // Whether a command answered what is wanted, once so many had left.
-fn settled<E: Eviction>(session: &Simulated<E>, row: &Row, step: Step, gone: usize) -> Shown {
-    if step.refused.is_some() || step.kind != Some(row.kind) {
+fn settled<E: Eviction>(session: &Simulated<E>, wanted: Wanted, step: Step, gone: usize) -> Shown {
+    if step.refused.is_some() || step.kind != Some(wanted.kind) {
         return Shown::Wrong("the answer");
     }
-    if gone.saturating_add(step.leaves) != row.leaves {
+    if gone.saturating_add(step.leaves) != wanted.leaves {
         return Shown::Wrong("how many left");
     }
-    if session.usage() != row.usage || session.entries() != row.usage {
+    if session.usage() != wanted.usage || session.entries() != wanted.usage {
         return Shown::Wrong("the sums");
     }
     Shown::Done

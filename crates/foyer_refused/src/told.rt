@@ -73,22 +73,16 @@ fn run<E: Eviction>(session: &mut Simulated<E>, written: &mut Vec<u8>) -> Shown 
     if written.as_slice() == REPLIES {
         return Shown::Done;
     }
-    if line_count(written.as_slice()) != COUNT || !written.as_slice().ends_with(LAST) {
+    let lines = written.iter().filter(|byte| **byte == b'\n').count();
+    if lines != COUNT || !written.as_slice().ends_with(LAST) {
         return Shown::Wrong("the last line");
     }
-    if refusals(written.as_slice()) == 0 {
+    if !written
+        .as_slice()
+        .windows(2)
+        .any(|two| two == b"F7".as_slice())
+    {
         return Shown::Wrong("a line that is not refused");
     }
     Shown::Kept
-}
-
-fn line_count(text: &[u8]) -> usize {
-    text.iter().filter(|byte| **byte == b'\n').count()
-}
-
-// How often `F7` is told.
-fn refusals(text: &[u8]) -> usize {
-    text.windows(2)
-        .filter(|two| *two == b"F7".as_slice())
-        .count()
 }

@@ -1,5 +1,12 @@
 //! What the program says.
 
+const USAGE: &str = "usage: foyer-refused POLICY CALL
+
+Makes a call until it is not refused, and prints early, kept, behind, done or wrong: what differs.
+
+  POLICY  fifo, lru, lfu, s3fifo or sieve
+  CALL    a call that tools/refuse-memory names, which runs this with one allocation refused";
+
 /// What a call shows.
 #[derive(Clone, Copy)]
 pub enum Shown {
@@ -11,11 +18,21 @@ pub enum Shown {
     Behind,
     /// Nothing is refused.
     Done,
+    /// How the program is called.
+    Usage,
     /// Something differs.
     Wrong(&'static str),
 }
 
 impl Shown {
+    /// What a call shows that was refused first, and then shows this.
+    pub fn behind_a_refusal(self) -> Shown {
+        match self {
+            Shown::Done => Shown::Kept,
+            shown => shown,
+        }
+    }
+
     /// The words that are printed.
     pub fn words(self) -> [&'static str; 2] {
         match self {
@@ -23,6 +40,7 @@ impl Shown {
             Shown::Kept => ["kept", ""],
             Shown::Behind => ["behind", ""],
             Shown::Done => ["done", ""],
+            Shown::Usage => [USAGE, ""],
             Shown::Wrong(what) => ["wrong: ", what],
         }
     }

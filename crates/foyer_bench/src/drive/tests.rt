@@ -1,40 +1,21 @@
-ghost use Rattle.std.specs.Prelude.{IfOk};
-ghost use Rattle.foyer_core.specs.Cores.{fetches_of};
-ghost use Rattle.foyer_core.specs.Idle.{NoneOpen};
-
 use super::*;
-use foyer_bench_common::{Ranks, Skew, keys_of};
-use foyer_core::{Limits, RawCacheConfig};
-use foyer_policy::{DefaultHasher, Fifo, Lfu, Lru, ModHasher, S3Fifo, Sieve};
-use std::alloc::Global;
+use crate::args::Skew;
+use crate::trace::{Ranks, keys_of};
+use foyer_core::RawCacheConfig;
+use foyer_policy::{Fifo, Lfu, Lru, ModHasher, S3Fifo, Sieve};
 use std::test::Fail;
 
-// A core that holds nothing, in its policy's default configuration.
-fn core<E: Eviction, S: HashBuilder + Default>(
-    alloc: Global,
-    capacity: usize,
-    shards: usize,
-) -> Result<Core<E, S>>
-    ensures { IfOk result (λ core. NoneOpen (fetches_of core)) }
-{
-    let config = RawCacheConfig {
-        capacity,
-        shards,
-        eviction_config: E::Config::default(),
-        hash_builder: S::default(),
-        weighter: UnitWeighter,
-        filter: AdmitAll,
-        number: 0,
-        limits: Limits::default(),
-    };
-    Core::<E, S>::new(alloc, config)
-}
-
-// How many of two thousand keys are found.
+// How many of two thousand keys a core of capacity 20 finds.
 fn hits<E: Eviction>(alloc: Global, shards: usize) -> std::result::Result<usize, Fail> {
-    let ranks = Ranks::new(alloc, 200, Skew { num: 9, den: 10 })?;
+    let Ok(ranks) = Ranks::new(alloc, 200, Skew { num: 9, den: 10 }) else {
+        return Ok(0);
+    };
     let keys = keys_of(alloc, &ranks, 1, 2_000)?;
-    let mut core = core::<E, ModHasher>(alloc, 20, shards)?;
+    let config = RawCacheConfig {
+        shards,
+        ..RawCacheConfig::new(20)
+    };
+    let mut core = Core::<E, ModHasher>::new(alloc, config)?;
     Ok(drive(alloc, &mut core, keys.as_slice())?)
 }
 
@@ -56,14 +37,5 @@ fn three_shards(rt: HostRuntime) -> std::result::Result<(), Fail> {
     assert_eq!(rt; hits::<Lfu>(rt.alloc(), 3)?, 946);
     assert_eq!(rt; hits::<S3Fifo>(rt.alloc(), 3)?, 981);
     assert_eq!(rt; hits::<Sieve>(rt.alloc(), 3)?, 963);
-    Ok(())
-}
-
-#[test]
-fn a_key_is_found_once_it_was_put_in(rt: HostRuntime) -> std::result::Result<(), Fail> {
-    let mut core = core::<Fifo, DefaultHasher>(rt.alloc(), 2, 1)?;
-    assert_eq!(rt; drive(rt.alloc(), &mut core, &[1, 2, 1, 3, 1])?, 1);
-    assert_eq!(rt; core.usage(), 2);
-    assert_eq!(rt; drive(rt.alloc(), &mut core, &[3, 1])?, 2);
     Ok(())
 }

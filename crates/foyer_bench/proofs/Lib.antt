@@ -1,4 +1,0 @@
-pub mod DriveLemmas
-pub mod HandleLemmas
-pub mod RunLemmas
-pub mod ShardLemmas

@@ -1,3 +1,0 @@
-pub mod TraceLemmas
-pub mod WordLemmas
-pub mod ZipfLemmas
