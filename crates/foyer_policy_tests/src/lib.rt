@@ -1,38 +1,19 @@
-//! Tests of `foyer_policy` through its public calls alone. They stand in a crate of their own, so that they are
-//! proved over the contracts of `foyer_policy`, and it is not proved once more for them.
+//! Tests of `foyer_policy` through its public calls alone: what no contract says, and an example of each call.
 #![tactic(auto)]
 
 #[cfg(test)]
-mod ahead;
-#[cfg(test)]
-mod chosen;
-#[cfg(test)]
 mod config;
+#[cfg(test)]
+mod drops;
 #[cfg(test)]
 mod error;
 #[cfg(test)]
-mod fifo;
-#[cfg(test)]
-mod ghost_queue;
-#[cfg(test)]
 mod hash;
-#[cfg(test)]
-mod lfu;
-#[cfg(test)]
-mod limit;
 #[cfg(test)]
 mod lists;
 #[cfg(test)]
-mod looks;
+mod memory_of_hashes;
 #[cfg(test)]
-mod lru;
+mod policies;
 #[cfg(test)]
-mod properties;
-#[cfg(test)]
-mod s3fifo;
-#[cfg(test)]
-mod sieve;
-#[cfg(test)]
-mod sketch;
-#[cfg(test)]
-mod testing;
+mod victims;
