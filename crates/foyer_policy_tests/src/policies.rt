@@ -62,7 +62,9 @@ fn answers_each_call<E: Eviction>(rt: &impl Abort, alloc: Global) -> Result<(), 
     assert_eq!(rt; policy.pop()?, None);
     assert_eq!(rt; policy.looks(), 0);
 
-    push(&mut policy, item(8))?;
+    for id in 10..13u64 {
+        push(&mut policy, item(id))?;
+    }
     policy.reserve_clear()?;
     policy.clear();
     assert_order(rt, &policy, &[])
