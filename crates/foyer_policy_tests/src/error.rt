@@ -10,63 +10,47 @@ fn no_route(alloc: Global) -> std::result::Result<Reason, Fail> {
 }
 
 #[test]
-fn each_reason_has_its_number_and_text(rt: HostRuntime) -> std::result::Result<(), Fail> {
+fn each_reason_has_its_text(rt: HostRuntime) -> std::result::Result<(), Fail> {
     let alloc = rt.alloc();
-    let fetch = "the fetch failed: Fault { code: 7, message: \"no route\" }";
+    let range = Reason::RatioRange(Field::Window);
     let sum = "the ratios of window and protected leave nothing to probation";
-    for (reason, number, text) in [
-        (Reason::NoShards, 1, "the cache has no shards"),
-        (Reason::ZeroDenominator, 2, "a ratio has the denominator 0"),
-        (
-            Reason::RatioRange(Field::HighPriorityPool),
-            3,
-            "a ratio is out of its range: HighPriorityPool",
-        ),
-        (
-            Reason::RatioRange(Field::Window),
-            3,
-            "a ratio is out of its range: Window",
-        ),
-        (
-            Reason::RatioRange(Field::Protected),
-            3,
-            "a ratio is out of its range: Protected",
-        ),
-        (
-            Reason::RatioRange(Field::SmallQueue),
-            3,
-            "a ratio is out of its range: SmallQueue",
-        ),
-        (Reason::RatioSum, 4, sum),
-        (Reason::NoRows, 5, "the sketch has no rows"),
-        (Reason::NoBuckets, 6, "the sketch has no buckets"),
-        (Reason::NoMemory, 7, "out of memory"),
-        (
-            Reason::Weight,
-            8,
-            "the usage would pass the greatest number",
-        ),
-        (Reason::Handles, 9, "the handle count would pass its limit"),
-        (Reason::Ids, 10, "no number is left"),
-        (no_route(alloc)?, 11, fetch),
-        (Reason::WrongKey, 12, "a fetched piece has another key"),
-        (Reason::NoValue, 13, "the fetch gave no value"),
-        (
-            Reason::ChannelClosed,
-            14,
-            "the sender went without an answer",
-        ),
-        (Reason::TaskCancelled, 15, "the fetch task was dropped"),
-        (Reason::Spent, 16, "the answer was taken before"),
+    let fetch = "the fetch failed: Fault { code: 7, message: \"no route\" }";
+    for (reason, text) in [
+        (Reason::NoShards, "the cache has no shards"),
+        (Reason::ZeroDenominator, "a ratio has the denominator 0"),
+        (range, "a ratio is out of its range: Window"),
+        (Reason::RatioSum, sum),
+        (Reason::NoRows, "the sketch has no rows"),
+        (Reason::NoBuckets, "the sketch has no buckets"),
+        (Reason::NoMemory, "out of memory"),
+        (Reason::Weight, "the usage would pass the greatest number"),
+        (Reason::Handles, "the handle count would pass its limit"),
+        (Reason::Ids, "no number is left"),
+        (no_route(alloc)?, fetch),
+        (Reason::WrongKey, "a fetched piece has another key"),
+        (Reason::NoValue, "the fetch gave no value"),
+        (Reason::ChannelClosed, "the sender went without an answer"),
+        (Reason::TaskCancelled, "the fetch task was dropped"),
+        (Reason::Spent, "the answer was taken before"),
         (
             Reason::WrongPolicy,
-            17,
             "the configuration is of another policy",
         ),
     ] {
-        let error = Error::new(reason);
-        assert_eq!(rt; error.number(), number);
-        assert_eq!(rt; error.to_string(alloc)?.as_str(), text);
+        assert_eq!(rt; Error::new(reason).to_string(alloc)?.as_str(), text);
+    }
+    Ok(())
+}
+
+#[test]
+fn each_field_has_its_name(rt: HostRuntime) -> std::result::Result<(), Fail> {
+    for (field, name) in [
+        (Field::HighPriorityPool, "HighPriorityPool"),
+        (Field::Window, "Window"),
+        (Field::Protected, "Protected"),
+        (Field::SmallQueue, "SmallQueue"),
+    ] {
+        assert_eq!(rt; format!(in rt.alloc(); "{field:?}")?.as_str(), name);
     }
     Ok(())
 }

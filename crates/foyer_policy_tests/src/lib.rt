@@ -8,12 +8,14 @@ mod drops;
 #[cfg(test)]
 mod error;
 #[cfg(test)]
+mod ghost_queue;
+#[cfg(test)]
 mod hash;
 #[cfg(test)]
 mod lists;
 #[cfg(test)]
-mod memory_of_hashes;
-#[cfg(test)]
 mod policies;
+#[cfg(test)]
+mod sketch;
 #[cfg(test)]
 mod victims;

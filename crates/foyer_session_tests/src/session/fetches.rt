@@ -1,4 +1,4 @@
-// Fetches that end by a fault, by nothing or by a piece.
+// Fetches of a key, and how they end.
 
 use super::*;
 use foyer_policy::{Fault, Source};
