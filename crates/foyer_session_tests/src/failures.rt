@@ -5,68 +5,45 @@ use crate::streams::{Parts, Slow};
 use foyer_session::text::{flush_out, write_number, write_out};
 use foyer_session::{NoHighRatio, simulate};
 use std::alloc::Global;
-use std::io;
 use std::io::ErrorKind;
 use std::test::Fail;
 
-// What is written, and how it ends, where this call of `fill_buf` fails so.
-fn run_with_failed_read(
-    alloc: Global,
-    fails_at: u64,
-    kind: ErrorKind,
-) -> Result<(Vec<u8>, io::Result<()>), Fail> {
+// What was written, and how the run ended.
+type Run = (Vec<u8>, Result<(), ErrorKind>);
+
+// A run in which this call of `fill_buf` fails so.
+fn run_with_failed_read(alloc: Global, at: u64, kind: ErrorKind) -> Result<Run, Fail> {
     let mut reader = Parts::new(SCRIPT, 7);
-    reader.fails_at = fails_at;
+    reader.fails_at = at;
     reader.kind = kind;
     let mut written = Vec::new(alloc);
-    let ended = simulate(
-        &mut reader,
-        &mut written,
-        &mut session_of_two(alloc)?,
-        &NoHighRatio,
-    );
-    Ok((written, ended))
+    let mut session = session_of_two(alloc)?;
+    let ended = simulate(&mut reader, &mut written, &mut session, &NoHighRatio);
+    Ok((written, ended.map_err(|e| e.kind())))
 }
 
-// The same where this call of `write` fails so, of a writer that takes three bytes at a time.
-fn run_with_failed_write(
-    alloc: Global,
-    fails_at: u64,
-    kind: ErrorKind,
-) -> Result<(Vec<u8>, io::Result<()>), Fail> {
-    let mut writer = Slow::new(alloc, 3);
-    writer.fails_at = fails_at;
-    writer.kind = kind;
+// A run in which this call of `write` fails so, of a writer that takes three bytes at a time.
+fn run_with_failed_write(alloc: Global, at: u64, kind: ErrorKind) -> Result<Run, Fail> {
     let mut lines = SCRIPT;
-    let ended = simulate(
-        &mut lines,
-        &mut writer,
-        &mut session_of_two(alloc)?,
-        &NoHighRatio,
-    );
-    Ok((writer.taken, ended))
+    let mut writer = Slow::new(alloc, 3);
+    writer.fails_at = at;
+    writer.kind = kind;
+    let mut session = session_of_two(alloc)?;
+    let ended = simulate(&mut lines, &mut writer, &mut session, &NoHighRatio);
+    Ok((writer.taken, ended.map_err(|e| e.kind())))
 }
 
 #[test]
 fn a_failed_read_leaves_whole_replies(rt: HostRuntime) -> Result<(), Fail> {
-    for fails_at in 1..20 {
-        let (written, ended) = run_with_failed_read(
-            rt.alloc(),
-            fails_at,
-            ErrorKind::UnexpectedEof,
-        )?;
-        assert_eq!(rt;
-            ended.map_err(|e| e.kind()),
-            Err(ErrorKind::UnexpectedEof),
-            "at call {fails_at}"
-        );
-        assert!(rt;
-            PRINTED.starts_with(written.as_slice()),
-            "at call {fails_at}"
-        );
+    let kind = ErrorKind::UnexpectedEof;
+    for at in 1..20 {
+        let (written, ended) = run_with_failed_read(rt.alloc(), at, kind)?;
+        let written = written.as_slice();
+        assert_eq!(rt; ended, Err(kind), "at call {at}");
+        assert!(rt; PRINTED.starts_with(written), "at call {at}");
         assert!(rt;
             written.is_empty() || written.ends_with(b"\n"),
-            "at call {fails_at}"
+            "at call {at}"
         );
     }
     Ok(())
@@ -74,37 +51,31 @@ fn a_failed_read_leaves_whole_replies(rt: HostRuntime) -> Result<(), Fail> {
 
 #[test]
 fn an_interrupted_read_is_made_again(rt: HostRuntime) -> Result<(), Fail> {
-    for fails_at in 1..20 {
-        let (written, ended) = run_with_failed_read(rt.alloc(), fails_at, ErrorKind::Interrupted)?;
-        assert!(rt; ended.is_ok(), "at call {fails_at}");
-        assert_eq!(rt; written.as_slice(), PRINTED, "at call {fails_at}");
+    for at in 1..20 {
+        let (written, ended) = run_with_failed_read(rt.alloc(), at, ErrorKind::Interrupted)?;
+        assert_eq!(rt; ended, Ok(()), "at call {at}");
+        assert_eq!(rt; written.as_slice(), PRINTED, "at call {at}");
     }
     Ok(())
 }
 
 #[test]
 fn a_failed_write_has_written_a_beginning(rt: HostRuntime) -> Result<(), Fail> {
-    for fails_at in 1..90 {
-        let (written, ended) = run_with_failed_write(rt.alloc(), fails_at, ErrorKind::StorageFull)?;
-        assert_eq!(rt;
-            ended.map_err(|e| e.kind()),
-            Err(ErrorKind::StorageFull),
-            "at call {fails_at}"
-        );
-        assert!(rt;
-            PRINTED.starts_with(written.as_slice()),
-            "at call {fails_at}"
-        );
+    let kind = ErrorKind::StorageFull;
+    for at in 1..90 {
+        let (written, ended) = run_with_failed_write(rt.alloc(), at, kind)?;
+        assert_eq!(rt; ended, Err(kind), "at call {at}");
+        assert!(rt; PRINTED.starts_with(written.as_slice()), "at call {at}");
     }
     Ok(())
 }
 
 #[test]
 fn an_interrupted_write_is_made_again(rt: HostRuntime) -> Result<(), Fail> {
-    for fails_at in 1..90 {
-        let (written, ended) = run_with_failed_write(rt.alloc(), fails_at, ErrorKind::Interrupted)?;
-        assert!(rt; ended.is_ok(), "at call {fails_at}");
-        assert_eq!(rt; written.as_slice(), PRINTED, "at call {fails_at}");
+    for at in 1..90 {
+        let (written, ended) = run_with_failed_write(rt.alloc(), at, ErrorKind::Interrupted)?;
+        assert_eq!(rt; ended, Ok(()), "at call {at}");
+        assert_eq!(rt; written.as_slice(), PRINTED, "at call {at}");
     }
     Ok(())
 }

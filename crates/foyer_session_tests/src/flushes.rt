@@ -4,7 +4,6 @@ use crate::sim::session_of_two;
 use crate::streams::{Parts, Slow};
 use foyer_session::{NoHighRatio, simulate};
 use std::alloc::Global;
-use std::io;
 use std::io::{BufRead, BufReader, ErrorKind};
 use std::test::Fail;
 
@@ -16,12 +15,8 @@ const ENDS: [usize; 4] = [0, 27, 54, 82];
 // How many bytes were written at each flush, by a writer that takes every byte.
 fn flushes<R: BufRead>(alloc: Global, reader: &mut R) -> Result<Vec<usize>, Fail> {
     let mut writer = Slow::new(alloc, usize::MAX);
-    simulate(
-        reader,
-        &mut writer,
-        &mut session_of_two(alloc)?,
-        &NoHighRatio,
-    )?;
+    let mut session = session_of_two(alloc)?;
+    simulate(reader, &mut writer, &mut session, &NoHighRatio)?;
     Ok(writer.handed)
 }
 
@@ -48,42 +43,36 @@ fn a_cut_line_is_waited_for_with_nothing_held_back(rt: HostRuntime) -> Result<()
     Ok(())
 }
 
-// How a run ends where this flush fails so.
+// How a run ends in which this flush fails so.
 fn run_with_failed_flush(
     alloc: Global,
-    fails_at: usize,
+    at: usize,
     kind: ErrorKind,
-) -> Result<io::Result<()>, Fail> {
-    let mut writer = Slow::new(alloc, usize::MAX);
-    writer.flush_fails_at = fails_at;
-    writer.kind = kind;
+) -> Result<Result<(), ErrorKind>, Fail> {
     let mut reader = Parts::new(LINES, 12);
-    Ok(simulate(
-        &mut reader,
-        &mut writer,
-        &mut session_of_two(alloc)?,
-        &NoHighRatio,
-    ))
+    let mut writer = Slow::new(alloc, usize::MAX);
+    writer.flush_fails_at = at;
+    writer.kind = kind;
+    let mut session = session_of_two(alloc)?;
+    let ended = simulate(&mut reader, &mut writer, &mut session, &NoHighRatio);
+    Ok(ended.map_err(|e| e.kind()))
 }
 
 #[test]
 fn a_failed_flush_fails_the_run(rt: HostRuntime) -> Result<(), Fail> {
-    for fails_at in 1..5 {
-        let ended = run_with_failed_flush(rt.alloc(), fails_at, ErrorKind::StorageFull)?;
-        assert_eq!(rt;
-            ended.map_err(|e| e.kind()),
-            Err(ErrorKind::StorageFull),
-            "at flush {fails_at}"
-        );
+    let kind = ErrorKind::StorageFull;
+    for at in 1..5 {
+        let ended = run_with_failed_flush(rt.alloc(), at, kind)?;
+        assert_eq!(rt; ended, Err(kind), "at flush {at}");
     }
     Ok(())
 }
 
 #[test]
 fn an_interrupted_flush_is_made_again(rt: HostRuntime) -> Result<(), Fail> {
-    for fails_at in 1..5 {
-        let ended = run_with_failed_flush(rt.alloc(), fails_at, ErrorKind::Interrupted)?;
-        assert!(rt; ended.is_ok(), "at flush {fails_at}");
+    for at in 1..5 {
+        let ended = run_with_failed_flush(rt.alloc(), at, ErrorKind::Interrupted)?;
+        assert_eq!(rt; ended, Ok(()), "at flush {at}");
     }
     Ok(())
 }

@@ -10,6 +10,7 @@ use foyer_session::{
 };
 use std::alloc::Global;
 use std::io::BufRead;
+use std::process::Abort;
 use std::test::Fail;
 
 pub type SimSession<E> = Session<
@@ -47,16 +48,19 @@ pub fn session_of_two(alloc: Global) -> Result<SimSession<Fifo>, Fail> {
     session_under(alloc, 2, 1, Limits::default())
 }
 
-// What a session prints for these lines.
-fn printed<E: Eviction, H: HighRatio<E::Config>, R: BufRead + Drop>(
+// A session prints this for these lines.
+fn assert_prints<E: Eviction, H: HighRatio<E::Config>, R: BufRead + Drop>(
+    rt: &impl Abort,
     alloc: Global,
     mut session: SimSession<E>,
     high: &H,
     mut lines: R,
-) -> Result<Vec<u8>, Fail> {
+    wanted: &[u8],
+) -> Result<(), Fail> {
     let mut written = Vec::new(alloc);
     simulate(&mut lines, &mut written, &mut session, high)?;
-    Ok(written)
+    assert_eq!(rt; written.as_slice(), wanted);
+    Ok(())
 }
 
 /// Lines for `session_of_two`.
@@ -78,8 +82,14 @@ bad line | - | usage 1 entries 1
 fn lines_may_come_in_parts_of_any_length(rt: HostRuntime) -> Result<(), Fail> {
     for part in 1..SCRIPT.len() + 1 {
         let session = session_of_two(rt.alloc())?;
-        let written = printed(rt.alloc(), session, &NoHighRatio, Parts::new(SCRIPT, part))?;
-        assert_eq!(rt; written.as_slice(), PRINTED, "in parts of {part}");
+        assert_prints(
+            &rt,
+            rt.alloc(),
+            session,
+            &NoHighRatio,
+            Parts::new(SCRIPT, part),
+            PRINTED,
+        )?;
     }
     Ok(())
 }
@@ -93,40 +103,36 @@ fn a_long_line_is_one_line(rt: HostRuntime) -> Result<(), Fail> {
         script.push(b' ')?;
     }
     script.extend_from_slice(b"2\nget 1")?;
-    let session = session_of_two(rt.alloc())?;
-    let written = printed(
-        rt.alloc(),
-        session,
-        &NoHighRatio,
-        Parts::new(script.as_slice(), 8192),
-    )?;
-    let wanted: &[u8] = b"bad line | - | usage 0 entries 0
+    let wanted = b"bad line | - | usage 0 entries 0
 h0 | - | usage 1 entries 1
 h1 2 | - | usage 1 entries 1
 ";
-    assert_eq!(rt; written.as_slice(), wanted);
-    Ok(())
+    let lines = Parts::new(script.as_slice(), 8192);
+    assert_prints(
+        &rt,
+        rt.alloc(),
+        session_of_two(rt.alloc())?,
+        &NoHighRatio,
+        lines,
+        wanted,
+    )
 }
 
 #[test]
 fn a_usage_may_pass_64_bits(rt: HostRuntime) -> Result<(), Fail> {
     let session = session_under::<Fifo>(rt.alloc(), usize::MAX, 2, Limits::default())?;
     let script: &[u8] = b"insert 0 5 18446744073709551615\ninsert 1 5 18446744073709551615\n";
-    let written = printed(rt.alloc(), session, &NoHighRatio, script)?;
-    let wanted: &[u8] = b"h0 | - | usage 18446744073709551615 entries 1
+    let wanted = b"h0 | - | usage 18446744073709551615 entries 1
 h1 | - | usage 36893488147419103230 entries 2
 ";
-    assert_eq!(rt; written.as_slice(), wanted);
-    Ok(())
+    assert_prints(&rt, rt.alloc(), session, &NoHighRatio, script, wanted)
 }
 
 #[test]
 fn a_command_past_a_limit_is_refused(rt: HostRuntime) -> Result<(), Fail> {
-    let limits = Limits { handles: 1, ids: 2 };
-    let session = session_under::<Fifo>(rt.alloc(), 2, 1, limits)?;
+    let session = session_under::<Fifo>(rt.alloc(), 2, 1, Limits { handles: 1, ids: 2 })?;
     let script: &[u8] = b"insert 1 10\nget 1\ntouch 1\nfetch 7\nfetch 7\nfetch 7\ndone 7 0 70\n";
-    let written = printed(rt.alloc(), session, &NoHighRatio, script)?;
-    let wanted: &[u8] = b"h0 | - | usage 1 entries 1
+    let wanted = b"h0 | - | usage 1 entries 1
 F9 | - | usage 1 entries 1
 F9 | - | usage 1 entries 1
 lead t0 f0 | - | usage 1 entries 1
@@ -134,33 +140,34 @@ wait t1 | - | usage 1 entries 1
 F10 | - | usage 1 entries 1
 t0=F9 t1=F9 | - | usage 1 entries 1
 ";
-    assert_eq!(rt; written.as_slice(), wanted);
-    Ok(())
+    assert_prints(&rt, rt.alloc(), session, &NoHighRatio, script, wanted)
 }
 
 #[test]
 fn lru_takes_a_share_for_its_pool(rt: HostRuntime) -> Result<(), Fail> {
     let session = session_under::<Lru>(rt.alloc(), 2, 1, Limits::default())?;
     let script: &[u8] = b"high 0 1\nhigh 3 2\nhigh 1 0\nhigh 4294967296 1\nhigh 1\n";
-    let written = printed(rt.alloc(), session, &LruHighRatio, script)?;
-    let wanted: &[u8] = b"ok | - | usage 0 entries 0
+    let wanted = b"ok | - | usage 0 entries 0
 F3 | - | usage 0 entries 0
 F2 | - | usage 0 entries 0
 bad line | - | usage 0 entries 0
 bad line | - | usage 0 entries 0
 ";
-    assert_eq!(rt; written.as_slice(), wanted);
-    Ok(())
+    assert_prints(&rt, rt.alloc(), session, &LruHighRatio, script, wanted)
 }
 
 #[test]
 fn another_policy_takes_no_share(rt: HostRuntime) -> Result<(), Fail> {
-    let session = session_of_two(rt.alloc())?;
     let script: &[u8] = b"high 1 2\nhigh 1 0\n";
-    let written = printed(rt.alloc(), session, &NoHighRatio, script)?;
-    let wanted: &[u8] = b"F17 | - | usage 0 entries 0\nF17 | - | usage 0 entries 0\n";
-    assert_eq!(rt; written.as_slice(), wanted);
-    Ok(())
+    let wanted = b"F17 | - | usage 0 entries 0\nF17 | - | usage 0 entries 0\n";
+    assert_prints(
+        &rt,
+        rt.alloc(),
+        session_of_two(rt.alloc())?,
+        &NoHighRatio,
+        script,
+        wanted,
+    )
 }
 
 #[test]
