@@ -2,16 +2,53 @@ use foyer_policy::{
     Config, FifoConfig, LfuConfig, LruConfig, Ratio, S3FifoConfig, SieveConfig, State,
 };
 use serde::{Deserialize, Serialize};
+use std::alloc::Global;
+use std::process::Abort;
+use std::test::Fail;
 
-#[derive(Clone, Debug, Default, Drop, Serialize, Deserialize)]
-pub struct Braces {}
+// A configuration is written as this text, and read back from it.
+fn assert_json<'de, C: Config + Eq + Deserialize<'de>>(
+    rt: &impl Abort,
+    alloc: Global,
+    config: C,
+    text: &'de str,
+) -> Result<(), Fail> {
+    assert_eq!(rt; serde_json::to_string(alloc, &config)?.as_str(), text);
+    let read: C = serde_json::from_str(alloc, text)?;
+    assert!(rt; read == config, "{text}");
+    Ok(())
+}
 
-#[derive(Clone, Debug, Default, Drop, Serialize, Deserialize)]
-pub struct Unit;
+#[test]
+fn default_configurations_have_their_json(rt: HostRuntime) -> Result<(), Fail> {
+    let alloc = rt.alloc();
+    assert_json(&rt, alloc, FifoConfig {}, "{}")?;
+    assert_json(&rt, alloc, SieveConfig, "null")?;
+    assert_json(
+        &rt,
+        alloc,
+        LruConfig::default(),
+        "{\"high_priority_pool_ratio\":{\"num\":9,\"den\":10}}",
+    )?;
+    assert_json(
+        &rt,
+        alloc,
+        LfuConfig::default(),
+        "{\"window_capacity_ratio\":{\"num\":1,\"den\":10},\"protected_capacity_ratio\":{\"num\":8,\"den\":10},\
+         \"cmsketch_buckets\":2719,\"cmsketch_hashes\":3}",
+    )?;
+    assert_json(
+        &rt,
+        alloc,
+        S3FifoConfig::default(),
+        "{\"small_queue_capacity_ratio\":{\"num\":1,\"den\":10},\"ghost_queue_capacity_ratio\":{\"num\":1,\"den\":1},\
+         \"small_to_main_freq_threshold\":1}",
+    )
+}
 
 #[derive(Clone, Debug, Drop, Serialize, Deserialize)]
-pub struct Share {
-    pub ratio: Ratio,
+struct Share {
+    ratio: Ratio,
 }
 
 impl Default for Share {
@@ -23,38 +60,20 @@ impl Default for Share {
 }
 
 #[derive(Debug, Default, Drop)]
-pub struct Flag {
-    set: bool,
+struct Flag {
+    is_set: bool,
 }
 
-fn made<C: Config>() -> C {
+fn default_config<C: Config>() -> C {
     C::default()
 }
 
-fn begun<S: State>() -> S {
+fn default_state<S: State>() -> S {
     S::default()
 }
 
 #[test]
-fn fitting_types(rt: HostRuntime) {
-    let Braces {} = made::<Braces>();
-    let Unit = made::<Unit>();
-    assert_eq!(rt; made::<Share>().ratio, Ratio { num: 9, den: 10 });
-    assert!(rt; !begun::<Flag>().set);
-}
-
-fn equals_its_default<C: Config + Eq>() -> bool {
-    C::default() == C::default()
-}
-
-#[test]
-fn equal_configurations(rt: HostRuntime) {
-    assert!(rt; equals_its_default::<FifoConfig>() && equals_its_default::<SieveConfig>());
-    assert!(rt; equals_its_default::<LruConfig>() && equals_its_default::<LfuConfig>());
-    assert!(rt; equals_its_default::<S3FifoConfig>());
-    let other = LfuConfig {
-        cmsketch_hashes: 4,
-        ..LfuConfig::default()
-    };
-    assert!(rt; other != LfuConfig::default());
+fn types_of_others_are_configurations_and_states(rt: HostRuntime) {
+    assert_eq!(rt; default_config::<Share>().ratio, Ratio { num: 9, den: 10 });
+    assert!(rt; !default_state::<Flag>().is_set);
 }

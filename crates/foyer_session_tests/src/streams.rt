@@ -34,7 +34,7 @@ impl Read for Parts<'_> {
 
 impl BufRead for Parts<'_> {
     fn fill_buf(&mut self) -> io::Result<&[u8]> {
-        self.calls = self.calls.wrapping_add(1);
+        self.calls += 1;
         if self.calls == self.fails_at {
             return Err(io::Error::from(self.kind));
         }
@@ -77,7 +77,7 @@ impl Slow {
 
 impl Write for Slow {
     fn write(&mut self, buf: &[u8]) -> io::Result<usize> {
-        self.calls = self.calls.wrapping_add(1);
+        self.calls += 1;
         if self.calls == self.fails_at {
             return Err(io::Error::from(self.kind));
         }

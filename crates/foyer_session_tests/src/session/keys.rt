@@ -1,0 +1,43 @@
+// Keys whose clones are refused, which no request for memory can be.
+
+use super::*;
+use std::alloc::AllocError;
+
+// A number as a key. An odd one can't be cloned.
+#[derive(Debug, Drop, PartialEq, Eq, Hash)]
+struct Picky(u64);
+
+impl Clone for Picky {
+    fn clone(&self) -> Result<Self, AllocError> {
+        match self.0 % 2 {
+            0 => Ok(Picky(self.0)),
+            _ => Err(AllocError),
+        }
+    }
+}
+
+type OfKeys = Command<Picky, u64, CacheProperties, foyer_session::NoPredicate, FifoConfig>;
+
+#[test]
+fn a_key_that_is_not_cloned_is_refused(rt: HostRuntime) -> Result<(), Fail> {
+    let config = RawCacheConfig {
+        shards: 1,
+        hash_builder: ModHasher::default(),
+        ..RawCacheConfig::new(2)
+    };
+    let mut session: Session<Fifo, Picky, u64, CacheProperties, ModHasher, UnitWeighter, AdmitAll> =
+        Session::new(rt.alloc(), CacheCore::new(rt.alloc(), config)?);
+    for command in [
+        OfKeys::Insert(Picky(7), 70, CacheProperties::default()),
+        OfKeys::GetOrFetch(Picky(7), None),
+    ] {
+        let Answer::Refused(error) = session.step(command)?.answer else {
+            panic!(rt; "it is not refused");
+        };
+        assert_eq!(rt; error.number(), 7);
+    }
+    assert_eq!(rt; session.entries(), 0);
+    let reply = session.step(OfKeys::GetOrFetch(Picky(8), None))?;
+    assert!(rt; matches!(reply.answer, Answer::Lead { fetch: 0, token: 0 }));
+    Ok(())
+}
