@@ -1,43 +1,27 @@
 //! Many threads at one cache.
 
-use crate::testing::fifo;
+use crate::testing::{Outcome, fifo};
 use foyer_policy::{Fifo, ModHasher};
 use foyer_raw::{NoListener, RawCache};
 use std::sync::Wait;
 use std::sync::atomic::{AtomicU64, Ordering};
-use std::test::Fail;
 use std::thread;
 use std::time::{Clock, Duration};
 
 type Cache<H> = RawCache<H, Fifo, u32, u64, ModHasher>;
 
+// Inserts a thousand keys with this value. How many inserts were accepted.
+fn insert_all<H: Wait + Drop>(cache: &Cache<H>, value: u64) -> u64 {
+    (0..1000u32)
+        .map(|key| u64::from(cache.insert(key, value).is_ok()))
+        .sum()
+}
+
 #[test]
-fn two_threads_insert_and_drop(rt: HostRuntime) -> std::result::Result<(), Fail> {
-    let alloc = rt.alloc();
-    let cache: Cache<HostRuntime> = RawCache::new(rt, alloc, fifo(64, 4), NoListener::new())?;
-    let (a, b) = thread::join(
-        &rt,
-        || {
-            let mut done = 0u64;
-            for key in 0..1000u32 {
-                if cache.insert(key, 1).is_ok() {
-                    done = done.saturating_add(1);
-                }
-            }
-            done
-        },
-        || {
-            let mut done = 0u64;
-            for key in 0..1000u32 {
-                if cache.insert(key, 2).is_ok() {
-                    done = done.saturating_add(1);
-                }
-            }
-            done
-        },
-    );
-    assert_eq!(rt; a, 1000);
-    assert_eq!(rt; b, 1000);
+fn two_threads_insert_and_drop(rt: HostRuntime) -> Outcome {
+    let cache: Cache<HostRuntime> = RawCache::new(rt, rt.alloc(), fifo(64, 4), NoListener::new())?;
+    let done = thread::join(&rt, || insert_all(&cache, 1), || insert_all(&cache, 2));
+    assert_eq!(rt; done, (1000, 1000));
     assert!(rt; cache.usage() <= 64);
     assert_eq!(rt; cache.entries(), cache.usage());
     Ok(())
@@ -78,9 +62,8 @@ fn flush_slowly<H: Wait + Drop>(rt: &impl Clock, cache: &Cache<H>, flags: &Flags
 
 // While a predicate runs under the lock of the first shard, another thread looks into the second one.
 #[test]
-fn each_shard_has_a_lock_of_its_own(rt: HostRuntime) -> std::result::Result<(), Fail> {
-    let alloc = rt.alloc();
-    let cache: Cache<HostRuntime> = RawCache::new(rt, alloc, fifo(64, 2), NoListener::new())?;
+fn each_shard_has_a_lock_of_its_own(rt: HostRuntime) -> Outcome {
+    let cache: Cache<HostRuntime> = RawCache::new(rt, rt.alloc(), fifo(64, 2), NoListener::new())?;
     drop(cache.insert(0, 10)?);
     drop(cache.insert(1, 11)?);
     let flags = Flags {
