@@ -1,6 +1,6 @@
 //! Calls on all records of a cache.
 
-use crate::testing::Note::{Evict, Flush, Piece};
+use crate::notes::Note::{Evict, Flush, Piece};
 use crate::testing::cache::{heard, piped, with_tube};
 use crate::testing::{Outcome, fifo};
 use futures::executor::block_on;

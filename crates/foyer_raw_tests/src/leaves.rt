@@ -1,6 +1,6 @@
 //! What is told of leaves, and in which order.
 
-use crate::testing::Note::{Clear, Evict, Piece, Remove, Replace};
+use crate::notes::Note::{Clear, Evict, Piece, Remove, Replace};
 use crate::testing::cache::{heard, piped, with_tube};
 use crate::testing::{Outcome, fifo, phantom};
 

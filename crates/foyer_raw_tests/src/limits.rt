@@ -1,6 +1,6 @@
 //! The core's refusals, through the calls of a cache.
 
-use crate::testing::Note::Remove;
+use crate::notes::Note::Remove;
 use crate::testing::cache::heard;
 use crate::testing::{Outcome, limited, number, phantom};
 use foyer_core::{AdmitAll, CacheProperties, Limits, RawCacheConfig, Weighter};

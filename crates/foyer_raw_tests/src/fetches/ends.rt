@@ -1,7 +1,7 @@
 //! How tasks end.
 
 use super::*;
-use crate::testing::Note::{Evict, Piece, Remove};
+use crate::notes::Note::{Evict, Piece, Remove};
 
 // What a fetch with these builders gives a lone waiter.
 fn outcome<H: Wait + RandomSource + Alloc<A = Global> + Copy + Drop>(

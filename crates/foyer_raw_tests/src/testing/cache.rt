@@ -1,7 +1,8 @@
 //! A locked cache of the tests' own parts, and what polls its tasks and those who wait.
 
+use crate::notes::{Ear, Notes, Tube};
 use crate::testing::builders::{Must, Trial};
-use crate::testing::{Config, Ear, Notes, Outcome, Tube, number};
+use crate::testing::{Config, Outcome, number};
 use foyer_core::{AdmitAll, CacheProperties, UnitWeighter};
 use foyer_policy::{Fifo, ModHasher};
 use foyer_raw::{ListSpawner, RawCache, RawCacheEntry, RawFetch, RawGetOrFetch};
