@@ -1,10 +1,12 @@
 //! The core's refusals, through the calls of a cache.
 
-use crate::notes::Note::Remove;
+use crate::notes::Note::{Evict, Remove};
+use crate::notes::{Ear, Notes};
 use crate::testing::cache::heard;
 use crate::testing::{Outcome, limited, number, phantom};
 use foyer_core::{AdmitAll, CacheProperties, Limits, RawCacheConfig, Weighter};
-use foyer_policy::{Lru, LruConfig, ModHasher};
+use foyer_core_tests::refusing::RefusingPolicy;
+use foyer_policy::{Fifo, FifoConfig, Lru, LruConfig, ModHasher};
 use foyer_raw::{NoListener, RawCache};
 
 /// A value is its weight.
@@ -65,19 +67,54 @@ fn a_record_without_handles_is_refused(rt: HostRuntime) -> Outcome {
     Ok(())
 }
 
-// Beside a pinned record of the greatest weight none but the weightless fits, and a phantom one.
-#[test]
-fn a_weight_fits_beside_what_is_pinned(rt: HostRuntime) -> Outcome {
-    let config: RawCacheConfig<LruConfig, ModHasher, ByValue, AdmitAll> = RawCacheConfig {
-        capacity: usize::MAX,
+// A configuration of one shard, of records whose values are their weights.
+fn weighed<C>(
+    capacity: usize,
+    eviction_config: C,
+) -> RawCacheConfig<C, ModHasher, ByValue, AdmitAll> {
+    RawCacheConfig {
+        capacity,
         shards: 1,
-        eviction_config: LruConfig::default(),
+        eviction_config,
         hash_builder: ModHasher::default(),
         weighter: ByValue,
         filter: AdmitAll,
         number: 0,
         limits: Limits::default(),
-    };
+    }
+}
+
+// The third record needs two evictions, of which the second is refused: the first is told all the same.
+#[test]
+fn leaves_of_a_refused_insert_are_told(rt: HostRuntime) -> Outcome {
+    let notes = Notes::new(rt.alloc())?;
+    let cache: RawCache<
+        HostRuntime,
+        RefusingPolicy<Fifo, 4>,
+        u32,
+        u64,
+        ModHasher,
+        CacheProperties,
+        ByValue,
+        AdmitAll,
+        Ear,
+    > = RawCache::new(
+        rt,
+        rt.alloc(),
+        weighed(2, FifoConfig {}),
+        Ear(notes.share()?),
+    )?;
+    drop(cache.insert(1, 1)?);
+    drop(cache.insert(2, 1)?);
+    assert_eq!(rt; number(cache.insert(3, 2)), Some(7));
+    assert!(rt; notes.are(&[Evict(1, 1)]) && !cache.contains(&1) && !cache.contains(&3));
+    Ok(())
+}
+
+// Beside a pinned record of the greatest weight none but the weightless fits, and a phantom one.
+#[test]
+fn a_weight_fits_beside_what_is_pinned(rt: HostRuntime) -> Outcome {
+    let config = weighed(usize::MAX, LruConfig::default());
     let cache: RawCache<HostRuntime, Lru, u32, u64, ModHasher, CacheProperties, ByValue> =
         RawCache::new(rt, rt.alloc(), config, NoListener::new())?;
     drop(cache.insert(1, u64::MAX)?);
