@@ -3,9 +3,9 @@
 use crate::testing::{Cache, Outcome, all_policies, builder, number};
 use foyer_core::Limits;
 use foyer_memory::{
-    Cache as CacheOf, CacheBuilder, CacheProperties, EvictionConfig, Filter, Weighter,
+    Cache as CacheOf, CacheBuilder, CacheProperties, EvictionConfig, Filter, LruConfig, Weighter,
 };
-use foyer_policy::{HashBuilder, ModHasher, Properties, Source};
+use foyer_policy::{HashBuilder, Hint, ModHasher, Properties, Ratio, Source};
 use foyer_raw_tests::notes::Note::{Clear, Evict, Flush, Piece, Remove, Replace};
 use foyer_raw_tests::notes::{Ear, Notes, Tube};
 use futures::executor::block_on;
@@ -124,6 +124,27 @@ fn caches_have_their_numbers(rt: HostRuntime) -> Outcome {
         drop(other.insert(1, 20)?);
         assert_eq!(rt; *other.insert_piece(piece)?, 10);
         assert!(rt; notes.are(&[Replace(1, 20)]));
+    }
+    Ok(())
+}
+
+// With all of the capacity for records of high priority, one of low priority is evicted first, and with none the oldest.
+#[test]
+fn the_policy_has_its_configuration(rt: HostRuntime) -> Outcome {
+    for (num, evicted) in [(1u32, Evict(3, 30)), (0, Evict(1, 10))] {
+        let config = EvictionConfig::from(LruConfig {
+            high_priority_pool_ratio: Ratio { num, den: 1 },
+        });
+        let notes = Notes::new(rt.alloc())?;
+        let cache: Cache<HostRuntime> = builder(3, config, &notes)?
+            .with_shards(1)
+            .build(rt, rt.alloc(), &rt)?;
+        drop(cache.insert(1, 10)?);
+        drop(cache.insert(2, 20)?);
+        let low = CacheProperties::default().with_hint(Hint::Low);
+        drop(cache.insert_with_properties(3, 30, low)?);
+        drop(cache.insert(4, 40)?);
+        assert!(rt; notes.are(&[evicted]));
     }
     Ok(())
 }
