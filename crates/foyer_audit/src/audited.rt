@@ -20,8 +20,6 @@ use std::sync::ledger::{Blank, Ledger};
 use std::sync::{Mutex, Wait, ledger};
 
 mod desk;
-#[cfg(test)]
-mod tests;
 
 use desk::Desk;
 

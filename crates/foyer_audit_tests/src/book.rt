@@ -1,19 +1,16 @@
 //! Books in one thread's hands.
 
-ghost use Rattle.std.specs.Prelude.{◌≡◌, true};
-
-use crate::testing::{command, config, insert, is_keyed, next, session};
+use crate::testing::{Outcome, command, config, insert, is_keyed, next, session};
 use foyer_audit::Book;
 use foyer_core::{AdmitAll, CacheProperties, UnitWeighter};
-use foyer_policy::{Fifo, FifoConfig, ModHasher, Properties, Result};
+use foyer_policy::{Fifo, FifoConfig, ModHasher};
 use foyer_session::{Answer, Command, NoPredicate};
-use std::test::Fail;
 
-type BookOf<P> = Book<
+type PlainBook = Book<
     Fifo,
     u64,
     u64,
-    P,
+    CacheProperties,
     ModHasher,
     UnitWeighter,
     AdmitAll,
@@ -21,28 +18,16 @@ type BookOf<P> = Book<
     FifoConfig,
 >;
 
-type PlainBook = BookOf<CacheProperties>;
-
-// Carries a command out in a book of records with any properties whose clones equal them.
-fn apply<P: Properties + Clone + Eq>(
-    book: &mut BookOf<P>,
-    asked: Command<u64, u64, P, NoPredicate, FifoConfig>,
-) -> Result<u64>
-    requires { (k c : P) → P.is_clone k c → P.eq c k ≡ true }
-{
-    book.apply(asked)
-}
-
 #[test]
-fn each_call_has_its_number_and_reply(rt: HostRuntime) -> std::result::Result<(), Fail> {
+fn each_call_has_its_number_and_reply(rt: HostRuntime) -> Outcome {
     let alloc = rt.alloc();
     // Keys 1, 3, 5 and so on live in shard 1 of 2.
     let mut book: PlainBook = Book::new(alloc, config(5, 2), 1)?;
-    assert_eq!(rt; apply(&mut book, insert(1, 10))?, 0);
-    assert_eq!(rt; apply(&mut book, insert(2, 20))?, 1);
-    assert_eq!(rt; apply(&mut book, Command::Get(1))?, 2);
-    assert_eq!(rt; apply(&mut book, Command::Contains(2))?, 3);
-    assert_eq!(rt; apply(&mut book, Command::Capacity)?, 4);
+    assert_eq!(rt; book.apply(insert(1, 10))?, 0);
+    assert_eq!(rt; book.apply(insert(2, 20))?, 1);
+    assert_eq!(rt; book.apply(Command::Get(1))?, 2);
+    assert_eq!(rt; book.apply(Command::Contains(2))?, 3);
+    assert_eq!(rt; book.apply(Command::Capacity)?, 4);
     assert!(rt;
         matches!(book.reply(0), Some(reply) if matches!(reply.answer, Answer::Entry { handle: 0, .. }))
     );
@@ -56,20 +41,9 @@ fn each_call_has_its_number_and_reply(rt: HostRuntime) -> std::result::Result<()
     Ok(())
 }
 
-#[test]
-fn a_book_of_no_shard_is_refused(rt: HostRuntime) -> std::result::Result<(), Fail> {
-    let made: Result<PlainBook> = Book::new(rt.alloc(), config(5, 0), 0);
-    let refused = match made {
-        Ok(_book) => None,
-        Err(error) => Some(error.number()),
-    };
-    assert_eq!(rt; refused, Some(1));
-    Ok(())
-}
-
 // A history, made again in a fresh session, gives the same replies.
 #[test]
-fn a_fresh_session_replies_the_same(rt: HostRuntime) -> std::result::Result<(), Fail> {
+fn a_fresh_session_replies_the_same(rt: HostRuntime) -> Outcome {
     let alloc = rt.alloc();
     let mut book: PlainBook = Book::new(alloc, config(9, 2), 0)?;
     let mut fresh = session(alloc, 9, 2, 0)?;
@@ -78,10 +52,8 @@ fn a_fresh_session_replies_the_same(rt: HostRuntime) -> std::result::Result<(), 
     for _ in 0..500 {
         let key = (number >> 40) % 16;
         let asked = command(alloc, number, key)?;
-        let at = apply(&mut book, asked.clone()?)?;
-        let Some(recorded) = book.reply(at) else {
-            return Err(Fail::from(std::alloc::AllocError));
-        };
+        let at = book.apply(asked.clone()?)?;
+        let recorded = book.reply(at).ok_or("no reply")?;
         if key % 2 == 1 && is_keyed(number) {
             assert!(rt; matches!(recorded.answer, Answer::NotHeld));
             elsewhere = elsewhere.saturating_add(1);

@@ -1,7 +1,5 @@
 //! What the tests share: a cache's configuration, fresh sessions, and commands by their numbers.
 
-ghost use Rattle.std.specs.Prelude.{◌≡◌, ◌<◌};
-
 use foyer_core::{
     AdmitAll, CacheCore, CacheProperties, Limits, RawCacheConfig, UnitWeighter, shard_capacity,
 };
@@ -9,6 +7,10 @@ use foyer_policy::{Fault, Fifo, FifoConfig, ModHasher, Result, Source};
 use foyer_session::{Command, End, NoPredicate, Session};
 use std::alloc::{AllocError, Global};
 use std::sync::Arc;
+use std::test::Fail;
+
+/// What a test, or a helper of one, ends with.
+pub type Outcome<T = ()> = std::result::Result<T, Fail>;
 
 pub type Plain = Command<u64, u64, CacheProperties, NoPredicate, FifoConfig>;
 
@@ -16,9 +18,7 @@ pub type Config = RawCacheConfig<FifoConfig, ModHasher, UnitWeighter, AdmitAll>;
 
 pub type PlainSession = Session<Fifo, u64, u64, CacheProperties, ModHasher, UnitWeighter, AdmitAll>;
 
-pub fn config(capacity: usize, shards: usize) -> Config
-    ensures { result.shards ≡ shards }
-{
+pub fn config(capacity: usize, shards: usize) -> Config {
     RawCacheConfig {
         capacity,
         shards,
@@ -32,9 +32,12 @@ pub fn config(capacity: usize, shards: usize) -> Config
 }
 
 // A session over the one shard of this number of a cache of this capacity with so many shards.
-pub fn session(alloc: Global, capacity: usize, shards: usize, shard: usize) -> Result<PlainSession>
-    requires { 0 < shards }
-{
+pub fn session(
+    alloc: Global,
+    capacity: usize,
+    shards: usize,
+    shard: usize,
+) -> Result<PlainSession> {
     let capacity = shard_capacity(capacity, shards, shard);
     Ok(Session::new(alloc, CacheCore::new(alloc, config(capacity, 1))?))
 }

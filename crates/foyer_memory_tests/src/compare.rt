@@ -1,18 +1,17 @@
 //! A cache beside a core of one thread: random calls, which both answer alike.
 
-use crate::testing::{Entry, Heard, Note, Notes, polled};
-use foyer_core::{Answers, CacheCore, CoreEntry, Ended, FetchTarget, Inserted, Leave, Lookup};
+use crate::testing::{Cache, Entry, Outcome, finish, given, target};
+use foyer_core::{Answers, CacheCore, CoreEntry, Ended, Inserted, Leave, Lookup};
 use foyer_memory::{CacheProperties, Eviction};
-use foyer_policy::{Event, ModHasher, Source};
+use foyer_policy::{ModHasher, Source};
 use foyer_raw::ListSpawner;
+use foyer_raw_tests::notes::{Note, Notes};
+use futures::executor::block_on;
 use std::alloc::Global;
 use std::random::RandomSource;
 use std::sync::Wait;
-use std::test::Fail;
 
 mod runs;
-
-type Target = FetchTarget<u32, u64, CacheProperties>;
 
 type One<E> = CacheCore<E, u32, u64, CacheProperties, ModHasher>;
 
@@ -33,18 +32,11 @@ impl Drop for Kept {
 /// A cache and a core over the same records, and what both told.
 #[derive(Drop)]
 struct Both<H: Wait + Drop, E: Eviction> {
-    cache: Heard<H>,
+    cache: Cache<H>,
     core: One<E>,
     heard: Notes,
     left: Vec<Note>,
     held: Vec<(Entry<H>, Kept)>,
-}
-
-fn target(value: u64) -> Target {
-    FetchTarget::Entry {
-        value,
-        properties: CacheProperties::default(),
-    }
 }
 
 // The handles of the first two who get one.
@@ -69,20 +61,19 @@ fn discard_all(mut handles: Vec<Handle>) {
 
 impl<H: Wait + RandomSource + Alloc<A = Global> + Copy + Drop, E: Eviction> Both<H, E> {
     // What the core handed out.
-    fn note(&mut self, leaves: Vec<Leave<u32, u64, CacheProperties>>) -> Result<(), Fail> {
+    fn note(&mut self, leaves: Vec<Leave<u32, u64, CacheProperties>>) -> Outcome {
         for (event, left) in leaves.as_slice() {
-            self.left
-                .push(Note::Leave(*event, *left.key(), *left.value()))?;
+            self.left.push(Note::of(*event, left.key(), left.value()))?;
         }
         Ok(())
     }
 
     // Holds an entry of each, whether they are of the same record, and gives the oldest back where there are nine.
-    fn hold(&mut self, alloc: Global, entry: Entry<H>, kept: Kept) -> Result<bool, Fail> {
+    fn hold(&mut self, entry: Entry<H>, kept: Kept) -> Outcome<bool> {
         let same = match &kept.0 {
             Some(handle) => {
-                entry.key() == *handle.key()
-                    && entry.value() == *handle.value()
+                *entry.key() == *handle.key()
+                    && *entry.value() == *handle.value()
                     && entry.source() == handle.source()
             }
             None => false,
@@ -92,31 +83,24 @@ impl<H: Wait + RandomSource + Alloc<A = Global> + Copy + Drop, E: Eviction> Both
             let (entry, mut kept) = self.held.remove(0);
             drop(entry);
             if let Some(handle) = kept.0.take() {
-                let mut leaves = Vec::new(alloc);
-                if let Some(leave) = self.core.drop_entry(handle) {
-                    leaves.push(leave)?;
+                if let Some((event, left)) = self.core.drop_entry(handle) {
+                    self.left.push(Note::of(event, left.key(), left.value()))?;
                 }
-                self.note(leaves)?;
             }
         }
         Ok(same)
     }
 
     // The same of two that may be missing, but both or none.
-    fn hold_found(
-        &mut self,
-        alloc: Global,
-        entry: Option<Entry<H>>,
-        kept: Kept,
-    ) -> Result<bool, Fail> {
+    fn hold_found(&mut self, entry: Option<Entry<H>>, kept: Kept) -> Outcome<bool> {
         match entry {
-            Some(entry) => self.hold(alloc, entry, kept),
+            Some(entry) => self.hold(entry, kept),
             None => Ok(kept.0.is_none()),
         }
     }
 
     // An insert.
-    fn insert(&mut self, alloc: Global, key: u32, value: u64) -> Result<bool, Fail> {
+    fn insert(&mut self, key: u32, value: u64) -> Outcome<bool> {
         let entry = self.cache.insert(key, value)?;
         let (kept, leaves) = match self.core.insert(key, value) {
             Ok(
@@ -132,44 +116,44 @@ impl<H: Wait + RandomSource + Alloc<A = Global> + Copy + Drop, E: Eviction> Both
             Err(refused) => (Kept(None), refused.leaves),
         };
         self.note(leaves)?;
-        self.hold(alloc, entry, kept)
+        self.hold(entry, kept)
     }
 
     // A remove.
-    fn remove(&mut self, alloc: Global, key: u32) -> Result<bool, Fail> {
-        let entry = self.cache.remove(key)?;
+    fn remove(&mut self, key: u32) -> Outcome<bool> {
+        let entry = self.cache.remove(&key)?;
         match self.core.remove(&key)? {
             Some((handle, left)) => {
                 let kept = Kept(Some(handle));
-                self.left
-                    .push(Note::Leave(Event::Remove, *left.key(), *left.value()))?;
-                self.hold_found(alloc, entry, kept)
+                self.left.push(Note::Remove(*left.key(), *left.value()))?;
+                self.hold_found(entry, kept)
             }
             None => Ok(entry.is_none()),
         }
     }
 
     // Two look-ups that fetch, and the fetch.
-    fn fetch(&mut self, rt: H, alloc: Global, key: u32, value: u64) -> Result<bool, Fail> {
-        let mut spawner = ListSpawner::new(alloc);
-        let first = self.cache.get_or_fetch(key, value, &mut spawner)?;
-        let second = self.cache.get_or_fetch(key, value, &mut spawner)?;
-        if polled(&rt, spawner)? != 0 {
-            return Ok(false);
-        }
-        let first = first.answer(&rt)??;
-        let second = second.answer(&rt)??;
+    fn fetch(&mut self, rt: H, key: u32, value: u64) -> Outcome<bool> {
+        let mut spawner = ListSpawner::new(rt.alloc());
+        let first = self
+            .cache
+            .get_or_fetch(&key, || given(value), &mut spawner)?;
+        let second = self
+            .cache
+            .get_or_fetch(&key, || given(value), &mut spawner)?;
+        finish(&rt, spawner)?;
+        let (first, second) = (block_on(&rt, first)??, block_on(&rt, second)??);
         let (fetch, lead) = self.ask(key)?;
         let (_, next) = self.ask(key)?;
         let (one, other) = match fetch {
             Some(fetch) => self.complete(key, fetch, value)?,
             None => (lead, next),
         };
-        Ok(self.hold(alloc, first, one)? && self.hold(alloc, second, other)?)
+        Ok(self.hold(first, one)? && self.hold(second, other)?)
     }
 
     // Ends the core's fetch, and answers the handles of the two who wait for it.
-    fn complete(&mut self, key: u32, fetch: u64, value: u64) -> Result<(Kept, Kept), Fail> {
+    fn complete(&mut self, key: u32, fetch: u64, value: u64) -> Outcome<(Kept, Kept)> {
         let Ended {
             found: _,
             answers,
@@ -183,7 +167,7 @@ impl<H: Wait + RandomSource + Alloc<A = Global> + Copy + Drop, E: Eviction> Both
     }
 
     // What the core answers who asks for a key: the fetch that is to be led, or a handle.
-    fn ask(&mut self, key: u32) -> Result<(Option<u64>, Kept), Fail> {
+    fn ask(&mut self, key: u32) -> Outcome<(Option<u64>, Kept)> {
         match self.core.get_or_enqueue(&key, None, ())? {
             Lookup::Hit(handle) => Ok((None, Kept(Some(handle)))),
             Lookup::Lead {
@@ -196,25 +180,18 @@ impl<H: Wait + RandomSource + Alloc<A = Global> + Copy + Drop, E: Eviction> Both
     }
 
     // One call, picked by a number; whether both answered alike.
-    fn step(
-        &mut self,
-        rt: H,
-        alloc: Global,
-        pick: u64,
-        key: u32,
-        value: u64,
-    ) -> Result<bool, Fail> {
+    fn step(&mut self, rt: H, pick: u64, key: u32, value: u64) -> Outcome<bool> {
         match pick {
-            0 | 1 => self.insert(alloc, key, value),
+            0 | 1 => self.insert(key, value),
             2 => {
-                let entry = self.cache.get(key)?;
+                let entry = self.cache.get(&key)?;
                 let kept = Kept(self.core.get(&key)?);
-                self.hold_found(alloc, entry, kept)
+                self.hold_found(entry, kept)
             }
-            3 => Ok(self.cache.touch(key)? == self.core.touch(&key)?),
-            4 => Ok(self.cache.contains(key) == self.core.contains(&key)),
-            5 => self.remove(alloc, key),
-            _ => self.fetch(rt, alloc, key, value),
+            3 => Ok(self.cache.touch(&key)? == self.core.touch(&key)?),
+            4 => Ok(self.cache.contains(&key) == self.core.contains(&key)),
+            5 => self.remove(key),
+            _ => self.fetch(rt, key, value),
         }
     }
 

@@ -1,23 +1,19 @@
 //! Look-ups that fetch what is missing.
 
-ghost use Rattle.std.specs.Prelude.{◌≡◌, IsSome};
-
-use crate::testing::{Ear, Heard, Notes, Once, Raw, RawTask, Twice, given, polled};
-use foyer_memory::{
-    CacheBuilder, CacheProperties, EvictionConfig, FetchTarget, FifoConfig, LfuConfig, LruConfig,
-    OptionalFetchBuilder, S3FifoConfig, SieveConfig,
+use crate::testing::{
+    Cache, Look, Outcome, Target, Task, all_policies, builder, finish, given, number, target,
 };
-use foyer_policy::{Fault, ModHasher, Result, Source};
+use foyer_memory::{CacheProperties, EvictionConfig, LruConfig, OptionalFetchBuilder};
+use foyer_policy::{Fault, Result, Source};
 use foyer_raw::{FetchTypes, Given, ListSpawner, Pollable, Spawner};
+use foyer_raw_tests::notes::Notes;
 use futures::Future;
 use futures::executor::block_on;
 use futures::future::{Ready, ready};
+use futures::task::{Context, Poll};
 use log::Log;
 use std::alloc::Global;
 use std::sync::Wait;
-use std::test::Fail;
-
-type Target = FetchTarget<u32, u64, CacheProperties>;
 
 /// What a required fetch gives.
 type Surely = std::result::Result<Target, Fault>;
@@ -51,32 +47,14 @@ impl FetchTypes<u32, u64, CacheProperties> for Trial {
     type Required = Given<Ready<Surely>>;
 }
 
-fn target(value: u64) -> Target {
-    FetchTarget::Entry {
-        value,
-        properties: CacheProperties::default(),
-    }
-}
-
 // A cache with these fetch types, and with the builder's own policy and number of shards.
-fn built<H: Wait + Log + Copy + Drop, T: FetchTypes<u32, u64, CacheProperties>>(
-    rt: H,
-    alloc: Global,
-) -> std::result::Result<Raw<H, T>, Fail> {
-    Ok(
-        CacheBuilder::new(16)
-            .with_hash_builder(ModHasher::default())
-            .with_event_listener(Ear(Notes::new(alloc)?))
-            .build(rt, alloc, &rt)?,
-    )
-}
-
-// The same of fetches that give a value at once.
-fn fetching<H: Wait + Log + Copy + Drop>(
-    rt: H,
-    alloc: Global,
-) -> std::result::Result<Heard<H>, Fail> {
-    Ok(Heard(built(rt, alloc)?))
+fn fetching<
+    H: Wait + Log + Alloc<A = Global> + Copy + Drop,
+    T: FetchTypes<u32, u64, CacheProperties>,
+>(rt: H) -> Outcome<Cache<H, T>> {
+    let config = EvictionConfig::from(LruConfig::default());
+    let notes = Notes::new(rt.alloc())?;
+    Ok(builder(16, config, &notes)?.build(rt, rt.alloc(), &rt)?)
 }
 
 // A required builder whose fetch gives this.
@@ -86,30 +64,53 @@ fn must(value: u64) -> Option<Given<Ready<Surely>>> {
     })
 }
 
+/// Polls a look-up twice: the value of the first answer, or its refusal's number, and the number of the second one's.
+struct Twice<'a, H: Wait + Drop, T: FetchTypes<u32, u64, CacheProperties>> {
+    look: &'a mut Look<H, T>,
+}
+
+impl<H: Wait + Drop, T: FetchTypes<u32, u64, CacheProperties>> Drop for Twice<'_, H, T> {
+    fn drop(self) {
+        let Twice { look: _ } = self;
+    }
+}
+
+impl<H: Wait + Drop, T: FetchTypes<u32, u64, CacheProperties>> Future for Twice<'_, H, T> {
+    type Output = (u64, Option<u8>);
+
+    fn poll(&mut self, cx: &mut Context<'_>) -> Poll<(u64, Option<u8>)> {
+        let Poll::Ready(first) = self.look.poll(cx) else {
+            return cx.yield_now();
+        };
+        let Poll::Ready(second) = self.look.poll_inner(cx) else {
+            return cx.yield_now();
+        };
+        let value = match first {
+            Ok(entry) => *entry,
+            Err(error) => u64::from(error.number()),
+        };
+        Poll::Ready((value, number(second)))
+    }
+}
+
 #[test]
-fn two_wait_for_one_fetch(rt: HostRuntime) -> std::result::Result<(), Fail> {
-    let alloc = rt.alloc();
-    let cache = fetching(rt, alloc)?;
-    let mut spawner = ListSpawner::new(alloc);
-    let first = cache.get_or_fetch(7, 69, &mut spawner)?;
-    let second = cache.get_or_fetch(7, 68, &mut spawner)?;
-    assert!(rt; first.need_await() && second.need_await());
-    assert!(rt; first.prints(alloc, "Lru(Miss)")?);
+fn two_wait_for_one_fetch(rt: HostRuntime) -> Outcome {
+    let cache: Cache<HostRuntime> = fetching(rt)?;
+    let mut spawner = ListSpawner::new(rt.alloc());
+    let first = cache.get_or_fetch(&7, || given(69), &mut spawner)?;
+    let second = cache.get_or_fetch(&7, || given(68), &mut spawner)?;
     let first = first.try_unwrap().err().ok_or("a hit")?;
-    assert_eq!(rt; polled(&rt, spawner)?, 0);
-    let first = first.answer(&rt)??;
-    let second = second.answer(&rt)??;
-    assert_eq!(rt; (first.value(), second.value(), first.refs()), (69, 69, 2));
+    finish(&rt, spawner)?;
+    let (first, second) = (block_on(&rt, first)??, block_on(&rt, second)??);
+    assert_eq!(rt; (*first, *second, first.refs()), (69, 69, 2));
     assert_eq!(rt;
         (first.source(), second.source()),
         (Source::Outer, Source::Outer)
     );
-    let mut spawner = ListSpawner::new(alloc);
-    let hit = cache.get_or_fetch(7, 1, &mut spawner)?;
-    assert!(rt; !hit.need_await());
-    assert!(rt; hit.prints(alloc, "Lru(Hit)")?);
+    let mut spawner = ListSpawner::new(rt.alloc());
+    let hit = cache.get_or_fetch(&7, || given(1), &mut spawner)?;
     let hit = hit.try_unwrap().ok().ok_or("a miss")??;
-    assert_eq!(rt; (hit.value(), hit.source()), (69, Source::Memory));
+    assert_eq!(rt; (*hit, hit.source()), (69, Source::Memory));
     Ok(())
 }
 
@@ -132,106 +133,82 @@ impl<X: Future<Output = ()>> Spawner<X> for Last<X> {
 }
 
 #[test]
-fn each_kind_prints_its_name(rt: HostRuntime) -> std::result::Result<(), Fail> {
+fn each_kind_prints_its_name(rt: HostRuntime) -> Outcome {
     let alloc = rt.alloc();
-    let kinds = [
-        (
-            EvictionConfig::from(FifoConfig {}),
-            ["Fifo(RawFetch {", "Fifo(Miss)", "Fifo(Hit)"],
-        ),
-        (
-            EvictionConfig::from(S3FifoConfig::default()),
-            ["S3Fifo(RawFetch {", "S3Fifo(Miss)", "S3Fifo(Hit)"],
-        ),
-        (
-            EvictionConfig::from(LruConfig::default()),
-            ["Lru(RawFetch {", "Lru(Miss)", "Lru(Hit)"],
-        ),
-        (
-            EvictionConfig::from(LfuConfig::default()),
-            ["Lfu(RawFetch {", "Lfu(Miss)", "Lfu(Hit)"],
-        ),
-        (
-            EvictionConfig::from(SieveConfig),
-            ["Sieve(RawFetch {", "Sieve(Miss)", "Sieve(Hit)"],
-        ),
-    ];
-    for (config, [begun, miss, hit]) in kinds {
-        let Heard(cache) = Heard::new(rt, alloc, config, 16, 8, &Notes::new(alloc)?)?;
-        let mut last: Last<RawTask<HostRuntime>> = Last { task: None };
+    let names = ["Fifo", "S3Fifo", "Lru", "Lfu", "Sieve"];
+    for (config, name) in all_policies().into_iter().zip(names) {
+        let cache: Cache<HostRuntime> = builder(16, config, &Notes::new(alloc)?)?.build(
+            rt, alloc, &rt,
+        )?;
+        let kind = format!(in alloc; "Cache::{name}Cache")?;
+        assert_eq!(rt; format!(in alloc; "{cache:?}")?, kind);
+        let mut last: Last<Task<HostRuntime>> = Last { task: None };
         let look = cache.get_or_fetch(&7, || given(69), &mut last)?;
-        assert_eq!(rt; format!(in alloc; "{look:?}")?.as_str(), miss);
+        let miss = format!(in alloc; "{name}(Miss)")?;
+        assert_eq!(rt; format!(in alloc; "{look:?}")?, miss);
         let task = last.task.take().ok_or("no task")?;
-        assert!(rt; format!(in alloc; "{task:?}")?.as_str().starts_with(begun));
+        let begun = format!(in alloc; "{name}(RawFetch {{")?;
+        assert!(rt;
+            format!(in alloc; "{task:?}")?
+                .as_str()
+                .starts_with(begun.as_str())
+        );
         drop(task);
-        drop(cache.insert(7, 70)?);
+        let held = cache.insert(7, 70)?;
+        let open = format!(in alloc; "{name}(")?;
+        assert!(rt;
+            format!(in alloc; "{held:?}")?
+                .as_str()
+                .starts_with(open.as_str())
+        );
         let look = cache.get_or_fetch(&7, || given(69), &mut last)?;
-        assert_eq!(rt; format!(in alloc; "{look:?}")?.as_str(), hit);
+        let hit = format!(in alloc; "{name}(Hit)")?;
+        assert_eq!(rt; format!(in alloc; "{look:?}")?, hit);
     }
     Ok(())
 }
 
+// Of a wait as of a hit.
 #[test]
-fn a_fetch_is_overtaken(rt: HostRuntime) -> std::result::Result<(), Fail> {
-    let alloc = rt.alloc();
-    let cache = fetching(rt, alloc)?;
-    let mut spawner = ListSpawner::new(alloc);
-    let first = cache.get_or_fetch(7, 69, &mut spawner)?;
-    let held = cache.insert(7, 70)?;
-    assert_eq!(rt; held.refs(), 2);
-    assert_eq!(rt; polled(&rt, spawner)?, 0);
-    assert_eq!(rt; first.answer(&rt)??.value(), 70);
-    assert_eq!(rt; cache.get(7)?.ok_or("none")?.value(), 70);
+fn an_answer_is_given_once(rt: HostRuntime) -> Outcome {
+    let cache: Cache<HostRuntime> = fetching(rt)?;
+    let mut spawner = ListSpawner::new(rt.alloc());
+    let mut wait = cache.get_or_fetch(&7, || given(5), &mut spawner)?;
+    finish(&rt, spawner)?;
+    assert_eq!(rt; block_on(&rt, Twice { look: &mut wait })?, (5, Some(16)));
+    let mut spawner = ListSpawner::new(rt.alloc());
+    let mut hit = cache.get_or_fetch(&7, || given(6), &mut spawner)?;
+    assert_eq!(rt; block_on(&rt, Twice { look: &mut hit })?, (5, Some(16)));
     Ok(())
 }
 
 #[test]
-fn an_answer_is_given_once(rt: HostRuntime) -> std::result::Result<(), Fail> {
-    let alloc = rt.alloc();
-    let cache = fetching(rt, alloc)?;
-    let mut spawner = ListSpawner::new(alloc);
-    let mut wait = cache.get_or_fetch(7, 5, &mut spawner)?;
-    assert_eq!(rt; polled(&rt, spawner)?, 0);
-    assert_eq!(rt; wait.twice(&rt)?, (5, 16));
-    let mut spawner = ListSpawner::new(alloc);
-    let mut hit = cache.get_or_fetch(7, 6, &mut spawner)?;
-    assert_eq!(rt; hit.twice(&rt)?, (5, 16));
-    let spent = hit.try_unwrap().ok().ok_or("a miss")?;
-    assert_eq!(rt; spent.err().ok_or("an entry")?.number(), 16);
-    Ok(())
-}
-
-#[test]
-fn a_builder_that_was_lent(rt: HostRuntime) -> std::result::Result<(), Fail> {
-    let alloc = rt.alloc();
-    let cache: Raw<HostRuntime, Trial> = built(rt, alloc)?;
-    let mut spawner: ListSpawner<RawTask<HostRuntime, Trial>> = ListSpawner::new(alloc);
+fn a_builder_that_was_lent(rt: HostRuntime) -> Outcome {
+    let cache: Cache<HostRuntime, Trial> = fetching(rt)?;
+    let mut spawner = ListSpawner::new(rt.alloc());
     let optional = Some(May {
         fetch: Pollable::new(ready(Ok(None))),
     });
     let first = cache.get_or_fetch_inner(&7, || optional, || None, (), &mut spawner)?;
     let second = cache.get_or_fetch_inner(&7, || None, || must(5), (), &mut spawner)?;
-    assert_eq!(rt; block_on(&rt, Once { spawner })?, 0);
+    finish(&rt, spawner)?;
     assert_eq!(rt; (*block_on(&rt, first)??, *block_on(&rt, second)??), (5, 5));
     Ok(())
 }
 
+// F13 where the fetch found nothing, and F15 where its task was dropped.
 #[test]
-fn nothing_was_found(rt: HostRuntime) -> std::result::Result<(), Fail> {
-    let alloc = rt.alloc();
-    let cache: Raw<HostRuntime, Trial> = built(rt, alloc)?;
-    let mut spawner: ListSpawner<RawTask<HostRuntime, Trial>> = ListSpawner::new(alloc);
+fn nothing_was_found(rt: HostRuntime) -> Outcome {
+    let cache: Cache<HostRuntime, Trial> = fetching(rt)?;
+    let mut spawner = ListSpawner::new(rt.alloc());
     let mut first = cache.get_or_fetch_inner(&7, || None, || None, (), &mut spawner)?;
     let lost = cache.get_or_fetch_inner(&8, || None, || None, (), &mut spawner)?;
-    let mut other: ListSpawner<RawTask<HostRuntime, Trial>> = ListSpawner::new(alloc);
+    let mut other = ListSpawner::new(rt.alloc());
     let dropped = cache.get_or_fetch_inner(&9, || None, || must(5), (), &mut other)?;
     drop(other);
-    assert_eq!(rt; block_on(&rt, Once { spawner })?, 0);
-    assert_eq!(rt; block_on(&rt, Twice { look: &mut first })?, (13, 16));
-    assert_eq!(rt; block_on(&rt, lost)?.err().ok_or("an entry")?.number(), 13);
-    assert_eq!(rt;
-        block_on(&rt, dropped)?.err().ok_or("an entry")?.number(),
-        15
-    );
+    finish(&rt, spawner)?;
+    assert_eq!(rt; block_on(&rt, Twice { look: &mut first })?, (13, Some(16)));
+    assert_eq!(rt; number(block_on(&rt, lost)?), Some(13));
+    assert_eq!(rt; number(block_on(&rt, dropped)?), Some(15));
     Ok(())
 }

@@ -1,142 +1,141 @@
-//! What the tests have in common.
+//! What the tests have in common: a cache of their own parts, and what polls its tasks.
 
-ghost use Rattle.std.specs.Prelude.{◌≡◌, IsSome};
-
-use foyer_memory::{CacheProperties, EvictionConfig, LruConfig, Piece, Pipe};
-use foyer_policy::{Event, EventListener, Ratio};
-use foyer_raw::ListSpawner;
+use foyer_core::{AdmitAll, UnitWeighter};
+use foyer_memory::{
+    Cache as CacheOf, CacheBuilder, CacheEntry, CacheProperties, EvictionConfig, FetchTarget,
+    FetchTask, FifoConfig, GetOrFetch, LfuConfig, LruConfig, S3FifoConfig, SieveConfig,
+};
+use foyer_policy::{Fault, ModHasher, Result};
+use foyer_raw::{Direct, ListSpawner};
+use foyer_raw_tests::notes::{Ear, Notes, Tube};
 use futures::Future;
+use futures::executor::block_on;
 use futures::future::{Ready, ready};
 use futures::task::{Context, Poll};
 use log::Log;
-use std::alloc::{AllocError, Global};
-use std::cell::RefCell;
-use std::rc::Rc;
+use std::alloc::Global;
+use std::random::RandomSource;
 use std::sync::Wait;
 use std::test::Fail;
 
-mod cache;
+/// What a test, or a helper of one, ends with.
+pub(crate) type Outcome<T = ()> = std::result::Result<T, Fail>;
 
-pub(crate) use cache::{Entry, Heard, Raw, RawTask, Tasks, Twice, given, polled};
+/// What a fetch gives where nothing fails.
+pub(crate) type Target = FetchTarget<u32, u64, CacheProperties>;
 
-/// What was heard.
-#[derive(Clone, Copy, Debug, PartialEq, Eq)]
-pub(crate) enum Note {
-    /// A leave of a key and a value.
-    Leave(Event, u32, u64),
-    /// A piece of a key and a value.
-    Piece(u32, u64),
-    /// A flush of so many pieces.
-    Flush(usize),
+/// A fetch that is ready at once.
+pub(crate) type Fetch = Ready<std::result::Result<Target, Fault>>;
+
+/// A cache of numbers that writes down what it tells.
+pub(crate) type Cache<H, T = Direct<Fetch>> = CacheOf<
+    H,
+    u32,
+    u64,
+    ModHasher,
+    CacheProperties,
+    UnitWeighter,
+    AdmitAll,
+    Ear,
+    Tube,
+    T,
+>;
+
+/// An entry of it.
+pub(crate) type Entry<H> = CacheEntry<
+    H,
+    u32,
+    u64,
+    ModHasher,
+    CacheProperties,
+    UnitWeighter,
+    AdmitAll,
+    Ear,
+    Tube,
+    Direct<Fetch>,
+>;
+
+/// A look-up in it.
+pub(crate) type Look<H, T = Direct<Fetch>> = GetOrFetch<
+    H,
+    u32,
+    u64,
+    ModHasher,
+    CacheProperties,
+    UnitWeighter,
+    AdmitAll,
+    Ear,
+    Tube,
+    T,
+>;
+
+/// A task of it.
+pub(crate) type Task<H, T = Direct<Fetch>> = FetchTask<
+    H,
+    u32,
+    u64,
+    ModHasher,
+    CacheProperties,
+    UnitWeighter,
+    AdmitAll,
+    Ear,
+    Tube,
+    T,
+>;
+
+/// A configuration of each policy.
+pub(crate) fn all_policies() -> [EvictionConfig; 5] {
+    [
+        EvictionConfig::from(FifoConfig {}),
+        EvictionConfig::from(S3FifoConfig::default()),
+        EvictionConfig::from(LruConfig::default()),
+        EvictionConfig::from(LfuConfig::default()),
+        EvictionConfig::from(SieveConfig),
+    ]
 }
 
-/// What was heard, in order, by all who have a share of it.
-#[derive(Drop)]
-pub(crate) struct Notes(Rc<RefCell<Vec<Note>>>);
-
-impl Notes {
-    /// Nothing was heard yet.
-    pub(crate) fn new(alloc: Global) -> Result<Self, AllocError> {
-        match Rc::new(alloc, RefCell::new(Vec::new(alloc))) {
-            Ok(notes) => Ok(Notes(notes)),
-            Err(_) => Err(AllocError),
-        }
-    }
-
-    /// The same notes again.
-    pub(crate) fn share(&self) -> Result<Self, AllocError> {
-        Ok(Notes(self.0.clone()?))
-    }
-
-    /// Writes one more. A note for which there is no memory is lost.
-    pub(crate) fn write(&self, note: Note) {
-        if let Ok(mut notes) = self.0.try_borrow_mut() {
-            let _ = notes.push(note);
-        }
-    }
-
-    /// Whether just these were heard, in this order.
-    pub(crate) fn are(&self, wanted: &[Note]) -> bool {
-        match self.0.try_borrow_mut() {
-            Ok(notes) => notes.as_slice() == wanted,
-            Err(_) => false,
-        }
-    }
-
-    /// Forgets them.
-    pub(crate) fn forget(&self) {
-        if let Ok(mut notes) = self.0.try_borrow_mut() {
-            notes.clear();
-        }
-    }
-
-    /// How many were heard.
-    pub(crate) fn count(&self) -> usize {
-        match self.0.try_borrow_mut() {
-            Ok(notes) => notes.len(),
-            Err(_) => 0,
-        }
-    }
-
-    /// The one that was heard after so many others.
-    pub(crate) fn at(&self, place: usize) -> Option<Note> {
-        match self.0.try_borrow_mut() {
-            Ok(notes) => notes.get(place).copied(),
-            Err(_) => None,
-        }
-    }
-}
-
-/// A listener that writes leaves down.
-#[derive(Drop)]
-pub(crate) struct Ear(pub(crate) Notes);
-
-impl EventListener for Ear {
-    type Key = u32;
-
-    type Value = u64;
-
-    fn on_leave(&self, event: Event, key: &u32, value: &u64) {
-        self.0.write(Note::Leave(event, *key, *value));
-    }
-}
-
-/// A pipe that writes pieces down.
-#[derive(Drop)]
-pub(crate) struct Tube(pub(crate) Notes);
-
-impl Pipe for Tube {
-    type Key = u32;
-
-    type Value = u64;
-
-    type Properties = CacheProperties;
-
-    type Flush = Ready<()>;
-
-    fn is_enabled(&self) -> bool {
-        true
-    }
-
-    fn send(&self, piece: Piece<u32, u64, CacheProperties>) {
-        self.0.write(Note::Piece(*piece.key(), *piece.value()));
-    }
-
-    fn flush(&self, pieces: Vec<Piece<u32, u64, CacheProperties>>) -> Ready<()>
-        ensures { IsSome result.0 }
-    {
-        for piece in pieces.as_slice() {
-            self.0.write(Note::Piece(*piece.key(), *piece.value()));
-        }
-        self.0.write(Note::Flush(pieces.len()));
-        ready(())
+/// A value of a key.
+pub(crate) fn target(value: u64) -> Target {
+    FetchTarget::Entry {
+        value,
+        properties: CacheProperties::default(),
     }
 }
 
-/// Polls the tasks once, and answers how many remain.
+/// A fetch of this value.
+pub(crate) fn given(value: u64) -> Fetch {
+    ready(Ok(target(value)))
+}
+
+/// A builder of caches of numbers with keys as their own hashes, which tell a listener that writes down.
+pub(crate) fn builder(
+    capacity: usize,
+    config: EvictionConfig,
+    notes: &Notes,
+) -> Outcome<CacheBuilder<u32, u64, ModHasher, UnitWeighter, AdmitAll, Ear>> {
+    Ok(
+        CacheBuilder::new(capacity)
+            .with_eviction_config(config)
+            .with_hash_builder(ModHasher::default())
+            .with_event_listener(Ear(notes.share()?)),
+    )
+}
+
+/// Polls each task once, and is an error where one remains.
+pub(crate) fn finish<H: Wait + RandomSource + Alloc<A = Global>, X: Future<Output = ()>>(
+    rt: &H,
+    spawner: ListSpawner<X>,
+) -> Outcome {
+    match block_on(rt, Once { spawner })? {
+        0 => Ok(()),
+        _ => Err(Fail::from("tasks remain")),
+    }
+}
+
+/// Polls each task once, and answers how many remain.
 #[derive(Drop)]
-pub(crate) struct Once<X: Future<Output = ()>> {
-    pub(crate) spawner: ListSpawner<X>,
+struct Once<X: Future<Output = ()>> {
+    spawner: ListSpawner<X>,
 }
 
 impl<X: Future<Output = ()>> Future for Once<X> {
@@ -147,21 +146,7 @@ impl<X: Future<Output = ()>> Future for Once<X> {
     }
 }
 
-/// A cache of this policy, which tells a listener and a pipe that write down.
-pub(crate) fn heard<H: Wait + Log + Copy + Drop>(
-    rt: H,
-    alloc: Global,
-    config: EvictionConfig,
-    capacity: usize,
-    shards: usize,
-    notes: &Notes,
-) -> std::result::Result<Heard<H>, Fail> {
-    Heard::new(rt, alloc, config, capacity, shards, notes)?.with_pipe(alloc, notes)
-}
-
-/// An LRU policy all of whose capacity is its pool of high priority.
-pub(crate) fn whole_pool() -> EvictionConfig {
-    EvictionConfig::Lru(LruConfig {
-        high_priority_pool_ratio: Ratio { num: 1, den: 1 },
-    })
+/// With which number a call is refused, if it is.
+pub(crate) fn number<X: Drop>(answered: Result<X>) -> Option<u8> {
+    answered.err().map(|error| error.number())
 }

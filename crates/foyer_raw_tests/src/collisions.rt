@@ -1,11 +1,11 @@
 //! Keys that all have one hash.
 
+use crate::testing::Outcome;
 use foyer_core::{AdmitAll, Limits, RawCacheConfig, UnitWeighter};
 use foyer_policy::{Fifo, FifoConfig};
 use foyer_raw::{NoListener, RawCache};
 use std::hash::{BuildHasher, Hasher};
 use std::marker::Model;
-use std::test::Fail;
 
 /// Gives all keys the number 0.
 #[derive(Clone, Copy)]
@@ -60,9 +60,8 @@ fn colliding() -> RawCacheConfig<FifoConfig, Zeros, UnitWeighter, AdmitAll> {
 }
 
 #[test]
-fn colliding_keys_have_their_own_records(rt: HostRuntime) -> std::result::Result<(), Fail> {
-    let alloc = rt.alloc();
-    let cache: Cache<HostRuntime> = RawCache::new(rt, alloc, colliding(), NoListener::new())?;
+fn colliding_keys_have_their_own_records(rt: HostRuntime) -> Outcome {
+    let cache: Cache<HostRuntime> = RawCache::new(rt, rt.alloc(), colliding(), NoListener::new())?;
     let one = cache.insert(1, 10)?;
     let two = cache.insert(2, 20)?;
     assert_eq!(rt; (one.hash(), two.hash()), (0, 0));

@@ -1,82 +1,55 @@
 //! What is told of leaves, and in which order.
 
-use crate::testing::cache::Cache;
-use crate::testing::{Note, Notes, fifo};
-use foyer_core::CacheProperties;
-use foyer_policy::{Event, Properties};
-use std::test::Fail;
+use crate::notes::Note::{Clear, Evict, Piece, Remove, Replace};
+use crate::testing::cache::{heard, piped, with_tube};
+use crate::testing::{Outcome, fifo, phantom};
 
 #[test]
-fn a_phantom_leaves_with_its_entry(rt: HostRuntime) -> std::result::Result<(), Fail> {
-    let alloc = rt.alloc();
-    let notes = Notes::new(alloc)?;
-    let cache = Cache::new(rt, alloc, fifo(2, 1), &notes)?;
-    let cache = cache.with_pipe(alloc, &notes)?;
+fn a_phantom_leaves_with_its_entry(rt: HostRuntime) -> Outcome {
+    let (cache, notes) = piped(rt, fifo(2, 1))?;
     drop(cache.insert(1, 1)?);
-    let phantom = CacheProperties::default().with_phantom(true);
-    let held = cache.insert_with_properties(1, 100, phantom)?;
-    assert!(rt;
-        notes.are(&[
-            Note::Leave(Event::Replace, 1, 1),
-            Note::Leave(Event::Remove, 1, 100)
-        ])
-    );
+    let held = cache.insert_with_properties(1, 100, phantom())?;
+    let [replaced, removed] = [Replace(1, 1), Remove(1, 100)];
+    assert!(rt; notes.are(&[replaced, removed]));
     assert_eq!(rt; cache.usage(), 0);
     assert!(rt; held.is_outdated());
     drop(held);
-    assert!(rt;
-        notes.are(&[
-            Note::Leave(Event::Replace, 1, 1),
-            Note::Leave(Event::Remove, 1, 100),
-            Note::Leave(Event::Evict, 1, 100),
-            Note::Piece(1, 100),
-        ])
-    );
-    assert!(rt; cache.get(1)?.is_none());
+    assert!(rt; notes.are(&[replaced, removed, Evict(1, 100), Piece(1, 100)]));
+    assert!(rt; cache.get(&1)?.is_none());
     Ok(())
 }
 
 #[test]
-fn the_listener_hears_before_the_pipe(rt: HostRuntime) -> std::result::Result<(), Fail> {
-    let alloc = rt.alloc();
-    let notes = Notes::new(alloc)?;
-    let cache = Cache::new(rt, alloc, fifo(1, 1), &notes)?;
-    let piped = cache.try_clone()?.with_pipe(alloc, &notes)?;
+fn the_listener_hears_before_the_pipe(rt: HostRuntime) -> Outcome {
+    let (cache, notes) = heard(rt, fifo(1, 1))?;
+    let piped = with_tube(cache.try_clone()?, rt.alloc(), &notes, true)?;
     drop(cache.insert(1, 10)?);
     drop(cache.insert(2, 20)?);
     drop(piped.insert(3, 30)?);
-    drop(piped.remove(3)?);
+    drop(piped.remove(&3)?);
     drop(piped.insert(4, 40)?);
     piped.clear()?;
     assert!(rt;
         notes.are(&[
-            Note::Leave(Event::Evict, 1, 10),
-            Note::Leave(Event::Evict, 2, 20),
-            Note::Piece(2, 20),
-            Note::Leave(Event::Remove, 3, 30),
-            Note::Leave(Event::Clear, 4, 40),
+            Evict(1, 10),
+            Evict(2, 20),
+            Piece(2, 20),
+            Remove(3, 30),
+            Clear(4, 40)
         ])
     );
     Ok(())
 }
 
 #[test]
-fn the_last_owner_clears(rt: HostRuntime) -> std::result::Result<(), Fail> {
-    let alloc = rt.alloc();
-    let notes = Notes::new(alloc)?;
-    let cache = Cache::new(rt, alloc, fifo(4, 2), &notes)?;
+fn the_last_owner_clears(rt: HostRuntime) -> Outcome {
+    let (cache, notes) = heard(rt, fifo(4, 2))?;
     let held = cache.insert(1, 10)?;
     drop(cache.insert(3, 30)?);
     drop(cache.insert(2, 20)?);
     drop(cache);
     assert!(rt; notes.are(&[]));
     drop(held);
-    assert!(rt;
-        notes.are(&[
-            Note::Leave(Event::Clear, 2, 20),
-            Note::Leave(Event::Clear, 1, 10),
-            Note::Leave(Event::Clear, 3, 30),
-        ])
-    );
+    assert!(rt; notes.are(&[Clear(2, 20), Clear(1, 10), Clear(3, 30)]));
     Ok(())
 }

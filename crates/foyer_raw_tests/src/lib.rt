@@ -1,5 +1,5 @@
-//! Tests of `foyer_raw` through its public calls alone. They stand in a crate of their own, so that they are
-//! proved over the contracts of `foyer_raw`, and it is not proved once more for them.
+//! Tests of `foyer_raw` through its public calls alone, and what writes down for them. They stand in a crate of their
+//! own: a library with tests beside its code would be proved once more for them.
 #![tactic(auto)]
 
 #[cfg(test)]
@@ -16,8 +16,7 @@ mod fetches;
 mod leaves;
 #[cfg(test)]
 mod limits;
-#[cfg(test)]
-mod states;
+pub mod notes;
 #[cfg(test)]
 mod testing;
 #[cfg(test)]

@@ -1,15 +1,13 @@
 //! The core's refusals, through the calls of a cache.
 
-ghost use Rattle.std.specs.Prelude.{◌≡◌};
-
-use crate::testing::cache::Cache;
-use crate::testing::{Note, Notes, fifo};
-use foyer_core::{AdmitAll, CacheProperties, Limits, RawCacheConfig, UnitWeighter, Weighter};
-use foyer_policy::{Event, Fifo, Lfu, LfuConfig, Lru, LruConfig, ModHasher, Properties, Ratio};
+use crate::notes::Note::{Evict, Remove};
+use crate::notes::{Ear, Notes};
+use crate::testing::cache::heard;
+use crate::testing::{Outcome, limited, number, phantom};
+use foyer_core::{AdmitAll, CacheProperties, Limits, RawCacheConfig, Weighter};
+use foyer_core_tests::refusing::RefusingPolicy;
+use foyer_policy::{Fifo, FifoConfig, Lru, LruConfig, ModHasher};
 use foyer_raw::{NoListener, RawCache};
-use std::alloc::Global;
-use std::sync::Wait;
-use std::test::Fail;
 
 /// A value is its weight.
 #[derive(Clone, Copy)]
@@ -23,143 +21,113 @@ impl Weighter<u32, u64> for ByValue {
     }
 }
 
-// A cache of one shard and two records, with these limits.
-fn limited<H: Wait + Drop>(
-    rt: H,
-    alloc: Global,
-    notes: &Notes,
-    limits: Limits,
-) -> std::result::Result<Cache<H>, Fail> {
-    let config = RawCacheConfig {
-        limits,
-        ..fifo(2, 1)
+#[test]
+fn handles_have_a_limit(rt: HostRuntime) -> Outcome {
+    let limits = Limits {
+        handles: 2,
+        ..Limits::default()
     };
-    Cache::new(rt, alloc, config, notes)
+    let (cache, _notes) = heard(rt, limited(4, limits))?;
+    let first = cache.insert(1, 10)?;
+    let second = cache.get(&1)?.ok_or("none")?;
+    assert_eq!(rt; number(cache.get(&1)), Some(9));
+    assert_eq!(rt; number(cache.touch(&1)), Some(9));
+    assert_eq!(rt; number(first.try_clone()), Some(9));
+    drop(second);
+    assert!(rt; cache.touch(&1)? && cache.get(&1)?.is_some());
+    Ok(())
 }
 
 // No id is left for a third record, and nothing leaves for it. A piece of a record that was in needs none.
 #[test]
-fn ids_have_a_limit(rt: HostRuntime) -> std::result::Result<(), Fail> {
-    let notes = Notes::new(rt.alloc())?;
-    let limits = Limits { ids: 2, handles: 4 };
-    let cache = limited(rt, rt.alloc(), &notes, limits)?;
+fn ids_have_a_limit(rt: HostRuntime) -> Outcome {
+    let (cache, notes) = heard(rt, limited(2, Limits { ids: 2, handles: 4 }))?;
     let piece = cache.insert(1, 10)?.piece()?;
     drop(cache.insert(2, 20)?);
-    let refused = cache.insert(3, 30).err().ok_or("an entry")?;
-    assert_eq!(rt; refused.number(), 10);
-    let phantom = CacheProperties::default().with_phantom(true);
-    let refused = cache
-        .insert_with_properties(3, 30, phantom)
-        .err()
-        .ok_or("an entry")?;
-    assert_eq!(rt; refused.number(), 10);
-    assert!(rt; notes.are(&[]) && cache.contains(1));
-    drop(cache.remove(1)?);
-    assert_eq!(rt; cache.insert_piece(piece)?.value(), 10);
-    assert!(rt; notes.are(&[Note::Leave(Event::Remove, 1, 10)]));
+    assert_eq!(rt; number(cache.insert(3, 30)), Some(10));
+    assert_eq!(rt;
+        number(cache.insert_with_properties(3, 30, phantom())),
+        Some(10)
+    );
+    assert!(rt; notes.are(&[]) && cache.contains(&1));
+    drop(cache.remove(&1)?);
+    assert_eq!(rt; *cache.insert_piece(piece)?, 10);
+    assert!(rt; notes.are(&[Remove(1, 10)]));
     Ok(())
 }
 
 // F10 goes before F9, and F9 alone where there is an id.
 #[test]
-fn a_record_without_handles_is_refused(rt: HostRuntime) -> std::result::Result<(), Fail> {
-    let notes = Notes::new(rt.alloc())?;
-    let limits = Limits { ids: 0, handles: 0 };
-    let cache = limited(rt, rt.alloc(), &notes, limits)?;
-    let refused = cache.insert(1, 10).err().ok_or("an entry")?;
-    assert_eq!(rt; refused.number(), 10);
-    let limits = Limits { ids: 1, handles: 0 };
-    let cache = limited(rt, rt.alloc(), &notes, limits)?;
-    let refused = cache.insert(1, 10).err().ok_or("an entry")?;
-    assert_eq!(rt; refused.number(), 9);
-    assert!(rt; notes.are(&[]) && cache.fits() && cache.entries() == 0);
+fn a_record_without_handles_is_refused(rt: HostRuntime) -> Outcome {
+    let (cache, _notes) = heard(rt, limited(2, Limits { ids: 0, handles: 0 }))?;
+    assert_eq!(rt; number(cache.insert(1, 10)), Some(10));
+    let (cache, notes) = heard(rt, limited(2, Limits { ids: 1, handles: 0 }))?;
+    assert_eq!(rt; number(cache.insert(1, 10)), Some(9));
+    assert!(rt; notes.are(&[]) && cache.entries() == 0);
     Ok(())
 }
 
-// Beside a pinned record of the greatest weight none but the weightless fits, and a phantom one.
-#[test]
-fn a_weight_fits_beside_what_is_pinned(rt: HostRuntime) -> std::result::Result<(), Fail> {
-    let alloc = rt.alloc();
-    let config: RawCacheConfig<LruConfig, ModHasher, ByValue, AdmitAll> = RawCacheConfig {
-        capacity: usize::MAX,
+// A configuration of one shard, of records whose values are their weights.
+fn weighed<C>(
+    capacity: usize,
+    eviction_config: C,
+) -> RawCacheConfig<C, ModHasher, ByValue, AdmitAll> {
+    RawCacheConfig {
+        capacity,
         shards: 1,
-        eviction_config: LruConfig::default(),
+        eviction_config,
         hash_builder: ModHasher::default(),
         weighter: ByValue,
         filter: AdmitAll,
         number: 0,
         limits: Limits::default(),
-    };
-    let cache: RawCache<HostRuntime, Lru, u32, u64, ModHasher, CacheProperties, ByValue> =
-        RawCache::new(rt, alloc, config, NoListener::new())?;
-    drop(cache.insert(1, u64::MAX)?);
-    let held = cache.get(&1)?.ok_or("none")?;
-    let refused = cache.insert(2, 1).err().ok_or("an entry")?;
-    assert_eq!(rt; refused.number(), 8);
-    assert!(rt; cache.contains(&1) && !cache.contains(&2));
-    drop(cache.insert(2, 0)?);
-    assert!(rt; cache.contains(&2) && cache.fits());
-    let phantom = CacheProperties::default().with_phantom(true);
-    drop(cache.insert_with_properties(2, 1, phantom)?);
-    assert!(rt; !cache.contains(&2));
-    drop(held);
-    assert_eq!(rt; *cache.insert(2, 1)?, 1);
-    assert!(rt; !cache.contains(&1) && cache.fits());
-    assert_eq!(rt; cache.usage(), 1);
+    }
+}
+
+// The third record needs two evictions, of which the second is refused: the first is told all the same.
+#[test]
+fn leaves_of_a_refused_insert_are_told(rt: HostRuntime) -> Outcome {
+    let notes = Notes::new(rt.alloc())?;
+    let cache: RawCache<
+        HostRuntime,
+        RefusingPolicy<Fifo, 4>,
+        u32,
+        u64,
+        ModHasher,
+        CacheProperties,
+        ByValue,
+        AdmitAll,
+        Ear,
+    > = RawCache::new(
+        rt,
+        rt.alloc(),
+        weighed(2, FifoConfig {}),
+        Ear(notes.share()?),
+    )?;
+    drop(cache.insert(1, 1)?);
+    drop(cache.insert(2, 1)?);
+    assert_eq!(rt; number(cache.insert(3, 2)), Some(7));
+    assert!(rt; notes.are(&[Evict(1, 1)]) && !cache.contains(&1) && !cache.contains(&3));
     Ok(())
 }
 
-// With which number a cache of this configuration is refused.
-fn refused_by<H: Wait + Drop>(rt: H, alloc: Global, eviction_config: LfuConfig) -> Option<u8> {
-    let config: RawCacheConfig<LfuConfig, ModHasher, UnitWeighter, AdmitAll> = RawCacheConfig {
-        capacity: 4,
-        shards: 2,
-        eviction_config,
-        hash_builder: ModHasher::default(),
-        weighter: UnitWeighter,
-        filter: AdmitAll,
-        number: 0,
-        limits: Limits::default(),
-    };
-    let made: foyer_policy::Result<RawCache<H, Lfu, u32, u64, ModHasher>> = RawCache::new(
-        rt,
-        alloc,
-        config,
-        NoListener::new(),
-    );
-    Some(made.err()?.number())
-}
-
-// Of two faults the first is answered.
+// Beside a pinned record of the greatest weight none but the weightless fits, and a phantom one.
 #[test]
-fn a_faulty_configuration_is_refused(rt: HostRuntime) {
-    let half = Ratio { num: 1, den: 2 };
-    let no_denominator = LfuConfig {
-        window_capacity_ratio: Ratio { num: 1, den: 0 },
-        cmsketch_hashes: 0,
-        ..LfuConfig::default()
-    };
-    let out_of_range = LfuConfig {
-        protected_capacity_ratio: Ratio { num: 1, den: 1 },
-        cmsketch_buckets: 0,
-        ..LfuConfig::default()
-    };
-    let too_much = LfuConfig {
-        window_capacity_ratio: half,
-        protected_capacity_ratio: half,
-        ..LfuConfig::default()
-    };
-    let no_rows = LfuConfig {
-        cmsketch_hashes: 0,
-        ..LfuConfig::default()
-    };
-    let no_buckets = LfuConfig {
-        cmsketch_buckets: 0,
-        ..LfuConfig::default()
-    };
-    let faulty = [no_denominator, out_of_range, too_much, no_rows, no_buckets];
-    for (config, number) in faulty.into_iter().zip([2u8, 3, 4, 5, 6]) {
-        assert_eq!(rt; refused_by(rt, rt.alloc(), config), Some(number));
-    }
-    assert_eq!(rt; refused_by(rt, rt.alloc(), LfuConfig::default()), None);
+fn a_weight_fits_beside_what_is_pinned(rt: HostRuntime) -> Outcome {
+    let config = weighed(usize::MAX, LruConfig::default());
+    let cache: RawCache<HostRuntime, Lru, u32, u64, ModHasher, CacheProperties, ByValue> =
+        RawCache::new(rt, rt.alloc(), config, NoListener::new())?;
+    drop(cache.insert(1, u64::MAX)?);
+    let held = cache.get(&1)?.ok_or("none")?;
+    assert_eq!(rt; number(cache.insert(2, 1)), Some(8));
+    assert!(rt; cache.contains(&1) && !cache.contains(&2));
+    drop(cache.insert(2, 0)?);
+    assert!(rt; cache.contains(&2));
+    drop(cache.insert_with_properties(2, 1, phantom())?);
+    assert!(rt; !cache.contains(&2));
+    drop(held);
+    assert_eq!(rt; *cache.insert(2, 1)?, 1);
+    assert!(rt; !cache.contains(&1));
+    assert_eq!(rt; cache.usage(), 1);
+    Ok(())
 }

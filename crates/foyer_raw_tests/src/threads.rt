@@ -1,43 +1,31 @@
 //! Many threads at one cache.
 
-use crate::testing::fifo;
-use foyer_policy::{Fifo, ModHasher};
-use foyer_raw::{NoListener, RawCache};
-use std::sync::Wait;
+use crate::testing::builders::{Later, Surely, after_polls, value};
+use crate::testing::{Outcome, fifo, phantom};
+use foyer_core::{AdmitAll, CacheProperties, UnitWeighter};
+use foyer_policy::{Event, EventListener, Fifo, ModHasher};
+use foyer_raw::{Direct, ListSpawner, NoListener, NoopPipe, RawCache};
+use futures::executor::block_on;
+use std::alloc::Global;
 use std::sync::atomic::{AtomicU64, Ordering};
-use std::test::Fail;
+use std::sync::{Arc, Wait};
 use std::thread;
 use std::time::{Clock, Duration};
 
 type Cache<H> = RawCache<H, Fifo, u32, u64, ModHasher>;
 
+// Inserts a thousand keys with this value. How many inserts were accepted.
+fn insert_all<H: Wait + Drop>(cache: &Cache<H>, value: u64) -> u64 {
+    (0..1000u32)
+        .map(|key| u64::from(cache.insert(key, value).is_ok()))
+        .sum()
+}
+
 #[test]
-fn two_threads_insert_and_drop(rt: HostRuntime) -> std::result::Result<(), Fail> {
-    let alloc = rt.alloc();
-    let cache: Cache<HostRuntime> = RawCache::new(rt, alloc, fifo(64, 4), NoListener::new())?;
-    let (a, b) = thread::join(
-        &rt,
-        || {
-            let mut done = 0u64;
-            for key in 0..1000u32 {
-                if cache.insert(key, 1).is_ok() {
-                    done = done.saturating_add(1);
-                }
-            }
-            done
-        },
-        || {
-            let mut done = 0u64;
-            for key in 0..1000u32 {
-                if cache.insert(key, 2).is_ok() {
-                    done = done.saturating_add(1);
-                }
-            }
-            done
-        },
-    );
-    assert_eq!(rt; a, 1000);
-    assert_eq!(rt; b, 1000);
+fn two_threads_insert_and_drop(rt: HostRuntime) -> Outcome {
+    let cache: Cache<HostRuntime> = RawCache::new(rt, rt.alloc(), fifo(64, 4), NoListener::new())?;
+    let done = thread::join(&rt, || insert_all(&cache, 1), || insert_all(&cache, 2));
+    assert_eq!(rt; done, (1000, 1000));
     assert!(rt; cache.usage() <= 64);
     assert_eq!(rt; cache.entries(), cache.usage());
     Ok(())
@@ -54,7 +42,7 @@ fn is_up(rt: &impl Clock, flag: &AtomicU64) -> bool {
     false
 }
 
-// What two threads tell each other.
+/// What two threads tell each other.
 #[derive(Drop)]
 struct Flags {
     inside: AtomicU64,
@@ -62,14 +50,34 @@ struct Flags {
     seen: AtomicU64,
 }
 
-// Flushes nothing. Under the lock of key 0's shard it says that it is inside, and waits until the other has looked.
+impl Flags {
+    fn new() -> Self {
+        Flags {
+            inside: AtomicU64::new(0),
+            looked: AtomicU64::new(0),
+            seen: AtomicU64::new(0),
+        }
+    }
+
+    // Says that it is inside, and waits until the other has looked.
+    fn wait_inside(&self, rt: &impl Clock) {
+        self.inside.store(1, Ordering::SeqCst);
+        if is_up(rt, &self.looked) {
+            self.seen.store(1, Ordering::SeqCst);
+        }
+    }
+
+    // Whether the other looked while this was inside.
+    fn were_seen(&self) -> bool {
+        self.seen.load(Ordering::SeqCst) == 1
+    }
+}
+
+// Flushes nothing. Under the lock of key 0's shard it waits until the other has looked.
 fn flush_slowly<H: Wait + Drop>(rt: &impl Clock, cache: &Cache<H>, flags: &Flags) {
     let flush = cache.flush_if(|key, _| {
         if *key == 0 {
-            flags.inside.store(1, Ordering::SeqCst);
-            if is_up(rt, &flags.looked) {
-                flags.seen.store(1, Ordering::SeqCst);
-            }
+            flags.wait_inside(rt);
         }
         false
     });
@@ -78,16 +86,11 @@ fn flush_slowly<H: Wait + Drop>(rt: &impl Clock, cache: &Cache<H>, flags: &Flags
 
 // While a predicate runs under the lock of the first shard, another thread looks into the second one.
 #[test]
-fn each_shard_has_a_lock_of_its_own(rt: HostRuntime) -> std::result::Result<(), Fail> {
-    let alloc = rt.alloc();
-    let cache: Cache<HostRuntime> = RawCache::new(rt, alloc, fifo(64, 2), NoListener::new())?;
+fn each_shard_has_a_lock_of_its_own(rt: HostRuntime) -> Outcome {
+    let cache: Cache<HostRuntime> = RawCache::new(rt, rt.alloc(), fifo(64, 2), NoListener::new())?;
     drop(cache.insert(0, 10)?);
     drop(cache.insert(1, 11)?);
-    let flags = Flags {
-        inside: AtomicU64::new(0),
-        looked: AtomicU64::new(0),
-        seen: AtomicU64::new(0),
-    };
+    let flags = Flags::new();
     thread::join(
         &rt,
         || flush_slowly(&rt, &cache, &flags),
@@ -97,7 +100,112 @@ fn each_shard_has_a_lock_of_its_own(rt: HostRuntime) -> std::result::Result<(), 
             }
         },
     );
-    assert_eq!(rt; flags.seen.load(Ordering::SeqCst), 1);
+    assert!(rt; flags.were_seen());
     assert_eq!(rt; cache.entries(), 2);
+    Ok(())
+}
+
+/// A listener that waits, each time that it is told a leave, until the other thread has looked.
+#[derive(Drop)]
+struct Patient<C: Clock + Drop> {
+    rt: C,
+    flags: Arc<Flags, Global>,
+}
+
+impl<C: Clock + Drop + 'static> EventListener for Patient<C> {
+    type Key = u32;
+
+    type Value = u64;
+
+    fn on_leave(&self, _event: Event, _key: &u32, _value: &u64) {
+        self.flags.wait_inside(&self.rt);
+    }
+}
+
+/// A cache that tells it, and fetches what is required.
+type Told<H> = RawCache<
+    H,
+    Fifo,
+    u32,
+    u64,
+    ModHasher,
+    CacheProperties,
+    UnitWeighter,
+    AdmitAll,
+    Patient<H>,
+    NoopPipe<u32, u64>,
+    Direct<Later<Surely>>,
+>;
+
+// Makes one of the calls by which key 1 leaves a cache of one record. Whether it was accepted.
+fn make_leave<H: Wait + Clock + Drop + 'static>(cache: &Told<H>, call: u64) -> bool {
+    match call {
+        0 => cache.insert(2, 20).is_ok(),
+        1 => cache.insert(1, 11).is_ok(),
+        2 => cache.insert_with_properties(1, 11, phantom()).is_ok(),
+        3 => cache.remove(&1).is_ok(),
+        4 => cache.clear().is_ok(),
+        5 => cache.evict_all().is_ok(),
+        6 => cache.resize(0).is_ok(),
+        7 => {
+            drop(cache.flush());
+            true
+        }
+        _ => {
+            drop(cache.flush_if(|_, _| true));
+            true
+        }
+    }
+}
+
+// While a listener is told, another thread looks into the same shard, and asks for the capacity.
+#[test]
+fn no_lock_is_held_while_a_leave_is_told(rt: HostRuntime) -> Outcome {
+    for call in 0..9u64 {
+        let flags = Arc::new(rt.alloc(), Flags::new())?;
+        let listener = Patient {
+            rt,
+            flags: Arc::try_clone(&flags)?,
+        };
+        let cache: Told<HostRuntime> = RawCache::new(rt, rt.alloc(), fifo(1, 1), listener)?;
+        drop(cache.insert(1, 10)?);
+        let (accepted, _) = thread::join(
+            &rt,
+            || make_leave(&cache, call),
+            || {
+                if is_up(&rt, &flags.inside) && !cache.contains(&3) && cache.capacity() <= 1 {
+                    flags.looked.store(1, Ordering::SeqCst);
+                }
+            },
+        );
+        assert!(rt; accepted && flags.were_seen(), "call {call}");
+    }
+    Ok(())
+}
+
+// An insert answers who waits for its key before it tells what it evicted.
+#[test]
+fn who_waits_is_answered_before_a_leave_is_told(rt: HostRuntime) -> Outcome {
+    let flags = Arc::new(rt.alloc(), Flags::new())?;
+    let listener = Patient {
+        rt,
+        flags: Arc::try_clone(&flags)?,
+    };
+    let cache: Told<HostRuntime> = RawCache::new(rt, rt.alloc(), fifo(1, 1), listener)?;
+    drop(cache.insert(1, 10)?);
+    let mut spawner = ListSpawner::new(rt.alloc());
+    let wait = cache.get_or_fetch(&7, || after_polls(0, Ok(value(69))), &mut spawner)?;
+    let (accepted, answer) = thread::join(
+        &rt,
+        || cache.insert(7, 70).is_ok(),
+        || {
+            let Ok(Ok(Some(entry))) = block_on(&rt, wait) else {
+                return 0;
+            };
+            flags.looked.store(1, Ordering::SeqCst);
+            *entry
+        },
+    );
+    assert_eq!(rt; (accepted, answer, flags.were_seen()), (true, 70, true));
     Ok(())
 }

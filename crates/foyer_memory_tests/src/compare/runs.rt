@@ -1,19 +1,23 @@
 //! Runs of 2,000 calls of each policy.
 
 use super::*;
+use crate::testing::builder;
 use foyer_core::{AdmitAll, Limits, RawCacheConfig, UnitWeighter};
 use foyer_memory::{EvictionConfig, FifoConfig, LfuConfig, LruConfig, S3FifoConfig, SieveConfig};
 use foyer_policy::{Fifo, Lfu, Lru, S3Fifo, Sieve};
 use log::Log;
+use std::test::Fail;
 
-// Makes 2,000 calls of a cache and of a core, and answers the first after which they differ, or 0.
-fn first_difference<H: Wait + Log + RandomSource + Alloc<A = Global> + Copy + Drop, E: Eviction>(
+// Makes 2,000 calls of a cache and of a core, and is an error where they differ, with the number of that call.
+fn agree<H: Wait + Log + RandomSource + Alloc<A = Global> + Copy + Drop, E: Eviction>(
     rt: H,
-    alloc: Global,
     config: EvictionConfig,
-) -> Result<u64, Fail> {
+) -> Outcome {
+    let alloc = rt.alloc();
     let heard = Notes::new(alloc)?;
-    let cache = Heard::new(rt, alloc, config, 8, 2, &heard)?;
+    let cache = builder(8, config, &heard)?
+        .with_shards(2)
+        .build(rt, alloc, &rt)?;
     let core: One<E> = CacheCore::new(
         alloc,
         RawCacheConfig {
@@ -40,59 +44,34 @@ fn first_difference<H: Wait + Log + RandomSource + Alloc<A = Global> + Copy + Dr
             .wrapping_mul(6364136223846793005)
             .wrapping_add(1442695040888963407);
         let (pick, key) = (state / (1 << 61), state / (1 << 32) % 16);
-        if !both.step(rt, alloc, pick, key as u32, number)? || !both.agree() {
-            return Ok(number);
+        if !both.step(rt, pick, key as u32, number)? || !both.agree() {
+            return Err(Fail::from(number));
         }
     }
-    Ok(0)
-}
-
-#[test]
-fn a_fifo_is_as_its_core(rt: HostRuntime) -> Result<(), Fail> {
-    let config = EvictionConfig::from(FifoConfig::default());
-    assert_eq!(rt;
-        first_difference::<HostRuntime, Fifo>(rt, rt.alloc(), config)?,
-        0
-    );
     Ok(())
 }
 
 #[test]
-fn an_s3fifo_is_as_its_core(rt: HostRuntime) -> Result<(), Fail> {
-    let config = EvictionConfig::from(S3FifoConfig::default());
-    assert_eq!(rt;
-        first_difference::<HostRuntime, S3Fifo>(rt, rt.alloc(), config)?,
-        0
-    );
-    Ok(())
+fn a_fifo_is_as_its_core(rt: HostRuntime) -> Outcome {
+    agree::<HostRuntime, Fifo>(rt, EvictionConfig::from(FifoConfig {}))
 }
 
 #[test]
-fn an_lru_is_as_its_core(rt: HostRuntime) -> Result<(), Fail> {
-    let config = EvictionConfig::from(LruConfig::default());
-    assert_eq!(rt;
-        first_difference::<HostRuntime, Lru>(rt, rt.alloc(), config)?,
-        0
-    );
-    Ok(())
+fn an_s3fifo_is_as_its_core(rt: HostRuntime) -> Outcome {
+    agree::<HostRuntime, S3Fifo>(rt, EvictionConfig::from(S3FifoConfig::default()))
 }
 
 #[test]
-fn an_lfu_is_as_its_core(rt: HostRuntime) -> Result<(), Fail> {
-    let config = EvictionConfig::from(LfuConfig::default());
-    assert_eq!(rt;
-        first_difference::<HostRuntime, Lfu>(rt, rt.alloc(), config)?,
-        0
-    );
-    Ok(())
+fn an_lru_is_as_its_core(rt: HostRuntime) -> Outcome {
+    agree::<HostRuntime, Lru>(rt, EvictionConfig::from(LruConfig::default()))
 }
 
 #[test]
-fn a_sieve_is_as_its_core(rt: HostRuntime) -> Result<(), Fail> {
-    let config = EvictionConfig::from(SieveConfig);
-    assert_eq!(rt;
-        first_difference::<HostRuntime, Sieve>(rt, rt.alloc(), config)?,
-        0
-    );
-    Ok(())
+fn an_lfu_is_as_its_core(rt: HostRuntime) -> Outcome {
+    agree::<HostRuntime, Lfu>(rt, EvictionConfig::from(LfuConfig::default()))
+}
+
+#[test]
+fn a_sieve_is_as_its_core(rt: HostRuntime) -> Outcome {
+    agree::<HostRuntime, Sieve>(rt, EvictionConfig::from(SieveConfig))
 }

@@ -2,12 +2,11 @@
 
 use super::*;
 use foyer_raw::{RawFetchState, Spawner};
-use std::random::RandomSource;
 
 /// Keeps the last task that it got.
 #[derive(Drop)]
 struct Keeper<X: Future<Output = ()>> {
-    task: Option<Pollable<X>>,
+    task: Option<X>,
 }
 
 impl<X: Future<Output = ()>> Spawner<X> for Keeper<X> {
@@ -18,14 +17,14 @@ impl<X: Future<Output = ()>> Spawner<X> for Keeper<X> {
     }
 
     fn spawn(&mut self, task: X) {
-        self.task = Some(Pollable::new(task));
+        self.task = Some(task);
     }
 }
 
 /// Polls a task so many times, or until it has ended, and answers it.
 #[derive(Drop)]
 struct Polled<X: Future<Output = ()>> {
-    task: Option<Pollable<X>>,
+    task: Option<X>,
     turns: u64,
 }
 
@@ -33,10 +32,9 @@ impl<X: Future<Output = ()>> Future for Polled<X> {
     type Output = Option<X>;
 
     fn poll(&mut self, cx: &mut Context<'_>) -> Poll<Option<X>> {
-        let Some(task) = self.task.take() else {
+        let Some(mut task) = self.task.take() else {
             return Poll::Ready(None);
         };
-        let mut task = task.into_inner();
         if self.turns == 0 {
             return Poll::Ready(Some(task));
         }
@@ -44,92 +42,75 @@ impl<X: Future<Output = ()>> Future for Polled<X> {
         match task.poll(cx) {
             Poll::Ready(()) => Poll::Ready(Some(task)),
             Poll::Pending => {
-                self.task = Some(Pollable::new(task));
+                self.task = Some(task);
                 cx.yield_now()
             }
         }
     }
 }
 
-/// The task of a fetch, which is polled no more.
-#[derive(Drop)]
-struct Task<H: Wait + Drop>(RawTask<H>);
-
-impl<H: Wait + Drop> Task<H> {
-    fn state(&self) -> RawFetchState {
-        self.0.state()
-    }
-
-    fn cancel(self) {
-        let Task(task) = self;
-        task.cancel();
-    }
-}
-
-// Polls a task as often as it is to be.
-fn ended<H: Wait + RandomSource + Alloc<A = Global> + Drop>(
-    rt: &H,
-    polled: Polled<RawTask<H>>,
-) -> std::result::Result<Task<H>, Fail> {
-    Ok(Task(block_on(rt, polled)?.ok_or("no task")?))
-}
-
-// A wait for 7 with these builders, and its task.
+// A wait for 7 with these builders, and its task, to be polled so many times.
 fn led<H: Wait + Drop>(
     cache: &Cache<H>,
-    optional: Option<May>,
-    required: Option<Given<Later<Surely>>>,
+    (optional, required): Builders,
     turns: u64,
-) -> Result<(Look<H>, Polled<RawTask<H>>)> {
+) -> Result<(Look<H>, Polled<Task<H>>)> {
     let mut keeper = Keeper { task: None };
-    let look = cache.get_or_fetch_inner(7, optional, required, &mut keeper)?;
+    let look = cache.get_or_fetch_inner(&7, || optional, || required, (), &mut keeper)?;
     let Keeper { task } = keeper;
     Ok((look, Polled { task, turns }))
 }
 
 #[test]
-fn a_task_is_cancelled(rt: HostRuntime) -> std::result::Result<(), Fail> {
-    let alloc = rt.alloc();
-    let notes = Notes::new(alloc)?;
-    let cache = cache(rt, alloc, &notes)?;
+fn a_task_is_cancelled(rt: HostRuntime) -> Outcome {
+    let (cache, notes) = piped(rt, fifo(4, 1))?;
     let states = [
         RawFetchState::Init,
         RawFetchState::FetchOptional,
         RawFetchState::FetchRequired,
     ];
     for (turns, state) in (0..3u64).zip(states) {
-        let (wait, task) = led(
-            &cache,
-            optionally(1, Ok(None)),
-            must(9, Ok(value(5))),
-            turns,
-        )?;
-        let task = ended(&rt, task)?;
+        let two = (optionally(1, Ok(None)), must(9, Ok(value(5))));
+        let (wait, task) = led(&cache, two, turns)?;
+        let task = block_on(&rt, task)?.ok_or("no task")?;
         assert_eq!(rt; task.state(), state);
         task.cancel();
-        let refused = wait.answer(&rt)?.err().ok_or("an answer")?;
-        assert_eq!(rt; refused.number(), 15);
+        assert_eq!(rt; refused(&rt, wait)?, Some(15));
     }
-    assert!(rt; notes.are(&[]) && !cache.contains(7));
+    assert!(rt; notes.are(&[]) && !cache.contains(&7));
     Ok(())
 }
 
 // A task that has ended touches no fetch of its key that began later.
 #[test]
-fn a_task_that_has_ended_is_dropped(rt: HostRuntime) -> std::result::Result<(), Fail> {
-    let alloc = rt.alloc();
-    let notes = Notes::new(alloc)?;
-    let cache = cache(rt, alloc, &notes)?;
-    let (wait, task) = led(&cache, None, must(0, Ok(value(5))), 9)?;
-    let last = ended(&rt, task)?;
+fn a_task_that_has_ended_is_dropped(rt: HostRuntime) -> Outcome {
+    let (cache, _notes) = piped(rt, fifo(4, 1))?;
+    let (wait, task) = led(&cache, (None, must(0, Ok(value(5)))), 9)?;
+    let last = block_on(&rt, task)?.ok_or("no task")?;
     assert_eq!(rt; last.state(), RawFetchState::Ready);
-    assert_eq!(rt; wait.answer(&rt)??.ok_or("none")?.value(), 5);
-    drop(cache.remove(7)?);
-    let (wait, task) = led(&cache, None, must(0, Ok(value(6))), 9)?;
+    assert_eq!(rt; *got(&rt, wait)?, 5);
+    drop(cache.remove(&7)?);
+    let (wait, task) = led(&cache, (None, must(0, Ok(value(6)))), 9)?;
     drop(last);
-    let last = ended(&rt, task)?;
-    assert_eq!(rt; wait.answer(&rt)??.ok_or("none")?.value(), 6);
+    let last = block_on(&rt, task)?.ok_or("no task")?;
+    assert_eq!(rt; *got(&rt, wait)?, 6);
     drop(last);
-    assert!(rt; cache.contains(7));
+    assert!(rt; cache.contains(&7));
+    Ok(())
+}
+
+#[test]
+fn states_are_printed(rt: HostRuntime) -> Outcome {
+    let names = ["Init", "Optional", "Required", "Notify", "Ready"];
+    let states = [
+        RawFetchState::Init,
+        RawFetchState::FetchOptional,
+        RawFetchState::FetchRequired,
+        RawFetchState::Notify,
+        RawFetchState::Ready,
+    ];
+    for (state, name) in states.iter().zip(names) {
+        assert_eq!(rt; format!(in rt.alloc(); "{state:?}")?.as_str(), name);
+    }
     Ok(())
 }

@@ -1,7 +1,5 @@
 //! Fetches that are pending for a while, and what builds them.
 
-ghost use Rattle.std.specs.Prelude.{◌≡◌, IsSome};
-
 use foyer_core::{CacheProperties, FetchTarget};
 use foyer_policy::Fault;
 use foyer_raw::{FetchTypes, Given, OptionalFetchBuilder, Pollable};
@@ -28,8 +26,6 @@ pub(crate) struct Later<O> {
 impl<O: Drop> Future for Later<O> {
     type Output = O;
 
-    ghost can_poll = { λ l. IsSome l.answer };
-
     fn poll(&mut self, cx: &mut Context<'_>) -> Poll<O> {
         if self.pending > 0 {
             self.pending -= 1;
@@ -40,9 +36,7 @@ impl<O: Drop> Future for Later<O> {
 }
 
 /// A future that gives this, after so many polls.
-pub(crate) fn after_polls<O>(pending: u64, answer: O) -> Later<O>
-    ensures { IsSome result.answer }
-{
+pub(crate) fn after_polls<O>(pending: u64, answer: O) -> Later<O> {
     Later {
         pending,
         answer: Some(answer),
@@ -64,6 +58,9 @@ impl OptionalFetchBuilder<u32, u64, CacheProperties, ()> for May {
     }
 }
 
+/// Gives the required fetch that it holds.
+pub(crate) type Must = Given<Later<Surely>>;
+
 /// Fetch types with an optional and a required fetch.
 pub(crate) struct Trial;
 
@@ -72,7 +69,7 @@ impl FetchTypes<u32, u64, CacheProperties> for Trial {
 
     type Optional = May;
 
-    type Required = Given<Later<Surely>>;
+    type Required = Must;
 }
 
 /// A value of a key.
@@ -99,7 +96,7 @@ pub(crate) fn optionally(pending: u64, answer: Perhaps) -> Option<May> {
 }
 
 /// A required builder whose fetch gives this, after so many polls.
-pub(crate) fn must(pending: u64, answer: Surely) -> Option<Given<Later<Surely>>> {
+pub(crate) fn must(pending: u64, answer: Surely) -> Option<Must> {
     Some(Given {
         fetch: Pollable::new(after_polls(pending, answer)),
     })
