@@ -67,7 +67,7 @@ impl<H: Runtime> Future for Case<'_, H> {
         };
         let wanted = calls::wanted(filled, call, victims);
         Poll::Ready(Some(match caches::prepared(rt, policy, filled, call) {
-            Ok(mut locked) => kept::compared(cx, &mut locked, policy, call, &wanted),
+            Ok(mut locked) => kept::compared(cx, &mut locked, call, &wanted),
             Err(_) => Shown::Early,
         }))
     }

@@ -91,10 +91,12 @@ pub struct Locked<H: Runtime> {
     pub tasks: Tasks<H>,
     /// What an insert or a fetch of a piece puts in.
     pub piece: Option<Kept>,
+    /// What the policy is reconfigured with.
+    pub config: Option<EvictionConfig>,
 }
 
-/// The default configuration of the policy of a name.
-pub fn config(policy: &str) -> EvictionConfig {
+// The default configuration of the policy of a name.
+fn config(policy: &str) -> EvictionConfig {
     match policy {
         "fifo" => EvictionConfig::from(FifoConfig {}),
         "lru" => EvictionConfig::from(LruConfig::default()),
@@ -156,6 +158,7 @@ pub fn prepared<H: Runtime>(rt: H, policy: &str, filled: Filled, call: Call) -> 
         waits: None,
         tasks: ListSpawner::new(rt.alloc()),
         piece: None,
+        config: Some(config(policy)),
     };
     if let Call::Piece(key) | Call::CompletePiece(key) = call {
         locked.piece = locked.piece_of(policy, filled, key)?;

@@ -1,7 +1,7 @@
 //! The calls of a cache behind locks, and what each of them answers.
 
 use super::Runtime;
-use super::caches::{Entry, Locked, Search, Shared, config};
+use super::caches::{Entry, Locked, Search, Shared};
 use crate::call::Kept;
 use crate::cores::weighing;
 use foyer_core::CacheProperties;
@@ -61,7 +61,6 @@ impl<H: Runtime> Answer<H> {
 pub fn make<H: Runtime>(
     cx: &mut Context<'_>,
     locked: &mut Locked<H>,
-    policy: &str,
     call: Call,
 ) -> Result<Answer<H>> {
     let cache = &locked.cache;
@@ -71,7 +70,10 @@ pub fn make<H: Runtime>(
         Call::Clear => cache.clear()?,
         Call::Flush => return flushed(cache.flush().poll(cx)),
         Call::FlushIf => return flushed(cache.flush_if(|key, _| *key % 2 == 0).poll(cx)),
-        Call::Reconfigure => cache.reconfigure(config(policy))?,
+        Call::Reconfigure => match locked.config.take() {
+            Some(config) => cache.reconfigure(config)?,
+            None => return Ok(Answer::Odd),
+        },
         Call::Complete | Call::CompletePiece(_) | Call::Fail | Call::Cancel => {
             return ended(cx, locked, call);
         }

@@ -53,34 +53,8 @@ const ALL_BUT_LAST: [u64; 8] = [0, 4, 1, 5, 2, 6, 3, 7];
 pub fn wanted(filled: Filled, call: Call, victims: &'static [u64; 10]) -> Wanted {
     let same = Wanted::same(filled);
     match call {
-        Call::Insert(5, weight) => Wanted {
-            leaves: &[5],
-            events: (Event::Replace, Event::Replace),
-            enters: Some((5, weight)),
-            ..same
-        },
-        Call::Insert(key, weight) => Wanted {
-            refs: if filled.waits { 3 } else { 1 },
-            ..same.with(key, weight, victims)
-        },
-        Call::Phantom(_) => Wanted {
-            leaves: &[5, 5],
-            events: (Event::Replace, Event::Remove),
-            ..same
-        },
-        // Of a record that is in, of one that left, or of another cache.
-        Call::Piece(5) | Call::Get(5) | Call::Fetch(5) | Call::CloneEntry => Wanted {
-            refs: 2,
-            ..same
-        },
-        Call::Piece(11) if filled.capacity == 12 => Wanted {
-            capacity: 11,
-            ..same.with(11, 1, victims)
-        },
-        Call::Piece(key) => Wanted {
-            enters: Some((key, 1)),
-            ..same
-        },
+        Call::Insert(..) | Call::Phantom(_) | Call::Piece(_) => of_insert(filled, call, victims),
+        Call::Get(_) | Call::Fetch(5) | Call::CloneEntry => Wanted { refs: 2, ..same },
         Call::Remove(_) => Wanted {
             leaves: &[5],
             events: (Event::Remove, Event::Remove),
@@ -96,6 +70,37 @@ pub fn wanted(filled: Filled, call: Call, victims: &'static [u64; 10]) -> Wanted
             ..same.with(key, 1, victims)
         },
         _ => of_all(same, call, victims),
+    }
+}
+
+// The same of an insert. A piece is of a record that is in, of one that left, or of another cache.
+fn of_insert(filled: Filled, call: Call, victims: &'static [u64; 10]) -> Wanted {
+    let same = Wanted::same(filled);
+    match call {
+        Call::Insert(5, weight) => Wanted {
+            leaves: &[5],
+            events: (Event::Replace, Event::Replace),
+            enters: Some((5, weight)),
+            ..same
+        },
+        Call::Insert(key, weight) => Wanted {
+            refs: if filled.waits { 3 } else { 1 },
+            ..same.with(key, weight, victims)
+        },
+        Call::Phantom(_) => Wanted {
+            leaves: &[5, 5],
+            events: (Event::Replace, Event::Remove),
+            ..same
+        },
+        Call::Piece(11) if filled.capacity == 12 => Wanted {
+            capacity: 11,
+            ..same.with(11, 1, victims)
+        },
+        Call::Piece(key) if key != 5 => Wanted {
+            enters: Some((key, 1)),
+            ..same
+        },
+        _ => Wanted { refs: 2, ..same },
     }
 }
 

@@ -44,7 +44,7 @@ impl Wanted {
         }
     }
 
-    /// A record comes in, over twelve where there is room for no more, and the first of these are evicted for it.
+    /// A record of this weight comes in. Where the cache is full, the first of these are evicted for it.
     pub fn with(self, key: u64, weight: usize, victims: &'static [u64; 10]) -> Wanted {
         let evicts = if self.capacity == 12 { weight } else { 0 };
         Wanted {
@@ -122,17 +122,16 @@ impl Wanted {
 pub fn compared<H: Runtime>(
     cx: &mut Context<'_>,
     locked: &mut Locked<H>,
-    policy: &str,
     call: Call,
     wanted: &Wanted,
 ) -> Shown {
     let before = look(&locked.cache);
-    match make(cx, locked, policy, call) {
+    match make(cx, locked, call) {
         Ok(answer) => match settled(locked, before, 0, &answer, wanted) {
             Shown::Done => let_go(locked, call, answer).or_behind(locked.rt.alloc()),
             shown => shown,
         },
-        Err(error) if error.number() == 7 => refused(cx, locked, policy, call, before, wanted),
+        Err(error) if error.number() == 7 => refused(cx, locked, call, before, wanted),
         Err(_) => Shown::Wrong("another refusal"),
     }
 }
@@ -141,7 +140,6 @@ pub fn compared<H: Runtime>(
 fn refused<H: Runtime>(
     cx: &mut Context<'_>,
     locked: &mut Locked<H>,
-    policy: &str,
     call: Call,
     before: Look,
     wanted: &Wanted,
@@ -163,7 +161,7 @@ fn refused<H: Runtime>(
         return Shown::Wrong("the handles after a refused call");
     }
     locked.notes.forget();
-    let Ok(answer) = make(cx, locked, policy, call) else {
+    let Ok(answer) = make(cx, locked, call) else {
         return Shown::Wrong("refused twice");
     };
     match settled(locked, stands, gone, &answer, wanted) {
