@@ -24,7 +24,7 @@ pub struct Wanted {
     pub is_flush: bool,
     /// The capacity then.
     pub capacity: usize,
-    /// The key and the weight of the record that comes in.
+    /// The key and the weight of the record that comes in. Where none does, entries are of the key 5.
     pub enters: Option<(u64, usize)>,
     /// How many handles the record has of which entries are given, and 1 where a look-up waits.
     pub refs: usize,
@@ -192,13 +192,14 @@ fn settled<H: Runtime>(
     if look(&locked.cache) != look_then {
         return Shown::Wrong("the cache after the call");
     }
+    let key = wanted.enters.map_or(5, |(key, _)| key);
     let is_right = match answer {
         Answer::Done => true,
         Answer::Search(_) => wanted.refs == 1,
         Answer::Entries(entries) => entries
             .iter()
             .flatten()
-            .all(|entry| entry.refs() == wanted.refs),
+            .all(|entry| *entry.key() == key && entry.refs() == wanted.refs),
         Answer::Piece(piece) => *piece.key() == 5,
         Answer::Cache(again) => look(again) == look_then,
         Answer::Odd => false,
