@@ -47,15 +47,16 @@ fn row(name: &str) -> Option<Row> {
     Some(Row { filled, op, evicts })
 }
 
-// Room, and so many records.
-fn holding(records: u64) -> Filled {
+/// Room, and so many records.
+pub fn holding(records: u64) -> Filled {
     Filled { records, ..ROOMY }
 }
 
-// In what order records of four shards leave, and those with even keys.
-const SHARD_BY_SHARD: [u64; 12] = [0, 4, 8, 1, 5, 9, 2, 6, 10, 3, 7, 11];
+/// In what order records of four shards leave.
+pub const SHARD_BY_SHARD: [u64; 12] = [0, 4, 8, 1, 5, 9, 2, 6, 10, 3, 7, 11];
 
-const EVEN: [u64; 6] = [0, 4, 8, 2, 6, 10];
+/// Those of them with even keys.
+pub const EVEN: [u64; 6] = [0, 4, 8, 2, 6, 10];
 
 /// Shows a call of a core, where it has this name. The first ten victims of the policy are these.
 pub fn shown<E: Eviction>(alloc: Global, name: &str, victims: &'static [u64; 10]) -> Option<Shown> {

@@ -83,17 +83,36 @@ pub struct Look {
 
 impl Look {
     pub fn of<E: Eviction>(core: &Core<E>) -> Look {
+        let look = Look::seen(
+            core.usage(),
+            core.entries(),
+            core.capacity(),
+            &|key| core.contains(key),
+        );
+        Look {
+            is_open: core.is_open(&FETCHED, 0),
+            ..look
+        }
+    }
+
+    /// The look of what has these sums and these keys, and no open fetch.
+    pub fn seen<F: Fn(&u64) -> bool>(
+        usage: u128,
+        entries: u128,
+        capacity: usize,
+        is_in: &F,
+    ) -> Look {
         let mut keys = 0;
         for key in 0..64u64 {
-            if core.contains(&key) {
+            if is_in(&key) {
                 keys |= bit(key);
             }
         }
         Look {
-            usage: core.usage(),
-            entries: core.entries(),
-            capacity: core.capacity(),
-            is_open: core.is_open(&FETCHED, 0),
+            usage,
+            entries,
+            capacity,
+            is_open: false,
             keys,
         }
     }

@@ -1,14 +1,16 @@
 //! `foyer-refused POLICY CALL` prepares what the call needs, makes the call until it is not refused, and prints one
 //! word. `early`: memory was refused before the call. `kept`: the call was refused, what was left is as it should be,
 //! and the same call then succeeded. `behind`: the call took all the memory that it asked for, and one more box was
-//! refused. `done`: nothing was refused. `wrong`, with what differs. `tools/refuse-memory` runs it with one allocation
+//! refused. `done`: nothing was refused. `wrong`, with what differs. `tests/refused/run` runs it with one allocation
 //! refused.
 #![tactic(auto)]
 
+mod audited;
 mod call;
 mod calls;
 mod cores;
 mod kept;
+mod locked;
 mod others;
 mod parts;
 mod policies;
@@ -17,6 +19,7 @@ mod told;
 mod word;
 
 use foyer_policy::{Eviction, Fifo, Lfu, Lru, S3Fifo, Sieve};
+use locked::Runtime;
 use std::alloc::Global;
 use std::env;
 use std::io::{self, Write};
@@ -24,7 +27,7 @@ use word::Shown;
 
 fn main(rt: HostRuntime) -> io::Result<()> {
     let shown = match words(&rt) {
-        Some(words) => asked(rt.alloc(), words.as_slice()),
+        Some(words) => asked(rt, words.as_slice()),
         None => Shown::Early,
     };
     let [word, differs] = shown.words();
@@ -44,9 +47,9 @@ fn words(rt: &HostRuntime) -> Option<Vec<String>> {
     Some(words)
 }
 
-fn asked(alloc: Global, words: &[String]) -> Shown {
+fn asked<H: Runtime>(rt: H, words: &[String]) -> Shown {
     match words {
-        [policy, call] => of_name(alloc, policy.as_str(), call.as_str()),
+        [policy, call] => of_name(rt, policy.as_str(), call.as_str()),
         [word] if matches!(word.as_str(), "-h" | "--help") => Shown::Usage,
         _ => Shown::Wrong("the arguments"),
     }
@@ -57,22 +60,36 @@ const IN_ORDER: [u64; 10] = [0, 1, 2, 3, 4, 5, 6, 7, 8, 9];
 
 const BUT_USED: [u64; 10] = [0, 1, 2, 3, 4, 6, 7, 8, 9, 10];
 
-fn of_name(alloc: Global, policy: &str, call: &str) -> Shown {
+fn of_name<H: Runtime>(rt: H, policy: &str, call: &str) -> Shown {
+    let victims = if policy == "fifo" {
+        &IN_ORDER
+    } else {
+        &BUT_USED
+    };
+    if let Some(shown) = locked::shown(rt, policy, call, victims) {
+        return shown;
+    }
     match policy {
-        "fifo" => of_policy::<Fifo>(alloc, call, &IN_ORDER),
-        "lru" => of_policy::<Lru>(alloc, call, &BUT_USED),
-        "lfu" => of_policy::<Lfu>(alloc, call, &BUT_USED),
-        "s3fifo" => of_policy::<S3Fifo>(alloc, call, &BUT_USED),
-        "sieve" => of_policy::<Sieve>(alloc, call, &BUT_USED),
+        "fifo" => of_policy::<Fifo, H>(rt, call, victims),
+        "lru" => of_policy::<Lru, H>(rt, call, victims),
+        "lfu" => of_policy::<Lfu, H>(rt, call, victims),
+        "s3fifo" => of_policy::<S3Fifo, H>(rt, call, victims),
+        "sieve" => of_policy::<Sieve, H>(rt, call, victims),
         _ => Shown::Wrong("the policy"),
     }
 }
 
-// Shows a call over a policy, and then asks for one more box.
-fn of_policy<E: Eviction>(alloc: Global, call: &str, victims: &'static [u64; 10]) -> Shown {
+// Shows a call over a policy.
+fn of_policy<E: Eviction, H: Runtime>(rt: H, call: &str, victims: &'static [u64; 10]) -> Shown
+where
+    E::Config: Eq,
+{
+    let alloc = rt.alloc();
+    if let Some(shown) = audited::shown::<E, H>(&rt, alloc, call) {
+        return shown;
+    }
     match of_call::<E>(alloc, call, victims) {
-        Some(Shown::Done) if Box::new(alloc, 0u8).is_err() => Shown::Behind,
-        Some(shown) => shown,
+        Some(shown) => shown.or_behind(alloc),
         None => Shown::Wrong("the call"),
     }
 }

@@ -19,14 +19,17 @@ pub type Simulated<E> = Session<
     AdmitAll,
 >;
 
-type Asked<E> = Command<u64, SimValue, CacheProperties, EvenKeys, <E as Eviction>::Config>;
+/// A command of it.
+pub type Asked<E> = Command<u64, SimValue, CacheProperties, EvenKeys, <E as Eviction>::Config>;
 
-type Told = Reply<u64, SimValue, CacheProperties>;
+/// What it answers.
+pub type Told = Reply<u64, SimValue, CacheProperties>;
 
-type Shared = Arc<Fault, Global>;
+/// With what a fetch fails.
+pub type Shared = Arc<Fault, Global>;
 
 /// Picks even keys.
-#[derive(Clone, Copy)]
+#[derive(Clone, Copy, PartialEq, Eq)]
 pub struct EvenKeys;
 
 impl Predicate<u64, SimValue> for EvenKeys {
@@ -49,9 +52,9 @@ pub fn empty<E: Eviction>(alloc: Global, capacity: usize) -> Result<Simulated<E>
     Ok(Session::new(alloc, CacheCore::new(alloc, config)?))
 }
 
-// What a command answers.
+/// What a command answers.
 #[derive(Clone, Copy, PartialEq, Eq)]
-enum Kind {
+pub enum Kind {
     Entry,
     Found,
     Piece,
@@ -63,17 +66,17 @@ enum Kind {
     Number,
 }
 
-// What a command answers, how many records leave, and the usage then.
+/// What a command answers, how many records leave, and the usage then.
 #[derive(Clone, Copy)]
-struct Wanted {
-    kind: Kind,
-    leaves: usize,
-    usage: u128,
+pub struct Wanted {
+    pub kind: Kind,
+    pub leaves: usize,
+    pub usage: u128,
 }
 
-// The command of a name, in a session of capacity 4 whose records are the keys 0 to 3, and what is wanted of it. A
-// fetch fails with this fault.
-fn command<E: Eviction>(name: &str, fault: &Shared) -> Option<(Asked<E>, Wanted)> {
+/// The command of a name, in a session of capacity 4 whose records are the keys 0 to 3, and what is wanted of it. A
+/// fetch fails with this fault.
+pub fn command<E: Eviction>(name: &str, fault: &Shared) -> Option<(Asked<E>, Wanted)> {
     let (command, kind, leaves, usage) = match name {
         "step_insert" | "run" => (inserting::<E>(7), Kind::Entry, 1, 4),
         "step_insert_piece" => (Command::InsertPiece(0), Kind::Entry, 0, 4),
@@ -120,7 +123,8 @@ fn command<E: Eviction>(name: &str, fault: &Shared) -> Option<(Asked<E>, Wanted)
     Some((command, wanted))
 }
 
-fn inserting<E: Eviction>(key: u64) -> Asked<E> {
+/// The insert of a key.
+pub fn inserting<E: Eviction>(key: u64) -> Asked<E> {
     Command::Insert(key, weighing(1), CacheProperties::default())
 }
 
@@ -149,8 +153,8 @@ fn prepared<E: Eviction>(alloc: Global) -> Result<Simulated<E>> {
     Ok(session)
 }
 
-// With what a fetch fails.
-fn fault(alloc: Global) -> Result<Shared> {
+/// With what a fetch fails.
+pub fn fault(alloc: Global) -> Result<Shared> {
     let fault = Fault {
         code: 5,
         message: String::new(alloc),
@@ -158,8 +162,8 @@ fn fault(alloc: Global) -> Result<Shared> {
     Arc::new(alloc, fault).map_err(|_| Error::new(Reason::NoMemory))
 }
 
-// What a reply refuses.
-fn granted(reply: Told) -> Result<()> {
+/// What a reply refuses.
+pub fn granted(reply: Told) -> Result<()> {
     let Reply { answer, leaves: _ } = reply;
     match answer {
         Answer::Refused(error) => Err(error),
@@ -167,13 +171,15 @@ fn granted(reply: Told) -> Result<()> {
     }
 }
 
-// What a command told: whether it was made, the refusal's number, what it answered, and how many left.
+/// What a command told: whether it was made, the refusal's number, what it answered, how many left, and the number that
+/// it answered.
 #[derive(Clone, Copy)]
-struct Step {
-    is_made: bool,
-    refused: Option<u8>,
-    kind: Option<Kind>,
-    leaves: usize,
+pub struct Step {
+    pub is_made: bool,
+    pub refused: Option<u8>,
+    pub kind: Option<Kind>,
+    pub leaves: usize,
+    pub number: Option<u128>,
 }
 
 // Makes a command, or a run of it alone.
@@ -193,6 +199,7 @@ fn make<E: Eviction>(
         refused: Some(error.number()),
         kind: None,
         leaves: 0,
+        number: None,
     })
 }
 
@@ -206,13 +213,18 @@ fn run<E: Eviction>(alloc: Global, session: &mut Simulated<E>, command: Asked<E>
         .ok_or(Error::new(Reason::NoShards))
 }
 
-fn replied(reply: &Told) -> Step {
+/// What a reply tells.
+pub fn replied(reply: &Told) -> Step {
     let (kind, refused) = answered(&reply.answer);
     Step {
         is_made: true,
         refused,
         kind,
         leaves: reply.leaves.as_slice().len(),
+        number: match &reply.answer {
+            Answer::Number(number) => Some(*number),
+            _ => None,
+        },
     }
 }
 

@@ -1,11 +1,13 @@
 //! What the program says.
 
+use std::alloc::Global;
+
 const USAGE: &str = "usage: foyer-refused POLICY CALL
 
 Makes a call until it is not refused, and prints early, kept, behind, done or wrong: what differs.
 
   POLICY  fifo, lru, lfu, s3fifo or sieve
-  CALL    a call that tools/refuse-memory names, which runs this with one allocation refused";
+  CALL    a call that tests/refused/run names, which runs this with one allocation refused";
 
 /// What a call shows.
 #[derive(Clone, Copy)]
@@ -29,6 +31,14 @@ impl Shown {
     pub fn behind_a_refusal(self) -> Shown {
         match self {
             Shown::Done => Shown::Kept,
+            shown => shown,
+        }
+    }
+
+    /// What a call shows behind which one more box is asked for.
+    pub fn or_behind(self, alloc: Global) -> Shown {
+        match self {
+            Shown::Done if Box::new(alloc, 0u8).is_err() => Shown::Behind,
             shown => shown,
         }
     }

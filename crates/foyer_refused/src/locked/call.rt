@@ -1,0 +1,195 @@
+//! The calls of a cache behind locks, and what each of them answers.
+
+use super::Runtime;
+use super::caches::{Entry, Locked, Search, Shared};
+use crate::call::Kept;
+use crate::cores::weighing;
+use foyer_core::CacheProperties;
+use foyer_policy::{Error, Properties, Reason, Result};
+use foyer_raw::ListSpawner;
+use futures::Future;
+use futures::task::{Context, Poll};
+
+/// A call. Each has its key, and inserts their weight.
+#[derive(Clone, Copy)]
+pub enum Call {
+    Insert(u64, usize),
+    Phantom(u64),
+    Piece(u64),
+    Get(u64),
+    Remove(u64),
+    Touch(u64),
+    Contains(u64),
+    Fetch(u64),
+    Complete,
+    CompletePiece(u64),
+    Fail,
+    Cancel,
+    Resize(usize),
+    EvictAll,
+    Clear,
+    Flush,
+    FlushIf,
+    Reconfigure,
+    CloneCache,
+    CloneEntry,
+    TakePiece,
+}
+
+/// What a call answered.
+#[derive(Drop)]
+pub enum Answer<H: Runtime> {
+    Done,
+    /// Entries of one record: of the caller and of those who waited.
+    Entries([Option<Entry<H>>; 3]),
+    /// A look-up that waits.
+    Search(Search<H>),
+    Piece(Kept),
+    Cache(Shared<H>),
+    /// Another one than can be.
+    Odd,
+}
+
+impl<H: Runtime> Answer<H> {
+    // The entry of the caller alone.
+    fn one(entry: Entry<H>) -> Self {
+        Answer::Entries([Some(entry), None, None])
+    }
+}
+
+/// Makes a call.
+pub fn make<H: Runtime>(
+    cx: &mut Context<'_>,
+    locked: &mut Locked<H>,
+    call: Call,
+) -> Result<Answer<H>> {
+    let cache = &locked.cache;
+    match call {
+        Call::Resize(capacity) => cache.resize(capacity)?,
+        Call::EvictAll => cache.evict_all()?,
+        Call::Clear => cache.clear()?,
+        Call::Flush => return flushed(cache.flush().poll(cx)),
+        Call::FlushIf => return flushed(cache.flush_if(|key, _| *key % 2 == 0).poll(cx)),
+        Call::Reconfigure => match locked.config.take() {
+            Some(config) => cache.reconfigure(config)?,
+            None => return Ok(Answer::Odd),
+        },
+        Call::Complete | Call::CompletePiece(_) | Call::Fail | Call::Cancel => {
+            return ended(cx, locked, call);
+        }
+        Call::CloneCache => return Ok(Answer::Cache(cache.try_clone()?)),
+        Call::CloneEntry | Call::TakePiece => return asked(locked, call),
+        Call::Insert(..) | Call::Phantom(_) | Call::Piece(_) => return inserted(cx, locked, call),
+        _ => return found(locked, call),
+    }
+    Ok(Answer::Done)
+}
+
+fn flushed<H: Runtime>(polled: Poll<Result<()>>) -> Result<Answer<H>> {
+    match polled {
+        Poll::Ready(done) => {
+            done?;
+            Ok(Answer::Done)
+        }
+        Poll::Pending => Ok(Answer::Odd),
+    }
+}
+
+// Puts a record in. Those who wait are to be answered then.
+fn inserted<H: Runtime>(
+    cx: &mut Context<'_>,
+    locked: &mut Locked<H>,
+    call: Call,
+) -> Result<Answer<H>> {
+    let cache = &locked.cache;
+    let made = match (call, &locked.piece) {
+        (Call::Insert(key, weight), _) => cache.insert(key, weighing(weight))?,
+        (Call::Phantom(key), _) => {
+            let properties = CacheProperties::default().with_phantom(true);
+            cache.insert_with_properties(key, weighing(1), properties)?
+        }
+        (_, Some(piece)) => cache.insert_piece(piece.clone()?)?,
+        _ => return Ok(Answer::Odd),
+    };
+    let Some((mut one, mut other)) = locked.waits.take() else {
+        return Ok(Answer::one(made));
+    };
+    match (one.poll(cx), other.poll(cx)) {
+        (Poll::Ready(Ok(one)), Poll::Ready(Ok(other))) => {
+            Ok(Answer::Entries([Some(made), Some(one), Some(other)]))
+        }
+        _ => Ok(Answer::Odd),
+    }
+}
+
+// Looks a key up.
+fn found<H: Runtime>(locked: &mut Locked<H>, call: Call) -> Result<Answer<H>> {
+    let entry = match call {
+        Call::Get(key) => locked.cache.get(&key)?,
+        Call::Remove(key) => locked.cache.remove(&key)?,
+        Call::Touch(key) => return Ok(yes(locked.cache.touch(&key)?)),
+        Call::Contains(key) => return Ok(yes(locked.cache.contains(&key))),
+        Call::Fetch(key) => match locked.ask(&key, call)?.try_unwrap() {
+            Ok(hit) => Some(hit?),
+            Err(search) => return Ok(Answer::Search(search)),
+        },
+        _ => None,
+    };
+    match entry {
+        Some(entry) => Ok(Answer::one(entry)),
+        None => Ok(Answer::Odd),
+    }
+}
+
+fn yes<H: Runtime>(is_so: bool) -> Answer<H> {
+    if is_so { Answer::Done } else { Answer::Odd }
+}
+
+// Asks the held entry for one more, or for a piece.
+fn asked<H: Runtime>(locked: &Locked<H>, call: Call) -> Result<Answer<H>> {
+    let Some(held) = &locked.held else {
+        return Ok(Answer::Odd);
+    };
+    match call {
+        Call::CloneEntry => Ok(Answer::one(held.try_clone()?)),
+        _ => Ok(Answer::Piece(held.piece()?)),
+    }
+}
+
+// Ends the fetch of `FETCHED`, for which two wait: by its task, or without it. Where no fetch is open, two ask first.
+// Both get the same; a fault of the fetch is no refusal here.
+fn ended<H: Runtime>(
+    cx: &mut Context<'_>,
+    locked: &mut Locked<H>,
+    call: Call,
+) -> Result<Answer<H>> {
+    if locked.waits.is_none() {
+        locked.ask_twice(call)?;
+    }
+    let Some((mut one, mut other)) = locked.waits.take() else {
+        return Ok(Answer::Odd);
+    };
+    if let Call::Cancel = call {
+        locked.tasks = ListSpawner::new(locked.rt.alloc());
+    } else if locked.tasks.poll_all(cx) > 0 {
+        return Ok(Answer::Odd);
+    }
+    match (one.poll(cx), other.poll(cx)) {
+        (Poll::Ready(Ok(one)), Poll::Ready(Ok(other))) => {
+            Ok(Answer::Entries([Some(one), Some(other), None]))
+        }
+        (Poll::Ready(Err(one)), Poll::Ready(Err(other))) => refused(call, one, other),
+        _ => Ok(Answer::Odd),
+    }
+}
+
+// What both who waited were refused with.
+fn refused<H: Runtime>(call: Call, one: Error, other: Error) -> Result<Answer<H>> {
+    if one.number() != other.number() {
+        return Ok(Answer::Odd);
+    }
+    match (call, one.number()) {
+        (Call::Fail, 11) | (Call::Cancel, 15) => Ok(Answer::Done),
+        _ => Err(one),
+    }
+}
