@@ -90,7 +90,7 @@ fn carry_out_all<R: BufRead, W: Write, H: Wait + Drop>(
     Err(Failure::Writing(io::Error::from(ErrorKind::Other)))
 }
 
-// Before it reads it hands on what was written. Where that fails it fails again.
+// Which stream it was that failed: a read hands on what was written first, and where that failed it fails again.
 fn failure_of_read<W: Write>(writer: &mut W, error: io::Error) -> Failure {
     match flush_out(writer) {
         Ok(()) => Failure::Reading(error),

@@ -7,7 +7,7 @@ use crate::heard::{Ear, Heard};
 use crate::told::{Told, write_rest, write_told};
 use foyer_core::CacheProperties;
 use foyer_memory::{CacheBuilder, EvictionConfig, LruConfig};
-use foyer_policy::{self, ModHasher, Properties};
+use foyer_policy::{ModHasher, Properties};
 use foyer_session::text::Line;
 use foyer_session::{Answer, SimValue, SimWeighter};
 use std::io;
