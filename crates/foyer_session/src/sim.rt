@@ -21,7 +21,7 @@ mod value;
 
 pub use args::{SimArgs, SimPolicy, sim_args};
 pub use high::{HighRatio, LruHighRatio, NoHighRatio};
-pub use reply::{write_answer, write_refusal, write_rest};
+pub use reply::{event_name, write_answer, write_found, write_numbered, write_refusal, write_rest};
 pub use value::{SimValue, SimWeighter};
 
 /// Carries out the lines of a reader, each as a command, and writes for each the reply, what left, and the

@@ -69,8 +69,8 @@ pub fn write_rest<W: Write, P>(
     write_out(writer, b"\n")
 }
 
-// Writes a number after a word.
-fn write_numbered<W: Write>(writer: &mut W, word: &[u8], number: u64) -> io::Result<()>
+/// Writes a number after a word.
+pub fn write_numbered<W: Write>(writer: &mut W, word: &[u8], number: u64) -> io::Result<()>
     ensures { WritesText (W.contents writer.old) (W.contents writer.new) result (numbered word.now number) }
 {
     write_out(writer, word)?;
@@ -89,7 +89,8 @@ fn write_piece<W: Write>(writer: &mut W, number: u64) -> io::Result<()>
     write_numbered(writer, b"p", number)
 }
 
-fn write_found<W: Write>(writer: &mut W, number: u64, value: u64) -> io::Result<()>
+/// Writes the number of a handle, and the value of its record.
+pub fn write_found<W: Write>(writer: &mut W, number: u64, value: u64) -> io::Result<()>
     ensures { WritesText (W.contents writer.old) (W.contents writer.new) result (found_text number value) }
 {
     write_handle(writer, number)?;
@@ -214,7 +215,8 @@ fn write_leave<W: Write, P>(
     write_number(writer, left.value().value)
 }
 
-fn event_name(event: Event) -> &'static [u8]
+/// The word for why a record left, with a space behind it.
+pub fn event_name(event: Event) -> &'static [u8]
     ensures { result.now ≡ event_text event }
 {
     match event {

@@ -1,0 +1,99 @@
+//! `foyer-sim --cache POLICY CAPACITY SHARDS`: carries out the lines of `foyer-sim` over a `Cache`, which stands behind
+//! locks, and prints what `foyer-sim` prints for them. It is a program for tests.
+#![tactic(auto)]
+
+use failure::Failure;
+use foyer_memory::{EvictionConfig, FifoConfig, LfuConfig, LruConfig, S3FifoConfig, SieveConfig};
+use foyer_session::text::{Lines, flush_out};
+use foyer_session::{SimArgs, SimPolicy, sim_args};
+use runner::Runner;
+use std::io::{BufRead, BufReader, BufWriter, ErrorKind, Write};
+use std::process::ExitCode;
+use std::sync::Wait;
+use std::{env, io};
+
+mod cache;
+mod failure;
+mod fetch;
+mod heard;
+mod runner;
+mod told;
+
+// How many bytes are read or written at once.
+const BUFFER: usize = 64 * 1024;
+
+fn main(rt: HostRuntime) -> ExitCode {
+    let Err(failure) = run(&rt, rt) else {
+        return ExitCode::SUCCESS;
+    };
+    // The status says it where standard error can't.
+    let _ = failure.print(&rt);
+    ExitCode::from(failure.status())
+}
+
+// Runs with a handle that may wait, as the cache's locks need it.
+fn run<H: Wait + Drop>(rt: &HostRuntime, handle: H) -> Result<(), Failure> {
+    let args = arguments(rt)?;
+    let config = config_of(args.policy);
+    let mut runner = Runner::new(*rt, handle, args.capacity, args.shards, config)?;
+    let mut reader = BufReader::with_capacity(rt.alloc(), BUFFER, rt.stdin()).map_err(
+        |_| Failure::Memory,
+    )?;
+    let mut writer = BufWriter::with_capacity(rt.alloc(), BUFFER, rt.stdout()).map_err(
+        |_| Failure::Memory,
+    )?;
+    carry_out_all(&mut reader, &mut writer, &mut runner)?;
+    writer.flush().map_err(Failure::Writing)
+}
+
+// What the program is asked for.
+fn arguments(rt: &HostRuntime) -> Result<SimArgs, Failure> {
+    let args = match env::args(rt) {
+        Ok(args) => args,
+        Err(error) if error.kind() == ErrorKind::OutOfMemory => return Err(Failure::Memory),
+        Err(_) => return Err(Failure::Arguments),
+    };
+    let mut words = Vec::new(rt.alloc());
+    for word in args.skip(1) {
+        words.push(word)?;
+    }
+    sim_args(words.as_slice()).ok_or(Failure::Arguments)
+}
+
+// A policy's default configuration.
+fn config_of(policy: SimPolicy) -> EvictionConfig {
+    match policy {
+        SimPolicy::Fifo => EvictionConfig::from(FifoConfig {}),
+        SimPolicy::Lru => EvictionConfig::from(LruConfig::default()),
+        SimPolicy::Lfu => EvictionConfig::from(LfuConfig::default()),
+        SimPolicy::S3Fifo => EvictionConfig::from(S3FifoConfig::default()),
+        SimPolicy::Sieve => EvictionConfig::from(SieveConfig),
+    }
+}
+
+// Carries out each line, and writes what is printed for it.
+fn carry_out_all<R: BufRead, W: Write, H: Wait + Drop>(
+    reader: &mut R,
+    writer: &mut W,
+    runner: &mut Runner<H>,
+) -> Result<(), Failure> {
+    let mut lines = Lines::new();
+    for _turn in 0..u64::MAX {
+        let read = lines.read(reader, writer);
+        let Some(line) = read.map_err(|error| failure_of_read(writer, error))? else {
+            return Ok(());
+        };
+        if let Some(told) = runner.carry_out(line)? {
+            runner.write(writer, &told).map_err(Failure::Writing)?;
+        }
+    }
+    Err(Failure::Writing(io::Error::from(ErrorKind::Other)))
+}
+
+// Which stream it was that failed: a read hands on what was written first, and where that failed it fails again.
+fn failure_of_read<W: Write>(writer: &mut W, error: io::Error) -> Failure {
+    match flush_out(writer) {
+        Ok(()) => Failure::Reading(error),
+        Err(error) => Failure::Writing(error),
+    }
+}
