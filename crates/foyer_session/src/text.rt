@@ -7,11 +7,13 @@ mod number;
 mod parse;
 mod print;
 mod scan;
+mod watched;
 
 pub use number::number_of;
 pub use parse::{is_word, line_of};
 pub use print::{flush_out, write_number, write_out, write_wide_number};
 pub use scan::Lines;
+pub use watched::Watched;
 
 /// A line of commands. Words are parted by spaces, and numbers are decimal.
 #[derive(Clone, Copy, Debug, PartialEq, Eq)]

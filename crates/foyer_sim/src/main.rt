@@ -4,6 +4,7 @@
 
 use foyer_core::{AdmitAll, CacheCore, Limits, RawCacheConfig};
 use foyer_policy::{Eviction, Fifo, Lfu, Lru, ModHasher, S3Fifo, Sieve};
+use foyer_session::text::Watched;
 use foyer_session::{
     HighRatio, LruHighRatio, NoHighRatio, Session, SimArgs, SimPolicy, SimWeighter, sim_args,
     simulate,
@@ -11,9 +12,6 @@ use foyer_session::{
 use std::io::{BufReader, BufWriter, ErrorKind, Write};
 use std::process::ExitCode;
 use std::{env, io};
-use watched::Watched;
-
-mod watched;
 
 // How many bytes are read or written at once.
 const BUFFER: usize = 64 * 1024;

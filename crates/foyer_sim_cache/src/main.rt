@@ -4,7 +4,7 @@
 
 use failure::Failure;
 use foyer_memory::{EvictionConfig, FifoConfig, LfuConfig, LruConfig, S3FifoConfig, SieveConfig};
-use foyer_session::text::{Lines, flush_out};
+use foyer_session::text::{Lines, Watched};
 use foyer_session::{SimArgs, SimPolicy, sim_args};
 use runner::Runner;
 use std::io::{BufRead, BufReader, BufWriter, ErrorKind, Write};
@@ -39,11 +39,20 @@ fn run<H: Wait + Drop>(rt: &HostRuntime, handle: H) -> Result<(), Failure> {
     let mut reader = BufReader::with_capacity(rt.alloc(), BUFFER, rt.stdin()).map_err(
         |_| Failure::Memory,
     )?;
-    let mut writer = BufWriter::with_capacity(rt.alloc(), BUFFER, rt.stdout()).map_err(
-        |_| Failure::Memory,
-    )?;
-    carry_out_all(&mut reader, &mut writer, &mut runner)?;
-    writer.flush().map_err(Failure::Writing)
+    let mut writer = BufWriter::with_capacity(
+        rt.alloc(),
+        BUFFER,
+        Watched::new(rt.stdout()),
+    ).map_err(|_| Failure::Memory)?;
+    let done = carry_out_all(&mut reader, &mut writer, &mut runner);
+    let has_failed = writer.get_ref().has_failed();
+    let flushed = writer.flush();
+    match done {
+        Ok(()) => flushed.map_err(Failure::Writing),
+        // A read hands on first what was written.
+        Err(Failure::Reading(error)) if has_failed => Err(Failure::Writing(error)),
+        Err(failure) => Err(failure),
+    }
 }
 
 // What the program is asked for.
@@ -79,8 +88,7 @@ fn carry_out_all<R: BufRead, W: Write, H: Wait + Drop>(
 ) -> Result<(), Failure> {
     let mut lines = Lines::new();
     for _turn in 0..u64::MAX {
-        let read = lines.read(reader, writer);
-        let Some(line) = read.map_err(|error| failure_of_read(writer, error))? else {
+        let Some(line) = lines.read(reader, writer).map_err(Failure::Reading)? else {
             return Ok(());
         };
         if let Some(told) = runner.carry_out(line)? {
@@ -88,12 +96,4 @@ fn carry_out_all<R: BufRead, W: Write, H: Wait + Drop>(
         }
     }
     Err(Failure::Writing(io::Error::from(ErrorKind::Other)))
-}
-
-// Which stream it was that failed: a read hands on what was written first, and where that failed it fails again.
-fn failure_of_read<W: Write>(writer: &mut W, error: io::Error) -> Failure {
-    match flush_out(writer) {
-        Ok(()) => Failure::Reading(error),
-        Err(error) => Failure::Writing(error),
-    }
 }

@@ -11,6 +11,7 @@ pub struct Watched<W: Write + Drop> {
 }
 
 impl<W: Write + Drop> Watched<W> {
+    /// A writer that has not failed yet.
     pub fn new(inner: W) -> Self {
         Watched {
             inner,
