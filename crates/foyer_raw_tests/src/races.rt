@@ -4,10 +4,15 @@ use crate::testing::builders::{Later, Must, Surely, after_polls, value};
 use crate::testing::{Outcome, fifo};
 use foyer_core::{AdmitAll, CacheProperties, RawCacheConfig, UnitWeighter};
 use foyer_policy::{Fifo, Hint, Lru, LruConfig, ModHasher, Properties, Ratio};
-use foyer_raw::{Direct, ListSpawner, NoListener, NoopPipe, RawCache, RawGetOrFetch};
+use foyer_raw::{Direct, ListSpawner, NoListener, NoopPipe, RawCache, RawFetch, RawGetOrFetch};
+use futures::Future;
+use futures::executor::block_on;
+use futures::task::{Context, Poll};
+use std::alloc::Global;
 use std::sync::Wait;
 use std::sync::atomic::{AtomicU64, Ordering};
 use std::thread;
+use std::thread::yield_now;
 use std::time::{Clock, Duration};
 
 /// A cache that fetches what is required.
@@ -40,63 +45,129 @@ type Look<H> = RawGetOrFetch<
     Must,
 >;
 
-// Drops waits one by one, from the front or from the back.
-fn drop_each<H: Wait + Drop>(mut waits: Vec<Look<H>>, from_the_front: bool) {
-    if from_the_front {
-        for wait in waits {
-            drop(wait);
+/// The tasks of its fetches.
+type Tasks<H> = ListSpawner<
+    RawFetch<
+        H,
+        Fifo,
+        u32,
+        u64,
+        ModHasher,
+        CacheProperties,
+        UnitWeighter,
+        AdmitAll,
+        NoListener<u32, u64>,
+        NoopPipe<u32, u64>,
+        Direct<Later<Surely>>,
+    >,
+>;
+
+/// How many keys are inserted while the waits for them are dropped.
+const KEYS: u32 = 400;
+
+/// How many wait for each.
+const WAITS: u32 = 32;
+
+// Waits until the other thread has come as far as this one, or for long enough.
+fn meet(mine: &AtomicU64, other: &AtomicU64) {
+    let step = mine.fetch_add(1, Ordering::SeqCst);
+    for _ in 0..1_000_000u64 {
+        if other.load(Ordering::SeqCst) > step {
+            return;
         }
-        return;
-    }
-    while let Some(wait) = waits.pop() {
-        drop(wait);
+        yield_now();
     }
 }
 
-// Waits are dropped while an insert answers them, in the same order and against it. No handle remains but the insert's.
+/// The waits for one key. The first is polled until it is answered, and the others are dropped then, the last one first.
+#[derive(Drop)]
+struct Crossing<H: Wait + Drop> {
+    first: Look<H>,
+    others: Vec<Look<H>>,
+}
+
+impl<H: Wait + Drop> Future for Crossing<H> {
+    type Output = ();
+
+    fn poll(&mut self, cx: &mut Context<'_>) -> Poll<()> {
+        let mut answer = self.first.poll(cx);
+        for _ in 0..1_000_000u64 {
+            if !matches!(answer, Poll::Pending) {
+                break;
+            }
+            answer = self.first.poll(cx);
+        }
+        while let Some(wait) = self.others.pop() {
+            drop(wait);
+        }
+        drop(answer);
+        Poll::Ready(())
+    }
+}
+
+// The waits for each key, and the tasks of the fetches.
+fn crossings<H: Wait + Drop>(
+    cache: &Fetching<H>,
+    alloc: Global,
+    spawner: &mut Tasks<H>,
+) -> Outcome<Vec<Crossing<H>>> {
+    let fetch = || after_polls(0, Ok(value(69)));
+    let mut all = Vec::new(alloc);
+    for key in 0..KEYS {
+        let first = cache.get_or_fetch(&key, fetch, spawner)?;
+        let mut others = Vec::new(alloc);
+        for _ in 0..WAITS {
+            others.push(cache.get_or_fetch(&key, fetch, spawner)?)?;
+        }
+        all.push(Crossing { first, others })?;
+    }
+    Ok(all)
+}
+
+// Waits are dropped while an insert answers them, and the two meet. No handle remains.
 #[test]
 fn a_wait_is_dropped_while_it_is_answered(rt: HostRuntime) -> Outcome {
-    let cache: Fetching<HostRuntime> = RawCache::new(
-        rt,
-        rt.alloc(),
-        fifo(4, 1),
-        NoListener::new(),
-    )?;
-    for round in 0..60u64 {
-        let mut spawner = ListSpawner::new(rt.alloc());
-        let mut waits = Vec::new(rt.alloc());
-        for _ in 0..100u64 {
-            waits.push(cache.get_or_fetch(&7, || after_polls(0, Ok(value(69))), &mut spawner)?)?;
-        }
-        let ((), held) = thread::join(
-            &rt,
-            || drop_each(waits, round % 2 == 0),
-            || cache.insert(7, 70),
-        );
-        assert_eq!(rt; held?.refs(), 1);
-        drop(cache.remove(&7)?);
+    let config = fifo(KEYS as usize, 1);
+    let cache: Fetching<HostRuntime> = RawCache::new(rt, rt.alloc(), config, NoListener::new())?;
+    let mut spawner = ListSpawner::new(rt.alloc());
+    let crossings = crossings(&cache, rt.alloc(), &mut spawner)?;
+    let [inserter, dropper] = [AtomicU64::new(0), AtomicU64::new(0)];
+    thread::join(
+        &rt,
+        || {
+            for key in 0..KEYS {
+                meet(&inserter, &dropper);
+                drop(cache.insert(key, 70));
+            }
+        },
+        || {
+            for crossing in crossings {
+                meet(&dropper, &inserter);
+                drop(block_on(&rt, crossing));
+            }
+        },
+    );
+    for key in 0..KEYS {
+        assert_eq!(rt; cache.get(&key)?.ok_or("none")?.refs(), 1);
     }
     Ok(())
 }
 
-// Whichever of two resizes goes first, the smaller one evicts from each shard before the greater one counts.
+// While a resize evicts, no greater one begins: it would leave more in.
 #[test]
 fn resizes_take_turns(rt: HostRuntime) -> Outcome {
-    let cache: Fetching<HostRuntime> = RawCache::new(
-        rt,
-        rt.alloc(),
-        fifo(512, 64),
-        NoListener::new(),
-    )?;
-    for _ in 0..20u64 {
-        for key in 0..512u32 {
+    let config = fifo(8192, 64);
+    let cache: Fetching<HostRuntime> = RawCache::new(rt, rt.alloc(), config, NoListener::new())?;
+    for _ in 0..4u64 {
+        for key in 0..8192u32 {
             drop(cache.insert(key, 0)?);
         }
-        let (smaller, greater) = thread::join(&rt, || cache.resize(64), || cache.resize(512));
-        smaller?;
+        // the first of both needs a new thread, and begins later
+        let (greater, smaller) = thread::join(&rt, || cache.resize(8192), || cache.resize(64));
         greater?;
+        smaller?;
         assert_eq!(rt; cache.usage(), 64);
-        cache.resize(512)?;
+        cache.resize(8192)?;
     }
     Ok(())
 }
