@@ -77,7 +77,8 @@ fn must(value: u64) -> Option<Given<Ready<Surely>>> {
     must_give(target(value))
 }
 
-/// Polls a look-up twice: the value of the first answer, or its refusal's number, and the number of the second one's.
+/// Polls a look-up twice: the value of the first answer, or its refusal's number, and the number of the second one's. 0
+/// and none where it is pending.
 struct Twice<'a, H: Wait + Drop, T: FetchTypes<u32, u64, CacheProperties>> {
     look: &'a mut Look<H, T>,
 }
@@ -93,10 +94,10 @@ impl<H: Wait + Drop, T: FetchTypes<u32, u64, CacheProperties>> Future for Twice<
 
     fn poll(&mut self, cx: &mut Context<'_>) -> Poll<(u64, Option<u8>)> {
         let Poll::Ready(first) = self.look.poll(cx) else {
-            return cx.yield_now();
+            return Poll::Ready((0, None));
         };
         let Poll::Ready(second) = self.look.poll_inner(cx) else {
-            return cx.yield_now();
+            return Poll::Ready((0, None));
         };
         let value = match first {
             Ok(entry) => *entry,

@@ -85,7 +85,7 @@ fn each_thread_finds_its_own(rt: HostRuntime) -> Outcome {
 }
 
 /// How many keys a thread looks up.
-const KEYS: u32 = 2_000;
+const KEYS: u32 = 1_000;
 
 // Eight threads look keys of their own up, and put in what is missing. The cache is full then, and no more.
 #[test]
