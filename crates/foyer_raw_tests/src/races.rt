@@ -79,7 +79,8 @@ fn meet(mine: &AtomicU64, other: &AtomicU64) {
     }
 }
 
-/// The waits for one key. The first is polled until it is answered, and the others are dropped then, the last one first.
+/// The waits for one key. The first is polled until it is answered, or for long enough, and the others are dropped then,
+/// the last one first.
 #[derive(Drop)]
 struct Crossing<H: Wait + Drop> {
     first: Look<H>,
@@ -91,7 +92,7 @@ impl<H: Wait + Drop> Future for Crossing<H> {
 
     fn poll(&mut self, cx: &mut Context<'_>) -> Poll<()> {
         let mut answer = self.first.poll(cx);
-        for _ in 0..1_000_000u64 {
+        for _ in 0..10_000u64 {
             if !matches!(answer, Poll::Pending) {
                 break;
             }
