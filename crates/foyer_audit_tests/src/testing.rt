@@ -18,6 +18,7 @@ pub type Config = RawCacheConfig<FifoConfig, ModHasher, UnitWeighter, AdmitAll>;
 
 pub type PlainSession = Session<Fifo, u64, u64, CacheProperties, ModHasher, UnitWeighter, AdmitAll>;
 
+// A configuration whose number every record has in a reply, and whose limits long runs of commands reach.
 pub fn config(capacity: usize, shards: usize) -> Config {
     RawCacheConfig {
         capacity,
@@ -26,8 +27,11 @@ pub fn config(capacity: usize, shards: usize) -> Config {
         hash_builder: ModHasher::default(),
         weighter: UnitWeighter,
         filter: AdmitAll,
-        number: 0,
-        limits: Limits::default(),
+        number: 3,
+        limits: Limits {
+            ids: 80,
+            handles: 3,
+        },
     }
 }
 

@@ -1,12 +1,11 @@
 //! A cache beside a core of one thread: random calls, which both answer alike.
 
-use crate::testing::{Cache, Entry, Outcome, finish, given, target};
+use crate::testing::{Cache, Entry, Outcome, at_once, finish, given, target};
 use foyer_core::{Answers, CacheCore, CoreEntry, Ended, Inserted, Leave, Lookup};
 use foyer_memory::{CacheProperties, Eviction};
 use foyer_policy::{ModHasher, Source};
 use foyer_raw::ListSpawner;
 use foyer_raw_tests::notes::{Note, Notes};
-use futures::executor::block_on;
 use std::alloc::Global;
 use std::random::RandomSource;
 use std::sync::Wait;
@@ -142,7 +141,7 @@ impl<H: Wait + RandomSource + Alloc<A = Global> + Copy + Drop, E: Eviction> Both
             .cache
             .get_or_fetch(&key, || given(value), &mut spawner)?;
         finish(&rt, spawner)?;
-        let (first, second) = (block_on(&rt, first)??, block_on(&rt, second)??);
+        let (first, second) = (at_once(&rt, first)??, at_once(&rt, second)??);
         let (fetch, lead) = self.ask(key)?;
         let (_, next) = self.ask(key)?;
         let (one, other) = match fetch {

@@ -1,9 +1,10 @@
 //! Look-ups that fetch what is missing.
 
 use crate::testing::{
-    Cache, Look, Outcome, Target, Task, all_policies, builder, finish, given, number, target,
+    Cache, Look, Outcome, Target, Task, all_policies, at_once, builder, finish, given, number,
+    target,
 };
-use foyer_memory::{CacheProperties, EvictionConfig, LruConfig, OptionalFetchBuilder};
+use foyer_memory::{CacheProperties, EvictionConfig, FetchTarget, LruConfig, OptionalFetchBuilder};
 use foyer_policy::{Fault, Result, Source};
 use foyer_raw::{FetchTypes, Given, ListSpawner, Pollable, Spawner};
 use foyer_raw_tests::notes::Notes;
@@ -57,14 +58,27 @@ fn fetching<
     Ok(builder(16, config, &notes)?.build(rt, rt.alloc(), &rt)?)
 }
 
-// A required builder whose fetch gives this.
-fn must(value: u64) -> Option<Given<Ready<Surely>>> {
-    Some(Given {
-        fetch: Pollable::new(ready(Ok(target(value)))),
+// An optional builder whose fetch gives this.
+fn may(found: Option<Target>) -> Option<May> {
+    Some(May {
+        fetch: Pollable::new(ready(Ok(found))),
     })
 }
 
-/// Polls a look-up twice: the value of the first answer, or its refusal's number, and the number of the second one's.
+// A required builder whose fetch gives this.
+fn must_give(target: Target) -> Option<Given<Ready<Surely>>> {
+    Some(Given {
+        fetch: Pollable::new(ready(Ok(target))),
+    })
+}
+
+// A required builder whose fetch gives this value.
+fn must(value: u64) -> Option<Given<Ready<Surely>>> {
+    must_give(target(value))
+}
+
+/// Polls a look-up twice: the value of the first answer, or its refusal's number, and the number of the second one's. 0
+/// and none where it is pending.
 struct Twice<'a, H: Wait + Drop, T: FetchTypes<u32, u64, CacheProperties>> {
     look: &'a mut Look<H, T>,
 }
@@ -80,10 +94,10 @@ impl<H: Wait + Drop, T: FetchTypes<u32, u64, CacheProperties>> Future for Twice<
 
     fn poll(&mut self, cx: &mut Context<'_>) -> Poll<(u64, Option<u8>)> {
         let Poll::Ready(first) = self.look.poll(cx) else {
-            return cx.yield_now();
+            return Poll::Ready((0, None));
         };
         let Poll::Ready(second) = self.look.poll_inner(cx) else {
-            return cx.yield_now();
+            return Poll::Ready((0, None));
         };
         let value = match first {
             Ok(entry) => *entry,
@@ -101,7 +115,7 @@ fn two_wait_for_one_fetch(rt: HostRuntime) -> Outcome {
     let second = cache.get_or_fetch(&7, || given(68), &mut spawner)?;
     let first = first.try_unwrap().err().ok_or("a hit")?;
     finish(&rt, spawner)?;
-    let (first, second) = (block_on(&rt, first)??, block_on(&rt, second)??);
+    let (first, second) = (at_once(&rt, first)??, at_once(&rt, second)??);
     assert_eq!(rt; (*first, *second, first.refs()), (69, 69, 2));
     assert_eq!(rt;
         (first.source(), second.source()),
@@ -186,13 +200,43 @@ fn an_answer_is_given_once(rt: HostRuntime) -> Outcome {
 fn a_builder_that_was_lent(rt: HostRuntime) -> Outcome {
     let cache: Cache<HostRuntime, Trial> = fetching(rt)?;
     let mut spawner = ListSpawner::new(rt.alloc());
-    let optional = Some(May {
-        fetch: Pollable::new(ready(Ok(None))),
-    });
-    let first = cache.get_or_fetch_inner(&7, || optional, || None, (), &mut spawner)?;
+    let first = cache.get_or_fetch_inner(&7, || may(None), || None, (), &mut spawner)?;
     let second = cache.get_or_fetch_inner(&7, || None, || must(5), (), &mut spawner)?;
     finish(&rt, spawner)?;
-    assert_eq!(rt; (*block_on(&rt, first)??, *block_on(&rt, second)??), (5, 5));
+    assert_eq!(rt; (*at_once(&rt, first)??, *at_once(&rt, second)??), (5, 5));
+    Ok(())
+}
+
+// A value of an optional fetch is from the disk and one of a required fetch from outside, and a piece's is from memory.
+// With a piece of another key a fetch is refused.
+#[test]
+fn a_fetch_says_where_its_value_is_from(rt: HostRuntime) -> Outcome {
+    let cache: Cache<HostRuntime, Trial> = fetching(rt)?;
+    let [own, strange] = [3u32, 5].map(|key| cache.insert(key, u64::from(10 * key)));
+    let (own, strange) = (own?.piece()?, strange?.piece()?);
+    drop(cache.remove(&3)?);
+    let given = [
+        (1u32, may(Some(target(10))), None),
+        (2, None, must(20)),
+        (3, None, must_give(FetchTarget::Piece(own))),
+        (4, None, must_give(FetchTarget::Piece(strange))),
+    ];
+    let mut spawner = ListSpawner::new(rt.alloc());
+    let mut looks = Vec::new(rt.alloc());
+    for (key, optional, required) in given {
+        looks.push(cache.get_or_fetch_inner(&key, || optional, || required, (), &mut spawner)?)?;
+    }
+    finish(&rt, spawner)?;
+    let wrong = looks.pop().ok_or("no look-up")?;
+    assert_eq!(rt; number(at_once(&rt, wrong)?), Some(12));
+    let sources = [Source::Disk, Source::Outer, Source::Memory];
+    for (look, (key, source)) in looks.into_iter().zip((1u32..4).zip(sources)) {
+        let entry = at_once(&rt, look)??;
+        assert_eq!(rt;
+            (*entry.key(), *entry, entry.source()),
+            (key, u64::from(10 * key), source)
+        );
+    }
     Ok(())
 }
 
@@ -208,7 +252,7 @@ fn nothing_was_found(rt: HostRuntime) -> Outcome {
     drop(other);
     finish(&rt, spawner)?;
     assert_eq!(rt; block_on(&rt, Twice { look: &mut first })?, (13, Some(16)));
-    assert_eq!(rt; number(block_on(&rt, lost)?), Some(13));
-    assert_eq!(rt; number(block_on(&rt, dropped)?), Some(15));
+    assert_eq!(rt; number(at_once(&rt, lost)?), Some(13));
+    assert_eq!(rt; number(at_once(&rt, dropped)?), Some(15));
     Ok(())
 }

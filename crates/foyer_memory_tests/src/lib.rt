@@ -8,8 +8,14 @@ mod compare;
 #[cfg(test)]
 mod fetches;
 #[cfg(test)]
+mod pieces;
+#[cfg(test)]
 mod policies;
 #[cfg(test)]
 mod reconfigure;
 #[cfg(test)]
 mod testing;
+#[cfg(test)]
+mod threads;
+#[cfg(test)]
+mod waits;

@@ -196,6 +196,25 @@ fn weights_and_admissions(rt: HostRuntime) -> Outcome {
             (cache.usage(), cache.entries(), cache.contains(&9)),
             (40, 1, false)
         );
+        assert_eq!(rt; (cache.capacity(), cache.shards()), (100, 1));
+    }
+    Ok(())
+}
+
+// What weighs nothing needs no room.
+#[test]
+fn weightless_records_stay_in_no_room(rt: HostRuntime) -> Outcome {
+    for config in all_policies() {
+        let notes = Notes::new(rt.alloc())?;
+        let cache: Weighed<HostRuntime> = builder(0, config, &notes)?
+            .with_shards(1)
+            .with_weighter(ByValue)
+            .with_filter(NotNine)
+            .build(rt, rt.alloc(), &rt)?;
+        drop(cache.insert(1, 0)?);
+        drop(cache.insert(2, 0)?);
+        assert!(rt; notes.are(&[]) && cache.contains(&1) && cache.contains(&2));
+        assert_eq!(rt; (cache.usage(), cache.entries()), (0, 2));
     }
     Ok(())
 }

@@ -146,6 +146,34 @@ impl<X: Future<Output = ()>> Future for Once<X> {
     }
 }
 
+/// Polls a future once: what it gives, or none where it is pending.
+#[derive(Drop)]
+struct Now<F: Future> {
+    future: F,
+}
+
+impl<F: Future> Future for Now<F> {
+    type Output = Option<F::Output>;
+
+    fn poll(&mut self, cx: &mut Context<'_>) -> Poll<Option<F::Output>> {
+        match self.future.poll(cx) {
+            Poll::Ready(given) => Poll::Ready(Some(given)),
+            Poll::Pending => Poll::Ready(None),
+        }
+    }
+}
+
+/// What a future gives at its first poll. Where it is pending that is an error: it could be so for ever.
+pub(crate) fn at_once<H: Wait + RandomSource + Alloc<A = Global>, F: Future>(
+    rt: &H,
+    future: F,
+) -> Outcome<F::Output> {
+    match block_on(rt, Now { future })? {
+        Some(given) => Ok(given),
+        None => Err(Fail::from("no answer")),
+    }
+}
+
 /// With which number a call is refused, if it is.
 pub(crate) fn number<X: Drop>(answered: Result<X>) -> Option<u8> {
     answered.err().map(|error| error.number())

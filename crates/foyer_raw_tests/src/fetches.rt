@@ -4,7 +4,9 @@ use crate::notes::{Ear, Notes};
 use crate::testing::builders::{
     Later, May, Must, Surely, after_polls, fault, must, optionally, value,
 };
-use crate::testing::cache::{Cache, Look, Task, Tasks, finish, got, heard, piped, polled, refused};
+use crate::testing::cache::{
+    Cache, Look, Task, Tasks, at_once, finish, got, heard, piped, polled, refused,
+};
 use crate::testing::{Outcome, fifo, limited, number, phantom};
 use foyer_core::{FetchTarget, Limits, RawCacheConfig};
 use foyer_policy::{Lru, ModHasher, Result, Source};

@@ -18,6 +18,8 @@ mod leaves;
 mod limits;
 pub mod notes;
 #[cfg(test)]
+mod races;
+#[cfg(test)]
 mod testing;
 #[cfg(test)]
 mod threads;

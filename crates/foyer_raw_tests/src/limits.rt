@@ -8,6 +8,8 @@ use foyer_core::{AdmitAll, CacheProperties, Limits, RawCacheConfig, Weighter};
 use foyer_core_tests::refusing::RefusingPolicy;
 use foyer_policy::{Fifo, FifoConfig, Lru, LruConfig, ModHasher};
 use foyer_raw::{NoListener, RawCache};
+use std::alloc::Global;
+use std::sync::Wait;
 
 /// A value is its weight.
 #[derive(Clone, Copy)]
@@ -84,30 +86,53 @@ fn weighed<C>(
     }
 }
 
+/// A cache whose policy is refused its fifth request for memory.
+type Refusing<H> = RawCache<
+    H,
+    RefusingPolicy<Fifo, 4>,
+    u32,
+    u64,
+    ModHasher,
+    CacheProperties,
+    ByValue,
+    AdmitAll,
+    Ear,
+>;
+
+// Such a cache with a listener, and what it tells.
+fn refusing<H: Wait + Alloc<A = Global> + Copy + Drop>(
+    rt: H,
+    capacity: usize,
+) -> Outcome<(Refusing<H>, Notes)> {
+    let notes = Notes::new(rt.alloc())?;
+    let config = weighed(capacity, FifoConfig {});
+    let cache = RawCache::new(rt, rt.alloc(), config, Ear(notes.share()?))?;
+    Ok((cache, notes))
+}
+
 // The third record needs two evictions, of which the second is refused: the first is told all the same.
 #[test]
 fn leaves_of_a_refused_insert_are_told(rt: HostRuntime) -> Outcome {
-    let notes = Notes::new(rt.alloc())?;
-    let cache: RawCache<
-        HostRuntime,
-        RefusingPolicy<Fifo, 4>,
-        u32,
-        u64,
-        ModHasher,
-        CacheProperties,
-        ByValue,
-        AdmitAll,
-        Ear,
-    > = RawCache::new(
-        rt,
-        rt.alloc(),
-        weighed(2, FifoConfig {}),
-        Ear(notes.share()?),
-    )?;
+    let (cache, notes) = refusing(rt, 2)?;
     drop(cache.insert(1, 1)?);
     drop(cache.insert(2, 1)?);
     assert_eq!(rt; number(cache.insert(3, 2)), Some(7));
     assert!(rt; notes.are(&[Evict(1, 1)]) && !cache.contains(&1) && !cache.contains(&3));
+    Ok(())
+}
+
+// A resize to nothing, whose second eviction is refused: the first is told, and the capacity is set all the same.
+#[test]
+fn a_refused_resize_sets_the_capacity(rt: HostRuntime) -> Outcome {
+    let (cache, notes) = refusing(rt, 3)?;
+    for key in 1..4u32 {
+        drop(cache.insert(key, 1)?);
+    }
+    assert_eq!(rt; number(cache.resize(0)), Some(7));
+    assert!(rt; notes.are(&[Evict(1, 1)]));
+    assert_eq!(rt; (cache.capacity(), cache.usage()), (0, 2));
+    drop(cache.insert(4, 1)?);
+    assert!(rt; notes.are(&[Evict(1, 1), Evict(2, 1), Evict(3, 1)]));
     Ok(())
 }
 

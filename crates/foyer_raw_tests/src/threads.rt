@@ -1,11 +1,11 @@
 //! Many threads at one cache.
 
 use crate::testing::builders::{Later, Surely, after_polls, value};
+use crate::testing::cache::at_once;
 use crate::testing::{Outcome, fifo, phantom};
 use foyer_core::{AdmitAll, CacheProperties, UnitWeighter};
 use foyer_policy::{Event, EventListener, Fifo, ModHasher};
 use foyer_raw::{Direct, ListSpawner, NoListener, NoopPipe, RawCache};
-use futures::executor::block_on;
 use std::alloc::Global;
 use std::sync::atomic::{AtomicU64, Ordering};
 use std::sync::{Arc, Wait};
@@ -198,14 +198,13 @@ fn who_waits_is_answered_before_a_leave_is_told(rt: HostRuntime) -> Outcome {
     let (accepted, answer) = thread::join(
         &rt,
         || cache.insert(7, 70).is_ok(),
-        || {
-            let Ok(Ok(Some(entry))) = block_on(&rt, wait) else {
-                return 0;
-            };
+        || -> Outcome<u64> {
+            is_up(&rt, &flags.inside);
+            let entry = at_once(&rt, wait)??.ok_or("none")?;
             flags.looked.store(1, Ordering::SeqCst);
-            *entry
+            Ok(*entry)
         },
     );
-    assert_eq!(rt; (accepted, answer, flags.were_seen()), (true, 70, true));
+    assert_eq!(rt; (answer?, accepted, flags.were_seen()), (70, true, true));
     Ok(())
 }

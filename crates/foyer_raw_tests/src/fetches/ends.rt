@@ -76,6 +76,25 @@ fn a_piece_of_another_key(rt: HostRuntime) -> Outcome {
     Ok(())
 }
 
+// A piece of a cache with another number makes a new record, of the weight that the weighter gives it.
+#[test]
+fn a_piece_of_another_cache(rt: HostRuntime) -> Outcome {
+    let config = RawCacheConfig {
+        number: 1,
+        ..fifo(4, 1)
+    };
+    let (cache, _notes) = piped(rt, fifo(4, 1))?;
+    let (other, _notes) = heard(rt, config)?;
+    let required = must_give_piece(&other, 7, 70)?;
+    let entry = got(&rt, ended(&rt, &cache, required)?)?;
+    assert_eq!(rt;
+        (*entry, entry.source(), entry.weight()),
+        (70, Source::Memory, 1)
+    );
+    assert_eq!(rt; (cache.usage(), cache.entries()), (1, 1));
+    Ok(())
+}
+
 // A completion by a piece needs a handle for each who waits, and none beside.
 #[test]
 fn a_piece_of_the_key_comes_at_the_limit(rt: HostRuntime) -> Outcome {

@@ -1,7 +1,9 @@
 //! Tasks in the hands of a spawner of one's own.
 
 use super::*;
-use foyer_raw::{RawFetchState, Spawner};
+use foyer_raw::{Given, Pollable, RawFetchState, Spawner};
+use std::sync::Arc;
+use std::sync::atomic::{AtomicU64, Ordering};
 
 /// Keeps the last task that it got.
 #[derive(Drop)]
@@ -96,6 +98,33 @@ fn a_task_that_has_ended_is_dropped(rt: HostRuntime) -> Outcome {
     assert_eq!(rt; *got(&rt, wait)?, 6);
     drop(last);
     assert!(rt; cache.contains(&7));
+    Ok(())
+}
+
+// Once a fetch is overtaken its task ends, and what it polled, the optional fetch or the required one, is polled no more.
+#[test]
+fn what_is_overtaken_is_polled_no_more(rt: HostRuntime) -> Outcome {
+    let (cache, _notes) = piped(rt, fifo(4, 1))?;
+    let polls = Arc::new(rt.alloc(), AtomicU64::new(0))?;
+    let optional = Pollable::new(after_polls(9, Ok(None)).counted(&polls)?);
+    let required = Pollable::new(after_polls(9, Ok(value(5))).counted(&polls)?);
+    let builders = [
+        (Some(May { fetch: optional }), None),
+        (None, Some(Given { fetch: required })),
+    ];
+    for builders in builders {
+        let (wait, task) = led(&cache, builders, 2)?;
+        let task = block_on(&rt, task)?;
+        assert_eq!(rt; polls.swap(0, Ordering::SeqCst), 2);
+        drop(cache.insert(7, 70)?);
+        let task = block_on(&rt, Polled { task, turns: 1 })?.ok_or("no task")?;
+        assert_eq!(rt;
+            (task.state(), polls.load(Ordering::SeqCst)),
+            (RawFetchState::Ready, 0)
+        );
+        assert_eq!(rt; *got(&rt, wait)?, 70);
+        drop(cache.remove(&7)?);
+    }
     Ok(())
 }
 

@@ -129,7 +129,7 @@ fn builders_are_asked_for_where_they_are_needed(rt: HostRuntime) -> Outcome {
 fn no_builder_at_all(rt: HostRuntime) -> Outcome {
     let (cache, _notes) = heard(rt, fifo(4, 1))?;
     let wait = ended(&rt, &cache, NONE)?;
-    assert!(rt; block_on(&rt, wait)??.is_none() && cache.get(&7)?.is_none());
+    assert!(rt; at_once(&rt, wait)??.is_none() && cache.get(&7)?.is_none());
     Ok(())
 }
 
@@ -156,10 +156,10 @@ fn a_sender_is_gone(rt: HostRuntime) -> Outcome {
     let (notifier, waiter) = oneshot::channel::<Result<Answer<u32, u64, CacheProperties>>>(alloc)?;
     let wait = cache.wait_for(waiter)?;
     assert!(rt; notifier.send(Ok(None)).is_ok());
-    assert!(rt; block_on(&rt, wait)??.is_none());
+    assert!(rt; at_once(&rt, wait)??.is_none());
     let (notifier, waiter) = oneshot::channel::<Result<Answer<u32, u64, CacheProperties>>>(alloc)?;
     drop(notifier);
-    assert_eq!(rt; number(block_on(&rt, cache.wait_for(waiter)?)?), Some(14));
+    assert_eq!(rt; number(at_once(&rt, cache.wait_for(waiter)?)?), Some(14));
     Ok(())
 }
 

@@ -147,12 +147,40 @@ impl<X: Future<Output = ()>> Future for Drive<X> {
     }
 }
 
+/// Polls a future once: what it gives, or none where it is pending.
+#[derive(Drop)]
+struct Now<F: Future> {
+    future: F,
+}
+
+impl<F: Future> Future for Now<F> {
+    type Output = Option<F::Output>;
+
+    fn poll(&mut self, cx: &mut Context<'_>) -> Poll<Option<F::Output>> {
+        match self.future.poll(cx) {
+            Poll::Ready(given) => Poll::Ready(Some(given)),
+            Poll::Pending => Poll::Ready(None),
+        }
+    }
+}
+
+/// What a future gives at its first poll. Where it is pending that is an error: it could be so for ever.
+pub(crate) fn at_once<H: Wait + RandomSource + Alloc<A = Global>, F: Future>(
+    rt: &H,
+    future: F,
+) -> Outcome<F::Output> {
+    match block_on(rt, Now { future })? {
+        Some(given) => Ok(given),
+        None => Err(Fail::from("no answer")),
+    }
+}
+
 /// The entry that one who waits gets.
 pub(crate) fn got<H: Wait + RandomSource + Alloc<A = Global> + Drop>(
     rt: &H,
     look: Look<H>,
 ) -> Outcome<Entry<H>> {
-    Ok(block_on(rt, look)??.ok_or("none")?)
+    Ok(at_once(rt, look)??.ok_or("none")?)
 }
 
 /// With which number one who waits is refused, if it is.
@@ -160,5 +188,5 @@ pub(crate) fn refused<H: Wait + RandomSource + Alloc<A = Global> + Drop>(
     rt: &H,
     look: Look<H>,
 ) -> Outcome<Option<u8>> {
-    Ok(number(block_on(rt, look)?))
+    Ok(number(at_once(rt, look)?))
 }
