@@ -2,7 +2,6 @@
 
 ghost use Rattle.std.specs.Prelude.{IsSome};
 
-use crate::testing::cache::at_once;
 use foyer_core::{AdmitAll, CacheProperties, FetchTarget, RawCacheConfig, TagFinder, UnitWeighter};
 use foyer_policy::{DefaultHasher, Fault, Lru};
 use foyer_raw::{Direct, ListSpawner, NoListener, NoopPipe, RawCache};
@@ -78,8 +77,8 @@ fn clones_share_a_cache(rt: HostRuntime) -> Result<(), Fail> {
     let first = cache.get_or_fetch(&7, || fetched(70), &mut spawner)?;
     let second = other.get_or_fetch(&7, || fetched(71), &mut spawner)?;
     block_on(&rt, Drive(spawner))?;
-    let first = at_once(&rt, first)??.ok_or("none")?;
-    let second = at_once(&rt, second)??.ok_or("none")?;
+    let first = block_on(&rt, first)??.ok_or("none")?;
+    let second = block_on(&rt, second)??.ok_or("none")?;
     assert_eq!(rt; (*first, *second, first.refs()), (70, 70, 2));
     Ok(())
 }
