@@ -88,8 +88,8 @@ fn insert_is_refused<const AT: u64, I: Finder<u64>>(
     Ok(())
 }
 
-// The fourth insert asks the policy for room by the request 3, and for evictions by those from 4 on. The index is asked
-// last of all.
+// The fourth insert asks the policy for room by the request of number 3, and for evictions by those from number 4 on. The
+// index is asked last of all.
 #[test]
 fn a_refused_insert_has_evicted_a_beginning(rt: HostRuntime) -> Done {
     const NEVER: u64 = u64::MAX;
