@@ -13,7 +13,7 @@ use crate::book::Book;
 use crate::compared::Compared;
 use crate::receipt::Share;
 use foyer_core::{Filter, Finder, RawCacheConfig, TagFinder, Weighter};
-use foyer_policy::{Config, Eviction, HashBuilder, Key, Properties, Result, Value};
+use foyer_policy::{Eviction, HashBuilder, Key, Properties, Result, Value};
 use foyer_session::{Command, Predicate, Reply};
 use std::alloc::Global;
 use std::sync::ledger::{Blank, Ledger};
@@ -46,7 +46,7 @@ pub struct AuditedShard<
     W: Weighter<K, V>,
     A: Filter<K, V>,
     Q: Predicate<K, V> + Clone + Eq + Compared<K, V, P, C>,
-    C: Config + Eq,
+    C: Clone + Drop + Eq,
     I: Finder<K> = TagFinder<K>,
 > {
     desk: Mutex<Desk<G, E, K, V, P, S, W, A, Q, C, I>>,
@@ -62,7 +62,7 @@ impl<
     W: Weighter<K, V>,
     A: Filter<K, V>,
     Q: Predicate<K, V> + Clone + Eq + Compared<K, V, P, C>,
-    C: Config + Eq,
+    C: Clone + Drop + Eq,
     I: Finder<K>,
 > AuditedShard<G, E, K, V, P, S, W, A, Q, C, I> {
     /// An audited shard with no call in its history, over the shard of this number of a cache of this configuration,

@@ -9,13 +9,9 @@ ghost use Rattle.foyer_audit.specs.Legal.{Call, IsHistory, is_elsewhere, key_of}
 
 use crate::compared::Compared;
 use foyer_core::{CacheCore, Filter, Finder, RawCacheConfig, TagFinder, Weighter, shard_capacity};
-use foyer_policy::{Config, Error, Eviction, HashBuilder, Key, Properties, Reason, Result, Value};
+use foyer_policy::{Error, Eviction, HashBuilder, Key, Past, Properties, Reason, Result, Value};
 use foyer_session::{Answer, Command, Leaves, Predicate, Reply, Session};
 use std::alloc::Global;
-
-mod opening;
-
-pub use opening::Opening;
 
 /// One shard of a cache, as a session over it alone, with the history of its calls. The history is one that a
 /// single thread could have made: it is legal from the opening state of the configuration, and ends in the
@@ -30,12 +26,12 @@ pub struct Book<
     W: Weighter<K, V>,
     A: Filter<K, V>,
     Q: Predicate<K, V> + Clone + Eq + Compared<K, V, P, C>,
-    C: Config + Eq,
+    C: Clone + Drop + Eq,
     I: Finder<K> = TagFinder<K>,
 > {
     session: Session<E, K, V, P, S, W, A, I>,
     // the configuration with which the book was opened
-    opening: Opening<RawCacheConfig<C, S, W, A>>,
+    opening: Past<RawCacheConfig<C, S, W, A>>,
     shards: usize,
     shard: usize,
     history: Vec<(Command<K, V, P, Q, C>, Reply<K, V, P>)>,
@@ -55,7 +51,7 @@ impl<
     W: Weighter<K, V>,
     A: Filter<K, V>,
     Q: Predicate<K, V> + Clone + Eq + Compared<K, V, P, C>,
-    C: Config + Eq,
+    C: Clone + Drop + Eq,
     I: Finder<K>,
 > Book<E, K, V, P, S, W, A, Q, C, I> {
     /// An empty book of the shard of this number of a cache of this configuration, with that shard's capacity.
@@ -73,7 +69,7 @@ impl<
         if config.shards == 0 {
             return Err(Error::new(Reason::NoShards));
         }
-        let opening = Opening::of(&config);
+        let opening = Past::of(&config);
         let shards = config.shards;
         let capacity = shard_capacity(config.capacity, shards, shard);
         let one_shard = RawCacheConfig {
@@ -184,7 +180,7 @@ fn carry_out<
     W: Weighter<K, V>,
     A: Filter<K, V>,
     Q: Predicate<K, V> + Clone + Eq + Compared<K, V, P, C>,
-    C: Config + Eq,
+    C: Clone + Drop + Eq,
     I: Finder<K>,
 >(
     session: &mut Session<E, K, V, P, S, W, A, I>,
@@ -224,7 +220,7 @@ fn lives_elsewhere<
     W: Weighter<K, V>,
     A: Filter<K, V>,
     Q: Predicate<K, V> + Clone + Eq + Compared<K, V, P, C>,
-    C: Config + Eq,
+    C: Clone + Drop + Eq,
     I: Finder<K>,
 >(
     session: &Session<E, K, V, P, S, W, A, I>,

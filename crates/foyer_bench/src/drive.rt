@@ -95,7 +95,7 @@ fn put_in<E: Eviction, S: HashBuilder>(
     key: u64,
     leaves: &mut Vec<Leave<u64, u64, CacheProperties>>,
 ) -> Result<()> {
-    match core.insert_onto(key, key, leaves) {
+    match core.insert_with_properties_onto(key, key, CacheProperties::default(), leaves) {
         Ok(made) => {
             let InsertedOnto { entry, answers } = made;
             core.drop_answers(answers);

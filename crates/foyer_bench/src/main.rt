@@ -142,7 +142,10 @@ fn on_core<R: AllocGlobal + Clock + Eprint, E: Eviction, S: HashBuilder + Defaul
     args: &BenchArgs,
     traces: &[Vec<u64>],
     progress: &mut Progress,
-) -> Result<Report, Failure> {
+) -> Result<Report, Failure>
+where
+    E::Config: Default,
+{
     let Some(keys) = traces.first() else {
         return Err(Failure::Arguments);
     };
@@ -158,7 +161,10 @@ fn on_core<R: AllocGlobal + Clock + Eprint, E: Eviction, S: HashBuilder + Defaul
 fn shared<'a, R: AllocGlobal + Wait, E: Eviction, S: HashBuilder + Default>(
     rt: &'a R,
     args: &BenchArgs,
-) -> Result<RawCache<&'a R, E, u64, u64, S>, Failure> {
+) -> Result<RawCache<&'a R, E, u64, u64, S>, Failure>
+where
+    E::Config: Default,
+{
     let config = RawCacheConfig {
         shards: args.shards as usize,
         ..RawCacheConfig::new(args.capacity as usize)

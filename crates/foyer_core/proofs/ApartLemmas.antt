@@ -209,9 +209,3 @@ module _ {K V P View N R T E : Type 0} (f : Opens K N R) (old new : State K V P 
       ((ls : List (Event × Gone K V P)) → B ls → Apart new.index f) → Apart new.index f
   goes_apart before after (Ok t) done refused so not_so = so done.more done.so
   goes_apart before after (Err e) done refused so not_so = not_so refused.more refused.so
-
-pub option_apart : {K V P View N R T E : Type 0} (f : Opens K N R) (new : State K V P View) (r : Result T E)
-    {A : T → Type 0} {B : E → Type 0} → IfOk r A → IfErr r B
-    → ((t : T) → A t → Apart new.index f) → ((e : E) → B e → Apart new.index f) → Apart new.index f
-option_apart f new (Ok t) done refused so not_so = so t done
-option_apart f new (Err e) done refused so not_so = not_so e refused

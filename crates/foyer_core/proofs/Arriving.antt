@@ -8,15 +8,18 @@ use Rattle.foyer_policy.specs.declared.error.Reason.{Reason}
 use Rattle.foyer_policy.specs.declared.types.Event.{Event}
 use Rattle.foyer_policy.specs.declared.types.Source.{Source}
 use Rattle.foyer_core.specs.declared.record.Data.{Data}
-use Rattle.foyer_core.specs.Core.{Core, shard_of}
-use Rattle.foyer_core.specs.CoreFetches.{AtOpen, CompletesAt, at_hash, open_in, replaced}
-use Rattle.foyer_core.specs.Fetching.{Arrives, ArrivesBack, CompletesBackBy, CompletesBy}
+use Rattle.foyer_core.specs.Core.{Core, shard_at, shard_of}
+use Rattle.foyer_core.specs.CoreFetches.{AtOpen, CompletesAt, PieceArrives, PieceCompletes, at_hash, is_of, open_in, replaced}
+use Rattle.foyer_core.specs.Fetching.{Arrives, CompletesBy}
 use Rattle.foyer_core.specs.Inflight.{Opens, OpenFetch, asked, closed}
+use Rattle.foyer_core.specs.PieceEnds.{CompletesPiece, CompletesPieceBy, PieceComes, comes_under}
+use Rattle.foyer_core.specs.Pieces.{is_known}
 use Rattle.foyer_core.specs.State.{Meaning, State}
 use Rattle.foyer_core.specs.Steps.{newcomer}
 use Rattle.foyer_core.specs.Values.{Carried, Gone, Held}
 use Rattle.foyer_core.specs.Waited.{Ending}
 use Rattle.foyer_core.proofs.Completing.{closed_alike}
+use Rattle.foyer_core.proofs.CoreLemmas.{set_same}
 
 -- two keys have one fetch, where they have in each shard
 pub place_alike : {X K N R : Type 0} (h : X → Opens K N R) (xs : List X) (hash : ℕ) (a b : K) →
@@ -115,15 +118,45 @@ module _ {K V P View C S W A N R : Type 0} (m : Meaning K P View C) (laws : IsEq
       completes_at step at (λ s. Arrives m source s (newcomer s d (length o.tokens))) did.found did.waiters
       did.arrives did.closes
 
-  -- with the record of an equal key for which a known piece stands
-  pub arrives_back_at : (piece : Carried K V P) →
-      AtOpen (λ s f t g. CompletesBackBy m (asked (Some fetch) (f.by_key (hash, own))) s f (hash, own) piece ended t
-      g) hash old fs new gs
-      → CompletesAt m (λ s. ArrivesBack m s piece (length o.tokens)) (hash, key) o ended old fs new gs
-  arrives_back_at piece at =
-      let step = λ (s : State K V P View) (f : Opens K N R) (t : State K V P View) (g : Opens K N R). CompletesBackBy
-      m (asked (Some fetch) (f.by_key (hash, own))) s f (hash, own) piece ended t g in
-      let did = subst
-      (λ (p : Option (OpenFetch N R)). CompletesBackBy m p at.before at.open_before (hash, own) piece ended at.after
-      at.open_after) (asked_is step at) at.stepped in
-      completes_at step at (λ s. ArrivesBack m s piece (length o.tokens)) did.found did.waiters did.arrives did.closes
+  -- with a piece, whose key has the hash `piece_hash`
+  module _ (weighs : ℕ → Type 0) (piece_hash : ℕ) (piece : Carried K V P) (home : Bool)
+      (at : AtOpen
+      (λ s f t g. CompletesPieceBy m (asked (Some fetch) (f.by_key (hash, own))) weighs piece_hash piece home s f
+      (hash, own) ended t g) hash old fs new gs) where
+    abbrev PieceStep : State K V P View → Opens K N R → State K V P View → Opens K N R → Type 0
+    PieceStep s f t g = CompletesPieceBy m (asked (Some fetch) (f.by_key (hash, own))) weighs piece_hash piece home s f
+        (hash, own) ended t g
+
+    abbrev Ends : Bool → Type 0
+    Ends b = PieceCompletes m b weighs piece_hash piece (hash, key) o ended old fs new gs
+
+    did : CompletesPiece m weighs piece_hash piece home at.before at.open_before (hash, own) o ended at.after
+        at.open_after
+    did = subst
+        (λ (p : Option (OpenFetch N R)). CompletesPieceBy m p weighs piece_hash piece home at.before at.open_before
+        (hash, own) ended at.after at.open_after) (asked_is PieceStep at) at.stepped
+
+    comes : (b : Bool) → PieceComes m b weighs piece_hash piece (length o.tokens) at.before ended.outcome ended.leaves
+        at.after → Ends b
+    comes true h = completes_at PieceStep at
+        (λ s. PieceArrives m (is_known s piece_hash piece) weighs piece_hash piece (length o.tokens) s) did.found
+        did.waiters h did.closes
+    comes false h = (
+      (
+        (λ j. record { found = did.found j; waiters = did.waiters j; outcome = h.0 j; leaves = h.1 j }),
+        closes_is PieceStep at did.closes,
+      ),
+      at.rest ∙ ap (λ (ss : List (State K V P View)). let c : Core K V P View S W A = record old { shards = ss } in c)
+          (ap (λ (s : State K V P View). slice_set old.shards (shard_of old hash) s) h.2
+          ∙ set_same old.shards (shard_of old hash) at.before at.there),
+    )
+
+    pub piece_ends_at : (x : State K V P View) → shard_at old hash ≡ Some x →
+        is_of m old piece_hash piece (hash, key) (Some x) ≡ comes_under m x piece_hash piece home (hash, own)
+        → Ends (is_of m old piece_hash piece (hash, key) (shard_at old hash))
+    piece_ends_at x there alike =
+        let same : x ≡ at.before = (let e : Some x ≡ Some at.before = sym there ∙ at.there in cc) in
+        subst Ends
+        (sym (ap (is_of m old piece_hash piece (hash, key)) there ∙ alike
+        ∙ ap (λ (z : State K V P View). comes_under m z piece_hash piece home (hash, own)) same))
+        (comes (comes_under m at.before piece_hash piece home (hash, own)) did.arrives)

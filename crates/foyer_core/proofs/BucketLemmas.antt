@@ -39,23 +39,6 @@ use Rattle.foyer_core.specs.declared.tags.buckets.Tag.{Tag}
 pub along : (P : (ℕ → Option Tag) → Type 0) (at at' : ℕ → Option Tag) → ((i : ℕ) → at' i ≡ at i) → P at → P at'
 along P at at' same p = let e : at' ≡ at = fun_ext same in subst P (sym e) p
 
--- a tag that names a slot
-module _ (u : Tag) where
-  pub named-some : u.slot ≢ 4294967295 → named (Some u) ≡ Some u
-  named-some some = elim (eqb_tells u.slot 4294967295) [
-    | inl h ↦ absurd (some h.1)
-    | inr h ↦ ap (λ (b : Bool). if b then None else Some u) h.0
-  ]
-
-  pub named-none : u.slot ≡ 4294967295 → named (Some u) ≡ None
-  named-none none = elim (eqb_tells u.slot 4294967295) [
-    | inl h ↦ ap (λ (b : Bool). if b then None else Some u) h.0
-    | inr h ↦ absurd (h.1 none)
-  ]
-
-pub named_below : (u : Tag) → u.slot < 4294967295 → named (Some u) ≡ Some u
-named_below u less = named-some u (λ e. omega arith)
-
 -- it is the one that was read
 pub named_twice : (o : Option Tag) (t : Tag) → named o ≡ Some t → named (Some t) ≡ Some t
 named_twice None t e = absurd (none-some t e)
@@ -84,14 +67,6 @@ get_set_other (y ∷ xs) zero zero x apart = absurd (apart refl)
 get_set_other (y ∷ xs) zero (suc j) x apart = refl
 get_set_other (y ∷ xs) (suc i) zero x apart = refl
 get_set_other (y ∷ xs) (suc i) (suc j) x apart = get_set_other xs i j x (λ e. apart (ap suc e))
-
--- a bucket is written
-pub put_set : (xs : List Tag) (i : ℕ) (x : Tag) → i < length xs
-    → IsPut (λ j. named (slice_get xs j)) (λ j. named (slice_get (set xs i x) j)) i (named (Some x))
-put_set xs i x within = record {
-  here = ap named (get_set xs i x within);
-  others = λ j apart. ap named (get_set_other xs i j x apart);
-}
 
 -- new buckets are empty
 pub named_replicate : (m : ℕ) (e : Tag) → named (Some e) ≡ None → (i : ℕ) → named (slice_get (replicate m e) i) ≡ None

@@ -204,12 +204,6 @@ module _ {T : Type 0} where
         linked = beside_list cells slot (Taken value) more next off (subst (IsFreeList cells more) same p.4);
       }
 
-  -- not all cells are free where one has a value
-  pub vacant_below : (cells : List (Cell T)) (vacant slot : ℕ) (link : Option ℕ) (value : T)
-      → AreCells cells vacant link → slice_get cells slot ≡ Some (Taken value) → vacant < length cells
-  vacant_below cells vacant slot link value sound there =
-      omega (arith, sound.counted, count_set cells slot (Taken value) (Free None) there)
-
   -- a cell is freed, and leads to the one that was freed before it
   pub AreCells-free : (cells : List (Cell T)) (vacant slot : ℕ) (link : Option ℕ) (value : T)
       → AreCells cells vacant link → slice_get cells slot ≡ Some (Taken value)

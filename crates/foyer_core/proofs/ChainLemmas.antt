@@ -275,13 +275,6 @@ module _ (shift : ℕ) (heads : List (Option ℕ)) (hashes : List ℕ) (nexts : 
         ∙ out_has i (home shift (get_or hashes i 0)) (home shift (get_or hashes i 0) == home_out)
         (i == p) refl refl refl
 
-    -- the place before it is that of a link
-    pub before_within : (q : ℕ) → before_in None p (chain_of heads nexts home_out) ≡ Some q → q < length nexts
-    before_within q before =
-        within nexts (get_or heads home_out None) (chain_of heads nexts home_out) q (are.path home_out)
-        (IsPath-without nexts (get_or heads home_out None) p q (chain_of heads nexts home_out) there before
-        (are.once home_out) (are.path home_out)).1
-
 -- ---- no place is in
 
 module _ (shift : ℕ) (heads : List (Option ℕ)) (hashes : List ℕ) (nexts : List (Option ℕ))

@@ -27,14 +27,6 @@ pub tells_not : (b : Bool) (A : Type 0) → b ≡ false ↔ A → not b ≡ true
 tells_not true A h = (λ e. absurd cc, λ a. let e = h.1 a in absurd cc)
 tells_not false A h = (λ e. h.0 refl, λ a. refl)
 
--- an id with a handle has a slot
-pub held_known : {K V P : Type 0} (t : Records K V P) (id : ℕ) → 0 < handles_of (record_in t id) →
-    is_some (number_of t id) ≡ true
-held_known t id = go (number_of t id) where
-  go : (o : Option ℕ) → 0 < handles_of (option_map rec_of (option_and_then (slot_in t) o)) → is_some o ≡ true
-  go None h = absurd (omega arith)
-  go (Some n) h = refl
-
 -- the record of an id that names a slot
 pub record_named : {K V P : Type 0} (t : Records K V P) (id n : ℕ) → number_of t id ≡ Some n → (x : Kept K V P) →
     slot_in t n ≡ Some x → record_in t id ≡ Some (rec_of x)
@@ -49,10 +41,6 @@ module _ {K V P View C : Type 0} (m : Meaning K P View C) where
       (IsPermutation-refl (m.policy.order s.view)) (λ j apart pos. pos)
       (stands_some s.limits.handles (count_of id (m.policy.pinned s.view)) r (r.handles + more)
       (inr (omega (arith, some))) (omega (arith, room)) (λ pos. omega (arith, some)))
-
-  pub handle_keeps : (s : State K V P View) → IsKept m s → (id : ℕ) (r : Rec K V P) → s.records id ≡ Some r →
-      r.handles < s.limits.handles → IsKept m (after_handle s id r)
-  handle_keeps s kept id r there room = handles_keep s kept id r 1 there (omega arith) (omega (arith, room))
 
   module _ (laws : IsEquivalence m.same) (good : IsPolicy m.policy) (o : Holding V m) (n : ℕ) (x : Kept K V P) where
     open o use {at, keys, t, number, capacity, limits, view, next, sound, stored}

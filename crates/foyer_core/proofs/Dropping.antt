@@ -136,9 +136,3 @@ module _ {K V P View C S W A : Type 0} (m : Meaning K P View C) where
         subst (λ (l : List (Held K V P)). Drops m (hash old.hash_builder) l old new) all d.drops,
         subst (λ (l : List (Held K V P)). HandlesStay (among old l) old new) all d.stay,
       )
-
-  -- where there is none, nothing changes
-  pub dropped_nobody : (hash : K → ℕ) (entries : List (Held K V P)) (old new : Core K V P View S W A) →
-      Drops m hash entries old new → entries ≡ [] → new ≡ old
-  dropped_nobody hash [] old new d none = d.ended.1
-  dropped_nobody hash (entry ∷ entries) old new d none = absurd cc

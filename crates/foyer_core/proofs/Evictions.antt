@@ -39,17 +39,6 @@ module _ {K V P View C : Type 0} (m : Meaning K P View C) where
   pub begun-start : (target : ℕ) (old : State K V P View) → Begun target old [] old
   begun-start target old = record { left = []; told = refl; leave = refl; view = refl }
 
-  pub begun-refused : (target : ℕ) (old : State K V P View) (ls : List (Event × Gone K V P)) (now : State K V P View)
-      → Begun target old ls now → Evicting m target old ls now
-  begun-refused target old ls now h =
-      record {
-        left = h.left;
-        rest = until target (usage_of m now) (pops m.policy now.view);
-        parts = h.told;
-        leave =
-            h.leave;
-      }
-
   -- where nothing more is to leave, all left
   begun-all : (target : ℕ) (old : State K V P View) (ls : List (Event × Gone K V P)) (now : State K V P View)
       (h : Begun target old ls now)

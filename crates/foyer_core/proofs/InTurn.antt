@@ -14,9 +14,6 @@ module _ {S L : Type 0} (step : S → List L → S → Type 0) where
   InFirst (suc n) (s ∷ ss) ls (t ∷ ts) = (own : List L) × (rest : List L) × (ls ≡ own ++ rest) × step s own t
       × InFirst n ss rest ts
 
-  pub first-start : (ss : List S) → InFirst 0 ss [] ss
-  first-start ss = (refl, refl)
-
   -- the next one makes its step
   pub first-more : (n : ℕ) (ss : List S) (ls : List L) (ts : List S) (s t : S) (own : List L) → InFirst n ss ls ts →
       slice_get ts n ≡ Some s → step s own t

@@ -37,19 +37,11 @@ module _ {K : Type 0} where
 
 module _ {K : Type 0} {eq : K → K → Bool} (laws : IsEquivalence eq) (view : ℕ × K → Option ℕ) (numbers : List ℕ)
     (are : AreNumbersOf eq view numbers) where
-  -- each number that is under a key is there
-  pub number_of_key : (q : ℕ × K) (n : ℕ) → view q ≡ Some n → Contains numbers n
-  number_of_key q n is = rw are.values (listed (same_key eq q) are.entries n (sym (are.complete q) ∙ is))
-
   key_of_place : (k n : ℕ) → k < length numbers → get_or numbers k n ≡ n → (q : ℕ × K) × (view q ≡ Some n)
       × (slice_get are.entries k ≡ Some (q, n))
   key_of_place k n lt is =
       let e = entry_at are.entries k n (rw are.values at lt) (rw are.values at is) in
       (e.0, are.complete e.0 ∙ lookup_from_place (same_key_equiv laws) are.entries k e.0 n are.distinct e.1, e.1)
-
-  -- each number that is there is under a key
-  pub key_of_number : (n : ℕ) → Contains numbers n → (q : ℕ × K) × (view q ≡ Some n)
-  key_of_number n has = let e = key_of_place has.0 n has.1 has.2 in (e.0, e.1)
 
   -- the keys of two places differ
   places_differ : (i j n : ℕ) (p q : ℕ × K) → i < j → j < length (keys_of are.entries) → slice_get are.entries i
@@ -67,17 +59,3 @@ module _ {K : Type 0} {eq : K → K → Bool} (laws : IsEquivalence eq) (view : 
       let far : j < length (keys_of are.entries) =
       omega (arith, length-keys_of are.entries, length-values_of are.entries, ap length are.values) in
       true≢false (sym (one p.0 q.0 n p.1 q.1) ∙ places_differ i j n p.0 q.0 lt far p.2 q.2)
-
-  -- where no two keys have one number, no two numbers are equal
-  pub IsDistinct-numbers : ((p q : ℕ × K) (n : ℕ) → view p ≡ Some n → view q ≡ Some n → same_key eq p q ≡ true) →
-      IsDistinct nat_eq numbers
-  IsDistinct-numbers one = IsDistinct-from_apart nat_eq numbers
-      (λ i j d lt within. apart i j d lt within (nat_eq (get_or numbers i d) (get_or numbers j d)) refl) where
-        apart : (i j d : ℕ) → i < j → j < length numbers → (b : Bool) → nat_eq (get_or numbers i d) (get_or numbers j d)
-            ≡ b → b ≡ false
-        apart i j d lt within false is = refl
-        apart i j d lt within true is =
-            let same : get_or numbers i d ≡ get_or numbers j d = grind (arith, nat_tests) in
-            let n : ℕ = get_or numbers i d in
-            absurd (numbers_differ one i j n lt within (get_or_default numbers i n d (omega arith))
-            (get_or_default numbers j n d within ∙ sym same))

@@ -507,23 +507,10 @@ module _ {N R : Type 0} where
   open_asked id None h = absurd h
   open_asked id (Some o) h = (o, refl, rw (eq-eqb o.fetch id h) refl)
 
-  -- and where it is not
-  pub not_asked : (id : ℕ) (p : Option (OpenFetch N R)) → (IsSomeAnd p (λ o. o.fetch ≡ id) → ⊥) → asked (Some id) p ≡ None
-  not_asked id None h = refl
-  not_asked id (Some o) h = go (eqb_tells o.fetch id) where
-    go : ((nat_eq o.fetch id ≡ true) × (o.fetch ≡ id)) ⊎ ((nat_eq o.fetch id ≡ false) × (o.fetch ≢ id)) →
-        (if o.fetch == id then Some o else None) ≡ None
-    go (inl e) = absurd (h e.1)
-    go (inr e) = rw e.0 refl
-
 module _ {K N R : Type 0} (eq : K → K → Bool) (f : Opens K N R) (k : ℕ × K) (o : OpenFetch N R)
     (there : f.by_key k ≡ Some o) where
   abbrev bare : OpenFetch N R
   bare = record { fetch = o.fetch; tokens = o.tokens; later = None }
-
-  -- a fetch found nothing, and goes on with the builder that is kept
-  pub nothing_kept : is_some o.later ≡ true → with_open eq f k (Some bare) ≡ after_nothing eq f k
-  nothing_kept some = ap (with_open eq f k) (sym (ap (option_and_then without_later) there ∙ rw some refl))
 
   -- or is closed
   pub nothing_taken : is_some o.later ≡ false → closed eq (with_open eq f k (Some bare)) k ≡ after_nothing eq f k

@@ -58,17 +58,6 @@ module _ {K V P View C : Type 0} (m : Meaning K P View C) where
       (is ∙ ap (λ (b : Bool). coming_in location with_phantom b p) sure
       ∙ comes_same m.phantom location with_phantom p plain) ∙ plain.0
 
-  -- and so it comes in as a plain one
-  pub came_plain : (location : P → Option Location) (with_phantom : P → Bool → P) (admitted : Bool) (p : P) →
-      MakesPlain m.phantom location p → admitted ≡ true
-      → (source : Source) (old new : State K V P View) (inc : Incoming K V P) (ls : List (Event × Gone K V P))
-      (entry : Held K V P) → inc.kept.properties ≡ coming_in location with_phantom admitted p →
-      Inserts m source old inc ls entry new
-      → InsertsPlain m source old inc ls entry new
-  came_plain location with_phantom admitted p plain sure source old new inc ls entry is h =
-      subst (λ (b : Bool). InsertsBy m b source old inc ls entry new)
-      (made_plain location with_phantom admitted p plain sure inc.kept is) h
-
   -- and where a piece's record comes in
   pub returns_stay : (old new : State K V P View) (piece : Carried K V P) (more : ℕ) (ls : List (Event × Gone K V P))
       (entry : Held K V P) → Returns m old piece more ls entry new → RecordsStay nothing old new

@@ -158,14 +158,6 @@ module _ {K V P View C : Type 0} (m : Meaning K P View C) where
         (leave_any_view Evict (ids_of is) (after_out m old i.id h.0) p.0 ls (after_pops m.policy (length is) p.0) new
         onward)
 
-    pub evicting_keeps : (target : ℕ) (old : State K V P View) (ls : List (Event × Gone K V P))
-        (new : State K V P View) → IsKept m old → Evicting m target old ls new → IsKept m new
-    evicting_keeps target old ls new kept h =
-        let b = until_begins target (weight_of (m.policy.order old.view)) (pops m.policy old.view) in
-        let parts : h.left ++ (h.rest ++ b.0) ≡ pops m.policy old.view = sym (append_assoc h.left h.rest b.0)
-        ∙ ap (λ (l : List Item). l ++ b.0) h.parts ∙ b.1 in
-        leave_pops_keep h.left (h.rest ++ b.0) old ls new kept parts h.leave
-
     pub evicts_keeps : (target : ℕ) (old : State K V P View) (ls : List (Event × Gone K V P)) (new : State K V P View)
         → IsKept m old → Evicts m target old ls new → IsKept m new
     evicts_keeps target old ls new kept h =

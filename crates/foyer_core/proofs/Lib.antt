@@ -1,13 +1,12 @@
 pub mod AdmitLemmas
 pub mod Answered
-pub mod AnsweredOnto
-pub mod AnsweredPieces
 pub mod ApartLemmas
 pub mod Arriving
 pub mod ArrivingPieces
 pub mod Asked
 pub mod BucketLemmas
 pub mod CallsTold
+pub mod Cases
 pub mod CellLemmas
 pub mod ChainLemmas
 pub mod Clearing
@@ -21,7 +20,6 @@ pub mod Counting
 pub mod Dropping
 pub mod Emplaced
 pub mod EndLaws
-pub mod EndTold
 pub mod EntryLemmas
 pub mod Evictions
 pub mod FetchesOver
@@ -62,6 +60,7 @@ pub mod Phantoms
 pub mod Picking
 pub mod PieceBounds
 pub mod PieceCalls
+pub mod PieceComing
 pub mod PieceLaws
 pub mod PieceTold
 pub mod PinLemmas
@@ -97,3 +96,4 @@ pub mod Views
 pub mod WaitedLemmas
 pub mod Weights
 pub mod Zips
+pub mod Taking

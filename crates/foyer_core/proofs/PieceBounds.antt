@@ -9,16 +9,13 @@ use Rattle.foyer_policy.specs.Policy.{IsPolicy}
 use Rattle.foyer_policy.specs.declared.types.Event.{Event}
 use Rattle.foyer_policy.specs.declared.types.Source.{Source}
 use Rattle.foyer_policy.specs.declared.types.Source.TheVariants.{Memory}
-use Rattle.foyer_core.specs.declared.outcome.Inserted.{Inserted}
-use Rattle.foyer_core.specs.declared.outcome.Refused.{Refused}
 use Rattle.foyer_core.specs.declared.record.Data.{Data}
 use Rattle.foyer_core.specs.Core.{Core, AtShard, shard_at}
 use Rattle.foyer_core.specs.Laws.{IsBounded, IsBoundedAt, IsOutside}
 use Rattle.foyer_core.specs.Pieces.{InsertsPiece, PieceBy, ReturnsBy, is_in, is_known, returning}
 use Rattle.foyer_core.specs.State.{Meaning, State, IsKept, is_phantom_record}
 use Rattle.foyer_core.specs.Steps.{Inserts, InsertsBy, InsertsPlain, newcomer}
-use Rattle.foyer_core.specs.Values.{Carried, Gone, Held, Incoming, Made}
-use Rattle.foyer_core.specs.Waited.{insertion_of, made_of}
+use Rattle.foyer_core.specs.Values.{Carried, Denied, Gone, Held, Incoming, Made}
 use Rattle.foyer_core.proofs.CoreLaws.{now_here}
 use Rattle.foyer_core.proofs.InsertLemmas.{usage_after}
 use Rattle.foyer_core.proofs.Returning.{inserted_entry}
@@ -54,25 +51,25 @@ module _ {K V P View C : Type 0} (m : Meaning K P View C) (laws : IsEquivalence 
         made.entry h.2 plain
 
 -- so for a core
-pub piece_bounds : {K V P View C S W A N : Type 0} (m : Meaning K P View C) (laws : IsEquivalence m.same)
+pub piece_bounds : {K V P View C S W A : Type 0} (m : Meaning K P View C) (laws : IsEquivalence m.same)
     (good : IsPolicy m.policy) (old new : Core K V P View S W A)
     → ((s : State K V P View) (hash : ℕ) → shard_at old hash ≡ Some s → ∥ IsKept m s ∥₁) →
     (weighs : ℕ → Type 0) (hash : ℕ) (piece : Carried K V P) (more : State K V P View → ℕ)
-    (result : Result (Inserted K V P N) (Refused K V P))
-    → AtShard (λ s t. InsertsPiece m weighs hash piece (more s) (insertion_of result) s t) hash old new
+    (result : Result (Made K V P) (Denied K V P))
+    → AtShard (λ s t. InsertsPiece m weighs hash piece (more s) result s t) hash old new
     → IfOk result
     (λ made. is_phantom_record m made.entry.kept ≡ false → IsOutside old hash made.entry.id →
     IsBoundedAt m hash made.entry.kept.weight old new)
-piece_bounds {K} {V} {P} {View} {C} {S} {W} {A} {N} m laws good old new kept weighs hash piece more (Ok made) at =
+piece_bounds {K} {V} {P} {View} {C} {S} {W} {A} m laws good old new kept weighs hash piece more (Ok made) at =
     λ plain outside s t there gone.
     let was : at.before ≡ s = same at.before s (sym at.there ∙ there) in
     let now : at.after ≡ t = same at.after t
-    (sym (now_here old new (λ a b. InsertsPiece m weighs hash piece (more a) (Ok (made_of made)) a b) hash at hash
-    refl) ∙ gone) in
+    (sym (now_here old new (λ a b. InsertsPiece m weighs hash piece (more a) (Ok made) a b) hash at hash refl)
+    ∙ gone) in
     subst (λ (a : State K V P View). IsBounded m made.entry.kept.weight a t) was
     (subst (λ (b : State K V P View). IsBounded m made.entry.kept.weight at.before b) now
     (piece_bound m laws good at.before at.after (kept at.before hash at.there) weighs hash piece (more at.before)
-    (made_of made) at.stepped plain (outside at.before at.there))) where
+    made at.stepped plain (outside at.before at.there))) where
       same : (a b : State K V P View) → Some a ≡ Some b → a ≡ b
       same a b h = cc
-piece_bounds m laws good old new kept weighs hash piece more (Err refused) at = tt
+piece_bounds m laws good old new kept weighs hash piece more (Err denied) at = tt

@@ -1,60 +1,21 @@
--- What a core's insert of a piece is, where its shard knows the piece, and where it does not.
+-- A plain record that came in by a piece stands under its key.
 use Rattle.std.proofs.Common.{◌≡◌, ℕ, ◌+◌, List, Some, Ok, Bool, true, false, true≢false, refl, sym, ◌∙◌, ap, subst}
 use Rattle.std.proofs.Math.Logic.{∥∥₁_elim}
 use Rattle.std.proofs.Props.{props}
-use Rattle.std.specs.Prelude.{Result}
 use Rattle.std.specs.Cmp.{IsEquivalence}
 use Rattle.std.proofs.lemmas.Map.{update_here}
 use Rattle.foyer_policy.specs.Policy.{IsPolicy}
 use Rattle.foyer_policy.specs.declared.types.Event.{Event}
 use Rattle.foyer_policy.specs.declared.types.Source.{Source}
 use Rattle.foyer_policy.specs.declared.types.Source.TheVariants.{Memory}
-use Rattle.foyer_core.specs.Core.{Core, AtShard, InsertsAnswering, shard_at}
 use Rattle.foyer_core.specs.Indexer.{same_key}
-use Rattle.foyer_core.specs.Pieces.{GainsHandles, InsertsPiece, PieceBy, ReturnsAnswering, ReturnsBy, is_in, is_known, returning}
+use Rattle.foyer_core.specs.Pieces.{GainsHandles, InsertsPiece, PieceBy, ReturnsBy, is_in, is_known, returning}
 use Rattle.foyer_core.specs.State.{Meaning, State, IsKept, key_of, is_phantom_record}
 use Rattle.foyer_core.specs.Steps.{Inserts, InsertsBy, newcomer}
-use Rattle.foyer_core.specs.Values.{Carried, Denied, Gone, Held, Incoming, Made, Rec}
+use Rattle.foyer_core.specs.Values.{Carried, Gone, Held, Incoming, Made, Rec}
 use Rattle.foyer_core.specs.declared.record.Data.{Data}
 use Rattle.foyer_core.proofs.CoreLaws.{Stands, came_stands}
 use Rattle.foyer_core.proofs.Keeps.{counted_there}
-
-module _ {K V P View C S W A : Type 0} (m : Meaning K P View C) (weighs : ℕ → Type 0) (hash : ℕ)
-    (piece : Carried K V P) (more : State K V P View → ℕ) (result : Result (Made K V P) (Denied K V P))
-    (old new : Core K V P View S W A) (x : State K V P View) (there : shard_at old hash ≡ Some x) where
-  same_state_of : (s : State K V P View) → shard_at old hash ≡ Some s → x ≡ s
-  same_state_of s h = (let e : Some x ≡ Some s = sym there ∙ h in cc)
-
-  -- `own` says how many handles it gets, as its shard does
-  by_step : (b : Bool) → is_known x hash piece ≡ b → (own : State K V P View → ℕ) → own x ≡ more x →
-      AtShard (λ s t. PieceBy m b weighs hash piece (own s) result s t) hash old new
-      → AtShard (λ s t. InsertsPiece m weighs hash piece (more s) result s t) hash old new
-  by_step b known own counts at = record {
-    before = at.before;
-    after = at.after;
-    there = at.there;
-    stepped =
-        let here : x ≡ at.before = same_state_of at.before at.there in
-        let is : is_known at.before hash piece ≡ b = ap (λ (s : State K V P View). is_known s hash piece) (sym here)
-        ∙ known in
-        let count : own at.before ≡ more at.before = subst (λ (s : State K V P View). own s ≡ more s) here counts in
-        subst (λ (n : ℕ). InsertsPiece m weighs hash piece n result at.before at.after) count
-        (subst (λ (c : Bool). PieceBy m c weighs hash piece (own at.before) result at.before at.after) (sym is)
-        at.stepped);
-    rest = at.rest;
-  }
-
-  pub known_inserts : is_known x hash piece ≡ true → (own : State K V P View → ℕ) → own x ≡ more x →
-      AtShard (λ s t. ReturnsAnswering m s piece (own s) result t) hash old new
-      → AtShard (λ s t. InsertsPiece m weighs hash piece (more s) result s t) hash old new
-  known_inserts known own counts at = by_step true known own counts at
-
-  pub foreign_inserts : is_known x hash piece ≡ false → (own : State K V P View → ℕ) → own x ≡ more x
-      → AtShard
-      (λ s t. (weight : ℕ) × weighs weight × InsertsAnswering m Memory s
-      (newcomer s (record piece.kept { hash = hash; weight = weight }) (own s)) result t) hash old new
-      → AtShard (λ s t. InsertsPiece m weighs hash piece (more s) result s t) hash old new
-  foreign_inserts known own counts at = by_step false known own counts at
 
 -- a plain record that came in by a piece is hit by equal keys
 module _ {K V P View C : Type 0} (m : Meaning K P View C) (laws : IsEquivalence m.same) (good : IsPolicy m.policy)

@@ -2,6 +2,7 @@
 use Rattle.std.proofs.Common.{◌≡◌, ℕ, ◌%◌, List, Option, Some, None, Ok, Err, Bool, true, false, cond, refl, sym, ◌∙◌, ap, subst, arith}
 use Rattle.std.proofs.Math.Logic.{∥∥₁_elim}
 use Rattle.std.proofs.Props.{props}
+use Rattle.std.specs.Prelude.{IfOk, Result, if◌then◌else◌}
 use Rattle.std.specs.Cmp.{IsEquivalence}
 use Rattle.std.specs.Map.{update}
 use Rattle.std.proofs.lemmas.Bool.Decides.{nat_tests}
@@ -11,7 +12,7 @@ use Rattle.foyer_policy.specs.declared.types.Source.TheVariants.{Memory}
 use Rattle.foyer_core.specs.declared.record.Data.{Data}
 use Rattle.foyer_core.specs.Indexer.{same_key}
 use Rattle.foyer_core.specs.Observed.{after_entry, after_leaves}
-use Rattle.foyer_core.specs.Pieces.{GainsHandles, InsertsPiece, PieceBy, RefusesReturnBy, ReturnsBy, held_or, is_in, is_known, returning}
+use Rattle.foyer_core.specs.Pieces.{GainsHandles, InsertsPiece, PieceBy, RefusesReturnBy, ReturnsBy, coming_under, held_or, is_in, is_known, returning}
 use Rattle.foyer_core.specs.State.{Meaning, State, IsKept, AllData, key_of, is_phantom_record}
 use Rattle.foyer_core.specs.Steps.{Inserts, InsertsBy, RefusesInsert, newcomer}
 use Rattle.foyer_core.specs.Values.{Carried, Denied, Gone, Held, Incoming, Made, Rec}
@@ -40,6 +41,16 @@ module _ {K V P View C : Type 0} (m : Meaning K P View C) (laws : IsEquivalence 
           (ap (λ (h : ℕ). h % many) hashed ∙ here, hashed))
       go (Some r) is = at piece.id r is
 
+    -- so does what it comes in under
+    pub under_at : ((coming_under s (hash piece.kept.key) piece).0 % many ≡ place)
+        × ((coming_under s (hash piece.kept.key) piece).0 ≡ hash (coming_under s (hash piece.kept.key) piece).1)
+    under_at = go (is_known s (hash piece.kept.key) piece) refl where
+      go : (b : Bool) → is_known s (hash piece.kept.key) piece ≡ b
+          → (let k : ℕ × K = if b then key_of (held_or piece.kept (s.records piece.id))
+          else (hash piece.kept.key, piece.kept.key) in (k.0 % many ≡ place) × (k.0 ≡ hash k.1))
+      go true is = (let own = returning_at is in (own.0, own.1))
+      go false is = (here, refl)
+
     inserted_at : (inc : Incoming K V P) (ls : List (Event × Gone K V P)) (entry : Held K V P) (t : State K V P View)
         → At inc.kept → Inserts m Memory s inc ls entry t → At entry.kept
     inserted_at inc ls entry t comes h = go (is_phantom_record m inc.kept) h where
@@ -61,6 +72,12 @@ module _ {K V P View C : Type 0} (m : Meaning K P View C) (laws : IsEquivalence 
       go true is h = known (is_in (s.records piece.id)) is h
       go false is h = inserted_at (newcomer s (record piece.kept { hash = hash piece.kept.key; weight = h.0 }) more)
           made.leaves made.entry t (here, refl) h.2
+
+    pub piece_here : (weighs : ℕ → Type 0) (r : Result (Made K V P) (Denied K V P)) (t : State K V P View) →
+        InsertsPiece m weighs (hash piece.kept.key) piece more r s t
+        → IfOk r (λ made. made.entry.kept.hash % many ≡ place)
+    piece_here weighs (Ok made) t h = (piece_at weighs made t h).0
+    piece_here weighs (Err denied) t h = tt
 
     module _ (kept : ∥ IsKept m s ∥₁) (t : State K V P View) where
       -- a record that gains a handle is known under its key

@@ -142,13 +142,6 @@ module _ (at at' : ℕ → Option Tag) (b : ℕ) (put : IsPut at at' b None) whe
       let apart : i ≢ b = λ e. none-some u (sym put.here ∙ ap at' (sym e) ∙ is) in
       (apart, sym (put.others i apart) ∙ is)
 
-  pub probed_taken : (bits : ℕ) → IsProbed bits at → IsProbedBut b bits at'
-  probed_taken bits probed = record {
-    behind = λ i u is. probed.behind i u (stays i u is).1;
-    full = λ i j u is from less apart none. probed.full i j u (stays i u is).1 from less
-        (sym (put.others j apart) ∙ none);
-  }
-
   pub once_taken : IsOnce at → IsOnce at'
   once_taken once i j u v is there same = once i j u v (stays i u is).1 (stays j v there).1 same
 
@@ -242,9 +235,6 @@ module _ (at mid at' : ℕ → Option Tag) (from gap : ℕ) (t : Tag) (less : ga
     before = λ end less'. source (λ i u. i < end) (let inside : from < end = less' from t was in omega arith)
         (λ i u other apart is. less' i u is);
   }
-
-pub moved_refl : (n : ℕ) (at : ℕ → Option Tag) → IsMoved n at at
-moved_refl n at = record { parts = λ slot. refl; count = refl; before = λ end before. before }
 
 pub moved_trans : (n : ℕ) (at mid at' : ℕ → Option Tag) → IsMoved n at mid → IsMoved n mid at' → IsMoved n at at'
 moved_trans n at mid at' a b = record {

@@ -32,11 +32,6 @@ out_new m s kept id out = zero_of (count_of id (m.policy.order s.view)) (λ pos.
     let old = kept.placed j.0 (subst (λ (a : ℕ). find_id a (m.policy.order s.view) ≡ Some j.0) (sym same) j.1) in
     absurd (true≢false (sym old.2 ∙ out old.0 (ap s.records (sym same) ∙ old.1))))
 
--- the next id has no record
-pub next_out : {K V P View C : Type 0} (m : Meaning K P View C) (s : State K V P View) → IsKept m s → (r : Rec K V P)
-    → s.records s.next ≡ Some r → r.resident ≡ false
-next_out m s kept r there = absurd (let f = kept.fresh s.next r there in omega arith)
-
 module _ {K V P View C : Type 0} (m : Meaning K P View C) (laws : IsEquivalence m.same) (good : IsPolicy m.policy)
     (s : State K V P View) (kept : IsKept m s) (i : Incoming K V P)
     (out_of : (r : Rec K V P) → s.records i.id ≡ Some r → r.resident ≡ false)

@@ -13,17 +13,6 @@ module _ {K V P View C : Type 0} (m : Meaning K P View C) (s : State K V P View)
     (weight : r ≡ Some Weight ↔
     (HasId s inc.id × (inc.handles ≤ s.limits.handles)
     × (2 ^ 64 ≤ inc.kept.weight + pinned_beside m s (key_of inc.kept)))) where
-  -- where there is none, there is an id, the handles may be, and the weight fits
-  pub not_refused : r ≡ None → MayInsert m s inc
-  not_refused none =
-      let not_ids : ¬ LacksId s inc.id = λ h. (let e = ids.1 h in absurd cc) in
-      let number : HasId s inc.id = omega arith in
-      let not_handles : ¬ (s.limits.handles < inc.handles) = λ h. (let e = handles.1 (number, h) in absurd cc) in
-      let handle : inc.handles ≤ s.limits.handles = omega arith in
-      let not_weight : ¬ (2 ^ 64 ≤ inc.kept.weight + pinned_beside m s (key_of inc.kept)) =
-      λ h. (let e = weight.1 (number, handle, h) in absurd cc) in
-      (number, handle, omega arith)
-
   -- and one that is stands as the insert's
   pub refused : (reason : Reason) → r ≡ Some reason → (reason ≡ Ids) ⊎ ((reason ≡ Handles) ⊎ (reason ≡ Weight)) →
       RefusesPlain m s inc reason [] s

@@ -61,9 +61,6 @@ module _ {K V P View C : Type 0} (m : Meaning K P View C) (laws : IsEquivalence 
         ap (λ (l : List Item). length l + 1) (good.remove_order view x.id)
         ∙ length-remove_id x.id (item_of m x.id f.0.kept) (m.policy.order view) f.4
 
-    pub removed_fewer : (entries : ℕ) → entries ≡ length (m.policy.order view) → 1 ≤ entries
-    removed_fewer entries h = ∥∥₁_elim sound (hlevel props) (λ k'. omega (arith, shorter_by k'))
-
     pub removed_entries : (entries : ℕ) → entries ≡ length (m.policy.order view) → entries - 1
         ≡ length (m.policy.order (m.policy.remove view x.id))
     removed_entries entries h = ∥∥₁_elim sound (hlevel props) (λ k'. omega (arith, shorter_by k'))

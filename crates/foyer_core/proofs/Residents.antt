@@ -269,10 +269,6 @@ module _ {K V P View C : Type 0} (m : Meaning K P View C) (laws : IsEquivalence 
       (let p = k'.placed i found in ap (λ (j : Item). j.weight) p.4 ∙ ap weight_at (sym p.1))) in
       slots ∙ sums_alike weight (entries t.slots) (m.policy.order view) (counted_by k') ∙ sym items
 
-  -- the weights of the slots' records make the usage
-  pub slots_weigh : sum_by weight_in (entries t.slots) ≡ weight_of (m.policy.order view)
-  slots_weigh = ∥∥₁_elim sound (hlevel props) weighed_by
-
   -- what the index holds stands in the order
   resident_by : IsKept m now → (id : ℕ) (r : Rec K V P) → now.records id ≡ Some r → r.resident ≡ true →
       0 < count_of id (m.policy.order view)

@@ -23,9 +23,6 @@ module _ {K V P View C : Type 0} (m : Meaning K P View C) (told : ℕ → State 
         ≡ Some (after_update m s (told i s) config)
     pub left : (i : ℕ) → n ≤ i → slice_get new i ≡ slice_get old i
 
-  pub updated-start : (old : List (State K V P View)) → UpdatedFirst 0 old old
-  updated-start old = record { counted = refl; done = λ i s less there. absurd (omega arith); left = λ i more. refl }
-
   updated-more : (n : ℕ) (old now : List (State K V P View)) (s : State K V P View) → UpdatedFirst n old now →
       slice_get now n ≡ Some s
       → UpdatedFirst (n + 1) old (slice_set now n (after_update m s (told n s) config))

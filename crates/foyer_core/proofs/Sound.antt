@@ -5,7 +5,6 @@ use Rattle.std.specs.declared.cmp.PartialEq.{Ghosts as EqGhosts}
 use Rattle.std.specs.declared.hash.Hash.{Ghosts as HashGhosts}
 use Rattle.std.specs.declared.clone.Clone.{Ghosts as CloneGhosts}
 use Rattle.std.specs.declared.default.Default.{Ghosts as DefaultGhosts}
-use Rattle.serde.specs.declared.ser.Described.{Ghosts as DescribedGhosts}
 use Rattle.foyer_policy.specs.Policy.{IsPolicy}
 use Rattle.foyer_policy.specs.declared.eviction.Eviction.{Ghosts as EvictionGhosts}
 use Rattle.foyer_policy.specs.declared.hash.HashBuilder.{Ghosts as HashBuilderGhosts}
@@ -18,11 +17,10 @@ use Rattle.foyer_core.specs.Cores.{core_of, hashes_of, meaning_of_core}
 use Rattle.foyer_core.specs.Shards.{state_of}
 use Rattle.foyer_core.proofs.CoreTold.{AreSound, sound_over}
 
-module _ {E K V P S W A N R I C X : Type 0} {e : EvictionGhosts E C X} {e1 : CloneGhosts C} {e2 : DefaultGhosts C}
-    {e3 : DescribedGhosts C} {e4 : DefaultGhosts X}
+module _ {E K V P S W A N R I C : Type 0} {e : EvictionGhosts E C}
     {q : EqGhosts K} {h : HashGhosts K} {c : CloneGhosts K} {p : PropertiesGhosts P} {d : DefaultGhosts P}
     {b : HashBuilderGhosts S} {w : WeighterGhosts W K V} {f : FilterGhosts A K V} {i : FinderGhosts I K} where
-  pub core_sound : (s : CacheCore E K V P S W A N R I C X e e1 e2 e3 e4 q h c p d b w f i) (laws : IsEquivalence q.eq)
+  pub core_sound : (s : CacheCore E K V P S W A N R I C e q h c p d b w f i) (laws : IsEquivalence q.eq)
       (good : IsPolicy e.model) (equal : (x y : K) → q.eq x y ≡ true → hashes_of s x ≡ hashes_of s y)
       → AreSound (meaning_of_core s) laws good (hashes_of s) equal (length (core_of s).shards) (core_of s).shards
   core_sound s laws good equal = sound_over (meaning_of_core s) laws good (hashes_of s) equal state_of s.shards.items

@@ -17,10 +17,6 @@ pub some_of : {A : Type 0} (o : Option A) → is_some o ≡ true → (a : A) × 
 some_of None h = absurd cc
 some_of (Some a) h = (a, refl)
 
-pub some_in : {A : Type 0} (o : Option A) → IsSome o → (a : A) × (o ≡ Some a)
-some_in None h = absurd cc
-some_in (Some a) h = (a, refl)
-
 -- a result that is this error
 pub err_is : {A E : Type 0} (r : Result A E) (x : E) (Goal : Result A E → Type 0) → IsErrAnd r (λ e. e ≡ x) →
     Goal (Err x) → Goal r

@@ -40,13 +40,6 @@ module _ {K : Type 0} {eq : K → K → Bool} (laws : IsEquivalence eq) (leads :
     go None e back under = absurd (none-some s back)
     go (Some q) e back under = (q, e, back, same_Some (fingerprint q.0) part under)
 
-  -- a slot to which no key leads is not in
-  pub not_in : (s : ℕ) → ((q : ℕ × K) → leads q ≢ Some s) → slots s ≡ None
-  not_in s never = go (slots s) refl where
-    go : (o : Option ℕ) → slots s ≡ o → slots s ≡ None
-    go None e = e
-    go (Some part) e = let w = key_of_slot s part e in absurd (never w.0 w.2)
-
   -- what a question finds is the slot of the key
   module _ (k : ℕ × K) (post : ℕ → Bool → Type 0)
       (told : (q : ℕ × K) (s : ℕ) (answer : Bool) → leads q ≡ Some s → post s answer → answer ≡ same_key eq q k) where

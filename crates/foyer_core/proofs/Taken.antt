@@ -46,9 +46,6 @@ module _ (xs ys : List Item) (i : Item) (once : HasIdsOnce xs) (perm : IsPermuta
     weight = sum_by_popped (λ (j : Item). j.weight) i xs ys perm;
   }
 
-pub taken_shorter : (xs ys : List Item) (i : Item) → IsPermutation xs (i ∷ ys) → length ys + 1 ≡ length xs
-taken_shorter xs ys i perm = omega (arith, length_permutation xs (i ∷ ys) perm)
-
 module _ (xs : List Item) (i : Item) (once : HasIdsOnce xs) (here : find_id i.id xs ≡ Some i) where
   removed_new : IsNewIn i.id (remove_id i.id xs)
   removed_new =

@@ -191,12 +191,6 @@ module _ {K V P View C : Type 0} (m : Meaning K P View C) where
       (updates-keep (RecordsStay nothing) (Some config) (λ s c id r there less. (r, there, refl, omega arith))
       (λ i s. s.capacity) old.shards new.shards h.shards.counted h.shards.each)
 
--- what follows of an answer in either case
-pub of_result : {A E : Type 0} (r : Result A E) (P : A → Type 0) (Q G : Type 0) → IfOk r P → OnErr r Q →
-    ((a : A) → P a → G) → (Q → G) → G
-of_result (Ok a) P Q G ok err f h = f a ok
-of_result (Err e) P Q G ok err f h = h err
-
 -- and of one that is not refused
 pub ok_so : {A E : Type 0} (r : Result A E) (P : A → Type 0) (G : Type 0) → IfOk r P → ((a : A) → P a → G) → OnOk r G
 ok_so (Ok a) P G ok f = f a ok

@@ -1,5 +1,5 @@
 -- The calls of a core on all of its shards: each shard makes a step of its own, in the order of the shards.
-use Rattle.std.specs.Prelude.{◌≡◌, ℕ, ◌≤◌, ◌⊎◌, List, [], ◌∷◌, ◌++◌, Some, length, slice_get}
+use Rattle.std.specs.Prelude.{true, false, ◌≡◌, ℕ, ◌≤◌, ◌⊎◌, List, [], ◌∷◌, ◌++◌, Some, length, slice_get}
 use Rattle.foyer_policy.specs.Items.{IsWithin}
 use Rattle.foyer_policy.specs.declared.types.Event.{Event}
 use Rattle.foyer_core.specs.Bulk.{after_capacity, after_update}
@@ -47,6 +47,16 @@ module _ {K V P View C : Type 0} (m : Meaning K P View C) where
     pub counted : length new ≡ length old
     pub each : (i : ℕ) (s : State K V P View) → slice_get old i ≡ Some s
         → slice_get new i ≡ Some (after_capacity m s (share_of capacity (length old) i))
+
+  -- each shard's policy takes a configuration as one of its own
+  abbrev pub TakenByEach : C → List (State K V P View) → Type 0
+  TakenByEach config shards = (i : ℕ) (s : State K V P View) → slice_get shards i ≡ Some s
+      → m.policy.takes s.view config ≡ true
+
+  -- some shard's policy does not
+  abbrev pub NotTaken : C → List (State K V P View) → Type 0
+  NotTaken config shards = (i : ℕ) × (s : State K V P View) × (slice_get shards i ≡ Some s)
+      × (m.policy.takes s.view config ≡ false)
 
   -- each shard's policy is told another configuration, with the capacity that the shard has: nothing leaves
   pub record ConfiguresEach (config : C) (old new : List (State K V P View)) : Type 0 where

@@ -77,20 +77,6 @@ module _ {K V P View C N R : Type 0} (m : Meaning K P View C) where
   CompletesBy None source old f k d ended new g = Loses old f ended new g
   CompletesBy (Some o) source old f k d ended new g = Completes source old f k d o ended new g
 
--- the same with the record that a known piece stands for
-module _ {K V P View C N R : Type 0} (m : Meaning K P View C) where
-  pub record CompletesBack (old : State K V P View) (f : Opens K N R) (k : ℕ × K) (piece : Carried K V P)
-      (o : OpenFetch N R) (ended : Ending K V P N) (new : State K V P View) (g : Opens K N R) : Type 0 where
-    pub found : ended.found ≡ true
-    pub waiters : ended.waiters ≡ o.tokens
-    pub arrives : ArrivesBack m old piece (length o.tokens) ended.outcome ended.leaves new
-    pub closes : g ≡ closed m.same f k
-
-  abbrev pub CompletesBackBy : Option (OpenFetch N R) → State K V P View → Opens K N R → ℕ × K → Carried K V P →
-      Ending K V P N → State K V P View → Opens K N R → Type 0
-  CompletesBackBy None old f k piece ended new g = Loses m old f ended new g
-  CompletesBackBy (Some o) old f k piece ended new g = CompletesBack old f k piece o ended new g
-
 -- The end of a fetch with a refusal, where it is open: those who wait get it, and the fetch is closed. The end of one
 -- that is not open changes nothing.
 abbrev pub EndsBy : {K V P N R : Type 0} → Option (OpenFetch N R) → (K → K → Bool) → ℕ × K → Reason → Opens K N R →

@@ -33,6 +33,9 @@ pub mod Onto
 pub mod Bulk
 pub mod CoreBulk
 pub mod Pieces
+pub mod PieceEnds
+pub mod CallLaws
+pub mod Rules
 pub mod Questions
 pub mod Probing
 pub mod Tags

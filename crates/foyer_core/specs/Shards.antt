@@ -3,7 +3,6 @@ use Rattle.std.specs.declared.cmp.PartialEq.{Ghosts as EqGhosts}
 use Rattle.std.specs.declared.hash.Hash.{Ghosts as HashGhosts}
 use Rattle.std.specs.declared.clone.Clone.{Ghosts as CloneGhosts}
 use Rattle.std.specs.declared.default.Default.{Ghosts as DefaultGhosts}
-use Rattle.serde.specs.declared.ser.Described.{Ghosts as DescribedGhosts}
 use Rattle.foyer_policy.specs.declared.eviction.Eviction.{Ghosts as EvictionGhosts}
 use Rattle.foyer_policy.specs.declared.properties.Properties.{Ghosts as PropertiesGhosts}
 use Rattle.foyer_core.specs.declared.finder.Finder.{Ghosts as FinderGhosts}
@@ -13,18 +12,17 @@ use Rattle.foyer_core.specs.Stores.{state_of as store_state, meaning_of as store
 use Rattle.foyer_core.specs.Inflight.{Opens}
 use Rattle.foyer_core.specs.Inflights.{opens_of as manager_opens}
 
-module _ {E K V P N R I C S : Type 0} {e : EvictionGhosts E C S} {e1 : CloneGhosts C} {e2 : DefaultGhosts C}
-    {e3 : DescribedGhosts C} {e4 : DefaultGhosts S}
+module _ {E K V P N R I C : Type 0} {e : EvictionGhosts E C}
     {q : EqGhosts K} {h : HashGhosts K} {c : CloneGhosts K} {p : PropertiesGhosts P} {d : DefaultGhosts P}
     {i : FinderGhosts I K} where
   -- what contracts see of a shard
-  abbrev pub state_of : Shard E K V P N R I C S e e1 e2 e3 e4 q h c p d i → State K V P e.View
+  abbrev pub state_of : Shard E K V P N R I C e q h c p d i → State K V P e.View
   state_of s = store_state s.store
 
   -- what a shard is over
-  abbrev pub meaning_of : Shard E K V P N R I C S e e1 e2 e3 e4 q h c p d i → Meaning K P e.View C
+  abbrev pub meaning_of : Shard E K V P N R I C e q h c p d i → Meaning K P e.View C
   meaning_of s = store_meaning s.store
 
   -- the open fetches
-  abbrev pub opens_of : Shard E K V P N R I C S e e1 e2 e3 e4 q h c p d i → Opens K N R
+  abbrev pub opens_of : Shard E K V P N R I C e q h c p d i → Opens K N R
   opens_of s = manager_opens s.inflights

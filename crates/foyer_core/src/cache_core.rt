@@ -7,9 +7,9 @@ ghost use Rattle.foyer_policy.specs.Properties.{is_phantom};
 ghost use Rattle.foyer_policy.specs.declared.types.Source.TheVariants.{Outer};
 ghost use Rattle.foyer_core.specs.Core.{AreHashed, AreSums, Belong};
 ghost use Rattle.foyer_core.specs.Idle.{NoneOpen};
-ghost use Rattle.foyer_core.specs.Inflight.{closed, no_opens, waiters_of};
+ghost use Rattle.foyer_core.specs.Inflight.{no_opens, waiters_of};
 ghost use Rattle.foyer_core.specs.Shards.{state_of};
-ghost use Rattle.foyer_core.specs.Waited.{AnswersEach, insertion_of};
+ghost use Rattle.foyer_core.specs.Waited.{insertion_of};
 ghost use Rattle.foyer_core.specs.State.{IsAdmitted, MakesPlain, coming_in};
 ghost use Rattle.foyer_core.specs.Stored.{meaning};
 
@@ -19,6 +19,7 @@ use crate::filter::{AdmitAll, Filter};
 use crate::finder::{Finder, TagFinder};
 use crate::outcome::{Inserted, InsertedOnto, Refused};
 use crate::properties::CacheProperties;
+use crate::rules::Rules;
 use crate::shard::Shard;
 use crate::weighter::{UnitWeighter, Weighter};
 use foyer_policy::{
@@ -61,8 +62,7 @@ pub struct CacheCore<
     load: Load,
     capacity: usize,
     hash_builder: S,
-    weighter: W,
-    filter: A,
+    rules: Rules<W, A>,
     alloc: Global,
     ghost sharded: { 0 < vec_len shards },
     ghost belong: { Belong (map state_of shards.items) },
@@ -89,8 +89,7 @@ impl<
     /// shard (F1), then with the policy configuration's first fault, and else only for want of memory (F7).
     pub fn new(alloc: Global, config: RawCacheConfig<E::Config, S, W, A>) -> Result<Self>
         ensures made { IfOk result (λ core. IsNewCore (meaning_of_core core) config (core_of core)) }
-        ensures fetches { IfOk result (λ core. All (λ f. f ≡ no_opens) (fetches_of core)) }
-        ensures idle { IfOk result (λ core. NoneOpen (fetches_of core)) }
+        ensures fetches { IfOk result (λ core. All (λ f. f ≡ no_opens) (fetches_of core) × NoneOpen (fetches_of core)) }
         ensures accepted { OnOk result (core_fault E.model config ≡ None) }
         ensures refused { IfSome (core_fault E.model config) (λ reason. result ≡ Err reason) }
         ensures memory { IfErr result (λ e. core_fault E.model config ≡ None → e ≡ NoMemory) }
@@ -111,18 +110,18 @@ impl<
     R: Drop,
     I: Finder<K>,
 > CacheCore<E, K, V, P, S, W, A, N, R, I> {
-    ghost use Rattle.foyer_core.specs.CoreFetches.{at_hash, open_in};
+    ghost use Rattle.foyer_core.specs.CoreFetches.{open_in};
     ghost use Rattle.foyer_core.specs.Core.{AtShard, InsertsWeighed, IsNewCore, Owns, core_fault, entries_of_core, hit_in, usage_of_core};
     ghost use Rattle.foyer_core.specs.Cores.{core_of, fetches_of, hashes_of, meaning_of_core};
-    ghost use Rattle.foyer_core.specs.Laws.{Finds, HandlesStay, IsBoundedAt, one_of};
-    ghost use Rattle.foyer_core.specs.Observed.{IsTold, IsToldWith};
+    ghost use Rattle.foyer_core.specs.CallLaws.{AnswersIn, InsertLaws, IsNewEntry};
+    ghost use Rattle.foyer_core.specs.Laws.{HandlesStay, one_of};
+    ghost use Rattle.foyer_core.specs.Observed.{IsTold};
     ghost use Rattle.foyer_core.specs.Steps.{Gets, GivesBack};
 
     /// A core that holds nothing, as `new` makes it, over indexes of a type that the caller picks.
     pub fn with_index(alloc: Global, config: RawCacheConfig<E::Config, S, W, A>) -> Result<Self>
         ensures made { IfOk result (λ core. IsNewCore (meaning_of_core core) config (core_of core)) }
-        ensures fetches { IfOk result (λ core. All (λ f. f ≡ no_opens) (fetches_of core)) }
-        ensures idle { IfOk result (λ core. NoneOpen (fetches_of core)) }
+        ensures fetches { IfOk result (λ core. All (λ f. f ≡ no_opens) (fetches_of core) × NoneOpen (fetches_of core)) }
         ensures accepted { OnOk result (core_fault E.model config ≡ None) }
         ensures refused { IfSome (core_fault E.model config) (λ reason. result ≡ Err reason) }
         ensures memory { IfErr result (λ e. core_fault E.model config ≡ None → e ≡ NoMemory) }
@@ -137,8 +136,10 @@ impl<
             load,
             capacity: config.capacity,
             hash_builder: config.hash_builder,
-            weighter: config.weighter,
-            filter: config.filter,
+            rules: Rules {
+                weighter: config.weighter,
+                filter: config.filter,
+            },
             alloc,
         })
     }
@@ -223,27 +224,18 @@ impl<
         value: V,
     ) -> std::result::Result<Inserted<K, V, P, N>, Refused<K, V, P>>
         requires clones { (k c : K) → K.is_clone k c → K.eq c k ≡ true }
-        ensures inserted { let hash = S.hash_of (core_of self.old).hash_builder (K.hash_input key) in
-            (p : P) × P.is_default p
+        ensures inserted { (p : P) × P.is_default p
             × InsertsWeighed (meaning_of_core self.old) Outer (W.weighs (core_of self.old).weighter key value) (A.admits (core_of self.old).filter key value)
-            hash key value (λ admitted. coming_in P.location_of P.with_phantom_of admitted p)
-            (1 + length (waiters_of (open_in (fetches_of self.old) (hash, key)))) (insertion_of result) (core_of self.old) (core_of self.new) }
-        ensures answers { let hash = S.hash_of (core_of self.old).hash_builder (K.hash_input key) in
-            IfOk result (λ made. AnswersEach (waiters_of (open_in (fetches_of self.old) (hash, key))) made.entry made.answers) }
-        ensures closed { let hash = S.hash_of (core_of self.old).hash_builder (K.hash_input key) in
-            OnOk result (fetches_of self.new ≡ at_hash (λ f. closed K.eq f (hash, key)) (fetches_of self.old) hash) }
-        ensures fetches { OnErr result (fetches_of self.new ≡ fetches_of self.old) }
+            (hashes_of self.old key) key value (λ admitted. coming_in P.location_of P.with_phantom_of admitted p)
+            (1 + length (waiters_of (open_in (fetches_of self.old) (hashes_of self.old key, key)))) (insertion_of result) (core_of self.old) (core_of self.new) }
+        ensures given { IfOk result (λ made. IsNewEntry (core_of self.old) (hashes_of self.old key) key value made.entry) }
+        ensures fetches { MatchResult result
+            (λ made. AnswersIn K.eq (hashes_of self.old key) made.entry made.answers (fetches_of self.old) (fetches_of self.new))
+            (λ _. fetches_of self.new ≡ fetches_of self.old) }
         ensures plain { ((p : P) → P.is_default p → MakesPlain P.phantom_of P.location_of p) → IsAdmitted (A.admits (core_of self.old).filter key value)
             → IfOk result (λ made. is_phantom (P.phantom_of made.entry.kept.properties) ≡ false) }
-        ensures found { IfOk result (λ made. is_phantom (P.phantom_of made.entry.kept.properties) ≡ false
-            → Finds (meaning_of_core self.new) (λ k. S.hash_of (core_of self.new).hash_builder (K.hash_input k)) (core_of self.new) key value) }
-        ensures bounded { let hash = S.hash_of (core_of self.old).hash_builder (K.hash_input key) in
-            IfOk result (λ made. is_phantom (P.phantom_of made.entry.kept.properties) ≡ false
-            → IsBoundedAt (meaning_of_core self.old) hash made.entry.kept.weight (core_of self.old) (core_of self.new)) }
-        ensures stay { HandlesStay (λ _. 0) (core_of self.old) (core_of self.new) }
-        ensures told { MatchResult result
-            (λ made. IsToldWith K.eq (hashes_of self.old) P.phantom_of (core_of self.old) made.leaves.items made.entry.id made.entry.kept (core_of self.new))
-            (λ refused. IsTold K.eq (hashes_of self.old) (core_of self.old) refused.leaves.items (core_of self.new)) }
+        ensures laws { InsertLaws (meaning_of_core self.old) (hashes_of self.old) (hashes_of self.new) (hashes_of self.old key)
+            (core_of self.old) (insertion_of result) (core_of self.new) }
     {
         self.insert_with_properties(key, value, P::default())
     }
@@ -270,26 +262,17 @@ impl<
         properties: P,
     ) -> std::result::Result<Inserted<K, V, P, N>, Refused<K, V, P>>
         requires clones { (k c : K) → K.is_clone k c → K.eq c k ≡ true }
-        ensures inserted { let hash = S.hash_of (core_of self.old).hash_builder (K.hash_input key) in
-            InsertsWeighed (meaning_of_core self.old) Outer (W.weighs (core_of self.old).weighter key value) (A.admits (core_of self.old).filter key value)
-            hash key value (λ admitted. coming_in P.location_of P.with_phantom_of admitted properties)
-            (1 + length (waiters_of (open_in (fetches_of self.old) (hash, key)))) (insertion_of result) (core_of self.old) (core_of self.new) }
-        ensures answers { let hash = S.hash_of (core_of self.old).hash_builder (K.hash_input key) in
-            IfOk result (λ made. AnswersEach (waiters_of (open_in (fetches_of self.old) (hash, key))) made.entry made.answers) }
-        ensures closed { let hash = S.hash_of (core_of self.old).hash_builder (K.hash_input key) in
-            OnOk result (fetches_of self.new ≡ at_hash (λ f. closed K.eq f (hash, key)) (fetches_of self.old) hash) }
-        ensures fetches { OnErr result (fetches_of self.new ≡ fetches_of self.old) }
+        ensures inserted { InsertsWeighed (meaning_of_core self.old) Outer (W.weighs (core_of self.old).weighter key value) (A.admits (core_of self.old).filter key value)
+            (hashes_of self.old key) key value (λ admitted. coming_in P.location_of P.with_phantom_of admitted properties)
+            (1 + length (waiters_of (open_in (fetches_of self.old) (hashes_of self.old key, key)))) (insertion_of result) (core_of self.old) (core_of self.new) }
+        ensures given { IfOk result (λ made. IsNewEntry (core_of self.old) (hashes_of self.old key) key value made.entry) }
+        ensures fetches { MatchResult result
+            (λ made. AnswersIn K.eq (hashes_of self.old key) made.entry made.answers (fetches_of self.old) (fetches_of self.new))
+            (λ _. fetches_of self.new ≡ fetches_of self.old) }
         ensures plain { MakesPlain P.phantom_of P.location_of properties → IsAdmitted (A.admits (core_of self.old).filter key value)
             → IfOk result (λ made. is_phantom (P.phantom_of made.entry.kept.properties) ≡ false) }
-        ensures found { IfOk result (λ made. is_phantom (P.phantom_of made.entry.kept.properties) ≡ false
-            → Finds (meaning_of_core self.new) (λ k. S.hash_of (core_of self.new).hash_builder (K.hash_input k)) (core_of self.new) key value) }
-        ensures bounded { let hash = S.hash_of (core_of self.old).hash_builder (K.hash_input key) in
-            IfOk result (λ made. is_phantom (P.phantom_of made.entry.kept.properties) ≡ false
-            → IsBoundedAt (meaning_of_core self.old) hash made.entry.kept.weight (core_of self.old) (core_of self.new)) }
-        ensures stay { HandlesStay (λ _. 0) (core_of self.old) (core_of self.new) }
-        ensures told { MatchResult result
-            (λ made. IsToldWith K.eq (hashes_of self.old) P.phantom_of (core_of self.old) made.leaves.items made.entry.id made.entry.kept (core_of self.new))
-            (λ refused. IsTold K.eq (hashes_of self.old) (core_of self.old) refused.leaves.items (core_of self.new)) }
+        ensures laws { InsertLaws (meaning_of_core self.old) (hashes_of self.old) (hashes_of self.new) (hashes_of self.old key)
+            (core_of self.old) (insertion_of result) (core_of self.new) }
     {
         let mut leaves = Vec::new(self.alloc);
         match self.insert_with_properties_onto(key, value, properties, &mut leaves) {

@@ -13,6 +13,7 @@ pub mod piece;
 pub mod properties;
 pub mod record;
 mod records;
+pub mod rules;
 pub mod shard;
 mod share;
 mod slot;
@@ -34,6 +35,7 @@ pub use outcome::{
 pub use piece::Piece;
 pub use properties::{CacheProperties, marked};
 pub use record::{Data, Flags, Limits, Record};
+pub use rules::Rules;
 pub use shard::Shard;
 pub use tags::Tags;
 pub use weighter::{UnitWeighter, Weighter};

@@ -1,7 +1,8 @@
 //! What inserts answer.
 
-ghost use Rattle.std.specs.Prelude.{◌≡◌, ◌+◌, ◌++◌, ◌≤◌, [], ◌∷◌, Err, MatchResult, Ok, Some, true, vec_len, vec_capacity};
-ghost use Rattle.foyer_core.specs.Waited.{ending_of, entries_in, handed_out, lost};
+ghost use Rattle.std.specs.Prelude.{◌≡◌, ◌+◌, ◌≤◌, [], Err, IfOk, MatchResult, Ok, Some, true, vec_len, vec_capacity};
+ghost use Rattle.foyer_core.specs.Onto.{shared_out};
+ghost use Rattle.foyer_core.specs.Waited.{ending_of, entries_in, got_of, handed_out, lost};
 
 use crate::entry::{CoreEntry, Leave};
 use crate::piece::Piece;
@@ -48,14 +49,12 @@ pub(crate) struct Further {
     pub(crate) room: usize,
 }
 
-/// A record that came in.
-pub(crate) struct Arrival<K: Drop, V: Drop, P: Drop> {
-    /// A handle of the record.
+/// Handles of a record that came in.
+pub(crate) struct Handles<K: Drop, V: Drop, P: Drop> {
+    /// The first.
     pub(crate) entry: CoreEntry<K, V, P>,
-    /// The further handles that were asked for.
+    /// The further ones that were asked for.
     pub(crate) others: Vec<CoreEntry<K, V, P>>,
-    /// What left, in order.
-    pub(crate) leaves: Vec<Leave<K, V, P>>,
 }
 
 /// What the waiters of a key get.
@@ -68,41 +67,28 @@ pub enum Outcome<K, V, P> {
     Fault(Error),
 }
 
+impl<K: Drop, V: Drop, P: Drop> Outcome<K, V, P> {
+    // One of the handles each, for which their list has room, or the one refusal.
+    fn of(came: Result<Handles<K, V, P>, Error>) -> Self
+        requires room { IfOk came (λ made. vec_len made.others + 1 ≤ vec_capacity made.others) }
+        ensures { got_of result ≡ shared_out came }
+    {
+        match came {
+            Ok(Handles { entry, mut others }) => {
+                others.push_reserved(entry);
+                Outcome::Entries(others)
+            }
+            Err(error) => Outcome::Fault(error),
+        }
+    }
+}
+
 /// The waiters of a key, and what they get.
 pub struct Answers<K, V, P, N> {
     /// Who waited, in order.
     pub waiters: Vec<Waiting<N>>,
     /// What they get.
     pub outcome: Outcome<K, V, P>,
-}
-
-impl<K: Drop, V: Drop, P: Drop> Arrival<K, V, P> {
-    // What a fetch's end answers, where these waited, of whom each gets one of the handles.
-    pub(crate) fn ending<N>(self, waiters: Vec<Waiting<N>>) -> Ended<K, V, P, N>
-        requires room { vec_len self.others + 1 ≤ vec_capacity self.others }
-        ensures { ending_of result ≡ record {
-          found = true;
-          waiters = waiters.items;
-          outcome = Ok
-              (Some (self.others.items ++ self.entry ∷ []));
-          leaves = self.leaves.items;
-        } }
-    {
-        let Arrival {
-            entry,
-            mut others,
-            leaves,
-        } = self;
-        others.push_reserved(entry);
-        Ended {
-            found: true,
-            answers: Answers {
-                waiters,
-                outcome: Outcome::Entries(others),
-            },
-            leaves,
-        }
-    }
 }
 
 /// What an insert answers that is not refused.
@@ -197,19 +183,20 @@ impl<K: Drop, V: Drop, P: Drop, N> Ended<K, V, P, N> {
         }
     }
 
-    // The end of a fetch for which these wait, with a refusal.
-    pub(crate) fn refused(
+    // The end of a fetch for which these waited: each gets one of the handles, or all get the one refusal.
+    pub(crate) fn found(
         waiters: Vec<Waiting<N>>,
-        error: Error,
+        came: Result<Handles<K, V, P>, Error>,
         leaves: Vec<Leave<K, V, P>>,
     ) -> Self
-        ensures { ending_of result ≡ record { found = true; waiters = waiters.items; outcome = Err error; leaves = leaves.items } }
+        requires room { IfOk came (λ made. vec_len made.others + 1 ≤ vec_capacity made.others) }
+        ensures { ending_of result ≡ record { found = true; waiters = waiters.items; outcome = shared_out came; leaves = leaves.items } }
     {
         Ended {
             found: true,
             answers: Answers {
                 waiters,
-                outcome: Outcome::Fault(error),
+                outcome: Outcome::of(came),
             },
             leaves,
         }

@@ -78,7 +78,7 @@ fn taken<E: Eviction, W: Weighter<u64, u64>, A: Filter<u64, u64>, I: Finder<u64>
 }
 
 // Puts ten times the key in under it, and lets its entry go: what left.
-fn put_tenfold(rt: &impl Abort, core: &mut Core, key: u64) -> Leaves {
+fn put_tenfold<E: Eviction>(rt: &impl Abort, core: &mut Core<E>, key: u64) -> Leaves {
     let (entry, leaves) = put(rt, core, key, key * 10);
     release(rt, core, entry);
     leaves
@@ -217,13 +217,19 @@ fn settle<E: Eviction, W: Weighter<u64, u64>, A: Filter<u64, u64>, I: Finder<u64
 fn leaves_go_onto_a_list(rt: HostRuntime) -> Done {
     let mut core = core(rt.alloc(), 1, 1)?;
     let mut leaves = Vec::new(rt.alloc());
-    for key in [1, 2] {
-        let made = core.insert_onto(key, key, &mut leaves);
+    for key in [1, 2, 3] {
+        let made = core.insert_with_properties_onto(
+            key,
+            key,
+            CacheProperties::default(),
+            &mut leaves,
+        );
         settle(&rt, &mut core, made.expect(&rt, "an insert"));
     }
-    let made = core.insert_with_properties_onto(3, 3, CacheProperties::default(), &mut leaves);
+    let (_, left) = leaves.pop().expect(&rt, "a leave");
+    let made = core.insert_piece_onto(left.piece(), &mut leaves);
     settle(&rt, &mut core, made.expect(&rt, "an insert"));
-    assert_left(&rt, &leaves, &[(Event::Evict, 1), (Event::Evict, 2)]);
+    assert_left(&rt, &leaves, &[(Event::Evict, 1), (Event::Evict, 3)]);
     Ok(())
 }
 

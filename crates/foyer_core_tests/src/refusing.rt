@@ -8,8 +8,8 @@ use std::marker::Model;
 use std::sync::Arc;
 use std::sync::atomic::{AtomicU64, Ordering};
 
-/// A policy whose request number `AT` is refused, counted from 0: the calls of `reserve`, `reserve_to`, `pop`,
-/// `pop_at`, `reserve_clear` and `order`.
+/// A policy whose request number `AT` is refused, counted from 0: the calls of `reserve`, `reserve_to`, `pop_at`,
+/// `reserve_clear` and `order`.
 #[derive(Drop)]
 pub struct RefusingPolicy<E, const AT: u64> {
     policy: E,
@@ -25,8 +25,6 @@ impl<E: Drop, const AT: u64> RefusingPolicy<E, AT> {
 
 impl<E: Eviction, const AT: u64> Eviction for RefusingPolicy<E, AT> {
     type Config = E::Config;
-
-    type State = E::State;
 
     ghost View = { E.View };
 
@@ -60,6 +58,10 @@ impl<E: Eviction, const AT: u64> Eviction for RefusingPolicy<E, AT> {
         })
     }
 
+    fn takes(&self, config: &E::Config) -> bool {
+        self.policy.takes(config)
+    }
+
     fn update(&mut self, capacity: usize, config: Option<&E::Config>) -> Result<()> {
         self.policy.update(capacity, config)
     }
@@ -71,10 +73,6 @@ impl<E: Eviction, const AT: u64> Eviction for RefusingPolicy<E, AT> {
         self.policy.reserve()
     }
 
-    fn push(&mut self, item: Item) -> Place {
-        self.policy.push(item)
-    }
-
     fn reserve_to(&mut self, wanted: usize) -> Result<()> {
         if !self.grants() {
             return Err(Error::new(Reason::NoMemory));
@@ -82,15 +80,12 @@ impl<E: Eviction, const AT: u64> Eviction for RefusingPolicy<E, AT> {
         self.policy.reserve_to(wanted)
     }
 
-    fn push_at(&mut self, place: Place, item: Item) {
-        self.policy.push_at(place, item);
+    fn next_place(&self) -> Place {
+        self.policy.next_place()
     }
 
-    fn pop(&mut self) -> Result<Option<Item>> {
-        if !self.grants() {
-            return Err(Error::new(Reason::NoMemory));
-        }
-        self.policy.pop()
+    fn push_at(&mut self, place: Place, item: Item) {
+        self.policy.push_at(place, item);
     }
 
     fn pop_at(&mut self) -> Result<Option<(Place, Item)>> {

@@ -1,9 +1,7 @@
 //! One shard by itself: an example of each call that a core doesn't make alone.
 
 use crate::testing::{Done, Entry, assert_left};
-use foyer_core::{
-    Answers, CacheProperties, Data, Finder, Inserted, InsertedOnto, Limits, Shard, TagFinder,
-};
+use foyer_core::{Answers, CacheProperties, Data, Finder, InsertedOnto, Limits, Shard, TagFinder};
 use foyer_policy::{Event, Eviction, Fifo, FifoConfig, Lru, LruConfig, Reason, Result, Source};
 use std::alloc::Global;
 use std::process::Abort;
@@ -30,20 +28,15 @@ fn data(key: u64, weight: usize) -> Data<u64, u64, CacheProperties> {
     }
 }
 
-// What came in, for which nobody waited, goes back: how many left for it.
-fn settled<E: Eviction>(
+// What came in, for which nobody waited, goes back.
+fn settle<E: Eviction>(
     rt: &impl Abort,
     shard: &mut Over<E>,
-    made: Inserted<u64, u64, CacheProperties, u64>,
-) -> usize {
-    let Inserted {
-        entry,
-        answers,
-        leaves,
-    } = made;
+    made: InsertedOnto<u64, u64, CacheProperties, u64>,
+) {
+    let InsertedOnto { entry, answers } = made;
     assert_eq!(rt; all_back(rt, shard, answers), 0);
     release(rt, shard, entry);
-    leaves.len()
 }
 
 // An entry of the shard goes back, and nothing leaves with it.
@@ -74,9 +67,10 @@ fn all_back<E: Eviction>(
 
 // Puts a record in, for which nothing leaves, and lets its entry go.
 fn put<E: Eviction>(rt: &impl Abort, alloc: Global, shard: &mut Over<E>, key: u64, weight: usize) {
-    let made = shard.emplace(alloc, data(key, weight), Source::Outer);
-    let left = settled(rt, shard, made.expect(rt, "an insert"));
-    assert_eq!(rt; left, 0, "insert of {key}");
+    let mut leaves = Vec::new(alloc);
+    let made = shard.emplace(alloc, data(key, weight), Source::Outer, &mut leaves);
+    settle(rt, shard, made.expect(rt, "an insert"));
+    assert!(rt; leaves.is_empty(), "insert of {key}");
 }
 
 // Records of the keys 1 to 3, of the weights 0, 3 and 1.
@@ -109,11 +103,9 @@ fn take_out<E: Eviction>(rt: &impl Abort, shard: &mut Over<E>, key: u64) {
 fn leaves_go_onto_a_list(rt: HostRuntime) -> Done {
     let mut shard = three(&rt, rt.alloc())?;
     let mut leaves = Vec::new(rt.alloc());
-    shard.evict_if_onto(rt.alloc(), &|key: &u64, _: &u64| *key == 2, &mut leaves)?;
-    let made = shard.emplace_onto(rt.alloc(), data(4, 5), Source::Outer, &mut leaves);
-    let InsertedOnto { entry, answers } = made.expect(&rt, "an insert");
-    assert_eq!(rt; all_back(&rt, &mut shard, answers), 0);
-    release(&rt, &mut shard, entry);
+    shard.evict_if(rt.alloc(), &|key: &u64, _: &u64| *key == 2, &mut leaves)?;
+    let made = shard.emplace(rt.alloc(), data(4, 5), Source::Outer, &mut leaves);
+    settle(&rt, &mut shard, made.expect(&rt, "an insert"));
     shard.clear_onto(&mut leaves)?;
     assert_left(
         &rt,
@@ -132,16 +124,15 @@ fn leaves_go_onto_a_list(rt: HostRuntime) -> Done {
 fn records_are_evicted_by_weight(rt: HostRuntime) -> Done {
     let mut shard = three(&rt, rt.alloc())?;
     shard.configure(&LruConfig::default());
-    let Ok(leaves) = shard.evict_to(rt.alloc(), 3) else {
-        panic!(&rt; "an eviction is refused");
-    };
-    assert_eq!(rt; (leaves.len(), shard.usage()), (2, 1));
     let mut leaves = Vec::new(rt.alloc());
+    shard.evict_onto(&mut leaves, 3)?;
+    assert_eq!(rt; (leaves.len(), shard.usage()), (2, 1));
+    leaves.clear();
     put(&rt, rt.alloc(), &mut shard, 4, 2);
     shard.evict_onto(&mut leaves, 2)?;
     put(&rt, rt.alloc(), &mut shard, 5, 1);
     shard.set_capacity(1);
-    assert_eq!(rt; (shard.entries(), shard.fits()), (2, true));
+    assert_eq!(rt; (shard.entries(), shard.usage()), (2, 3));
     shard.evict_to_capacity(&mut leaves)?;
     shard.evict_unpinned(&mut leaves)?;
     assert_left(
@@ -168,10 +159,8 @@ fn bulk_calls_have_two_steps(rt: HostRuntime) -> Done {
         &[(Event::Evict, 2), (Event::Clear, 1), (Event::Clear, 3)],
     );
     let mut shard = three(&rt, rt.alloc())?;
-    assert_eq!(rt;
-        shard.evict_if(rt.alloc(), &|_: &u64, _: &u64| true)?.len(),
-        3
-    );
+    shard.evict_if(rt.alloc(), &|_: &u64, _: &u64| true, &mut leaves)?;
+    assert_eq!(rt; leaves.len(), 6);
     Ok(())
 }
 

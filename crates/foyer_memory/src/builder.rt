@@ -1,11 +1,10 @@
 //! Makes caches.
 
 ghost use Rattle.std.specs.Prelude.{◌≡◌};
-ghost use Rattle.foyer_memory.specs.declared.config.EvictionConfig.TheVariants.{Lru};
+ghost use Rattle.foyer_policy.specs.declared.eviction_config.EvictionConfig.TheVariants.{Lru};
 
-use crate::config::EvictionConfig;
 use foyer_core::{AdmitAll, Filter, Limits, RawCacheConfig, UnitWeighter, Weighter};
-use foyer_policy::{DefaultHasher, EventListener, HashBuilder, Key, LruConfig, Value};
+use foyer_policy::{DefaultHasher, EventListener, EvictionConfig, HashBuilder, Key, Value};
 use foyer_raw::NoListener;
 use std::marker::PhantomData;
 
@@ -37,16 +36,7 @@ impl<K: Key, V: Value> CacheBuilder<K, V> {
         ensures limits { result.config.limits ≡ record { handles = 18446744073709551615; ids = 18446744073709551615 } }
     {
         CacheBuilder {
-            config: RawCacheConfig {
-                capacity,
-                shards: 8,
-                eviction_config: EvictionConfig::Lru(LruConfig::default()),
-                hash_builder: DefaultHasher::default(),
-                weighter: UnitWeighter,
-                filter: AdmitAll,
-                number: 0,
-                limits: Limits::default(),
-            },
+            config: RawCacheConfig::new(capacity),
             listener: NoListener::new(),
             keys: PhantomData,
         }

@@ -1,10 +1,12 @@
 //! The caches of each policy, their entries and what their look-ups answer, by name.
 
+use crate::cache::Cache;
+use crate::entry::CacheEntry;
+use crate::fetch::GetOrFetch;
+use crate::of::Of;
 use foyer_core::{AdmitAll, CacheProperties, TagFinder, UnitWeighter};
-use foyer_policy::{DefaultHasher, Fifo, Lfu, Lru, S3Fifo, Sieve};
-use foyer_raw::{
-    FetchTypes, NoFetch, NoListener, NoopPipe, RawCache, RawCacheEntry, RawGetOrFetch,
-};
+use foyer_policy::{DefaultHasher, FifoConfig, LfuConfig, LruConfig, S3FifoConfig, SieveConfig};
+use foyer_raw::{NoFetch, NoListener, NoopPipe};
 
 /// A cache whose policy is first in, first out.
 pub type FifoCache<
@@ -19,7 +21,7 @@ pub type FifoCache<
     Q = NoopPipe<K, V, P>,
     T = NoFetch,
     I = TagFinder<K>,
-> = RawCache<H, Fifo, K, V, S, P, W, A, L, Q, T, I>;
+> = Of<FifoConfig, Cache<H, K, V, S, P, W, A, L, Q, T, I>>;
 
 /// An entry of such a cache.
 pub type FifoCacheEntry<
@@ -34,7 +36,7 @@ pub type FifoCacheEntry<
     Q = NoopPipe<K, V, P>,
     T = NoFetch,
     I = TagFinder<K>,
-> = RawCacheEntry<H, Fifo, K, V, S, P, W, A, L, Q, <T as FetchTypes<K, V, P>>::Required, I>;
+> = Of<FifoConfig, CacheEntry<H, K, V, S, P, W, A, L, Q, T, I>>;
 
 /// What its look-ups answer that fetch.
 pub type FifoGetOrFetch<
@@ -49,7 +51,7 @@ pub type FifoGetOrFetch<
     Q = NoopPipe<K, V, P>,
     T = NoFetch,
     I = TagFinder<K>,
-> = RawGetOrFetch<H, Fifo, K, V, S, P, W, A, L, Q, <T as FetchTypes<K, V, P>>::Required, I>;
+> = Of<FifoConfig, GetOrFetch<H, K, V, S, P, W, A, L, Q, T, I>>;
 
 /// A cache whose policy is S3-FIFO.
 pub type S3FifoCache<
@@ -64,7 +66,7 @@ pub type S3FifoCache<
     Q = NoopPipe<K, V, P>,
     T = NoFetch,
     I = TagFinder<K>,
-> = RawCache<H, S3Fifo, K, V, S, P, W, A, L, Q, T, I>;
+> = Of<S3FifoConfig, Cache<H, K, V, S, P, W, A, L, Q, T, I>>;
 
 /// An entry of such a cache.
 pub type S3FifoCacheEntry<
@@ -79,7 +81,7 @@ pub type S3FifoCacheEntry<
     Q = NoopPipe<K, V, P>,
     T = NoFetch,
     I = TagFinder<K>,
-> = RawCacheEntry<H, S3Fifo, K, V, S, P, W, A, L, Q, <T as FetchTypes<K, V, P>>::Required, I>;
+> = Of<S3FifoConfig, CacheEntry<H, K, V, S, P, W, A, L, Q, T, I>>;
 
 /// What its look-ups answer that fetch.
 pub type S3FifoGetOrFetch<
@@ -94,7 +96,7 @@ pub type S3FifoGetOrFetch<
     Q = NoopPipe<K, V, P>,
     T = NoFetch,
     I = TagFinder<K>,
-> = RawGetOrFetch<H, S3Fifo, K, V, S, P, W, A, L, Q, <T as FetchTypes<K, V, P>>::Required, I>;
+> = Of<S3FifoConfig, GetOrFetch<H, K, V, S, P, W, A, L, Q, T, I>>;
 
 /// A cache whose policy is least recently used.
 pub type LruCache<
@@ -109,7 +111,7 @@ pub type LruCache<
     Q = NoopPipe<K, V, P>,
     T = NoFetch,
     I = TagFinder<K>,
-> = RawCache<H, Lru, K, V, S, P, W, A, L, Q, T, I>;
+> = Of<LruConfig, Cache<H, K, V, S, P, W, A, L, Q, T, I>>;
 
 /// An entry of such a cache.
 pub type LruCacheEntry<
@@ -124,7 +126,7 @@ pub type LruCacheEntry<
     Q = NoopPipe<K, V, P>,
     T = NoFetch,
     I = TagFinder<K>,
-> = RawCacheEntry<H, Lru, K, V, S, P, W, A, L, Q, <T as FetchTypes<K, V, P>>::Required, I>;
+> = Of<LruConfig, CacheEntry<H, K, V, S, P, W, A, L, Q, T, I>>;
 
 /// What its look-ups answer that fetch.
 pub type LruGetOrFetch<
@@ -139,7 +141,7 @@ pub type LruGetOrFetch<
     Q = NoopPipe<K, V, P>,
     T = NoFetch,
     I = TagFinder<K>,
-> = RawGetOrFetch<H, Lru, K, V, S, P, W, A, L, Q, <T as FetchTypes<K, V, P>>::Required, I>;
+> = Of<LruConfig, GetOrFetch<H, K, V, S, P, W, A, L, Q, T, I>>;
 
 /// A cache whose policy is w-TinyLFU.
 pub type LfuCache<
@@ -154,7 +156,7 @@ pub type LfuCache<
     Q = NoopPipe<K, V, P>,
     T = NoFetch,
     I = TagFinder<K>,
-> = RawCache<H, Lfu, K, V, S, P, W, A, L, Q, T, I>;
+> = Of<LfuConfig, Cache<H, K, V, S, P, W, A, L, Q, T, I>>;
 
 /// An entry of such a cache.
 pub type LfuCacheEntry<
@@ -169,7 +171,7 @@ pub type LfuCacheEntry<
     Q = NoopPipe<K, V, P>,
     T = NoFetch,
     I = TagFinder<K>,
-> = RawCacheEntry<H, Lfu, K, V, S, P, W, A, L, Q, <T as FetchTypes<K, V, P>>::Required, I>;
+> = Of<LfuConfig, CacheEntry<H, K, V, S, P, W, A, L, Q, T, I>>;
 
 /// What its look-ups answer that fetch.
 pub type LfuGetOrFetch<
@@ -184,7 +186,7 @@ pub type LfuGetOrFetch<
     Q = NoopPipe<K, V, P>,
     T = NoFetch,
     I = TagFinder<K>,
-> = RawGetOrFetch<H, Lfu, K, V, S, P, W, A, L, Q, <T as FetchTypes<K, V, P>>::Required, I>;
+> = Of<LfuConfig, GetOrFetch<H, K, V, S, P, W, A, L, Q, T, I>>;
 
 /// A cache whose policy is Sieve.
 pub type SieveCache<
@@ -199,7 +201,7 @@ pub type SieveCache<
     Q = NoopPipe<K, V, P>,
     T = NoFetch,
     I = TagFinder<K>,
-> = RawCache<H, Sieve, K, V, S, P, W, A, L, Q, T, I>;
+> = Of<SieveConfig, Cache<H, K, V, S, P, W, A, L, Q, T, I>>;
 
 /// An entry of such a cache.
 pub type SieveCacheEntry<
@@ -214,7 +216,7 @@ pub type SieveCacheEntry<
     Q = NoopPipe<K, V, P>,
     T = NoFetch,
     I = TagFinder<K>,
-> = RawCacheEntry<H, Sieve, K, V, S, P, W, A, L, Q, <T as FetchTypes<K, V, P>>::Required, I>;
+> = Of<SieveConfig, CacheEntry<H, K, V, S, P, W, A, L, Q, T, I>>;
 
 /// What its look-ups answer that fetch.
 pub type SieveGetOrFetch<
@@ -229,4 +231,4 @@ pub type SieveGetOrFetch<
     Q = NoopPipe<K, V, P>,
     T = NoFetch,
     I = TagFinder<K>,
-> = RawGetOrFetch<H, Sieve, K, V, S, P, W, A, L, Q, <T as FetchTypes<K, V, P>>::Required, I>;
+> = Of<SieveConfig, GetOrFetch<H, K, V, S, P, W, A, L, Q, T, I>>;

@@ -161,11 +161,10 @@ fn each_kind_prints_its_name(rt: HostRuntime) -> Outcome {
         let miss = format!(in alloc; "{name}(Miss)")?;
         assert_eq!(rt; format!(in alloc; "{look:?}")?, miss);
         let task = last.task.take().ok_or("no task")?;
-        let begun = format!(in alloc; "{name}(RawFetch {{")?;
         assert!(rt;
             format!(in alloc; "{task:?}")?
                 .as_str()
-                .starts_with(begun.as_str())
+                .starts_with("RawFetch {")
         );
         drop(task);
         let held = cache.insert(7, 70)?;

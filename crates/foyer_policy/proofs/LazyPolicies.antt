@@ -1,6 +1,6 @@
 -- Dictionaries that are no policies: for each law of `IsPolicy` but `fault_kind` some that it refuses, by that law
 -- alone. Each is one of the plain policies here with a field that is wrong.
-use Rattle.std.proofs.Common.{◌≡◌, ℕ, ◌+◌, ◌≤◌, List, [], ◌∷◌, ◌++◌, Option, Some, None, length, refl, sym, ◌∙◌, ap, arith, inl}
+use Rattle.std.proofs.Common.{true, ◌≡◌, ℕ, ◌+◌, ◌≤◌, List, [], ◌∷◌, ◌++◌, Option, Some, None, length, refl, sym, ◌∙◌, ap, arith, inl}
 use Rattle.std.specs.List.{fold}
 use Rattle.std.proofs.lemmas.List.Sorted.{IsPermutation-refl, IsPermutation-sym, IsPermutation-to_front}
 use Rattle.foyer_policy.specs.Items.{HasIdsOnce, IsWithin, remove_id, find_id}
@@ -48,6 +48,7 @@ module _ {X : Type 0} (start : X) (popped : X → Item → X) (credit : X → �
   abbrev pub queue_beside : Policy (List Item × X) Plain
   queue_beside = record {
     fault = λ c. None;
+    takes = λ _ _. true;
     opening = λ capacity c. ([], start);
     order = λ v. v.0;
     pinned = λ v. [];
@@ -129,6 +130,7 @@ remembering_lawful = queue_beside_lawful [] (λ gone i. gone ++ i ∷ []) (λ go
 abbrev pub pinning : Policy (List Item × List Item) Plain
 pinning = record {
   fault = λ c. None;
+  takes = λ _ _. true;
   opening = λ capacity c. ([], []);
   order = λ v. v.0 ++ v.1;
   pinned = λ v. v.1;

@@ -1,5 +1,5 @@
 -- First in, first out.
-use Rattle.std.specs.Prelude.{List, [], ◌∷◌, ◌++◌, Option, Some, None}
+use Rattle.std.specs.Prelude.{true, List, [], ◌∷◌, ◌++◌, Option, Some, None}
 use Rattle.foyer_policy.specs.Items.{remove_id}
 use Rattle.foyer_policy.specs.Policy.{Policy}
 use Rattle.foyer_policy.specs.declared.types.Item.{Item}
@@ -13,6 +13,7 @@ take_first (i ∷ is) = Some (i, is)
 abbrev pub fifo : (C : Type 0) → Policy (List Item) C
 fifo C = record {
   fault = λ c. None;
+  takes = λ _ _. true;
   opening = λ capacity c. [];
   order = λ v. v;
   pinned = λ v. [];

@@ -1,5 +1,5 @@
 -- w-TinyLFU: a window for what came in lately, and two lists behind it, of which the less often seen leaves.
-use Rattle.std.specs.Prelude.{◌==◌, ◌+◌, ◌*◌, ◌++◌, ℕ, List, [], ◌∷◌, Option, Some, None, nat_lt, is_some, if◌then◌else◌}
+use Rattle.std.specs.Prelude.{true, ◌==◌, ◌+◌, ◌*◌, ◌++◌, ℕ, List, [], ◌∷◌, Option, Some, None, nat_lt, is_some, if◌then◌else◌}
 use Rattle.foyer_policy.specs.Items.{remove_id, find_id, fit, over}
 use Rattle.foyer_policy.specs.Limit.{limit_of, ratio_fault}
 use Rattle.foyer_policy.specs.Lists.{or_else}
@@ -132,6 +132,7 @@ no_items l sketch = record {
 abbrev pub lfu : Policy LfuView LfuConfig
 lfu = record {
   fault = config_fault;
+  takes = λ _ _. true;
   opening = λ capacity c. no_items (limits_of capacity c) (new_sketch c.cmsketch_hashes c.cmsketch_buckets);
   order = λ v. v.window ++ (v.probation ++ v.protected);
   pinned = λ v. [];

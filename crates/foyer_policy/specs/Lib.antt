@@ -1,3 +1,7 @@
+pub mod Any
+pub mod AnyKinds
+pub mod AnyLaws
+pub mod AnyNodes
 pub mod Arena
 pub mod Block
 pub mod BlockLends

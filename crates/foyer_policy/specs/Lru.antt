@@ -103,6 +103,7 @@ no_items l = record { low = []; high = []; pin = []; limit = l.limit; ratio = l.
 abbrev pub lru : Policy LruView LruConfig
 lru = record {
   fault = λ c. ratio_fault Closed HighPriorityPool c.high_priority_pool_ratio;
+  takes = λ _ _. true;
   opening = λ capacity c. no_items (limits_of capacity c);
   order = λ v. v.low ++ (v.high ++ map (λ p. p.item) v.pin);
   pinned = λ v. map (λ p. p.item) v.pin;

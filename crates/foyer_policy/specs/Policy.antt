@@ -1,10 +1,11 @@
 -- What an eviction policy does, over an abstract view, and the laws that code above a policy may use.
-use Rattle.std.specs.Prelude.{◌≡◌, ◌==◌, ℕ, zero, suc, ◌+◌, ◌-◌, ◌≤◌, ◌⊎◌, List, [], ◌∷◌, Option, Some, None, option_and_then, length, nat_le, if◌then◌else◌}
+use Rattle.std.specs.Prelude.{Bool, ◌≡◌, ◌==◌, ℕ, zero, suc, ◌+◌, ◌-◌, ◌≤◌, ◌⊎◌, List, [], ◌∷◌, Option, Some, None, option_and_then, length, nat_le, if◌then◌else◌}
 use Rattle.std.specs.List.Sorted.{IsPermutation}
 use Rattle.foyer_policy.specs.Items.{weight_of, HasIdsOnce, IsWithin, remove_id, find_id}
 use Rattle.foyer_policy.specs.PopTimes.{pop_times}
 use Rattle.foyer_policy.specs.declared.types.Item.{Item}
 use Rattle.foyer_policy.specs.declared.error.Reason.{Reason}
+use Rattle.foyer_policy.specs.declared.error.Reason.TheVariants.{WrongPolicy}
 use Rattle.foyer_policy.specs.declared.error.ErrorKind.TheVariants.{Config}
 use Rattle.foyer_policy.specs.Errors.{kind_of}
 
@@ -13,6 +14,8 @@ use Rattle.foyer_policy.specs.Errors.{kind_of}
 pub record Policy (V C : Type 0) : Type 0 where
   -- the first fault of a configuration, where it has one
   pub fault : C → Option Reason
+  -- whether a configuration is of this policy
+  pub takes : V → C → Bool
   -- the view of a new policy, of this capacity
   pub opening : ℕ → C → V
   -- the records that are in, in the policy's order
@@ -38,9 +41,13 @@ without id None = None
 without id (Some i) = if i.id == id then None else Some i
 
 module _ {V C : Type 0} (m : Policy V C) where
-  -- the first fault of a configuration that may be given
-  abbrev pub fault_in : Option C → Option Reason
-  fault_in config = option_and_then m.fault config
+  -- why a configuration is refused by a policy of this view: it is another policy's, or else has a fault
+  abbrev pub refusal : V → C → Option Reason
+  refusal v c = if m.takes v c then m.fault c else Some WrongPolicy
+
+  -- the same of a configuration that may be given
+  abbrev pub refusal_in : V → Option C → Option Reason
+  refusal_in v config = option_and_then (refusal v) config
 
   -- what a call of pop answers, and the view that it leaves
   abbrev pub Pops : V → Option Item → V → Type 0

@@ -211,6 +211,7 @@ no_items l = record {
 abbrev pub s3fifo : Policy S3FifoView S3FifoConfig
 s3fifo = record {
   fault = s3fifo_fault;
+  takes = λ _ _. true;
   opening = λ capacity c. no_items (limits_of capacity c);
   order = λ v. items v.small ++ items v.main;
   pinned = λ v. [];

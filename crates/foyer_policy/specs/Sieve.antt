@@ -151,6 +151,7 @@ hand_without id (Some h) = if h == id then None else Some h
 abbrev pub sieve : (C : Type 0) → Policy SieveView C
 sieve C = record {
   fault = λ c. None;
+  takes = λ _ _. true;
   opening = λ capacity c. record { queue = []; hand = None };
   order = λ v. items v.queue;
   pinned = λ v. [];

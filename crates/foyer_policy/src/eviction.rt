@@ -4,14 +4,14 @@ ghost use Rattle.std.specs.Prelude.{◌≡◌, ◌≢◌, ◌↔◌, ℕ, ◌+�
 ghost use Rattle.std.specs.Option.{option_copied};
 ghost use Rattle.foyer_policy.specs.Items.{weight_of, count_of, find_id, IsNewIn};
 ghost use Rattle.foyer_policy.specs.Limit.{ok_unless};
-ghost use Rattle.foyer_policy.specs.Policy.{Policy, IsPolicy, Pops, fault_in, without};
+ghost use Rattle.foyer_policy.specs.Policy.{Policy, IsPolicy, Pops, refusal_in, without};
 ghost use Rattle.foyer_policy.specs.declared.types.Item.{Item};
 ghost use Rattle.foyer_policy.specs.declared.error.Reason.{Reason};
 ghost use Rattle.foyer_policy.specs.declared.error.Reason.TheVariants.{NoMemory};
 
-use crate::config::{Config, State};
 use crate::error::Result;
 use crate::lists::Place;
+use crate::queued::item_found;
 use crate::types::Item;
 use std::alloc::Global;
 
@@ -22,10 +22,7 @@ use std::alloc::Global;
 /// which meets the laws of `IsPolicy`. A `Place` that is passed names an item that is in.
 pub trait Eviction: Drop {
     /// The policy's configuration.
-    type Config: Config;
-
-    /// What the policy keeps beside an item.
-    type State: State;
+    type Config: Drop;
 
     ghost View: { Type 0 };
 
@@ -68,11 +65,15 @@ pub trait Eviction: Drop {
         ensures refused { IfSome (model.fault config.now) (λ reason. result ≡ Err reason) }
         ensures memory { IfErr result (λ e. model.fault config.now ≡ None → e ≡ NoMemory) };
 
-    /// Sets the capacity, and the configuration where one is given. It takes no memory. Refused with the
-    /// given configuration's first fault, and then nothing has changed.
+    /// Whether a configuration is of this policy.
+    fn takes(&self, config: &Self::Config) -> bool
+        ensures { result ≡ model.takes (view self.now) config.now };
+
+    /// Sets the capacity, and the configuration where one is given. It takes no memory. Refused with F17 where
+    /// that is another policy's, and else with its first fault; then nothing has changed.
     fn update(&mut self, capacity: usize, config: Option<&Self::Config>) -> Result<()>
-        ensures accepted { fault_in model (option_copied config.entry) ≡ None → IsOk result }
-        ensures refused { IfSome (fault_in model (option_copied config.entry)) (λ reason. result ≡ Err reason) }
+        ensures accepted { refusal_in model (view self.old) (option_copied config.entry) ≡ None → IsOk result }
+        ensures refused { IfSome (refusal_in model (view self.old) (option_copied config.entry)) (λ reason. result ≡ Err reason) }
         ensures view { OnOk result (view self.new ≡ model.update (view self.old) capacity (option_copied config.entry)) }
         ensures err { OnErr result (view self.new ≡ view self.old) }
         ensures places { (p : ℕ) → at self.new p ≡ at self.old p }
@@ -91,20 +92,6 @@ pub trait Eviction: Drop {
         ensures span { span self.old ≤ span self.new }
         ensures looked { looked self.new ≡ looked self.old };
 
-    /// Takes an item in. It asks for reserved room, a new id, and that all weights in it fit a `usize`
-    /// together; it takes no memory.
-    fn push(&mut self, item: Item) -> Place
-        requires room { 0 < room self.old }
-        requires new_id { IsNewIn item.id (model.order (view self.old)) }
-        requires fits { item.weight + weight_of (model.order (view self.old)) < 2 ^ 64 }
-        ensures view { view self.new ≡ model.push (view self.old) item }
-        ensures here { at self.new result ≡ Some item }
-        ensures was_free { at self.old result ≡ None }
-        ensures within { result < span self.new }
-        ensures others { (p : ℕ) → p ≢ result → at self.new p ≡ at self.old p }
-        ensures span { span self.new ≡ span self.old }
-        ensures looked { looked self.new ≡ looked self.old };
-
     /// Makes nodes until there are so many, and so a place for each number below `wanted`. Only memory can be
     /// missing (F7); nothing else changes.
     fn reserve_to(&mut self, wanted: usize) -> Result<()>
@@ -116,8 +103,14 @@ pub trait Eviction: Drop {
         ensures kept { span self.old ≤ span self.new }
         ensures looked { looked self.new ≡ looked self.old };
 
-    /// Takes an item in at a place that the caller chooses: one below the span, where nothing stands. Else it
-    /// asks for what `push` asks; it takes no memory.
+    /// A place below the span where nothing stands: the one that `push` takes. It asks for reserved room.
+    fn next_place(&self) -> Place
+        requires room { 0 < room self.now }
+        ensures free { at self.now result ≡ None }
+        ensures within { result < span self.now };
+
+    /// Takes an item in at a place that the caller chooses: one below the span, where nothing stands. It
+    /// asks for a new id, and that all weights in it fit a `usize` together; it takes no memory.
     fn push_at(&mut self, place: Place, item: Item)
         requires within { place < span self.old }
         requires free { at self.old place ≡ None }
@@ -129,22 +122,28 @@ pub trait Eviction: Drop {
         ensures span { span self.new ≡ span self.old }
         ensures looked { looked self.new ≡ looked self.old };
 
-    /// Takes the victim out, or answers none where every item is pinned. Memory can be missing (F7) only
-    /// where the policy is to remember what leaves; then nothing has changed.
-    fn pop(&mut self) -> Result<Option<Item>>
-        ensures pops { IfOk result (λ found. Pops model (view self.old) found (view self.new)) }
-        ensures places { IfOk result (λ found. IfSome found (λ i. (p : ℕ) → at self.new p ≡ without i.id (at self.old p))) }
-        ensures none { IfOk result (λ found. IfNone found ((p : ℕ) → at self.new p ≡ at self.old p)) }
-        ensures looked { OnOk result (looked self.new ≡ model.looks (view self.old)) }
-        ensures room { room self.old ≤ room self.new }
+    /// Takes an item in at the next place. It asks for reserved room, a new id, and that all weights in it fit a
+    /// `usize` together; it takes no memory.
+    #[inline(always)]
+    fn push(&mut self, item: Item) -> Place
+        requires room { 0 < room self.old }
+        requires new_id { IsNewIn item.id (model.order (view self.old)) }
+        requires fits { item.weight + weight_of (model.order (view self.old)) < 2 ^ 64 }
+        ensures view { view self.new ≡ model.push (view self.old) item }
+        ensures here { at self.new result ≡ Some item }
+        ensures was_free { at self.old result ≡ None }
+        ensures within { result < span self.new }
+        ensures others { (p : ℕ) → p ≢ result → at self.new p ≡ at self.old p }
         ensures span { span self.new ≡ span self.old }
-        ensures refused { IfErr result (λ e. e ≡ NoMemory) }
-        ensures granted { OnErr result (pop_wants_memory self.old) }
-        ensures err_view { OnErr result (view self.new ≡ view self.old) }
-        ensures err_places { OnErr result ((p : ℕ) → at self.new p ≡ at self.old p) }
-        ensures err_looked { OnErr result (looked self.new ≡ looked self.old) };
+        ensures looked { looked self.new ≡ looked self.old }
+    {
+        let place = self.next_place();
+        self.push_at(place, item);
+        place
+    }
 
-    /// The same as `pop`, and it answers the place too at which the victim stood.
+    /// Takes the victim out, and answers it with the place at which it stood, or none where every item is pinned. Memory
+    /// can be missing (F7) only where the policy is to remember what leaves; then nothing has changed.
     fn pop_at(&mut self) -> Result<Option<(Place, Item)>>
         ensures stood { IfOk result (λ found. IfSome found (λ e. at self.old e.0 ≡ Some e.1)) }
         ensures pops { IfOk result (λ found. Pops model (view self.old) (option_map (λ e. e.1) found) (view self.new)) }
@@ -159,6 +158,24 @@ pub trait Eviction: Drop {
         ensures err_view { OnErr result (view self.new ≡ view self.old) }
         ensures err_places { OnErr result ((p : ℕ) → at self.new p ≡ at self.old p) }
         ensures err_looked { OnErr result (looked self.new ≡ looked self.old) };
+
+    /// The same as `pop_at`, and it answers the victim alone.
+    #[inline(always)]
+    fn pop(&mut self) -> Result<Option<Item>>
+        ensures pops { IfOk result (λ found. Pops model (view self.old) found (view self.new)) }
+        ensures places { IfOk result (λ found. IfSome found (λ i. (p : ℕ) → at self.new p ≡ without i.id (at self.old p))) }
+        ensures none { IfOk result (λ found. IfNone found ((p : ℕ) → at self.new p ≡ at self.old p)) }
+        ensures looked { OnOk result (looked self.new ≡ model.looks (view self.old)) }
+        ensures room { room self.old ≤ room self.new }
+        ensures span { span self.new ≡ span self.old }
+        ensures refused { IfErr result (λ e. e ≡ NoMemory) }
+        ensures granted { OnErr result (pop_wants_memory self.old) }
+        ensures err_view { OnErr result (view self.new ≡ view self.old) }
+        ensures err_places { OnErr result ((p : ℕ) → at self.new p ≡ at self.old p) }
+        ensures err_looked { OnErr result (looked self.new ≡ looked self.old) }
+    {
+        Ok(item_found(self.pop_at()?))
+    }
 
     /// Takes the item at a place out. It takes no memory.
     fn remove(&mut self, place: Place) -> Item

@@ -5,7 +5,7 @@ ghost use Rattle.std.specs.Prelude.{◌≡◌, [], ◌∷◌, map};
 use crate::error::{Error, Reason, Result};
 use crate::eviction::Eviction;
 use crate::lists::{Lists, Place};
-use crate::queued::{append_items, item_found};
+use crate::queued::append_items;
 use crate::types::Item;
 use serde::{Deserialize, Serialize};
 use std::alloc::Global;
@@ -51,8 +51,6 @@ impl Eviction for Fifo {
 
     type Config = FifoConfig;
 
-    type State = FifoState;
-
     ghost View = { List Item };
 
     ghost model = { fifo FifoConfig };
@@ -85,6 +83,10 @@ impl Eviction for Fifo {
         })
     }
 
+    fn takes(&self, _config: &FifoConfig) -> bool {
+        true
+    }
+
     fn update(&mut self, _capacity: usize, config: Option<&FifoConfig>) -> Result<()> {
         match config {
             Some(config) => Self::check(config),
@@ -109,20 +111,13 @@ impl Eviction for Fifo {
     }
 
     #[inline(always)]
-    fn push(&mut self, item: Item) -> Place {
-        let place = self.queue.next_place();
-        self.push_at(place, item);
-        place
+    fn next_place(&self) -> Place {
+        self.queue.next_place()
     }
 
     #[inline(always)]
     fn push_at(&mut self, place: Place, item: Item) {
         self.queue.push_back_at(0, place, item);
-    }
-
-    #[inline(always)]
-    fn pop(&mut self) -> Result<Option<Item>> {
-        Ok(item_found(self.pop_at()?))
     }
 
     #[inline(always)]

@@ -10,7 +10,7 @@ use crate::error::{Error, Field, Reason, Result};
 use crate::eviction::Eviction;
 use crate::limit::{Range, check_ratio, limit_of};
 use crate::lists::{Lists, Place};
-use crate::queued::{append_items, item_found};
+use crate::queued::append_items;
 use crate::sketch::Sketch;
 use crate::types::{Item, Ratio};
 use segments::{PROBATION, PROTECTED, WINDOW, drain, next_list, settle, weight_if};
@@ -134,8 +134,6 @@ impl Eviction for Lfu {
 
     type Config = LfuConfig;
 
-    type State = LfuState;
-
     ghost View = { LfuView };
 
     ghost model = { lfu };
@@ -189,6 +187,10 @@ impl Eviction for Lfu {
         })
     }
 
+    fn takes(&self, _config: &LfuConfig) -> bool {
+        true
+    }
+
     fn update(&mut self, capacity: usize, config: Option<&LfuConfig>) -> Result<()> {
         if let Some(config) = config {
             Self::check(config)?;
@@ -211,10 +213,8 @@ impl Eviction for Lfu {
     }
 
     #[inline(always)]
-    fn push(&mut self, item: Item) -> Place {
-        let place = self.lists.next_place();
-        self.push_at(place, item);
-        place
+    fn next_place(&self) -> Place {
+        self.lists.next_place()
     }
 
     fn push_at(&mut self, place: Place, item: Item) {
@@ -222,11 +222,6 @@ impl Eviction for Lfu {
         self.lists.push_back_at(WINDOW, place, item);
         let weight = self.window_weight + item.weight;
         self.window_weight = settle(&mut self.lists, WINDOW, weight, self.window_limit);
-    }
-
-    #[inline(always)]
-    fn pop(&mut self) -> Result<Option<Item>> {
-        Ok(item_found(self.pop_at()?))
     }
 
     fn pop_at(&mut self) -> Result<Option<(Place, Item)>> {

@@ -1,9 +1,11 @@
 //! Eviction policies over linked lists, and the types that all crates of the cache share.
 #![tactic(auto)]
 
+pub mod any;
 pub mod config;
 pub mod error;
 pub mod eviction;
+pub mod eviction_config;
 pub mod fifo;
 pub mod ghost_queue;
 pub mod hash;
@@ -13,6 +15,7 @@ pub mod link;
 pub mod lists;
 pub mod looks;
 pub mod lru;
+pub mod past;
 pub mod properties;
 pub(crate) mod queued;
 pub mod s3fifo;
@@ -20,9 +23,11 @@ pub mod sieve;
 pub mod sketch;
 pub mod types;
 
+pub use any::AnyEviction;
 pub use config::{Config, State};
 pub use error::{Error, ErrorKind, Fault, Field, Reason, Result};
 pub use eviction::Eviction;
+pub use eviction_config::EvictionConfig;
 pub use fifo::{Fifo, FifoConfig, FifoState};
 pub use ghost_queue::{GhostQueue, longest_tails_are_kept};
 pub use hash::{DefaultHasher, HashBuilder, ModHasher};
@@ -31,6 +36,7 @@ pub use link::Link;
 pub use lists::{Lists, Place};
 pub use looks::looks_are_paid;
 pub use lru::{Lru, LruConfig, LruState};
+pub use past::Past;
 pub use properties::Properties;
 pub use s3fifo::{S3Fifo, S3FifoConfig, S3FifoState};
 pub use sieve::{Sieve, SieveConfig, SieveState};

@@ -12,7 +12,7 @@ use crate::error::{Error, Field, Reason, Result};
 use crate::eviction::Eviction;
 use crate::limit::{Range, check_ratio, limit_of};
 use crate::lists::{Lists, Place};
-use crate::queued::{Queued, append_items, item_found};
+use crate::queued::{Queued, append_items};
 use crate::types::{Hint, Item, Ratio};
 use pools::{HIGH, LOW, Node, PIN, drain, relist, settle};
 use serde::{Deserialize, Serialize};
@@ -96,8 +96,6 @@ impl Eviction for Lru {
 
     type Config = LruConfig;
 
-    type State = LruState;
-
     ghost View = { LruView };
 
     ghost model = { lru };
@@ -140,6 +138,10 @@ impl Eviction for Lru {
         })
     }
 
+    fn takes(&self, _config: &LruConfig) -> bool {
+        true
+    }
+
     fn update(&mut self, capacity: usize, config: Option<&LruConfig>) -> Result<()> {
         let ratio = match config {
             Some(config) => {
@@ -165,10 +167,8 @@ impl Eviction for Lru {
     }
 
     #[inline(always)]
-    fn push(&mut self, item: Item) -> Place {
-        let place = self.lists.next_place();
-        self.push_at(place, item);
-        place
+    fn next_place(&self) -> Place {
+        self.lists.next_place()
     }
 
     #[inline(always)]
@@ -194,23 +194,6 @@ impl Eviction for Lru {
 
     /// Takes the first item of low priority out, or else the first of the pool, or answers none where
     /// every item is pinned. It gives no pinned item, and is never refused.
-    #[inline(always)]
-    fn pop(&mut self) -> Result<Option<Item>>
-        ensures ok { IsOk result }
-        ensures unpinned { IfOk result (λ found. IfSome found (λ i. IsNewIn i.id (lru.pinned (lru_view self.old)))) }
-
-        // and what every policy ensures
-        ensures pops { IfOk result (λ found. Pops lru (lru_view self.old) found (lru_view self.new)) }
-        ensures places { IfOk result (λ found. IfSome found (λ i. (p : ℕ)
-            → queued_at p self.new.lists ≡ without i.id (queued_at p self.old.lists))) }
-        ensures none { IfOk result (λ found. IfNone found ((p : ℕ) → queued_at p self.new.lists ≡ queued_at p self.old.lists)) }
-        ensures room { self.old.room ≤ self.new.room }
-        ensures span { self.new.span ≡ self.old.span }
-    {
-        Ok(item_found(self.pop_at()?))
-    }
-
-    /// The same as `pop`, and it answers the place too at which the victim stood.
     #[inline(always)]
     fn pop_at(&mut self) -> Result<Option<(Place, Item)>>
         ensures ok { IsOk result }

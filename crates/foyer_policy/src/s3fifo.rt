@@ -14,7 +14,7 @@ use crate::eviction::Eviction;
 use crate::ghost_queue::GhostQueue;
 use crate::limit::{Range, check_ratio, limit_of};
 use crate::lists::{Lists, Place};
-use crate::queued::{Queued, append_items, item_found};
+use crate::queued::{Queued, append_items};
 use crate::types::{Item, Ratio};
 pub use queues::S3FifoState;
 use queues::{MAIN, MOST, Node, SMALL, count, pop_victim};
@@ -128,8 +128,6 @@ impl S3Fifo {
 impl Eviction for S3Fifo {
     type Config = S3FifoConfig;
 
-    type State = S3FifoState;
-
     ghost View = { S3FifoView };
 
     ghost model = { s3fifo };
@@ -180,6 +178,10 @@ impl Eviction for S3Fifo {
         })
     }
 
+    fn takes(&self, _config: &S3FifoConfig) -> bool {
+        true
+    }
+
     fn update(&mut self, capacity: usize, config: Option<&S3FifoConfig>) -> Result<()> {
         if let Some(config) = config {
             Self::check(config)?;
@@ -204,10 +206,8 @@ impl Eviction for S3Fifo {
     }
 
     #[inline(always)]
-    fn push(&mut self, item: Item) -> Place {
-        let place = self.queues.next_place();
-        self.push_at(place, item);
-        place
+    fn next_place(&self) -> Place {
+        self.queues.next_place()
     }
 
     #[inline(always)]
@@ -227,25 +227,6 @@ impl Eviction for S3Fifo {
             .push_back_at(SMALL, place, Queued { item, state });
     }
 
-    fn pop(&mut self) -> Result<Option<Item>>
-        ensures few { OnOk result (self.new.looks ≤ 4 * length (s3fifo.order (view_of self.old))) }
-
-        // and what every policy ensures
-        ensures pops { IfOk result (λ found. Pops s3fifo (view_of self.old) found (view_of self.new)) }
-        ensures places { IfOk result (λ found. PlacesAfter found self.old.nodes.lists self.new.nodes.lists) }
-        ensures looked { OnOk result (self.new.looks ≡ s3fifo_looks (view_of self.old)) }
-        ensures room { self.old.nodes.room ≤ self.new.nodes.room }
-        ensures span { self.new.nodes.span ≡ self.old.nodes.span }
-        ensures refused { IfErr result (λ e. e ≡ NoMemory) }
-        ensures granted { OnErr result (WantsMemory self.old) }
-        ensures err_view { OnErr result (view_of self.new ≡ view_of self.old) }
-        ensures err_places { OnErr result ((p : ℕ) → item_at self.new.nodes.lists p ≡ item_at self.old.nodes.lists p) }
-        ensures err_looked { OnErr result (self.new.looks ≡ self.old.looks) }
-    {
-        Ok(item_found(self.pop_at()?))
-    }
-
-    /// The same as `pop`, and it answers the place too at which the victim stood.
     fn pop_at(&mut self) -> Result<Option<(Place, Item)>>
         ensures few { OnOk result (self.new.looks ≤ 4 * length (s3fifo.order (view_of self.old))) }
 

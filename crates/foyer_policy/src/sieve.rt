@@ -11,7 +11,7 @@ ghost use Rattle.foyer_policy.specs.SieveQueue.{view_of, entry, entries, entry_i
 use crate::error::{Error, Reason, Result};
 use crate::eviction::Eviction;
 use crate::lists::{Lists, Place};
-use crate::queued::{Queued, append_items, item_found};
+use crate::queued::{Queued, append_items};
 use crate::types::Item;
 use serde::{Deserialize, Serialize};
 use std::alloc::Global;
@@ -145,8 +145,6 @@ impl Eviction for Sieve {
 
     type Config = SieveConfig;
 
-    type State = SieveState;
-
     ghost View = { SieveView };
 
     ghost model = { sieve SieveConfig };
@@ -181,6 +179,10 @@ impl Eviction for Sieve {
         })
     }
 
+    fn takes(&self, _config: &SieveConfig) -> bool {
+        true
+    }
+
     fn update(&mut self, _capacity: usize, config: Option<&SieveConfig>) -> Result<()> {
         match config {
             Some(config) => Self::check(config),
@@ -205,10 +207,8 @@ impl Eviction for Sieve {
     }
 
     #[inline(always)]
-    fn push(&mut self, item: Item) -> Place {
-        let place = self.queue.next_place();
-        self.push_at(place, item);
-        place
+    fn next_place(&self) -> Place {
+        self.queue.next_place()
     }
 
     #[inline(always)]
@@ -225,24 +225,6 @@ impl Eviction for Sieve {
 
     /// Takes the first unvisited record of the rotation from the hand out, or else the first of the
     /// rotation; or answers none where there is no record. It is never refused.
-    fn pop(&mut self) -> Result<Option<Item>>
-        ensures ok { IsOk result }
-        ensures first { IfOk result (λ found. found ≡ unvisited_or_first (rotation (view_of self.old))) }
-        ensures few { self.new.looks ≤ length ((sieve SieveConfig).order (view_of self.old)) + 1 }
-
-        // and what every policy ensures
-        ensures pops { IfOk result (λ found. Pops (sieve SieveConfig) (view_of self.old) found (view_of self.new)) }
-        ensures places { IfOk result (λ found. IfSome found (λ i. (p : ℕ)
-            → item_at self.new.nodes.lists p ≡ without i.id (item_at self.old.nodes.lists p))) }
-        ensures none { IfOk result (λ found. IfNone found ((p : ℕ) → item_at self.new.nodes.lists p ≡ item_at self.old.nodes.lists p)) }
-        ensures looked { self.new.looks ≡ (sieve SieveConfig).looks (view_of self.old) }
-        ensures room { self.old.nodes.room ≤ self.new.nodes.room }
-        ensures span { self.new.nodes.span ≡ self.old.nodes.span }
-    {
-        Ok(item_found(self.pop_at()?))
-    }
-
-    /// The same as `pop`, and it answers the place too at which the victim stood.
     fn pop_at(&mut self) -> Result<Option<(Place, Item)>>
         ensures ok { IsOk result }
         ensures first { IfOk result (λ found. option_map (λ e. e.1) found

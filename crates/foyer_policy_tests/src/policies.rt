@@ -31,7 +31,10 @@ pub fn assert_order<E: Eviction>(rt: &impl Abort, policy: &E, ids: &[u64]) -> Re
     Ok(())
 }
 
-fn answers_each_call<E: Eviction>(rt: &impl Abort, alloc: Global) -> Result<(), Fail> {
+fn answers_each_call<E: Eviction>(rt: &impl Abort, alloc: Global) -> Result<(), Fail>
+where
+    E::Config: Default,
+{
     looks_are_paid::<E>();
     let config = E::Config::default();
     E::check(&config)?;
@@ -71,7 +74,10 @@ fn answers_each_call<E: Eviction>(rt: &impl Abort, alloc: Global) -> Result<(), 
 }
 
 // Where nothing was used, the next two victims are read ahead.
-fn gives_its_victims_ahead<E: Eviction>(rt: &impl Abort, alloc: Global) -> Result<(), Fail> {
+fn gives_its_victims_ahead<E: Eviction>(rt: &impl Abort, alloc: Global) -> Result<(), Fail>
+where
+    E::Config: Default,
+{
     let mut policy = E::new(alloc, 5, &E::Config::default())?;
     assert_eq!(rt; policy.ahead(), (None, None));
     policy.reserve_to(3)?;

@@ -1,24 +1,25 @@
 //! The cache that many threads share.
 
-ghost use Rattle.std.specs.Prelude.{◌≡◌, ◌<◌, None, Err, IfOk, IfErr, IfSome, OnOk, true, vec_len};
+ghost use Rattle.std.specs.Prelude.{◌≡◌, None, Err, IfErr, IfSome, OnOk};
 ghost use Rattle.foyer_policy.specs.declared.error.Reason.TheVariants.{NoMemory};
 
 use crate::fetch::{FetchTypes, NoFetch};
 use crate::listener::NoListener;
 use crate::pipe::{NoopPipe, Pipe};
-use crate::shared::{RawShard, Shared};
+use crate::shards::Shards;
+use crate::shared::Shared;
 use crate::shares::Shares;
 use crate::ticket::{Answer, Notifier};
 use foyer_core::{
-    AdmitAll, CacheCore, CacheProperties, Filter, Finder, RawCacheConfig, TagFinder, UnitWeighter,
-    Weighter,
+    AdmitAll, CacheCore, CacheProperties, Filter, Finder, RawCacheConfig, Rules, TagFinder,
+    UnitWeighter, Weighter,
 };
 use foyer_policy::{
     DefaultHasher, Error, EventListener, Eviction, HashBuilder, Key, Properties, Reason, Result,
     Value,
 };
 use std::alloc::Global;
-use std::sync::{Arc, Mutex, Wait};
+use std::sync::{Arc, Wait};
 
 mod bulk;
 mod fetching;
@@ -43,17 +44,17 @@ pub struct RawCache<
     I = TagFinder<K>,
 >
 where
-    H: Wait + Drop,
+    H: Drop,
     E: Eviction,
     K: Key,
     V: Value,
-    S: HashBuilder,
+    S: Drop,
     P: Properties,
-    W: Weighter<K, V>,
-    A: Filter<K, V>,
+    W: Drop,
+    A: Drop,
     L: EventListener<Key = K, Value = V>,
     I: Finder<K>,
-    Q: Pipe<Key = K, Value = V, Properties = P>,
+    Q: Drop,
     T: FetchTypes<K, V, P>,
 {
     shares: Shares<H, E, K, V, S, P, W, A, L, Q, T::Required, I>,
@@ -61,7 +62,7 @@ where
 
 impl<H, E, K, V, S, P, W, A, L, Q, T, I> RawCache<H, E, K, V, S, P, W, A, L, Q, T, I>
 where
-    H: Wait + Drop,
+    H: Drop,
     E: Eviction,
     K: Key,
     V: Value,
@@ -71,7 +72,7 @@ where
     A: Filter<K, V>,
     L: EventListener<Key = K, Value = V>,
     I: Finder<K>,
-    Q: Pipe<Key = K, Value = V, Properties = P>,
+    Q: Drop,
     T: FetchTypes<K, V, P>,
 {
     ghost use Rattle.foyer_core.specs.Core.{core_fault};
@@ -103,25 +104,37 @@ where
             T::Required,
             I,
         >::new_shards(alloc, &config)?;
-        let shards = locked(alloc, made)?;
-        let capacity = config.capacity;
-        let hash_builder = Arc::new(alloc, config.hash_builder)?;
         let shared = Shared {
-            rt,
-            shards,
-            hash_builder,
-            weighter: config.weighter,
-            filter: config.filter,
+            shards: Shards::new(rt, alloc, made, config.capacity)?,
+            hash_builder: Arc::new(alloc, config.hash_builder)?,
+            rules: Rules {
+                weighter: config.weighter,
+                filter: config.filter,
+            },
             listener,
-            resizing: Mutex::new(capacity),
-            alloc,
         };
         let shared = Arc::new(alloc, shared)?;
         Ok(RawCache {
             shares: Shares { shared, pipe: None },
         })
     }
+}
 
+impl<H, E, K, V, S, P, W, A, L, Q, T, I> RawCache<H, E, K, V, S, P, W, A, L, Q, T, I>
+where
+    H: Wait + Drop,
+    E: Eviction,
+    K: Key,
+    V: Value,
+    S: Drop,
+    P: Properties,
+    W: Drop,
+    A: Drop,
+    L: EventListener<Key = K, Value = V>,
+    I: Finder<K>,
+    Q: Drop,
+    T: FetchTypes<K, V, P>,
+{
     /// The same cache again, with the same pipe. Refused where something can't be shared (F7).
     pub fn try_clone(&self) -> Result<Self> {
         let shares = self.shares.try_clone()?;
@@ -143,7 +156,7 @@ where
 
     /// The weight that the records may have together: that of the last resize, or else the first one.
     pub fn capacity(&self) -> usize {
-        *self.shares.shared.resizing.lock(&self.shares.shared.rt)
+        self.shares.shared.shards.capacity()
     }
 
     /// How many shards there are.
@@ -153,60 +166,16 @@ where
 
     /// The sum of the weights of the records that a get finds, one shard after the other.
     pub fn usage(&self) -> u128 {
-        let mut sum = 0u128;
-        for shard in self.shares.shared.shards.as_slice() {
-            let usage = shard.lock(&self.shares.shared.rt).usage();
-            sum = sum.saturating_add(usage as u128);
-        }
-        sum
+        self.shares.shared.shards.usage()
     }
 
     /// How many records a get finds, one shard after the other.
     pub fn entries(&self) -> u128 {
-        let mut sum = 0u128;
-        for shard in self.shares.shared.shards.as_slice() {
-            let entries = shard.lock(&self.shares.shared.rt).entries();
-            sum = sum.saturating_add(entries as u128);
-        }
-        sum
-    }
-
-    /// Whether in each shard the usage is the sum of the weights of the records that a get finds, which are counted anew under
-    /// its lock, one shard after the other. It always is.
-    pub fn fits(&self) -> bool
-        ensures { result ≡ true }
-    {
-        for shard in self.shares.shared.shards.as_slice() {
-            let fits = shard.lock(&self.shares.shared.rt).fits();
-            if !fits {
-                return false;
-            }
-        }
-        true
-    }
-
-    /// The hash of a key. Equal keys have equal ones.
-    pub fn hash(&self, key: &K) -> u64 {
-        self.shares.shared.hash(key)
+        self.shares.shared.shards.entries()
     }
 
     /// What gives the keys their hashes.
     pub fn hash_builder(&self) -> &Arc<S> {
         &self.shares.shared.hash_builder
     }
-}
-
-// Each shard under a lock of its own.
-fn locked<E: Eviction, K: Key, V: Value, P: Properties, R: Drop, I: Finder<K>>(
-    alloc: Global,
-    made: Vec<RawShard<E, K, V, P, R, I>>,
-) -> Result<Vec<Mutex<RawShard<E, K, V, P, R, I>>>>
-    ensures len { IfOk result (λ all. vec_len all ≡ vec_len made) }
-    ensures memory { IfErr result (λ e. e ≡ NoMemory) }
-{
-    let mut all = Vec::new(alloc);
-    for shard in made {
-        all.push(Mutex::new(shard))?;
-    }
-    Ok(all)
 }

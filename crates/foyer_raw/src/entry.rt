@@ -4,8 +4,8 @@ ghost use Rattle.std.specs.Prelude.{◌≡◌, IfOk};
 
 use crate::pipe::Pipe;
 use crate::shares::Shares;
-use foyer_core::{CoreEntry, Filter, Finder, Piece, TagFinder, Weighter};
-use foyer_policy::{EventListener, Eviction, HashBuilder, Key, Properties, Result, Source, Value};
+use foyer_core::{CoreEntry, Finder, Piece, TagFinder};
+use foyer_policy::{EventListener, Eviction, Key, Properties, Result, Source, Value};
 use std::fmt::{self, Debug};
 use std::marker::Model;
 use std::ops::Deref;
@@ -19,10 +19,10 @@ where
     E: Eviction,
     K: Key,
     V: Value,
-    S: HashBuilder,
+    S: Drop,
     P: Properties,
-    W: Weighter<K, V>,
-    A: Filter<K, V>,
+    W: Drop,
+    A: Drop,
     L: EventListener<Key = K, Value = V>,
     I: Finder<K>,
     Q: Pipe<Key = K, Value = V, Properties = P>,
@@ -38,10 +38,10 @@ where
     E: Eviction,
     K: Key,
     V: Value,
-    S: HashBuilder,
+    S: Drop,
     P: Properties,
-    W: Weighter<K, V>,
-    A: Filter<K, V>,
+    W: Drop,
+    A: Drop,
     L: EventListener<Key = K, Value = V>,
     I: Finder<K>,
     Q: Pipe<Key = K, Value = V, Properties = P>,
@@ -60,10 +60,10 @@ where
     E: Eviction,
     K: Key,
     V: Value,
-    S: HashBuilder,
+    S: Drop,
     P: Properties,
-    W: Weighter<K, V>,
-    A: Filter<K, V>,
+    W: Drop,
+    A: Drop,
     L: EventListener<Key = K, Value = V>,
     I: Finder<K>,
     Q: Pipe<Key = K, Value = V, Properties = P>,
@@ -81,10 +81,10 @@ where
     E: Eviction,
     K: Key,
     V: Value,
-    S: HashBuilder,
+    S: Drop,
     P: Properties,
-    W: Weighter<K, V>,
-    A: Filter<K, V>,
+    W: Drop,
+    A: Drop,
     L: EventListener<Key = K, Value = V>,
     I: Finder<K>,
     Q: Pipe<Key = K, Value = V, Properties = P>,
@@ -151,12 +151,12 @@ where
 
     /// How many handles the record has. It locks the record's shard.
     pub fn refs(&self) -> usize {
-        self.shares.shared.refs(&self.core)
+        self.shares.shared.shards.refs(&self.core)
     }
 
     /// Whether no get finds the record any more. It locks the record's shard.
     pub fn is_outdated(&self) -> bool {
-        self.shares.shared.is_outdated(&self.core)
+        self.shares.shared.shards.is_outdated(&self.core)
     }
 
     /// One more entry of the same record, which counts as a handle and not as a use. It locks the record's shard.
@@ -164,7 +164,7 @@ where
     pub fn try_clone(&self) -> Result<Self>
         ensures { IfOk result (λ e. e.kept ≡ self.now.kept) }
     {
-        let core = self.shares.shared.clone_handle(&self.core)?;
+        let core = self.shares.shared.shards.clone_handle(&self.core)?;
         match self.shares.try_clone() {
             Ok(shares) => Ok(shares.entry(core)),
             Err(refused) => {
@@ -186,10 +186,10 @@ where
     E: Eviction,
     K: Key,
     V: Value,
-    S: HashBuilder,
+    S: Drop,
     P: Properties,
-    W: Weighter<K, V>,
-    A: Filter<K, V>,
+    W: Drop,
+    A: Drop,
     L: EventListener<Key = K, Value = V>,
     I: Finder<K>,
     Q: Pipe<Key = K, Value = V, Properties = P>,
@@ -212,10 +212,10 @@ where
     E: Eviction,
     K: Key,
     V: Value,
-    S: HashBuilder,
+    S: Drop,
     P: Properties,
-    W: Weighter<K, V>,
-    A: Filter<K, V>,
+    W: Drop,
+    A: Drop,
     L: EventListener<Key = K, Value = V>,
     I: Finder<K>,
     Q: Pipe<Key = K, Value = V, Properties = P>,

@@ -8,6 +8,7 @@ pub mod fetch;
 pub mod flush;
 pub mod listener;
 pub mod pipe;
+mod shards;
 mod shared;
 mod shares;
 pub mod ticket;

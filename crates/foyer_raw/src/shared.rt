@@ -1,83 +1,56 @@
 //! What the clones, the entries and the tasks of a cache share.
 
-ghost use Rattle.std.specs.Prelude.{◌≡◌, ◌<◌, vec_len};
+ghost use Rattle.std.specs.Prelude.{◌≡◌, true};
 
-use crate::ticket::{Answer, Notifier};
-use foyer_core::{Filter, Finder, Shard, Weighter};
-use foyer_policy::{Event, EventListener, Eviction, HashBuilder, Key, Properties, Value};
-use std::alloc::Global;
-use std::sync::{Arc, Mutex, MutexGuard, Wait};
-
-mod fetches;
-mod keys;
-
-pub(crate) use fetches::{Later, RawEnded};
-pub(crate) use keys::RawInserted;
-
-/// A shard of a cache whose waiters hold senders, and whose later builders are of this type.
-pub(crate) type RawShard<E, K, V, P, R, I> = Shard<E, K, V, P, Notifier<Answer<K, V, P>>, R, I>;
+use crate::shards::{RawEnded, Shards};
+use foyer_core::{Data, Filter, Finder, Piece, Rules, Weighter};
+use foyer_policy::{EventListener, Eviction, HashBuilder, Key, Properties, Value};
+use std::sync::{Arc, Wait};
 
 /// What the clones, the entries and the tasks of a cache share. The last owner's drop tells the listener all records that
-/// are still in, as `Clear`: shard by shard, in each policy's order, or where there is no memory for that order, in the
-/// order of slots.
+/// are still in.
 pub(crate) struct Shared<H, E, K, V, S, P, W, A, L, R, I>
 where
-    H: Wait + Drop,
+    H: Drop,
     E: Eviction,
     K: Key,
     V: Value,
-    S: HashBuilder,
+    S: Drop,
     P: Properties,
-    W: Weighter<K, V>,
-    A: Filter<K, V>,
+    W: Drop,
+    A: Drop,
     L: EventListener<Key = K, Value = V>,
-    I: Finder<K>,
     R: Drop,
+    I: Finder<K>,
 {
-    pub(crate) rt: H,
-    pub(crate) shards: Vec<Mutex<RawShard<E, K, V, P, R, I>>>,
+    pub(crate) shards: Shards<H, E, K, V, P, R, I>,
     pub(crate) hash_builder: Arc<S>,
-    pub(crate) weighter: W,
-    pub(crate) filter: A,
+    pub(crate) rules: Rules<W, A>,
     pub(crate) listener: L,
-    // The capacity, under the lock that orders changes of all shards.
-    pub(crate) resizing: Mutex<usize>,
-    pub(crate) alloc: Global,
-    ghost some: { 0 < vec_len shards },
 }
 
 impl<H, E, K, V, S, P, W, A, L, R, I> Drop for Shared<H, E, K, V, S, P, W, A, L, R, I>
 where
-    H: Wait + Drop,
+    H: Drop,
     E: Eviction,
     K: Key,
     V: Value,
-    S: HashBuilder,
+    S: Drop,
     P: Properties,
-    W: Weighter<K, V>,
-    A: Filter<K, V>,
+    W: Drop,
+    A: Drop,
     L: EventListener<Key = K, Value = V>,
-    I: Finder<K>,
     R: Drop,
+    I: Finder<K>,
 {
     fn drop(self) {
         let Shared {
-            rt: _,
             shards,
             hash_builder: _,
-            weighter: _,
-            filter: _,
+            rules: _,
             listener,
-            resizing: _,
-            alloc: _,
         } = self;
-        for shard in shards {
-            shard.into_inner().finish(&|key: &K, value: &V| listener.on_leave(
-                Event::Clear,
-                key,
-                value,
-            ));
-        }
+        shards.finish(&listener);
     }
 }
 
@@ -92,27 +65,56 @@ where
     W: Weighter<K, V>,
     A: Filter<K, V>,
     L: EventListener<Key = K, Value = V>,
-    I: Finder<K>,
     R: Drop,
+    I: Finder<K>,
 {
-    // The hash of a key.
-    pub(crate) fn hash(&self, key: &K) -> u64 {
-        self.hash_builder.hash_one(key)
-    }
-
-    // The place of the shard in which the keys of a hash live.
-    pub(crate) fn shard_index(&self, hash: u64) -> usize
-        ensures { result < vec_len self.now.shards }
+    // A record that is to come in, of a key that has this hash: the weighter is asked, and then the filter, with no lock
+    // held.
+    pub(crate) fn data(&self, hash: u64, key: K, value: V, properties: P) -> Data<K, V, P>
+        ensures key { result.key ≡ key }
+        ensures value { result.value ≡ value }
     {
-        (hash % self.shards.len() as u64) as usize
+        self.rules.data(hash, key, value, properties)
     }
 
-    // The shard of a hash, locked. A lock that is free is had without waiting, which is cheaper.
-    pub(crate) fn lock(&self, hash: u64) -> MutexGuard<'_, RawShard<E, K, V, P, R, I>> {
-        let place = self.shard_index(hash);
-        match self.shards[place].try_lock() {
-            Some(shard) => shard,
-            None => self.shards[place].lock(&self.rt),
+    // The weight that the weighter gives a piece, whose key has this hash, and 0 of one that its shard knows, of which it
+    // is not asked. A piece that the shard knows once it knows from then on.
+    pub(crate) fn weight_of(&self, hash: u64, piece: &Piece<K, V, P>) -> usize {
+        let is_known = self.shards.lock(hash).knows(hash, piece);
+        if is_known {
+            return 0;
         }
+        self.rules.weighter.weigh(piece.key(), piece.value())
+    }
+
+    // Ends an open fetch of a key, which has this hash, with a piece. F12 where the record for which the piece stands has
+    // another key, or lives in another shard. The weighter is asked of a piece that stands for none here and has this key.
+    pub(crate) fn complete_piece(
+        &self,
+        hash: u64,
+        key: &K,
+        fetch: u64,
+        piece: Piece<K, V, P>,
+    ) -> RawEnded<K, V, P>
+        requires clones { (k c : K) → K.is_clone k c → K.eq c k ≡ true }
+    {
+        let own = self.hash_builder.hash_one(piece.key());
+        let weight = if own == hash && *key == *piece.key() {
+            self.weight_of(own, &piece)
+        } else {
+            0
+        };
+        let is_home = self.shards.index_of(own) == self.shards.index_of(hash);
+        let mut shard = self.shards.lock(hash);
+        shard.complete_piece(
+            self.shards.alloc,
+            hash,
+            key,
+            fetch,
+            piece,
+            own,
+            is_home,
+            weight,
+        )
     }
 }

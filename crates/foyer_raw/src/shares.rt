@@ -6,27 +6,28 @@ use crate::entry::RawCacheEntry;
 use crate::flush::Flush;
 use crate::listener::tell;
 use crate::pipe::Pipe;
-use crate::shared::{RawEnded, Shared};
+use crate::shards::RawEnded;
+use crate::shared::Shared;
 use crate::ticket::{Answer, Notifier, Ticket, Waiters, refuse};
-use foyer_core::{Answers, CoreEntry, Ended, Filter, Finder, Leave, Left, Piece, Weighter};
-use foyer_policy::{EventListener, Eviction, HashBuilder, Key, Properties, Result, Value};
+use foyer_core::{Answers, CoreEntry, Ended, Finder, Leave, Left, Piece};
+use foyer_policy::{EventListener, Eviction, Key, Properties, Result, Value};
 use std::sync::{Arc, Wait};
 
 /// What a cache, an entry, a wait and a task each have: a share of what they have in common, and the pipe.
 #[derive(Drop)]
 pub(crate) struct Shares<H, E, K, V, S, P, W, A, L, Q, R, I>
 where
-    H: Wait + Drop,
+    H: Drop,
     E: Eviction,
     K: Key,
     V: Value,
-    S: HashBuilder,
+    S: Drop,
     P: Properties,
-    W: Weighter<K, V>,
-    A: Filter<K, V>,
+    W: Drop,
+    A: Drop,
     L: EventListener<Key = K, Value = V>,
     I: Finder<K>,
-    Q: Pipe<Key = K, Value = V, Properties = P>,
+    Q: Drop,
     R: Drop,
 {
     pub(crate) shared: Arc<Shared<H, E, K, V, S, P, W, A, L, R, I>>,
@@ -35,17 +36,17 @@ where
 
 impl<H, E, K, V, S, P, W, A, L, Q, R, I> Shares<H, E, K, V, S, P, W, A, L, Q, R, I>
 where
-    H: Wait + Drop,
+    H: Drop,
     E: Eviction,
     K: Key,
     V: Value,
-    S: HashBuilder,
+    S: Drop,
     P: Properties,
-    W: Weighter<K, V>,
-    A: Filter<K, V>,
+    W: Drop,
+    A: Drop,
     L: EventListener<Key = K, Value = V>,
     I: Finder<K>,
-    Q: Pipe<Key = K, Value = V, Properties = P>,
+    Q: Drop,
     R: Drop,
 {
     // The same shares again.
@@ -57,7 +58,23 @@ where
         let shared = Arc::try_clone(&self.shared)?;
         Ok(Shares { shared, pipe })
     }
+}
 
+impl<H, E, K, V, S, P, W, A, L, Q, R, I> Shares<H, E, K, V, S, P, W, A, L, Q, R, I>
+where
+    H: Wait + Drop,
+    E: Eviction,
+    K: Key,
+    V: Value,
+    S: Drop,
+    P: Properties,
+    W: Drop,
+    A: Drop,
+    L: EventListener<Key = K, Value = V>,
+    I: Finder<K>,
+    Q: Pipe<Key = K, Value = V, Properties = P>,
+    R: Drop,
+{
     // The entry of a handle.
     pub(crate) fn entry(
         self,
@@ -83,7 +100,7 @@ where
 
     // Takes a handle back under its shard's lock, and then tells what left with it.
     pub(crate) fn give_back(&self, core: CoreEntry<K, V, P>) {
-        if let Some(leave) = self.shared.give_back(core) {
+        if let Some(leave) = self.shared.shards.give_back(core) {
             self.tell(leave);
         }
     }

@@ -2,7 +2,7 @@
 
 ghost use Rattle.std.specs.Prelude.{IsSome};
 
-use foyer_core::{AdmitAll, CacheProperties, FetchTarget, RawCacheConfig, TagFinder, UnitWeighter};
+use foyer_core::{AdmitAll, CacheProperties, FetchTarget, RawCacheConfig, UnitWeighter};
 use foyer_policy::{DefaultHasher, Fault, Lru};
 use foyer_raw::{Direct, ListSpawner, NoListener, NoopPipe, RawCache};
 use futures::Future;
@@ -24,7 +24,6 @@ type Numbers<H, T> = RawCache<
     NoListener<u32, u64>,
     NoopPipe<u32, u64>,
     T,
-    TagFinder<u32>,
 >;
 
 /// A fetch that is ready at once.

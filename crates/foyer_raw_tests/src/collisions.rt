@@ -74,6 +74,6 @@ fn colliding_keys_have_their_own_records(rt: HostRuntime) -> Outcome {
     drop(cache.insert(3, 30)?);
     drop(cache.insert(4, 40)?);
     assert!(rt; !cache.contains(&2) && cache.contains(&3) && cache.contains(&4));
-    assert_eq!(rt; (cache.usage(), cache.fits()), (2, true));
+    assert_eq!(rt; (cache.usage(), cache.entries()), (2, 2));
     Ok(())
 }

@@ -20,6 +20,8 @@ pub mod notes;
 #[cfg(test)]
 mod races;
 #[cfg(test)]
+mod reconfigure;
+#[cfg(test)]
 mod testing;
 #[cfg(test)]
 mod threads;

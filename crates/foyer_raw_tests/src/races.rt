@@ -236,7 +236,7 @@ fn a_reconfiguration_takes_turns_with_resizes(rt: HostRuntime) -> Outcome {
     )?;
     drop(cache.insert(1, 10)?);
     let [inside, answered, seen] = [AtomicU64::new(0), AtomicU64::new(0), AtomicU64::new(0)];
-    let (_, (told, asked)) = thread::join(
+    let (_, (_, asked)) = thread::join(
         &rt,
         || {
             cache.flush_if(|key, _| {
@@ -251,7 +251,7 @@ fn a_reconfiguration_takes_turns_with_resizes(rt: HostRuntime) -> Outcome {
             is_up(&rt, &inside, 10_000);
             thread::join(
                 &rt,
-                || cache.reconfigure(&pool(1)),
+                || cache.configure(&pool(1)),
                 || {
                     let asked = ask_for_capacity(&rt, &cache);
                     answered.store(1, Ordering::SeqCst);
@@ -261,7 +261,6 @@ fn a_reconfiguration_takes_turns_with_resizes(rt: HostRuntime) -> Outcome {
         },
     );
     let capacity = asked?;
-    told?;
     assert_eq!(rt; (capacity, seen.load(Ordering::SeqCst)), (6, 0));
     Ok(())
 }

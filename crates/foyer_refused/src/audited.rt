@@ -43,7 +43,10 @@ type Part<G, E> = Share<G, u64, SimValue, CacheProperties, EvenKeys, <E as Evict
 type Config<E> = RawCacheConfig<<E as Eviction>::Config, ModHasher, SimWeighter, AdmitAll>;
 
 // Shard 0 of one, of capacity 4.
-fn config<E: Eviction>() -> Config<E> {
+fn config<E: Eviction>() -> Config<E>
+where
+    E::Config: Default,
+{
     RawCacheConfig {
         shards: 1,
         hash_builder: ModHasher::default(),
@@ -54,7 +57,7 @@ fn config<E: Eviction>() -> Config<E> {
 /// Shows the call of this name, where it is one of these.
 pub fn shown<E: Eviction, H: Wait>(rt: &H, alloc: Global, name: &str) -> Option<Shown>
 where
-    E::Config: Eq,
+    E::Config: Clone + Default + Eq,
 {
     let asked = match name {
         "book_new" => return Some(opened(alloc, || Written::<E>::new(alloc, config::<E>(), 0))),
@@ -90,7 +93,7 @@ fn opened<T: Drop, O: Fn() -> Result<T>>(alloc: Global, open: O) -> Shown {
 // An audited shard for two, which have each a share.
 fn two_shares<G: Ledger, E: Eviction>(alloc: Global, blank: Blank) -> Result<Shard<G, E>>
 where
-    E::Config: Eq,
+    E::Config: Clone + Default + Eq,
 {
     let (shard, shares) = Shard::<G, E>::new(alloc, blank, config::<E>(), 0, 2)?;
     if shares.len() == 2 && shares.iter().all(|share| share.receipts().is_empty()) {
@@ -107,7 +110,7 @@ trait Records<E: Eviction> {
 
 impl<E: Eviction> Records<E> for Written<E>
 where
-    E::Config: Eq,
+    E::Config: Clone + Default + Eq,
 {
     fn make(&mut self, command: Asked<E>) -> Result<(u64, Option<Step>)> {
         let number = self.apply(command)?;
@@ -119,7 +122,7 @@ where
 #[derive(Drop)]
 struct Caller<'a, G: Ledger, E: Eviction, H: Wait>
 where
-    E::Config: Eq,
+    E::Config: Clone + Default + Eq,
 {
     rt: &'a H,
     shard: &'a Shard<G, E>,
@@ -128,7 +131,7 @@ where
 
 impl<G: Ledger, E: Eviction, H: Wait> Records<E> for Caller<'_, G, E, H>
 where
-    E::Config: Eq,
+    E::Config: Clone + Default + Eq,
 {
     fn make(&mut self, command: Asked<E>) -> Result<(u64, Option<Step>)> {
         let (reply, number) = self.shard.call(self.rt, &mut self.share, command)?;
@@ -165,7 +168,7 @@ fn granted(made: (u64, Option<Step>)) -> Result<()> {
 
 fn in_a_book<E: Eviction>(alloc: Global, asked: &str, fault: &Shared) -> Option<Shown>
 where
-    E::Config: Eq,
+    E::Config: Clone + Default + Eq,
 {
     let Ok(mut book) = Written::<E>::new(alloc, config::<E>(), 0) else {
         return Some(Shown::Early);
@@ -186,7 +189,7 @@ fn in_a_shard<G: Ledger, E: Eviction, H: Wait>(
     fault: &Shared,
 ) -> Option<Shown>
 where
-    E::Config: Eq,
+    E::Config: Clone + Default + Eq,
 {
     let Ok((shard, mut shares)) = Shard::<G, E>::new(alloc, blank, config::<E>(), 0, 1) else {
         return Some(Shown::Early);
@@ -218,7 +221,10 @@ fn compared<E: Eviction, R: Records<E>>(
     records: &mut R,
     name: &str,
     fault: &Shared,
-) -> Option<Shown> {
+) -> Option<Shown>
+where
+    E::Config: Default,
+{
     let (asked, wanted) = command::<E>(name, fault)?;
     let (gone, next) = match records.make(asked) {
         Ok((BEFORE, Some(step))) if step.refused.is_none() => {

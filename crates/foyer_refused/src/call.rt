@@ -35,7 +35,10 @@ pub struct Told {
 }
 
 /// Makes a call, and lets go what it hands out. The piece is that which an `Op::Piece` puts in.
-pub fn make<E: Eviction>(alloc: Global, core: &mut Core<E>, op: Op, piece: Option<&Kept>) -> Told {
+pub fn make<E: Eviction>(alloc: Global, core: &mut Core<E>, op: Op, piece: Option<&Kept>) -> Told
+where
+    E::Config: Default,
+{
     match called(alloc, core, op, piece) {
         Ok((leaves, number)) => Told {
             refused: None,
@@ -52,7 +55,10 @@ pub fn make<E: Eviction>(alloc: Global, core: &mut Core<E>, op: Op, piece: Optio
 
 type Called = std::result::Result<(Leaves, Option<u64>), Refused<u64, SimValue, CacheProperties>>;
 
-fn called<E: Eviction>(alloc: Global, core: &mut Core<E>, op: Op, piece: Option<&Kept>) -> Called {
+fn called<E: Eviction>(alloc: Global, core: &mut Core<E>, op: Op, piece: Option<&Kept>) -> Called
+where
+    E::Config: Default,
+{
     let made = match op {
         Op::Insert(key, weight) => core.insert(key, weighing(weight))?,
         Op::Phantom(key) => {
@@ -92,7 +98,10 @@ fn taken(alloc: Global, told: Result<Leaves>) -> Called {
 
 // Makes a call with which nothing leaves. What leaves with a removal is told by the entry's id alone, since a list of
 // it would take memory.
-fn looked<E: Eviction>(core: &mut Core<E>, op: Op) -> Result<Option<u64>> {
+fn looked<E: Eviction>(core: &mut Core<E>, op: Op) -> Result<Option<u64>>
+where
+    E::Config: Default,
+{
     let found = match op {
         Op::Ask(key) => match core.get_or_enqueue(&key, None, 0)? {
             Lookup::Hit(entry) => {

@@ -59,7 +59,10 @@ pub const SHARD_BY_SHARD: [u64; 12] = [0, 4, 8, 1, 5, 9, 2, 6, 10, 3, 7, 11];
 pub const EVEN: [u64; 6] = [0, 4, 8, 2, 6, 10];
 
 /// Shows a call of a core, where it has this name. The first ten victims of the policy are these.
-pub fn shown<E: Eviction>(alloc: Global, name: &str, victims: &'static [u64; 10]) -> Option<Shown> {
+pub fn shown<E: Eviction>(alloc: Global, name: &str, victims: &'static [u64; 10]) -> Option<Shown>
+where
+    E::Config: Default,
+{
     let row = row(name)?;
     let wanted = wanted(row, victims);
     let Ok((mut core, piece)) = prepared::<E>(alloc, row.filled, row.op, wanted.capacity) else {

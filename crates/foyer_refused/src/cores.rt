@@ -32,7 +32,10 @@ pub fn empty<E: Eviction>(
     capacity: usize,
     shards: usize,
     number: u64,
-) -> Result<Core<E>> {
+) -> Result<Core<E>>
+where
+    E::Config: Default,
+{
     let config = RawCacheConfig {
         shards,
         hash_builder: ModHasher::default(),

@@ -84,7 +84,10 @@ pub fn prepared<E: Eviction>(
     filled: Filled,
     op: Op,
     capacity: usize,
-) -> Result<(Core<E>, Option<Kept>)> {
+) -> Result<(Core<E>, Option<Kept>)>
+where
+    E::Config: Default,
+{
     let mut core = empty::<E>(alloc, filled.capacity, filled.shards, 0)?;
     fill(&mut core, filled.records)?;
     if filled.shards == 1 {
@@ -110,7 +113,10 @@ pub fn prepared<E: Eviction>(
 }
 
 /// Asks for `FETCHED`.
-pub fn ask_for<E: Eviction>(core: &mut Core<E>) -> Result<()> {
+pub fn ask_for<E: Eviction>(core: &mut Core<E>) -> Result<()>
+where
+    E::Config: Default,
+{
     match core.get_or_enqueue(&FETCHED, None, 0)? {
         Lookup::Hit(entry) => drop(core.drop_entry(entry)),
         Lookup::Lead {
@@ -124,7 +130,10 @@ pub fn ask_for<E: Eviction>(core: &mut Core<E>) -> Result<()> {
 }
 
 // A piece of the record of a key in another core.
-fn foreign_piece<E: Eviction>(alloc: Global, key: u64) -> Result<Option<Kept>> {
+fn foreign_piece<E: Eviction>(alloc: Global, key: u64) -> Result<Option<Kept>>
+where
+    E::Config: Default,
+{
     let mut other = empty::<E>(alloc, 4, 1, 1)?;
     let made = other.insert(key, weighing(1))?;
     drop(ended(&mut other, made));
@@ -132,7 +141,10 @@ fn foreign_piece<E: Eviction>(alloc: Global, key: u64) -> Result<Option<Kept>> {
 }
 
 // A piece of the record of a key.
-fn piece_of<E: Eviction>(core: &mut Core<E>, key: u64) -> Result<Option<Kept>> {
+fn piece_of<E: Eviction>(core: &mut Core<E>, key: u64) -> Result<Option<Kept>>
+where
+    E::Config: Default,
+{
     let Some(entry) = core.get(&key)? else {
         return Ok(None);
     };
@@ -148,7 +160,10 @@ pub fn compared<E: Eviction>(
     op: Op,
     piece: Option<&Kept>,
     wanted: &Wanted,
-) -> Shown {
+) -> Shown
+where
+    E::Config: Default,
+{
     let before = Look::of(core);
     let first = make(alloc, core, op, piece);
     let Some(number) = first.refused else {
@@ -182,7 +197,10 @@ fn settled<E: Eviction>(
     gone: usize,
     told: &Told,
     wanted: &Wanted,
-) -> Shown {
+) -> Shown
+where
+    E::Config: Default,
+{
     let all = gone.saturating_add(told.leaves.len());
     if !begin(&told.leaves, gone, wanted) || all != wanted.leaves.len() {
         return Shown::Wrong("what left");

@@ -18,7 +18,7 @@ mod sessions;
 mod told;
 mod word;
 
-use foyer_policy::{Eviction, Fifo, Lfu, Lru, S3Fifo, Sieve};
+use foyer_policy::{Eviction, EvictionConfig, Fifo, Lfu, Lru, S3Fifo, Sieve};
 use locked::Runtime;
 use std::alloc::Global;
 use std::env;
@@ -82,7 +82,8 @@ fn of_name<H: Runtime>(rt: H, policy: &str, call: &str) -> Shown {
 // Shows a call over a policy.
 fn of_policy<E: Eviction, H: Runtime>(rt: H, call: &str, victims: &'static [u64; 10]) -> Shown
 where
-    E::Config: Eq,
+    E::Config: Clone + Default + Eq,
+    EvictionConfig: From<E::Config>,
 {
     let alloc = rt.alloc();
     if let Some(shown) = audited::shown::<E, H>(&rt, alloc, call) {
@@ -94,7 +95,11 @@ where
     }
 }
 
-fn of_call<E: Eviction>(alloc: Global, call: &str, victims: &'static [u64; 10]) -> Option<Shown> {
+fn of_call<E: Eviction>(alloc: Global, call: &str, victims: &'static [u64; 10]) -> Option<Shown>
+where
+    E::Config: Default,
+    EvictionConfig: From<E::Config>,
+{
     calls::shown::<E>(alloc, call, victims)
         .or_else(|| others::shown::<E>(alloc, call, victims))
         .or_else(|| parts::shown(alloc, call))

@@ -10,7 +10,10 @@ use foyer_session::SimValue;
 use std::alloc::Global;
 
 /// Shows the call of this name, where it is one of these. The first ten victims of the policy are these.
-pub fn shown<E: Eviction>(alloc: Global, name: &str, victims: &'static [u64; 10]) -> Option<Shown> {
+pub fn shown<E: Eviction>(alloc: Global, name: &str, victims: &'static [u64; 10]) -> Option<Shown>
+where
+    E::Config: Default,
+{
     match name {
         "new_1" => Some(opened::<E>(alloc, 1)),
         "new_4" => Some(opened::<E>(alloc, 4)),
@@ -25,7 +28,10 @@ pub fn shown<E: Eviction>(alloc: Global, name: &str, victims: &'static [u64; 10]
 }
 
 // A full core, with one who waits.
-fn waited<E: Eviction>(alloc: Global) -> Result<Core<E>> {
+fn waited<E: Eviction>(alloc: Global) -> Result<Core<E>>
+where
+    E::Config: Default,
+{
     Ok(prepared::<E>(alloc, WAITED, Op::Clear, 12)?.0)
 }
 
@@ -37,7 +43,10 @@ fn evicting(victims: &'static [u64; 10]) -> Wanted {
     }
 }
 
-fn changed<E: Eviction>(alloc: Global, name: &str, victims: &'static [u64; 10]) -> Shown {
+fn changed<E: Eviction>(alloc: Global, name: &str, victims: &'static [u64; 10]) -> Shown
+where
+    E::Config: Default,
+{
     let Ok(mut core) = waited::<E>(alloc) else {
         return Shown::Early;
     };
@@ -51,7 +60,10 @@ fn changed<E: Eviction>(alloc: Global, name: &str, victims: &'static [u64; 10]) 
 }
 
 // A new core. Nothing is left of one that was refused.
-fn opened<E: Eviction>(alloc: Global, shards: usize) -> Shown {
+fn opened<E: Eviction>(alloc: Global, shards: usize) -> Shown
+where
+    E::Config: Default,
+{
     let (made, shown) = match empty::<E>(alloc, 10, shards, 0) {
         Err(error) if error.number() == 7 => (empty::<E>(alloc, 10, shards, 0), Shown::Kept),
         made => (made, Shown::Done),
@@ -75,7 +87,10 @@ struct Ending {
     leaves: Leaves,
 }
 
-fn complete<E: Eviction>(core: &mut Core<E>, fetch: u64) -> Ending {
+fn complete<E: Eviction>(core: &mut Core<E>, fetch: u64) -> Ending
+where
+    E::Config: Default,
+{
     let target = FetchTarget::Entry {
         value: weighing(4),
         properties: CacheProperties::default(),
@@ -101,7 +116,10 @@ fn complete<E: Eviction>(core: &mut Core<E>, fetch: u64) -> Ending {
 
 // A fetch completes with a value, for which four records leave. Where that is refused its place is closed, who waits is
 // told so, and some of them have left; the next fetch then completes.
-fn completed<E: Eviction>(core: &mut Core<E>, wanted: &Wanted) -> Shown {
+fn completed<E: Eviction>(core: &mut Core<E>, wanted: &Wanted) -> Shown
+where
+    E::Config: Default,
+{
     let before = Look::of(core);
     let first = complete(core, 0);
     if !first.found || first.token != Some(0) || !begin(&first.leaves, 0, wanted) {
@@ -127,7 +145,10 @@ fn completed_again<E: Eviction>(
     before: Look,
     gone: usize,
     wanted: &Wanted,
-) -> Shown {
+) -> Shown
+where
+    E::Config: Default,
+{
     if complete(core, 0).found {
         return Shown::Wrong("a fetch ended twice");
     }
@@ -147,7 +168,10 @@ fn completed_again<E: Eviction>(
 }
 
 // A resize that is refused has set the capacity: an insert evicts the rest, and what gives way to it.
-fn resized<E: Eviction>(alloc: Global, core: &mut Core<E>, wanted: &Wanted) -> Shown {
+fn resized<E: Eviction>(alloc: Global, core: &mut Core<E>, wanted: &Wanted) -> Shown
+where
+    E::Config: Default,
+{
     let before = Look::of(core);
     let first = make(alloc, core, Op::Resize(3), None);
     if !begin(&first.leaves, 0, wanted) {
@@ -166,7 +190,10 @@ fn resized<E: Eviction>(alloc: Global, core: &mut Core<E>, wanted: &Wanted) -> S
 }
 
 // The insert behind that, once so many have left.
-fn inserted<E: Eviction>(alloc: Global, core: &mut Core<E>, gone: usize, wanted: &Wanted) -> Shown {
+fn inserted<E: Eviction>(alloc: Global, core: &mut Core<E>, gone: usize, wanted: &Wanted) -> Shown
+where
+    E::Config: Default,
+{
     let told = make(alloc, core, Op::Insert(50, 1), None);
     let all = gone.saturating_add(told.leaves.len());
     if told.refused.is_some() || all != 10 || !begin(&told.leaves, gone, wanted) {
@@ -180,7 +207,10 @@ fn inserted<E: Eviction>(alloc: Global, core: &mut Core<E>, gone: usize, wanted:
 
 // An insert that appends what leaves to a list with room for it. Where it is refused, the same insert goes on with the
 // list.
-fn lent<E: Eviction>(alloc: Global, core: &mut Core<E>, wanted: &Wanted) -> Shown {
+fn lent<E: Eviction>(alloc: Global, core: &mut Core<E>, wanted: &Wanted) -> Shown
+where
+    E::Config: Default,
+{
     let Ok(mut leaves) = Vec::with_capacity(alloc, 16) else {
         return Shown::Early;
     };
@@ -198,8 +228,11 @@ fn lent<E: Eviction>(alloc: Global, core: &mut Core<E>, wanted: &Wanted) -> Show
 }
 
 // Puts a record of weight 10 in. Answers the number of its refusal.
-fn put_onto<E: Eviction>(core: &mut Core<E>, leaves: &mut Leaves) -> Option<u8> {
-    match core.insert_onto(50, weighing(10), leaves) {
+fn put_onto<E: Eviction>(core: &mut Core<E>, leaves: &mut Leaves) -> Option<u8>
+where
+    E::Config: Default,
+{
+    match core.insert_with_properties_onto(50, weighing(10), CacheProperties::default(), leaves) {
         Ok(InsertedOnto { entry, answers }) => {
             core.drop_answers(answers);
             drop(core.drop_entry(entry));
@@ -216,7 +249,10 @@ fn appended<E: Eviction>(
     leaves: &Leaves,
     wanted: &Wanted,
     shown: Shown,
-) -> Shown {
+) -> Shown
+where
+    E::Config: Default,
+{
     if leaves.len() != 10 || !begin(leaves, 0, wanted) {
         return Shown::Wrong("what is in the list");
     }
@@ -229,7 +265,10 @@ fn appended<E: Eviction>(
 type Entry = CoreEntry<u64, SimValue, CacheProperties>;
 
 // A call on an entry of the key 5, which changes nothing, and the end of the entry.
-fn asked<E: Eviction>(alloc: Global, name: &str) -> Shown {
+fn asked<E: Eviction>(alloc: Global, name: &str) -> Shown
+where
+    E::Config: Default,
+{
     let Ok(mut core) = waited::<E>(alloc) else {
         return Shown::Early;
     };
@@ -251,7 +290,10 @@ fn asked<E: Eviction>(alloc: Global, name: &str) -> Shown {
 }
 
 // A clone of an entry, which never wants memory.
-fn cloned<E: Eviction>(core: &mut Core<E>, entry: &Entry) -> Shown {
+fn cloned<E: Eviction>(core: &mut Core<E>, entry: &Entry) -> Shown
+where
+    E::Config: Default,
+{
     if !core.owns(entry) {
         return Shown::Wrong("the entry isn't owned");
     }
@@ -267,7 +309,10 @@ fn cloned<E: Eviction>(core: &mut Core<E>, entry: &Entry) -> Shown {
 }
 
 // A piece of an entry's record, and a clone of that.
-fn taken<E: Eviction>(core: &Core<E>, entry: &Entry) -> Shown {
+fn taken<E: Eviction>(core: &Core<E>, entry: &Entry) -> Shown
+where
+    E::Config: Default,
+{
     let Ok(piece) = entry.piece() else {
         return match entry.piece() {
             Ok(_) if core.owns(entry) => Shown::Kept,
@@ -283,7 +328,10 @@ fn taken<E: Eviction>(core: &Core<E>, entry: &Entry) -> Shown {
 }
 
 // What is asked of an entry that the core owns.
-fn looked<E: Eviction>(core: &Core<E>, entry: &Entry) -> Shown {
+fn looked<E: Eviction>(core: &Core<E>, entry: &Entry) -> Shown
+where
+    E::Config: Default,
+{
     if !core.owns(entry) {
         return Shown::Wrong("the entry isn't owned");
     }
@@ -294,7 +342,10 @@ fn looked<E: Eviction>(core: &Core<E>, entry: &Entry) -> Shown {
 }
 
 // The end of a fetch without a value, which takes no memory.
-fn cancelled<E: Eviction>(core: &mut Core<E>) -> Shown {
+fn cancelled<E: Eviction>(core: &mut Core<E>) -> Shown
+where
+    E::Config: Default,
+{
     let Ended {
         found,
         answers,
@@ -309,7 +360,10 @@ fn cancelled<E: Eviction>(core: &mut Core<E>) -> Shown {
 }
 
 // The sums and the hash of a key.
-fn same_sums<E: Eviction>(core: &Core<E>) -> Shown {
+fn same_sums<E: Eviction>(core: &Core<E>) -> Shown
+where
+    E::Config: Default,
+{
     let sums = core.usage() == 12 && core.entries() == 12 && core.capacity() == 12;
     if sums && core.shards() == 1 && core.hash(&9) == 9 {
         return Shown::Done;

@@ -6,7 +6,10 @@ use foyer_policy::{Eviction, Hint, Item, Result};
 use std::alloc::Global;
 
 /// Shows the call of this name, where it is one of these.
-pub fn shown<E: Eviction>(alloc: Global, name: &str) -> Option<Shown> {
+pub fn shown<E: Eviction>(alloc: Global, name: &str) -> Option<Shown>
+where
+    E::Config: Default,
+{
     match name {
         "policy_new" => Some(opened::<E>(alloc)),
         "policy_reserve" => Some(asked::<E, _>(alloc, |policy| policy.reserve())),
@@ -19,7 +22,10 @@ pub fn shown<E: Eviction>(alloc: Global, name: &str) -> Option<Shown> {
     }
 }
 
-fn opened<E: Eviction>(alloc: Global) -> Shown {
+fn opened<E: Eviction>(alloc: Global) -> Shown
+where
+    E::Config: Default,
+{
     let config = E::Config::default();
     twice(
         &mut (),
@@ -38,7 +44,10 @@ fn item(id: u64) -> Item {
 }
 
 // A policy of capacity 12 with four items, whose lists have no room.
-fn filled<E: Eviction>(alloc: Global) -> Result<E> {
+fn filled<E: Eviction>(alloc: Global) -> Result<E>
+where
+    E::Config: Default,
+{
     let mut policy = E::new(alloc, 12, &E::Config::default())?;
     for id in 0..4 {
         policy.reserve()?;
@@ -48,7 +57,10 @@ fn filled<E: Eviction>(alloc: Global) -> Result<E> {
 }
 
 // A policy that refuses has the same order, and answers the same call then.
-fn asked<E: Eviction, C: Fn(&mut E) -> Result<()>>(alloc: Global, call: C) -> Shown {
+fn asked<E: Eviction, C: Fn(&mut E) -> Result<()>>(alloc: Global, call: C) -> Shown
+where
+    E::Config: Default,
+{
     let Ok(mut policy) = filled::<E>(alloc) else {
         return Shown::Early;
     };
@@ -63,7 +75,10 @@ fn asked<E: Eviction, C: Fn(&mut E) -> Result<()>>(alloc: Global, call: C) -> Sh
 }
 
 // A clear behind its room takes no memory.
-fn cleared<E: Eviction>(alloc: Global) -> Shown {
+fn cleared<E: Eviction>(alloc: Global) -> Shown
+where
+    E::Config: Default,
+{
     let Ok(mut policy) = filled::<E>(alloc) else {
         return Shown::Early;
     };
@@ -78,7 +93,10 @@ fn cleared<E: Eviction>(alloc: Global) -> Shown {
 }
 
 // What takes no memory once there is room for an item.
-fn used<E: Eviction>(alloc: Global) -> Shown {
+fn used<E: Eviction>(alloc: Global) -> Shown
+where
+    E::Config: Default,
+{
     let Ok(mut policy) = filled::<E>(alloc) else {
         return Shown::Early;
     };

@@ -2,7 +2,7 @@
 
 use crate::cores::weighing;
 use crate::word::Shown;
-use foyer_core::{AdmitAll, CacheCore, CacheProperties, RawCacheConfig};
+use foyer_core::{AdmitAll, CacheCore, CacheProperties, Limits, RawCacheConfig};
 use foyer_policy::{Error, Eviction, Fault, ModHasher, Reason, Result, Source};
 use foyer_session::{Answer, Command, End, Predicate, Reply, Session, SimValue, SimWeighter};
 use std::alloc::Global;
@@ -42,12 +42,21 @@ impl Predicate<u64, SimValue> for EvenKeys {
     }
 }
 
-/// A session over an empty core of one shard.
-pub fn empty<E: Eviction>(alloc: Global, capacity: usize) -> Result<Simulated<E>> {
+/// A session over an empty core of one shard, with this configuration of its policy.
+pub fn empty<E: Eviction>(
+    alloc: Global,
+    capacity: usize,
+    eviction_config: E::Config,
+) -> Result<Simulated<E>> {
     let config = RawCacheConfig {
+        capacity,
         shards: 1,
+        eviction_config,
         hash_builder: ModHasher::default(),
-        ..RawCacheConfig::new(capacity).with_weighter(SimWeighter)
+        weighter: SimWeighter,
+        filter: AdmitAll,
+        number: 0,
+        limits: Limits::default(),
     };
     Ok(Session::new(alloc, CacheCore::new(alloc, config)?))
 }
@@ -76,7 +85,10 @@ pub struct Wanted {
 
 /// The command of a name, in a session of capacity 4 whose records are the keys 0 to 3, and what is wanted of it. A
 /// fetch fails with this fault.
-pub fn command<E: Eviction>(name: &str, fault: &Shared) -> Option<(Asked<E>, Wanted)> {
+pub fn command<E: Eviction>(name: &str, fault: &Shared) -> Option<(Asked<E>, Wanted)>
+where
+    E::Config: Default,
+{
     let (command, kind, leaves, usage) = match name {
         "step_insert" | "run" => (inserting::<E>(7), Kind::Entry, 1, 4),
         "step_insert_piece" => (Command::InsertPiece(0), Kind::Entry, 0, 4),
@@ -129,7 +141,10 @@ pub fn inserting<E: Eviction>(key: u64) -> Asked<E> {
 }
 
 /// Shows the command of this name, where there is one.
-pub fn shown<E: Eviction>(alloc: Global, name: &str) -> Option<Shown> {
+pub fn shown<E: Eviction>(alloc: Global, name: &str) -> Option<Shown>
+where
+    E::Config: Default,
+{
     if !name.starts_with("step_") && name != "run" {
         return None;
     }
@@ -143,8 +158,11 @@ pub fn shown<E: Eviction>(alloc: Global, name: &str) -> Option<Shown> {
 }
 
 // The keys 0 to 3 are in, with the handles 0 to 3, the piece 0 is of the key 0, and one waits for the key 9.
-fn prepared<E: Eviction>(alloc: Global) -> Result<Simulated<E>> {
-    let mut session = empty::<E>(alloc, 4)?;
+fn prepared<E: Eviction>(alloc: Global) -> Result<Simulated<E>>
+where
+    E::Config: Default,
+{
+    let mut session = empty::<E>(alloc, 4, E::Config::default())?;
     for key in 0..4u64 {
         granted(session.step(inserting::<E>(key))?)?;
     }
@@ -257,7 +275,10 @@ fn stepped<E: Eviction>(
     session: &mut Simulated<E>,
     name: &str,
     fault: &Shared,
-) -> Option<Shown> {
+) -> Option<Shown>
+where
+    E::Config: Default,
+{
     let runs = name == "run";
     let (asked, wanted) = command::<E>(name, fault)?;
     let first = make(alloc, session, asked, runs);

@@ -2,8 +2,8 @@
 
 use crate::sessions::{Simulated, empty};
 use crate::word::Shown;
-use foyer_policy::Eviction;
-use foyer_session::{NoHighRatio, simulate};
+use foyer_policy::{AnyEviction, Eviction, EvictionConfig};
+use foyer_session::simulate;
 use std::alloc::Global;
 
 const LINES: &[u8] = b"insert 1 10
@@ -52,11 +52,16 @@ const LAST: &[u8] = b"no | - | usage 0 entries 0
 const COUNT: usize = 17;
 
 /// Shows a run over lines, where that is the name.
-pub fn shown<E: Eviction>(alloc: Global, name: &str) -> Option<Shown> {
+pub fn shown<E: Eviction>(alloc: Global, name: &str) -> Option<Shown>
+where
+    E::Config: Default,
+    EvictionConfig: From<E::Config>,
+{
     if name != "simulate" {
         return None;
     }
-    let Ok(mut session) = empty::<E>(alloc, 4) else {
+    let config = EvictionConfig::from(E::Config::default());
+    let Ok(mut session) = empty(alloc, 4, config) else {
         return Some(Shown::Early);
     };
     let Ok(mut written) = Vec::with_capacity(alloc, 4096) else {
@@ -65,9 +70,9 @@ pub fn shown<E: Eviction>(alloc: Global, name: &str) -> Option<Shown> {
     Some(run(&mut session, &mut written))
 }
 
-fn run<E: Eviction>(session: &mut Simulated<E>, written: &mut Vec<u8>) -> Shown {
+fn run(session: &mut Simulated<AnyEviction>, written: &mut Vec<u8>) -> Shown {
     let mut lines = LINES;
-    if simulate(&mut lines, written, session, &NoHighRatio).is_err() {
+    if simulate(&mut lines, written, session).is_err() {
         return Shown::Wrong("the run");
     }
     if written.as_slice() == REPLIES {

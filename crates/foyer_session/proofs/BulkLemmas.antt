@@ -1,14 +1,16 @@
 -- The calls on all records keep what a session owns.
-use Rattle.std.proofs.Common.{◌≡◌, ℕ, zero, suc, ◌%◌, List, [], ◌∷◌, Bool, length, Option, Some, None, refl, sym, ap, ◌∙◌, subst, arith}
-use Rattle.std.specs.Prelude.{slice_get, Result, Ok, Err, IfOk, IfErr, OnOk, OnErr}
+use Rattle.std.proofs.Common.{◌≡◌, ◌⊎◌, ◌↔◌, ℕ, zero, suc, ◌%◌, List, [], ◌∷◌, Bool, true, false, length, Option, Some, None, refl, sym, ap, ◌∙◌, subst, arith, inl, inr}
+use Rattle.std.specs.Prelude.{slice_get, Result, Ok, Err, IfSome, IsOk, MatchResult, is_ok}
 use Rattle.std.specs.List.{AllZip}
 use Rattle.std.proofs.lemmas.Slice.Zip.{AllZip-long}
+use Rattle.foyer_policy.specs.declared.error.Reason.{Reason}
+use Rattle.foyer_policy.specs.declared.error.Reason.TheVariants.{WrongPolicy}
 use Rattle.foyer_policy.specs.declared.types.Event.{Event}
 use Rattle.foyer_policy.specs.declared.types.Item.{Item}
 use Rattle.foyer_policy.specs.declared.types.Event.TheVariants.{Evict, Clear}
 use Rattle.foyer_core.specs.Bulk.{after_update, Answers, Clears, EvictsIf, EvictsUnpinned, EvictingUnpinned, Picks}
 use Rattle.foyer_core.specs.Core.{Core, share_of, shard_of}
-use Rattle.foyer_core.specs.CoreBulk.{Configures, InTurn, InTurnUntil, OfShards, SharesOut, EvictsToCapacity, EvictingToCapacity, Resizes}
+use Rattle.foyer_core.specs.CoreBulk.{Configures, InTurn, InTurnUntil, OfShards, SharesOut, EvictsToCapacity, EvictingToCapacity, NotTaken, Resizes, TakenByEach}
 use Rattle.foyer_core.specs.State.{Meaning, State}
 use Rattle.foyer_core.specs.Values.{Gone, Held}
 use Rattle.foyer_core.proofs.TurnLaws.{turn-keeps, until-keeps, updates-keep, zip-at}
@@ -172,18 +174,58 @@ module _ {K V P View C : Type 0} (m : Meaning K P View C) (says tells : K → V 
   flushes_more core ls new h = record { stepped = turn_more core.shards ls new.shards h.stepped; rest = h.rest }
 
 -- what follows of an answer in either case
-pub of_either : {A E : Type 0} {P : A → Type 0} {Q G : Type 0} (result : Result A E) → IfOk result P → OnErr result Q
-    → ((a : A) → P a → G) → (Q → G) → G
-of_either (Ok a) ok err f h = f a ok
-of_either (Err e) ok err f h = h err
+pub of_match : {A E : Type 0} {P : A → Type 0} {Q : E → Type 0} {G : Type 0} (result : Result A E) →
+    MatchResult result P Q → ((a : A) → P a → G) → ((e : E) → Q e → G) → G
+of_match (Ok a) is f h = f a is
+of_match (Err e) is f h = h e is
 
--- the same where the answer is nothing
-pub of_done : {A E : Type 0} {P Q G : Type 0} (result : Result A E) → OnOk result P → OnErr result Q → (P → G) →
-    (Q → G) → G
-of_done (Ok a) ok err f h = f ok
-of_done (Err e) ok err f h = h err
+-- each passes a test, or one of them does not
+each_or_not : {X : Type 0} (test : X → Bool) (xs : List X) →
+    ((i : ℕ) (x : X) → slice_get xs i ≡ Some x → test x ≡ true)
+    ⊎ ((i : ℕ) × (x : X) × (slice_get xs i ≡ Some x) × (test x ≡ false))
+each_or_not test [] = inl (λ i x there. absurd cc)
+each_or_not {X} test (x ∷ xs) = go (test x) refl (each_or_not test xs) where
+  here : test x ≡ true → ((i : ℕ) (y : X) → slice_get xs i ≡ Some y → test y ≡ true) →
+      (i : ℕ) (y : X) → slice_get (x ∷ xs) i ≡ Some y → test y ≡ true
+  here is all zero y there = (let same : x ≡ y = cc in subst (λ (z : X). test z ≡ true) same is)
+  here is all (suc i) y there = all i y there
 
-pub of_both : {A E : Type 0} {P : A → Type 0} {Q : E → Type 0} {G : Type 0} (result : Result A E) → IfOk result P →
-    IfErr result Q → ((a : A) → P a → G) → ((e : E) → Q e → G) → G
-of_both (Ok a) ok err f h = f a ok
-of_both (Err e) ok err f h = h e err
+  go : (b : Bool) → test x ≡ b → ((i : ℕ) (y : X) → slice_get xs i ≡ Some y → test y ≡ true)
+      ⊎ ((i : ℕ) × (y : X) × (slice_get xs i ≡ Some y) × (test y ≡ false)) →
+      ((i : ℕ) (y : X) → slice_get (x ∷ xs) i ≡ Some y → test y ≡ true)
+      ⊎ ((i : ℕ) × (y : X) × (slice_get (x ∷ xs) i ≡ Some y) × (test y ≡ false))
+  go false is rest = inr (0, x, refl, is)
+  go true is rest = elim rest [
+    | inl all ↦ inl (here is all)
+    | inr one ↦ inr (suc one.0, one.1, one.2, one.3)
+  ]
+
+-- what a call of `reconfigure` answers: that it is done, where each shard's policy takes the configuration, which has no
+-- fault; or why not
+module _ {K V P View C : Type 0} (m : Meaning K P View C) (config : C) (shards : List (State K V P View))
+    (result : Result Unit Reason)
+    (wrong : NotTaken m config shards → result ≡ Err WrongPolicy)
+    (accepted : TakenByEach m config shards → IsOk result ↔ (m.policy.fault config ≡ None))
+    (refused : TakenByEach m config shards → IfSome (m.policy.fault config) (λ reason. result ≡ Err reason)) where
+  taken_or_not : TakenByEach m config shards ⊎ NotTaken m config shards
+  taken_or_not = each_or_not (λ s. m.policy.takes s.view config) shards
+
+  pub configured_done : IsOk result → TakenByEach m config shards × (m.policy.fault config ≡ None)
+  configured_done done = elim taken_or_not [
+    | inl taken ↦ (taken, (accepted taken).0 done)
+    | inr not ↦ absurd (let e : false ≡ true = sym (ap is_ok (wrong not)) ∙ done in cc)
+  ]
+
+  fault_is : (reason : Reason) → result ≡ Err reason → TakenByEach m config shards → (fault : Option Reason) →
+      m.policy.fault config ≡ fault → IfSome fault (λ r. result ≡ Err r) → fault ≡ Some reason
+  fault_is reason is taken None none said =
+      absurd (let e : false ≡ true = sym (ap is_ok is) ∙ (accepted taken).1 none in cc)
+  fault_is reason is taken (Some r) none said = (let e : ◌≡◌ {A = Result Unit Reason} (Err r) (Err reason) = sym said ∙ is in cc)
+
+  pub configured_refused : (reason : Reason) → result ≡ Err reason →
+      (NotTaken m config shards × (reason ≡ WrongPolicy))
+      ⊎ (TakenByEach m config shards × (m.policy.fault config ≡ Some reason))
+  configured_refused reason is = elim taken_or_not [
+    | inl taken ↦ inr (taken, fault_is reason is taken (m.policy.fault config) refl (refused taken))
+    | inr not ↦ inl (not, (let e : ◌≡◌ {A = Result Unit Reason} (Err reason) (Err WrongPolicy) = sym is ∙ wrong not in cc))
+  ]

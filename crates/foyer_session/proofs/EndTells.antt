@@ -1,19 +1,20 @@
 -- How the end of a fetch is told.
-use Rattle.std.proofs.Common.{◌≡◌, ℕ, ◌%◌, ◌+◌, ◌≤◌, ◌==◌, Bool, true, false, cond, List, [], ◌++◌, length, map, Option, Some, None, refl, sym, ap, ◌∙◌, subst, arith, append-nil}
-use Rattle.std.proofs.Math.Logic.{∥∥₁_map}
-use Rattle.std.specs.Prelude.{IsSomeAnd, option_and_then, slice_get, slice_set}
+use Rattle.std.proofs.Common.{◌≡◌, ℕ, ◌%◌, ◌+◌, ◌≤◌, ◌==◌, Bool, true, false, cond, List, [], ◌++◌, length, map, Option, Some, None, refl, ap, ◌∙◌, subst, arith, append-nil}
+use Rattle.std.specs.Prelude.{IsSomeAnd, is_some, slice_get}
 use Rattle.foyer_policy.specs.declared.types.Event.{Event}
-use Rattle.foyer_core.specs.CoreFetches.{at_hash, open_in, replaced}
-use Rattle.foyer_core.specs.Inflight.{AreOpen, Opens, OpenFetch, after_nothing, asked, closed, waiters_of}
+use Rattle.foyer_core.specs.CoreFetches.{at_hash, open_in}
+use Rattle.foyer_core.specs.Indexer.{same_key}
+use Rattle.foyer_core.specs.Inflight.{AreOpen, Opens, OpenFetch, after_nothing, asked, waiters_of}
 use Rattle.foyer_core.specs.Values.{Gone, Held}
 use Rattle.foyer_core.specs.Waited.{Ending, lost}
 use Rattle.foyer_session.specs.declared.command.Answer.{Answer}
 use Rattle.foyer_session.specs.declared.command.Answer.TheVariants.{Answered, Lost}
 use Rattle.foyer_session.specs.Step.{SessionState, TellsEnd, entries_by, first_told, given}
 use Rattle.foyer_session.specs.Tokens.{got_of, numbers_of}
-use Rattle.foyer_session.specs.Waits.{AtMost}
+use Rattle.foyer_session.specs.Waits.{SoManyWait}
 use Rattle.foyer_session.specs.Answering.{ClosedBy}
-use Rattle.foyer_session.proofs.WaitsLemmas.{closed_waiting, nothing_closes, still_waiting, taken_waits, waiting_counted}
+use Rattle.foyer_session.proofs.LedgerFetches.{nothing_at, taken_at}
+use Rattle.foyer_session.proofs.WaitsLemmas.{closed_waiting, of_shard_long, settled_waiting, still_waiting, waiting_counted}
 
 pub tells_end : {K V P View S W A : Type 0} (old new : SessionState K V P View S W A)
     (ended : Ending K V P (Unit {0})) (answer : Answer K V P) (leaves : List (Event × Gone K V P))
@@ -46,55 +47,48 @@ module _ {N R : Type 0} where
     go false h = absurd cc
 
 module _ {K N R : Type 0} (eq : K → K → Bool) (f : List (Opens K N R))
-    (sound : (i : ℕ) (x : Opens K N R) → slice_get f i ≡ Some x → AreOpen eq x) (k : ℕ × K) (fetch count : ℕ) where
+    (sound : (i : ℕ) (x : Opens K N R) → slice_get f i ≡ Some x → AreOpen eq x)
+    (alike : (i : ℕ) (x : Opens K N R) → slice_get f i ≡ Some x → (p q : ℕ × K) → same_key eq p q ≡ true →
+    x.by_key p ≡ x.by_key q)
+    (k : ℕ × K) (fetch count : ℕ) where
   -- no more wait for an open fetch than wait
-  pub asked_counted : (p : Option (OpenFetch N R)) → asked (Some fetch) (open_in f k) ≡ p → ∥ AtMost f count ∥₁ →
+  pub asked_counted : (p : Option (OpenFetch N R)) → asked (Some fetch) (open_in f k) ≡ p → ∥ SoManyWait f count ∥₁ →
       length (waiters_of p) ≤ count
-  asked_counted None is most = omega arith
-  asked_counted (Some o) is most =
+  asked_counted None is waits = omega arith
+  asked_counted (Some o) is waits =
       subst (λ (x : Option (OpenFetch N R)). length (waiters_of x) ≤ count) (asked_some fetch (open_in f k) o is)
-      (waiting_counted eq f sound k k.0 refl count most)
+      (waiting_counted eq f sound alike k k.0 refl count waits)
 
   -- and so many less once it has ended
   pub ended_waiting : (p : Option (OpenFetch N R)) → asked (Some fetch) (open_in f k) ≡ p →
       (g : List (Opens K N R)) (left : ℕ) → ClosedBy p eq k f g → left + length (waiters_of p) ≡ count →
-      ∥ AtMost f count ∥₁ → ∥ AtMost g left ∥₁
-  ended_waiting None is g left closes less most =
+      ∥ SoManyWait f count ∥₁ → ∥ SoManyWait g left ∥₁
+  ended_waiting None is g left closes less waits =
       let same : count ≡ left = omega (arith, less) in
-      subst (λ (n : ℕ). ∥ AtMost g n ∥₁) same (still_waiting f g count closes most)
-  ended_waiting (Some o) is g left closes less most =
-      closed_waiting eq f sound k k.0 refl count g left closes
+      subst (λ (n : ℕ). ∥ SoManyWait g n ∥₁) same (still_waiting f g count closes waits)
+  ended_waiting (Some o) is g left closes less waits =
+      closed_waiting eq f sound alike k k.0 refl count g left closes
       (ap (λ (x : Option (OpenFetch N R)). left + length (waiters_of x)) (asked_some fetch (open_in f k) o is)
-      ∙ less) most
+      ∙ less) waits
 
   -- a fetch goes on with a builder that was kept: who waited still does
   pub taken_waiting : (o : OpenFetch N R) (r : R) → asked (Some fetch) (open_in f k) ≡ Some o → o.later ≡ Some r →
-      (g : List (Opens K N R)) → g ≡ at_hash (λ q. after_nothing eq q k) f k.0 → ∥ AtMost f count ∥₁ →
-      ∥ AtMost g count ∥₁
-  taken_waiting o r is later g goes most = rw goes (go (slice_get f (k.0 % length f)) refl) where
-    go : (x : Option (Opens K N R)) → slice_get f (k.0 % length f) ≡ x →
-        ∥ AtMost (replaced f (k.0 % length f) (λ q. after_nothing eq q k) x) count ∥₁
-    go None there = most
-    go (Some x) there =
-        let opened : x.by_key k ≡ Some o = sym (ap (option_and_then (λ (y : Opens K N R). y.by_key k)) there)
-        ∙ asked_some fetch (open_in f k) o is in
-        ∥∥₁_map most (λ y. taken_waits f (k.0 % length f) x there eq k refl count o r opened later y)
+      (g : List (Opens K N R)) → g ≡ at_hash (λ q. after_nothing eq q k) f k.0 → ∥ SoManyWait f count ∥₁ →
+      ∥ SoManyWait g count ∥₁
+  taken_waiting o r is later g goes waits =
+      let kept : is_some o.later ≡ true = ap is_some later in
+      settled_waiting f g [] []
+      (taken_at eq f sound alike k k.0 refl o (asked_some fetch (open_in f k) o is) g kept goes) count count refl waits
 
   -- a fetch that found nothing ends where no builder is kept
   pub nothing_waiting : (o : OpenFetch N R) → asked (Some fetch) (open_in f k) ≡ Some o → o.later ≡ None →
       (g : List (Opens K N R)) (left : ℕ) → g ≡ at_hash (λ q. after_nothing eq q k) f k.0 → left + length o.tokens
       ≡ count
-      → ∥ AtMost f count ∥₁ → ∥ AtMost g left ∥₁
-  nothing_waiting o is later g left goes less most =
-      ended_waiting (Some o) is g left (goes ∙ go (slice_get f (k.0 % length f)) refl) less most where
-        go : (x : Option (Opens K N R)) → slice_get f (k.0 % length f) ≡ x →
-            replaced f (k.0 % length f) (λ q. after_nothing eq q k) x ≡ replaced f (k.0 % length f) (λ q. closed eq q k) x
-        go None there = refl
-        go (Some x) there =
-            let opened : x.by_key k ≡ Some o = sym (ap (option_and_then (λ (y : Opens K N R). y.by_key k)) there)
-            ∙ asked_some fetch (open_in f k) o is in
-            ap (λ (y : Opens K N R). slice_set f (k.0 % length f) y)
-            (nothing_closes f (k.0 % length f) x there eq k refl o opened later)
+      → ∥ SoManyWait f count ∥₁ → ∥ SoManyWait g left ∥₁
+  nothing_waiting o is later g left goes less waits =
+      settled_waiting f g [] _
+      (nothing_at eq f sound alike k k.0 refl o (asked_some fetch (open_in f k) o is) g later goes) count left
+      (omega (arith, less, of_shard_long (k.0 % length f) o.tokens)) waits
 
 -- what there is, where there is something so
 pub some_so : {A : Type 0} {P : A → Type 0} (o : Option A) → IsSomeAnd o P → (x : A) × (o ≡ Some x) × P x

@@ -1,8 +1,6 @@
 -- What the lemmas of the ledger ask of a session holds of each.
-use Rattle.std.proofs.Common.{◌≡◌, ℕ, ◌+◌, Bool, true, List, [], ◌∷◌, ◌++◌, length, map, Option, Some, None, sym, ◌∙◌, subst}
-use Rattle.std.specs.Prelude.{slice_get, option_map}
+use Rattle.std.proofs.Common.{◌≡◌, ◌+◌, Bool, List, [], ◌∷◌, ◌++◌, length, map}
 use Rattle.std.specs.Cmp.{IsEquivalence}
-use Rattle.std.proofs.lemmas.Option.{slice_get-map}
 use Rattle.std.specs.declared.cmp.PartialEq.{Ghosts as EqGhosts}
 use Rattle.std.specs.declared.hash.Hash.{Ghosts as HashGhosts}
 use Rattle.std.specs.declared.clone.Clone.{Ghosts as CloneGhosts}
@@ -10,17 +8,10 @@ use Rattle.std.specs.declared.default.Default.{Ghosts as DefaultGhosts}
 use Rattle.foyer_policy.specs.declared.eviction.Eviction.{Ghosts as EvictionGhosts}
 use Rattle.foyer_policy.specs.declared.properties.Properties.{Ghosts as PropertiesGhosts}
 use Rattle.foyer_policy.specs.declared.hash.HashBuilder.{Ghosts as HashBuilderGhosts}
-use Rattle.foyer_core.specs.declared.cache_core.CacheCore.{CacheCore}
 use Rattle.foyer_core.specs.declared.finder.Finder.{Ghosts as FinderGhosts}
 use Rattle.foyer_core.specs.declared.weighter.Weighter.{Ghosts as WeighterGhosts}
 use Rattle.foyer_core.specs.declared.filter.Filter.{Ghosts as FilterGhosts}
-use Rattle.foyer_core.specs.declared.shard.Shard.{Shard}
-use Rattle.foyer_core.specs.Cores.{fetches_of}
-use Rattle.foyer_core.specs.Indexer.{same_key}
-use Rattle.foyer_core.specs.Inflight.{Opens}
 use Rattle.foyer_core.specs.Pieces.{coming_under}
-use Rattle.foyer_core.specs.Shards.{opens_of}
-use Rattle.foyer_core.proofs.InflightLemmas.{opens_alike}
 use Rattle.foyer_session.specs.declared.session.Session.{Session}
 use Rattle.foyer_session.specs.Sessions.{session_of, terms_of}
 use Rattle.foyer_session.specs.declared.command.Command.{Command}
@@ -28,48 +19,29 @@ use Rattle.foyer_session.specs.declared.command.Reply.{Reply}
 use Rattle.foyer_session.specs.Ledger.{AreAnswered, IsAnswered, IsSettled}
 use Rattle.foyer_session.specs.Run.{Run}
 use Rattle.foyer_session.specs.Step.{SessionState, Step, hash_in, waiting_at}
-use Rattle.foyer_session.proofs.CoreLemmas.{fetches_long, open_at}
+use Rattle.foyer_session.proofs.CoreLemmas.{alike_at, fetches_long, open_at}
 use Rattle.foyer_session.proofs.LedgerAnswers.{any_answered}
 use Rattle.foyer_session.proofs.LedgerLemmas.{settled_more, settled_none, step_settled}
 use Rattle.foyer_session.proofs.LedgerRuns.{answered_more}
 use Rattle.foyer_session.proofs.LedgerSteps.{ComesHome}
 use Rattle.foyer_session.proofs.PieceHome.{came_home}
 
-module _ {E K V P S W A N R I C X : Type 0} {e : EvictionGhosts E C X} {e1 : CloneGhosts C} {e2 : DefaultGhosts C}
-    {e3 : _} {e4 : DefaultGhosts X}
-    {q : EqGhosts K} {h : HashGhosts K} {c : CloneGhosts K} {p : PropertiesGhosts P} {d : DefaultGhosts P}
-    {b : HashBuilderGhosts S} {w : WeighterGhosts W K V} {f : FilterGhosts A K V} {i : FinderGhosts I K} where
-  -- equal keys have one fetch in the open fetches of a shard
-  pub alike_at : IsEquivalence q.eq → (core : CacheCore E K V P S W A N R I C X e e1 e2 e3 e4 q h c p d b w f i)
-      (n : ℕ) (o : Opens K N R)
-      → slice_get (fetches_of core) n ≡ Some o
-      → (x y : ℕ × K) → same_key q.eq x y ≡ true → o.by_key x ≡ o.by_key y
-  alike_at laws core n o there x y same = alike_in (slice_get core.shards.items n)
-      (sym (slice_get-map opens_of core.shards.items n) ∙ there)
-    where
-      alike_in : (found : Option (Shard E K V P N R I C X e e1 e2 e3 e4 q h c p d i)) → option_map opens_of found
-          ≡ Some o → o.by_key x ≡ o.by_key y
-      alike_in None is = absurd cc
-      alike_in (Some shard) is = (let one : opens_of shard ≡ o = cc in subst
-          (λ (g : Opens K N R). g.by_key x ≡ g.by_key y) one (opens_alike laws shard.inflights x y same))
-
-module _ {E K V P S W A I C X : Type 0} {e : EvictionGhosts E C X} {e1 : CloneGhosts C} {e2 : DefaultGhosts C}
-    {e3 : _} {e4 : DefaultGhosts X}
+module _ {E K V P S W A I C : Type 0} {e : EvictionGhosts E C}
     {q : EqGhosts K} {h : HashGhosts K} {c : CloneGhosts K} {p : PropertiesGhosts P} {d : DefaultGhosts P}
     {b : HashBuilderGhosts S} {w : WeighterGhosts W K V} {f : FilterGhosts A K V} {i : FinderGhosts I K} where
   -- a piece's record comes in in the shard of the piece's key
-  pub comes_home : (s : Session E K V P S W A I C X e e1 e2 e3 e4 q h c p d b w f i)
+  pub comes_home : (s : Session E K V P S W A I C e q h c p d b w f i)
       (new : SessionState K V P e.View S W A)
       → ComesHome (terms_of s) (session_of s) new
   comes_home s new piece made at =
       let old = session_of s in
       let hash = hash_in (terms_of s) old piece.kept.key in
-      came_home s.core (w.weighs s.core.weighter piece.kept.key piece.kept.value) piece made
+      came_home s.core (w.weighs s.core.rules.weighter piece.kept.key piece.kept.value) piece made
       (λ x. 1 + length (waiting_at (terms_of s) old (coming_under x hash piece))) new.core at
 
   -- so a step of a session settles its tokens
   pub call_settled : IsEquivalence q.eq
-      → (s : Session E K V P S W A I C X e e1 e2 e3 e4 q h c p d b w f i) {Q : Type 0}
+      → (s : Session E K V P S W A I C e q h c p d b w f i) {Q : Type 0}
       (picks : Q → K → V → Bool → Type 0) (new : SessionState K V P e.View S W A) (command : Command K V P Q C)
       (reply : Reply K V P)
       → Step (terms_of s) picks (session_of s) command reply.answer reply.leaves new →
@@ -80,7 +52,7 @@ module _ {E K V P S W A I C X : Type 0} {e : EvictionGhosts E C X} {e1 : CloneGh
 
   -- and none is settled without one
   pub call_settled_none : IsEquivalence q.eq
-      → (s : Session E K V P S W A I C X e e1 e2 e3 e4 q h c p d b w f i) (Q : Type 0)
+      → (s : Session E K V P S W A I C e q h c p d b w f i) (Q : Type 0)
       (new : SessionState K V P e.View S W A) → new ≡ session_of s
       → IsSettled {Q = Q} (terms_of s) (session_of s) [] [] new
   call_settled_none laws s Q new same = settled_none (terms_of s) laws (session_of s) new (open_at s.core)
@@ -88,7 +60,7 @@ module _ {E K V P S W A I C X : Type 0} {e : EvictionGhosts E C X} {e1 : CloneGh
 
   -- and it answers those that it hands out
   pub call_answered : IsEquivalence q.eq
-      → (s : Session E K V P S W A I C X e e1 e2 e3 e4 q h c p d b w f i) {Q : Type 0}
+      → (s : Session E K V P S W A I C e q h c p d b w f i) {Q : Type 0}
       (picks : Q → K → V → Bool → Type 0) (new : SessionState K V P e.View S W A) (command : Command K V P Q C)
       (reply : Reply K V P)
       → Step (terms_of s) picks (session_of s) command reply.answer reply.leaves new →
@@ -96,7 +68,7 @@ module _ {E K V P S W A I C X : Type 0} {e : EvictionGhosts E C X} {e1 : CloneGh
   call_answered laws s {Q} picks new command reply step =
       any_answered Q (terms_of s) laws (session_of s) new picks command reply.answer reply.leaves step
 
-  module _ (laws : IsEquivalence q.eq) (first now : Session E K V P S W A I C X e e1 e2 e3 e4 q h c p d b w f i)
+  module _ (laws : IsEquivalence q.eq) (first now : Session E K V P S W A I C e q h c p d b w f i)
       {Q : Type 0} (picks : Q → K → V → Bool → Type 0) {Y : Type 0} (from : Y → Command K V P Q C) (ys : List Y)
       (replies : List (Reply K V P))
       (y : Y) (reply : Reply K V P) (new : SessionState K V P e.View S W A)

@@ -7,9 +7,9 @@ use Rattle.std.specs.Cmp.{IsEquivalence}
 use Rattle.foyer_core.specs.CoreFetches.{at_hash, open_in, replaced}
 use Rattle.foyer_core.specs.Indexer.{same_key}
 use Rattle.foyer_core.specs.Inflight.{AreOpen, Opens, OpenFetch, after_enqueue, after_nothing, closed, waiters_of}
-use Rattle.foyer_session.specs.Ledger.{IsEven, IsWaiting, Settles, next_token_in, of_shard}
+use Rattle.foyer_session.specs.Ledger.{IsEven, Settles, next_token_in, of_shard}
 use Rattle.foyer_session.specs.Tokens.{numbers_of}
-use Rattle.foyer_session.specs.Waits.{WaitsIn, times}
+use Rattle.foyer_session.specs.Waits.{IsWaiting, WaitsIn, times}
 use Rattle.foyer_session.proofs.LedgerTokens.{times_append}
 use Rattle.foyer_session.proofs.LedgerShards.{closed_settled, enqueued_settled, nothing_closed, taken_settled}
 use Rattle.foyer_session.proofs.LedgerWaits.{all_known, stays_settled}

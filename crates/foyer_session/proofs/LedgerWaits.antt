@@ -7,8 +7,8 @@ use Rattle.foyer_core.specs.Chains.{has}
 use Rattle.foyer_core.specs.CoreFetches.{open_in}
 use Rattle.foyer_core.specs.Inflight.{AreOpen, Opens, OpenFetch, tokens_of}
 use Rattle.foyer_core.proofs.CoreLemmas.{set_apart, set_here}
-use Rattle.foyer_session.specs.Ledger.{IsEven, IsWaiting, Settles, next_token_in, next_token_of, of_shard}
-use Rattle.foyer_session.specs.Waits.{WaitsIn, times}
+use Rattle.foyer_session.specs.Ledger.{IsEven, Settles, next_token_in, next_token_of, of_shard}
+use Rattle.foyer_session.specs.Waits.{IsWaiting, WaitsIn, times}
 use Rattle.foyer_session.proofs.LedgerTokens.{IsCount, count_one, same_count, times_apart}
 
 -- a token waits for a key of this shard, whose open fetches these are

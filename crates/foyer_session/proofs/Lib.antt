@@ -31,6 +31,7 @@ pub mod LedgerTokens
 pub mod LedgerWaits
 pub mod LineLemmas
 pub mod LookLemmas
+pub mod NewEntries
 pub mod NumberLemmas
 pub mod OwnLemmas
 pub mod PieceHome

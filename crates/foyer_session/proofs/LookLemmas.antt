@@ -1,7 +1,7 @@
 -- What a look-up that may lead to a fetch makes of a core and its open fetches.
-use Rattle.std.proofs.Common.{◌≡◌, ℕ, ◌+◌, ◌%◌, List, length, Option, Some, None, Ok, Err, refl, sym, ap, ◌∙◌, subst}
-use Rattle.std.proofs.Math.Logic.{∥∥₁_map}
+use Rattle.std.proofs.Common.{◌≡◌, ℕ, ◌+◌, ◌%◌, true, List, [], length, Option, Some, None, Ok, Err, refl, sym, ap, ◌∙◌, arith}
 use Rattle.std.specs.Prelude.{slice_get, slice_set}
+use Rattle.std.specs.Cmp.{IsEquivalence}
 use Rattle.foyer_policy.specs.declared.error.Reason.{Reason}
 use Rattle.foyer_core.specs.declared.inflight.Enqueue.{Enqueue}
 use Rattle.foyer_core.specs.declared.outcome.Lookup.TheVariants.{Hit, Lead, Wait}
@@ -9,14 +9,16 @@ use Rattle.foyer_core.specs.declared.inflight.Enqueue.TheVariants.{Lead as Leads
 use Rattle.foyer_core.specs.Core.{Core, AtShard, shard_of}
 use Rattle.foyer_core.specs.CoreFetches.{AtOpen}
 use Rattle.foyer_core.specs.Fetching.{Enqueues, LooksUp, RefusesLookUp}
-use Rattle.foyer_core.specs.Inflight.{Opens}
+use Rattle.foyer_core.specs.Indexer.{same_key}
+use Rattle.foyer_core.specs.Inflight.{AreOpen, Opens}
 use Rattle.foyer_core.specs.State.{Meaning, State, hit}
 use Rattle.foyer_core.specs.Steps.{Gets}
 use Rattle.foyer_core.specs.Values.{Held}
-use Rattle.foyer_session.specs.Waits.{AtMost}
+use Rattle.foyer_session.specs.Waits.{SoManyWait}
+use Rattle.foyer_session.proofs.LedgerFetches.{enqueued_at}
 use Rattle.foyer_session.proofs.OwnLemmas.{set_same}
 use Rattle.foyer_session.proofs.StepLemmas.{gets_refused}
-use Rattle.foyer_session.proofs.WaitsLemmas.{one_waits}
+use Rattle.foyer_session.proofs.WaitsLemmas.{settled_waiting}
 
 module _ {K V P View C S W A : Type 0} (m : Meaning K P View C) (core : Core K V P View S W A)
     (f : List (Opens K (Unit {0}) ℕ)) (new : Core K V P View S W A) (g : List (Opens K (Unit {0}) ℕ)) (k : ℕ × K)
@@ -42,20 +44,10 @@ module _ {K V P View C S W A : Type 0} (m : Meaning K P View C) (core : Core K V
     fetches_stay (λ s x t y. LooksUp m s x k tt later (Ok (Hit entry)) t y) at at.stepped.1,
   )
 
-  -- a miss leaves the core, and one more waits
+  -- a miss leaves the core
   enqueued_core : (answer : Enqueue ℕ)
       (at : AtOpen (λ s x t y. Enqueues m s x k tt later answer t y) k.0 core f new g) → new ≡ core
   enqueued_core answer at = core_stays (λ s x t y. Enqueues m s x k tt later answer t y) at at.stepped.3
-
-  enqueued_waits : (answer : Enqueue ℕ)
-      (at : AtOpen (λ s x t y. Enqueues m s x k tt later answer t y) k.0 core f new g) → length f ≡ length core.shards
-      → (count : ℕ) → AtMost f count → AtMost g (count + 1)
-  enqueued_waits answer at long count most =
-      let is : g ≡ slice_set f (shard_of core k.0) _ = at.open_rest
-      ∙ ap (λ (x : Opens K (Unit {0}) ℕ). slice_set f (shard_of core k.0) x) at.stepped.4 in
-      subst (λ (l : List (Opens K (Unit {0}) ℕ)). AtMost l (count + 1)) (sym is)
-      (one_waits f (shard_of core k.0) at.open_before at.open_there m.same k (ap (λ (n : ℕ). k.0 % n) long) tt later
-      count most)
 
   pub led_core : (fetch token : ℕ) (required : Option ℕ) →
       AtOpen (λ s x t y. LooksUp m s x k tt later (Ok (Lead fetch token required)) t y) k.0 core f new g → new ≡ core
@@ -65,16 +57,30 @@ module _ {K V P View C S W A : Type 0} (m : Meaning K P View C) (core : Core K V
       → new ≡ core
   waited_core token at = enqueued_core (WaitsFetch token) at
 
-  module _ (long : length f ≡ length core.shards) (count : ℕ) (most : ∥ AtMost f count ∥₁) where
+  -- and one more waits
+  module _ (laws : IsEquivalence m.same)
+      (sound : (i : ℕ) (x : Opens K (Unit {0}) ℕ) → slice_get f i ≡ Some x → AreOpen m.same x)
+      (alike : (i : ℕ) (x : Opens K (Unit {0}) ℕ) → slice_get f i ≡ Some x → (p q : ℕ × K) →
+      same_key m.same p q ≡ true → x.by_key p ≡ x.by_key q)
+      (long : length f ≡ length core.shards) (count : ℕ) (waits : ∥ SoManyWait f count ∥₁) where
+    enqueued_waits : (answer : Enqueue ℕ) →
+        AtOpen (λ s x t y. Enqueues m s x k tt later answer t y) k.0 core f new g → ∥ SoManyWait g (count + 1) ∥₁
+    enqueued_waits answer at =
+        let home : k.0 % length f ≡ shard_of core k.0 = ap (λ (n : ℕ). k.0 % n) long in
+        let is : g ≡ slice_set f (shard_of core k.0) _ = at.open_rest
+        ∙ ap (λ (x : Opens K (Unit {0}) ℕ). slice_set f (shard_of core k.0) x) at.stepped.4 in
+        settled_waiting f g _ []
+        (enqueued_at m.same f sound alike laws k (shard_of core k.0) at.open_before at.open_there home tt later g
+        at.open_before.next_token is refl) count (count + 1) (omega arith) waits
+
     pub led_waits : (fetch token : ℕ) (required : Option ℕ) →
         AtOpen (λ s x t y. LooksUp m s x k tt later (Ok (Lead fetch token required)) t y) k.0 core f new g →
-        ∥ AtMost g (count + 1) ∥₁
-    led_waits fetch token required at = ∥∥₁_map most
-        (λ x. enqueued_waits (LeadsFetch fetch token required) at long count x)
+        ∥ SoManyWait g (count + 1) ∥₁
+    led_waits fetch token required at = enqueued_waits (LeadsFetch fetch token required) at
 
     pub waited_waits : (token : ℕ) → AtOpen (λ s x t y. LooksUp m s x k tt later (Ok (Wait token)) t y) k.0 core f new
-        g → ∥ AtMost g (count + 1) ∥₁
-    waited_waits token at = ∥∥₁_map most (λ x. enqueued_waits (WaitsFetch token) at long count x)
+        g → ∥ SoManyWait g (count + 1) ∥₁
+    waited_waits token at = enqueued_waits (WaitsFetch token) at
 
   refused_stays : (o : Option ℕ) (s : State K V P View) (x : Opens K (Unit {0}) ℕ) (reason : Reason)
       (t : State K V P View) → RefusesLookUp m o s x k reason t → t ≡ s

@@ -22,11 +22,10 @@ use Rattle.foyer_session.proofs.CoreLemmas.{fetches_long, kept_at}
 use Rattle.foyer_session.proofs.FoundLemmas.{next_unused}
 use Rattle.foyer_session.proofs.PieceLemmas.{piece_gives}
 
-module _ {E K V P S W A N R I C X : Type 0} {e : EvictionGhosts E C X} {e1 : CloneGhosts C} {e2 : DefaultGhosts C}
-    {e3 : _} {e4 : DefaultGhosts X}
+module _ {E K V P S W A N R I C : Type 0} {e : EvictionGhosts E C}
     {q : EqGhosts K} {h : HashGhosts K} {c : CloneGhosts K} {p : PropertiesGhosts P} {d : DefaultGhosts P}
     {b : HashBuilderGhosts S} {w : WeighterGhosts W K V} {f : FilterGhosts A K V} {i : FinderGhosts I K} where
-  pub came_home : (s : CacheCore E K V P S W A N R I C X e e1 e2 e3 e4 q h c p d b w f i) (weighs : ℕ → Type 0)
+  pub came_home : (s : CacheCore E K V P S W A N R I C e q h c p d b w f i) (weighs : ℕ → Type 0)
       (piece : Carried K V P) (made : Made K V P) (more : State K V P e.View → ℕ) (new : Core K V P e.View S W A)
       → AtShard (λ x t. InsertsPiece (meaning_of_core s) weighs (hashes_of s piece.kept.key) piece (more x) (Ok made)
       x t) (hashes_of s piece.kept.key) (core_of s) new

@@ -25,7 +25,7 @@ use Rattle.foyer_core.specs.declared.outcome.FetchTarget.TheVariants.{Entry as V
 use Rattle.foyer_core.proofs.CallsTold.{cleared_core, clone_told, get_told, give_back_told, insert_told, nothing_told, picked_core, refused_told, remove_told, resized_core, resized_until_core, touch_told, unpinned_core, unpinned_until_core}
 use Rattle.foyer_core.proofs.CoreTold.{AreSound, configured_told}
 use Rattle.foyer_core.proofs.Observing.{leaves_congr}
-use Rattle.foyer_core.proofs.PieceCalls.{piece_tells}
+use Rattle.foyer_core.proofs.PieceCalls.{piece_laws}
 use Rattle.foyer_session.specs.declared.command.Answer.{Answer}
 use Rattle.foyer_session.specs.declared.command.Answer.TheVariants.{Entry, Found, Missing, Lead, Wait, Answered, Later, Lost, Yes, No, Done, Number, PieceNo, NotHeld, Refused}
 use Rattle.foyer_session.specs.declared.command.Command.{Command}
@@ -221,9 +221,9 @@ module _ {K V P View C S W A : Type 0} (t : Terms K V P View C S W A) where
         let piece = h.0 in
         let weighs = t.weighs old.core.weighter piece.kept.key piece.kept.value in (
           at_builder _ (hash piece.kept.key) h.3,
-          λ q. piece_tells t.meaning laws good t.hash old.core new.core equal sound weighs piece
+          λ q. (piece_laws t.meaning laws good t.hash old.core new.core equal sound weighs piece
               (λ s. 1 + length (waiting_at t old (coming_under s (hash piece.kept.key) piece)))
-              (Ok record { entry = h.1; leaves = leaves }) h.3 q
+              (Ok record { entry = h.1; leaves = leaves }) h.3).told q
               ∙ ap (λ (g : Gone K V P). after_entry same t.meaning.phantom
               (after_leaves same (known hash old.core) leaves) g.id g.kept q) (sym h.4.tells),
         )
@@ -231,9 +231,9 @@ module _ {K V P View C S W A : Type 0} (t : Terms K V P View C S W A) where
       | inl same ↦ unchanged leaves same.1 same.2
       | inr y ↦ (let weighs = t.weighs old.core.weighter h.0.kept.key h.0.kept.value in (
         at_builder _ (hash h.0.kept.key) y.0,
-        piece_tells t.meaning laws good t.hash old.core new.core equal sound
+        (piece_laws t.meaning laws good t.hash old.core new.core equal sound
             weighs h.0 (λ s. 1 + length (waiting_at t old (coming_under s (hash h.0.kept.key) h.0)))
-            (Err record { reason = reason; leaves = leaves }) y.0,
+            (Err record { reason = reason; leaves = leaves }) y.0).told,
       ))
     ]
     insert_piece_step n NotHeld leaves h = unchanged leaves h.1 h.2

@@ -17,14 +17,9 @@ use Rattle.foyer_session.specs.declared.command.End.TheVariants.{PieceNo, Value}
 use Rattle.foyer_session.specs.declared.command.Reply.{Reply}
 use Rattle.foyer_session.specs.Step.{SessionState, hash_in, held_at, record_of}
 use Rattle.foyer_session.specs.Terms.{Terms}
-use Rattle.foyer_session.specs.Waits.{WaitsIn, times}
+use Rattle.foyer_session.specs.Waits.{IsWaiting, WaitsIn, times}
 
 module _ {K N R : Type 0} where
-  -- how often a token waits: once, or not
-  abbrev pub IsWaiting : List (Opens K N R) → ℕ → ℕ → ℕ → Type 0
-  IsWaiting fetches shard token count = (∥ WaitsIn fetches shard token ∥₁ × (count ≡ 1))
-      ⊎ ((WaitsIn fetches shard token → ⊥) × (count ≡ 0))
-
   -- the next token of a shard, where it is one
   abbrev pub next_token_of : Option (Opens K N R) → ℕ
   next_token_of None = 0

@@ -16,25 +16,24 @@ use Rattle.foyer_session.specs.declared.session.Session.{Session}
 use Rattle.foyer_session.specs.Step.{SessionState}
 use Rattle.foyer_session.specs.Terms.{Terms}
 
-module _ {E K V P S W A I C X : Type 0} {e : EvictionGhosts E C X} {e1 : CloneGhosts C} {e2 : DefaultGhosts C}
-    {e3 : _} {e4 : DefaultGhosts X}
+module _ {E K V P S W A I C : Type 0} {e : EvictionGhosts E C}
     {q : EqGhosts K} {h : HashGhosts K} {c : CloneGhosts K} {p : PropertiesGhosts P} {d : DefaultGhosts P}
     {b : HashBuilderGhosts S} {w : WeighterGhosts W K V} {f : FilterGhosts A K V} {i : FinderGhosts I K} where
   -- what contracts see of a session
-  abbrev pub session_of : Session E K V P S W A I C X e e1 e2 e3 e4 q h c p d b w f i → SessionState K V P e.View S W A
+  abbrev pub session_of : Session E K V P S W A I C e q h c p d b w f i → SessionState K V P e.View S W A
   session_of s =
       record { core = core_of s.core; fetches = fetches_of s.core; handles = s.handles.items; pieces = s.pieces.items }
 
   -- how many handles there are, and who waits for one
-  abbrev pub taken : Session E K V P S W A I C X e e1 e2 e3 e4 q h c p d b w f i → ℕ
+  abbrev pub taken : Session E K V P S W A I C e q h c p d b w f i → ℕ
   taken s = vec_len s.handles + s.waiting
 
   -- when keys are equal, what the policy does, and what properties answer
-  abbrev pub meaning_of_session : Session E K V P S W A I C X e e1 e2 e3 e4 q h c p d b w f i → Meaning K P e.View C
+  abbrev pub meaning_of_session : Session E K V P S W A I C e q h c p d b w f i → Meaning K P e.View C
   meaning_of_session s = meaning_of_core s.core
 
   -- what a session is over
-  abbrev pub terms_of : Session E K V P S W A I C X e e1 e2 e3 e4 q h c p d b w f i → Terms K V P e.View C S W A
+  abbrev pub terms_of : Session E K V P S W A I C e q h c p d b w f i → Terms K V P e.View C S W A
   terms_of s = record {
     meaning = meaning_of_session s;
     hash = λ builder key. b.hash_of builder (h.hash_input key);

@@ -1,8 +1,9 @@
 -- What a program prints for a line.
-use Rattle.std.specs.Prelude.{◌≡◌, ℕ, Bool, true, false, List, [], ◌++◌, ◌⊎◌, Option, Some, None, codes}
+use Rattle.std.specs.Prelude.{◌≡◌, ℕ, Bool, true, false, List, [], ◌++◌, ◌⊎◌, Some, None, codes}
 use Rattle.foyer_policy.specs.declared.types.Event.{Event}
 use Rattle.foyer_policy.specs.declared.types.Hint.TheVariants.{Normal}
-use Rattle.foyer_policy.specs.declared.types.Ratio.{Ratio}
+use Rattle.foyer_policy.specs.declared.eviction_config.EvictionConfig.{EvictionConfig}
+use Rattle.foyer_policy.specs.declared.eviction_config.EvictionConfig.TheVariants.{Lru}
 use Rattle.foyer_policy.specs.declared.types.Source.TheVariants.{Outer}
 use Rattle.foyer_core.specs.Values.{Gone, Answered}
 use Rattle.foyer_core.specs.State.{Meaning, coming_in}
@@ -12,7 +13,7 @@ use Rattle.foyer_session.specs.declared.command.Command.{Command}
 use Rattle.foyer_session.specs.declared.command.Command.TheVariants.{Insert, Get, Contains, Touch, Remove, Drop, GetOrFetch, Complete, Cancel, Clear, EvictAll, Resize, Reconfigure}
 use Rattle.foyer_session.specs.declared.command.End.TheVariants.{Value}
 use Rattle.foyer_session.specs.declared.sim.tell.Asked.{Asked}
-use Rattle.foyer_session.specs.declared.sim.tell.Asked.TheVariants.{Nothing, NoLine, NoPool, Carry}
+use Rattle.foyer_session.specs.declared.sim.tell.Asked.TheVariants.{Nothing, NoLine, Carry}
 use Rattle.foyer_session.specs.declared.sim.value.SimValue.{SimValue}
 use Rattle.foyer_session.specs.declared.text.Line.{Line}
 use Rattle.foyer_session.specs.declared.text.Line.TheVariants.{Blank, Insert as InsertLine, Phantom as PhantomLine, Get as GetLine, Contains as ContainsLine, Touch as TouchLine, Remove as RemoveLine, Drop as DropLine, Clear as ClearLine, Evict as EvictLine, Resize as ResizeLine, High as HighLine, Fetch as FetchLine, Done as DoneLine, Cancel as CancelLine, Bad}
@@ -55,17 +56,38 @@ plain = record { phantom = None; hint = Normal }
 abbrev pub phantom : Answered
 phantom = record { phantom = Some true; hint = Normal }
 
-module _ {View C S W A : Type 0} (m : Meaning ℕ Answered View C) where
+module _ {View S W A : Type 0} (m : Meaning ℕ Answered View EvictionConfig) where
   -- a printed line: the answer, what left, and usage and entries then
   abbrev pub line_text : List ℕ → List (Event × Gone ℕ SimValue Answered) →
       SessionState ℕ SimValue Answered View S W A → List ℕ
   line_text answer leaves s = answer ++ rest_text leaves (usage_of_core m s.core) (entries_of_core m s.core)
 
+-- what a line asks for
+abbrev pub asked_by : Line → Asked
+asked_by Blank = Nothing
+asked_by Bad = NoLine
+asked_by (InsertLine key value weight) = Carry (Insert key (record { value = value; weight = weight }) plain)
+asked_by (PhantomLine key value weight) = Carry (Insert key (record { value = value; weight = weight }) phantom)
+asked_by (GetLine key) = Carry (Get key)
+asked_by (ContainsLine key) = Carry (Contains key)
+asked_by (TouchLine key) = Carry (Touch key)
+asked_by (RemoveLine key) = Carry (Remove key)
+asked_by (DropLine number) = Carry (Drop number)
+asked_by ClearLine = Carry Clear
+asked_by EvictLine = Carry EvictAll
+asked_by (ResizeLine capacity) = Carry (Resize capacity)
+asked_by (HighLine ratio) = Carry (Reconfigure (Lru (record { high_priority_pool_ratio = ratio })))
+asked_by (FetchLine key) = Carry (GetOrFetch key None)
+asked_by (DoneLine key fetch value) = Carry
+    (Complete key fetch (Value (record { value = value; weight = 1 }) plain Outer))
+asked_by (CancelLine key fetch) = Carry (Cancel key fetch)
+
 -- `hash` is what a hash builder gives a key.
-module _ {View C S W A : Type 0} (m : Meaning ℕ Answered View C) (hash : S → ℕ → ℕ) where
+module _ {View S W A : Type 0} (m : Meaning ℕ Answered View EvictionConfig) (hash : S → ℕ → ℕ) where
   -- a command is a step, or is refused for want of memory before it is made
-  abbrev pub CommandTold : SessionState ℕ SimValue Answered View S W A → Command ℕ SimValue Answered NoPredicate C →
-      List ℕ → SessionState ℕ SimValue Answered View S W A → Type 0
+  abbrev pub CommandTold : SessionState ℕ SimValue Answered View S W A →
+      Command ℕ SimValue Answered NoPredicate EvictionConfig → List ℕ →
+      SessionState ℕ SimValue Answered View S W A → Type 0
   CommandTold old command text new =
       ((answer : Answer ℕ SimValue Answered) × (leaves : List (Event × Gone ℕ SimValue Answered))
       × Step (sim_terms m hash) no_picks old command answer leaves new
@@ -73,42 +95,13 @@ module _ {View C S W A : Type 0} (m : Meaning ℕ Answered View C) (hash : S →
       ⊎ ((text ≡ line_text m (refusal_text 7) [] new) × (new ≡ old))
 
   -- what a line asks for is told
-  abbrev pub AskedTold : SessionState ℕ SimValue Answered View S W A → Asked C → List ℕ →
+  abbrev pub AskedTold : SessionState ℕ SimValue Answered View S W A → Asked → List ℕ →
       SessionState ℕ SimValue Answered View S W A → Type 0
   AskedTold old Nothing text new = (text ≡ []) × (new ≡ old)
   AskedTold old NoLine text new = (text ≡ line_text m (codes "bad line") [] new) × (new ≡ old)
-  AskedTold old NoPool text new = (text ≡ line_text m (refusal_text 17) [] new) × (new ≡ old)
   AskedTold old (Carry command) text new = CommandTold old command text new
 
--- `config_of` is the configuration of a share, where the policy has a pool of high priority.
-module _ {C : Type 0} (config_of : Ratio → Option C) where
-  -- the share of a pool is a configuration, where there is such a pool
-  abbrev pub asked_of_pool : Option C → Asked C
-  asked_of_pool (Some config) = Carry (Reconfigure config)
-  asked_of_pool None = NoPool
-
-  -- what a line asks for
-  abbrev pub asked_by : Line → Asked C
-  asked_by Blank = Nothing
-  asked_by Bad = NoLine
-  asked_by (InsertLine key value weight) = Carry (Insert key (record { value = value; weight = weight }) plain)
-  asked_by (PhantomLine key value weight) = Carry (Insert key (record { value = value; weight = weight }) phantom)
-  asked_by (GetLine key) = Carry (Get key)
-  asked_by (ContainsLine key) = Carry (Contains key)
-  asked_by (TouchLine key) = Carry (Touch key)
-  asked_by (RemoveLine key) = Carry (Remove key)
-  asked_by (DropLine number) = Carry (Drop number)
-  asked_by ClearLine = Carry Clear
-  asked_by EvictLine = Carry EvictAll
-  asked_by (ResizeLine capacity) = Carry (Resize capacity)
-  asked_by (HighLine ratio) = asked_of_pool (config_of ratio)
-  asked_by (FetchLine key) = Carry (GetOrFetch key None)
-  asked_by (DoneLine key fetch value) = Carry
-      (Complete key fetch (Value (record { value = value; weight = 1 }) plain Outer))
-  asked_by (CancelLine key fetch) = Carry (Cancel key fetch)
-
-module _ {View C S W A : Type 0} (m : Meaning ℕ Answered View C) (hash : S → ℕ → ℕ) (config_of : Ratio → Option C) where
   -- the text of a line, and the state then
   abbrev pub LineTold : SessionState ℕ SimValue Answered View S W A → Line → List ℕ →
       SessionState ℕ SimValue Answered View S W A → Type 0
-  LineTold old line text new = AskedTold m hash old (asked_by config_of line) text new
+  LineTold old line text new = AskedTold old (asked_by line) text new

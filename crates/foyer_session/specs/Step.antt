@@ -6,11 +6,11 @@ use Rattle.foyer_policy.specs.declared.types.Event.TheVariants.{Remove as Remove
 use Rattle.foyer_policy.specs.declared.types.Source.{Source}
 use Rattle.foyer_policy.specs.declared.types.Source.TheVariants.{Memory, Outer}
 use Rattle.foyer_policy.specs.declared.error.Reason.{Reason}
-use Rattle.foyer_policy.specs.declared.error.Reason.TheVariants.{Fetch, NoMemory, TaskCancelled}
+use Rattle.foyer_policy.specs.declared.error.Reason.TheVariants.{Fetch, NoMemory, TaskCancelled, WrongPolicy}
 use Rattle.foyer_core.specs.declared.record.Data.{Data}
 use Rattle.foyer_core.specs.Values.{Carried, Denied, Gone, Held, Made}
 use Rattle.foyer_core.specs.Bulk.{Clears, EvictsIf, EvictsUnpinned, EvictingUnpinned}
-use Rattle.foyer_core.specs.CoreBulk.{InTurn, InTurnUntil, OfShards, EvictsToCapacity, EvictingToCapacity, Resizes, Configures}
+use Rattle.foyer_core.specs.CoreBulk.{InTurn, InTurnUntil, OfShards, EvictsToCapacity, EvictingToCapacity, Resizes, Configures, NotTaken, TakenByEach}
 use Rattle.foyer_core.specs.CoreFetches.{AtOpen, Completed, EndsAt, IsOpenIn, at_hash, open_in}
 use Rattle.foyer_core.specs.Fetching.{LooksUp}
 use Rattle.foyer_core.specs.Inflight.{Opens, OpenFetch, after_nothing, asked, closed, waiters_of}
@@ -417,14 +417,23 @@ module _ {K V P View C S W A : Type 0} (t : Terms K V P View C S W A) where
       leaves new.core × KeepsTables old new
   ResizeStep old capacity _ leaves new = ⊥
 
-  -- each shard's policy is told the configuration, or its first fault is the answer and nothing changes
+  -- a configuration is accepted: each shard's policy takes it as one of its own, and it has no fault
+  abbrev pub AcceptsConfig : SessionState K V P View S W A → C → Type 0
+  AcceptsConfig old config = TakenByEach t.meaning config old.core.shards × (t.meaning.policy.fault config ≡ None)
+
+  -- why it is refused: some shard's policy does not take it; or each does, and it has this first fault
+  abbrev pub RefusesConfig : SessionState K V P View S W A → C → Reason → Type 0
+  RefusesConfig old config reason =
+      (NotTaken t.meaning config old.core.shards × (reason ≡ WrongPolicy))
+      ⊎ (TakenByEach t.meaning config old.core.shards × (t.meaning.policy.fault config ≡ Some reason))
+
+  -- each shard's policy is told the configuration, or it is refused and nothing changes
   abbrev pub ReconfigureStep : SessionState K V P View S W A → C → Answer K V P → List (Event × Gone K V P) →
       SessionState K V P View S W A → Type 0
   ReconfigureStep old config Done leaves new =
-      (t.meaning.policy.fault config ≡ None) × Configures t.meaning config old.core new.core × (leaves ≡ [])
-      × KeepsTables old new
-  ReconfigureStep old config (Refused reason) leaves new = (t.meaning.policy.fault config ≡ Some reason)
-      × (leaves ≡ []) × (new ≡ old)
+      AcceptsConfig old config × Configures t.meaning config old.core new.core × (leaves ≡ []) × KeepsTables old new
+  ReconfigureStep old config (Refused reason) leaves new =
+      RefusesConfig old config reason × (leaves ≡ []) × (new ≡ old)
   ReconfigureStep old config _ leaves new = ⊥
 
 -- `picks` is what a predicate may answer of a key and a value.

@@ -1,5 +1,5 @@
 -- Who waits with a token, and how many.
-use Rattle.std.specs.Prelude.{◌≡◌, ℕ, suc, ◌+◌, ◌<◌, ◌≤◌, ◌%◌, ◌==◌, ◌&&◌, Bool, true, cond, List, [], ◌∷◌, Option, Some, length}
+use Rattle.std.specs.Prelude.{◌≡◌, ℕ, ◌+◌, ◌%◌, ◌⊎◌, ◌==◌, ◌&&◌, Bool, true, cond, List, [], ◌∷◌, Some, length}
 use Rattle.foyer_core.specs.Chains.{has}
 use Rattle.foyer_core.specs.CoreFetches.{open_in}
 use Rattle.foyer_core.specs.Inflight.{Opens, OpenFetch, tokens_of}
@@ -21,8 +21,14 @@ abbrev pub times : ℕ → ℕ → List (ℕ × ℕ) → ℕ
 times shard token [] = 0
 times shard token (other ∷ others) = cond (is_token shard token other) 1 0 + times shard token others
 
--- at most so many tokens wait
-pub record AtMost {K N R : Type 0} (fetches : List (Opens K N R)) (count : ℕ) : Type 0 where
-  pub tokens : List (ℕ × ℕ)
-  pub counted : length tokens ≤ count
-  pub covered : (shard token : ℕ) → WaitsIn fetches shard token → 0 < times shard token tokens
+module _ {K N R : Type 0} where
+  -- how often a token waits: once, or not
+  abbrev pub IsWaiting : List (Opens K N R) → ℕ → ℕ → ℕ → Type 0
+  IsWaiting fetches shard token count = (∥ WaitsIn fetches shard token ∥₁ × (count ≡ 1))
+      ⊎ ((WaitsIn fetches shard token → ⊥) × (count ≡ 0))
+
+  -- so many tokens wait in all shards together: these, each of which stands once, and no others
+  pub record SoManyWait (fetches : List (Opens K N R)) (count : ℕ) : Type 0 where
+    pub tokens : List (ℕ × ℕ)
+    pub counted : length tokens ≡ count
+    pub each : (shard token : ℕ) → IsWaiting fetches shard token (times shard token tokens)

@@ -60,7 +60,8 @@ pub enum Command<K, V, P, Q, C> {
     FlushIf(Q),
     /// Sets the weight that the records may have together, and evicts to it.
     Resize(usize),
-    /// Sets the configuration of each shard's policy. Nothing leaves.
+    /// Sets the configuration of each shard's policy, where it is one of that policy's (F17) and has no fault (F2 to
+    /// F6). Nothing leaves.
     Reconfigure(C),
     /// Asks for the weight that the records may have together.
     Capacity,

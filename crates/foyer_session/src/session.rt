@@ -5,7 +5,7 @@ ghost use Rattle.foyer_policy.specs.declared.error.Reason.TheVariants.{NoMemory}
 ghost use Rattle.foyer_core.specs.Cores.{core_of, fetches_of};
 ghost use Rattle.foyer_core.specs.Idle.{NoneOpen};
 ghost use Rattle.foyer_session.specs.Owns.{OwnsHandles};
-ghost use Rattle.foyer_session.specs.Waits.{AtMost};
+ghost use Rattle.foyer_session.specs.Waits.{SoManyWait};
 
 use crate::command::{Answer, Command, Reply};
 use crate::predicate::Predicate;
@@ -45,11 +45,11 @@ pub struct Session<
     core: CacheCore<E, K, V, P, S, W, A, (), u64, I>,
     handles: Vec<Handle<K, V, P>>,
     pieces: Vec<Piece<K, V, P>>,
-    // how many tokens wait
+    // how many tokens wait, in all shards together
     waiting: usize,
     alloc: Global,
     ghost owns: { ∥ OwnsHandles (core_of core) handles.items ∥₁ },
-    ghost waits: { ∥ AtMost (fetches_of core) waiting ∥₁ },
+    ghost waits: { ∥ SoManyWait (fetches_of core) waiting ∥₁ },
     // each who waits has room for a handle
     ghost room: { vec_len handles + waiting ≤ vec_capacity handles },
 }

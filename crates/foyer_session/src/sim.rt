@@ -8,46 +8,48 @@ ghost use Rattle.foyer_session.specs.Told.{TellsAll, TellsPart};
 
 use crate::session::Session;
 use crate::text::Lines;
-use foyer_core::{AdmitAll, CacheProperties, Finder};
-use foyer_policy::{Eviction, HashBuilder};
+use foyer_core::{AdmitAll, CacheProperties, Finder, TagFinder};
+use foyer_policy::{AnyEviction, HashBuilder};
 use std::io;
 use std::io::{BufRead, ErrorKind, Write};
 
 mod args;
-mod high;
 mod reply;
 mod tell;
 mod value;
 
 pub use args::{SimArgs, SimPolicy, sim_args};
-pub use high::{HighRatio, LruHighRatio, NoHighRatio};
 pub use reply::{event_name, write_answer, write_found, write_numbered, write_refusal, write_rest};
 pub use value::{SimValue, SimWeighter};
 
+/// A session as a program has it, over a cache of any of the five policies.
+pub type SimSession<S, I = TagFinder<u64>> = Session<
+    AnyEviction,
+    u64,
+    SimValue,
+    CacheProperties,
+    S,
+    SimWeighter,
+    AdmitAll,
+    I,
+>;
+
 /// Carries out the lines of a reader, each as a command, and writes for each the reply, what left, and the
 /// usage and the entries then. A line whose command is refused says so, and the next one is carried out. The line
-/// `high N D` sets the configuration that `high` makes of the share `N / D`, and is F17 where it makes none.
+/// `high N D` asks for the configuration of LRU whose pool of high priority has the share `N / D`.
 ///
 /// What was written is flushed before each read that may wait, and at other times only as the writer does.
 /// It ends at the end of the input. It fails only where the reader or the writer does, or after 2^64
 /// lines; then what was written is a beginning of the text of some first lines.
-pub fn simulate<
-    R: BufRead,
-    W: Write,
-    E: Eviction,
-    S: HashBuilder,
-    I: Finder<u64>,
-    H: HighRatio<E::Config>,
->(
+pub fn simulate<R: BufRead, W: Write, S: HashBuilder, I: Finder<u64>>(
     reader: &mut R,
     writer: &mut W,
-    session: &mut Session<E, u64, SimValue, CacheProperties, S, SimWeighter, AdmitAll, I>,
-    high: &H,
+    session: &mut SimSession<S, I>,
 ) -> io::Result<()>
-    ensures all { OnOk result (TellsAll (LineTold (meaning_of_session session.old) (λ builder key. S.hash_of builder (u64_input key)) (H.config_of high.now))
+    ensures all { OnOk result (TellsAll (LineTold (meaning_of_session session.old) (λ builder key. S.hash_of builder (u64_input key)))
         (session_of session.old) (session_of session.new) (R.remaining reader.old) (W.contents writer.old) (W.contents writer.new)) }
     ensures at_end { OnOk result (IfSome (R.remaining reader.old) (λ _. R.remaining reader.new ≡ Some [])) }
-    ensures part { OnErr result (TellsPart (LineTold (meaning_of_session session.old) (λ builder key. S.hash_of builder (u64_input key)) (H.config_of high.now))
+    ensures part { OnErr result (TellsPart (LineTold (meaning_of_session session.old) (λ builder key. S.hash_of builder (u64_input key)))
         (session_of session.old) (session_of session.new) (R.remaining reader.old) (W.contents writer.old) (W.contents writer.new)) }
 {
     let mut lines = Lines::new();
@@ -55,7 +57,7 @@ pub fn simulate<
         let Some(line) = lines.read(reader, writer)? else {
             return Ok(());
         };
-        tell::tell(writer, session, high, line)?;
+        tell::tell(writer, session, line)?;
     }
     Err(io::Error::from(ErrorKind::Other))
 }

@@ -2,8 +2,8 @@
 
 use crate::sim::{PRINTED, SCRIPT, session_of_two};
 use crate::streams::{Parts, Slow};
+use foyer_session::simulate;
 use foyer_session::text::{flush_out, write_number, write_out};
-use foyer_session::{NoHighRatio, simulate};
 use std::alloc::Global;
 use std::io::ErrorKind;
 use std::test::Fail;
@@ -18,7 +18,7 @@ fn run_with_failed_read(alloc: Global, at: u64, kind: ErrorKind) -> Result<Run, 
     reader.kind = kind;
     let mut written = Vec::new(alloc);
     let mut session = session_of_two(alloc)?;
-    let ended = simulate(&mut reader, &mut written, &mut session, &NoHighRatio);
+    let ended = simulate(&mut reader, &mut written, &mut session);
     Ok((written, ended.map_err(|e| e.kind())))
 }
 
@@ -29,7 +29,7 @@ fn run_with_failed_write(alloc: Global, at: u64, kind: ErrorKind) -> Result<Run,
     writer.fails_at = at;
     writer.kind = kind;
     let mut session = session_of_two(alloc)?;
-    let ended = simulate(&mut lines, &mut writer, &mut session, &NoHighRatio);
+    let ended = simulate(&mut lines, &mut writer, &mut session);
     Ok((writer.taken, ended.map_err(|e| e.kind())))
 }
 

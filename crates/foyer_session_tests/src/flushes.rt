@@ -2,7 +2,7 @@
 
 use crate::sim::session_of_two;
 use crate::streams::{Parts, Slow};
-use foyer_session::{NoHighRatio, simulate};
+use foyer_session::simulate;
 use std::alloc::Global;
 use std::io::{BufRead, BufReader, ErrorKind};
 use std::test::Fail;
@@ -16,7 +16,7 @@ const ENDS: [usize; 4] = [0, 27, 54, 82];
 fn flushes<R: BufRead>(alloc: Global, reader: &mut R) -> Result<Vec<usize>, Fail> {
     let mut writer = Slow::new(alloc, usize::MAX);
     let mut session = session_of_two(alloc)?;
-    simulate(reader, &mut writer, &mut session, &NoHighRatio)?;
+    simulate(reader, &mut writer, &mut session)?;
     Ok(writer.handed)
 }
 
@@ -54,7 +54,7 @@ fn run_with_failed_flush(
     writer.flush_fails_at = at;
     writer.kind = kind;
     let mut session = session_of_two(alloc)?;
-    let ended = simulate(&mut reader, &mut writer, &mut session, &NoHighRatio);
+    let ended = simulate(&mut reader, &mut writer, &mut session);
     Ok(ended.map_err(|e| e.kind()))
 }
 

@@ -36,12 +36,24 @@ impl Predicate<u64, u64> for EvenKeys {
     }
 }
 
-// A session over an empty core of one shard.
-fn session<E: Eviction>(alloc: Global, capacity: usize) -> Result<SessionOf<E>, Fail> {
+// A session over an empty core of one shard, with the policy's default configuration.
+fn session<E: Eviction>(alloc: Global, capacity: usize) -> Result<SessionOf<E>, Fail>
+where
+    E::Config: Default,
+{
+    session_with(alloc, capacity, E::Config::default())
+}
+
+// The same with this configuration.
+fn session_with<E: Eviction>(
+    alloc: Global,
+    capacity: usize,
+    eviction_config: E::Config,
+) -> Result<SessionOf<E>, Fail> {
     let config = RawCacheConfig {
         capacity,
         shards: 1,
-        eviction_config: E::Config::default(),
+        eviction_config,
         hash_builder: ModHasher::default(),
         weighter: UnitWeighter,
         filter: AdmitAll,

@@ -2,38 +2,28 @@
 
 use crate::streams::Parts;
 use foyer_core::{AdmitAll, CacheCore, CacheProperties, Limits, RawCacheConfig};
-use foyer_policy::{Eviction, Fifo, FifoConfig, Lru, ModHasher};
+use foyer_policy::{EvictionConfig, ModHasher};
 use foyer_session::sim::write_answer;
 use foyer_session::{
-    Answer, Command, HighRatio, LruHighRatio, NoHighRatio, NoPredicate, Session, SimValue,
-    SimWeighter, simulate,
+    Answer, Command, NoPredicate, Session, SimPolicy, SimSession, SimValue, SimWeighter, simulate,
 };
 use std::alloc::Global;
 use std::io::BufRead;
 use std::process::Abort;
 use std::test::Fail;
 
-pub type SimSession<E> = Session<
-    E,
-    u64,
-    SimValue,
-    CacheProperties,
-    ModHasher,
-    SimWeighter,
-    AdmitAll,
->;
-
-// A session over an empty core of so many shards.
-fn session_under<E: Eviction>(
+// A session over an empty core of so many shards, with this policy.
+fn session_under(
     alloc: Global,
+    policy: SimPolicy,
     capacity: usize,
     shards: usize,
     limits: Limits,
-) -> Result<SimSession<E>, Fail> {
+) -> Result<SimSession<ModHasher>, Fail> {
     let config = RawCacheConfig {
         capacity,
         shards,
-        eviction_config: E::Config::default(),
+        eviction_config: policy.config(),
         hash_builder: ModHasher::default(),
         weighter: SimWeighter,
         filter: AdmitAll,
@@ -44,21 +34,20 @@ fn session_under<E: Eviction>(
 }
 
 /// A session over an empty core of one shard, in which two records have room, and the first in leaves first.
-pub fn session_of_two(alloc: Global) -> Result<SimSession<Fifo>, Fail> {
-    session_under(alloc, 2, 1, Limits::default())
+pub fn session_of_two(alloc: Global) -> Result<SimSession<ModHasher>, Fail> {
+    session_under(alloc, SimPolicy::Fifo, 2, 1, Limits::default())
 }
 
 // A session prints this for these lines.
-fn assert_prints<E: Eviction, H: HighRatio<E::Config>, R: BufRead + Drop>(
+fn assert_prints<R: BufRead + Drop>(
     rt: &impl Abort,
     alloc: Global,
-    mut session: SimSession<E>,
-    high: &H,
+    mut session: SimSession<ModHasher>,
     mut lines: R,
     wanted: &[u8],
 ) -> Result<(), Fail> {
     let mut written = Vec::new(alloc);
-    simulate(&mut lines, &mut written, &mut session, high)?;
+    simulate(&mut lines, &mut written, &mut session)?;
     assert_eq!(rt; written.as_slice(), wanted);
     Ok(())
 }
@@ -82,14 +71,7 @@ bad line | - | usage 1 entries 1
 fn lines_may_come_in_parts_of_any_length(rt: HostRuntime) -> Result<(), Fail> {
     for part in 1..SCRIPT.len() + 1 {
         let session = session_of_two(rt.alloc())?;
-        assert_prints(
-            &rt,
-            rt.alloc(),
-            session,
-            &NoHighRatio,
-            Parts::new(SCRIPT, part),
-            PRINTED,
-        )?;
+        assert_prints(&rt, rt.alloc(), session, Parts::new(SCRIPT, part), PRINTED)?;
     }
     Ok(())
 }
@@ -108,29 +90,34 @@ h0 | - | usage 1 entries 1
 h1 2 | - | usage 1 entries 1
 ";
     let lines = Parts::new(script.as_slice(), 8192);
-    assert_prints(
-        &rt,
-        rt.alloc(),
-        session_of_two(rt.alloc())?,
-        &NoHighRatio,
-        lines,
-        wanted,
-    )
+    assert_prints(&rt, rt.alloc(), session_of_two(rt.alloc())?, lines, wanted)
 }
 
 #[test]
 fn a_usage_may_pass_64_bits(rt: HostRuntime) -> Result<(), Fail> {
-    let session = session_under::<Fifo>(rt.alloc(), usize::MAX, 2, Limits::default())?;
+    let session = session_under(
+        rt.alloc(),
+        SimPolicy::Fifo,
+        usize::MAX,
+        2,
+        Limits::default(),
+    )?;
     let script: &[u8] = b"insert 0 5 18446744073709551615\ninsert 1 5 18446744073709551615\n";
     let wanted = b"h0 | - | usage 18446744073709551615 entries 1
 h1 | - | usage 36893488147419103230 entries 2
 ";
-    assert_prints(&rt, rt.alloc(), session, &NoHighRatio, script, wanted)
+    assert_prints(&rt, rt.alloc(), session, script, wanted)
 }
 
 #[test]
 fn a_command_past_a_limit_is_refused(rt: HostRuntime) -> Result<(), Fail> {
-    let session = session_under::<Fifo>(rt.alloc(), 2, 1, Limits { handles: 1, ids: 2 })?;
+    let session = session_under(
+        rt.alloc(),
+        SimPolicy::Fifo,
+        2,
+        1,
+        Limits { handles: 1, ids: 2 },
+    )?;
     let script: &[u8] = b"insert 1 10\nget 1\ntouch 1\nfetch 7\nfetch 7\nfetch 7\ndone 7 0 70\n";
     let wanted = b"h0 | - | usage 1 entries 1
 F9 | - | usage 1 entries 1
@@ -140,12 +127,12 @@ wait t1 | - | usage 1 entries 1
 F10 | - | usage 1 entries 1
 t0=F9 t1=F9 | - | usage 1 entries 1
 ";
-    assert_prints(&rt, rt.alloc(), session, &NoHighRatio, script, wanted)
+    assert_prints(&rt, rt.alloc(), session, script, wanted)
 }
 
 #[test]
 fn lru_takes_a_share_for_its_pool(rt: HostRuntime) -> Result<(), Fail> {
-    let session = session_under::<Lru>(rt.alloc(), 2, 1, Limits::default())?;
+    let session = session_under(rt.alloc(), SimPolicy::Lru, 2, 1, Limits::default())?;
     let script: &[u8] = b"high 0 1\nhigh 3 2\nhigh 1 0\nhigh 4294967296 1\nhigh 1\n";
     let wanted = b"ok | - | usage 0 entries 0
 F3 | - | usage 0 entries 0
@@ -153,26 +140,32 @@ F2 | - | usage 0 entries 0
 bad line | - | usage 0 entries 0
 bad line | - | usage 0 entries 0
 ";
-    assert_prints(&rt, rt.alloc(), session, &LruHighRatio, script, wanted)
+    assert_prints(&rt, rt.alloc(), session, script, wanted)
 }
 
+// F17 comes before F2 and F3.
 #[test]
 fn another_policy_takes_no_share(rt: HostRuntime) -> Result<(), Fail> {
-    let script: &[u8] = b"high 1 2\nhigh 1 0\n";
-    let wanted = b"F17 | - | usage 0 entries 0\nF17 | - | usage 0 entries 0\n";
-    assert_prints(
-        &rt,
-        rt.alloc(),
-        session_of_two(rt.alloc())?,
-        &NoHighRatio,
-        script,
-        wanted,
-    )
+    let script: &[u8] = b"high 1 2\nhigh 1 0\nhigh 3 2\n";
+    let wanted = b"F17 | - | usage 0 entries 0
+F17 | - | usage 0 entries 0
+F17 | - | usage 0 entries 0
+";
+    for policy in [
+        SimPolicy::Fifo,
+        SimPolicy::Lfu,
+        SimPolicy::S3Fifo,
+        SimPolicy::Sieve,
+    ] {
+        let session = session_under(rt.alloc(), policy, 2, 3, Limits::default())?;
+        assert_prints(&rt, rt.alloc(), session, script, wanted)?;
+    }
+    Ok(())
 }
 
 #[test]
 fn answers_that_no_line_gives_have_texts(rt: HostRuntime) -> Result<(), Fail> {
-    type Plain = Command<u64, SimValue, CacheProperties, NoPredicate, FifoConfig>;
+    type Plain = Command<u64, SimValue, CacheProperties, NoPredicate, EvictionConfig>;
     let mut session = session_of_two(rt.alloc())?;
     let commands: Vec<Plain> = vec![in rt.alloc();
         Command::GetOrFetch(7, None),

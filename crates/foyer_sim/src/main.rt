@@ -3,12 +3,9 @@
 #![tactic(auto)]
 
 use foyer_core::{AdmitAll, CacheCore, Limits, RawCacheConfig};
-use foyer_policy::{Eviction, Fifo, Lfu, Lru, ModHasher, S3Fifo, Sieve};
+use foyer_policy::ModHasher;
 use foyer_session::text::Watched;
-use foyer_session::{
-    HighRatio, LruHighRatio, NoHighRatio, Session, SimArgs, SimPolicy, SimWeighter, sim_args,
-    simulate,
-};
+use foyer_session::{Session, SimArgs, SimSession, SimWeighter, sim_args, simulate};
 use std::io::{BufReader, BufWriter, ErrorKind, Write};
 use std::process::ExitCode;
 use std::{env, io};
@@ -44,14 +41,37 @@ fn main(rt: HostRuntime) -> ExitCode {
     ExitCode::from(status)
 }
 
+// Runs over a cache of the policy that the arguments name, in its default configuration.
 fn run(rt: &HostRuntime) -> Result<(), Failure> {
     let args = arguments(rt)?;
-    match args.policy {
-        SimPolicy::Fifo => run_policy::<Fifo, _>(rt, args, &NoHighRatio),
-        SimPolicy::Lru => run_policy::<Lru, _>(rt, args, &LruHighRatio),
-        SimPolicy::Lfu => run_policy::<Lfu, _>(rt, args, &NoHighRatio),
-        SimPolicy::S3Fifo => run_policy::<S3Fifo, _>(rt, args, &NoHighRatio),
-        SimPolicy::Sieve => run_policy::<Sieve, _>(rt, args, &NoHighRatio),
+    let alloc = rt.alloc();
+    let config = RawCacheConfig {
+        capacity: args.capacity,
+        shards: args.shards,
+        eviction_config: args.policy.config(),
+        hash_builder: ModHasher::default(),
+        weighter: SimWeighter,
+        filter: AdmitAll,
+        number: 0,
+        limits: Limits::default(),
+    };
+    let Ok(core) = CacheCore::new(alloc, config) else {
+        return Err(Failure::Memory);
+    };
+    let mut session: SimSession<ModHasher> = Session::new(alloc, core);
+    let Ok(mut reader) = BufReader::with_capacity(alloc, BUFFER, rt.stdin()) else {
+        return Err(Failure::Memory);
+    };
+    let Ok(mut writer) = BufWriter::with_capacity(alloc, BUFFER, Watched::new(rt.stdout())) else {
+        return Err(Failure::Memory);
+    };
+    let told = simulate(&mut reader, &mut writer, &mut session);
+    let has_failed = writer.get_ref().has_failed();
+    let flushed = writer.flush();
+    match told {
+        Ok(()) => flushed.map_err(Failure::Writing),
+        Err(error) if has_failed => Err(Failure::Writing(error)),
+        Err(error) => Err(Failure::Reading(error)),
     }
 }
 
@@ -69,41 +89,4 @@ fn arguments(rt: &HostRuntime) -> Result<SimArgs, Failure> {
         };
     }
     sim_args(words.as_slice()).ok_or(Failure::Arguments)
-}
-
-// Runs over a cache of this policy, in its default configuration.
-fn run_policy<E: Eviction, H: HighRatio<E::Config>>(
-    rt: &HostRuntime,
-    args: SimArgs,
-    high: &H,
-) -> Result<(), Failure> {
-    let alloc = rt.alloc();
-    let config = RawCacheConfig {
-        capacity: args.capacity,
-        shards: args.shards,
-        eviction_config: E::Config::default(),
-        hash_builder: ModHasher::default(),
-        weighter: SimWeighter,
-        filter: AdmitAll,
-        number: 0,
-        limits: Limits::default(),
-    };
-    let Ok(core) = CacheCore::<E, _, _, _, _, _, _, _, u64>::new(alloc, config) else {
-        return Err(Failure::Memory);
-    };
-    let mut session = Session::new(alloc, core);
-    let Ok(mut reader) = BufReader::with_capacity(alloc, BUFFER, rt.stdin()) else {
-        return Err(Failure::Memory);
-    };
-    let Ok(mut writer) = BufWriter::with_capacity(alloc, BUFFER, Watched::new(rt.stdout())) else {
-        return Err(Failure::Memory);
-    };
-    let told = simulate(&mut reader, &mut writer, &mut session, high);
-    let has_failed = writer.get_ref().has_failed();
-    let flushed = writer.flush();
-    match told {
-        Ok(()) => flushed.map_err(Failure::Writing),
-        Err(error) if has_failed => Err(Failure::Writing(error)),
-        Err(error) => Err(Failure::Reading(error)),
-    }
 }

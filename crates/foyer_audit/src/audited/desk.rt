@@ -10,7 +10,7 @@ use crate::book::Book;
 use crate::compared::Compared;
 use crate::receipt::{Receipt, Share};
 use foyer_core::{Filter, Finder, Weighter};
-use foyer_policy::{Config, Error, Eviction, HashBuilder, Key, Properties, Reason, Result, Value};
+use foyer_policy::{Error, Eviction, HashBuilder, Key, Properties, Reason, Result, Value};
 use foyer_session::{Command, Predicate, Reply};
 use std::sync::ledger;
 use std::sync::ledger::Ledger;
@@ -27,7 +27,7 @@ pub(super) struct Desk<
     W: Weighter<K, V>,
     A: Filter<K, V>,
     Q: Predicate<K, V> + Clone + Eq + Compared<K, V, P, C>,
-    C: Config + Eq,
+    C: Clone + Drop + Eq,
     I: Finder<K>,
 > {
     pub(super) book: Book<E, K, V, P, S, W, A, Q, C, I>,
@@ -48,7 +48,7 @@ impl<
     W: Weighter<K, V>,
     A: Filter<K, V>,
     Q: Predicate<K, V> + Clone + Eq + Compared<K, V, P, C>,
-    C: Config + Eq,
+    C: Clone + Drop + Eq,
     I: Finder<K>,
 > Desk<G, E, K, V, P, S, W, A, Q, C, I> {
     // The call under the lock. The book goes on by one call of an equal command, and what the caller gets and keeps are

@@ -6,7 +6,10 @@ use foyer_policy::{Fifo, Lfu, Lru, ModHasher, S3Fifo, Sieve};
 use std::test::Fail;
 
 // How many of two thousand keys a core of capacity 20 finds.
-fn hits<E: Eviction>(alloc: Global, shards: usize) -> std::result::Result<usize, Fail> {
+fn hits<E: Eviction>(alloc: Global, shards: usize) -> std::result::Result<usize, Fail>
+where
+    E::Config: Default,
+{
     let Ok(ranks) = Ranks::new(alloc, 200, Skew { num: 9, den: 10 }) else {
         return Ok(0);
     };

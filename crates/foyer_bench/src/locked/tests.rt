@@ -11,7 +11,10 @@ fn hits<H: Wait + Drop, E: Eviction>(
     rt: H,
     alloc: Global,
     shards: usize,
-) -> std::result::Result<usize, Fail> {
+) -> std::result::Result<usize, Fail>
+where
+    E::Config: Default,
+{
     let Ok(ranks) = Ranks::new(alloc, 200, Skew { num: 9, den: 10 }) else {
         return Ok(0);
     };

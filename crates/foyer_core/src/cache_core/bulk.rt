@@ -1,11 +1,12 @@
 //! What a core does with all of its records.
 
-ghost use Rattle.std.specs.Prelude.{◌≡◌, ◌↔◌, [], None, Err, IfOk, IfErr, IfSome, IsOk, OnErr, OnOk, MatchResult};
-ghost use Rattle.foyer_policy.specs.declared.error.Reason.TheVariants.{NoMemory};
+ghost use Rattle.std.specs.Prelude.{◌≡◌, ◌↔◌, [], None, Err, IfSome, IsOk, OnOk, MatchResult};
+ghost use Rattle.foyer_policy.specs.declared.error.Reason.TheVariants.{NoMemory, WrongPolicy};
 
 use super::CacheCore;
 use super::in_turn::{
     clear_each, configure_each, evict_each, evict_each_if, evict_each_to_capacity, share_out,
+    taken_by_each,
 };
 use super::load::Load;
 use crate::entry::Leave;
@@ -13,7 +14,7 @@ use crate::filter::Filter;
 use crate::finder::Finder;
 use crate::outcome::Refused;
 use crate::weighter::Weighter;
-use foyer_policy::{Eviction, HashBuilder, Key, Properties, Result, Value};
+use foyer_policy::{Error, Eviction, HashBuilder, Key, Properties, Reason, Result, Value};
 
 impl<
     E: Eviction,
@@ -28,28 +29,25 @@ impl<
     I: Finder<K>,
 > CacheCore<E, K, V, P, S, W, A, N, R, I> {
     ghost use Rattle.foyer_core.specs.Bulk.{Clears, EvictsIf, EvictsUnpinned, EvictingUnpinned, Says};
-    ghost use Rattle.foyer_core.specs.CoreBulk.{InTurn, InTurnUntil, OfShards, EvictsToCapacity, EvictingToCapacity, Resizes, Configures, NothingPinned, IsEmptied, FitsOrPinned};
+    ghost use Rattle.foyer_core.specs.CoreBulk.{InTurn, InTurnUntil, OfShards, EvictsToCapacity, EvictingToCapacity, Resizes, Configures, NotTaken, TakenByEach, NothingPinned, IsEmptied, FitsOrPinned};
     ghost use Rattle.foyer_core.specs.Cores.{core_of, fetches_of, hashes_of, meaning_of_core};
-    ghost use Rattle.foyer_core.specs.Laws.{HandlesStay};
-    ghost use Rattle.foyer_core.specs.Observed.{IsTold};
+    ghost use Rattle.foyer_core.specs.CallLaws.{CallLaws};
 
     /// Evicts all that is not pinned, shard by shard, in the order in which each policy gives it, and answers
     /// what left. Refused for want of memory alone (F7); then the first shards are done, and some beginning of
     /// the next one's evictions has left, which the refusal hands out. Where nothing is pinned and it is not
     /// refused, nothing is in afterwards.
     pub fn evict_all(&mut self) -> std::result::Result<Vec<Leave<K, V, P>>, Refused<K, V, P>>
-        ensures done { IfOk result (λ leaves. OfShards (InTurn (EvictsUnpinned (meaning_of_core self.old)))
-            (core_of self.old) leaves.items (core_of self.new)) }
-        ensures refused { IfErr result (λ refused. OfShards
+        ensures evicts { MatchResult result
+            (λ leaves. OfShards (InTurn (EvictsUnpinned (meaning_of_core self.old))) (core_of self.old) leaves.items (core_of self.new))
+            (λ refused. (refused.error ≡ NoMemory) × OfShards
             (InTurnUntil (EvictsUnpinned (meaning_of_core self.old)) (EvictingUnpinned (meaning_of_core self.old)))
             (core_of self.old) refused.leaves.items (core_of self.new)) }
-        ensures reason { IfErr result (λ refused. refused.error ≡ NoMemory) }
         ensures emptied { OnOk result (NothingPinned (meaning_of_core self.old) (core_of self.old) → IsEmptied (meaning_of_core self.new) (core_of self.new)) }
         ensures fetches { fetches_of self.new ≡ fetches_of self.old }
-        ensures stay { HandlesStay (λ _. 0) (core_of self.old) (core_of self.new) }
-        ensures told { MatchResult result
-            (λ leaves. IsTold K.eq (hashes_of self.old) (core_of self.old) leaves.items (core_of self.new))
-            (λ refused. IsTold K.eq (hashes_of self.old) (core_of self.old) refused.leaves.items (core_of self.new)) }
+        ensures laws { MatchResult result
+            (λ leaves. CallLaws K.eq (hashes_of self.old) (λ _. 0) (core_of self.old) leaves.items (core_of self.new))
+            (λ refused. CallLaws K.eq (hashes_of self.old) (λ _. 0) (core_of self.old) refused.leaves.items (core_of self.new)) }
     {
         let mut leaves = Vec::new(self.alloc);
         let done = evict_each(&mut self.shards, &mut leaves);
@@ -69,19 +67,17 @@ impl<
         &mut self,
         capacity: usize,
     ) -> std::result::Result<Vec<Leave<K, V, P>>, Refused<K, V, P>>
-        ensures done { IfOk result (λ leaves. Resizes (meaning_of_core self.old) (InTurn (EvictsToCapacity (meaning_of_core self.old)))
-            capacity (core_of self.old) leaves.items (core_of self.new)) }
-        ensures refused { IfErr result (λ refused. Resizes (meaning_of_core self.old)
-            (InTurnUntil (EvictsToCapacity (meaning_of_core self.old))
-            (EvictingToCapacity (meaning_of_core self.old)))
+        ensures resizes { MatchResult result
+            (λ leaves. Resizes (meaning_of_core self.old) (InTurn (EvictsToCapacity (meaning_of_core self.old)))
+            capacity (core_of self.old) leaves.items (core_of self.new))
+            (λ refused. (refused.error ≡ NoMemory) × Resizes (meaning_of_core self.old)
+            (InTurnUntil (EvictsToCapacity (meaning_of_core self.old)) (EvictingToCapacity (meaning_of_core self.old)))
             capacity (core_of self.old) refused.leaves.items (core_of self.new)) }
-        ensures reason { IfErr result (λ refused. refused.error ≡ NoMemory) }
         ensures fits { OnOk result (FitsOrPinned (meaning_of_core self.new) (core_of self.new)) }
         ensures fetches { fetches_of self.new ≡ fetches_of self.old }
-        ensures stay { HandlesStay (λ _. 0) (core_of self.old) (core_of self.new) }
-        ensures told { MatchResult result
-            (λ leaves. IsTold K.eq (hashes_of self.old) (core_of self.old) leaves.items (core_of self.new))
-            (λ refused. IsTold K.eq (hashes_of self.old) (core_of self.old) refused.leaves.items (core_of self.new)) }
+        ensures laws { MatchResult result
+            (λ leaves. CallLaws K.eq (hashes_of self.old) (λ _. 0) (core_of self.old) leaves.items (core_of self.new))
+            (λ refused. CallLaws K.eq (hashes_of self.old) (λ _. 0) (core_of self.old) refused.leaves.items (core_of self.new)) }
     {
         self.capacity = capacity;
         share_out(&mut self.shards, capacity);
@@ -102,15 +98,20 @@ impl<
     /// first fault alone, F2 to F6, whatever the core holds, and then nothing has changed in any shard. It takes no
     /// memory.
     pub fn reconfigure(&mut self, config: &E::Config) -> Result<()>
-        ensures done { OnOk result (Configures (meaning_of_core self.old) config.now
-            (core_of self.old) (core_of self.new)) }
-        ensures accepted { IsOk result ↔ (E.model.fault config.now ≡ None) }
-        ensures refused { IfSome (E.model.fault config.now) (λ reason. result ≡ Err reason) }
-        ensures err { OnErr result (core_of self.new ≡ core_of self.old) }
+        ensures configured { MatchResult result
+            (λ _. Configures (meaning_of_core self.old) config.now (core_of self.old) (core_of self.new))
+            (λ _. core_of self.new ≡ core_of self.old) }
+        ensures wrong { NotTaken (meaning_of_core self.old) config.now (core_of self.old).shards → result ≡ Err WrongPolicy }
+        ensures accepted { TakenByEach (meaning_of_core self.old) config.now (core_of self.old).shards
+            → IsOk result ↔ (E.model.fault config.now ≡ None) }
+        ensures refused { TakenByEach (meaning_of_core self.old) config.now (core_of self.old).shards
+            → IfSome (E.model.fault config.now) (λ reason. result ≡ Err reason) }
         ensures fetches { fetches_of self.new ≡ fetches_of self.old }
-        ensures stay { HandlesStay (λ _. 0) (core_of self.old) (core_of self.new) }
-        ensures told { IsTold K.eq (hashes_of self.old) (core_of self.old) [] (core_of self.new) }
+        ensures laws { CallLaws K.eq (hashes_of self.old) (λ _. 0) (core_of self.old) [] (core_of self.new) }
     {
+        if !taken_by_each(&self.shards, config) {
+            return Err(Error::new(Reason::WrongPolicy));
+        }
         E::check(config)?;
         configure_each(&mut self.shards, config);
         Ok(())
@@ -120,16 +121,14 @@ impl<
     /// made for all shards first: refused for want of memory alone (F7), and then nothing has changed. Else
     /// nothing is in afterwards.
     pub fn clear(&mut self) -> Result<Vec<Leave<K, V, P>>>
-        ensures done { IfOk result (λ leaves. OfShards (InTurn (Clears (meaning_of_core self.old)))
-            (core_of self.old) leaves.items (core_of self.new)) }
-        ensures err { OnErr result (core_of self.new ≡ core_of self.old) }
-        ensures refused { IfErr result (λ e. e ≡ NoMemory) }
+        ensures clears { MatchResult result
+            (λ leaves. OfShards (InTurn (Clears (meaning_of_core self.old))) (core_of self.old) leaves.items (core_of self.new))
+            (λ error. (error ≡ NoMemory) × (core_of self.new ≡ core_of self.old)) }
         ensures emptied { OnOk result (IsEmptied (meaning_of_core self.new) (core_of self.new)) }
         ensures fetches { fetches_of self.new ≡ fetches_of self.old }
-        ensures stay { HandlesStay (λ _. 0) (core_of self.old) (core_of self.new) }
-        ensures told { MatchResult result
-            (λ leaves. IsTold K.eq (hashes_of self.old) (core_of self.old) leaves.items (core_of self.new))
-            (λ _. IsTold K.eq (hashes_of self.old) (core_of self.old) [] (core_of self.new)) }
+        ensures laws { MatchResult result
+            (λ leaves. CallLaws K.eq (hashes_of self.old) (λ _. 0) (core_of self.old) leaves.items (core_of self.new))
+            (λ _. CallLaws K.eq (hashes_of self.old) (λ _. 0) (core_of self.old) [] (core_of self.new)) }
     {
         let cleared = clear_each(&mut self.shards, self.alloc);
         self.load = Load::of_all(&self.shards);
@@ -141,15 +140,13 @@ impl<
     /// all shards first: refused for want of memory alone (F7), and then nothing has changed.
     pub fn flush_if<F: Fn(&K, &V) -> bool>(&mut self, predicate: &F) -> Result<Vec<Leave<K, V, P>>>
         requires { F.IsAlwaysCallable predicate.now }
-        ensures done { IfOk result (λ leaves. OfShards (InTurn (EvictsIf (meaning_of_core self.old) (Says F.Fn predicate.now)))
-            (core_of self.old) leaves.items (core_of self.new)) }
-        ensures err { OnErr result (core_of self.new ≡ core_of self.old) }
-        ensures refused { IfErr result (λ e. e ≡ NoMemory) }
+        ensures evicts { MatchResult result
+            (λ leaves. OfShards (InTurn (EvictsIf (meaning_of_core self.old) (Says F.Fn predicate.now))) (core_of self.old) leaves.items (core_of self.new))
+            (λ error. (error ≡ NoMemory) × (core_of self.new ≡ core_of self.old)) }
         ensures fetches { fetches_of self.new ≡ fetches_of self.old }
-        ensures stay { HandlesStay (λ _. 0) (core_of self.old) (core_of self.new) }
-        ensures told { MatchResult result
-            (λ leaves. IsTold K.eq (hashes_of self.old) (core_of self.old) leaves.items (core_of self.new))
-            (λ _. IsTold K.eq (hashes_of self.old) (core_of self.old) [] (core_of self.new)) }
+        ensures laws { MatchResult result
+            (λ leaves. CallLaws K.eq (hashes_of self.old) (λ _. 0) (core_of self.old) leaves.items (core_of self.new))
+            (λ _. CallLaws K.eq (hashes_of self.old) (λ _. 0) (core_of self.old) [] (core_of self.new)) }
     {
         let flushed = evict_each_if(&mut self.shards, self.alloc, predicate);
         self.load = Load::of_all(&self.shards);

@@ -1,8 +1,7 @@
 //! Fetches that end with a record of their key.
 
-ghost use Rattle.std.specs.Prelude.{◌≡◌, ℕ, IsSomeAnd, Some, true};
+ghost use Rattle.std.specs.Prelude.{◌≡◌, ℕ, Some, true};
 ghost use Rattle.foyer_policy.specs.declared.types.Source.{Source as SourceOf};
-ghost use Rattle.foyer_policy.specs.declared.types.Source.TheVariants.{Memory};
 ghost use Rattle.foyer_core.specs.Inflight.{OpenFetch, asked};
 ghost use Rattle.foyer_core.specs.State.{coming_in};
 ghost use Rattle.foyer_core.specs.Waited.{ending_of};
@@ -13,10 +12,9 @@ use crate::filter::Filter;
 use crate::finder::Finder;
 use crate::outcome::{Ended, FetchTarget};
 use crate::piece::Piece;
-use crate::properties::marked;
 use crate::record::Data;
 use crate::weighter::Weighter;
-use foyer_policy::{Error, Eviction, HashBuilder, Key, Properties, Reason, Source, Value};
+use foyer_policy::{Eviction, HashBuilder, Key, Properties, Source, Value};
 
 impl<
     E: Eviction,
@@ -34,9 +32,8 @@ impl<
     ghost use Rattle.foyer_core.specs.CoreFetches.{AtOpen, Completed, PieceCompletes, ValueCompletes, is_of, open_in};
     ghost use Rattle.foyer_core.specs.Cores.{core_of, fetches_of, hashes_of, meaning_of_core};
     ghost use Rattle.foyer_core.specs.FetchLaws.{BoundsTarget, FindsTarget, IsToldByEnd};
-    ghost use Rattle.foyer_core.specs.Fetching.{CompletesBackBy, CompletesBy};
+    ghost use Rattle.foyer_core.specs.Fetching.{CompletesBy};
     ghost use Rattle.foyer_core.specs.Laws.{HandlesStay};
-    ghost use Rattle.foyer_core.specs.Pieces.{held_or, is_known};
 
     /// Ends an open fetch of a key with a record of it, of which each who waits gets an entry, and answers what left. The
     /// key's fetch is closed. A clone of the key must equal it.
@@ -100,9 +97,7 @@ impl<
             (core_of self.old) (fetches_of self.old) (core_of self.new) (fetches_of self.new) }
     {
         let hash = self.hash(key);
-        let weight = self.weighter.weigh(key, &value);
-        let admitted = self.filter.admit(key, &value);
-        let properties = marked(properties, admitted);
+        let (weight, properties) = self.rules.judge(key, &value, properties);
         let Ok(own) = key.clone() else {
             return self.refuse_value(hash, key, fetch, &properties, weight);
         };
@@ -113,23 +108,7 @@ impl<
             hash,
             weight,
         };
-        self.complete_kept(fetch, kept, source)
-    }
-
-    // Ends an open fetch with a new record of its key.
-    fn complete_kept(
-        &mut self,
-        fetch: u64,
-        kept: Data<K, V, P>,
-        source: Source,
-    ) -> Ended<K, V, P, N>
-        requires clones { (k c : K) → K.is_clone k c → K.eq c k ≡ true }
-        requires hashed { kept.hash ≡ hashes_of self.old kept.key }
-        ensures completed { let k : ℕ × K = (kept.hash, kept.key) in
-            AtOpen (λ s f t g. CompletesBy (meaning_of_core self.old) (asked (Some fetch) (f.by_key k)) source s f k kept (ending_of result) t g)
-            kept.hash (core_of self.old) (fetches_of self.old) (core_of self.new) (fetches_of self.new) }
-    {
-        let place = self.shard_index(kept.hash);
+        let place = self.shard_index(hash);
         let before = Load::of(&self.shards[place]);
         let ended = self.shards[place].complete(self.alloc, fetch, kept, source);
         let after = Load::of(&self.shards[place]);
@@ -166,66 +145,13 @@ impl<
     {
         let hash = self.hash(key);
         let own = self.hash(piece.key());
-        if !self.stands_for(own, &piece, hash, key) {
-            return self.end(key, fetch, Error::new(Reason::WrongKey));
-        }
-        if self.shards[self.shard_index(hash)].knows(own, &piece) {
-            return self.complete_known(hash, key, fetch, piece);
-        }
-        self.complete_foreign(own, fetch, piece)
-    }
-
-    // Whether a piece, whose key has this hash, stands for a record of a key, which has that hash.
-    fn stands_for(&self, own: u64, piece: &Piece<K, V, P>, hash: u64, key: &K) -> bool
-        ensures { result ≡ is_of (meaning_of_core self.now) (core_of self.now) own piece.now (hash, key.now) (shard_at (core_of self.now) hash) }
-    {
+        let weight = self.weight_under(own, &piece, key);
         let place = self.shard_index(hash);
-        self.shard_index(own) == place && self.shards[place].is_under(own, piece, key)
-    }
-
-    // Ends an open fetch with the record of its key for which a piece stands.
-    fn complete_known(
-        &mut self,
-        hash: u64,
-        key: &K,
-        fetch: u64,
-        piece: Piece<K, V, P>,
-    ) -> Ended<K, V, P, N>
-        requires clones { (k c : K) → K.is_clone k c → K.eq c k ≡ true }
-        requires hashed { hash ≡ hashes_of self.old key.now }
-        requires known { IsSomeAnd (shard_at (core_of self.old) hash) (λ s. is_known s (hashes_of self.old piece.kept.key) piece ≡ true) }
-        requires same { IsSomeAnd (shard_at (core_of self.old) hash) (λ s. K.eq key.now (held_or piece.kept (s.records piece.id)).key ≡ true) }
-        ensures completed { let k : ℕ × K = (hash, key.now) in
-            AtOpen (λ s f t g. CompletesBackBy (meaning_of_core self.old) (asked (Some fetch) (f.by_key k)) s f k piece (ending_of result) t g)
-            hash (core_of self.old) (fetches_of self.old) (core_of self.new) (fetches_of self.new) }
-    {
-        let place = self.shard_index(hash);
+        let is_home = self.shard_index(own) == place;
         let before = Load::of(&self.shards[place]);
-        let ended = self.shards[place].complete_back(self.alloc, hash, key, fetch, piece);
-        let after = Load::of(&self.shards[place]);
-        self.load.replace(before, after);
-        ended
-    }
-
-    // Ends an open fetch with a new record of its key, of a piece that stands for none.
-    fn complete_foreign(
-        &mut self,
-        hash: u64,
-        fetch: u64,
-        piece: Piece<K, V, P>,
-    ) -> Ended<K, V, P, N>
-        requires clones { (k c : K) → K.is_clone k c → K.eq c k ≡ true }
-        requires hashed { hash ≡ hashes_of self.old piece.kept.key }
-        ensures completed { let k : ℕ × K = (hash, piece.kept.key) in
-            AtOpen (λ s f t g. (weight : ℕ) × W.weighs (core_of self.old).weighter piece.kept.key piece.kept.value weight
-            × CompletesBy (meaning_of_core self.old) (asked (Some fetch) (f.by_key k)) Memory s f k
-            (record piece.kept { hash = hash; weight = weight }) (ending_of result) t g)
-            hash (core_of self.old) (fetches_of self.old) (core_of self.new) (fetches_of self.new) }
-    {
-        let place = self.shard_index(hash);
-        let weight = self.weighter.weigh(piece.key(), piece.value());
-        let before = Load::of(&self.shards[place]);
-        let ended = self.shards[place].complete_new(self.alloc, fetch, piece, hash, weight);
+        let ended = self.shards[place].complete_piece(
+            self.alloc, hash, key, fetch, piece, own, is_home, weight,
+        );
         let after = Load::of(&self.shards[place]);
         self.load.replace(before, after);
         ended

@@ -1,11 +1,11 @@
 //! Steps of all shards, in their order.
 
-ghost use Rattle.std.specs.Prelude.{◌≡◌, ◌≤◌, [], None, OnOk, OnErr, IfOk, IfErr, map, sum_by, vec_len, vec_capacity};
+ghost use Rattle.std.specs.Prelude.{◌≡◌, ◌≤◌, false, IsTrue, [], None, OnOk, OnErr, IfOk, IfErr, map, sum_by, vec_len, vec_capacity};
 ghost use Rattle.std.specs.List.{AllZip};
 ghost use Rattle.foyer_policy.specs.Items.{IsWithin};
 ghost use Rattle.foyer_policy.specs.declared.error.Reason.TheVariants.{NoMemory};
 ghost use Rattle.foyer_core.specs.Bulk.{GoesOn, Clears, EvictsIf, EvictsUnpinned, EvictingUnpinned, Picks, Says};
-ghost use Rattle.foyer_core.specs.CoreBulk.{InTurn, InTurnUntil, ConfiguresEach, EvictsToCapacity, EvictingToCapacity, SharesOut};
+ghost use Rattle.foyer_core.specs.CoreBulk.{InTurn, InTurnUntil, ConfiguresEach, NotTaken, TakenByEach, EvictsToCapacity, EvictingToCapacity, SharesOut};
 ghost use Rattle.foyer_core.specs.Shards.{opens_of, state_of};
 ghost use Rattle.foyer_core.specs.Stored.{meaning};
 
@@ -90,6 +90,27 @@ pub(super) fn share_out<
     }
 }
 
+// Whether each shard's policy takes a configuration as one of its own.
+pub(super) fn taken_by_each<
+    E: Eviction,
+    K: Key,
+    V: Value,
+    P: Properties,
+    N: Drop,
+    R: Drop,
+    I: Finder<K>,
+>(shards: &Vec<Shard<E, K, V, P, N, R, I>>, config: &E::Config) -> bool
+    ensures yes { IsTrue result → TakenByEach (meaning K.eq E.model P.hint_of P.phantom_of) config.now (map state_of shards.now.items) }
+    ensures no { result ≡ false → NotTaken (meaning K.eq E.model P.hint_of P.phantom_of) config.now (map state_of shards.now.items) }
+{
+    for place in 0..shards.len() {
+        if !shards[place].takes(config) {
+            return false;
+        }
+    }
+    true
+}
+
 // Tells each shard's policy another configuration, one that it accepts. Nothing leaves, and it takes no memory.
 pub(super) fn configure_each<
     E: Eviction,
@@ -100,7 +121,8 @@ pub(super) fn configure_each<
     R: Drop,
     I: Finder<K>,
 >(shards: &mut Vec<Shard<E, K, V, P, N, R, I>>, config: &E::Config)
-    requires { E.model.fault config.now ≡ None }
+    requires accepted { E.model.fault config.now ≡ None }
+    requires taken { TakenByEach (meaning K.eq E.model P.hint_of P.phantom_of) config.now (map state_of shards.old.items) }
     ensures configured { ConfiguresEach (meaning K.eq E.model P.hint_of P.phantom_of) config.now
         (map state_of shards.old.items) (map state_of shards.new.items) }
     ensures opens { map opens_of shards.new.items ≡ map opens_of shards.old.items }

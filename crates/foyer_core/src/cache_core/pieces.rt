@@ -1,19 +1,20 @@
 //! Records that come into a core by a piece.
 
-ghost use Rattle.std.specs.Prelude.{◌≡◌, ℕ, ◌+◌, IfOk, IsSomeAnd, MatchResult, OnErr, false, length, true};
-ghost use Rattle.foyer_policy.specs.Properties.{is_phantom};
-ghost use Rattle.foyer_core.specs.Inflight.{closed, waiters_of};
-ghost use Rattle.foyer_core.specs.Waited.{AnswersEach, insertion_of};
-ghost use Rattle.foyer_policy.specs.declared.types.Source.TheVariants.{Memory};
+ghost use Rattle.std.specs.Prelude.{◌≡◌, ◌+◌, MatchResult, Some, false, length, true};
+ghost use Rattle.foyer_core.specs.Inflight.{waiters_of};
+ghost use Rattle.foyer_core.specs.Onto.{insertion_onto};
+ghost use Rattle.foyer_core.specs.State.{State};
+ghost use Rattle.foyer_core.specs.Waited.{insertion_of};
 
 use super::CacheCore;
 use super::load::Load;
+use crate::entry::Leave;
 use crate::filter::Filter;
 use crate::finder::Finder;
-use crate::outcome::{Inserted, Refused};
+use crate::outcome::{Inserted, InsertedOnto, Refused};
 use crate::piece::Piece;
 use crate::weighter::Weighter;
-use foyer_policy::{Eviction, HashBuilder, Key, Properties, Value};
+use foyer_policy::{Eviction, HashBuilder, Key, Properties, Result, Value};
 
 impl<
     E: Eviction,
@@ -27,14 +28,12 @@ impl<
     R: Drop,
     I: Finder<K>,
 > CacheCore<E, K, V, P, S, W, A, N, R, I> {
-    ghost use Rattle.foyer_core.specs.Core.{AtShard, InsertsAnswering, shard_at};
-    ghost use Rattle.foyer_core.specs.CoreFetches.{at_hash, open_in};
+    ghost use Rattle.foyer_core.specs.Bulk.{GoesOn};
+    ghost use Rattle.foyer_core.specs.Core.{AtShard, shard_at};
+    ghost use Rattle.foyer_core.specs.CoreFetches.{open_in};
     ghost use Rattle.foyer_core.specs.Cores.{core_of, fetches_of, hashes_of, meaning_of_core};
-    ghost use Rattle.foyer_core.specs.Laws.{Finds, HandlesStay, IsBoundedAt, IsOutside};
-    ghost use Rattle.foyer_core.specs.Observed.{IsTold, IsToldWith};
-    ghost use Rattle.foyer_core.specs.Pieces.{InsertsPiece, ReturnsAnswering, coming_under, held_or, is_known};
-    ghost use Rattle.foyer_core.specs.State.{key_of};
-    ghost use Rattle.foyer_core.specs.Steps.{newcomer};
+    ghost use Rattle.foyer_core.specs.CallLaws.{AnswersIn, InsertLaws};
+    ghost use Rattle.foyer_core.specs.Pieces.{InsertsPiece, coming_under, is_known};
 
     /// Puts a piece's record in, and answers an entry of it, with the source `Memory`, and what left. A clone of
     /// its key must equal it.
@@ -52,82 +51,70 @@ impl<
         piece: Piece<K, V, P>,
     ) -> std::result::Result<Inserted<K, V, P, N>, Refused<K, V, P>>
         requires clones { (k c : K) → K.is_clone k c → K.eq c k ≡ true }
-        ensures inserted { let hash = S.hash_of (core_of self.old).hash_builder (K.hash_input piece.kept.key) in
+        ensures inserted { let hash = hashes_of self.old piece.kept.key in
             AtShard (λ s t. InsertsPiece (meaning_of_core self.old) (W.weighs (core_of self.old).weighter piece.kept.key piece.kept.value) hash piece
             (1 + length (waiters_of (open_in (fetches_of self.old) (coming_under s hash piece)))) (insertion_of result) s t)
             hash (core_of self.old) (core_of self.new) }
-        ensures answers { IfOk result (λ made. AnswersEach (waiters_of (open_in (fetches_of self.old) (key_of made.entry.kept))) made.entry made.answers) }
-        ensures closed { let hash = S.hash_of (core_of self.old).hash_builder (K.hash_input piece.kept.key) in
-            IfOk result (λ made. fetches_of self.new ≡ at_hash (λ f. closed K.eq f (key_of made.entry.kept)) (fetches_of self.old) hash) }
-        ensures fetches { OnErr result (fetches_of self.new ≡ fetches_of self.old) }
-        ensures found { IfOk result (λ made. is_phantom (P.phantom_of made.entry.kept.properties) ≡ false
-            → Finds (meaning_of_core self.new) (λ k. S.hash_of (core_of self.new).hash_builder (K.hash_input k))
-            (core_of self.new) made.entry.kept.key made.entry.kept.value) }
-        ensures bounded { let hash = S.hash_of (core_of self.old).hash_builder (K.hash_input piece.kept.key) in
-            IfOk result (λ made. is_phantom (P.phantom_of made.entry.kept.properties) ≡ false → IsOutside (core_of self.old) hash made.entry.id
-            → IsBoundedAt (meaning_of_core self.old) hash made.entry.kept.weight (core_of self.old) (core_of self.new)) }
-        ensures stay { HandlesStay (λ _. 0) (core_of self.old) (core_of self.new) }
-        ensures told { MatchResult result
-            (λ made. IsToldWith K.eq (hashes_of self.old) P.phantom_of (core_of self.old) made.leaves.items made.entry.id made.entry.kept (core_of self.new))
-            (λ refused. IsTold K.eq (hashes_of self.old) (core_of self.old) refused.leaves.items (core_of self.new)) }
+        ensures fetches { MatchResult result
+            (λ made. AnswersIn K.eq (hashes_of self.old piece.kept.key) made.entry made.answers (fetches_of self.old) (fetches_of self.new))
+            (λ _. fetches_of self.new ≡ fetches_of self.old) }
+        ensures laws { InsertLaws (meaning_of_core self.old) (hashes_of self.old) (hashes_of self.new)
+            (hashes_of self.old piece.kept.key) (core_of self.old) (insertion_of result) (core_of self.new) }
+    {
+        let mut leaves = Vec::new(self.alloc);
+        match self.insert_piece_onto(piece, &mut leaves) {
+            Ok(made) => {
+                let InsertedOnto { entry, answers } = made;
+                Ok(Inserted {
+                    entry,
+                    answers,
+                    leaves,
+                })
+            }
+            Err(error) => Err(Refused { error, leaves }),
+        }
+    }
+
+    /// Puts a piece's record in as `insert_piece` does, and appends what leaves, in order. Where it is refused, what had
+    /// left by then stands in the list.
+    pub fn insert_piece_onto(
+        &mut self,
+        piece: Piece<K, V, P>,
+        leaves: &mut Vec<Leave<K, V, P>>,
+    ) -> Result<InsertedOnto<K, V, P, N>>
+        requires clones { (k c : K) → K.is_clone k c → K.eq c k ≡ true }
+        ensures inserted { let hash = hashes_of self.old piece.kept.key in
+            GoesOn leaves.old.items leaves.new.items (λ ls.
+            AtShard (λ s t. InsertsPiece (meaning_of_core self.old) (W.weighs (core_of self.old).weighter piece.kept.key piece.kept.value) hash piece
+            (1 + length (waiters_of (open_in (fetches_of self.old) (coming_under s hash piece)))) (insertion_onto result ls) s t)
+            hash (core_of self.old) (core_of self.new)) }
+        ensures fetches { MatchResult result
+            (λ made. AnswersIn K.eq (hashes_of self.old piece.kept.key) made.entry made.answers (fetches_of self.old) (fetches_of self.new))
+            (λ _. fetches_of self.new ≡ fetches_of self.old) }
+        ensures laws { GoesOn leaves.old.items leaves.new.items (λ ls.
+            InsertLaws (meaning_of_core self.old) (hashes_of self.old) (hashes_of self.new)
+            (hashes_of self.old piece.kept.key) (core_of self.old) (insertion_onto result ls) (core_of self.new)) }
     {
         let hash = self.hash(piece.key());
+        let weight = self.weight_under(hash, &piece, piece.key());
         let place = self.shard_index(hash);
-        if self.shards[place].knows(hash, &piece) {
-            return self.insert_known(hash, piece);
+        let before = Load::of(&self.shards[place]);
+        let made = self.shards[place].emplace_piece(self.alloc, piece, hash, weight, leaves);
+        let after = Load::of(&self.shards[place]);
+        self.load.replace(before, after);
+        made
+    }
+
+    // The weight with which a piece makes a new record, whose key has this hash. The weighter is not asked of one that
+    // its shard knows, nor of one whose key is not this one.
+    pub(super) fn weight_under(&self, hash: u64, piece: &Piece<K, V, P>, key: &K) -> usize
+        ensures { (s : State K V P E.View) → shard_at (core_of self.now) hash ≡ Some s → is_known s hash piece.now ≡ false
+            → K.eq key.now piece.now.kept.key ≡ true
+            → W.weighs (core_of self.now).weighter piece.now.kept.key piece.now.kept.value result }
+    {
+        if !(*key == *piece.key()) || self.shards[self.shard_index(hash)].knows(hash, piece) {
+            return 0;
         }
-        self.insert_foreign(hash, piece)
-    }
-
-    // Puts the record in that a piece stands for.
-    fn insert_known(
-        &mut self,
-        hash: u64,
-        piece: Piece<K, V, P>,
-    ) -> std::result::Result<Inserted<K, V, P, N>, Refused<K, V, P>>
-        requires clones { (k c : K) → K.is_clone k c → K.eq c k ≡ true }
-        requires hashed { hash ≡ hashes_of self.old piece.kept.key }
-        requires known { IsSomeAnd (shard_at (core_of self.old) hash) (λ s. is_known s hash piece ≡ true) }
-        ensures returned { AtShard (λ s t. ReturnsAnswering (meaning_of_core self.old) s piece
-            (1 + length (waiters_of (open_in (fetches_of self.old)
-            (key_of (held_or piece.kept (s.records piece.id)))))) (insertion_of result) t) hash (core_of self.old)
-            (core_of self.new) }
-        ensures answers { IfOk result (λ made. AnswersEach (waiters_of (open_in (fetches_of self.old) (key_of made.entry.kept))) made.entry made.answers) }
-        ensures closed { IfOk result (λ made. fetches_of self.new ≡ at_hash (λ f. closed K.eq f (key_of made.entry.kept)) (fetches_of self.old) hash) }
-        ensures fetches { OnErr result (fetches_of self.new ≡ fetches_of self.old) }
-        ensures stay { HandlesStay (λ _. 0) (core_of self.old) (core_of self.new) }
-    {
-        let place = self.shard_index(hash);
-        let before = Load::of(&self.shards[place]);
-        let taken = self.shards[place].take_back(self.alloc, piece);
-        let after = Load::of(&self.shards[place]);
-        self.load.replace(before, after);
-        taken
-    }
-
-    // Puts a new record in, of a piece that stands for none.
-    fn insert_foreign(
-        &mut self,
-        hash: u64,
-        piece: Piece<K, V, P>,
-    ) -> std::result::Result<Inserted<K, V, P, N>, Refused<K, V, P>>
-        requires clones { (k c : K) → K.is_clone k c → K.eq c k ≡ true }
-        requires hashed { hash ≡ hashes_of self.old piece.kept.key }
-        ensures inserted { AtShard (λ s t. (weight : ℕ) × W.weighs (core_of self.old).weighter piece.kept.key piece.kept.value weight
-            × InsertsAnswering (meaning_of_core self.old) Memory s (newcomer s (record piece.kept { hash = hash; weight = weight })
-            (1 + length (waiters_of (open_in (fetches_of self.old) (hash, piece.kept.key))))) (insertion_of result) t)
-            hash (core_of self.old) (core_of self.new) }
-        ensures answers { IfOk result (λ made. AnswersEach (waiters_of (open_in (fetches_of self.old) (key_of made.entry.kept))) made.entry made.answers) }
-        ensures closed { IfOk result (λ made. fetches_of self.new ≡ at_hash (λ f. closed K.eq f (key_of made.entry.kept)) (fetches_of self.old) hash) }
-        ensures fetches { OnErr result (fetches_of self.new ≡ fetches_of self.old) }
-        ensures stay { HandlesStay (λ _. 0) (core_of self.old) (core_of self.new) }
-    {
-        let place = self.shard_index(hash);
-        let weight = self.weighter.weigh(piece.key(), piece.value());
-        let before = Load::of(&self.shards[place]);
-        let taken = self.shards[place].take_new(self.alloc, piece, hash, weight);
-        let after = Load::of(&self.shards[place]);
-        self.load.replace(before, after);
-        taken
+        self.rules.weighter.weigh(piece.key(), piece.value())
     }
 }

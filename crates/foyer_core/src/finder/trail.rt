@@ -4,6 +4,7 @@ ghost use Rattle.std.specs.Prelude.{◌≡◌, ℕ, Bool, Option, None, nat_eq};
 ghost use Rattle.std.specs.Map.{update};
 ghost use Rattle.foyer_core.specs.Indexer.{same_key};
 
+use foyer_policy::Past;
 use std::mem;
 use std::snapshot::Snapshot;
 
@@ -14,7 +15,7 @@ enum Marks<K> {
     Start,
     /// A key leads to a slot from here on, or to none.
     Mark {
-        before: Snapshot<Marks<K>>,
+        before: Past<Marks<K>>,
         hash: u64,
         key: Snapshot<K>,
         slot: Option<usize>,
@@ -25,7 +26,7 @@ enum Marks<K> {
 /// the program runs.
 #[derive(Drop)]
 pub(crate) struct Trail<K> {
-    marks: Snapshot<Marks<K>>,
+    marks: Past<Marks<K>>,
 }
 
 impl<K> Trail<K> {
@@ -38,7 +39,7 @@ impl<K> Trail<K> {
         ensures keyed { (s : ℕ) → keyed result s ≡ None }
     {
         Trail {
-            marks: Snapshot::of(&Marks::Start),
+            marks: Past::of(&Marks::Start),
         }
     }
 
@@ -49,9 +50,9 @@ impl<K> Trail<K> {
             led eq self.new q ≡ update (same_key eq) (led eq self.old) (hash, key.value) slot q }
         ensures keyed { (s : ℕ) → keyed self.new s ≡ keyed_with slot (hash, key.value) (keyed self.old) s }
     {
-        let start = Snapshot::of(&Marks::Start);
+        let start = Past::of(&Marks::Start);
         let before = mem::replace(&mut self.marks, start);
-        self.marks = Snapshot::of(&Marks::Mark {
+        self.marks = Past::of(&Marks::Mark {
             before,
             hash,
             key,

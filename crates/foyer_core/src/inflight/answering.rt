@@ -7,37 +7,11 @@ ghost use Rattle.foyer_core.specs.Waited.{entries_in};
 
 use super::InflightManager;
 use crate::entry::CoreEntry;
-use crate::outcome::{Answers, Arrival, Inserted, Outcome};
+use crate::outcome::{Answers, Outcome};
 use foyer_policy::Key;
 
 impl<K: Key, N: Drop, R: Drop> InflightManager<K, N, R> {
     ghost use Rattle.foyer_core.specs.Inflights.{opens_of};
-
-    // What an insert answers whose record came in so: those who wait for its key get the further entries, and the key's
-    // fetch is closed. It takes no memory.
-    #[inline(always)]
-    pub(crate) fn answer<V: Drop, P: Drop>(
-        &mut self,
-        made: Arrival<K, V, P>,
-    ) -> Inserted<K, V, P, N>
-        ensures entry { result.entry ≡ made.entry }
-        ensures leaves { result.leaves ≡ made.leaves }
-        ensures waiters { result.answers.waiters.items ≡ waiters_of ((opens_of self.old).by_key (key_of made.entry.kept)) }
-        ensures entries { entries_in result.answers.outcome ≡ Some made.others.items }
-        ensures closed { opens_of self.new ≡ closed K.eq (opens_of self.old) (key_of made.entry.kept) }
-    {
-        let Arrival {
-            entry,
-            others,
-            leaves,
-        } = made;
-        let answers = self.answers(&entry, others);
-        Inserted {
-            entry,
-            answers,
-            leaves,
-        }
-    }
 
     // What those get who wait for the key of a record that came in: one of these entries each. The key's fetch is
     // closed. It takes no memory.

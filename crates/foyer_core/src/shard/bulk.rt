@@ -1,13 +1,12 @@
 //! What a shard does with all of its records.
 
-ghost use Rattle.std.specs.Prelude.{◌≡◌, Some, None, OnOk, OnErr, IfOk, IfErr};
+ghost use Rattle.std.specs.Prelude.{◌≡◌, Some, None, OnOk, OnErr, IfOk, IfErr, IsTrue};
 ghost use Rattle.foyer_policy.specs.declared.error.Reason.TheVariants.{NoMemory};
 
 use super::Shard;
 use crate::entry::Leave;
 use crate::finder::Finder;
 use foyer_policy::{Eviction, Key, Properties, Result, Value};
-use std::alloc::Global;
 
 impl<E: Eviction, K: Key, V: Value, P: Properties, N: Drop, R: Drop, I: Finder<K>> Shard<
     E,
@@ -32,10 +31,18 @@ impl<E: Eviction, K: Key, V: Value, P: Properties, N: Drop, R: Drop, I: Finder<K
         self.store.set_capacity(capacity)
     }
 
+    /// Whether a configuration is of the shard's policy.
+    pub fn takes(&self, config: &E::Config) -> bool
+        ensures { result ≡ E.model.takes (state_of self.now).view config.now }
+    {
+        self.store.takes(config)
+    }
+
     /// Tells the policy another configuration, one that it accepts. The capacity stays, and nothing leaves. It takes
     /// no memory.
     pub fn configure(&mut self, config: &E::Config)
-        requires { E.model.fault config.now ≡ None }
+        requires accepted { E.model.fault config.now ≡ None }
+        requires taken { IsTrue (E.model.takes (state_of self.old).view config.now) }
         ensures configured { state_of self.new
             ≡ after_update (meaning_of self.old) (state_of self.old) (state_of self.old).capacity (Some config.now) }
         ensures opens { opens_of self.new ≡ opens_of self.old }
@@ -67,21 +74,6 @@ impl<E: Eviction, K: Key, V: Value, P: Properties, N: Drop, R: Drop, I: Finder<K
         ensures opens { opens_of self.new ≡ opens_of self.old }
     {
         self.store.evict_unpinned(leaves)
-    }
-
-    /// Evicts until the usage is at most the target, or nothing more leaves, and answers what left. Refused for
-    /// want of memory alone (F7); then some beginning of the evictions has left, which is handed out. There is
-    /// room for one leave more, where it is not refused.
-    pub fn evict_to(
-        &mut self,
-        alloc: Global,
-        target: usize,
-    ) -> std::result::Result<Vec<Leave<K, V, P>>, Vec<Leave<K, V, P>>>
-        ensures done { IfOk result (λ leaves. Evicts (meaning_of self.old) target (state_of self.old) leaves.items (state_of self.new)) }
-        ensures refused { IfErr result (λ leaves. Evicting (meaning_of self.old) target (state_of self.old) leaves.items (state_of self.new)) }
-        ensures opens { opens_of self.new ≡ opens_of self.old }
-    {
-        self.store.evict_to(alloc, target)
     }
 
     /// Evicts until the usage is at most the target, or nothing more leaves, and appends what leaves. Refused

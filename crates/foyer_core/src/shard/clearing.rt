@@ -66,24 +66,9 @@ impl<E: Eviction, K: Key, V: Value, P: Properties, N: Drop, R: Drop, I: Finder<K
         Ok(())
     }
 
-    /// Takes the records of which the predicate says yes out, pinned or not, as `Evict`, in the policy's order.
-    /// It is asked once of each. Refused for want of memory alone (F7); then nothing has changed.
+    /// Takes the records of which the predicate says yes out, pinned or not, as `Evict`, in the policy's order, and
+    /// appends what leaves. It is asked once of each. Refused for want of memory alone (F7); then nothing has changed.
     pub fn evict_if<F: Fn(&K, &V) -> bool>(
-        &mut self,
-        alloc: Global,
-        predicate: &F,
-    ) -> Result<Vec<Leave<K, V, P>>>
-        requires { F.IsAlwaysCallable predicate.now }
-        ensures done { IfOk result (λ leaves. EvictsIf (meaning_of self.old) (Says F.Fn predicate.now) (state_of self.old) leaves.items (state_of self.new)) }
-        ensures err { OnErr result (state_of self.new ≡ state_of self.old) }
-        ensures refused { IfErr result (λ e. e ≡ NoMemory) }
-        ensures opens { opens_of self.new ≡ opens_of self.old }
-    {
-        self.store.evict_if(alloc, predicate)
-    }
-
-    /// The same, and appends what leaves.
-    pub fn evict_if_onto<F: Fn(&K, &V) -> bool>(
         &mut self,
         alloc: Global,
         predicate: &F,

@@ -1,10 +1,10 @@
 //! Fetches of keys that a shard does not hold.
 
-ghost use Rattle.std.specs.Prelude.{◌≡◌, ◌↔◌, ◌+◌, ◌<◌, ℕ, None, Some, IfSome, IfNone, OnSome, IsSomeAnd, IsTrue, true};
+ghost use Rattle.std.specs.Prelude.{◌≡◌, ◌↔◌, ℕ, None, Some, IfOk, IfSome, IfNone, OnSome, IsSomeAnd, IsTrue, true};
 ghost use Rattle.foyer_policy.specs.declared.types.Source.{Source as SourceOf};
-ghost use Rattle.foyer_policy.specs.declared.types.Source.TheVariants.{Memory};
 ghost use Rattle.foyer_core.specs.Inflight.{IsFetchOrTake, IsOpen, after_nothing, asked};
 ghost use Rattle.foyer_core.specs.Waited.{ending_of};
+ghost use Rattle.foyer_core.specs.declared.outcome.Lookup.TheVariants.{Hit, Lead, Wait};
 
 use super::Shard;
 use crate::finder::Finder;
@@ -12,7 +12,6 @@ use crate::inflight::{Enqueue, FetchOrTake};
 use crate::outcome::{Ended, Further, Lookup};
 use crate::piece::Piece;
 use crate::record::Data;
-use crate::share::Share;
 use foyer_policy::{Error, Eviction, Key, Properties, Reason, Result, Source, Value};
 use std::alloc::Global;
 
@@ -27,8 +26,8 @@ impl<E: Eviction, K: Key, V: Value, P: Properties, N: Drop, R: Drop, I: Finder<K
 > {
     ghost use Rattle.foyer_core.specs.Shards.{state_of, meaning_of, opens_of};
     ghost use Rattle.foyer_core.specs.State.{hit};
-    ghost use Rattle.foyer_core.specs.Fetching.{CompletesBackBy, CompletesBy, EndsBy, LooksUp};
-    ghost use Rattle.foyer_core.specs.Pieces.{coming_under, held_or};
+    ghost use Rattle.foyer_core.specs.Fetching.{CompletesBy, EndsBy, LooksUp};
+    ghost use Rattle.foyer_core.specs.PieceEnds.{CompletesPieceBy, comes_under};
 
     /// An entry of the key's record, as `get` answers it, or where the key is missing a token to wait with: for a new
     /// fetch, which the one who asks leads, or for the one that is open. A builder that one who waits brings is kept
@@ -46,6 +45,7 @@ impl<E: Eviction, K: Key, V: Value, P: Properties, N: Drop, R: Drop, I: Finder<K
         requires clones { (k c : K) → K.is_clone k c → K.eq c k ≡ true }
         ensures looked_up { LooksUp (meaning_of self.old) (state_of self.old) (opens_of self.old)
             (hash, key.now) waiter required result (state_of self.new) (opens_of self.new) }
+        ensures asked { IfOk result (elim [ Hit e ↦ K.eq key.now e.kept.key ≡ true | Lead _ _ _ ↦ Unit {0} | Wait _ ↦ Unit {0} ]) }
     {
         match self.get(hash, key) {
             Ok(None) => self.enqueue(hash, key, required, waiter),
@@ -66,6 +66,7 @@ impl<E: Eviction, K: Key, V: Value, P: Properties, N: Drop, R: Drop, I: Finder<K
         requires missing { hit (state_of self.old) (hash, key.now) ≡ None }
         ensures looked_up { LooksUp (meaning_of self.old) (state_of self.old) (opens_of self.old)
             (hash, key.now) waiter required result (state_of self.new) (opens_of self.new) }
+        ensures missed { IfOk result (elim [ Hit _ ↦ ⊥ | Lead _ _ _ ↦ Unit {0} | Wait _ ↦ Unit {0} ]) }
     {
         let ids = self.store.ids();
         if self.inflights.lacks(hash, key, ids) {
@@ -129,7 +130,7 @@ impl<E: Eviction, K: Key, V: Value, P: Properties, N: Drop, R: Drop, I: Finder<K
         ensures state { state_of self.new ≡ state_of self.old }
     {
         match self.inflights.take(hash, key, Some(fetch)) {
-            Some(waiters) => Ended::refused(waiters, error, Vec::new(alloc)),
+            Some(waiters) => Ended::found(waiters, Err(error), Vec::new(alloc)),
             None => Ended::lost(alloc),
         }
     }
@@ -157,86 +158,62 @@ impl<E: Eviction, K: Key, V: Value, P: Properties, N: Drop, R: Drop, I: Finder<K
             count: waiters.len() - 1,
             room: 1,
         };
-        match self.store.emplace(alloc, kept, source, further) {
-            Ok(made) => made.ending(waiters),
-            Err(refused) => Ended::refused(waiters, refused.error, refused.leaves),
-        }
+        let mut leaves = Vec::new(alloc);
+        let came = self
+            .store
+            .emplace(alloc, kept, source, further, &mut leaves);
+        Ended::found(waiters, came, leaves)
     }
 
-    /// Ends an open fetch of a piece's key with a new record of it, where the piece stands for none of this shard's, as
-    /// `complete` does: it has this hash and this weight, and the source `Memory`.
-    pub fn complete_new(
-        &mut self,
-        alloc: Global,
-        fetch: u64,
-        piece: Piece<K, V, P>,
-        hash: u64,
-        weight: usize,
-    ) -> Ended<K, V, P, N>
-        requires clones { (k c : K) → K.is_clone k c → K.eq c k ≡ true }
-        ensures completed { let key : ℕ × K = (hash, piece.kept.key) in
-            CompletesBy (meaning_of self.old) (asked (Some fetch) ((opens_of self.old).by_key key)) Memory
-            (state_of self.old) (opens_of self.old) key (record piece.kept { hash = hash; weight = weight })
-            (ending_of result) (state_of self.new) (opens_of self.new) }
-    {
-        self.complete_share(alloc, fetch, piece.into_share().with(hash, weight))
-    }
-
-    // Ends an open fetch of a key with a new record of it, whose share another core's record may have.
-    fn complete_share(
-        &mut self,
-        alloc: Global,
-        fetch: u64,
-        kept: Share<K, V, P>,
-    ) -> Ended<K, V, P, N>
-        requires clones { (k c : K) → K.is_clone k c → K.eq c k ≡ true }
-        ensures completed { let key : ℕ × K = (kept.hash, kept.key) in
-            CompletesBy (meaning_of self.old) (asked (Some fetch) ((opens_of self.old).by_key key)) Memory
-            (state_of self.old) (opens_of self.old) key kept (ending_of result) (state_of self.new)
-            (opens_of self.new) }
-    {
-        let Some(waiters) = self.inflights.take(kept.hash(), kept.key(), Some(fetch)) else {
-            return Ended::lost(alloc);
-        };
-        let further = Further {
-            count: waiters.len() - 1,
-            room: 1,
-        };
-        match self.store.take_new(alloc, kept, further) {
-            Ok(made) => made.ending(waiters),
-            Err(refused) => Ended::refused(waiters, refused.error, refused.leaves),
-        }
-    }
-
-    /// Ends an open fetch with the record of its key for which a piece stands, which the shard knows, as `complete`
-    /// does. `hash` and `key` are the key that is fetched, and the record's key equals it.
-    pub fn complete_back(
+    /// Ends an open fetch of a key with a piece, whose key has the hash `own`, as `complete` does. Where the record for
+    /// which the piece stands has this hash and a key that equals this one, and `is_home` says that this is the shard of
+    /// `own`, it comes in as `emplace_piece` takes it in, of this weight where it stands for none of this shard's. Else
+    /// those who wait get F12.
+    pub fn complete_piece(
         &mut self,
         alloc: Global,
         hash: u64,
         key: &K,
         fetch: u64,
         piece: Piece<K, V, P>,
+        own: u64,
+        is_home: bool,
+        weight: usize,
     ) -> Ended<K, V, P, N>
         requires clones { (k c : K) → K.is_clone k c → K.eq c k ≡ true }
-        requires given { piece.id < (state_of self.old).next }
-        requires hashed { hash ≡ (held_or piece.kept ((state_of self.old).records piece.id)).hash }
-        requires same { K.eq key.now (held_or piece.kept ((state_of self.old).records piece.id)).key ≡ true }
-        ensures completed { CompletesBackBy (meaning_of self.old)
-            (asked (Some fetch) ((opens_of self.old).by_key (hash, key.now))) (state_of self.old) (opens_of self.old)
-            (hash, key.now) piece (ending_of result) (state_of self.new) (opens_of self.new) }
+        ensures completed { CompletesPieceBy (meaning_of self.old)
+            (asked (Some fetch) ((opens_of self.old).by_key (hash, key.now)))
+            (λ w. w ≡ weight) own piece is_home (state_of self.old) (opens_of self.old) (hash, key.now) (ending_of result)
+            (state_of self.new) (opens_of self.new) }
     {
         let Some(waiters) = self.inflights.take(hash, key, Some(fetch)) else {
             return Ended::lost(alloc);
         };
+        let mut leaves = Vec::new(alloc);
+        if !self.is_under(own, &piece, is_home, hash, key) {
+            let wrong = Error::new(Reason::WrongKey);
+            return Ended::found(waiters, Err(wrong), leaves);
+        }
         let further = Further {
             count: waiters.len() - 1,
             room: 1,
         };
-        match self.store.take_back(alloc, piece, further) {
-            Ok(made) => made.ending(waiters),
-            Err(refused) => Ended::refused(waiters, refused.error, refused.leaves),
+        let came = self
+            .store
+            .emplace_piece(alloc, piece, own, weight, further, &mut leaves);
+        Ended::found(waiters, came, leaves)
+    }
+
+    // Whether a piece, whose key has the hash `own`, comes in under this hash and a key that equals this one. `is_home`
+    // says whether this is the shard of `own`.
+    fn is_under(&self, own: u64, piece: &Piece<K, V, P>, is_home: bool, hash: u64, key: &K) -> bool
+        ensures { result ≡ comes_under (meaning_of self.now) (state_of self.now) own piece.now is_home (hash, key.now) }
+    {
+        if !is_home {
+            return false;
         }
+        let (under, other) = self.store.key_under(own, piece);
+        hash == under && *key == *other
     }
 
     /// Ends an open fetch of a key with a value for which there was no memory to clone the key: those who wait get the
@@ -265,20 +242,6 @@ impl<E: Eviction, K: Key, V: Value, P: Properties, N: Drop, R: Drop, I: Finder<K
             .store
             .new_refusal(hash, key, properties, weight, further);
         let reason = refusal.unwrap_or(Reason::NoMemory);
-        Ended::refused(waiters, Error::new(reason), Vec::new(alloc))
-    }
-
-    /// Whether the record that a piece stands for, whose key has this hash, has a key that equals this one. It takes no
-    /// memory.
-    pub fn is_under(&self, hash: u64, piece: &Piece<K, V, P>, key: &K) -> bool
-        ensures { result ≡ K.eq key.now (coming_under (state_of self.now) hash piece.now).1 }
-    {
-        if !self.store.knows(hash, piece) {
-            return *key == *piece.key();
-        }
-        match self.store.held(piece.id(), piece.slot()) {
-            Some(held) => *key == *held.key(),
-            None => *key == *piece.key(),
-        }
+        Ended::found(waiters, Err(Error::new(reason)), Vec::new(alloc))
     }
 }

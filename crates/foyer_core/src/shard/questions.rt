@@ -1,13 +1,11 @@
-//! What a shard is asked that changes nothing: why a step would be refused, what a piece stands for, and whether its
-//! usage is the sum of its records' weights. No question takes memory.
+//! What a shard is asked that changes nothing: why a step would be refused. No question takes memory.
 
-ghost use Rattle.std.specs.Prelude.{◌≡◌, ◌≢◌, ◌+◌, ◌<◌, [], Err, IfSome, IfNone, IsTrue, true};
+ghost use Rattle.std.specs.Prelude.{◌≡◌, ◌≢◌, ◌+◌, [], Err, IfSome, IfNone};
 ghost use Rattle.foyer_policy.specs.Properties.{is_phantom};
 ghost use Rattle.foyer_policy.specs.declared.error.Reason.TheVariants.{Handles, NoMemory};
 
 use super::Shard;
 use crate::finder::Finder;
-use crate::piece::Piece;
 use foyer_policy::{Eviction, Key, Properties, Reason, Value};
 
 impl<E: Eviction, K: Key, V: Value, P: Properties, N: Drop, R: Drop, I: Finder<K>> Shard<
@@ -20,8 +18,7 @@ impl<E: Eviction, K: Key, V: Value, P: Properties, N: Drop, R: Drop, I: Finder<K
     I,
 > {
     ghost use Rattle.foyer_core.specs.Shards.{state_of, meaning_of, opens_of};
-    ghost use Rattle.foyer_core.specs.Pieces.{held_or};
-    ghost use Rattle.foyer_core.specs.Questions.{MayGet, stands_under};
+    ghost use Rattle.foyer_core.specs.Questions.{MayGet};
     ghost use Rattle.foyer_core.specs.Steps.{Gets, MayBy, RefusesInsert, newcomer};
     ghost use Rattle.foyer_core.specs.Waited.{waiting_for};
 
@@ -68,23 +65,5 @@ impl<E: Eviction, K: Key, V: Value, P: Properties, N: Drop, R: Drop, I: Finder<K
         let further = self.further(hash, key);
         self.store
             .new_refusal(hash, key, properties, weight, further.count)
-    }
-
-    /// Whether a piece, whose key has the hash `own`, stands for a record of this shard whose key has this hash and
-    /// equals this one. Then `complete_back` may be called with that piece, hash and key.
-    pub fn stands_for(&self, own: u64, piece: &Piece<K, V, P>, hash: u64, key: &K) -> bool
-        ensures stands { result ≡ stands_under K.eq (state_of self.now) own piece.now (hash, key.now) }
-        ensures given { IsTrue result → piece.now.id < (state_of self.now).next }
-        ensures hashed { IsTrue result → hash ≡ (held_or piece.now.kept ((state_of self.now).records piece.now.id)).hash }
-        ensures same { IsTrue result → K.eq key.now (held_or piece.now.kept ((state_of self.now).records piece.now.id)).key ≡ true }
-    {
-        self.store.stands_for(own, piece, hash, key)
-    }
-
-    /// Whether the usage is the sum of the weights of the records in the index, which is counted anew. It always is.
-    pub fn fits(&self) -> bool
-        ensures { result ≡ true }
-    {
-        self.store.fits()
     }
 }

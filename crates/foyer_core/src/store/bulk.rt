@@ -1,6 +1,6 @@
 //! What a shard does with all of its records.
 
-ghost use Rattle.std.specs.Prelude.{◌≡◌, ℕ, Some, None, OnOk, OnErr, IfErr};
+ghost use Rattle.std.specs.Prelude.{◌≡◌, ℕ, Some, None, OnOk, OnErr, IfErr, IsTrue};
 ghost use Rattle.foyer_policy.specs.declared.error.Reason.TheVariants.{NoMemory};
 
 use super::Store;
@@ -22,10 +22,18 @@ impl<E: Eviction, K: Key, V: Value, P: Properties, I: Finder<K>> Store<E, K, V, 
         self.capacity = capacity;
     }
 
+    /// Whether a configuration is of the store's policy.
+    pub fn takes(&self, config: &E::Config) -> bool
+        ensures { result ≡ E.model.takes (state_of self.now).view config.now }
+    {
+        self.eviction.takes(config)
+    }
+
     /// Tells the policy another configuration, one that it accepts. The capacity stays, and nothing leaves. It takes
     /// no memory.
     pub fn configure(&mut self, config: &E::Config)
-        requires { E.model.fault config.now ≡ None }
+        requires accepted { E.model.fault config.now ≡ None }
+        requires taken { IsTrue (E.model.takes (state_of self.old).view config.now) }
         ensures { state_of self.new
             ≡ after_update (meaning_of self.old) (state_of self.old) (state_of self.old).capacity (Some config.now) }
     {
@@ -79,7 +87,8 @@ fn tell_capacity<'a, E: Eviction>(eviction: &'a mut E, capacity: usize)
 
 // Tells a policy another configuration, one that it accepts, with the capacity that it has.
 fn tell_config<E: Eviction>(eviction: &mut E, capacity: usize, config: &E::Config)
-    requires { E.model.fault config.now ≡ None }
+    requires accepted { E.model.fault config.now ≡ None }
+    requires taken { IsTrue (E.model.takes (E.view eviction.old) config.now) }
     ensures view { E.view eviction.new ≡ E.model.update (E.view eviction.old) capacity (Some config.now) }
     ensures places { (p : ℕ) → E.at eviction.new p ≡ E.at eviction.old p }
 {

@@ -8,7 +8,6 @@ use super::Store;
 use crate::entry::{Leave, Left};
 use crate::finder::Finder;
 use foyer_policy::{Error, Event, Eviction, Key, Properties, Reason, Result, Value};
-use std::alloc::Global;
 
 impl<E: Eviction, K: Key, V: Value, P: Properties, I: Finder<K>> Store<E, K, V, P, I> {
     ghost use Rattle.foyer_core.specs.Stores.{state_of, meaning_of, HasPlaces};
@@ -24,6 +23,8 @@ impl<E: Eviction, K: Key, V: Value, P: Properties, I: Finder<K>> Store<E, K, V, 
         ensures room { HasRoom self.old.records → HasRoom self.new.records }
         ensures places { HasPlaces self.old → HasPlaces self.new }
     {
+        // Nothing is refused here: the answer is always yes, and the arm is never reached. It is asked so that what is
+        // read of the victim, and of the record behind it, is read before shares are counted (store/ahead.rt).
         if !self.looks_ahead() {
             return Err(Error::new(Reason::NoMemory));
         }
@@ -38,31 +39,6 @@ impl<E: Eviction, K: Key, V: Value, P: Properties, I: Finder<K>> Store<E, K, V, 
         self.usage -= victim.1.weight;
         self.entries -= 1;
         Ok(Some(self.records.leave(slot, self.number)))
-    }
-
-    /// Evicts until the usage is at most the target, or nothing more leaves, and answers what left. Refused for
-    /// want of memory alone (F7); then some beginning of the evictions has left, which is handed out. There is
-    /// room for one leave more, where it is not refused.
-    #[inline(always)]
-    pub fn evict_to(
-        &mut self,
-        alloc: Global,
-        target: usize,
-    ) -> std::result::Result<Vec<Leave<K, V, P>>, Vec<Leave<K, V, P>>>
-        ensures done { IfOk result (λ leaves. Evicts (meaning_of self.old) target (state_of self.old) leaves.items (state_of self.new)) }
-        ensures refused { IfErr result (λ leaves. Evicting (meaning_of self.old) target (state_of self.old) leaves.items (state_of self.new)) }
-        ensures one_more { IfOk result (λ leaves. vec_len leaves < vec_capacity leaves) }
-        ensures room { HasRoom self.old.records → HasRoom self.new.records }
-        ensures places { HasPlaces self.old → HasPlaces self.new }
-    {
-        // Mostly one leaves, and one more may be replaced: `evict_onto` finds room for both.
-        let Ok(mut leaves) = Vec::with_capacity(alloc, 2) else {
-            return Err(Vec::new(alloc));
-        };
-        match self.evict_onto(&mut leaves, target) {
-            Ok(()) => Ok(leaves),
-            Err(_) => Err(leaves),
-        }
     }
 
     /// Evicts until the usage is at most the target, or nothing more leaves, and appends what leaves. Refused

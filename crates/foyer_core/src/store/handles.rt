@@ -33,6 +33,9 @@ impl<E: Eviction, K: Key, V: Value, P: Properties, I: Finder<K>> Store<E, K, V, 
             return Err(Error::new(Reason::Handles));
         }
         let place = Place::at(slot);
+        // No veto: the answer is always yes, and the arm is never reached. It is asked so that the item's node and its
+        // neighbors are read before shares are counted (store/ahead.rt). An `unreachable!()` would let the compiler drop
+        // these reads.
         if !self.eviction.look_ahead(place) {
             return Ok(None);
         }

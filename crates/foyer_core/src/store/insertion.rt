@@ -9,7 +9,7 @@ ghost use Rattle.foyer_core.specs.Records.{HasRoom};
 use super::Store;
 use crate::entry::{CoreEntry, Leave, discard_all};
 use crate::finder::Finder;
-use crate::outcome::{Arrival, Further, Refused};
+use crate::outcome::{Further, Handles};
 use crate::record::Data;
 use crate::share::Share;
 use crate::slot::Slot;
@@ -23,8 +23,8 @@ impl<E: Eviction, K: Key, V: Value, P: Properties, I: Finder<K>> Store<E, K, V, 
     ghost use Rattle.foyer_core.specs.Steps.{Inserts, RefusesInsert, RefusesPlain, MayBy, MayInsert, newcomer};
     ghost use Rattle.foyer_core.specs.Settled.{Settles, SettlesPlain};
 
-    /// Takes a record in, and answers an entry of it, with this source, as many further ones as are said, and what
-    /// left. A clone of the key must equal it.
+    /// Takes a new record in, and answers handles of it, with this source: one, and as many further ones as are said.
+    /// What leaves is appended to a list. A clone of the key must equal it.
     ///
     /// For a plain record others are evicted until the capacity has room for it, or nothing more leaves, and
     /// then the key's record gives way (`Replace`). For a phantom one, which its properties say, the key's
@@ -33,55 +33,24 @@ impl<E: Eviction, K: Key, V: Value, P: Properties, I: Finder<K>> Store<E, K, V, 
     ///
     /// Refused, in this order, where no id is left (F10), the handles would pass the limit (F9), the weight of a
     /// plain record and the pinned weight of other keys pass a `usize` (F8), and then nothing has changed; or
-    /// for want of memory (F7): then some beginning of the evictions has left, which the refusal hands out.
-    #[inline(always)]
+    /// for want of memory (F7): then some beginning of the evictions has left.
     pub(crate) fn emplace(
         &mut self,
         alloc: Global,
         kept: Data<K, V, P>,
         source: Source,
         further: Further,
-    ) -> std::result::Result<Arrival<K, V, P>, Refused<K, V, P>>
-        requires clones { (k c : K) → K.is_clone k c → K.eq c k ≡ true }
-        requires listed { further.count + further.room < 2 ^ 64 }
-        ensures inserted { MatchResult result
-            (λ made. Inserts (meaning_of self.old) source (state_of self.old)
-            (newcomer (state_of self.old) kept (1 + further.count)) made.leaves.items made.entry (state_of self.new))
-            (λ refused. RefusesInsert (meaning_of self.old) (state_of self.old)
-            (newcomer (state_of self.old) kept (1 + further.count)) refused.error refused.leaves.items
-            (state_of self.new)) }
-        ensures others { IfOk result (λ made. made.others.items ≡ replicate further.count made.entry) }
-        ensures room { IfOk result (λ made. vec_len made.others + further.room ≤ vec_capacity made.others) }
-    {
-        let mut leaves = Vec::new(alloc);
-        match self.emplace_onto(alloc, kept, source, further, &mut leaves) {
-            Ok((entry, others)) => Ok(Arrival {
-                entry,
-                others,
-                leaves,
-            }),
-            Err(error) => Err(Refused { error, leaves }),
-        }
-    }
-
-    /// The same, where what leaves is appended to a list.
-    pub(crate) fn emplace_onto(
-        &mut self,
-        alloc: Global,
-        kept: Data<K, V, P>,
-        source: Source,
-        further: Further,
         leaves: &mut Vec<Leave<K, V, P>>,
-    ) -> Result<(CoreEntry<K, V, P>, Vec<CoreEntry<K, V, P>>)>
+    ) -> Result<Handles<K, V, P>>
         requires clones { (k c : K) → K.is_clone k c → K.eq c k ≡ true }
         requires listed { further.count + further.room < 2 ^ 64 }
         ensures inserted { GoesOn leaves.old.items leaves.new.items (λ ls. MatchResult result
             (λ made. Inserts (meaning_of self.old) source (state_of self.old)
-            (newcomer (state_of self.old) kept (1 + further.count)) ls made.0 (state_of self.new))
+            (newcomer (state_of self.old) kept (1 + further.count)) ls made.entry (state_of self.new))
             (λ error. RefusesInsert (meaning_of self.old) (state_of self.old)
             (newcomer (state_of self.old) kept (1 + further.count)) error ls (state_of self.new))) }
-        ensures others { IfOk result (λ made. made.1.items ≡ replicate further.count made.0) }
-        ensures room { IfOk result (λ made. vec_len made.1 + further.room ≤ vec_capacity made.1) }
+        ensures others { IfOk result (λ made. made.others.items ≡ replicate further.count made.entry) }
+        ensures room { IfOk result (λ made. vec_len made.others + further.room ≤ vec_capacity made.others) }
     {
         if let Some(reason) = self.data_refusal(&kept, further.count) {
             return Err(Error::new(reason));
@@ -91,10 +60,10 @@ impl<E: Eviction, K: Key, V: Value, P: Properties, I: Finder<K>> Store<E, K, V, 
             return Err(Error::new(Reason::NoMemory));
         };
         let slot = Slot::outside(share, id, 1 + further.count);
-        self.come_onto(alloc, slot, source, further, leaves)
+        self.come(alloc, slot, source, further, leaves)
     }
 
-    /// The same with one entry alone.
+    /// The same with one entry alone, for which no list is made.
     #[inline(always)]
     pub(crate) fn emplace_one(
         &mut self,
@@ -119,50 +88,17 @@ impl<E: Eviction, K: Key, V: Value, P: Properties, I: Finder<K>> Store<E, K, V, 
         self.arrive(slot, source, leaves)
     }
 
-    // A record comes in that is not refused but for want of memory, and as many entries as are said are made beside
-    // the first. What leaves is in a list of its own.
+    // A record comes in that is not refused but for want of memory, and handles of it are made. What leaves is appended
+    // to a list.
     #[inline(always)]
-    pub(super) fn come_by(
-        &mut self,
-        alloc: Global,
-        slot: Slot<K, V, P>,
-        source: Source,
-        further: Further,
-    ) -> std::result::Result<Arrival<K, V, P>, Refused<K, V, P>>
-        requires clones { (k c : K) → K.is_clone k c → K.eq c k ≡ true }
-        requires apart { slot ≡ record slot { resident = false } }
-        requires out { (r : Rec K V P) → (state_of self.old).records slot.id ≡ Some r → r.resident ≡ false }
-        requires number { slot.id + 1 < 2 ^ 64 }
-        requires held { 0 < slot.handles }
-        requires may { MayBy (meaning_of self.old) (is_phantom_record (meaning_of self.old) slot.kept) (state_of self.old) (incoming_of slot) }
-        requires listed { further.count + further.room < 2 ^ 64 }
-        ensures inserted { MatchResult result
-            (λ made. Inserts (meaning_of self.old) source (state_of self.old) (incoming_of slot) made.leaves.items made.entry (state_of self.new))
-            (λ refused. RefusesInsert (meaning_of self.old) (state_of self.old) (incoming_of slot) refused.error refused.leaves.items (state_of self.new)) }
-        ensures others { IfOk result (λ made. made.others.items ≡ replicate further.count made.entry) }
-        ensures room { IfOk result (λ made. vec_len made.others + further.room ≤ vec_capacity made.others) }
-    {
-        let mut leaves = Vec::new(alloc);
-        match self.come_onto(alloc, slot, source, further, &mut leaves) {
-            Ok((entry, others)) => Ok(Arrival {
-                entry,
-                others,
-                leaves,
-            }),
-            Err(error) => Err(Refused { error, leaves }),
-        }
-    }
-
-    // The same, where what leaves is appended to a list.
-    #[inline(always)]
-    fn come_onto(
+    pub(super) fn come(
         &mut self,
         alloc: Global,
         slot: Slot<K, V, P>,
         source: Source,
         further: Further,
         leaves: &mut Vec<Leave<K, V, P>>,
-    ) -> Result<(CoreEntry<K, V, P>, Vec<CoreEntry<K, V, P>>)>
+    ) -> Result<Handles<K, V, P>>
         requires clones { (k c : K) → K.is_clone k c → K.eq c k ≡ true }
         requires apart { slot ≡ record slot { resident = false } }
         requires out { (r : Rec K V P) → (state_of self.old).records slot.id ≡ Some r → r.resident ≡ false }
@@ -171,16 +107,16 @@ impl<E: Eviction, K: Key, V: Value, P: Properties, I: Finder<K>> Store<E, K, V, 
         requires may { MayBy (meaning_of self.old) (is_phantom_record (meaning_of self.old) slot.kept) (state_of self.old) (incoming_of slot) }
         requires listed { further.count + further.room < 2 ^ 64 }
         ensures inserted { GoesOn leaves.old.items leaves.new.items (λ ls. MatchResult result
-            (λ made. Inserts (meaning_of self.old) source (state_of self.old) (incoming_of slot) ls made.0 (state_of self.new))
+            (λ made. Inserts (meaning_of self.old) source (state_of self.old) (incoming_of slot) ls made.entry (state_of self.new))
             (λ error. RefusesInsert (meaning_of self.old) (state_of self.old) (incoming_of slot) error ls (state_of self.new))) }
-        ensures others { IfOk result (λ made. made.1.items ≡ replicate further.count made.0) }
-        ensures room { IfOk result (λ made. vec_len made.1 + further.room ≤ vec_capacity made.1) }
+        ensures others { IfOk result (λ made. made.others.items ≡ replicate further.count made.entry) }
+        ensures room { IfOk result (λ made. vec_len made.others + further.room ≤ vec_capacity made.others) }
     {
         let Ok(others) = slot.entries(alloc, self.number, source, further) else {
             return Err(Error::new(Reason::NoMemory));
         };
         match self.arrive(slot, source, leaves) {
-            Ok(entry) => Ok((entry, others)),
+            Ok(entry) => Ok(Handles { entry, others }),
             Err(error) => {
                 discard_all(others);
                 Err(error)
@@ -188,7 +124,7 @@ impl<E: Eviction, K: Key, V: Value, P: Properties, I: Finder<K>> Store<E, K, V, 
         }
     }
 
-    // A record comes in that is not refused but for want of memory, and an entry of it is made.
+    // The same with one entry alone.
     #[inline(always)]
     fn arrive(
         &mut self,

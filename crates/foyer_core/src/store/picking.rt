@@ -1,6 +1,6 @@
 //! Records of a shard that leave by a predicate.
 
-ghost use Rattle.std.specs.Prelude.{◌≡◌, ◌+◌, ◌<◌, ◌≤◌, OnErr, IfOk, IfErr, length, vec_len, vec_capacity};
+ghost use Rattle.std.specs.Prelude.{◌≡◌, ◌+◌, ◌<◌, ◌≤◌, IfOk, IfErr, length, vec_len, vec_capacity};
 ghost use Rattle.foyer_policy.specs.Items.{count_of, IsWithin};
 ghost use Rattle.foyer_policy.specs.declared.error.Reason.TheVariants.{NoMemory};
 ghost use Rattle.foyer_policy.specs.declared.types.Event.TheVariants.{Evict};
@@ -15,28 +15,7 @@ use std::alloc::Global;
 
 impl<E: Eviction, K: Key, V: Value, P: Properties, I: Finder<K>> Store<E, K, V, P, I> {
     ghost use Rattle.foyer_core.specs.Stores.{state_of, meaning_of};
-    ghost use Rattle.foyer_core.specs.Bulk.{GoesOn, TakesRecordOut, TakesOut, EvictsIf, Picks, Says, Answers};
-
-    /// Takes the records of which the predicate says yes out, pinned or not, as `Evict`, in the policy's order.
-    /// It is asked once of each. Refused for want of memory alone (F7); then nothing has changed.
-    pub fn evict_if<F: Fn(&K, &V) -> bool>(
-        &mut self,
-        alloc: Global,
-        predicate: &F,
-    ) -> Result<Vec<Leave<K, V, P>>>
-        requires { F.IsAlwaysCallable predicate.now }
-        ensures done { IfOk result (λ leaves. EvictsIf (meaning_of self.old) (Says F.Fn predicate.now) (state_of self.old) leaves.items (state_of self.new)) }
-        ensures err { OnErr result (state_of self.new ≡ state_of self.old) }
-        ensures refused { IfErr result (λ e. e ≡ NoMemory) }
-    {
-        let picked = self.pick(alloc, predicate)?;
-        let mut leaves = Vec::new(alloc);
-        let Ok(()) = leaves.reserve(picked.len()) else {
-            return Err(Error::new(Reason::NoMemory));
-        };
-        self.evict_picked(&picked, &mut leaves);
-        Ok(leaves)
-    }
+    ghost use Rattle.foyer_core.specs.Bulk.{GoesOn, TakesRecordOut, TakesOut, Picks, Says, Answers};
 
     /// The items of the records of which the predicate says yes, pinned or not, in the policy's order. It is
     /// asked once of each. Only memory can be missing (F7); nothing changes.

@@ -89,7 +89,7 @@ fn an_insert_asks_the_weighter_and_then_the_filter(rt: HostRuntime) -> Done {
     assert!(rt; core.contains(&3) && !core.contains(&9));
     assert_eq!(rt; asked(&trail), 0);
     let mut leaves = Vec::new(rt.alloc());
-    let made = core.insert_onto(4, 40, &mut leaves);
+    let made = core.insert_with_properties_onto(4, 40, CacheProperties::default(), &mut leaves);
     settle(&rt, &mut core, made.expect(&rt, "an insert"));
     assert_eq!(rt; asked(&trail), 12);
     Ok(())

@@ -95,24 +95,38 @@ fn a_piece_brings_its_record(rt: HostRuntime) -> Done {
     let mut shard = three(&rt, alloc)?;
     let mut other: Over<Lru> = empty(alloc, Limits::default(), &LruConfig::default())?;
     let piece = taken_piece(&rt, &mut shard, 2);
-    assert!(rt; shard.knows(2, &piece) && shard.is_under(2, &piece, &2));
-    assert!(rt; shard.stands_for(2, &piece, 2, &2) && !other.stands_for(2, &piece, 2, &2));
-    let made = other.take_new(alloc, piece.clone()?, 2, 3);
-    assert_eq!(rt;
-        settled(&rt, &mut other, made.expect(&rt, "a new record")),
-        0
-    );
-    let made = shard.take_back(alloc, piece.clone()?);
-    assert_eq!(rt; settled(&rt, &mut shard, made.expect(&rt, "a record")), 0);
-    assert!(rt; shard.contains(2, &2) && other.contains(2, &2));
+    assert!(rt; shard.knows(2, &piece) && !other.knows(2, &piece));
+    let mut leaves = Vec::new(alloc);
+    let made = other.emplace_piece(alloc, piece.clone()?, 2, 3, &mut leaves);
+    settle(&rt, &mut other, made.expect(&rt, "a new record"));
+    let made = shard.emplace_piece(alloc, piece.clone()?, 2, 0, &mut leaves);
+    settle(&rt, &mut shard, made.expect(&rt, "a record"));
+    assert!(rt; shard.contains(2, &2) && other.contains(2, &2) && leaves.is_empty());
     take_out(&rt, &mut shard, 2);
     take_out(&rt, &mut other, 2);
     let fetch = lead(&rt, &mut other, 2);
-    let ended = other.complete_new(alloc, fetch, piece.clone()?, 2, 3);
+    let ended = other.complete_piece(alloc, 2, &2, fetch, piece.clone()?, 2, true, 3);
     assert_eq!(rt; answered(&rt, &mut other, ended), 1);
     let fetch = lead(&rt, &mut shard, 2);
-    let ended = shard.complete_back(alloc, 2, &2, fetch, piece);
+    let ended = shard.complete_piece(alloc, 2, &2, fetch, piece, 2, true, 0);
     assert_eq!(rt; answered(&rt, &mut shard, ended), 1);
     assert!(rt; shard.contains(2, &2) && other.contains(2, &2));
+    Ok(())
+}
+
+// A piece of another key, and one whose own shard is another.
+#[test]
+fn a_piece_of_another_key_ends_a_fetch(rt: HostRuntime) -> Done {
+    let alloc = rt.alloc();
+    let mut shard = three(&rt, alloc)?;
+    let mut other: Over<Lru> = empty(alloc, Limits::default(), &LruConfig::default())?;
+    let piece = taken_piece(&rt, &mut shard, 2);
+    let fetch = lead(&rt, &mut shard, 8);
+    let ended = shard.complete_piece(alloc, 8, &8, fetch, piece.clone()?, 2, true, 3);
+    assert_eq!(rt; refused(&rt, ended), 12);
+    let fetch = lead(&rt, &mut other, 2);
+    let ended = other.complete_piece(alloc, 2, &2, fetch, piece, 2, false, 3);
+    assert_eq!(rt; refused(&rt, ended), 12);
+    assert!(rt; !shard.contains(8, &8) && !other.contains(2, &2));
     Ok(())
 }

@@ -2,13 +2,14 @@
 
 ghost use Rattle.std.specs.Prelude.{◌≡◌, IfSome};
 ghost use Rattle.foyer_policy.specs.Limit.{ok_unless};
-ghost use Rattle.foyer_memory.specs.Caches.{kind_of};
 ghost use Rattle.foyer_memory.specs.Faults.{reconfigure_fault};
 
 use super::Cache;
-use crate::config::EvictionConfig;
-use foyer_core::{Filter, Finder, Weighter};
-use foyer_policy::{Error, EventListener, HashBuilder, Key, Properties, Reason, Result, Value};
+use foyer_core::Finder;
+use foyer_policy::{
+    AnyEviction, Error, EventListener, Eviction, EvictionConfig, Key, Properties, Reason, Result,
+    Value,
+};
 use foyer_raw::{FetchTypes, Flush, FlushIf, Pipe};
 use std::sync::Wait;
 
@@ -17,10 +18,10 @@ where
     H: Wait + Drop,
     K: Key,
     V: Value,
-    S: HashBuilder,
+    S: Drop,
     P: Properties,
-    W: Weighter<K, V>,
-    A: Filter<K, V>,
+    W: Drop,
+    A: Drop,
     L: EventListener<Key = K, Value = V>,
     I: Finder<K>,
     Q: Pipe<Key = K, Value = V, Properties = P>,
@@ -29,38 +30,20 @@ where
     /// Takes everything out, as `Clear`, shard by shard, in the policy's order. Refused for want of memory alone (F7); then
     /// the shards before are done, and what left is told.
     pub fn clear(&self) -> Result<()> {
-        match self {
-            Cache::FifoCache(cache) => cache.clear(),
-            Cache::S3FifoCache(cache) => cache.clear(),
-            Cache::LruCache(cache) => cache.clear(),
-            Cache::LfuCache(cache) => cache.clear(),
-            Cache::SieveCache(cache) => cache.clear(),
-        }
+        self.cache.clear()
     }
 
     /// Evicts all that is not pinned, shard by shard, in the order in which the policy gives it. Refused for want of memory
     /// alone (F7); then the shards before are done and some of the next one's records may have left, and what left is told.
     pub fn evict_all(&self) -> Result<()> {
-        match self {
-            Cache::FifoCache(cache) => cache.evict_all(),
-            Cache::S3FifoCache(cache) => cache.evict_all(),
-            Cache::LruCache(cache) => cache.evict_all(),
-            Cache::LfuCache(cache) => cache.evict_all(),
-            Cache::SieveCache(cache) => cache.evict_all(),
-        }
+        self.cache.evict_all()
     }
 
     /// Sets the weight that the records may have together, of which each shard gets its part, and then evicts from each shard
     /// what is over. Resizes take turns. Refused for want of memory alone (F7); then the capacities are set all the same, the
     /// shards before are done, and what left is told.
     pub fn resize(&self, capacity: usize) -> Result<()> {
-        match self {
-            Cache::FifoCache(cache) => cache.resize(capacity),
-            Cache::S3FifoCache(cache) => cache.resize(capacity),
-            Cache::LruCache(cache) => cache.resize(capacity),
-            Cache::LfuCache(cache) => cache.resize(capacity),
-            Cache::SieveCache(cache) => cache.resize(capacity),
-        }
+        self.cache.resize(capacity)
     }
 
     /// Tells each shard's policy in turn another configuration. It counts for what the policy does from then on, with the
@@ -68,18 +51,14 @@ where
     /// configuration of another policy, and else with its first fault alone, F2 to F6; then nothing has changed in any
     /// shard. It takes no memory, and takes turns with resizes.
     pub fn reconfigure(&self, config: EvictionConfig) -> Result<()>
-        ensures { result ≡ ok_unless (reconfigure_fault (kind_of self.now) config) }
+        ensures { result ≡ ok_unless (reconfigure_fault self.now.kind config) }
     {
-        match (self, &config) {
-            (Cache::FifoCache(cache), EvictionConfig::Fifo(config)) => cache.reconfigure(config),
-            (Cache::S3FifoCache(cache), EvictionConfig::S3Fifo(config)) => {
-                cache.reconfigure(config)
-            }
-            (Cache::LruCache(cache), EvictionConfig::Lru(config)) => cache.reconfigure(config),
-            (Cache::LfuCache(cache), EvictionConfig::Lfu(config)) => cache.reconfigure(config),
-            (Cache::SieveCache(cache), EvictionConfig::Sieve(config)) => cache.reconfigure(config),
-            _ => Err(Error::new(Reason::WrongPolicy)),
+        if !self.kind.has(&config) {
+            return Err(Error::new(Reason::WrongPolicy));
         }
+        AnyEviction::check(&config)?;
+        self.cache.configure(&config);
+        Ok(())
     }
 
     /// Evicts all that is not pinned, as `evict_all` does, tells the listener all of it, and hands all its pieces to the pipe,
@@ -88,13 +67,7 @@ where
     pub fn flush(&self) -> Flush<Q::Flush>
         ensures { IfSome result.inner Q.Flush.can_poll }
     {
-        match self {
-            Cache::FifoCache(cache) => cache.flush(),
-            Cache::S3FifoCache(cache) => cache.flush(),
-            Cache::LruCache(cache) => cache.flush(),
-            Cache::LfuCache(cache) => cache.flush(),
-            Cache::SieveCache(cache) => cache.flush(),
-        }
+        self.cache.flush()
     }
 
     /// Takes the records out of which the predicate says yes, pinned or not, as `Evict`, and tells them as `flush` does. The
@@ -103,12 +76,6 @@ where
         requires { F.IsAlwaysCallable predicate }
         ensures { IfSome result.inner Q.Flush.can_poll }
     {
-        match self {
-            Cache::FifoCache(cache) => cache.flush_if(predicate),
-            Cache::S3FifoCache(cache) => cache.flush_if(predicate),
-            Cache::LruCache(cache) => cache.flush_if(predicate),
-            Cache::LfuCache(cache) => cache.flush_if(predicate),
-            Cache::SieveCache(cache) => cache.flush_if(predicate),
-        }
+        self.cache.flush_if(predicate)
     }
 }

@@ -1,16 +1,13 @@
 //! Look-ups that fetch what is missing.
 
 ghost use Rattle.std.specs.Prelude.{◌≡◌, IfOk, IfSome, true};
-ghost use Rattle.foyer_memory.specs.Caches.{kind_of};
-ghost use Rattle.foyer_memory.specs.Entries.{held};
-ghost use Rattle.foyer_memory.specs.Looks.{entry_of, kind_of_look};
+ghost use Rattle.foyer_memory.specs.Looks.{entry_of};
 
 use super::Cache;
-use crate::fetch::GetOrFetch;
-use crate::task::{FetchTask, Lent};
+use crate::fetch::{FetchTask, GetOrFetch};
 use foyer_core::{Filter, Finder, Weighter};
 use foyer_policy::{EventListener, HashBuilder, Key, Properties, Result, Value};
-use foyer_raw::{Direct, FetchTypes, Given, NoFetch, Pipe, Pollable, RequiredFetch, Spawner};
+use foyer_raw::{Direct, FetchTypes, Pipe, RequiredFetch, Spawner};
 use std::sync::Wait;
 
 impl<H, K, V, S, P, W, A, L, Q, T, I> Cache<H, K, V, S, P, W, A, L, Q, T, I>
@@ -29,7 +26,8 @@ where
 {
     /// An entry of the key's record, where a get finds one. Else a wait for the fetch of the key: for the one that is open,
     /// to which the required builder is lent where it has none, or for a new one, whose task the spawner gets. The required
-    /// builder is asked for once where the key is missing, and the optional one once where a new fetch begins.
+    /// builder is asked for once where the key is missing, and the optional one once where a new fetch begins, both with no
+    /// lock held.
     ///
     /// Room is made first (F7, also on a hit). Then it is refused on a hit as `get` is (F9, F7), and on a miss where a
     /// number is missing (F10), and then for want of memory (F7).
@@ -48,26 +46,14 @@ where
         requires clones { (k c : K) → K.is_clone k c → K.eq c k ≡ true }
         requires optional { O.IsAlwaysCallable fo }
         requires required { F.IsAlwaysCallable fr }
-        ensures key { IfOk result (λ look. IfSome (entry_of look) (λ e. K.eq key.now (held e).kept.key ≡ true)) }
-        ensures kind { IfOk result (λ look. kind_of_look look ≡ kind_of self.now) }
+        ensures key { IfOk result (λ look. IfSome (entry_of look.look) (λ e. K.eq key.now e.kept.key ≡ true)) }
+        ensures kind { IfOk result (λ look. look.kind ≡ self.now.kind) }
     {
-        let mut lent = Lent::new(spawner);
-        Ok(match self {
-            Cache::FifoCache(cache) => GetOrFetch::Fifo(cache.get_or_fetch_inner(
-                key, fo, fr, context, &mut lent,
-            )?),
-            Cache::S3FifoCache(cache) => GetOrFetch::S3Fifo(cache.get_or_fetch_inner(
-                key, fo, fr, context, &mut lent,
-            )?),
-            Cache::LruCache(cache) => GetOrFetch::Lru(cache.get_or_fetch_inner(
-                key, fo, fr, context, &mut lent,
-            )?),
-            Cache::LfuCache(cache) => GetOrFetch::Lfu(cache.get_or_fetch_inner(
-                key, fo, fr, context, &mut lent,
-            )?),
-            Cache::SieveCache(cache) => GetOrFetch::Sieve(cache.get_or_fetch_inner(
-                key, fo, fr, context, &mut lent,
-            )?),
+        Ok(GetOrFetch {
+            look: self
+                .cache
+                .get_or_fetch_inner(key, fo, fr, context, spawner)?,
+            kind: self.kind,
         })
     }
 }
@@ -86,8 +72,8 @@ where
     Q: Pipe<Key = K, Value = V, Properties = P>,
     R: RequiredFetch<K, V, P>,
 {
-    /// An entry of the key's record, or a wait for its fetch, as `get_or_fetch_inner` answers. The closure is called on a
-    /// hit too; its future, which may be polled, is the required fetch.
+    /// An entry of the key's record, or a wait for its fetch, as `get_or_fetch_inner` answers, by one look-up. The closure is
+    /// called on a hit too; its future, which may be polled, is the required fetch.
     pub fn get_or_fetch<F, X>(
         &self,
         key: &K,
@@ -100,12 +86,12 @@ where
         requires clones { (k c : K) → K.is_clone k c → K.eq c k ≡ true }
         requires callable { F.IsAlwaysCallable fetch }
         requires futures { (r : _) → F.post fetch r → R.can_poll r }
-        ensures key { IfOk result (λ look. IfSome (entry_of look) (λ e. K.eq key.now (held e).kept.key ≡ true)) }
-        ensures kind { IfOk result (λ look. kind_of_look look ≡ kind_of self.now) }
+        ensures key { IfOk result (λ look. IfSome (entry_of look.look) (λ e. K.eq key.now e.kept.key ≡ true)) }
+        ensures kind { IfOk result (λ look. look.kind ≡ self.now.kind) }
     {
-        let given = Given {
-            fetch: Pollable::new(fetch()),
-        };
-        self.get_or_fetch_inner(key, || None::<NoFetch>, || Some(given), (), spawner)
+        Ok(GetOrFetch {
+            look: self.cache.get_or_fetch(key, fetch, spawner)?,
+            kind: self.kind,
+        })
     }
 }

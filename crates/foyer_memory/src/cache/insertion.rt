@@ -1,8 +1,6 @@
 //! Records that come into a cache.
 
 ghost use Rattle.std.specs.Prelude.{◌≡◌, IfOk, true};
-ghost use Rattle.foyer_memory.specs.Caches.{kind_of};
-ghost use Rattle.foyer_memory.specs.Entries.{held, kind_of_entry};
 
 use super::Cache;
 use crate::entry::CacheEntry;
@@ -28,10 +26,13 @@ where
     /// Puts a value in under a key, with default properties, as `insert_with_properties` does.
     pub fn insert(&self, key: K, value: V) -> Result<CacheEntry<H, K, V, S, P, W, A, L, Q, T, I>>
         requires clones { (k c : K) → K.is_clone k c → K.eq c k ≡ true }
-        ensures entry { IfOk result (λ e. ((held e).kept.key ≡ key) × ((held e).kept.value ≡ value)) }
-        ensures kind { IfOk result (λ e. kind_of_entry e ≡ kind_of self.now) }
+        ensures entry { IfOk result (λ e. (e.entry.kept.key ≡ key) × (e.entry.kept.value ≡ value)) }
+        ensures kind { IfOk result (λ e. e.kind ≡ self.now.kind) }
     {
-        self.insert_with_properties(key, value, P::default())
+        Ok(CacheEntry {
+            entry: self.cache.insert(key, value)?,
+            kind: self.kind,
+        })
     }
 
     /// Puts a record in, and answers an entry of it. The weighter is asked, and then the filter, before the lock. Those who
@@ -47,25 +48,12 @@ where
         properties: P,
     ) -> Result<CacheEntry<H, K, V, S, P, W, A, L, Q, T, I>>
         requires clones { (k c : K) → K.is_clone k c → K.eq c k ≡ true }
-        ensures entry { IfOk result (λ e. ((held e).kept.key ≡ key) × ((held e).kept.value ≡ value)) }
-        ensures kind { IfOk result (λ e. kind_of_entry e ≡ kind_of self.now) }
+        ensures entry { IfOk result (λ e. (e.entry.kept.key ≡ key) × (e.entry.kept.value ≡ value)) }
+        ensures kind { IfOk result (λ e. e.kind ≡ self.now.kind) }
     {
-        Ok(match self {
-            Cache::FifoCache(cache) => CacheEntry::Fifo(cache.insert_with_properties(
-                key, value, properties,
-            )?),
-            Cache::S3FifoCache(cache) => CacheEntry::S3Fifo(cache.insert_with_properties(
-                key, value, properties,
-            )?),
-            Cache::LruCache(cache) => CacheEntry::Lru(cache.insert_with_properties(
-                key, value, properties,
-            )?),
-            Cache::LfuCache(cache) => CacheEntry::Lfu(cache.insert_with_properties(
-                key, value, properties,
-            )?),
-            Cache::SieveCache(cache) => CacheEntry::Sieve(cache.insert_with_properties(
-                key, value, properties,
-            )?),
+        Ok(CacheEntry {
+            entry: self.cache.insert_with_properties(key, value, properties)?,
+            kind: self.kind,
         })
     }
 
@@ -76,14 +64,11 @@ where
         piece: Piece<K, V, P>,
     ) -> Result<CacheEntry<H, K, V, S, P, W, A, L, Q, T, I>>
         requires clones { (k c : K) → K.is_clone k c → K.eq c k ≡ true }
-        ensures kind { IfOk result (λ e. kind_of_entry e ≡ kind_of self.now) }
+        ensures kind { IfOk result (λ e. e.kind ≡ self.now.kind) }
     {
-        Ok(match self {
-            Cache::FifoCache(cache) => CacheEntry::Fifo(cache.insert_piece(piece)?),
-            Cache::S3FifoCache(cache) => CacheEntry::S3Fifo(cache.insert_piece(piece)?),
-            Cache::LruCache(cache) => CacheEntry::Lru(cache.insert_piece(piece)?),
-            Cache::LfuCache(cache) => CacheEntry::Lfu(cache.insert_piece(piece)?),
-            Cache::SieveCache(cache) => CacheEntry::Sieve(cache.insert_piece(piece)?),
+        Ok(CacheEntry {
+            entry: self.cache.insert_piece(piece)?,
+            kind: self.kind,
         })
     }
 }

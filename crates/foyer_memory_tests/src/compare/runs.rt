@@ -12,7 +12,10 @@ use std::test::Fail;
 fn agree<H: Wait + Log + RandomSource + Alloc<A = Global> + Copy + Drop, E: Eviction>(
     rt: H,
     config: EvictionConfig,
-) -> Outcome {
+) -> Outcome
+where
+    E::Config: Default,
+{
     let alloc = rt.alloc();
     let heard = Notes::new(alloc)?;
     let cache = builder(8, config, &heard)?

@@ -1,6 +1,6 @@
 //! Look-ups that fetch what is missing.
 
-ghost use Rattle.std.specs.Prelude.{◌≡◌, IfOk, IfSome, IsSome, true};
+ghost use Rattle.std.specs.Prelude.{◌≡◌, ◌<◌, IfOk, IfSome, IsSome, true};
 
 use super::RawCache;
 use crate::fetch::{
@@ -8,11 +8,24 @@ use crate::fetch::{
     RequiredFetch, Spawner,
 };
 use crate::pipe::Pipe;
-use crate::ticket::{Answer, Waiter};
+use crate::shares::Shares;
+use crate::ticket::{Answer, Notifier, Waiter};
 use foyer_core::{Filter, Finder, Lookup, Weighter};
 use foyer_policy::{EventListener, Eviction, HashBuilder, Key, Properties, Result, Value};
 use futures::channel::oneshot;
 use std::sync::Wait;
+
+/// What a look-up takes along that may have to wait: shares of the cache for an entry or a wait and for a task, the key's
+/// hash and a clone of it, and both ends of a channel.
+#[derive(Drop)]
+struct Asking<C, K: Drop, V: Drop, P: Drop> {
+    shares: C,
+    task: C,
+    hash: u64,
+    own: K,
+    notifier: Notifier<Answer<K, V, P>>,
+    waiter: Waiter<Answer<K, V, P>>,
+}
 
 impl<H, E, K, V, S, P, W, A, L, Q, T, I> RawCache<H, E, K, V, S, P, W, A, L, Q, T, I>
 where
@@ -33,7 +46,8 @@ where
 
     /// An entry of the key's record, where a get finds one. Else a wait for the fetch of the key: for the one that is open,
     /// to which the required builder is lent where it has none, or for a new one, whose task the spawner gets. The required
-    /// builder is asked for once where the key is missing, and the optional one once where a new fetch begins.
+    /// builder is asked for once where the key is missing, and the optional one once where a new fetch begins, both with no
+    /// lock held.
     ///
     /// Room is made first (F7, also on a hit). Then it is refused on a hit as `get` is (F9, F7), and on a miss where a
     /// number is missing (F10), and then for want of memory (F7).
@@ -55,18 +69,60 @@ where
         ensures { IfOk result (elim [ Hit entry ↦ IfSome entry (λ e. K.eq key.now e.kept.key ≡ true) | Miss _ ↦ Unit {0} ]) }
     {
         spawner.reserve()?;
-        let (notifier, waiter) = oneshot::channel(self.shares.shared.alloc)?;
-        let own = key.clone()?;
-        let task = self.shares.try_clone()?;
-        let shares = self.shares.try_clone()?;
-        let hash = self.hash(key);
-        if let Some(core) = self.shares.shared.get(hash, key)? {
+        let asking = self.asking(key)?;
+        if let Some(core) = self.shares.shared.shards.get(asking.hash, key)? {
+            let Asking { shares, .. } = asking;
             return Ok(RawGetOrFetch::Hit(Some(shares.entry(core))));
         }
-        let required = fr();
+        self.ask(key, asking, fr(), fo, context, spawner)
+    }
+
+    // What a look-up of a key takes along. Only memory can be missing (F7).
+    fn asking(
+        &self,
+        key: &K,
+    ) -> Result<Asking<Shares<H, E, K, V, S, P, W, A, L, Q, T::Required, I>, K, V, P>> {
+        let (notifier, waiter) = oneshot::channel(self.shares.shared.shards.alloc)?;
+        Ok(Asking {
+            own: key.clone()?,
+            task: self.shares.try_clone()?,
+            shares: self.shares.try_clone()?,
+            hash: self.hash(key),
+            notifier,
+            waiter,
+        })
+    }
+
+    // An entry of the key's record, or a wait, by one look-up under one lock. There is room for a task.
+    fn ask<O, X>(
+        &self,
+        key: &K,
+        asking: Asking<Shares<H, E, K, V, S, P, W, A, L, Q, T::Required, I>, K, V, P>,
+        required: Option<T::Required>,
+        fo: O,
+        context: T::Context,
+        spawner: &mut X,
+    ) -> Result<RawGetOrFetch<H, E, K, V, S, P, W, A, L, Q, T::Required, I>>
+    where
+        O: FnOnce() -> Option<T::Optional>,
+        X: Spawner<RawFetch<H, E, K, V, S, P, W, A, L, Q, T, I>>,
+        requires clones { (k c : K) → K.is_clone k c → K.eq c k ≡ true }
+        requires optional { O.IsAlwaysCallable fo }
+        requires room { 0 < X.room spawner.old }
+        ensures { IfOk result (elim [ Hit entry ↦ IfSome entry (λ e. K.eq key.now e.kept.key ≡ true) | Miss _ ↦ Unit {0} ]) }
+    {
+        let Asking {
+            shares,
+            task,
+            hash,
+            own,
+            notifier,
+            waiter,
+        } = asking;
         match self
             .shares
             .shared
+            .shards
             .get_or_enqueue(hash, key, required, notifier)?
         {
             Lookup::Hit(core) => Ok(RawGetOrFetch::Hit(Some(shares.entry(core)))),
@@ -86,7 +142,7 @@ where
                 spawner.spawn(RawFetch::new(task, begin));
                 Ok(RawGetOrFetch::Miss(RawWait::new(shares, waiter)))
             }
-            Lookup::Wait { token: _ } => { Ok(RawGetOrFetch::Miss(RawWait::new(shares, waiter))) }
+            Lookup::Wait { token: _ } => Ok(RawGetOrFetch::Miss(RawWait::new(shares, waiter))),
         }
     }
 
@@ -121,8 +177,8 @@ where
 {
     ghost use Rattle.foyer_raw.specs.declared.fetch.wait.RawGetOrFetch.TheVariants.{Hit, Miss};
 
-    /// An entry of the key's record, or a wait for its fetch, as `get_or_fetch_inner` answers. The closure is called on a
-    /// hit too; its future, which may be polled, is the required fetch.
+    /// An entry of the key's record, or a wait for its fetch, as `get_or_fetch_inner` answers, by one look-up. The closure is
+    /// called on a hit too; its future, which may be polled, is the required fetch.
     pub fn get_or_fetch<F, X>(
         &self,
         key: &K,
@@ -140,6 +196,8 @@ where
         let given = Given {
             fetch: Pollable::new(fetch()),
         };
-        self.get_or_fetch_inner(key, || None::<NoFetch>, || Some(given), (), spawner)
+        spawner.reserve()?;
+        let asking = self.asking(key)?;
+        self.ask(key, asking, Some(given), || None::<NoFetch>, (), spawner)
     }
 }

@@ -6,9 +6,9 @@ use super::RawCache;
 use crate::entry::RawCacheEntry;
 use crate::fetch::FetchTypes;
 use crate::pipe::Pipe;
-use crate::shared::RawInserted;
+use crate::shards::RawInserted;
 use crate::shares::Shares;
-use foyer_core::{Filter, Finder, Inserted, Piece, Refused, Weighter};
+use foyer_core::{Filter, Finder, InsertedOnto, Leave, Piece, Weighter};
 use foyer_policy::{
     Error, EventListener, Eviction, HashBuilder, Key, Properties, Reason, Result, Source, Value,
 };
@@ -58,14 +58,19 @@ where
     {
         let shares = self.shares.try_clone();
         let hash = self.hash(&key);
-        let kept = self.shares.shared.kept(hash, key, value, properties);
+        let kept = self.shares.shared.data(hash, key, value, properties);
         let shares = match shares {
             Ok(shares) => shares,
-            Err(refused) => return Err(first_of(self.shares.shared.refuses_insert(&kept), refused)),
+            Err(refused) => return Err(first_of(
+                self.shares.shared.shards.refuses_insert(&kept),
+                refused,
+            )),
         };
-        match self.shares.shared.emplace(kept, Source::Outer) {
-            Ok(made) => Ok(self.came_in(shares, made)),
-            Err(refused) => Err(self.refused(refused)),
+        let shards = &self.shares.shared.shards;
+        let mut leaves = Vec::new(shards.alloc);
+        match shards.emplace(kept, Source::Outer, &mut leaves) {
+            Ok(made) => Ok(self.came_in(shares, made, leaves)),
+            Err(error) => Err(self.refused(error, leaves)),
         }
     }
 
@@ -84,12 +89,17 @@ where
         let shares = match shares {
             Ok(shares) => shares,
             Err(refused) => {
-                return Err(first_of(shared.refuses_piece(hash, weight, &piece), refused));
+                let reason = shared.shards.refuses_piece(hash, weight, &piece);
+                return Err(first_of(reason, refused));
             }
         };
-        match self.shares.shared.take(hash, weight, piece) {
-            Ok(made) => Ok(self.came_in(shares, made)),
-            Err(refused) => Err(self.refused(refused)),
+        let mut leaves = Vec::new(shared.shards.alloc);
+        match shared
+            .shards
+            .emplace_piece(piece, hash, weight, &mut leaves)
+        {
+            Ok(made) => Ok(self.came_in(shares, made, leaves)),
+            Err(error) => Err(self.refused(error, leaves)),
         }
     }
 
@@ -98,22 +108,18 @@ where
         &self,
         shares: Shares<H, E, K, V, S, P, W, A, L, Q, T::Required, I>,
         made: RawInserted<K, V, P>,
+        leaves: Vec<Leave<K, V, P>>,
     ) -> RawCacheEntry<H, E, K, V, S, P, W, A, L, Q, T::Required, I>
         ensures { result ≡ made.entry }
     {
-        let Inserted {
-            entry,
-            answers,
-            leaves,
-        } = made;
+        let InsertedOnto { entry, answers } = made;
         self.shares.answer(answers);
         self.shares.tell_all(leaves);
         shares.entry(entry)
     }
 
     // Why nothing came in, once what left all the same is told.
-    fn refused(&self, refused: Refused<K, V, P>) -> Error {
-        let Refused { error, leaves } = refused;
+    fn refused(&self, error: Error, leaves: Vec<Leave<K, V, P>>) -> Error {
         self.shares.tell_all(leaves);
         error
     }

@@ -7,7 +7,7 @@ use crate::entry::RawCacheEntry;
 use crate::fetch::FetchTypes;
 use crate::pipe::Pipe;
 use crate::shares::Shares;
-use foyer_core::{Filter, Finder, Weighter};
+use foyer_core::Finder;
 use foyer_policy::{
     Error, Event, EventListener, Eviction, HashBuilder, Key, Properties, Result, Value,
 };
@@ -21,13 +21,18 @@ where
     V: Value,
     S: HashBuilder,
     P: Properties,
-    W: Weighter<K, V>,
-    A: Filter<K, V>,
+    W: Drop,
+    A: Drop,
     L: EventListener<Key = K, Value = V>,
     I: Finder<K>,
     Q: Pipe<Key = K, Value = V, Properties = P>,
     T: FetchTypes<K, V, P>,
 {
+    /// The hash of a key. Equal keys have equal ones.
+    pub fn hash(&self, key: &K) -> u64 {
+        self.shares.shared.hash_builder.hash_one(key)
+    }
+
     /// An entry of the key's record, where a get finds one, which counts as a handle and as a use. Refused at the limit
     /// of handles (F9), or where something can't be shared (F7). It allocates nothing.
     pub fn get(
@@ -38,7 +43,7 @@ where
     {
         let hash = self.hash(key);
         let shares = self.shares_for(hash, key)?;
-        match self.shares.shared.get(hash, key)? {
+        match self.shares.shared.shards.get(hash, key)? {
             Some(core) => Ok(Some(shares.entry(core))),
             None => Ok(None),
         }
@@ -54,7 +59,7 @@ where
     {
         let hash = self.hash(key);
         let shares = self.shares_for(hash, key)?;
-        match self.shares.shared.remove(hash, key)? {
+        match self.shares.shared.shards.remove(hash, key)? {
             Some((core, left)) => {
                 self.shares.tell((Event::Remove, left));
                 Ok(Some(shares.entry(core)))
@@ -73,7 +78,7 @@ where
             Ok(shares) => return Ok(shares),
             Err(refused) => refused,
         };
-        match self.shares.shared.refuses_get(hash, key) {
+        match self.shares.shared.shards.refuses_get(hash, key) {
             Some(reason) => Err(Error::new(reason)),
             None => Err(refused),
         }
@@ -83,12 +88,12 @@ where
     /// takes no memory.
     pub fn touch(&self, key: &K) -> Result<bool> {
         let hash = self.hash(key);
-        self.shares.shared.touch(hash, key)
+        self.shares.shared.shards.touch(hash, key)
     }
 
     /// Whether a get finds the key. It takes no memory.
     pub fn contains(&self, key: &K) -> bool {
         let hash = self.hash(key);
-        self.shares.shared.contains(hash, key)
+        self.shares.shared.shards.contains(hash, key)
     }
 }

@@ -9,10 +9,8 @@ use super::state::{RawFetchState, TaskEvent};
 use super::types::{FetchTypes, OptionalFuture, RequiredFuture};
 use crate::pipe::Pipe;
 use crate::shares::Shares;
-use foyer_core::{Filter, Finder, TagFinder, Weighter};
-use foyer_policy::{
-    Error, EventListener, Eviction, Fault, HashBuilder, Key, Properties, Reason, Value,
-};
+use foyer_core::{Finder, TagFinder};
+use foyer_policy::{Error, EventListener, Eviction, Fault, Key, Properties, Reason, Value};
 use futures::Future;
 use futures::task::{Context, Poll};
 use std::fmt::{self, Debug};
@@ -29,10 +27,10 @@ where
     E: Eviction,
     K: Key,
     V: Value,
-    S: HashBuilder,
+    S: Drop,
     P: Properties,
-    W: Weighter<K, V>,
-    A: Filter<K, V>,
+    W: Drop,
+    A: Drop,
     L: EventListener<Key = K, Value = V>,
     I: Finder<K>,
     Q: Pipe<Key = K, Value = V, Properties = P>,
@@ -78,10 +76,10 @@ where
     E: Eviction,
     K: Key,
     V: Value,
-    S: HashBuilder,
+    S: Drop,
     P: Properties,
-    W: Weighter<K, V>,
-    A: Filter<K, V>,
+    W: Drop,
+    A: Drop,
     L: EventListener<Key = K, Value = V>,
     I: Finder<K>,
     Q: Pipe<Key = K, Value = V, Properties = P>,
@@ -149,10 +147,10 @@ where
     E: Eviction,
     K: Key,
     V: Value,
-    S: HashBuilder,
+    S: Drop,
     P: Properties,
-    W: Weighter<K, V>,
-    A: Filter<K, V>,
+    W: Drop,
+    A: Drop,
     L: EventListener<Key = K, Value = V>,
     I: Finder<K>,
     Q: Pipe<Key = K, Value = V, Properties = P>,
@@ -177,7 +175,7 @@ where
         }
         if let Some(key) = key {
             let error = Error::new(Reason::TaskCancelled);
-            shares.ended(shares.shared.end(hash, &key, id, error));
+            shares.ended(shares.shared.shards.end(hash, &key, id, error));
         }
     }
 }
@@ -188,10 +186,10 @@ where
     E: Eviction,
     K: Key,
     V: Value,
-    S: HashBuilder,
+    S: Drop,
     P: Properties,
-    W: Weighter<K, V>,
-    A: Filter<K, V>,
+    W: Drop,
+    A: Drop,
     L: EventListener<Key = K, Value = V>,
     I: Finder<K>,
     Q: Pipe<Key = K, Value = V, Properties = P>,

@@ -84,10 +84,9 @@ impl<
         ensures capacity { vec_capacity self.new.handles ≡ vec_capacity self.old.handles }
         ensures pieces { self.new.pieces ≡ self.old.pieces }
     {
-        let answer = match self.core.reconfigure(config) {
-            Ok(()) => Answer::Done,
-            Err(error) => Answer::Refused(error),
-        };
-        Reply::new(answer, Vec::new(self.alloc))
+        match self.core.reconfigure(config) {
+            Ok(()) => Reply::new(Answer::Done, Vec::new(self.alloc)),
+            Err(error) => Reply::new(Answer::Refused(error), Vec::new(self.alloc)),
+        }
     }
 }

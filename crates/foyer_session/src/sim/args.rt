@@ -1,9 +1,10 @@
 //! The arguments of the program.
 
 ghost use Rattle.std.specs.Prelude.{◌≡◌, map, string_bytes};
-ghost use Rattle.foyer_session.specs.Args.{args_of, policy_of};
+ghost use Rattle.foyer_session.specs.Args.{args_of, config_of, policy_of};
 
 use crate::text::{is_word, number_of};
+use foyer_policy::{EvictionConfig, FifoConfig, LfuConfig, LruConfig, S3FifoConfig, SieveConfig};
 
 /// The policy that a program's cache has.
 #[derive(Clone, Copy, Debug, PartialEq, Eq)]
@@ -18,6 +19,21 @@ pub enum SimPolicy {
     S3Fifo,
     /// Sieve: a queue with a hand.
     Sieve,
+}
+
+impl SimPolicy {
+    /// The policy's default configuration.
+    pub fn config(self) -> EvictionConfig
+        ensures { result ≡ config_of self }
+    {
+        match self {
+            SimPolicy::Fifo => EvictionConfig::Fifo(FifoConfig {}),
+            SimPolicy::Lru => EvictionConfig::Lru(LruConfig::default()),
+            SimPolicy::Lfu => EvictionConfig::Lfu(LfuConfig::default()),
+            SimPolicy::S3Fifo => EvictionConfig::S3Fifo(S3FifoConfig::default()),
+            SimPolicy::Sieve => EvictionConfig::Sieve(SieveConfig),
+        }
+    }
 }
 
 /// What a program is asked for.

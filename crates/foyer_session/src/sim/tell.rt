@@ -1,6 +1,6 @@
 //! What is printed for a line.
 
-ghost use Rattle.std.specs.Prelude.{◌≡◌, ℕ, List, [], ◌++◌, None, codes};
+ghost use Rattle.std.specs.Prelude.{◌≡◌, ℕ, List, [], ◌++◌, codes};
 ghost use Rattle.std.specs.Hash.{u64 as u64_input};
 ghost use Rattle.foyer_policy.specs.Errors.{number_of};
 ghost use Rattle.foyer_session.specs.Print.{WritesText};
@@ -9,59 +9,55 @@ ghost use Rattle.foyer_session.specs.Printed.{answer_text, refusal_text, rest_te
 ghost use Rattle.foyer_session.specs.Sessions.{session_of, meaning_of_session};
 ghost use Rattle.foyer_policy.specs.declared.types.Source.TheVariants.{Outer};
 ghost use Rattle.foyer_session.specs.Simulated.{CommandTold, LineTold, asked_by, line_text, plain, phantom};
-ghost use Rattle.foyer_session.specs.declared.command.Command.TheVariants.{Complete, Insert};
+ghost use Rattle.foyer_policy.specs.declared.eviction_config.EvictionConfig.TheVariants.{Lru};
+ghost use Rattle.foyer_session.specs.declared.command.Command.TheVariants.{Complete, Insert, Reconfigure};
 ghost use Rattle.foyer_session.specs.declared.command.End.TheVariants.{Value};
 
-use super::high::HighRatio;
+use super::SimSession;
 use super::reply::{write_answer, write_refusal, write_rest};
-use super::value::{SimValue, SimWeighter};
+use super::value::SimValue;
 use crate::command::{Command, End, Reply};
 use crate::predicate::NoPredicate;
-use crate::session::Session;
 use crate::text::{Line, write_out};
-use foyer_core::{AdmitAll, CacheProperties, Finder};
-use foyer_policy::{Error, Eviction, HashBuilder, Properties, Reason, Source};
+use foyer_core::{CacheProperties, Finder};
+use foyer_policy::{Error, EvictionConfig, HashBuilder, LruConfig, Properties, Ratio, Source};
 use std::io;
 use std::io::Write;
 
-type SimCommand<C> = Command<u64, SimValue, CacheProperties, NoPredicate, C>;
+type SimCommand = Command<u64, SimValue, CacheProperties, NoPredicate, EvictionConfig>;
 
 /// What a line asks for.
 #[derive(Drop)]
-pub enum Asked<C> {
+pub enum Asked {
     /// Nothing, and nothing is printed.
     Nothing,
     /// Nothing that there is.
     NoLine,
-    /// A share of the pool of high priority, of a policy that has none.
-    NoPool,
     /// That a command be carried out.
-    Carry(SimCommand<C>),
+    Carry(SimCommand),
 }
 
 /// Carries out a line, and writes what is printed for it.
-pub fn tell<W: Write, E: Eviction, S: HashBuilder, I: Finder<u64>, H: HighRatio<E::Config>>(
+pub fn tell<W: Write, S: HashBuilder, I: Finder<u64>>(
     writer: &mut W,
-    session: &mut Session<E, u64, SimValue, CacheProperties, S, SimWeighter, AdmitAll, I>,
-    high: &H,
+    session: &mut SimSession<S, I>,
     line: Line,
 ) -> io::Result<()>
     ensures { (text : List ℕ)
         × LineTold (meaning_of_session session.old) (λ builder key. S.hash_of builder (u64_input key))
-        (H.config_of high.now) (session_of session.old) line text (session_of session.new)
+        (session_of session.old) line text (session_of session.new)
         × WritesText (W.contents writer.old) (W.contents writer.new) result text }
 {
-    match asked_by(high, line) {
+    match asked_by(line) {
         Asked::Nothing => Ok(()),
         Asked::NoLine => tell_bad(writer, session),
-        Asked::NoPool => tell_wrong_policy(writer, session),
         Asked::Carry(command) => tell_command(writer, session, command),
     }
 }
 
-// What a line asks for, by a policy whose configurations of shares are those of `high`.
-fn asked_by<C, H: HighRatio<C>>(high: &H, line: Line) -> Asked<C>
-    ensures { result ≡ asked_by (H.config_of high.now) line }
+// What a line asks for.
+fn asked_by(line: Line) -> Asked
+    ensures { result ≡ asked_by line }
 {
     match line {
         Line::Blank => Asked::Nothing,
@@ -76,10 +72,7 @@ fn asked_by<C, H: HighRatio<C>>(high: &H, line: Line) -> Asked<C>
         Line::Clear => Asked::Carry(Command::Clear),
         Line::Evict => Asked::Carry(Command::EvictAll),
         Line::Resize(capacity) => Asked::Carry(Command::Resize(capacity)),
-        Line::High(ratio) => match high.config(ratio) {
-            Some(config) => Asked::Carry(Command::Reconfigure(config)),
-            None => Asked::NoPool,
-        },
+        Line::High(ratio) => Asked::Carry(reconfiguration(ratio)),
         Line::Fetch(key) => Asked::Carry(Command::GetOrFetch(key, None)),
         Line::Done { key, fetch, value } => Asked::Carry(completion(key, fetch, value)),
         Line::Cancel { key, fetch } => Asked::Carry(Command::Cancel(key, fetch)),
@@ -87,22 +80,32 @@ fn asked_by<C, H: HighRatio<C>>(high: &H, line: Line) -> Asked<C>
 }
 
 // The insert of a plain record.
-fn plain_insert<C>(key: u64, value: u64, weight: usize) -> SimCommand<C>
+fn plain_insert(key: u64, value: u64, weight: usize) -> SimCommand
     ensures { result ≡ Insert key (record { value = value; weight = weight }) plain }
 {
     Command::Insert(key, SimValue { value, weight }, CacheProperties::default())
 }
 
 // The insert of a phantom record.
-fn phantom_insert<C>(key: u64, value: u64, weight: usize) -> SimCommand<C>
+fn phantom_insert(key: u64, value: u64, weight: usize) -> SimCommand
     ensures { result ≡ Insert key (record { value = value; weight = weight }) phantom }
 {
     let properties = CacheProperties::default().with_phantom(true);
     Command::Insert(key, SimValue { value, weight }, properties)
 }
 
+// The configuration of LRU whose pool of high priority has this share.
+fn reconfiguration(ratio: Ratio) -> SimCommand
+    ensures { result ≡ Reconfigure (Lru (record { high_priority_pool_ratio = ratio })) }
+{
+    let config = LruConfig {
+        high_priority_pool_ratio: ratio,
+    };
+    Command::Reconfigure(EvictionConfig::Lru(config))
+}
+
 // The end of a fetch with a plain record of the weight 1, which comes from outside.
-fn completion<C>(key: u64, fetch: u64, value: u64) -> SimCommand<C>
+fn completion(key: u64, fetch: u64, value: u64) -> SimCommand
     ensures { result ≡ Complete key fetch (Value (record { value = value; weight = 1 }) plain Outer) }
 {
     let value = SimValue { value, weight: 1 };
@@ -114,10 +117,10 @@ fn completion<C>(key: u64, fetch: u64, value: u64) -> SimCommand<C>
 }
 
 // Carries out a command. Where memory was missing for it, nothing has changed.
-fn tell_command<W: Write, E: Eviction, S: HashBuilder, I: Finder<u64>>(
+fn tell_command<W: Write, S: HashBuilder, I: Finder<u64>>(
     writer: &mut W,
-    session: &mut Session<E, u64, SimValue, CacheProperties, S, SimWeighter, AdmitAll, I>,
-    command: SimCommand<E::Config>,
+    session: &mut SimSession<S, I>,
+    command: SimCommand,
 ) -> io::Result<()>
     ensures { (text : List ℕ)
         × CommandTold (meaning_of_session session.old) (λ builder key. S.hash_of builder (u64_input key))
@@ -160,22 +163,10 @@ fn tell_refusal<W: Write>(
     write_rest::<W, CacheProperties>(writer, &[], usage, entries)
 }
 
-// Says that the policy has no pool of high priority.
-fn tell_wrong_policy<W: Write, E: Eviction, S: HashBuilder, I: Finder<u64>>(
-    writer: &mut W,
-    session: &Session<E, u64, SimValue, CacheProperties, S, SimWeighter, AdmitAll, I>,
-) -> io::Result<()>
-    ensures { WritesText (W.contents writer.old) (W.contents writer.new) result
-        (line_text (meaning_of_session session.now) (refusal_text 17) [] (session_of session.now)) }
-{
-    let error = Error::new(Reason::WrongPolicy);
-    tell_refusal(writer, &error, session.usage(), session.entries())
-}
-
 // Says that a line is none.
-fn tell_bad<W: Write, E: Eviction, S: HashBuilder, I: Finder<u64>>(
+fn tell_bad<W: Write, S: HashBuilder, I: Finder<u64>>(
     writer: &mut W,
-    session: &Session<E, u64, SimValue, CacheProperties, S, SimWeighter, AdmitAll, I>,
+    session: &SimSession<S, I>,
 ) -> io::Result<()>
     ensures { WritesText (W.contents writer.old) (W.contents writer.new) result
         (line_text (meaning_of_session session.now) (codes "bad line") [] (session_of session.now)) }

@@ -1,8 +1,8 @@
-// A run of a session over each policy.
+// A run of a session over each policy, by itself and as one of any.
 
 use super::*;
-use foyer_policy::{Lfu, Lru, S3Fifo, Sieve};
-use foyer_session::{run_fifo, run_lfu, run_lru, run_s3fifo, run_sieve};
+use foyer_policy::{AnyEviction, EvictionConfig, Lfu, Lru, LruConfig, Ratio, S3Fifo, Sieve};
+use foyer_session::run_any;
 
 // Commands of a cache with room for three records. The key 1 is used, and then one record too many comes in.
 fn commands<C: Drop>(alloc: Global) -> Result<Vec<CommandOf<C>>, Fail> {
@@ -26,35 +26,48 @@ fn assert_victim(rt: &impl Abort, alloc: Global, replies: &[Told], key: u64) -> 
     Ok(())
 }
 
-#[test]
-fn a_session_over_fifo_runs(rt: HostRuntime) -> Result<(), Fail> {
-    let replies = run_fifo(&mut session::<Fifo>(rt.alloc(), 3)?, commands(rt.alloc())?)?;
-    assert_victim(&rt, rt.alloc(), replies.as_slice(), 1)
+// This key leaves a session over the policy.
+fn assert_runs<E: Eviction>(rt: &impl Abort, alloc: Global, victim: u64) -> Result<(), Fail>
+where
+    E::Config: Default,
+    EvictionConfig: From<E::Config>,
+{
+    let replies = session::<E>(alloc, 3)?.run(commands(alloc)?)?;
+    assert_victim(rt, alloc, replies.as_slice(), victim)?;
+    let config = EvictionConfig::from(E::Config::default());
+    let replies = run_any(&mut session_with(alloc, 3, config)?, commands(alloc)?)?;
+    assert_victim(rt, alloc, replies.as_slice(), victim)
 }
 
 #[test]
-fn a_session_over_lru_runs(rt: HostRuntime) -> Result<(), Fail> {
-    let replies = run_lru(&mut session::<Lru>(rt.alloc(), 3)?, commands(rt.alloc())?)?;
-    assert_victim(&rt, rt.alloc(), replies.as_slice(), 2)
+fn a_session_over_each_policy_runs(rt: HostRuntime) -> Result<(), Fail> {
+    assert_runs::<Fifo>(&rt, rt.alloc(), 1)?;
+    assert_runs::<Lru>(&rt, rt.alloc(), 2)?;
+    assert_runs::<Lfu>(&rt, rt.alloc(), 2)?;
+    assert_runs::<S3Fifo>(&rt, rt.alloc(), 2)?;
+    assert_runs::<Sieve>(&rt, rt.alloc(), 2)
 }
 
+// A configuration that is another policy's is refused as such, whatever its fault.
 #[test]
-fn a_session_over_lfu_runs(rt: HostRuntime) -> Result<(), Fail> {
-    let replies = run_lfu(&mut session::<Lfu>(rt.alloc(), 3)?, commands(rt.alloc())?)?;
-    assert_victim(&rt, rt.alloc(), replies.as_slice(), 2)
-}
-
-#[test]
-fn a_session_over_s3fifo_runs(rt: HostRuntime) -> Result<(), Fail> {
-    let replies = run_s3fifo(
-        &mut session::<S3Fifo>(rt.alloc(), 3)?,
-        commands(rt.alloc())?,
-    )?;
-    assert_victim(&rt, rt.alloc(), replies.as_slice(), 2)
-}
-
-#[test]
-fn a_session_over_sieve_runs(rt: HostRuntime) -> Result<(), Fail> {
-    let replies = run_sieve(&mut session::<Sieve>(rt.alloc(), 3)?, commands(rt.alloc())?)?;
-    assert_victim(&rt, rt.alloc(), replies.as_slice(), 2)
+fn a_session_takes_its_own_configurations_alone(rt: HostRuntime) -> Result<(), Fail> {
+    let alloc = rt.alloc();
+    let mut session: SessionOf<AnyEviction> = session_with(alloc, 3, EvictionConfig::default())?;
+    let faulty = LruConfig {
+        high_priority_pool_ratio: Ratio { num: 2, den: 1 },
+    };
+    for (config, number) in [
+        (EvictionConfig::from(FifoConfig {}), Some(17)),
+        (EvictionConfig::from(faulty), Some(3)),
+        (EvictionConfig::default(), None),
+    ] {
+        let command: CommandOf<EvictionConfig> = Command::Reconfigure(config);
+        let refused = match session.step(command)?.answer {
+            Answer::Refused(error) => Some(error.number()),
+            Answer::Done => None,
+            _ => panic!(&rt; "another answer"),
+        };
+        assert_eq!(rt; refused, number);
+    }
+    Ok(())
 }

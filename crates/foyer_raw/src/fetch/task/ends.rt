@@ -5,7 +5,7 @@ ghost use Rattle.std.specs.Prelude.{◌≡◌, true};
 use super::RawFetch;
 use crate::fetch::FetchTypes;
 use crate::pipe::Pipe;
-use crate::shared::Later;
+use crate::shards::Later;
 use crate::ticket::{Waiters, refuse, tell_none};
 use foyer_core::{FetchOrTake, FetchTarget, Filter, Finder, Piece, Weighter};
 use foyer_policy::{
@@ -31,7 +31,7 @@ where
     // Whether the fetch is open.
     pub(super) fn is_open(&self) -> bool {
         match &self.key {
-            Some(key) => self.shares.shared.is_open(self.hash, key, self.id),
+            Some(key) => self.shares.shared.shards.is_open(self.hash, key, self.id),
             None => false,
         }
     }
@@ -42,7 +42,7 @@ where
         let Some(key) = key else {
             return;
         };
-        if !self.shares.shared.is_open(self.hash, &key, self.id) {
+        if !self.shares.shared.shards.is_open(self.hash, &key, self.id) {
             return;
         }
         match target {
@@ -55,8 +55,8 @@ where
 
     // Ends the fetch with a value.
     fn complete_value(&self, key: K, value: V, properties: P, source: Source) {
-        let kept = self.shares.shared.kept(self.hash, key, value, properties);
-        let ended = self.shares.shared.complete(self.id, kept, source);
+        let kept = self.shares.shared.data(self.hash, key, value, properties);
+        let ended = self.shares.shared.shards.complete(self.id, kept, source);
         self.shares.ended(ended);
     }
 
@@ -75,13 +75,17 @@ where
             return;
         };
         let error = self.refusal(fault);
-        let ended = self.shares.shared.end(self.hash, key, self.id, error);
+        let ended = self
+            .shares
+            .shared
+            .shards
+            .end(self.hash, key, self.id, error);
         self.shares.ended(ended);
     }
 
     // The refusal of a fault, which all who wait share.
     fn refusal(&self, fault: Fault) -> Error {
-        match Arc::new(self.shares.shared.alloc, fault) {
+        match Arc::new(self.shares.shared.shards.alloc, fault) {
             Ok(fault) => Error::new(Reason::Fetch(fault)),
             Err(refused) => Error::from(refused),
         }
@@ -90,7 +94,11 @@ where
     // A builder that one who waits brought, or those who wait. None where the fetch is not open.
     pub(super) fn later(&self) -> Option<Later<K, V, P, T::Required>> {
         match &self.key {
-            Some(key) => self.shares.shared.fetch_or_take(self.hash, key, self.id),
+            Some(key) => self
+                .shares
+                .shared
+                .shards
+                .fetch_or_take(self.hash, key, self.id),
             None => None,
         }
     }

@@ -7,14 +7,14 @@ use Rattle.foyer_session.proofs.sim.simulate.Goals as goal
 pub loop-turn-init : goal.loop-turn-init
 loop-turn-init g c =
     let answers = LineTold (meaning_of_session c.args.session.now)
-    (λ builder key. g.S.HashBuilder.hash_of builder (u64_input key)) (g.H.HighRatio.config_of c.args.high.now) in
+    (λ builder key. g.S.HashBuilder.hash_of builder (u64_input key)) in
     SoFar-none answers (session_of c.args.session.now) (g.R.Read.remaining c.args.reader.now)
     (g.W.Write.contents c.args.writer.now)
 
 pub returns-in_err-line-clause-part : goal.returns-in_err-line-clause-part
 returns-in_err-line-clause-part g c =
     let answers = LineTold (meaning_of_session c.args.session.now)
-    (λ builder key. g.S.HashBuilder.hash_of builder (u64_input key)) (g.H.HighRatio.config_of c.args.high.now) in
+    (λ builder key. g.S.HashBuilder.hash_of builder (u64_input key)) in
     let so_far = SoFar-flushed answers (session_of c.args.session.now) (session_of c.loop-turn.session)
     (g.R.Read.remaining c.args.reader.now) (g.R.Read.remaining c.loop-turn.reader)
     (g.W.Write.contents c.args.writer.now) (g.W.Write.contents c.loop-turn.writer)
@@ -27,7 +27,7 @@ returns-in_err-line-clause-part g c =
 pub returns-in_default-clause-all : goal.returns-in_default-clause-all
 returns-in_default-clause-all g c =
     let answers = LineTold (meaning_of_session c.args.session.now)
-    (λ builder key. g.S.HashBuilder.hash_of builder (u64_input key)) (g.H.HighRatio.config_of c.args.high.now) in
+    (λ builder key. g.S.HashBuilder.hash_of builder (u64_input key)) in
     let so_far = SoFar-flushed answers (session_of c.args.session.now) (session_of c.loop-turn.session)
     (g.R.Read.remaining c.args.reader.now) (g.R.Read.remaining c.loop-turn.reader)
     (g.W.Write.contents c.args.writer.now) (g.W.Write.contents c.loop-turn.writer)
@@ -40,7 +40,7 @@ returns-in_default-clause-all g c =
 pub returns-in_default-clause-at_end : goal.returns-in_default-clause-at_end
 returns-in_default-clause-at_end g c =
     let answers = LineTold (meaning_of_session c.args.session.now)
-    (λ builder key. g.S.HashBuilder.hash_of builder (u64_input key)) (g.H.HighRatio.config_of c.args.high.now) in
+    (λ builder key. g.S.HashBuilder.hash_of builder (u64_input key)) in
     let so_far = SoFar-flushed answers (session_of c.args.session.now) (session_of c.loop-turn.session)
     (g.R.Read.remaining c.args.reader.now) (g.R.Read.remaining c.loop-turn.reader)
     (g.W.Write.contents c.args.writer.now) (g.W.Write.contents c.loop-turn.writer)
@@ -54,7 +54,7 @@ returns-in_default-clause-at_end g c =
 pub returns-in_err-tell-clause-part : goal.returns-in_err-tell-clause-part
 returns-in_err-tell-clause-part g c =
     let answers = LineTold (meaning_of_session c.args.session.now)
-    (λ builder key. g.S.HashBuilder.hash_of builder (u64_input key)) (g.H.HighRatio.config_of c.args.high.now) in
+    (λ builder key. g.S.HashBuilder.hash_of builder (u64_input key)) in
     let so_far = SoFar-flushed answers (session_of c.args.session.now) (session_of c.loop-turn.session)
     (g.R.Read.remaining c.args.reader.now) (g.R.Read.remaining c.loop-turn.reader)
     (g.W.Write.contents c.args.writer.now) (g.W.Write.contents c.loop-turn.writer)
@@ -72,7 +72,7 @@ returns-in_err-tell-clause-part g c =
 pub loop-turn-preserved : goal.loop-turn-preserved
 loop-turn-preserved g c =
     let answers = LineTold (meaning_of_session c.args.session.now)
-    (λ builder key. g.S.HashBuilder.hash_of builder (u64_input key)) (g.H.HighRatio.config_of c.args.high.now) in
+    (λ builder key. g.S.HashBuilder.hash_of builder (u64_input key)) in
     let so_far = SoFar-flushed answers (session_of c.args.session.now) (session_of c.loop-turn.session)
     (g.R.Read.remaining c.args.reader.now) (g.R.Read.remaining c.loop-turn.reader)
     (g.W.Write.contents c.args.writer.now) (g.W.Write.contents c.loop-turn.writer)
@@ -88,7 +88,7 @@ loop-turn-preserved g c =
 pub returns-clause-part : goal.returns-clause-part
 returns-clause-part g c =
     let answers = LineTold (meaning_of_session c.args.session.now)
-    (λ builder key. g.S.HashBuilder.hash_of builder (u64_input key)) (g.H.HighRatio.config_of c.args.high.now) in
+    (λ builder key. g.S.HashBuilder.hash_of builder (u64_input key)) in
     SoFar-stops answers (session_of c.args.session.now) (session_of c.loop-turn.session)
     (g.R.Read.remaining c.args.reader.now) (g.R.Read.remaining c.loop-turn.reader)
     (g.W.Write.contents c.args.writer.now) (g.W.Write.contents c.loop-turn.writer) c.loop-turn.invariant

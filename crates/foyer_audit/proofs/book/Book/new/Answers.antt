@@ -13,7 +13,7 @@ invariant_of-result g c =
     let made = c.new-2.ensures in
     let core = c.in_ok-core.ensures in
     let part = c.shard_capacity-capacity in
-    let none = subst (All (λ f. f ≡ no_opens)) (sym made.fetches) core.fetches in
+    let none = subst (All (λ f. f ≡ no_opens)) (sym made.fetches) core.fetches.0 in
     let opens = opens_over t config c.args.shard part.result (core_of c.in_ok-core.core) s part.ensures core.made
     made.core none made.handles made.pieces in
     record {

@@ -51,7 +51,7 @@ returns g c =
     let x = c.index_mut.result.now in
     let y = c.clone_handle.new.self in
     let did = c.clone_handle.ensures.clones in
-    let over = at_over state_of s.capacity s.hash_builder s.weighter s.filter s.shards.items e.kept.hash
+    let over = at_over state_of s.capacity s.hash_builder s.rules.weighter s.rules.filter s.shards.items e.kept.hash
     (vec_len s.shards) c.shard_index-place.result x
     s.shards.ok.0 c.shard_index-place.ensures.within
     (c.shard_index-place.ensures.index ∙ ap (λ (n : ℕ). n % vec_len s.shards) c.hash.ensures) c.index_mut.ensures.value in
@@ -60,7 +60,7 @@ returns g c =
     λ a b same. ap (g.S.HashBuilder.hash_of s.hash_builder) (g.met.K.Hash.respects_eq a b same) in
     let sound = core_sound s g.met.K.Eq.laws g.met.E.Eviction.lawful equal in
     let step = over (λ a b. ClonesHandle a e c.clone_handle.result b) y did in
-    let new = core_over state_of s.capacity s.hash_builder s.weighter s.filter
+    let new = core_over state_of s.capacity s.hash_builder s.rules.weighter s.rules.filter
     (slice_set s.shards.items c.shard_index-place.result y) in
     record {
       clones = step;

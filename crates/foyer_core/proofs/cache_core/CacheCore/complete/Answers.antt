@@ -12,145 +12,95 @@ use Rattle.foyer_core.proofs.EndLaws.{end_bounded, end_found, end_stays, end_tol
 use Rattle.foyer_core.proofs.Sound.{core_sound}
 use Rattle.foyer_core.proofs.cache_core.CacheCore.complete.Goals as goal
 
-pub returns-in-Entry-clause-completed : goal.returns-in-Entry-clause-completed
-returns-in-Entry-clause-completed g c =
-    let s = c.args.self.now in
-    let t = c.complete_value.new.self in
-    let k : ℕ × g.row.K.Denot = (hashes_of s c.args.key.now, c.args.key.now) in
-    let found = asked_open c.args.fetch (open_in (fetches_of s) k)
-    (c.is_open.ensures.is_open.0 c.if-not-is_open.false) in
-    let comes : (target : FetchTarget g.row.K.Denot g.row.V.Denot g.row.P.Denot)
-    (p : Option (OpenFetch g.row.N.Denot g.row.R.Denot)) → Type 0 = λ target p.
-    Completed (meaning_of_core s) (hashes_of s) (g.W.Weighter.weighs s.weighter) (g.A.Filter.admits s.filter)
-    (λ properties admitted. coming_in g.P.Properties.location_of g.P.Properties.with_phantom_of admitted properties)
-    c.args.source target k p (ending_of c.complete_value.result) (core_of s) (fetches_of s) (core_of t)
-    (fetches_of t) in
-    rw c.in-Entry.is
-    (subst (comes (Entry c.in-Entry.value c.in-Entry.properties)) (sym found.1)
-    (c.complete_value.ensures.completed found.0 found.1))
-
-pub returns-in-Piece-clause-completed : goal.returns-in-Piece-clause-completed
-returns-in-Piece-clause-completed g c =
-    let s = c.args.self.now in
-    let t = c.complete_piece.new.self in
-    let k : ℕ × g.row.K.Denot = (hashes_of s c.args.key.now, c.args.key.now) in
-    let found = asked_open c.args.fetch (open_in (fetches_of s) k)
-    (c.is_open.ensures.is_open.0 c.if-not-is_open.false) in
-    let comes : (target : FetchTarget g.row.K.Denot g.row.V.Denot g.row.P.Denot)
-    (p : Option (OpenFetch g.row.N.Denot g.row.R.Denot)) → Type 0 = λ target p.
-    Completed (meaning_of_core s) (hashes_of s) (g.W.Weighter.weighs s.weighter) (g.A.Filter.admits s.filter)
-    (λ properties admitted. coming_in g.P.Properties.location_of g.P.Properties.with_phantom_of admitted properties)
-    c.args.source target k p (ending_of c.complete_piece.result) (core_of s) (fetches_of s) (core_of t)
-    (fetches_of t) in
-    rw c.in-Piece.is
-    (subst (comes (PieceOf c.in-Piece.piece)) (sym found.1) (c.complete_piece.ensures.completed found.0 found.1))
-
 pub returns-then-not-is_open-clause-stay : goal.returns-then-not-is_open-clause-stay
 returns-then-not-is_open-clause-stay g c = same_stays (core_of c.args.self.now) (core_of c.args.self.now) refl
 
-pub returns-in-Entry-clause-found : goal.returns-in-Entry-clause-found
-returns-in-Entry-clause-found g c =
+pub returns-in-Entry : goal.returns-in-Entry
+returns-in-Entry g c =
     let s = c.args.self.now in
     let t = c.complete_value.new.self in
-    let k : ℕ × g.row.K.Denot = (hashes_of s c.args.key.now, c.args.key.now) in
+    let m = meaning_of_core s in
+    let key = c.args.key.now in
+    let k : ℕ × g.row.K.Denot = (hashes_of s key, key) in
+    let ended = ending_of c.complete_value.result in
+    let weighs = g.W.Weighter.weighs s.rules.weighter in
+    let admits = g.A.Filter.admits s.rules.filter in
+    let laws = g.met.K.Eq.laws in
+    let good = g.met.E.Eviction.lawful in
     let equal : (a b : g.row.K.Denot) → g.K.PartialEq.eq a b ≡ true → hashes_of s a ≡ hashes_of s b =
     λ a b same. ap (g.S.HashBuilder.hash_of s.hash_builder) (g.met.K.Hash.respects_eq a b same) in
-    let sound = core_sound s g.met.K.Eq.laws g.met.E.Eviction.lawful equal in
-    end_found (meaning_of_core s) g.met.K.Eq.laws g.met.E.Eviction.lawful
-    (λ b k. g.S.HashBuilder.hash_of b (g.K.Hash.hash_input k)) (core_of s) (core_of t) equal sound (fetches_of s)
-    (fetches_of t) c.args.source c.args.key.now (ending_of c.complete_value.result)
-    (g.W.Weighter.weighs s.weighter) (g.A.Filter.admits s.filter) g.P.Properties.location_of
-    g.P.Properties.with_phantom_of c.args.target (asked (Some c.args.fetch) (open_in (fetches_of s) k))
-    (returns-in-Entry-clause-completed g c)
+    let sound = core_sound s laws good equal in
+    let found = asked_open c.args.fetch (open_in (fetches_of s) k)
+    (c.is_open.ensures.is_open.0 c.if-not-is_open.false) in
+    let opened = asked (Some c.args.fetch) (open_in (fetches_of s) k) in
+    let comes : (target : FetchTarget g.row.K.Denot g.row.V.Denot g.row.P.Denot)
+    (p : Option (OpenFetch g.row.N.Denot g.row.R.Denot)) → Type 0 = λ target p.
+    Completed m (hashes_of s) weighs admits
+    (λ properties admitted. coming_in g.P.Properties.location_of g.P.Properties.with_phantom_of admitted properties)
+    c.args.source target k p ended (core_of s) (fetches_of s) (core_of t) (fetches_of t) in
+    let completed : comes c.args.target opened =
+    rw c.in-Entry.is
+    (subst (comes (Entry c.in-Entry.value c.in-Entry.properties)) (sym found.1) (c.complete_value.ensures.completed found.0 found.1)) in
+    let waited = λ (o : OpenFetch g.row.N.Denot g.row.R.Denot) (is : opened ≡ Some o).
+    place_waited opens_of s.shards.items k c.args.fetch (λ x q there. x.inflights.sound.waited k q there) o is in
+    let hashes = λ (b : g.row.S.Denot) (q : g.row.K.Denot). g.S.HashBuilder.hash_of b (g.K.Hash.hash_input q) in
+    record {
+      completed = completed;
+      found = end_found m laws good hashes (core_of s) (core_of t) equal sound (fetches_of s) (fetches_of t) c.args.source key
+          ended weighs admits g.P.Properties.location_of g.P.Properties.with_phantom_of c.args.target opened waited
+          completed;
+      bounded = end_bounded m laws good hashes (core_of s) (core_of t) equal sound (fetches_of s) (fetches_of t) c.args.source key
+          ended weighs admits g.P.Properties.location_of g.P.Properties.with_phantom_of c.args.target opened waited
+          completed;
+      stay = end_stays m laws good hashes (core_of s) (core_of t) equal sound (fetches_of s) (fetches_of t) c.args.source key
+          ended weighs admits g.P.Properties.location_of g.P.Properties.with_phantom_of c.args.target opened waited
+          completed;
+      told = end_told m laws good hashes (core_of s) (core_of t) equal sound (fetches_of s) (fetches_of t) c.args.source key
+          ended weighs admits g.P.Properties.location_of g.P.Properties.with_phantom_of c.args.target opened waited
+          completed;
+    }
 
-pub returns-in-Entry-clause-bounded : goal.returns-in-Entry-clause-bounded
-returns-in-Entry-clause-bounded g c =
-    let s = c.args.self.now in
-    let t = c.complete_value.new.self in
-    let k : ℕ × g.row.K.Denot = (hashes_of s c.args.key.now, c.args.key.now) in
-    let equal : (a b : g.row.K.Denot) → g.K.PartialEq.eq a b ≡ true → hashes_of s a ≡ hashes_of s b =
-    λ a b same. ap (g.S.HashBuilder.hash_of s.hash_builder) (g.met.K.Hash.respects_eq a b same) in
-    let sound = core_sound s g.met.K.Eq.laws g.met.E.Eviction.lawful equal in
-    end_bounded (meaning_of_core s) g.met.K.Eq.laws g.met.E.Eviction.lawful
-    (λ b k. g.S.HashBuilder.hash_of b (g.K.Hash.hash_input k)) (core_of s) (core_of t) equal sound (fetches_of s)
-    (fetches_of t) c.args.source c.args.key.now (ending_of c.complete_value.result)
-    (g.W.Weighter.weighs s.weighter) (g.A.Filter.admits s.filter) g.P.Properties.location_of
-    g.P.Properties.with_phantom_of c.args.target (asked (Some c.args.fetch) (open_in (fetches_of s) k))
-    (returns-in-Entry-clause-completed g c)
-
-pub returns-in-Entry-clause-stay : goal.returns-in-Entry-clause-stay
-returns-in-Entry-clause-stay g c =
-    let s = c.args.self.now in
-    let t = c.complete_value.new.self in
-    let k : ℕ × g.row.K.Denot = (hashes_of s c.args.key.now, c.args.key.now) in
-    let equal : (a b : g.row.K.Denot) → g.K.PartialEq.eq a b ≡ true → hashes_of s a ≡ hashes_of s b =
-    λ a b same. ap (g.S.HashBuilder.hash_of s.hash_builder) (g.met.K.Hash.respects_eq a b same) in
-    let sound = core_sound s g.met.K.Eq.laws g.met.E.Eviction.lawful equal in
-    end_stays (meaning_of_core s) g.met.K.Eq.laws g.met.E.Eviction.lawful
-    (λ b k. g.S.HashBuilder.hash_of b (g.K.Hash.hash_input k)) (core_of s) (core_of t) equal sound (fetches_of s)
-    (fetches_of t) c.args.source c.args.key.now (ending_of c.complete_value.result)
-    (g.W.Weighter.weighs s.weighter) (g.A.Filter.admits s.filter) g.P.Properties.location_of
-    g.P.Properties.with_phantom_of c.args.target (asked (Some c.args.fetch) (open_in (fetches_of s) k))
-    (returns-in-Entry-clause-completed g c)
-
-pub returns-in-Entry-clause-told : goal.returns-in-Entry-clause-told
-returns-in-Entry-clause-told g c =
-    let s = c.args.self.now in
-    let t = c.complete_value.new.self in
-    let k : ℕ × g.row.K.Denot = (hashes_of s c.args.key.now, c.args.key.now) in
-    let equal : (a b : g.row.K.Denot) → g.K.PartialEq.eq a b ≡ true → hashes_of s a ≡ hashes_of s b =
-    λ a b same. ap (g.S.HashBuilder.hash_of s.hash_builder) (g.met.K.Hash.respects_eq a b same) in
-    let sound = core_sound s g.met.K.Eq.laws g.met.E.Eviction.lawful equal in
-    end_told (meaning_of_core s) g.met.K.Eq.laws g.met.E.Eviction.lawful
-    (λ b k. g.S.HashBuilder.hash_of b (g.K.Hash.hash_input k)) (core_of s) (core_of t) equal sound (fetches_of s)
-    (fetches_of t) c.args.source c.args.key.now (ending_of c.complete_value.result)
-    (g.W.Weighter.weighs s.weighter) (g.A.Filter.admits s.filter) g.P.Properties.location_of
-    g.P.Properties.with_phantom_of c.args.target (asked (Some c.args.fetch) (open_in (fetches_of s) k))
-    (λ o is. place_waited opens_of s.shards.items k c.args.fetch
-    (λ x q there. x.inflights.sound.waited k q there) o is) (returns-in-Entry-clause-completed g c)
-
-pub returns-in-Piece-clause-found : goal.returns-in-Piece-clause-found
-returns-in-Piece-clause-found g c =
+pub returns-in-Piece : goal.returns-in-Piece
+returns-in-Piece g c =
     let s = c.args.self.now in
     let t = c.complete_piece.new.self in
-    let k : ℕ × g.row.K.Denot = (hashes_of s c.args.key.now, c.args.key.now) in
+    let m = meaning_of_core s in
+    let key = c.args.key.now in
+    let k : ℕ × g.row.K.Denot = (hashes_of s key, key) in
+    let ended = ending_of c.complete_piece.result in
+    let weighs = g.W.Weighter.weighs s.rules.weighter in
+    let admits = g.A.Filter.admits s.rules.filter in
+    let laws = g.met.K.Eq.laws in
+    let good = g.met.E.Eviction.lawful in
     let equal : (a b : g.row.K.Denot) → g.K.PartialEq.eq a b ≡ true → hashes_of s a ≡ hashes_of s b =
     λ a b same. ap (g.S.HashBuilder.hash_of s.hash_builder) (g.met.K.Hash.respects_eq a b same) in
-    let sound = core_sound s g.met.K.Eq.laws g.met.E.Eviction.lawful equal in
-    end_found (meaning_of_core s) g.met.K.Eq.laws g.met.E.Eviction.lawful
-    (λ b k. g.S.HashBuilder.hash_of b (g.K.Hash.hash_input k)) (core_of s) (core_of t) equal sound (fetches_of s)
-    (fetches_of t) c.args.source c.args.key.now (ending_of c.complete_piece.result)
-    (g.W.Weighter.weighs s.weighter) (g.A.Filter.admits s.filter) g.P.Properties.location_of
-    g.P.Properties.with_phantom_of c.args.target (asked (Some c.args.fetch) (open_in (fetches_of s) k))
-    (returns-in-Piece-clause-completed g c)
-
-pub returns-in-Piece-clause-stay : goal.returns-in-Piece-clause-stay
-returns-in-Piece-clause-stay g c =
-    let s = c.args.self.now in
-    let t = c.complete_piece.new.self in
-    let k : ℕ × g.row.K.Denot = (hashes_of s c.args.key.now, c.args.key.now) in
-    let equal : (a b : g.row.K.Denot) → g.K.PartialEq.eq a b ≡ true → hashes_of s a ≡ hashes_of s b =
-    λ a b same. ap (g.S.HashBuilder.hash_of s.hash_builder) (g.met.K.Hash.respects_eq a b same) in
-    let sound = core_sound s g.met.K.Eq.laws g.met.E.Eviction.lawful equal in
-    end_stays (meaning_of_core s) g.met.K.Eq.laws g.met.E.Eviction.lawful
-    (λ b k. g.S.HashBuilder.hash_of b (g.K.Hash.hash_input k)) (core_of s) (core_of t) equal sound (fetches_of s)
-    (fetches_of t) c.args.source c.args.key.now (ending_of c.complete_piece.result)
-    (g.W.Weighter.weighs s.weighter) (g.A.Filter.admits s.filter) g.P.Properties.location_of
-    g.P.Properties.with_phantom_of c.args.target (asked (Some c.args.fetch) (open_in (fetches_of s) k))
-    (returns-in-Piece-clause-completed g c)
-
-pub returns-in-Piece-clause-told : goal.returns-in-Piece-clause-told
-returns-in-Piece-clause-told g c =
-    let s = c.args.self.now in
-    let t = c.complete_piece.new.self in
-    let k : ℕ × g.row.K.Denot = (hashes_of s c.args.key.now, c.args.key.now) in
-    let equal : (a b : g.row.K.Denot) → g.K.PartialEq.eq a b ≡ true → hashes_of s a ≡ hashes_of s b =
-    λ a b same. ap (g.S.HashBuilder.hash_of s.hash_builder) (g.met.K.Hash.respects_eq a b same) in
-    let sound = core_sound s g.met.K.Eq.laws g.met.E.Eviction.lawful equal in
-    end_told (meaning_of_core s) g.met.K.Eq.laws g.met.E.Eviction.lawful
-    (λ b k. g.S.HashBuilder.hash_of b (g.K.Hash.hash_input k)) (core_of s) (core_of t) equal sound (fetches_of s)
-    (fetches_of t) c.args.source c.args.key.now (ending_of c.complete_piece.result)
-    (g.W.Weighter.weighs s.weighter) (g.A.Filter.admits s.filter) g.P.Properties.location_of
-    g.P.Properties.with_phantom_of c.args.target (asked (Some c.args.fetch) (open_in (fetches_of s) k))
-    (λ o is. place_waited opens_of s.shards.items k c.args.fetch
-    (λ x q there. x.inflights.sound.waited k q there) o is) (returns-in-Piece-clause-completed g c)
+    let sound = core_sound s laws good equal in
+    let found = asked_open c.args.fetch (open_in (fetches_of s) k)
+    (c.is_open.ensures.is_open.0 c.if-not-is_open.false) in
+    let opened = asked (Some c.args.fetch) (open_in (fetches_of s) k) in
+    let comes : (target : FetchTarget g.row.K.Denot g.row.V.Denot g.row.P.Denot)
+    (p : Option (OpenFetch g.row.N.Denot g.row.R.Denot)) → Type 0 = λ target p.
+    Completed m (hashes_of s) weighs admits
+    (λ properties admitted. coming_in g.P.Properties.location_of g.P.Properties.with_phantom_of admitted properties)
+    c.args.source target k p ended (core_of s) (fetches_of s) (core_of t) (fetches_of t) in
+    let completed : comes c.args.target opened =
+    rw c.in-Piece.is
+    (subst (comes (PieceOf c.in-Piece.piece)) (sym found.1) (c.complete_piece.ensures.completed found.0 found.1)) in
+    let waited = λ (o : OpenFetch g.row.N.Denot g.row.R.Denot) (is : opened ≡ Some o).
+    place_waited opens_of s.shards.items k c.args.fetch (λ x q there. x.inflights.sound.waited k q there) o is in
+    let hashes = λ (b : g.row.S.Denot) (q : g.row.K.Denot). g.S.HashBuilder.hash_of b (g.K.Hash.hash_input q) in
+    record {
+      completed = completed;
+      found = end_found m laws good hashes (core_of s) (core_of t) equal sound (fetches_of s) (fetches_of t) c.args.source key
+          ended weighs admits g.P.Properties.location_of g.P.Properties.with_phantom_of c.args.target opened waited
+          completed;
+      bounded = end_bounded m laws good hashes (core_of s) (core_of t) equal sound (fetches_of s) (fetches_of t) c.args.source key
+          ended weighs admits g.P.Properties.location_of g.P.Properties.with_phantom_of c.args.target opened waited
+          completed;
+      stay = end_stays m laws good hashes (core_of s) (core_of t) equal sound (fetches_of s) (fetches_of t) c.args.source key
+          ended weighs admits g.P.Properties.location_of g.P.Properties.with_phantom_of c.args.target opened waited
+          completed;
+      told = end_told m laws good hashes (core_of s) (core_of t) equal sound (fetches_of s) (fetches_of t) c.args.source key
+          ended weighs admits g.P.Properties.location_of g.P.Properties.with_phantom_of c.args.target opened waited
+          completed;
+    }

@@ -39,92 +39,51 @@ invariant_of-self-clause-hashed g c =
 pub invariant_of-self-clause-summed : goal.invariant_of-self-clause-summed
 invariant_of-self-clause-summed g c = rw c.deref.ensures.value at c.of_all-self.ensures
 
-pub returns-in-Ok-clause-done : goal.returns-in-Ok-clause-done
-returns-in-Ok-clause-done g c =
+pub returns-in-Ok : goal.returns-in-Ok
+returns-in-Ok g c =
     let s = c.args.self.now in
     let m = meaning_of_core s in
+    let laws = g.met.K.Eq.laws in
+    let good = g.met.E.Eviction.lawful in
+    let equal : (a b : g.row.K.Denot) → g.K.PartialEq.eq a b ≡ true → hashes_of s a ≡ hashes_of s b =
+    λ a b same. ap (g.S.HashBuilder.hash_of s.hash_builder) (g.met.K.Hash.respects_eq a b same) in
+    let sound = core_sound s laws good equal in
     let new = c.evict_each-done.new.shards in
     let ls = c.evict_each-done.new.leaves.items in
-    record {
-      stepped = goes_all ls (λ l. InTurn (EvictsUnpinned m) (map state_of s.shards.items) l (map state_of new.items))
-          (rw c.new-leaves.ensures.items at c.in-Ok.ensures.done);
-      rest = refl;
-    }
-
-pub returns-in-Ok-clause-emptied : goal.returns-in-Ok-clause-emptied
-returns-in-Ok-clause-emptied g c =
-    let s = c.args.self.now in
-    let m = meaning_of_core s in
-    let new = c.evict_each-done.new.shards in
-    let ls = c.evict_each-done.new.leaves.items in
+    let now = core_over state_of s.capacity s.hash_builder s.rules.weighter s.rules.filter new.items in
     let done = goes_all ls (λ l. InTurn (EvictsUnpinned m) (map state_of s.shards.items) l (map state_of new.items))
     (rw c.new-leaves.ensures.items at c.in-Ok.ensures.done) in
-    all_evicted m g.met.E.Eviction.lawful (core_of s) ls
-    (core_over state_of s.capacity s.hash_builder s.weighter s.filter new.items)
-    record { stepped = done; rest = refl }
-
-pub returns-in-Ok-clause-stay : goal.returns-in-Ok-clause-stay
-returns-in-Ok-clause-stay g c =
-    let s = c.args.self.now in
-    let m = meaning_of_core s in
-    let new = c.evict_each-done.new.shards in
-    let ls = c.evict_each-done.new.leaves.items in
-    let done = goes_all ls (λ l. InTurn (EvictsUnpinned m) (map state_of s.shards.items) l (map state_of new.items))
-    (rw c.new-leaves.ensures.items at c.in-Ok.ensures.done) in
-    all_unpinned_stay m (core_of s) ls (core_over state_of s.capacity s.hash_builder s.weighter s.filter new.items)
-    record { stepped = done; rest = refl }
-
-pub returns-in-Err-clause-refused : goal.returns-in-Err-clause-refused
-returns-in-Err-clause-refused g c =
-    let s = c.args.self.now in
-    let m = meaning_of_core s in
-    let new = c.evict_each-done.new.shards in
-    let ls = c.evict_each-done.new.leaves.items in
     record {
-      stepped = goes_all ls
-          (λ l. InTurnUntil (EvictsUnpinned m) (EvictingUnpinned m) (map state_of s.shards.items) l
-          (map state_of new.items)) (rw c.new-leaves.ensures.items at c.in-Err.ensures.refused);
-      rest = refl;
+      evicts = record { stepped = done; rest = refl };
+      emptied = all_evicted m good (core_of s) ls now record { stepped = done; rest = refl };
+      fetches = c.evict_each-done.ensures.opens;
+      laws = record {
+        stay = all_unpinned_stay m (core_of s) ls now record { stepped = done; rest = refl };
+        told = unpinned_core m laws good (hashes_of s) equal (core_of s) now sound ls done;
+      };
     }
 
-pub returns-in-Err-clause-stay : goal.returns-in-Err-clause-stay
-returns-in-Err-clause-stay g c =
+pub returns-in-Err : goal.returns-in-Err
+returns-in-Err g c =
     let s = c.args.self.now in
     let m = meaning_of_core s in
+    let laws = g.met.K.Eq.laws in
+    let good = g.met.E.Eviction.lawful in
+    let equal : (a b : g.row.K.Denot) → g.K.PartialEq.eq a b ≡ true → hashes_of s a ≡ hashes_of s b =
+    λ a b same. ap (g.S.HashBuilder.hash_of s.hash_builder) (g.met.K.Hash.respects_eq a b same) in
+    let sound = core_sound s laws good equal in
     let new = c.evict_each-done.new.shards in
     let ls = c.evict_each-done.new.leaves.items in
+    let now = core_over state_of s.capacity s.hash_builder s.rules.weighter s.rules.filter new.items in
     let part = goes_all ls
     (λ l. InTurnUntil (EvictsUnpinned m) (EvictingUnpinned m) (map state_of s.shards.items) l
     (map state_of new.items)) (rw c.new-leaves.ensures.items at c.in-Err.ensures.refused) in
-    all_unpinned_until_stay m (core_of s) ls
-    (core_over state_of s.capacity s.hash_builder s.weighter s.filter new.items)
-    record { stepped = part; rest = refl }
-
-pub returns-in-Ok-clause-told : goal.returns-in-Ok-clause-told
-returns-in-Ok-clause-told g c =
-    let s = c.args.self.now in
-    let m = meaning_of_core s in
-    let equal : (a b : g.row.K.Denot) → g.K.PartialEq.eq a b ≡ true → hashes_of s a ≡ hashes_of s b =
-    λ a b same. ap (g.S.HashBuilder.hash_of s.hash_builder) (g.met.K.Hash.respects_eq a b same) in
-    let sound = core_sound s g.met.K.Eq.laws g.met.E.Eviction.lawful equal in
-    let new = c.evict_each-done.new.shards in
-    let ls = c.evict_each-done.new.leaves.items in
-    let done = goes_all ls (λ l. InTurn (EvictsUnpinned m) (map state_of s.shards.items) l (map state_of new.items))
-    (rw c.new-leaves.ensures.items at c.in-Ok.ensures.done) in
-    unpinned_core m g.met.K.Eq.laws g.met.E.Eviction.lawful (hashes_of s) equal (core_of s)
-    (core_over state_of s.capacity s.hash_builder s.weighter s.filter new.items) sound ls done
-
-pub returns-in-Err-clause-told : goal.returns-in-Err-clause-told
-returns-in-Err-clause-told g c =
-    let s = c.args.self.now in
-    let m = meaning_of_core s in
-    let equal : (a b : g.row.K.Denot) → g.K.PartialEq.eq a b ≡ true → hashes_of s a ≡ hashes_of s b =
-    λ a b same. ap (g.S.HashBuilder.hash_of s.hash_builder) (g.met.K.Hash.respects_eq a b same) in
-    let sound = core_sound s g.met.K.Eq.laws g.met.E.Eviction.lawful equal in
-    let new = c.evict_each-done.new.shards in
-    let ls = c.evict_each-done.new.leaves.items in
-    let part = goes_all ls
-    (λ l. InTurnUntil (EvictsUnpinned m) (EvictingUnpinned m) (map state_of s.shards.items) l
-    (map state_of new.items)) (rw c.new-leaves.ensures.items at c.in-Err.ensures.refused) in
-    unpinned_until_core m g.met.K.Eq.laws g.met.E.Eviction.lawful (hashes_of s) equal (core_of s)
-    (core_over state_of s.capacity s.hash_builder s.weighter s.filter new.items) sound ls part
+    record {
+      evicts = (c.in-Err.ensures.reason, record { stepped = part; rest = refl });
+      emptied = tt;
+      fetches = c.evict_each-done.ensures.opens;
+      laws = record {
+        stay = all_unpinned_until_stay m (core_of s) ls now record { stepped = part; rest = refl };
+        told = unpinned_until_core m laws good (hashes_of s) equal (core_of s) now sound ls part;
+      };
+    }

@@ -39,7 +39,7 @@ returns-clause-core g c =
     let s = c.args.self.now in
     let x = c.index_mut.result.now in
     let y = c.fetch_or_take.new.self in
-    same_over state_of s.capacity s.hash_builder s.weighter s.filter s.shards.items c.hash-hash.result
+    same_over state_of s.capacity s.hash_builder s.rules.weighter s.rules.filter s.shards.items c.hash-hash.result
     (vec_len s.shards) c.shard_index-place.result x
     s.shards.ok.0 c.shard_index-place.ensures.within c.shard_index-place.ensures.index c.index_mut.ensures.value y
     c.fetch_or_take.ensures.state

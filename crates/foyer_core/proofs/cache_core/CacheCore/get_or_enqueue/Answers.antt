@@ -58,18 +58,18 @@ returns g c =
     let hash = hashes_of s c.args.key.now in
     let did = rw c.hash-hash.ensures.hash at c.get_or_enqueue.ensures.looked_up in
     let at = c.shard_index-place.ensures.index ∙ ap (λ (n : ℕ). n % vec_len s.shards) c.hash-hash.ensures.hash in
-    let over = at_over state_of s.capacity s.hash_builder s.weighter s.filter s.shards.items hash (vec_len s.shards)
+    let over = at_over state_of s.capacity s.hash_builder s.rules.weighter s.rules.filter s.shards.items hash (vec_len s.shards)
     c.shard_index-place.result x s.shards.ok.0 c.shard_index-place.ensures.within at c.index_mut.ensures.value in
     let equal : (a b : g.row.K.Denot) → g.K.PartialEq.eq a b ≡ true → hashes_of s a ≡ hashes_of s b =
     λ a b same. ap (g.S.HashBuilder.hash_of s.hash_builder) (g.met.K.Hash.respects_eq a b same) in
     let sound = core_sound s g.met.K.Eq.laws g.met.E.Eviction.lawful equal in
-    let new = core_over state_of s.capacity s.hash_builder s.weighter s.filter
+    let new = core_over state_of s.capacity s.hash_builder s.rules.weighter s.rules.filter
     (slice_set s.shards.items c.shard_index-place.result y) in
     let index = over (λ s t. SameIndex s t) y
     (looks_index (meaning_of x) (state_of x) (opens_of x) (c.hash-hash.result, c.args.key.now) c.args.waiter
     c.args.required (state_of y) (opens_of y) c.get_or_enqueue.result c.get_or_enqueue.ensures.looked_up) in
     record {
-      looked_up = open_over state_of opens_of s.capacity s.hash_builder s.weighter s.filter s.shards.items hash
+      looked_up = open_over state_of opens_of s.capacity s.hash_builder s.rules.weighter s.rules.filter s.shards.items hash
           (vec_len s.shards) c.shard_index-place.result x s.shards.ok.0 c.shard_index-place.ensures.within at
           c.index_mut.ensures.value y
           (λ s f t g. LooksUp m s f (hash, c.args.key.now) c.args.waiter c.args.required c.get_or_enqueue.result t g)

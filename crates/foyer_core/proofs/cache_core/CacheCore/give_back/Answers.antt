@@ -58,7 +58,7 @@ returns-clause-taken g c =
     let s = c.args.self.now in
     let e = c.args.entry in
     let x = c.index_mut.result.now in
-    let over = at_over state_of s.capacity s.hash_builder s.weighter s.filter s.shards.items e.kept.hash
+    let over = at_over state_of s.capacity s.hash_builder s.rules.weighter s.rules.filter s.shards.items e.kept.hash
     (vec_len s.shards) c.shard_index-place.result x
     s.shards.ok.0 c.shard_index-place.ensures.within
     (c.shard_index-place.ensures.index ∙ ap (λ (n : ℕ). n % vec_len s.shards) c.hash.ensures) c.index_mut.ensures.value in
@@ -70,7 +70,7 @@ pub returns-clause-err : goal.returns-clause-err
 returns-clause-err g c =
     let s = c.args.self.now in
     let e = c.args.entry in
-    let same = same_over state_of s.capacity s.hash_builder s.weighter s.filter s.shards.items e.kept.hash
+    let same = same_over state_of s.capacity s.hash_builder s.rules.weighter s.rules.filter s.shards.items e.kept.hash
     (vec_len s.shards) c.shard_index-place.result c.index_mut.result.now
     s.shards.ok.0 c.shard_index-place.ensures.within
     (c.shard_index-place.ensures.index ∙ ap (λ (n : ℕ). n % vec_len s.shards) c.hash.ensures) c.index_mut.ensures.value in
@@ -82,7 +82,7 @@ returns-clause-stay g c =
     let e = c.args.entry in
     let x = c.index_mut.result.now in
     let y = c.give_back.new.self in
-    let over = at_over state_of s.capacity s.hash_builder s.weighter s.filter s.shards.items e.kept.hash
+    let over = at_over state_of s.capacity s.hash_builder s.rules.weighter s.rules.filter s.shards.items e.kept.hash
     (vec_len s.shards) c.shard_index-place.result x
     s.shards.ok.0 c.shard_index-place.ensures.within
     (c.shard_index-place.ensures.index ∙ ap (λ (n : ℕ). n % vec_len s.shards) c.hash.ensures) c.index_mut.ensures.value in
@@ -96,15 +96,15 @@ returns-clause-told g c =
     let e = c.args.entry in
     let x = c.index_mut.result.now in
     let y = c.give_back.new.self in
-    let over = at_over state_of s.capacity s.hash_builder s.weighter s.filter s.shards.items e.kept.hash
+    let over = at_over state_of s.capacity s.hash_builder s.rules.weighter s.rules.filter s.shards.items e.kept.hash
     (vec_len s.shards) c.shard_index-place.result x
     s.shards.ok.0 c.shard_index-place.ensures.within
     (c.shard_index-place.ensures.index ∙ ap (λ (n : ℕ). n % vec_len s.shards) c.hash.ensures) c.index_mut.ensures.value in
-    let same = same_over state_of s.capacity s.hash_builder s.weighter s.filter s.shards.items e.kept.hash
+    let same = same_over state_of s.capacity s.hash_builder s.rules.weighter s.rules.filter s.shards.items e.kept.hash
     (vec_len s.shards) c.shard_index-place.result x
     s.shards.ok.0 c.shard_index-place.ensures.within
     (c.shard_index-place.ensures.index ∙ ap (λ (n : ℕ). n % vec_len s.shards) c.hash.ensures) c.index_mut.ensures.value in
-    let new = core_over state_of s.capacity s.hash_builder s.weighter s.filter
+    let new = core_over state_of s.capacity s.hash_builder s.rules.weighter s.rules.filter
     (slice_set s.shards.items c.shard_index-place.result y) in
     let m = meaning_of_core s in
     let equal : (a b : g.row.K.Denot) → g.K.PartialEq.eq a b ≡ true → hashes_of s a ≡ hashes_of s b =

@@ -34,6 +34,6 @@ returns-clause-apart g c id known =
     let at = c.shard_index.ensures.index ∙ ap (λ (n : ℕ). n % vec_len s.shards) c.hash-hash.ensures.hash in
     let placed = λ (key : g.row.K.Denot). opened_over opens_of s.shards.items hash (vec_len s.shards) c.shard_index.result x
     s.shards.ok.0 c.shard_index.ensures.within at c.index.ensures key in
-    let there = shard_over state_of s.capacity s.hash_builder s.weighter s.filter s.shards.items hash
+    let there = shard_over state_of s.capacity s.hash_builder s.rules.weighter s.rules.filter s.shards.items hash
     (vec_len s.shards) c.shard_index.result x s.shards.ok.0 c.shard_index.ensures.within at c.index.ensures in
     placed c.args.key.now ∙ (rw c.hash-hash.ensures.hash at c.is_open.ensures.apart) id (rw there at known)

@@ -10,7 +10,7 @@ pub returns : goal.returns
 returns g c =
     let s = c.args.self.now in
     let e = c.args.entry.now in
-    let here = shard_over state_of s.capacity s.hash_builder s.weighter s.filter s.shards.items e.kept.hash
+    let here = shard_over state_of s.capacity s.hash_builder s.rules.weighter s.rules.filter s.shards.items e.kept.hash
     (vec_len s.shards) c.shard_index.result c.index.result.now
     s.shards.ok.0 c.shard_index.ensures.within (c.shard_index.ensures.index ∙ ap (λ (n : ℕ). n % vec_len s.shards) c.hash.ensures)
     c.index.ensures in

@@ -29,22 +29,24 @@ invariant_of-self-clause-summed g c =
     c.configure_each.ensures.configured
     s.load.usage s.load.entries s.summed
 
-pub returns-in_err-check-clause-stay : goal.returns-in_err-check-clause-stay
-returns-in_err-check-clause-stay g c = (let core = core_of c.args.self.now in stays_same core core refl)
+pub returns-in_err-check-clause-laws : goal.returns-in_err-check-clause-laws
+returns-in_err-check-clause-laws g c =
+    (let core = core_of c.args.self.now in record { stay = stays_same core core refl; told = λ k. refl })
 
-pub returns-clause-stay : goal.returns-clause-stay
-returns-clause-stay g c =
-    let s = c.args.self.now in
-    configured_stay (meaning_of_core s) c.args.config.now (core_of s)
-    (core_over state_of s.capacity s.hash_builder s.weighter s.filter c.configure_each.new.shards.items)
-    record { shards = c.configure_each.ensures.configured; rest = refl }
-
-pub returns-clause-told : goal.returns-clause-told
-returns-clause-told g c =
+pub returns-clause-laws : goal.returns-clause-laws
+returns-clause-laws g c =
     let s = c.args.self.now in
     let equal : (a b : g.row.K.Denot) → g.K.PartialEq.eq a b ≡ true → hashes_of s a ≡ hashes_of s b =
     λ a b same. ap (g.S.HashBuilder.hash_of s.hash_builder) (g.met.K.Hash.respects_eq a b same) in
-    configured_told (meaning_of_core s) g.met.K.Eq.laws g.met.E.Eviction.lawful (hashes_of s) equal c.args.config.now
-    (core_of s)
-    (core_over state_of s.capacity s.hash_builder s.weighter s.filter c.configure_each.new.shards.items)
-    record { shards = c.configure_each.ensures.configured; rest = refl }
+    let now = core_over state_of s.capacity s.hash_builder s.rules.weighter s.rules.filter
+    c.configure_each.new.shards.items in
+    record {
+      stay = configured_stay (meaning_of_core s) c.args.config.now (core_of s) now
+          record { shards = c.configure_each.ensures.configured; rest = refl };
+      told = configured_told (meaning_of_core s) g.met.K.Eq.laws g.met.E.Eviction.lawful (hashes_of s) equal
+          c.args.config.now (core_of s) now record { shards = c.configure_each.ensures.configured; rest = refl };
+    }
+
+pub returns-then-not-taken_by_each-clause-laws : goal.returns-then-not-taken_by_each-clause-laws
+returns-then-not-taken_by_each-clause-laws g c =
+    (let core = core_of c.args.self.now in record { stay = stays_same core core refl; told = λ k. refl })

@@ -49,7 +49,7 @@ returns g c = record {
         hash = c.args.hash;
         weight = c.args.weight;
       } in
-      open_over state_of opens_of s.capacity s.hash_builder s.weighter s.filter s.shards.items c.args.hash
+      open_over state_of opens_of s.capacity s.hash_builder s.rules.weighter s.rules.filter s.shards.items c.args.hash
       (vec_len s.shards) c.shard_index-place.result x s.shards.ok.0 c.shard_index-place.ensures.within
       c.shard_index-place.ensures.index c.index_mut.ensures.value y
       (λ a f b h. CompletesBy (meaning_of_core s) (asked (Some c.args.fetch) (f.by_key k)) source a f k d

@@ -1,4 +1,4 @@
-use Rattle.std.proofs.Common.{map, refl, ◌≡◌, ap, true}
+use Rattle.std.proofs.Common.{map, refl, ◌≡◌, ◌∙◌, ap, true}
 use Rattle.foyer_core.specs.CoreBulk.{InTurn, InTurnUntil, EvictsToCapacity, EvictingToCapacity}
 use Rattle.foyer_core.specs.Cores.{core_of, hashes_of, meaning_of_core}
 use Rattle.foyer_core.specs.Shards.{state_of}
@@ -42,96 +42,61 @@ invariant_of-self-clause-hashed g c =
 pub invariant_of-self-clause-summed : goal.invariant_of-self-clause-summed
 invariant_of-self-clause-summed g c = rw c.deref.ensures.value at c.of_all-self.ensures
 
-pub returns-in-Ok-clause-done : goal.returns-in-Ok-clause-done
-returns-in-Ok-clause-done g c =
-    let m = meaning_of_core c.args.self.now in
-    let shared = map state_of c.share_out.new.shards.items in
-    let new = c.evict_each_to_capacity-done.new.shards in
-    let ls = c.evict_each_to_capacity-done.new.leaves.items in
-    let done = goes_all ls (λ l. InTurn (EvictsToCapacity m) shared l (map state_of new.items))
-    (rw (c.new-evicted.ensures.items, c.in-Ok.is) at c.evict_each_to_capacity-done.ensures.done) in
-    record { shared = shared; shares = c.share_out.ensures.shares; evicted = record { stepped = done; rest = refl } }
-
-pub returns-in-Ok-clause-fits : goal.returns-in-Ok-clause-fits
-returns-in-Ok-clause-fits g c =
+pub returns-in-Ok : goal.returns-in-Ok
+returns-in-Ok g c =
     let s = c.args.self.now in
     let m = meaning_of_core s in
-    let shared = map state_of c.share_out.new.shards.items in
-    let new = c.evict_each_to_capacity-done.new.shards in
-    let ls = c.evict_each_to_capacity-done.new.leaves.items in
-    let done = goes_all ls (λ l. InTurn (EvictsToCapacity m) shared l (map state_of new.items))
-    (rw (c.new-evicted.ensures.items, c.in-Ok.is) at c.evict_each_to_capacity-done.ensures.done) in
-    all_fit m g.met.E.Eviction.lawful (core_of s) ls
-    (core_over state_of c.args.capacity s.hash_builder s.weighter s.filter new.items) c.args.capacity
-    record { shared = shared; shares = c.share_out.ensures.shares; evicted = record { stepped = done; rest = refl } }
-
-pub returns-in-Ok-clause-stay : goal.returns-in-Ok-clause-stay
-returns-in-Ok-clause-stay g c =
-    let s = c.args.self.now in
-    let m = meaning_of_core s in
-    let shared = map state_of c.share_out.new.shards.items in
-    let new = c.evict_each_to_capacity-done.new.shards in
-    let ls = c.evict_each_to_capacity-done.new.leaves.items in
-    let done = goes_all ls (λ l. InTurn (EvictsToCapacity m) shared l (map state_of new.items))
-    (rw (c.new-evicted.ensures.items, c.in-Ok.is) at c.evict_each_to_capacity-done.ensures.done) in
-    resized_stay m c.args.capacity (core_of s) ls
-    (core_over state_of c.args.capacity s.hash_builder s.weighter s.filter new.items)
-    record { shared = shared; shares = c.share_out.ensures.shares; evicted = record { stepped = done; rest = refl } }
-
-pub returns-in-Err-clause-refused : goal.returns-in-Err-clause-refused
-returns-in-Err-clause-refused g c =
-    let m = meaning_of_core c.args.self.now in
-    let shared = map state_of c.share_out.new.shards.items in
-    let new = c.evict_each_to_capacity-done.new.shards in
-    let ls = c.evict_each_to_capacity-done.new.leaves.items in
-    let part = goes_all ls
-    (λ l. InTurnUntil (EvictsToCapacity m) (EvictingToCapacity m) shared l (map state_of new.items))
-    (rw (c.new-evicted.ensures.items, c.in-Err.is) at c.evict_each_to_capacity-done.ensures.refused) in
-    record { shared = shared; shares = c.share_out.ensures.shares; evicted = record { stepped = part; rest = refl } }
-
-pub returns-in-Err-clause-stay : goal.returns-in-Err-clause-stay
-returns-in-Err-clause-stay g c =
-    let s = c.args.self.now in
-    let m = meaning_of_core s in
-    let shared = map state_of c.share_out.new.shards.items in
-    let new = c.evict_each_to_capacity-done.new.shards in
-    let ls = c.evict_each_to_capacity-done.new.leaves.items in
-    let part = goes_all ls
-    (λ l. InTurnUntil (EvictsToCapacity m) (EvictingToCapacity m) shared l (map state_of new.items))
-    (rw (c.new-evicted.ensures.items, c.in-Err.is) at c.evict_each_to_capacity-done.ensures.refused) in
-    resized_until_stay m c.args.capacity (core_of s) ls
-    (core_over state_of c.args.capacity s.hash_builder s.weighter s.filter new.items)
-    record { shared = shared; shares = c.share_out.ensures.shares; evicted = record { stepped = part; rest = refl } }
-
-pub returns-in-Ok-clause-told : goal.returns-in-Ok-clause-told
-returns-in-Ok-clause-told g c =
-    let s = c.args.self.now in
-    let m = meaning_of_core s in
+    let laws = g.met.K.Eq.laws in
+    let good = g.met.E.Eviction.lawful in
     let equal : (a b : g.row.K.Denot) → g.K.PartialEq.eq a b ≡ true → hashes_of s a ≡ hashes_of s b =
     λ a b same. ap (g.S.HashBuilder.hash_of s.hash_builder) (g.met.K.Hash.respects_eq a b same) in
-    let sound = core_sound s g.met.K.Eq.laws g.met.E.Eviction.lawful equal in
+    let sound = core_sound s laws good equal in
     let shared = map state_of c.share_out.new.shards.items in
     let new = c.evict_each_to_capacity-done.new.shards in
     let ls = c.evict_each_to_capacity-done.new.leaves.items in
+    let now = core_over state_of c.args.capacity s.hash_builder s.rules.weighter s.rules.filter new.items in
     let done = goes_all ls (λ l. InTurn (EvictsToCapacity m) shared l (map state_of new.items))
     (rw (c.new-evicted.ensures.items, c.in-Ok.is) at c.evict_each_to_capacity-done.ensures.done) in
-    resized_core m g.met.K.Eq.laws g.met.E.Eviction.lawful (hashes_of s) equal (core_of s)
-    (core_over state_of c.args.capacity s.hash_builder s.weighter s.filter new.items) sound c.args.capacity ls
-    record { shared = shared; shares = c.share_out.ensures.shares; evicted = record { stepped = done; rest = refl } }
+    record {
+      resizes = record { shared = shared; shares = c.share_out.ensures.shares; evicted = record { stepped = done; rest = refl } };
+      fits = all_fit m good (core_of s) ls now c.args.capacity
+          record { shared = shared; shares = c.share_out.ensures.shares; evicted = record { stepped = done; rest = refl } };
+      fetches = c.evict_each_to_capacity-done.ensures.opens ∙ c.share_out.ensures.opens;
+      laws = record {
+        stay = resized_stay m c.args.capacity (core_of s) ls now
+            record { shared = shared; shares = c.share_out.ensures.shares; evicted = record { stepped = done; rest = refl } };
+        told = resized_core m laws good (hashes_of s) equal (core_of s) now sound c.args.capacity ls
+            record { shared = shared; shares = c.share_out.ensures.shares; evicted = record { stepped = done; rest = refl } };
+      };
+    }
 
-pub returns-in-Err-clause-told : goal.returns-in-Err-clause-told
-returns-in-Err-clause-told g c =
+pub returns-in-Err : goal.returns-in-Err
+returns-in-Err g c =
     let s = c.args.self.now in
     let m = meaning_of_core s in
+    let laws = g.met.K.Eq.laws in
+    let good = g.met.E.Eviction.lawful in
     let equal : (a b : g.row.K.Denot) → g.K.PartialEq.eq a b ≡ true → hashes_of s a ≡ hashes_of s b =
     λ a b same. ap (g.S.HashBuilder.hash_of s.hash_builder) (g.met.K.Hash.respects_eq a b same) in
-    let sound = core_sound s g.met.K.Eq.laws g.met.E.Eviction.lawful equal in
+    let sound = core_sound s laws good equal in
     let shared = map state_of c.share_out.new.shards.items in
     let new = c.evict_each_to_capacity-done.new.shards in
     let ls = c.evict_each_to_capacity-done.new.leaves.items in
+    let now = core_over state_of c.args.capacity s.hash_builder s.rules.weighter s.rules.filter new.items in
     let part = goes_all ls
     (λ l. InTurnUntil (EvictsToCapacity m) (EvictingToCapacity m) shared l (map state_of new.items))
     (rw (c.new-evicted.ensures.items, c.in-Err.is) at c.evict_each_to_capacity-done.ensures.refused) in
-    resized_until_core m g.met.K.Eq.laws g.met.E.Eviction.lawful (hashes_of s) equal (core_of s)
-    (core_over state_of c.args.capacity s.hash_builder s.weighter s.filter new.items) sound c.args.capacity ls
-    record { shared = shared; shares = c.share_out.ensures.shares; evicted = record { stepped = part; rest = refl } }
+    record {
+      resizes = (
+        rw c.in-Err.is at c.evict_each_to_capacity-done.ensures.reason,
+        record { shared = shared; shares = c.share_out.ensures.shares; evicted = record { stepped = part; rest = refl } },
+      );
+      fits = tt;
+      fetches = c.evict_each_to_capacity-done.ensures.opens ∙ c.share_out.ensures.opens;
+      laws = record {
+        stay = resized_until_stay m c.args.capacity (core_of s) ls now
+            record { shared = shared; shares = c.share_out.ensures.shares; evicted = record { stepped = part; rest = refl } };
+        told = resized_until_core m laws good (hashes_of s) equal (core_of s) now sound c.args.capacity ls
+            record { shared = shared; shares = c.share_out.ensures.shares; evicted = record { stepped = part; rest = refl } };
+      };
+    }

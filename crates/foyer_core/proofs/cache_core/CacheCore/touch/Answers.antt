@@ -51,7 +51,7 @@ returns g c =
     let y = c.touch.new.self in
     let hash = g.S.HashBuilder.hash_of s.hash_builder (g.K.Hash.hash_input c.args.key.now) in
     let did = rw c.hash-hash.ensures.hash at c.touch.ensures.touches in
-    let over = at_over state_of s.capacity s.hash_builder s.weighter s.filter s.shards.items hash (vec_len s.shards)
+    let over = at_over state_of s.capacity s.hash_builder s.rules.weighter s.rules.filter s.shards.items hash (vec_len s.shards)
     c.shard_index-place.result x
     s.shards.ok.0 c.shard_index-place.ensures.within
     (c.shard_index-place.ensures.index ∙ ap (λ (n : ℕ). n % vec_len s.shards) c.hash-hash.ensures.hash)
@@ -61,7 +61,7 @@ returns g c =
     λ a b same. ap (g.S.HashBuilder.hash_of s.hash_builder) (g.met.K.Hash.respects_eq a b same) in
     let sound = core_sound s g.met.K.Eq.laws g.met.E.Eviction.lawful equal in
     let step = over (λ a b. Touches (meaning_of x) a (hash, c.args.key.now) c.touch.result b) y did in
-    let new = core_over state_of s.capacity s.hash_builder s.weighter s.filter
+    let new = core_over state_of s.capacity s.hash_builder s.rules.weighter s.rules.filter
     (slice_set s.shards.items c.shard_index-place.result y) in
     record {
       touches = step;

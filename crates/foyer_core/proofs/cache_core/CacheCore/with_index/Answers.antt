@@ -20,5 +20,8 @@ invariant_of-result-clause-hashed g c =
 pub invariant_of-result-clause-summed : goal.invariant_of-result-clause-summed
 invariant_of-result-clause-summed g c = rw c.deref.ensures.value at c.of_all-load.ensures
 
-pub returns-clause-idle : goal.returns-clause-idle
-returns-clause-idle g c = none_open (map opens_of c.in_ok-shards.shards.items) c.in_ok-shards.ensures.opens
+pub returns-clause-fetches : goal.returns-clause-fetches
+returns-clause-fetches g c = (
+  c.in_ok-shards.ensures.opens,
+  none_open (map opens_of c.in_ok-shards.shards.items) c.in_ok-shards.ensures.opens,
+)

@@ -1,12 +1,14 @@
-use Rattle.std.proofs.Common.{◌≡◌, ℕ, ◌+◌, ◌-◌, length, sym, subst, arith}
+use Rattle.std.proofs.Common.{◌≡◌, ℕ, ◌+◌, ◌-◌, Some, length, sym, subst, arith}
+use Rattle.std.specs.Prelude.{MatchResult}
 use Rattle.foyer_core.specs.Inflight.{Apart, Opens, asked, closed}
 use Rattle.foyer_core.specs.Inflights.{opens_of}
-use Rattle.foyer_core.specs.Steps.{newcomer}
+use Rattle.foyer_core.specs.Steps.{Inserts, RefusesInsert, newcomer}
 use Rattle.foyer_core.specs.Stores.{meaning_of, state_of}
 use Rattle.foyer_core.specs.Waited.{ending_of}
-use Rattle.std.proofs.Common.{Some}
 use Rattle.foyer_core.proofs.ApartLemmas.{closed_apart, inserts_apart, refuses_apart, step_apart}
-use Rattle.foyer_core.proofs.WaitedLemmas.{completed, either_way}
+use Rattle.foyer_core.proofs.Completing.{came_ends}
+use Rattle.foyer_core.proofs.Told.{goes_all}
+use Rattle.foyer_core.proofs.WaitedLemmas.{either_way}
 use Rattle.foyer_core.proofs.shard.Shard.complete.Goals as goal
 
 pub invariant_of-self : goal.invariant_of-self
@@ -27,30 +29,38 @@ invariant_of-self-2 g c =
     let m = meaning_of s.store in
     let f = opens_of s.inflights in
     let old = state_of s.store in
-    let new = state_of c.emplace.new.self in
+    let new = state_of c.emplace-came.new.self in
     let k : ℕ × g.row.K.Denot = (c.args.kept.hash, c.args.kept.key) in
     let i = newcomer old c.args.kept (1 + (c.len.result - 1)) in
+    let went = c.emplace-came.ensures.inserted in
     record {
       apart = subst (λ (x : Opens g.row.K.Denot g.row.N.Denot g.row.R.Denot). Apart new.index x)
           (sym c.in-Some.ensures.opens)
-          (either_way c.emplace.result c.emplace.ensures.inserted
-          (λ made h. inserts_apart m f c.args.source old i made.leaves.items made.entry new h s.apart)
-          (λ refused h. closed_apart g.K.PartialEq.eq new.index f k
-          (refuses_apart m f old i refused.error refused.leaves.items new h s.apart)));
+          (either_way c.emplace-came.result went.so
+          (λ made h. inserts_apart m f c.args.source old i went.more made.entry new h s.apart)
+          (λ error h. closed_apart g.K.PartialEq.eq new.index f k
+          (refuses_apart m f old i error went.more new h s.apart)));
     }
 
-pub returns-in-Ok : goal.returns-in-Ok
-returns-in-Ok g c =
+pub returns : goal.returns
+returns g c =
     let s = c.args.self.now in
+    let m = meaning_of s.store in
     let f = opens_of s.inflights in
+    let old = state_of s.store in
+    let new = state_of c.emplace-came.new.self in
     let k : ℕ × g.row.K.Denot = (c.args.kept.hash, c.args.kept.key) in
-    let made = c.in-Ok.made in
-    let len : length c.in-Some.waiters.items ≡ 1 + (c.len.result - 1) =
+    let count = c.len.result - 1 in
+    let i = newcomer old c.args.kept (1 + count) in
+    let many : length c.in-Some.waiters.items ≡ 1 + count =
     omega (arith, c.len.ensures, c.in-Some.ensures.waited, c.in-Some.waiters.ok.0) in
     record {
-      completed = completed (meaning_of s.store) c.args.source (state_of s.store) (state_of c.emplace.new.self) f
-          (opens_of c.take.new.self) k c.args.kept c.in-Some.ensures.opens
-          (asked (Some c.args.fetch) (f.by_key k)) c.in-Some.waiters.items c.in-Some.ensures.taken (c.len.result - 1)
-          len made.entry made.others.items made.leaves.items (ending_of c.ending.result) c.ending.ensures
-          c.in-Ok.ensures.others c.in-Ok.ensures.inserted;
+      completed = came_ends m c.args.source old new f (opens_of c.take.new.self) k c.args.kept c.in-Some.ensures.opens
+          (asked (Some c.args.fetch) (f.by_key k)) c.in-Some.waiters.items c.in-Some.ensures.taken
+          c.emplace-came.result c.emplace-came.new.leaves.items count many c.emplace-came.ensures.others
+          (goes_all c.emplace-came.new.leaves.items
+          (λ ls. MatchResult c.emplace-came.result (λ made. Inserts m c.args.source old i ls made.entry new)
+          (λ error. RefusesInsert m old i error ls new))
+          (rw c.new-leaves.ensures.items at c.emplace-came.ensures.inserted)) (ending_of c.found.result)
+          c.found.ensures;
     }

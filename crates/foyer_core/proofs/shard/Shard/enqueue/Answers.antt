@@ -42,6 +42,7 @@ returns-in-Ok-Lead g c =
     let numbers : HasNumbers s.store.limits.ids f k =
     subst (λ (n : ℕ). HasNumbers n f k) c.ids-ids.ensures (c.lacks.ensures.no c.if-lacks.false) in
     record {
+      missed = tt;
       looked_up = (
         c.requires.missing,
         numbers,
@@ -66,6 +67,7 @@ returns-in-Ok-Wait g c =
     let numbers : HasNumbers s.store.limits.ids f k =
     subst (λ (n : ℕ). HasNumbers n f k) c.ids-ids.ensures (c.lacks.ensures.no c.if-lacks.false) in
     record {
+      missed = tt;
       looked_up = (
         c.requires.missing,
         numbers,

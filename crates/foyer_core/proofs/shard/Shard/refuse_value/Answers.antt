@@ -48,7 +48,7 @@ returns-clause-completed g c source value =
     let why : c.new.result ≡ reason = c.new.ensures ∙ c.unwrap_or-reason.ensures in
     let ended : Ending g.row.K.Denot g.row.V.Denot g.row.P.Denot g.row.N.Denot =
     record { found = true; waiters = c.in-Some.waiters.items; outcome = Err reason; leaves = [] } in
-    let is : ending_of c.refused.result ≡ ended = c.refused.ensures
+    let is : ending_of c.found.result ≡ ended = c.found.ensures
     ∙ (λ j. record {
       found = true;
       waiters = c.in-Some.waiters.items;
@@ -58,6 +58,6 @@ returns-clause-completed g c source value =
     }) in
     refused_ends m source old old f (opens_of c.take.new.self) k (of value) c.in-Some.ensures.opens
     (asked (Some c.args.fetch) (f.by_key k)) c.in-Some.waiters.items c.in-Some.ensures.taken
-    (1 + count) many reason [] (ending_of c.refused.result) is
+    (1 + count) many reason [] (ending_of c.found.result) is
     (refusal_is m old (λ v. newcomer old (of v) (1 + count)) c.new_refusal-refusal.result
     c.new_refusal-refusal.ensures.some c.new_refusal-refusal.ensures.none value)

@@ -43,8 +43,8 @@ returns-in_err-put-clause-err g c =
     let failed = err_from_is_err_and c.from_residual.result c.from_residual.ensures.1 in
     rw failed.1 back.same0
 
-pub give_way-gone-requires-after_bounds : goal.give_way-gone-requires-after_bounds
-give_way-gone-requires-after_bounds g c κs within =
+pub give_way-gone-requires : goal.give_way-gone-requires
+give_way-gone-requires g c =
     let s = c.args.self.now in
     let lawful = g.met.E.Eviction.lawful in
     let laws = g.met.K.Eq.laws in
@@ -136,7 +136,7 @@ push_at-requires-clause-within g c =
     (omega (arith, c.slot_for-number.ensures.within c.args.slot.id stands, c.requires.places))
 
 pub push_at-requires-clause-free : goal.push_at-requires-clause-free
-push_at-requires-clause-free g c κs within =
+push_at-requires-clause-free g c =
     let s = c.args.self.now in
     let lawful = g.met.E.Eviction.lawful in
     let laws = g.met.K.Eq.laws in
@@ -171,7 +171,7 @@ push_at-requires-clause-free g c κs within =
     (g.E.Eviction.view c.give_way-gone.new.eviction) gv empty)
 
 pub push_at-requires-clause-new_id : goal.push_at-requires-clause-new_id
-push_at-requires-clause-new_id g c κs within =
+push_at-requires-clause-new_id g c =
     let s = c.args.self.now in
     let lawful = g.met.E.Eviction.lawful in
     let laws = g.met.K.Eq.laws in
@@ -203,7 +203,7 @@ push_at-requires-clause-new_id g c κs within =
     (g.E.Eviction.view c.give_way-gone.new.eviction) gv c.requires.fits).new
 
 pub push_at-requires-clause-fits : goal.push_at-requires-clause-fits
-push_at-requires-clause-fits g c κs within =
+push_at-requires-clause-fits g c =
     let s = c.args.self.now in
     let lawful = g.met.E.Eviction.lawful in
     let laws = g.met.K.Eq.laws in

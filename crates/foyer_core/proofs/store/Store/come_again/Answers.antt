@@ -2,12 +2,14 @@ use Rattle.std.proofs.Common.{◌≡◌, ◌+◌, ◌<◌, ℕ, Some, false, sym
 use Rattle.foyer_core.specs.Values.{Kept, Rec, Incoming}
 use Rattle.foyer_core.specs.Stores.{meaning_of, state_of}
 use Rattle.foyer_core.specs.State.{is_phantom_record}
-use Rattle.foyer_core.specs.Steps.{MayBy}
+use Rattle.foyer_policy.specs.declared.error.Reason.TheVariants.{NoMemory}
+use Rattle.foyer_core.specs.Steps.{MayBy, RefusesInsert}
 use Rattle.foyer_core.specs.Table.{rec_of}
 use Rattle.foyer_core.specs.Records.{slot_in}
 use Rattle.foyer_core.proofs.InflightLemmas.{one}
 use Rattle.foyer_core.proofs.Returning.{memory_refuses}
 use Rattle.foyer_core.proofs.StoredLemmas.{slot_record}
+use Rattle.foyer_core.proofs.Told.{goes_start}
 use Rattle.foyer_core.proofs.store.Store.come_again.Goals as goal
 
 pub returns-in_default-share-clause-inserted : goal.returns-in_default-share-clause-inserted
@@ -23,15 +25,12 @@ returns-in_default-share-clause-inserted g c y is =
     (λ (n : ℕ). let i : Incoming g.row.K.Denot g.row.V.Denot g.row.P.Denot = record
     { id = x.id; kept = x.kept; handles = n + 1 + c.args.further.count } in MayBy m (is_phantom_record m x.kept)
     (state_of s) i) c.handles-handles.ensures c.in_default-slot_refusal.ensures.none in
-    rw (
-      c.new-in_default-share-2.ensures.error,
-      c.new-in_default-share-2.ensures.leaves,
-      c.new-in_default-share.ensures.items,
-      sym same,
-    ) (memory_refuses m (state_of s) inc may)
+    rw (c.new-in_default-share.ensures, sym same)
+    (goes_start c.args.leaves.now.items (λ ls. RefusesInsert m (state_of s) inc NoMemory ls (state_of s))
+    (memory_refuses m (state_of s) inc may))
 
-pub come_by-requires-clause-out : goal.come_by-requires-clause-out
-come_by-requires-clause-out g c κs within r is =
+pub come-requires-clause-out : goal.come-requires-clause-out
+come-requires-clause-out g c κs within r is =
     let s = c.args.self.now in
     let m = meaning_of s in
     let x = c.in-Some.found.now in

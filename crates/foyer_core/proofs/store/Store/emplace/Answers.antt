@@ -1,23 +1,34 @@
-use Rattle.std.proofs.Common.{◌+◌}
-use Rattle.foyer_core.specs.Steps.{Inserts, RefusesInsert, newcomer}
+use Rattle.std.proofs.Common.{◌≡◌, ◌+◌, ap, arith}
+use Rattle.foyer_policy.specs.declared.error.Reason.TheVariants.{NoMemory}
+use Rattle.foyer_core.specs.Values.{Kept}
+use Rattle.foyer_core.specs.Steps.{RefusesInsert, newcomer}
 use Rattle.foyer_core.specs.Stores.{meaning_of, state_of}
-use Rattle.foyer_core.proofs.Told.{goes_all}
+use Rattle.foyer_core.proofs.AdmitLemmas.{new_out}
+use Rattle.foyer_core.proofs.Holdings.{holding}
+use Rattle.foyer_core.proofs.Returning.{memory_refuses}
+use Rattle.foyer_core.proofs.Told.{goes_start}
 use Rattle.foyer_core.proofs.store.Store.emplace.Goals as goal
 
-pub returns-in-Ok-clause-inserted : goal.returns-in-Ok-clause-inserted
-returns-in-Ok-clause-inserted g c =
+pub returns-in-Some-clause-inserted : goal.returns-in-Some-clause-inserted
+returns-in-Some-clause-inserted g c =
     let s = c.args.self.now in
-    goes_all c.emplace_onto.new.leaves.items
-    (λ ls. Inserts (meaning_of s) c.args.source (state_of s)
-    (newcomer (state_of s) c.args.kept (1 + c.args.further.count)) ls c.in-Ok.entry
-    (state_of c.emplace_onto.new.self))
-    (rw c.new-leaves.ensures.items at c.in-Ok.ensures.inserted)
-
-pub returns-in-Err-clause-inserted : goal.returns-in-Err-clause-inserted
-returns-in-Err-clause-inserted g c =
-    let s = c.args.self.now in
-    goes_all c.emplace_onto.new.leaves.items
+    rw c.new.ensures
+    (goes_start c.args.leaves.now.items
     (λ ls. RefusesInsert (meaning_of s) (state_of s)
-    (newcomer (state_of s) c.args.kept (1 + c.args.further.count)) c.in-Err.error ls
-    (state_of c.emplace_onto.new.self))
-    (rw c.new-leaves.ensures.items at c.in-Err.ensures.inserted)
+    (newcomer (state_of s) c.args.kept (1 + c.args.further.count)) c.in-Some.reason ls (state_of s))
+    c.in-Some.ensures.some)
+
+pub returns-in_default-new-clause-inserted : goal.returns-in_default-new-clause-inserted
+returns-in_default-new-clause-inserted g c =
+    let s = c.args.self.now in
+    let i = newcomer (state_of s) c.args.kept (1 + c.args.further.count) in
+    rw c.new-in_default-new.ensures
+    (goes_start c.args.leaves.now.items (λ ls. RefusesInsert (meaning_of s) (state_of s) i NoMemory ls (state_of s))
+    (memory_refuses (meaning_of s) (state_of s) i c.in_default.ensures.none))
+
+pub come-requires-clause-out : goal.come-requires-clause-out
+come-requires-clause-out g c κs within =
+    let id : c.outside-slot.result.id ≡ c.args.self.now.next =
+    ap (λ (x : Kept g.row.K.Denot g.row.V.Denot g.row.P.Denot). x.id) c.outside-slot.ensures in
+    new_out (meaning_of c.args.self.now) g.met.K.Eq.laws g.met.E.Eviction.lawful (holding c.args.self.now)
+    c.outside-slot.result.id (omega arith)

@@ -72,8 +72,8 @@ returns-then-not-is_resident-clause-taken g c =
           (named_id s.records c.args.entry.id c.in-Some.slot named x there) (c.forget.ensures x there),
     )
 
-pub release-requires-after_bounds : goal.release-requires-after_bounds
-release-requires-after_bounds g c κs within =
+pub release-requires : goal.release-requires
+release-requires g c =
     let s = c.args.self.now in
     let x = c.in-Some-get.found.now in
     let there : slot_in s.records c.in-Some.slot ≡ Some x = sym (rw c.in-Some-get.is at c.get.ensures) in

@@ -40,15 +40,8 @@ returns-then-passes_limit-clause-handed g c y is =
     let rec : (state_of s).records x.id ≡ Some (rec_of x) = slot_record m (g.E.Eviction.at s.eviction)
     (g.I.Finder.view s.index) s.records c.args.slot x there in
     let same : x ≡ y = one x y (sym there ∙ is) in
-    rw (c.new-then-passes_limit.ensures.error, c.new-then-passes_limit.ensures.leaves, c.new.ensures.items, sym same) (
-      refl,
-      (
-        rec_of x,
-        rec,
-        omega (arith, c.handles.ensures, c.passes_limit.ensures.passes.0 c.if-passes_limit.true),
-        refl,
-      ),
-    )
+    rw (c.new.ensures, sym same)
+    (rec_of x, rec, omega (arith, c.handles.ensures, c.passes_limit.ensures.passes.0 c.if-passes_limit.true), refl)
 
 pub returns-in_default-entry-clause-handed : goal.returns-in_default-entry-clause-handed
 returns-in_default-entry-clause-handed g c y is =
@@ -59,15 +52,8 @@ returns-in_default-entry-clause-handed g c y is =
     let rec : (state_of s).records x.id ≡ Some (rec_of x) = slot_record m (g.E.Eviction.at s.eviction)
     (g.I.Finder.view s.index) s.records c.args.slot x there in
     let same : x ≡ y = one x y (sym there ∙ is) in
-    rw (
-      c.new-in_default-entry-2.ensures.error,
-      c.new-in_default-entry-2.ensures.leaves,
-      c.new-in_default-entry.ensures.items,
-      sym same,
-    ) (
-      refl,
-      (rec_of x, rec, omega (arith, c.handles.ensures, c.passes_limit.ensures.within c.if-passes_limit.false), refl),
-    )
+    rw (c.new-in_default-entry.ensures, sym same)
+    (rec_of x, rec, omega (arith, c.handles.ensures, c.passes_limit.ensures.within c.if-passes_limit.false), refl)
 
 pub returns-in_default-entries-clause-handed : goal.returns-in_default-entries-clause-handed
 returns-in_default-entries-clause-handed g c y is =
@@ -78,20 +64,8 @@ returns-in_default-entries-clause-handed g c y is =
     let rec : (state_of s).records x.id ≡ Some (rec_of x) = slot_record m (g.E.Eviction.at s.eviction)
     (g.I.Finder.view s.index) s.records c.args.slot x there in
     let same : x ≡ y = one x y (sym there ∙ is) in
-    rw (
-      c.new-in_default-entries-2.ensures.error,
-      c.new-in_default-entries-2.ensures.leaves,
-      c.new-in_default-entries.ensures.items,
-      sym same,
-    ) (
-      refl,
-      (
-        rec_of x,
-        rec,
-        omega (arith, c.handles.ensures, c.passes_limit.ensures.within c.if-passes_limit.false),
-        refl,
-      ),
-    )
+    rw (c.new-in_default-entries.ensures, sym same)
+    (rec_of x, rec, omega (arith, c.handles.ensures, c.passes_limit.ensures.within c.if-passes_limit.false), refl)
 
 pub returns-clause-handed : goal.returns-clause-handed
 returns-clause-handed g c y is =
@@ -109,7 +83,7 @@ returns-clause-handed g c y is =
       rec = rec_of x;
       there = rec;
       may = omega (arith, c.handles.ensures, c.passes_limit.ensures.within c.if-passes_limit.false);
-      leaves = c.new-2.ensures.items;
+      leaves = refl;
       entry_is = c.in-Ok.ensures.entry;
       after = after;
     }

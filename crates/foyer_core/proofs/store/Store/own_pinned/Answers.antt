@@ -14,8 +14,8 @@ unreachable-requires g c =
     none_not (slot_in s.records c.in-Some.slot)
     (s.stored.led (c.args.hash, c.args.key.now) c.in-Some.slot (sym c.slot_under.ensures ∙ c.in-Some.is)) none
 
-pub is_pinned-pinned-requires-after_bounds : goal.is_pinned-pinned-requires-after_bounds
-is_pinned-pinned-requires-after_bounds g c κs within =
+pub is_pinned-pinned-requires : goal.is_pinned-pinned-requires
+is_pinned-pinned-requires g c =
     let s = c.args.self.now in
     let x = c.in-Some-get.found.now in
     let there : slot_in s.records c.in-Some.slot ≡ Some x = sym (rw c.in-Some-get.is at c.get.ensures) in

@@ -67,8 +67,8 @@ returns-in_err-entry g c =
           ));
     }
 
-pub remove-item-requires-after_bounds : goal.remove-item-requires-after_bounds
-remove-item-requires-after_bounds g c κs within =
+pub remove-item-requires : goal.remove-item-requires
+remove-item-requires g c =
     let s = c.args.self.now in
     let k : ℕ × g.row.K.Denot = (c.args.hash, c.args.key.now) in
     let x = c.in-Some-get.found.now in

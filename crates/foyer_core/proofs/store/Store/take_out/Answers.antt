@@ -21,8 +21,8 @@ unreachable-requires g c =
     none_not (number_of s.records c.args.id) (out_known m g.met.K.Eq.laws g.met.E.Eviction.lawful (holding s)
     c.args.id c.requires) (sym c.find.ensures ∙ c.in_default.is)
 
-pub remove-item-requires-after_bounds : goal.remove-item-requires-after_bounds
-remove-item-requires-after_bounds g c κs within =
+pub remove-item-requires : goal.remove-item-requires
+remove-item-requires g c =
     let s = c.args.self.now in
     let lawful = g.met.E.Eviction.lawful in
     let laws = g.met.K.Eq.laws in

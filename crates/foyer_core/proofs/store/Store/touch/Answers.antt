@@ -34,8 +34,8 @@ returns-then-handles-self g c =
       );
     }
 
-pub acquire-requires-after_bounds : goal.acquire-requires-after_bounds
-acquire-requires-after_bounds g c κs within =
+pub acquire-requires : goal.acquire-requires
+acquire-requires g c =
     let s = c.args.self.now in
     let x = c.in-Some-get.found.now in
     let there : slot_in s.records c.in-Some.slot ≡ Some x = sym (rw c.in-Some-get.is at c.get.ensures) in
@@ -89,8 +89,8 @@ returns-then-handles-gt0 g c =
     let room : x.handles < s.limits.handles = omega (arith, c.handles-handles.ensures, c.if-handles-self.false) in
     record { touches = touched m laws lawful (holding s) k c.in-Some.slot led x there room view is }
 
-pub release-requires-after_bounds : goal.release-requires-after_bounds
-release-requires-after_bounds g c κs within =
+pub release-requires : goal.release-requires
+release-requires g c =
     let s = c.args.self.now in
     let x = c.in-Some-get.found.now in
     let there : slot_in s.records c.in-Some.slot ≡ Some x = sym (rw c.in-Some-get.is at c.get.ensures) in

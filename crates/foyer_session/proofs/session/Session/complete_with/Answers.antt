@@ -8,7 +8,7 @@ use Rattle.foyer_core.specs.Inflight.{asked}
 use Rattle.foyer_core.specs.State.{coming_in}
 use Rattle.foyer_core.specs.Waited.{ending_of}
 use Rattle.foyer_session.specs.Sessions.{session_of, meaning_of_session}
-use Rattle.foyer_session.proofs.CoreLemmas.{kept_at, open_at}
+use Rattle.foyer_session.proofs.CoreLemmas.{alike_at, kept_at, open_at}
 use Rattle.foyer_session.proofs.EndOwns.{completed_owns}
 use Rattle.foyer_session.proofs.EndTells.{asked_counted, ended_waiting, tells_end}
 use Rattle.foyer_session.proofs.FoundLemmas.{next_unused}
@@ -19,6 +19,7 @@ tell_ended-requires-clause-counted g c =
     let s = c.args.self.now in
     let so = c.complete_in-ended.ensures.answering in
     let few = asked_counted g.K.PartialEq.eq (fetches_of s.core) (open_at s.core)
+    (alike_at g.met.K.Eq.laws s.core)
     (hashes_of s.core c.args.key.now, c.args.key.now) c.args.fetch s.waiting _ refl s.waits in
     omega (arith, few, ap length so.waiters, c.complete_in-ended.result.answers.waiters.ok.0)
 
@@ -27,6 +28,7 @@ tell_ended-requires-clause-room g c =
     let s = c.args.self.now in
     let so = c.complete_in-ended.ensures.answering in
     let few = asked_counted g.K.PartialEq.eq (fetches_of s.core) (open_at s.core)
+    (alike_at g.met.K.Eq.laws s.core)
     (hashes_of s.core c.args.key.now, c.args.key.now) c.args.fetch s.waiting _ refl s.waits in
     omega (arith, few, ap length so.waiters, c.complete_in-ended.result.answers.waiters.ok.0, s.room)
 
@@ -49,7 +51,7 @@ invariant_of-self-clause-owns g c =
     (ending_of c.complete_in-ended.result) s.handles.items o
     (λ x there. s.core.belong (shard_of (core_of s.core) k.0) x there)
     (λ x there. ∥∥₁_elim (kept_at s.core k.0 x there) (hlevel props) (λ kept. next_unused m x kept))
-    (hashes_of s.core) (g.W.Weighter.weighs s.core.weighter) (g.A.Filter.admits s.core.filter)
+    (hashes_of s.core) (g.W.Weighter.weighs s.core.rules.weighter) (g.A.Filter.admits s.core.rules.filter)
     (λ properties admitted. coming_in g.P.Properties.location_of g.P.Properties.with_phantom_of admitted properties)
     c.args.source c.args.target (asked (Some c.args.fetch) (open_in (fetches_of s.core) k))
     c.complete_in-ended.ensures.completed))
@@ -59,6 +61,7 @@ invariant_of-self-clause-waits g c =
     let s = c.args.self.now in
     let so = c.complete_in-ended.ensures.answering in
     ended_waiting g.K.PartialEq.eq (fetches_of s.core) (open_at s.core)
+    (alike_at g.met.K.Eq.laws s.core)
     (hashes_of s.core c.args.key.now, c.args.key.now) c.args.fetch s.waiting _ refl
     (fetches_of c.complete_in-ended.new.core) c.tell_ended.new.waiting so.closes
     (omega (

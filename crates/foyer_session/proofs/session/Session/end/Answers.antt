@@ -4,7 +4,7 @@ use Rattle.foyer_core.specs.Cores.{core_of, fetches_of, hashes_of}
 use Rattle.foyer_core.specs.Waited.{ending_of}
 use Rattle.foyer_session.specs.Sessions.{session_of}
 use Rattle.foyer_session.specs.Step.{entries_by}
-use Rattle.foyer_session.proofs.CoreLemmas.{open_at}
+use Rattle.foyer_session.proofs.CoreLemmas.{alike_at, open_at}
 use Rattle.foyer_session.proofs.EndOwns.{same_owns}
 use Rattle.foyer_session.proofs.EndTells.{asked_counted, ended_waiting, tells_end}
 use Rattle.foyer_session.proofs.session.Session.end.Goals as goal
@@ -14,6 +14,7 @@ tell_ended-requires-clause-counted g c =
     let s = c.args.self.now in
     let so = c.end_in-ended.ensures.answering in
     let few = asked_counted g.K.PartialEq.eq (fetches_of s.core) (open_at s.core)
+    (alike_at g.met.K.Eq.laws s.core)
     (hashes_of s.core c.args.key.now, c.args.key.now) c.args.fetch s.waiting _ refl s.waits in
     omega (arith, few, ap length so.waiters, c.end_in-ended.result.answers.waiters.ok.0)
 
@@ -22,6 +23,7 @@ tell_ended-requires-clause-room g c =
     let s = c.args.self.now in
     let so = c.end_in-ended.ensures.answering in
     let few = asked_counted g.K.PartialEq.eq (fetches_of s.core) (open_at s.core)
+    (alike_at g.met.K.Eq.laws s.core)
     (hashes_of s.core c.args.key.now, c.args.key.now) c.args.fetch s.waiting _ refl s.waits in
     omega (arith, few, ap length so.waiters, c.end_in-ended.result.answers.waiters.ok.0, s.room)
 
@@ -46,6 +48,7 @@ invariant_of-self-clause-waits g c =
     let s = c.args.self.now in
     let so = c.end_in-ended.ensures.answering in
     ended_waiting g.K.PartialEq.eq (fetches_of s.core) (open_at s.core)
+    (alike_at g.met.K.Eq.laws s.core)
     (hashes_of s.core c.args.key.now, c.args.key.now) c.args.fetch s.waiting _ refl
     (fetches_of c.end_in-ended.new.core) c.tell_ended.new.waiting so.closes
     (omega (arith, c.tell_ended.ensures.waiting, ap length so.waiters, c.end_in-ended.result.answers.waiters.ok.0))

@@ -4,7 +4,7 @@ use Rattle.std.proofs.Props.{props}
 use Rattle.foyer_core.specs.Cores.{core_of, fetches_of, hashes_of}
 use Rattle.foyer_session.specs.Sessions.{session_of, meaning_of_session}
 use Rattle.foyer_session.specs.Step.{given}
-use Rattle.foyer_session.proofs.CoreLemmas.{fetches_long, kept_at}
+use Rattle.foyer_session.proofs.CoreLemmas.{alike_at, fetches_long, kept_at, open_at}
 use Rattle.foyer_session.proofs.FoundLemmas.{found_hash}
 use Rattle.foyer_session.proofs.HandLemmas.{one_longer}
 use Rattle.foyer_session.proofs.LookLemmas.{led_core, led_waits, looked_hit, looked_refused, waited_core, waited_waits}
@@ -98,7 +98,8 @@ invariant_of-self-in-Lead g c =
           (led_core m (core_of s.core) (fetches_of s.core) (core_of t) (fetches_of t) k c.args.later lead.fetch
           lead.token _ at) s.owns;
       waits = led_waits m (core_of s.core) (fetches_of s.core) (core_of t) (fetches_of t) k c.args.later
-          (fetches_long s.core) s.waiting s.waits lead.fetch lead.token _ at;
+          g.met.K.Eq.laws (open_at s.core) (alike_at g.met.K.Eq.laws s.core) (fetches_long s.core) s.waiting s.waits
+          lead.fetch lead.token _ at;
       room = omega (arith, c.requires.room);
     }
 
@@ -120,7 +121,8 @@ invariant_of-self-in-Wait g c =
           (waited_core m (core_of s.core) (fetches_of s.core) (core_of t) (fetches_of t) k c.args.later wait.token at)
           s.owns;
       waits = waited_waits m (core_of s.core) (fetches_of s.core) (core_of t) (fetches_of t) k c.args.later
-          (fetches_long s.core) s.waiting s.waits wait.token at;
+          g.met.K.Eq.laws (open_at s.core) (alike_at g.met.K.Eq.laws s.core) (fetches_long s.core) s.waiting s.waits
+          wait.token at;
       room = omega (arith, c.requires.room);
     }
 

@@ -11,9 +11,10 @@ use Rattle.foyer_core.specs.Waited.{denied_of, made_of}
 use Rattle.foyer_session.specs.Sessions.{session_of, meaning_of_session, terms_of}
 use Rattle.foyer_session.specs.Step.{data_of, given}
 use Rattle.foyer_session.specs.Tokens.{handles_from, numbers_of}
-use Rattle.foyer_session.proofs.CoreLemmas.{kept_at, open_at}
+use Rattle.foyer_session.proofs.CoreLemmas.{alike_at, kept_at, open_at}
 use Rattle.foyer_session.proofs.CountLemmas.{refused_by_alike}
 use Rattle.foyer_session.proofs.FoundLemmas.{next_unused}
+use Rattle.foyer_session.proofs.NewEntries.{new_answers, new_closes}
 use Rattle.foyer_session.proofs.PieceLemmas.{inserts_gives}
 use Rattle.foyer_session.proofs.StepLemmas.{given_owns, stayed_owns}
 use Rattle.foyer_session.proofs.WaitsLemmas.{closed_waiting, still_waiting, waiting_counted}
@@ -23,20 +24,22 @@ pub tell_inserted-requires-clause-counted : goal.tell_inserted-requires-clause-c
 tell_inserted-requires-clause-counted g c =
     let s = c.args.self.now in
     let hash = hashes_of s.core c.args.key in
-    let few = waiting_counted g.K.PartialEq.eq (fetches_of s.core) (open_at s.core) (hash, c.args.key) hash refl
+    let few = waiting_counted g.K.PartialEq.eq (fetches_of s.core) (open_at s.core)
+    (alike_at g.met.K.Eq.laws s.core) (hash, c.args.key) hash refl
     s.waiting s.waits in
-    omega (arith, few, ap length c.in-Ok.ensures.answers.0, c.in-Ok.inserted.answers.waiters.ok.0)
+    omega (arith, few, ap length (new_answers g.K.PartialEq.eq c.in-Ok.ensures.given c.in-Ok.ensures.fetches).0, c.in-Ok.inserted.answers.waiters.ok.0)
 
 pub tell_inserted-requires-clause-room : goal.tell_inserted-requires-clause-room
 tell_inserted-requires-clause-room g c =
     let s = c.args.self.now in
     let hash = hashes_of s.core c.args.key in
-    let few = waiting_counted g.K.PartialEq.eq (fetches_of s.core) (open_at s.core) (hash, c.args.key) hash refl
+    let few = waiting_counted g.K.PartialEq.eq (fetches_of s.core) (open_at s.core)
+    (alike_at g.met.K.Eq.laws s.core) (hash, c.args.key) hash refl
     s.waiting s.waits in
-    omega (arith, few, ap length c.in-Ok.ensures.answers.0, c.in-Ok.inserted.answers.waiters.ok.0, c.requires.room)
+    omega (arith, few, ap length (new_answers g.K.PartialEq.eq c.in-Ok.ensures.given c.in-Ok.ensures.fetches).0, c.in-Ok.inserted.answers.waiters.ok.0, c.requires.room)
 
 pub tell_inserted-requires-clause-each : goal.tell_inserted-requires-clause-each
-tell_inserted-requires-clause-each g c = (let each = c.in-Ok.ensures.answers in rw each.0 each.1)
+tell_inserted-requires-clause-each g c = (let each = new_answers g.K.PartialEq.eq c.in-Ok.ensures.given c.in-Ok.ensures.fetches in rw each.0 each.1)
 
 pub invariant_of-self-clause-owns : goal.invariant_of-self-clause-owns
 invariant_of-self-clause-owns g c =
@@ -46,7 +49,7 @@ invariant_of-self-clause-owns g c =
     let new = core_of c.insert_with_properties.new.self in
     let told = c.tell_inserted.ensures in
     let did = c.in-Ok.ensures.inserted in
-    let each = c.in-Ok.ensures.answers.0 in
+    let each = (new_answers g.K.PartialEq.eq c.in-Ok.ensures.given c.in-Ok.ensures.fetches).0 in
     let hash = hashes_of s.core c.args.key in
     let n : ℕ = 1 + length (waiters_of (open_in (fetches_of s.core) (hash, c.args.key))) in
     let d = data_of (terms_of s) (session_of s) c.args.key c.args.value c.args.properties did.weight did.admitted in
@@ -63,12 +66,13 @@ pub invariant_of-self-clause-waits : goal.invariant_of-self-clause-waits
 invariant_of-self-clause-waits g c =
     let s = c.args.self.now in
     let hash = hashes_of s.core c.args.key in
-    closed_waiting g.K.PartialEq.eq (fetches_of s.core) (open_at s.core) (hash, c.args.key) hash refl s.waiting
-    (fetches_of c.insert_with_properties.new.self) c.tell_inserted.new.waiting c.in-Ok.ensures.closed
+    closed_waiting g.K.PartialEq.eq (fetches_of s.core) (open_at s.core)
+    (alike_at g.met.K.Eq.laws s.core) (hash, c.args.key) hash refl s.waiting
+    (fetches_of c.insert_with_properties.new.self) c.tell_inserted.new.waiting (new_closes g.K.PartialEq.eq c.in-Ok.ensures.given c.in-Ok.ensures.fetches)
     (omega (
       arith,
       c.tell_inserted.ensures.waiting,
-      ap length c.in-Ok.ensures.answers.0,
+      ap length (new_answers g.K.PartialEq.eq c.in-Ok.ensures.given c.in-Ok.ensures.fetches).0,
       c.in-Ok.inserted.answers.waiters.ok.0,
     )) s.waits
 
@@ -99,7 +103,7 @@ returns-in-Ok-clause-step g c =
     let made = c.in-Ok.inserted in
     let told = c.tell_inserted.ensures in
     let did = c.in-Ok.ensures.inserted in
-    let each = c.in-Ok.ensures.answers.0 in
+    let each = (new_answers g.K.PartialEq.eq c.in-Ok.ensures.given c.in-Ok.ensures.fetches).0 in
     rw (told.answer, told.leaves) (
       did.weight,
       did.admitted,
@@ -114,7 +118,7 @@ returns-in-Ok-clause-step g c =
         handles = told.handles ∙ ap (λ ws. s.handles.items ++ replicate (1 + length ws) (given made.entry)) each;
         pieces = refl;
       },
-      c.in-Ok.ensures.closed,
+      (new_closes g.K.PartialEq.eq c.in-Ok.ensures.given c.in-Ok.ensures.fetches),
     )
 
 pub returns-in-Err-clause-step : goal.returns-in-Err-clause-step

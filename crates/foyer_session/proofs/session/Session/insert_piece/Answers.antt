@@ -12,7 +12,7 @@ use Rattle.foyer_core.specs.Waited.{denied_of, made_of}
 use Rattle.foyer_session.specs.Sessions.{meaning_of_session}
 use Rattle.foyer_session.specs.Step.{given}
 use Rattle.foyer_session.specs.Tokens.{handles_from, numbers_of}
-use Rattle.foyer_session.proofs.CoreLemmas.{kept_at, open_at}
+use Rattle.foyer_session.proofs.CoreLemmas.{alike_at, kept_at, open_at}
 use Rattle.foyer_session.proofs.FoundLemmas.{next_unused}
 use Rattle.foyer_session.proofs.PieceLemmas.{piece_alike, piece_gives, piece_key}
 use Rattle.foyer_session.proofs.PieceHome.{came_home}
@@ -25,21 +25,23 @@ tell_inserted-requires-clause-counted g c =
     let s = c.args.self.now in
     let made = c.in-Ok-insert_piece.inserted in
     let hash = hashes_of s.core c.in-Ok.piece.kept.key in
-    let few = waiting_counted g.K.PartialEq.eq (fetches_of s.core) (open_at s.core) (key_of made.entry.kept) hash
+    let few = waiting_counted g.K.PartialEq.eq (fetches_of s.core) (open_at s.core)
+    (alike_at g.met.K.Eq.laws s.core) (key_of made.entry.kept) hash
     (came_home s.core _ c.in-Ok.piece (made_of made) _ _ c.in-Ok-insert_piece.ensures.inserted) s.waiting s.waits in
-    omega (arith, few, ap length c.in-Ok-insert_piece.ensures.answers.0, made.answers.waiters.ok.0)
+    omega (arith, few, ap length c.in-Ok-insert_piece.ensures.fetches.each.0, made.answers.waiters.ok.0)
 
 pub tell_inserted-requires-clause-room : goal.tell_inserted-requires-clause-room
 tell_inserted-requires-clause-room g c =
     let s = c.args.self.now in
     let made = c.in-Ok-insert_piece.inserted in
     let hash = hashes_of s.core c.in-Ok.piece.kept.key in
-    let few = waiting_counted g.K.PartialEq.eq (fetches_of s.core) (open_at s.core) (key_of made.entry.kept) hash
+    let few = waiting_counted g.K.PartialEq.eq (fetches_of s.core) (open_at s.core)
+    (alike_at g.met.K.Eq.laws s.core) (key_of made.entry.kept) hash
     (came_home s.core _ c.in-Ok.piece (made_of made) _ _ c.in-Ok-insert_piece.ensures.inserted) s.waiting s.waits in
-    omega (arith, few, ap length c.in-Ok-insert_piece.ensures.answers.0, made.answers.waiters.ok.0, c.requires.room)
+    omega (arith, few, ap length c.in-Ok-insert_piece.ensures.fetches.each.0, made.answers.waiters.ok.0, c.requires.room)
 
 pub tell_inserted-requires-clause-each : goal.tell_inserted-requires-clause-each
-tell_inserted-requires-clause-each g c = (let each = c.in-Ok-insert_piece.ensures.answers in rw each.0 each.1)
+tell_inserted-requires-clause-each g c = (let each = c.in-Ok-insert_piece.ensures.fetches.each in rw each.0 each.1)
 
 pub invariant_of-self-clause-owns : goal.invariant_of-self-clause-owns
 invariant_of-self-clause-owns g c =
@@ -51,10 +53,10 @@ invariant_of-self-clause-owns g c =
     let told = c.tell_inserted.ensures in
     let hash = hashes_of s.core piece.kept.key in
     let place = shard_of (core_of s.core) hash in
-    let weighs = g.W.Weighter.weighs s.core.weighter piece.kept.key piece.kept.value in
+    let weighs = g.W.Weighter.weighs s.core.rules.weighter piece.kept.key piece.kept.value in
     let at = c.in-Ok-insert_piece.ensures.inserted in
     let n : ℕ = 1 + length (waiters_of (open_in (fetches_of s.core) (coming_under at.before hash piece))) in
-    let each = c.in-Ok-insert_piece.ensures.answers.0 in
+    let each = c.in-Ok-insert_piece.ensures.fetches.each.0 in
     let key = piece_key m at.before at.after weighs hash piece (made_of made) n at.stepped in
     let shape = told.handles ∙ ap (λ ws. s.handles.items ++ replicate (1 + length ws) (given made.entry))
     (each ∙ ap (λ q. waiters_of (open_in (fetches_of s.core) q)) key) in
@@ -71,13 +73,14 @@ invariant_of-self-clause-waits g c =
     let s = c.args.self.now in
     let made = c.in-Ok-insert_piece.inserted in
     let hash = hashes_of s.core c.in-Ok.piece.kept.key in
-    closed_waiting g.K.PartialEq.eq (fetches_of s.core) (open_at s.core) (key_of made.entry.kept) hash
+    closed_waiting g.K.PartialEq.eq (fetches_of s.core) (open_at s.core)
+    (alike_at g.met.K.Eq.laws s.core) (key_of made.entry.kept) hash
     (came_home s.core _ c.in-Ok.piece (made_of made) _ _ c.in-Ok-insert_piece.ensures.inserted) s.waiting
-    (fetches_of c.insert_piece.new.self) c.tell_inserted.new.waiting c.in-Ok-insert_piece.ensures.closed
+    (fetches_of c.insert_piece.new.self) c.tell_inserted.new.waiting c.in-Ok-insert_piece.ensures.fetches.closes
     (omega (
       arith,
       c.tell_inserted.ensures.waiting,
-      ap length c.in-Ok-insert_piece.ensures.answers.0,
+      ap length c.in-Ok-insert_piece.ensures.fetches.each.0,
       made.answers.waiters.ok.0,
     )) s.waits
 
@@ -88,7 +91,7 @@ invariant_of-self-in-Err-insert_piece g c =
     let piece = c.in-Ok.piece in
     let new = core_of c.insert_piece.new.self in
     let hash = hashes_of s.core piece.kept.key in
-    let weighs = g.W.Weighter.weighs s.core.weighter piece.kept.key piece.kept.value in
+    let weighs = g.W.Weighter.weighs s.core.rules.weighter piece.kept.key piece.kept.value in
     let at = c.in-Err.ensures.inserted in
     let n : ℕ = 1 + length (waiters_of (open_in (fetches_of s.core) (coming_under at.before hash piece))) in
     record {
@@ -116,7 +119,7 @@ returns-in-Ok-insert_piece-clause-step g c =
     let piece = c.in-Ok.piece in
     let made = c.in-Ok-insert_piece.inserted in
     let told = c.tell_inserted.ensures in
-    let each = c.in-Ok-insert_piece.ensures.answers.0 in
+    let each = c.in-Ok-insert_piece.ensures.fetches.each.0 in
     let there : slice_get s.pieces.items c.args.number ≡ Some piece =
     rw (c.as_slice.ensures.value, sym c.in-Ok.ensures.cases) at c.in-Some.ensures.some in
     rw (told.answer, told.leaves) (
@@ -131,7 +134,7 @@ returns-in-Ok-insert_piece-clause-step g c =
         handles = told.handles ∙ ap (λ ws. s.handles.items ++ replicate (1 + length ws) (given made.entry)) each;
         pieces = refl;
       },
-      c.in-Ok-insert_piece.ensures.closed,
+      c.in-Ok-insert_piece.ensures.fetches.closes,
     )
 
 pub returns-in-Err-clause-step : goal.returns-in-Err-clause-step

@@ -1,7 +1,0 @@
--- An opening owns nothing, so it may go to any thread.
-use denote.RattleType.{RattleType}
-use denote.Param.Send.{IsSend, owning_send, sendable}
-use Rattle.foyer_audit.specs.contracts.book.opening.Opening.{the_row, the_type}
-
-pub send : (T : RattleType) → IsSend (the_row T)
-send T = owning_send (the_type T) (search sendable, tt) (λ d. tt) (λ k x w. tt)

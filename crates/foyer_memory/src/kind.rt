@@ -1,0 +1,61 @@
+//! The five policies by name.
+
+ghost use Rattle.std.specs.Prelude.{◌≡◌};
+ghost use Rattle.foyer_memory.specs.Faults.{is_of, kind_of_config};
+
+use foyer_policy::EvictionConfig;
+
+/// Which of the five policies a cache has.
+#[derive(Clone, Copy, Debug, PartialEq, Eq)]
+pub enum Kind {
+    /// First in, first out.
+    Fifo,
+    /// S3-FIFO.
+    S3Fifo,
+    /// Least recently used.
+    Lru,
+    /// W-TinyLFU.
+    Lfu,
+    /// Sieve.
+    Sieve,
+}
+
+impl Kind {
+    /// The policy that a configuration is of.
+    pub fn of(config: &EvictionConfig) -> Self
+        ensures { result ≡ kind_of_config config.now }
+    {
+        match config {
+            EvictionConfig::Fifo(_) => Kind::Fifo,
+            EvictionConfig::S3Fifo(_) => Kind::S3Fifo,
+            EvictionConfig::Lru(_) => Kind::Lru,
+            EvictionConfig::Lfu(_) => Kind::Lfu,
+            EvictionConfig::Sieve(_) => Kind::Sieve,
+        }
+    }
+
+    /// Whether a configuration is of this policy.
+    pub fn has(self, config: &EvictionConfig) -> bool
+        ensures { result ≡ is_of self config.now }
+    {
+        match (self, config) {
+            (Kind::Fifo, EvictionConfig::Fifo(_)) => true,
+            (Kind::S3Fifo, EvictionConfig::S3Fifo(_)) => true,
+            (Kind::Lru, EvictionConfig::Lru(_)) => true,
+            (Kind::Lfu, EvictionConfig::Lfu(_)) => true,
+            (Kind::Sieve, EvictionConfig::Sieve(_)) => true,
+            _ => false,
+        }
+    }
+
+    // Its name, as texts have it.
+    pub(crate) fn name(self) -> &'static str {
+        match self {
+            Kind::Fifo => "Fifo",
+            Kind::S3Fifo => "S3Fifo",
+            Kind::Lru => "Lru",
+            Kind::Lfu => "Lfu",
+            Kind::Sieve => "Sieve",
+        }
+    }
+}

@@ -1,0 +1,129 @@
+//! The shards of a cache, each under a lock of its own.
+
+ghost use Rattle.std.specs.Prelude.{◌≡◌, ◌<◌, IfErr, IfOk, vec_len};
+ghost use Rattle.foyer_policy.specs.declared.error.Reason.TheVariants.{NoMemory};
+
+use crate::ticket::{Answer, Notifier};
+use foyer_core::{Finder, Shard};
+use foyer_policy::{Event, EventListener, Eviction, Key, Properties, Result, Value};
+use std::alloc::Global;
+use std::sync::{Mutex, MutexGuard, Wait};
+
+mod bulk;
+mod fetches;
+mod keys;
+
+pub(crate) use fetches::{Later, RawEnded};
+pub(crate) use keys::RawInserted;
+
+/// A shard of a cache whose waiters hold senders, and whose later builders are of this type.
+pub(crate) type RawShard<E, K, V, P, R, I> = Shard<E, K, V, P, Notifier<Answer<K, V, P>>, R, I>;
+
+/// The shards of a cache. Each call locks one shard, makes one step, and unlocks, or does so with each in turn.
+#[derive(Drop)]
+pub(crate) struct Shards<H, E, K, V, P, R, I>
+where
+    H: Drop,
+    E: Eviction,
+    K: Key,
+    V: Value,
+    P: Properties,
+    R: Drop,
+    I: Finder<K>,
+{
+    rt: H,
+    all: Vec<Mutex<RawShard<E, K, V, P, R, I>>>,
+    // The capacity, under the lock that orders changes of all shards.
+    capacity: Mutex<usize>,
+    pub(crate) alloc: Global,
+    ghost some: { 0 < vec_len all },
+}
+
+impl<H, E, K, V, P, R, I> Shards<H, E, K, V, P, R, I>
+where
+    H: Drop,
+    E: Eviction,
+    K: Key,
+    V: Value,
+    P: Properties,
+    R: Drop,
+    I: Finder<K>,
+{
+    // These shards, which share a capacity. Only memory can be missing (F7).
+    pub(crate) fn new(
+        rt: H,
+        alloc: Global,
+        made: Vec<RawShard<E, K, V, P, R, I>>,
+        capacity: usize,
+    ) -> Result<Self>
+        requires { 0 < vec_len made }
+        ensures { IfErr result (λ e. e ≡ NoMemory) }
+    {
+        Ok(Shards {
+            rt,
+            all: locked(alloc, made)?,
+            capacity: Mutex::new(capacity),
+            alloc,
+        })
+    }
+
+    // How many there are.
+    pub(crate) fn len(&self) -> usize {
+        self.all.len()
+    }
+
+    // Tells a listener all records that are still in, as `Clear`: shard by shard, in each policy's order, or where there is
+    // no memory for that order, in the order of slots.
+    pub(crate) fn finish<L: EventListener<Key = K, Value = V>>(self, listener: &L) {
+        let Shards { all, .. } = self;
+        for shard in all {
+            shard.into_inner().finish(&|key: &K, value: &V| listener.on_leave(
+                Event::Clear,
+                key,
+                value,
+            ));
+        }
+    }
+}
+
+impl<H, E, K, V, P, R, I> Shards<H, E, K, V, P, R, I>
+where
+    H: Wait + Drop,
+    E: Eviction,
+    K: Key,
+    V: Value,
+    P: Properties,
+    R: Drop,
+    I: Finder<K>,
+{
+    // The place of the shard in which the keys of a hash live.
+    pub(crate) fn index_of(&self, hash: u64) -> usize
+        ensures { result < vec_len self.now.all }
+    {
+        (hash % self.all.len() as u64) as usize
+    }
+
+    // The shard of a hash, locked. A lock that is free is had without waiting, which is cheaper.
+    pub(crate) fn lock(&self, hash: u64) -> MutexGuard<'_, RawShard<E, K, V, P, R, I>> {
+        let place = self.index_of(hash);
+        match self.all[place].try_lock() {
+            Some(shard) => shard,
+            None => self.all[place].lock(&self.rt),
+        }
+    }
+}
+
+// Each shard under a lock of its own.
+fn locked<E: Eviction, K: Key, V: Value, P: Properties, R: Drop, I: Finder<K>>(
+    alloc: Global,
+    made: Vec<RawShard<E, K, V, P, R, I>>,
+) -> Result<Vec<Mutex<RawShard<E, K, V, P, R, I>>>>
+    ensures len { IfOk result (λ all. vec_len all ≡ vec_len made) }
+    ensures memory { IfErr result (λ e. e ≡ NoMemory) }
+{
+    let mut all = Vec::new(alloc);
+    for shard in made {
+        all.push(Mutex::new(shard))?;
+    }
+    Ok(all)
+}

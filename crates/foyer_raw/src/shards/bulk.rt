@@ -1,0 +1,146 @@
+//! What is done with all shards, one after the other.
+
+ghost use Rattle.std.specs.Prelude.{◌≡◌, IsTrue, None};
+
+use super::Shards;
+use foyer_core::{Finder, Leave, Piece, shard_capacity};
+use foyer_policy::{Eviction, Key, Properties, Result, Value};
+use std::sync::Wait;
+
+impl<H, E, K, V, P, R, I> Shards<H, E, K, V, P, R, I>
+where
+    H: Wait + Drop,
+    E: Eviction,
+    K: Key,
+    V: Value,
+    P: Properties,
+    R: Drop,
+    I: Finder<K>,
+{
+    // The weight that the records may have together: that of the last resize, or else the first one.
+    pub(crate) fn capacity(&self) -> usize {
+        *self.capacity.lock(&self.rt)
+    }
+
+    // The sum of the weights of the records that a get finds.
+    pub(crate) fn usage(&self) -> u128 {
+        let mut sum = 0u128;
+        for shard in self.all.as_slice() {
+            let usage = shard.lock(&self.rt).usage();
+            sum = sum.saturating_add(usage as u128);
+        }
+        sum
+    }
+
+    // How many records a get finds.
+    pub(crate) fn entries(&self) -> u128 {
+        let mut sum = 0u128;
+        for shard in self.all.as_slice() {
+            let entries = shard.lock(&self.rt).entries();
+            sum = sum.saturating_add(entries as u128);
+        }
+        sum
+    }
+
+    // Takes everything out.
+    pub(crate) fn clear(&self, leaves: &mut Vec<Leave<K, V, P>>) -> Result<()> {
+        for shard in self.all.as_slice() {
+            shard.lock(&self.rt).clear_onto(leaves)?;
+        }
+        Ok(())
+    }
+
+    // Evicts all that is not pinned.
+    pub(crate) fn evict_all(&self, leaves: &mut Vec<Leave<K, V, P>>) -> Result<()> {
+        for shard in self.all.as_slice() {
+            shard.lock(&self.rt).evict_unpinned(leaves)?;
+        }
+        Ok(())
+    }
+
+    // Gives each shard its part of a capacity, and then evicts from each what is over. Resizes take turns.
+    pub(crate) fn resize(&self, capacity: usize, leaves: &mut Vec<Leave<K, V, P>>) -> Result<()> {
+        let mut resizing = self.capacity.lock(&self.rt);
+        *resizing = capacity;
+        self.share_out(capacity);
+        let done = self.evict_to_capacity(leaves);
+        drop(resizing);
+        done
+    }
+
+    // Gives each shard its part of a capacity.
+    fn share_out(&self, capacity: usize) {
+        let shards = self.all.as_slice();
+        for (number, shard) in shards.iter().enumerate() {
+            let part = shard_capacity(capacity, shards.len(), number);
+            shard.lock(&self.rt).set_capacity(part);
+        }
+    }
+
+    // Evicts from each shard what is over its capacity.
+    fn evict_to_capacity(&self, leaves: &mut Vec<Leave<K, V, P>>) -> Result<()> {
+        for shard in self.all.as_slice() {
+            shard.lock(&self.rt).evict_to_capacity(leaves)?;
+        }
+        Ok(())
+    }
+
+    // Whether each shard's policy takes a configuration as one of its own.
+    pub(crate) fn all_take(&self, config: &E::Config) -> bool
+        ensures { ((v : E.View) → IsTrue (E.model.takes v config.now)) → IsTrue result }
+    {
+        for shard in self.all.as_slice() {
+            if !shard.lock(&self.rt).takes(config) {
+                return false;
+            }
+        }
+        true
+    }
+
+    // Tells each shard's policy another configuration, where it takes it. That takes turns with resizes.
+    pub(crate) fn configure(&self, config: &E::Config)
+        requires { E.model.fault config.now ≡ None }
+    {
+        let resizing = self.capacity.lock(&self.rt);
+        for shard in self.all.as_slice() {
+            let mut shard = shard.lock(&self.rt);
+            if shard.takes(config) {
+                shard.configure(config);
+            }
+        }
+        drop(resizing);
+    }
+
+    // Evicts all that is not pinned, of each shard once there is room for its pieces.
+    pub(crate) fn flush(
+        &self,
+        leaves: &mut Vec<Leave<K, V, P>>,
+        pieces: &mut Vec<Piece<K, V, P>>,
+    ) -> Result<()> {
+        for shard in self.all.as_slice() {
+            let mut shard = shard.lock(&self.rt);
+            let room = leaves.len().saturating_add(shard.entries() as usize);
+            pieces.reserve(room)?;
+            shard.evict_unpinned(leaves)?;
+        }
+        Ok(())
+    }
+
+    // Takes the records out of which the predicate says yes, of each shard once there is room for its pieces.
+    pub(crate) fn flush_if<F: Fn(&K, &V) -> bool>(
+        &self,
+        predicate: &F,
+        leaves: &mut Vec<Leave<K, V, P>>,
+        pieces: &mut Vec<Piece<K, V, P>>,
+    ) -> Result<()>
+        requires { F.IsAlwaysCallable predicate.now }
+    {
+        for shard in self.all.as_slice() {
+            let mut shard = shard.lock(&self.rt);
+            let room = leaves.len().saturating_add(shard.entries() as usize);
+            pieces.reserve(room)?;
+            shard.evict_if(self.alloc, predicate, leaves)?;
+        }
+        Ok(())
+    }
+}

@@ -1,0 +1,74 @@
+//! Steps of one shard that begin and end fetches, each under its lock.
+
+ghost use Rattle.std.specs.Prelude.{◌≡◌, IfOk, true};
+ghost use Rattle.foyer_core.specs.declared.outcome.Lookup.TheVariants.{Hit, Lead, Wait as Waits};
+
+use super::Shards;
+use crate::ticket::{Answer, Notifier};
+use foyer_core::{Data, Ended, FetchOrTake, Finder, Lookup};
+use foyer_policy::{Error, Eviction, Key, Properties, Result, Source, Value};
+use std::sync::Wait;
+
+/// The end of a fetch.
+pub(crate) type RawEnded<K, V, P> = Ended<K, V, P, Notifier<Answer<K, V, P>>>;
+
+/// What is to be done where a fetch found nothing.
+pub(crate) type Later<K, V, P, R> = FetchOrTake<R, Notifier<Answer<K, V, P>>>;
+
+impl<H, E, K, V, P, R, I> Shards<H, E, K, V, P, R, I>
+where
+    H: Wait + Drop,
+    E: Eviction,
+    K: Key,
+    V: Value,
+    P: Properties,
+    R: Drop,
+    I: Finder<K>,
+{
+    // A handle of the key's record, or a token: for a new fetch, or for the one that is open.
+    pub(crate) fn get_or_enqueue(
+        &self,
+        hash: u64,
+        key: &K,
+        required: Option<R>,
+        waiter: Notifier<Answer<K, V, P>>,
+    ) -> Result<Lookup<K, V, P, R>>
+        requires clones { (k c : K) → K.is_clone k c → K.eq c k ≡ true }
+        ensures { IfOk result (elim [ Hit e ↦ K.eq key.now e.kept.key ≡ true | Lead _ _ _ ↦ Unit {0} | Waits _ ↦ Unit {0} ]) }
+    {
+        self.lock(hash).get_or_enqueue(hash, key, required, waiter)
+    }
+
+    // Whether a fetch of a key is open.
+    pub(crate) fn is_open(&self, hash: u64, key: &K, fetch: u64) -> bool {
+        self.lock(hash).is_open(hash, key, fetch)
+    }
+
+    // Ends an open fetch of a key with a refusal.
+    pub(crate) fn end(&self, hash: u64, key: &K, fetch: u64, error: Error) -> RawEnded<K, V, P> {
+        self.lock(hash).end(self.alloc, hash, key, fetch, error)
+    }
+
+    // The builder that is kept for a key, or those who wait for it, where its fetch is open.
+    pub(crate) fn fetch_or_take(
+        &self,
+        hash: u64,
+        key: &K,
+        fetch: u64,
+    ) -> Option<Later<K, V, P, R>> {
+        self.lock(hash).fetch_or_take(hash, key, fetch)
+    }
+
+    // Ends an open fetch with a record of its key.
+    pub(crate) fn complete(
+        &self,
+        fetch: u64,
+        kept: Data<K, V, P>,
+        source: Source,
+    ) -> RawEnded<K, V, P>
+        requires clones { (k c : K) → K.is_clone k c → K.eq c k ≡ true }
+    {
+        let hash = kept.hash;
+        self.lock(hash).complete(self.alloc, fetch, kept, source)
+    }
+}

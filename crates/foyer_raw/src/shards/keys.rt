@@ -1,0 +1,143 @@
+//! Steps of one shard under its lock. Each locks, makes one step, and unlocks.
+
+ghost use Rattle.std.specs.Prelude.{◌≡◌, IfOk, IfSome, true};
+
+use super::Shards;
+use crate::ticket::{Answer, Notifier};
+use foyer_core::{CoreEntry, Data, Finder, InsertedOnto, Leave, Left, Piece};
+use foyer_policy::{Error, Eviction, Key, Properties, Reason, Result, Source, Value};
+use std::sync::Wait;
+
+/// What an insert answers that is not refused.
+pub(crate) type RawInserted<K, V, P> = InsertedOnto<K, V, P, Notifier<Answer<K, V, P>>>;
+
+impl<H, E, K, V, P, R, I> Shards<H, E, K, V, P, R, I>
+where
+    H: Wait + Drop,
+    E: Eviction,
+    K: Key,
+    V: Value,
+    P: Properties,
+    R: Drop,
+    I: Finder<K>,
+{
+    pub(crate) fn get(&self, hash: u64, key: &K) -> Result<Option<CoreEntry<K, V, P>>>
+        ensures { IfOk result (λ found. IfSome found (λ e. K.eq key.now e.kept.key ≡ true)) }
+    {
+        self.lock(hash).get(hash, key)
+    }
+
+    pub(crate) fn remove(
+        &self,
+        hash: u64,
+        key: &K,
+    ) -> Result<Option<(CoreEntry<K, V, P>, Left<K, V, P>)>>
+        ensures { IfOk result (λ taken. IfSome taken (λ out. K.eq key.now out.0.kept.key ≡ true)) }
+    {
+        self.lock(hash).remove(hash, key)
+    }
+
+    pub(crate) fn touch(&self, hash: u64, key: &K) -> Result<bool> {
+        self.lock(hash).touch(hash, key)
+    }
+
+    pub(crate) fn contains(&self, hash: u64, key: &K) -> bool {
+        self.lock(hash).contains(hash, key)
+    }
+
+    // Takes a record in, and appends what leaves.
+    pub(crate) fn emplace(
+        &self,
+        kept: Data<K, V, P>,
+        source: Source,
+        leaves: &mut Vec<Leave<K, V, P>>,
+    ) -> Result<RawInserted<K, V, P>>
+        requires clones { (k c : K) → K.is_clone k c → K.eq c k ≡ true }
+        ensures { IfOk result (λ made. made.entry.kept ≡ kept) }
+    {
+        let hash = kept.hash;
+        self.lock(hash).emplace(self.alloc, kept, source, leaves)
+    }
+
+    // The same of a piece's record, whose key has this hash, and which has this weight if its shard does not know it.
+    pub(crate) fn emplace_piece(
+        &self,
+        piece: Piece<K, V, P>,
+        hash: u64,
+        weight: usize,
+        leaves: &mut Vec<Leave<K, V, P>>,
+    ) -> Result<RawInserted<K, V, P>>
+        requires clones { (k c : K) → K.is_clone k c → K.eq c k ≡ true }
+    {
+        let mut shard = self.lock(hash);
+        shard.emplace_piece(self.alloc, piece, hash, weight, leaves)
+    }
+
+    // Why a handle of the key's record would be refused now, whatever memory there is.
+    pub(crate) fn refuses_get(&self, hash: u64, key: &K) -> Option<Reason> {
+        self.lock(hash).refuses_get(hash, key)
+    }
+
+    // Why this record would be refused now, whatever memory there is.
+    pub(crate) fn refuses_insert(&self, kept: &Data<K, V, P>) -> Option<Reason> {
+        self.lock(kept.hash)
+            .refuses_insert(kept.hash, &kept.key, &kept.properties, kept.weight)
+    }
+
+    // Why the record of a piece would be refused now, whatever memory there is, as `emplace_piece` takes it. Of a piece that the
+    // shard knows this asks for a handle alone.
+    pub(crate) fn refuses_piece(
+        &self,
+        hash: u64,
+        weight: usize,
+        piece: &Piece<K, V, P>,
+    ) -> Option<Reason> {
+        let shard = self.lock(hash);
+        if shard.knows(hash, piece) {
+            return shard.refuses_get(hash, piece.key());
+        }
+        shard.refuses_insert(hash, piece.key(), piece.properties(), weight)
+    }
+
+    // Takes a handle back, and answers what leaves with it. A handle that the shard does not know is discarded.
+    pub(crate) fn give_back(&self, core: CoreEntry<K, V, P>) -> Option<Leave<K, V, P>> {
+        let hash = core.hash();
+        let answer = self.lock(hash).give_back(core);
+        match answer {
+            Ok(leave) => leave,
+            Err(core) => {
+                core.discard();
+                None
+            }
+        }
+    }
+
+    // One more handle of the same record. F7 where the shard does not know this one.
+    pub(crate) fn clone_handle(&self, core: &CoreEntry<K, V, P>) -> Result<CoreEntry<K, V, P>>
+        ensures { IfOk result (λ e. e.kept ≡ core.now.kept) }
+    {
+        let mut shard = self.lock(core.hash());
+        if !shard.owns(core) {
+            return Err(Error::new(Reason::NoMemory));
+        }
+        shard.clone_handle(core)
+    }
+
+    // How many handles the record has: 0 where the shard does not know this one.
+    pub(crate) fn refs(&self, core: &CoreEntry<K, V, P>) -> usize {
+        let shard = self.lock(core.hash());
+        if !shard.owns(core) {
+            return 0;
+        }
+        shard.refs(core)
+    }
+
+    // Whether a get does not find the record: also where the shard does not know the handle.
+    pub(crate) fn is_outdated(&self, core: &CoreEntry<K, V, P>) -> bool {
+        let shard = self.lock(core.hash());
+        if !shard.owns(core) {
+            return true;
+        }
+        shard.is_outdated(core)
+    }
+}
