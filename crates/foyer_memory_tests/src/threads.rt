@@ -83,31 +83,3 @@ fn each_thread_finds_its_own(rt: HostRuntime) -> Outcome {
     }
     Ok(())
 }
-
-/// How many keys a thread looks up.
-const KEYS: u32 = 1_000;
-
-// Eight threads look keys of their own up, and put in what is missing. The cache is full then, and no more.
-#[test]
-fn eight_threads_fill_a_cache(rt: HostRuntime) -> Outcome {
-    for config in all_policies() {
-        let cache = cache(rt, 256, config)?;
-        let put = each_thread(
-            &rt,
-            0,
-            8,
-            &|thread: u32| {
-                let mut put = 0;
-                for key in 10_000 * thread..10_000 * thread + KEYS {
-                    if let Ok(None) = cache.get(&key) {
-                        put += u64::from(cache.insert(key, value(thread, key)).is_ok());
-                    }
-                }
-                put
-            },
-        );
-        assert_eq!(rt; put, 8 * u64::from(KEYS));
-        assert_eq!(rt; (cache.usage(), cache.entries()), (256, 256));
-    }
-    Ok(())
-}

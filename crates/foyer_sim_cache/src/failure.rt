@@ -55,7 +55,7 @@ impl<T: Drop> From<AllocFailed<T>> for Failure {
     }
 }
 
-// A new cache, whose configuration is good.
+// What is asked of a cache, and a new one's configuration, is good.
 impl From<Error> for Failure {
     fn from(_error: Error) -> Failure {
         Failure::Memory

@@ -1,15 +1,17 @@
 //! `foyer-sim --cache POLICY CAPACITY SHARDS`: carries out the lines of `foyer-sim` over a `Cache`, which stands behind
-//! locks, and prints what `foyer-sim` prints for them. It is a program for tests.
+//! locks, and prints what `foyer-sim` prints for them. Given the word `threads`
+//! alone it lets threads fill caches. It is a program for tests.
 #![tactic(auto)]
 
 use failure::Failure;
 use foyer_memory::{EvictionConfig, FifoConfig, LfuConfig, LruConfig, S3FifoConfig, SieveConfig};
 use foyer_session::text::{Lines, Watched};
-use foyer_session::{SimArgs, SimPolicy, sim_args};
+use foyer_session::{SimPolicy, sim_args};
 use runner::Runner;
 use std::io::{BufRead, BufReader, BufWriter, ErrorKind, Write};
 use std::process::ExitCode;
 use std::sync::Wait;
+use std::thread::Threads;
 use std::{env, io};
 
 mod cache;
@@ -17,6 +19,7 @@ mod failure;
 mod fetch;
 mod heard;
 mod runner;
+mod threads;
 mod told;
 
 // How many bytes are read or written at once.
@@ -32,8 +35,15 @@ fn main(rt: HostRuntime) -> ExitCode {
 }
 
 // Runs with a handle that may wait, as the cache's locks need it.
-fn run<H: Wait + Drop>(rt: &HostRuntime, handle: H) -> Result<(), Failure> {
-    let args = arguments(rt)?;
+fn run<H: Wait + Threads + Send + Sync + Copy + Drop>(
+    rt: &HostRuntime,
+    handle: H,
+) -> Result<(), Failure> {
+    let words = words(rt)?;
+    if words.len() == 1 && words[0].as_str() == "threads" {
+        return of_threads(rt, handle);
+    }
+    let args = sim_args(words.as_slice()).ok_or(Failure::Arguments)?;
     let config = config_of(args.policy);
     let mut runner = Runner::new(*rt, handle, args.capacity, args.shards, config)?;
     let mut reader = BufReader::with_capacity(rt.alloc(), BUFFER, rt.stdin()).map_err(
@@ -55,8 +65,20 @@ fn run<H: Wait + Drop>(rt: &HostRuntime, handle: H) -> Result<(), Failure> {
     }
 }
 
-// What the program is asked for.
-fn arguments(rt: &HostRuntime) -> Result<SimArgs, Failure> {
+// Runs threads over a cache of each policy in turn.
+fn of_threads<H: Wait + Threads + Send + Sync + Copy + Drop>(
+    rt: &HostRuntime,
+    handle: H,
+) -> Result<(), Failure> {
+    threads::run(rt, handle, "fifo", config_of(SimPolicy::Fifo))?;
+    threads::run(rt, handle, "lru", config_of(SimPolicy::Lru))?;
+    threads::run(rt, handle, "lfu", config_of(SimPolicy::Lfu))?;
+    threads::run(rt, handle, "s3fifo", config_of(SimPolicy::S3Fifo))?;
+    threads::run(rt, handle, "sieve", config_of(SimPolicy::Sieve))
+}
+
+// The words after the program's name.
+fn words(rt: &HostRuntime) -> Result<Vec<String>, Failure> {
     let args = match env::args(rt) {
         Ok(args) => args,
         Err(error) if error.kind() == ErrorKind::OutOfMemory => return Err(Failure::Memory),
@@ -66,7 +88,7 @@ fn arguments(rt: &HostRuntime) -> Result<SimArgs, Failure> {
     for word in args.skip(1) {
         words.push(word)?;
     }
-    sim_args(words.as_slice()).ok_or(Failure::Arguments)
+    Ok(words)
 }
 
 // A policy's default configuration.
