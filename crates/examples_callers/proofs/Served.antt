@@ -12,6 +12,7 @@ use Rattle.foyer_core.specs.Core.{Core}
 use Rattle.foyer_core.specs.CoreFetches.{Completed}
 use Rattle.foyer_core.specs.Fetching.{Arrives}
 use Rattle.foyer_core.specs.Inflight.{Opens, OpenFetch}
+use Rattle.foyer_core.specs.Rules.{Rules}
 use Rattle.foyer_core.specs.State.{Meaning, State, is_phantom_record}
 use Rattle.foyer_core.specs.Steps.{InsertsBy}
 use Rattle.foyer_core.specs.Values.{Gone, Held, Incoming}
@@ -41,13 +42,12 @@ module _ {K V P View C : Type 0} (m : Meaning K P View C) where
       subst (λ (x : List (Held K V P)). All (λ e. e.kept.value ≡ i.kept.value) x) (sym here.2)
       (All-replicate (λ (e : Held K V P). e.kept.value ≡ i.kept.value) i.handles here.0 has)
 
-module _ {K V P View C S W A N R : Type 0} (m : Meaning K P View C) (hash : K → ℕ) (weighs : K → V → ℕ → Type 0)
-    (admits : K → V → Bool → Type 0) (properties : P → Bool → P) (source : Source) (value : V) (p : P) (k : ℕ × K)
+module _ {K V P View C S W A N R : Type 0} (m : Meaning K P View C) (rules : Rules K V P) (source : Source) (value : V) (p : P) (k : ℕ × K)
     (ended : Ending K V P N) (old : Core K V P View S W A) (f : List (Opens K N R)) (new : Core K V P View S W A)
     (g : List (Opens K N R)) where
   -- those who wait for a fetch get entries of the value that it ends with, where they get some
   pub served : (place : Option (OpenFetch N R)) (outcome : Outcome K V P) → ended.outcome ≡ got_of outcome
-      → Completed m hash weighs admits properties source (Entry value p) k place ended old f new g →
+      → Completed m rules source (Entry value p) k place ended old f new g →
       IfOk (handed_out outcome) (All (λ e. e.kept.value ≡ value))
   served None (Fault reason) got did = tt
   served None Nothing got did = λ n d h. absurd (omega arith)

@@ -6,7 +6,7 @@ mod squares;
 use foyer_memory::CacheBuilder;
 use foyer_raw::ListSpawner;
 use futures::executor::block_on;
-use squares::{AllTasks, Counter, Squares, THREADS, fetch, found_by, square};
+use squares::{AllTasks, Counter, Service, Squares, THREADS, fetch, found_by, square};
 use std::thread::map_indices;
 
 fn main(rt: HostRuntime) -> anyhow::Result<()> {
@@ -32,8 +32,8 @@ fn main(rt: HostRuntime) -> anyhow::Result<()> {
     let (ann, ben) = (block_on(&rt, ann)??, block_on(&rt, ben)??);
     println!(rt; "Ann gets {}, Ben gets {}", *ann, *ben)?;
     println!(rt; "{} fetched, {} left", fetched.count(), gone.count())?;
-    squares.resize(500)?; // Four threads share the cache, with room for all that they put in.
-    for all in map_indices(&rt, alloc, THREADS, &|thread| found_by(&squares, thread))? {
+    let service = Service::new(squares, fetched)?; // Four threads share it, with room for all that they put in.
+    for all in map_indices(&rt, alloc, THREADS, &|thread| found_by(&service, thread))? {
         println!(rt; "a thread found all of its squares: {}", all?)?;
     }
     Ok(())

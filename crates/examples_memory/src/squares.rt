@@ -32,6 +32,23 @@ pub type Squares<H> = Cache<
     Direct<SquareFetch>,
 >;
 
+/// What a program keeps: a cache in a struct of the program's own, which threads share by `&`.
+#[derive(Drop)]
+pub struct Service<H: Wait + Drop> {
+    /// The cache.
+    pub squares: Squares<H>,
+    /// Counts the squares that were fetched.
+    pub fetched: Counter,
+}
+
+impl<H: Wait + Drop> Service<H> {
+    /// A service whose cache has room for all that its threads put in.
+    pub fn new(squares: Squares<H>, fetched: Counter) -> Result<Self> {
+        squares.resize(500)?;
+        Ok(Service { squares, fetched })
+    }
+}
+
 /// Counts, and is shared by all who count together. As a listener it counts what leaves.
 #[derive(Drop)]
 pub struct Counter(Arc<AtomicU64>);
@@ -129,12 +146,12 @@ pub fn put<H: Wait + Drop>(squares: &Squares<H>, number: u32) -> Result<u64>
 }
 
 /// Puts the squares of a thread's numbers in and looks each up. Whether all were found.
-pub fn found_by<H: Wait + Drop>(squares: &Squares<H>, thread: usize) -> Result<bool>
+pub fn found_by<H: Wait + Drop>(service: &Service<H>, thread: usize) -> Result<bool>
     requires { thread < THREADS }
 {
     let first = thread as u32 * EACH;
     for number in first..first + EACH {
-        if !put_and_find(squares, number)? {
+        if !put_and_find(&service.squares, number)? {
             return Ok(false);
         }
     }

@@ -129,7 +129,7 @@ impl<
         ensures counts { sum_by (λ share. share.mine.parts) shares.items ≡ G.parts
             → length result.history.items ≡ sum_by (λ share. length share.receipts.items) shares.items }
         ensures legal { IsSomeHistory record {
-          meaning = meaning K.eq E.model P.hint_of P.phantom_of;
+          meaning = meaning K.eq E.model P.hint_of P.phantom_of P.expiry_of;
           hash = λ builder key. S.hash_of builder (K.hash_input key);
           weighs = W.weighs;
           admits = A.admits;

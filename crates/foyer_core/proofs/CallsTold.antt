@@ -1,6 +1,6 @@
 -- What each call of a core tells of its index.
 use Rattle.std.proofs.Common.{◌≡◌, ℕ, length, List, [], ◌∷◌, Option, Some, None, Ok, Err, true, refl, ap}
-use Rattle.std.specs.Prelude.{Bool, Result, MatchResult, IfOk, OnErr, option_map}
+use Rattle.std.specs.Prelude.{Bool, Result, MatchResult, IfErr, IfOk, OnErr, option_map}
 use Rattle.std.specs.Option.{option_to_list}
 use Rattle.std.specs.Cmp.{IsEquivalence}
 use Rattle.foyer_policy.specs.Policy.{IsPolicy}
@@ -10,8 +10,10 @@ use Rattle.foyer_policy.specs.declared.types.Source.{Source}
 use Rattle.foyer_policy.specs.declared.types.Event.TheVariants.{Remove}
 use Rattle.foyer_core.specs.declared.record.Data.{Data}
 use Rattle.foyer_core.specs.Bulk.{Clears, EvictsIf, EvictsUnpinned, EvictingUnpinned}
+use Rattle.foyer_core.specs.CallLaws.{CallLaws}
 use Rattle.foyer_core.specs.Core.{Core, AtShard, shard_of}
 use Rattle.foyer_core.specs.CoreBulk.{InTurn, InTurnUntil, EvictsToCapacity, EvictingToCapacity, Resizes}
+use Rattle.foyer_core.specs.Laws.{HandlesStay}
 use Rattle.foyer_core.specs.Observed.{IsTold, IsToldWith, after_entry, after_leaves, known}
 use Rattle.foyer_core.specs.State.{Meaning, State}
 use Rattle.foyer_core.specs.Steps.{ClonesHandle, Gets, GivesBack, Inserts, RefusesInsert, Removes, Touches, newcomer}
@@ -78,6 +80,15 @@ module _ {K V P View C S W A : Type 0} (m : Meaning K P View C) (laws : IsEquiva
       step_told (λ s t. GivesBack m s id leave t) h at (option_to_list leave)
       (gives_back_told m laws good hash equal (length old.shards) (shard_of old h) at.before (option_to_list leave)
       at.after s.kept s.at id leave refl at.stepped)
+
+  -- what follows from a call, by what it tells for each answer
+  pub laws_by : {X Y : Type 0} (given : Held K V P → ℕ) (answer : Result X Y)
+      (leaves : X → List (Event × Gone K V P)) → HandlesStay given old new
+      → MatchResult answer (λ x. IsTold m.same hash old (leaves x) new) (λ _. IsTold m.same hash old [] new)
+      → MatchResult answer (λ x. CallLaws m.same hash given old (leaves x) new)
+      (λ _. CallLaws m.same hash given old [] new)
+  laws_by given (Ok x) leaves stay told = record { stay = stay; told = told }
+  laws_by given (Err e) leaves stay told = record { stay = stay; told = told }
 
   -- an insert of a record with the hash of its key
   module _ (d : Data K V P) (hashed : d.hash ≡ hash d.key) (ls : List (Event × Gone K V P)) where
@@ -159,3 +170,9 @@ pub match_so : {A E : Type 0} (r : Result A E) (P : A → Type 0) (Q : Type 0) (
     → OnErr r Q → ((a : A) → P a → F a) → (Q → G) → MatchResult r F (λ e. G)
 match_so (Ok a) P Q F G ok err f g = f a ok
 match_so (Err e) P Q F G ok err f g = g err
+
+-- what comes back is the entry, and then this is so
+pub returned_same : {X Y : Type 0} (A : Type 0) (answer : Result X Y) (entry : Y) → IfErr answer (λ e. e ≡ entry) →
+    OnErr answer A → IfErr answer (λ e. (e ≡ entry) × A)
+returned_same A (Ok x) entry is so = tt
+returned_same A (Err e) entry is so = (is, so)

@@ -231,11 +231,15 @@ module _ {K V P View C S W A N R : Type 0} (m : Meaning K P View C) (laws : IsEq
     of_found false other h = subst (λ (e : Ending K V P N). IfEntries e.outcome Found) (sym h.0.0) tt
 
   -- with either
-  module _ (weighs : K → V → ℕ → Type 0) (admits : K → V → Bool → Type 0) (location : P → Option Location)
-      (with_phantom : P → Bool → P) where
+  module _ (weighs : K → V → ℕ → Type 0) (admits : K → V → Bool → Type 0) (properties : P → Bool → P) where
     abbrev EndsWith : FetchTarget K V P → Option (OpenFetch N R) → Type 0
-    EndsWith target p = Completed m own weighs admits (λ q admitted. coming_in location with_phantom admitted q)
-        source target (own key, key) p ended old fs new gs
+    EndsWith target p = Completed m
+        record {
+          hash = own;
+          weighs = weighs;
+          admits = admits;
+          properties = properties;
+        } source target (own key, key) p ended old fs new gs
 
     module _ (target : FetchTarget K V P) (p : Option (OpenFetch N R))
         (some : (o : OpenFetch N R) → p ≡ Some o → 0 < length o.tokens) (ends : EndsWith target p) where
@@ -245,7 +249,7 @@ module _ {K V P View C S W A N R : Type 0} (m : Meaning K P View C) (laws : IsEq
             ((o : OpenFetch N R) → p ≡ Some o → 0 < length o.tokens) → EndsWith target p → HandlesStay (λ e. 0) old new
         go target None some h = same_stays old new h.1
         go (Entry value q) (Some o) some h = (entry_laws (weighs key value) (admits key value) value
-            (λ admitted. coming_in location with_phantom admitted q) o h (some o refl)).stay
+            (properties q) o h (some o refl)).stay
         go (PieceOf piece) (Some o) some h =
             of_stays (weighs piece.kept.key piece.kept.value) piece o (some o refl) _ refl h
 
@@ -259,14 +263,22 @@ module _ {K V P View C S W A N R : Type 0} (m : Meaning K P View C) (laws : IsEq
             (nothing_told m laws good own equal old new sound h.1)
         go (Entry value q) (Some o) some h = told_by_end old new m.same own m.phantom ended.outcome ended.leaves
             (entry_laws (weighs key value) (admits key value) value
-            (λ admitted. coming_in location with_phantom admitted q) o h (some o refl)).told
+            (properties q) o h (some o refl)).told
         go (PieceOf piece) (Some o) some h =
             of_told (weighs piece.kept.key piece.kept.value) piece o (some o refl) _ refl h
 
+  -- and with properties that come in as a cache's do
+  module _ (weighs : K → V → ℕ → Type 0) (admits : K → V → Bool → Type 0) (location : P → Option Location)
+      (with_phantom : P → Bool → P) where
+    abbrev EndsAs : FetchTarget K V P → Option (OpenFetch N R) → Type 0
+    EndsAs = EndsWith weighs admits (λ q admitted. coming_in location with_phantom admitted q)
+
+    module _ (target : FetchTarget K V P) (p : Option (OpenFetch N R))
+        (some : (o : OpenFetch N R) → p ≡ Some o → 0 < length o.tokens) (ends : EndsAs target p) where
       pub end_found : FindsTarget m (hashes new.hash_builder) location admits target key ended.outcome new
       end_found = go target p some ends where
         go : (target : FetchTarget K V P) (p : Option (OpenFetch N R)) →
-            ((o : OpenFetch N R) → p ≡ Some o → 0 < length o.tokens) → EndsWith target p →
+            ((o : OpenFetch N R) → p ≡ Some o → 0 < length o.tokens) → EndsAs target p →
             FindsTarget m (hashes new.hash_builder) location admits target key ended.outcome new
         go (Entry value q) None some h = λ plain sure. subst
             (λ (e : Ending K V P N). IfEntries e.outcome (λ _. Finds m (hashes new.hash_builder) new key value))
@@ -284,7 +296,7 @@ module _ {K V P View C S W A N R : Type 0} (m : Meaning K P View C) (laws : IsEq
       pub end_bounded : BoundsTarget m location admits target (own key) key ended.outcome old new
       end_bounded = go target p some ends where
         go : (target : FetchTarget K V P) (p : Option (OpenFetch N R)) →
-            ((o : OpenFetch N R) → p ≡ Some o → 0 < length o.tokens) → EndsWith target p →
+            ((o : OpenFetch N R) → p ≡ Some o → 0 < length o.tokens) → EndsAs target p →
             BoundsTarget m location admits target (own key) key ended.outcome old new
         go (Entry value q) None some h = λ plain sure. subst
             (λ (e : Ending K V P N). IfEntries e.outcome (λ x. IsBoundedAt m (own key) x.kept.weight old new))

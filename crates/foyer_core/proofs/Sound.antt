@@ -24,4 +24,4 @@ module _ {E K V P S W A N R I C : Type 0} {e : EvictionGhosts E C}
       (good : IsPolicy e.model) (equal : (x y : K) → q.eq x y ≡ true → hashes_of s x ≡ hashes_of s y)
       → AreSound (meaning_of_core s) laws good (hashes_of s) equal (length (core_of s).shards) (core_of s).shards
   core_sound s laws good equal = sound_over (meaning_of_core s) laws good (hashes_of s) equal state_of s.shards.items
-      (λ x. x.store.sound) s.belong s.hashed
+      (λ x. x.store.sound) s.whole.belong s.whole.hashed

@@ -95,6 +95,13 @@ module _ {K V P View C : Type 0} (m : Meaning K P View C) where
       × (entries ≡ sum_by (λ s. length (m.policy.order s.view)) shards)
       × All (λ s. (usage_of m s < 2 ^ 64) × (length (m.policy.order s.view) < 2 ^ 64)) shards
 
+  -- What holds of a core's shards together: each record stands in the shard of its hash, and has the hash of its key,
+  -- and these are the sums.
+  pub record AreWhole (hash : K → ℕ) (usage entries : ℕ) (shards : List (State K V P View)) : Type 0 where
+    pub belong : Belong shards
+    pub hashed : AreHashed hash shards
+    pub summed : AreSums usage entries shards
+
   -- a new shard holds nothing
   pub record IsNewShard (config : C) (number capacity : ℕ) (limits : Limits) (s : State K V P View) : Type 0 where
     pub numbered : s.number ≡ number

@@ -11,6 +11,7 @@ use Rattle.foyer_core.specs.Core.{Core, AtShard, shard_at, shard_of}
 use Rattle.foyer_core.specs.Fetching.{Arrives, ArrivesBack}
 use Rattle.foyer_core.specs.Inflight.{Opens, OpenFetch, asked, closed}
 use Rattle.foyer_core.specs.Pieces.{coming_under, is_known}
+use Rattle.foyer_core.specs.Rules.{Rules}
 use Rattle.foyer_core.specs.State.{Meaning, State}
 use Rattle.foyer_core.specs.Steps.{newcomer}
 use Rattle.foyer_core.specs.Values.{Carried, Gone, Held}
@@ -122,19 +123,16 @@ module _ {K V P View C S W A N R : Type 0} (m : Meaning K P View C) where
       × (new ≡ old)
 
   -- The end of a fetch with a target, where it is open. The end of one that is not open changes nothing.
-  abbrev pub CompletesFrom : (K → ℕ) → (K → V → ℕ → Type 0) → (K → V → Bool → Type 0) → (P → Bool → P) → Source →
-      FetchTarget K V P → ℕ × K → OpenFetch N R → Ending K V P N
+  abbrev pub CompletesFrom : Rules K V P → Source → FetchTarget K V P → ℕ × K → OpenFetch N R → Ending K V P N
       → Core K V P View S W A → List (Opens K N R) → Core K V P View S W A → List (Opens K N R) → Type 0
-  CompletesFrom hash weighs admits properties source (Entry value p) k o ended old f new g =
-      ValueCompletes source (weighs k.1 value) (admits k.1 value) k value (properties p) o ended old f new g
-  CompletesFrom hash weighs admits properties source (PieceOf piece) k o ended old f new g =
-      PieceCompletes (is_of m old (hash piece.kept.key) piece k (shard_at old k.0))
-      (weighs piece.kept.key piece.kept.value) (hash piece.kept.key) piece k o ended old f new g
+  CompletesFrom rules source (Entry value p) k o ended old f new g =
+      ValueCompletes source (rules.weighs k.1 value) (rules.admits k.1 value) k value (rules.properties p) o ended old f
+      new g
+  CompletesFrom rules source (PieceOf piece) k o ended old f new g =
+      PieceCompletes (is_of m old (rules.hash piece.kept.key) piece k (shard_at old k.0))
+      (rules.weighs piece.kept.key piece.kept.value) (rules.hash piece.kept.key) piece k o ended old f new g
 
-  abbrev pub Completed : (K → ℕ) → (K → V → ℕ → Type 0) → (K → V → Bool → Type 0) → (P → Bool → P) → Source →
-      FetchTarget K V P → ℕ × K → Option (OpenFetch N R) → Ending K V P N
+  abbrev pub Completed : Rules K V P → Source → FetchTarget K V P → ℕ × K → Option (OpenFetch N R) → Ending K V P N
       → Core K V P View S W A → List (Opens K N R) → Core K V P View S W A → List (Opens K N R) → Type 0
-  Completed hash weighs admits properties source target k None ended old f new g = (ended ≡ lost) × (new ≡ old)
-      × (g ≡ f)
-  Completed hash weighs admits properties source target k (Some o) ended old f new g =
-      CompletesFrom hash weighs admits properties source target k o ended old f new g
+  Completed rules source target k None ended old f new g = (ended ≡ lost) × (new ≡ old) × (g ≡ f)
+  Completed rules source target k (Some o) ended old f new g = CompletesFrom rules source target k o ended old f new g

@@ -33,7 +33,7 @@ module _ {E K V P S W A N R I C : Type 0} {e : EvictionGhosts E C}
 
   -- what a core is over
   abbrev pub meaning_of_core : CacheCore E K V P S W A N R I C e q h c p d b w f i → Meaning K P e.View C
-  meaning_of_core s = meaning q.eq e.model p.hint_of p.phantom_of
+  meaning_of_core s = meaning q.eq e.model p.hint_of p.phantom_of p.expiry_of
 
   -- the hash that each key has in a core
   abbrev pub hashes_of : CacheCore E K V P S W A N R I C e q h c p d b w f i → K → ℕ

@@ -18,6 +18,7 @@ pub record Meaning (K P View C : Type 0) : Type 0 where
   pub policy : Policy View C
   pub hint : P → Option Hint
   pub phantom : P → Option Bool
+  pub expires : P → Option ℕ
 
 -- a shard: its core's number, its capacity and limits, the policy's view, the index from hashed keys to
 -- ids, the records by id, and the next id
@@ -76,7 +77,13 @@ without_own (Some id) items = remove_id id items
 module _ {K V P View C : Type 0} (m : Meaning K P View C) where
   -- what the policy keeps of a record
   abbrev pub item_of : ℕ → Data K V P → Item
-  item_of id d = record { id = id; hash = d.hash; weight = d.weight; hint = hint_or_normal (m.hint d.properties) }
+  item_of id d = record {
+    id = id;
+    hash = d.hash;
+    weight = d.weight;
+    hint = hint_or_normal (m.hint d.properties);
+    expires = m.expires d.properties;
+  }
 
   -- whether a record is phantom
   abbrev pub is_phantom_record : Data K V P → Bool

@@ -11,8 +11,14 @@ use Rattle.foyer_core.specs.Records.{slot_in, id_in, record_in}
 
 -- when keys are equal, what the policy does, and what properties answer
 abbrev pub meaning : {K P View C : Type 0} → (K → K → Bool) → Policy View C → (P → Option Hint) → (P → Option Bool) →
-    Meaning K P View C
-meaning same policy hint phantom = record { same = same; policy = policy; hint = hint; phantom = phantom }
+    (P → Option ℕ) → Meaning K P View C
+meaning same policy hint phantom expires = record {
+  same = same;
+  policy = policy;
+  hint = hint;
+  phantom = phantom;
+  expires = expires;
+}
 
 -- the state that the fields stand for: the index leads from a key to a slot, whose record has the id
 abbrev pub state : {K V P View : Type 0} → ℕ → ℕ → Limits → View → (ℕ × K → Option ℕ) → Records K V P → ℕ →

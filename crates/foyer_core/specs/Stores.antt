@@ -25,4 +25,4 @@ module _ {E K V P I C : Type 0} {e : EvictionGhosts E C}
 
   -- what a store is over
   abbrev pub meaning_of : Store E K V P I C e q h c p d i → Meaning K P e.View C
-  meaning_of s = meaning q.eq e.model p.hint_of p.phantom_of
+  meaning_of s = meaning q.eq e.model p.hint_of p.phantom_of p.expiry_of

@@ -5,7 +5,7 @@ ghost use Rattle.std.specs.Option.{option_to_list};
 ghost use Rattle.foyer_policy.specs.declared.error.Reason.TheVariants.{NoMemory};
 ghost use Rattle.foyer_policy.specs.Properties.{is_phantom};
 ghost use Rattle.foyer_policy.specs.declared.types.Source.TheVariants.{Outer};
-ghost use Rattle.foyer_core.specs.Core.{AreHashed, AreSums, Belong};
+ghost use Rattle.foyer_core.specs.Core.{AreHashed, AreWhole, Belong};
 ghost use Rattle.foyer_core.specs.Idle.{NoneOpen};
 ghost use Rattle.foyer_core.specs.Inflight.{no_opens, waiters_of};
 ghost use Rattle.foyer_core.specs.Shards.{state_of};
@@ -65,9 +65,8 @@ pub struct CacheCore<
     rules: Rules<W, A>,
     alloc: Global,
     ghost sharded: { 0 < vec_len shards },
-    ghost belong: { Belong (map state_of shards.items) },
-    ghost hashed: { AreHashed (λ k. S.hash_of hash_builder (K.hash_input k)) (map state_of shards.items) },
-    ghost summed: { AreSums (meaning K.eq E.model P.hint_of P.phantom_of) load.usage load.entries (map state_of shards.items) },
+    ghost whole: { AreWhole (meaning K.eq E.model P.hint_of P.phantom_of P.expiry_of) (λ k. S.hash_of hash_builder (K.hash_input k))
+        load.usage load.entries (map state_of shards.items) },
 }
 
 impl<
@@ -113,9 +112,8 @@ impl<
     ghost use Rattle.foyer_core.specs.CoreFetches.{open_in};
     ghost use Rattle.foyer_core.specs.Core.{AtShard, InsertsWeighed, IsNewCore, Owns, core_fault, entries_of_core, hit_in, usage_of_core};
     ghost use Rattle.foyer_core.specs.Cores.{core_of, fetches_of, hashes_of, meaning_of_core};
-    ghost use Rattle.foyer_core.specs.CallLaws.{AnswersIn, InsertLaws, IsNewEntry};
-    ghost use Rattle.foyer_core.specs.Laws.{HandlesStay, one_of};
-    ghost use Rattle.foyer_core.specs.Observed.{IsTold};
+    ghost use Rattle.foyer_core.specs.CallLaws.{AnswersIn, CallLaws, InsertLaws, IsNewEntry};
+    ghost use Rattle.foyer_core.specs.Laws.{one_of};
     ghost use Rattle.foyer_core.specs.Steps.{Gets, GivesBack};
 
     /// A core that holds nothing, as `new` makes it, over indexes of a type that the caller picks.
@@ -209,8 +207,7 @@ impl<
             AtShard (λ s t. Gets (meaning_of_core self.old) s (hash, key.now) result t)
             hash (core_of self.old) (core_of self.new) }
         ensures fetches { fetches_of self.new ≡ fetches_of self.old }
-        ensures stay { HandlesStay (λ _. 0) (core_of self.old) (core_of self.new) }
-        ensures told { IsTold K.eq (hashes_of self.old) (core_of self.old) [] (core_of self.new) }
+        ensures laws { CallLaws K.eq (hashes_of self.old) (λ _. 0) (core_of self.old) [] (core_of self.new) }
     {
         let hash = self.hash(key);
         let place = self.shard_index(hash);
@@ -309,13 +306,11 @@ impl<
         ensures taken { IfOk result (λ leave.
             AtShard (λ s t. GivesBack (meaning_of_core self.old) s entry.id leave t)
             entry.kept.hash (core_of self.old) (core_of self.new)) }
-        ensures returned { IfErr result (λ e. e ≡ entry) }
-        ensures err { OnErr result (core_of self.new ≡ core_of self.old) }
+        ensures returned { IfErr result (λ e. (e ≡ entry) × (core_of self.new ≡ core_of self.old)) }
         ensures fetches { fetches_of self.new ≡ fetches_of self.old }
-        ensures stay { HandlesStay (one_of (core_of self.old) entry) (core_of self.old) (core_of self.new) }
-        ensures told { MatchResult result
-            (λ leave. IsTold K.eq (hashes_of self.old) (core_of self.old) (option_to_list leave) (core_of self.new))
-            (λ _. IsTold K.eq (hashes_of self.old) (core_of self.old) [] (core_of self.new)) }
+        ensures laws { let given = one_of (core_of self.old) entry in MatchResult result
+            (λ leave. CallLaws K.eq (hashes_of self.old) given (core_of self.old) (option_to_list leave) (core_of self.new))
+            (λ _. CallLaws K.eq (hashes_of self.old) given (core_of self.old) [] (core_of self.new)) }
     {
         let place = self.shard_index(entry.hash());
         self.shards[place].give_back(entry)

@@ -66,6 +66,8 @@ impl Properties for CacheProperties {
 
     ghost age_of = { λ _. None };
 
+    ghost expiry_of = { λ _. None };
+
     ghost with_phantom_of = { λ p b. record p { phantom = Some b } };
 
     ghost phantom_given = { λ _ _. refl };
@@ -75,6 +77,8 @@ impl Properties for CacheProperties {
     ghost location_stays = { λ _ _. refl };
 
     ghost age_stays = { λ _ _. refl };
+
+    ghost expiry_stays = { λ _ _. refl };
 
     fn with_phantom(mut self, phantom: bool) -> CacheProperties {
         self.phantom = Some(phantom);
@@ -113,6 +117,10 @@ impl Properties for CacheProperties {
     }
 
     fn age(&self) -> Option<Age> {
+        None
+    }
+
+    fn expiry(&self) -> Option<u64> {
         None
     }
 }

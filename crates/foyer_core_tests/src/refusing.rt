@@ -118,6 +118,10 @@ impl<E: Eviction, const AT: u64> Eviction for RefusingPolicy<E, AT> {
         self.policy.release(place);
     }
 
+    fn expired(&self, now: u64) -> Option<Place> {
+        self.policy.expired(now)
+    }
+
     fn span(&self) -> usize {
         self.policy.span()
     }

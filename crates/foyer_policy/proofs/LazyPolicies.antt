@@ -11,6 +11,8 @@ use Rattle.foyer_policy.specs.declared.types.Item.{Item}
 use Rattle.foyer_policy.specs.declared.types.Hint.TheVariants.{Normal}
 use Rattle.foyer_policy.specs.ItemLaws.{once-snoc}
 pub mod Credits
+pub mod Doubles
+pub mod Dues
 pub mod Orders
 pub mod Pinning
 pub mod Pins
@@ -21,7 +23,7 @@ Plain = Unit {0}
 
 -- an item of this id and of weight 1
 abbrev pub item : ℕ → Item
-item id = record { id = id; hash = 0; weight = 1; hint = Normal }
+item id = record { id = id; hash = 0; weight = 1; hint = Normal; expires = None }
 
 pub once_alone : (i : Item) → HasIdsOnce (i ∷ [])
 once_alone i = once-snoc [] i (λ id. omega arith) refl
@@ -99,6 +101,7 @@ module _ {X : Type 0} (start : X) (popped : X → Item → X) (credit : X → �
     none_looks = λ v h. refl;
     remove_order = λ v id. refl;
     remove_pinned = λ v id once. refl;
+    remove_unpinned = λ v id free. refl;
     remove_credit = λ v id. omega arith;
     acquire_order = λ v id once. IsPermutation-refl v.0;
     acquire_pinned = λ v id once. inl refl;

@@ -36,6 +36,7 @@ fifo_lawful C = record {
   none_looks = λ v h. refl;
   remove_order = λ v id. refl;
   remove_pinned = λ v id once. refl;
+  remove_unpinned = λ v id free. refl;
   remove_credit = λ v id. omega arith;
   acquire_order = λ v id once. IsPermutation-refl v;
   acquire_pinned = λ v id once. inl refl;

@@ -258,6 +258,7 @@ lfu_lawful = record {
   none_looks = λ v h. refl;
   remove_order = remove-order;
   remove_pinned = λ v id once. refl;
+  remove_unpinned = λ v id free. refl;
   remove_credit = λ v id. omega arith;
   acquire_order = λ v id once. acquire-order v id;
   acquire_pinned = λ v id once. inl refl;

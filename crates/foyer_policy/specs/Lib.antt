@@ -6,6 +6,7 @@ pub mod Arena
 pub mod Block
 pub mod BlockLends
 pub mod Chain
+pub mod Dues
 pub mod Errors
 pub mod Fifo
 pub mod FifoLaws
@@ -16,6 +17,7 @@ pub mod GhostQueue
 pub mod Hash
 pub mod ItemLaws
 pub mod Items
+pub mod Kept
 pub mod Lends
 pub mod Lfu
 pub mod LfuLaws
@@ -27,6 +29,7 @@ pub mod Looks
 pub mod Lru
 pub mod LruLaws
 pub mod LruLists
+pub mod Moments
 pub mod Nodes
 pub mod PartLaws
 pub mod Policy

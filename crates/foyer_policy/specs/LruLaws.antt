@@ -7,13 +7,13 @@ use Rattle.std.proofs.lemmas.List.{map-append}
 use Rattle.std.proofs.lemmas.List.Sums.{sum_by-append}
 use Rattle.std.proofs.lemmas.List.Sorted.{IsPermutation-refl, IsPermutation-sym, IsPermutation-trans, IsPermutation-to_front, IsPermutation-middle, IsPermutation-append_left, IsPermutation-append_right}
 use Rattle.foyer_policy.specs.Errors.{kind_of}
-use Rattle.foyer_policy.specs.Items.{HasIdsOnce, IsWithin, remove_id, find_id, fit, over}
+use Rattle.foyer_policy.specs.Items.{IsNewIn, HasIdsOnce, IsWithin, remove_id, find_id, fit, over}
 use Rattle.foyer_policy.specs.Limit.{ratio_fault, is_in_range}
 use Rattle.foyer_policy.specs.Policy.{IsPolicy, PinsAtMost, removed}
 use Rattle.foyer_policy.specs.PopTimes.{pop_times}
 use Rattle.foyer_policy.specs.Lru.{Pinned, LruView, IsWithinLimit, settle, put, is_high_hint, find_pin, remove_pin, pin_found, unpin_found, limits_or, with_limits, lru}
 use Rattle.foyer_policy.specs.FitLaws.{over-fit, fit_within}
-use Rattle.foyer_policy.specs.PartLaws.{IsPermutation-remove_id, remove_id-none, find_id-front, remove_id-front, find_id-back, remove_id-back, find_id-one_part}
+use Rattle.foyer_policy.specs.PartLaws.{IsPermutation-remove_id, remove_id-none, remove_id-new, find_id-front, remove_id-front, find_id-back, remove_id-back, find_id-one_part}
 use Rattle.foyer_policy.specs.declared.types.Item.{Item}
 use Rattle.foyer_policy.specs.declared.types.Ratio.{Ratio}
 use Rattle.foyer_policy.specs.declared.limit.Range.{Range}
@@ -162,6 +162,15 @@ remove-pinned v id once = go (find_id id v.low) (find_id id v.high) refl refl wh
   go None (Some i) off is = sym (remove_id-none id (pinned_items v.pin) (high-unpinned v id i once off is))
   go None None off off' = pinned_items-remove_pin id v.pin
 
+remove-unpinned : (v : LruView) (id : ℕ) → IsNewIn id (lru.pinned v) → lru.pinned (lru.remove v id) ≡ lru.pinned v
+remove-unpinned v id free = go (is_some (find_id id v.low)) (is_some (find_id id v.high)) where
+  go : (a b : Bool) → lru.pinned
+      (cond a (record v { low = remove_id id v.low })
+      (cond b (record v { high = remove_id id v.high }) (record v { pin = remove_pin id v.pin }))) ≡ lru.pinned v
+  go true b = refl
+  go false true = refl
+  go false false = pinned_items-remove_pin id v.pin ∙ remove_id-new id (pinned_items v.pin) free
+
 -- what is pinned goes to the end of `pin`
 to_pin : (v : LruView) (low high : List Item) (i : Item) (b : Bool) →
     IsPermutation (v.low ++ v.high) (i ∷ (low ++ high))
@@ -283,6 +292,7 @@ lru_lawful = record {
   none_looks = λ v h. refl;
   remove_order = remove-order;
   remove_pinned = remove-pinned;
+  remove_unpinned = remove-unpinned;
   remove_credit = λ v id. omega arith;
   acquire_order = λ v id once. settled v (pin_found v id (find_id id v.low) (find_id id v.high)) (acquire-order v id);
   acquire_pinned = λ v id once. acquire-pinned v id;

@@ -5,7 +5,7 @@ use Rattle.std.specs.List.Sorted.{IsPermutation}
 use Rattle.std.proofs.lemmas.Bool.Decides.{nat_tests}
 use Rattle.std.proofs.lemmas.List.Sums.{sum_by-append}
 use Rattle.std.proofs.lemmas.List.Sorted.{IsPermutation-refl, IsPermutation-trans, IsPermutation-cons, IsPermutation-middle}
-use Rattle.foyer_policy.specs.Items.{count_of, HasIdsOnce, remove_id, find_id}
+use Rattle.foyer_policy.specs.Items.{count_of, IsNewIn, HasIdsOnce, remove_id, find_id}
 use Rattle.foyer_policy.specs.declared.types.Item.{Item}
 use Rattle.foyer_policy.specs.ItemLaws.{one_if, found-id, sum-remove_id}
 
@@ -75,6 +75,13 @@ found-counted id i l h =
     let same : i.id ≡ id = found-id id i l h in
     let one : one_if id i ≡ 1 = grind (arith, nat_tests) in
     omega (arith, sum-remove_id (one_if id) id i l h)
+
+-- a list stays where no item has the id
+pub remove_id-new : (id : ℕ) (l : List Item) → IsNewIn id l → remove_id id l ≡ l
+remove_id-new id l new = go (find_id id l) refl where
+  go : (o : Option Item) → find_id id l ≡ o → remove_id id l ≡ l
+  go None is = remove_id-none id l is
+  go (Some i) is = absurd (omega (arith, found-counted id i l is))
 
 -- where ids stand once, an id is found in one part alone
 pub find_id-one_part : (id : ℕ) (i : Item) (xs ys : List Item) → HasIdsOnce (xs ++ ys) → find_id id xs ≡ Some i →

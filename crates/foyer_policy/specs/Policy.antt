@@ -1,7 +1,7 @@
 -- What an eviction policy does, over an abstract view, and the laws that code above a policy may use.
 use Rattle.std.specs.Prelude.{Bool, ◌≡◌, ◌==◌, ℕ, zero, suc, ◌+◌, ◌-◌, ◌≤◌, ◌⊎◌, List, [], ◌∷◌, Option, Some, None, option_and_then, length, nat_le, if◌then◌else◌}
 use Rattle.std.specs.List.Sorted.{IsPermutation}
-use Rattle.foyer_policy.specs.Items.{weight_of, HasIdsOnce, IsWithin, remove_id, find_id}
+use Rattle.foyer_policy.specs.Items.{weight_of, IsNewIn, HasIdsOnce, IsWithin, remove_id, find_id}
 use Rattle.foyer_policy.specs.PopTimes.{pop_times}
 use Rattle.foyer_policy.specs.declared.types.Item.{Item}
 use Rattle.foyer_policy.specs.declared.error.Reason.{Reason}
@@ -134,6 +134,8 @@ module _ {V C : Type 0} (m : Policy V C) where
     -- remove takes its item out alone, with its pin, and keeps the rest in order
     pub remove_order : (v : V) (id : ℕ) → m.order (m.remove v id) ≡ remove_id id (m.order v)
     pub remove_pinned : (v : V) (id : ℕ) → HasIdsOnce (m.order v) → m.pinned (m.remove v id) ≡ remove_id id (m.pinned v)
+    -- and where no pin has the id, the pins stay, even where ids stand more than once
+    pub remove_unpinned : (v : V) (id : ℕ) → IsNewIn id (m.pinned v) → m.pinned (m.remove v id) ≡ m.pinned v
     pub remove_credit : (v : V) (id : ℕ) → m.credit (m.remove v id) ≤ m.credit v
     -- acquire rearranges, pins at most its item and adds at most 1 to the credit
     pub acquire_order : (v : V) (id : ℕ) → HasIdsOnce (m.order v) → IsPermutation (m.order v) (m.order (m.acquire v id))

@@ -326,6 +326,7 @@ s3fifo_lawful = record {
   none_looks = λ v h. (let n = pop-nothing v h in none_looks v n.0 n.1);
   remove_order = remove-order;
   remove_pinned = λ v id once. refl;
+  remove_unpinned = λ v id free. refl;
   remove_credit = remove-credit;
   acquire_order = λ v id once. rw (acquire-order v id) (IsPermutation-refl (order_of v));
   acquire_pinned = λ v id once. inl refl;

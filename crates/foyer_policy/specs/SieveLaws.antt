@@ -442,6 +442,7 @@ sieve_lawful C = record {
   none_looks = λ v h. no_looks v.hand v.queue (pop-nothing v h);
   remove_order = λ v id. items-remove id v.queue;
   remove_pinned = λ v id once. refl;
+  remove_unpinned = λ v id free. refl;
   remove_credit = λ v id. bits-remove id v.queue;
   acquire_order = λ v id once. rw (items-visit id v.queue) (IsPermutation-refl (items v.queue));
   acquire_pinned = λ v id once. inl refl;

@@ -257,6 +257,16 @@ impl Eviction for AnyEviction {
         }
     }
 
+    fn expired(&self, now: u64) -> Option<Place> {
+        match self {
+            AnyEviction::Fifo(policy) => policy.expired(now),
+            AnyEviction::S3Fifo(policy) => policy.expired(now),
+            AnyEviction::Lru(policy) => policy.expired(now),
+            AnyEviction::Lfu(policy) => policy.expired(now),
+            AnyEviction::Sieve(policy) => policy.expired(now),
+        }
+    }
+
     #[inline(always)]
     fn span(&self) -> usize {
         match self {

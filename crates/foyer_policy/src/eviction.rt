@@ -1,9 +1,10 @@
 //! What every eviction policy offers to the cache above it.
 
-ghost use Rattle.std.specs.Prelude.{◌≡◌, ◌≢◌, ◌↔◌, ℕ, ◌+◌, ◌<◌, ◌≤◌, ◌^◌, Option, Some, None, Ok, Err, OnOk, OnErr, IfOk, IfErr, IfSome, IfNone, IsSome, IsTrue, IsOk, option_map};
+ghost use Rattle.std.specs.Prelude.{◌≡◌, ◌≢◌, ◌↔◌, ℕ, ◌+◌, ◌<◌, ◌≤◌, ◌^◌, Option, Some, None, Ok, Err, OnOk, OnErr, IfOk, IfErr, IfSome, IfNone, IsSome, IsTrue, IsOk, option_and_then, option_map};
 ghost use Rattle.std.specs.Option.{option_copied};
 ghost use Rattle.foyer_policy.specs.Items.{weight_of, count_of, find_id, IsNewIn};
 ghost use Rattle.foyer_policy.specs.Limit.{ok_unless};
+ghost use Rattle.foyer_policy.specs.Moments.{first_due, is_due};
 ghost use Rattle.foyer_policy.specs.Policy.{Policy, IsPolicy, Pops, refusal_in, without};
 ghost use Rattle.foyer_policy.specs.declared.types.Item.{Item};
 ghost use Rattle.foyer_policy.specs.declared.error.Reason.{Reason};
@@ -248,6 +249,12 @@ pub trait Eviction: Drop {
     {
         (None, None)
     }
+
+    /// The place of the item that is to leave first at a moment: the first of the policy's order that is expired then
+    /// and not pinned, or none where none is. It takes no memory, and in this form it reads items up to that one.
+    fn expired(&self, now: u64) -> Option<Place>
+        ensures there { IfSome result (λ p. IsSome (at self.now p)) }
+        ensures first { option_and_then (λ p. at self.now p) result ≡ first_due (is_due now) model (view self.now) };
 
     /// How many nodes there are, with items or free. Every place is below it. `reserve` and `reserve_to` alone
     /// raise it, and nothing lowers it.

@@ -2,10 +2,12 @@
 
 ghost use Rattle.std.specs.Prelude.{◌≡◌, [], ◌∷◌, map};
 
+use crate::due::first_of_lists;
 use crate::error::{Error, Reason, Result};
 use crate::eviction::Eviction;
+use crate::kept::Kept;
 use crate::lists::{Lists, Place};
-use crate::queued::append_items;
+use crate::queued::{append_items, whole_found};
 use crate::types::Item;
 use serde::{Deserialize, Serialize};
 use std::alloc::Global;
@@ -22,7 +24,7 @@ pub struct FifoState {}
 /// First in, first out: the record that came in first leaves first, used or not.
 #[derive(Drop)]
 pub struct Fifo {
-    queue: Lists<Item, 1>,
+    queue: Lists<Kept, 1>,
     alloc: Global,
 }
 
@@ -117,17 +119,17 @@ impl Eviction for Fifo {
 
     #[inline(always)]
     fn push_at(&mut self, place: Place, item: Item) {
-        self.queue.push_back_at(0, place, item);
+        self.queue.push_back_at(0, place, Kept::of(item));
     }
 
     #[inline(always)]
     fn pop_at(&mut self) -> Result<Option<(Place, Item)>> {
-        Ok(self.queue.pop_front_at(0))
+        Ok(whole_found(self.queue.pop_front_at(0)))
     }
 
     #[inline(always)]
     fn remove(&mut self, place: Place) -> Item {
-        self.queue.remove(place)
+        self.queue.remove(place).whole()
     }
 
     fn reserve_clear(&mut self) -> Result<()> {
@@ -149,6 +151,10 @@ impl Eviction for Fifo {
         self.queue.first_two(0)
     }
 
+    fn expired(&self, now: u64) -> Option<Place> {
+        first_of_lists(&self.queue, 1, now)
+    }
+
     #[inline(always)]
     fn span(&self) -> usize {
         self.queue.span()
@@ -156,7 +162,7 @@ impl Eviction for Fifo {
 
     #[inline(always)]
     fn item(&self, place: Place) -> Item {
-        *self.queue.get(place)
+        self.queue.get(place).whole()
     }
 
     fn order(&self) -> Result<Vec<Item>> {

@@ -6,8 +6,10 @@ ghost use Rattle.foyer_policy.specs.Limit.{ok_unless};
 
 mod segments;
 
+use crate::due::first_of_lists;
 use crate::error::{Error, Field, Reason, Result};
 use crate::eviction::Eviction;
+use crate::kept::Kept;
 use crate::limit::{Range, check_ratio, limit_of};
 use crate::lists::{Lists, Place};
 use crate::queued::append_items;
@@ -84,7 +86,7 @@ pub struct LfuState {}
 /// back to probation.
 #[derive(Drop)]
 pub struct Lfu {
-    lists: Lists<Item, 3>,
+    lists: Lists<Kept, 3>,
     sketch: Sketch,
     window_weight: usize,
     protected_weight: usize,
@@ -219,7 +221,7 @@ impl Eviction for Lfu {
 
     fn push_at(&mut self, place: Place, item: Item) {
         self.sketch.update(item.hash);
-        self.lists.push_back_at(WINDOW, place, item);
+        self.lists.push_back_at(WINDOW, place, Kept::of(item));
         let weight = self.window_weight + item.weight;
         self.window_weight = settle(&mut self.lists, WINDOW, weight, self.window_limit);
     }
@@ -229,16 +231,16 @@ impl Eviction for Lfu {
         let Some(found) = self.lists.pop_front_at(list) else {
             return Ok(None);
         };
-        let item = found.1;
+        let item = found.1.whole();
         self.window_weight -= weight_if(list == WINDOW, item.weight);
         self.protected_weight -= weight_if(list == PROTECTED, item.weight);
-        Ok(Some(found))
+        Ok(Some((found.0, item)))
     }
 
     #[inline(always)]
     fn remove(&mut self, place: Place) -> Item {
         let list = self.lists.list_of(place);
-        let item = self.lists.remove(place);
+        let item = self.lists.remove(place).whole();
         self.window_weight -= weight_if(list == WINDOW, item.weight);
         self.protected_weight -= weight_if(list == PROTECTED, item.weight);
         item
@@ -258,7 +260,7 @@ impl Eviction for Lfu {
 
     #[inline(always)]
     fn acquire(&mut self, place: Place) {
-        let item = *self.lists.get(place);
+        let item = self.lists.get(place).whole();
         self.sketch.update(item.hash);
         let list = self.lists.list_of(place);
         if list != PROBATION {
@@ -284,6 +286,10 @@ impl Eviction for Lfu {
         self.lists.first_two(PROBATION)
     }
 
+    fn expired(&self, now: u64) -> Option<Place> {
+        first_of_lists(&self.lists, 3, now)
+    }
+
     #[inline(always)]
     fn span(&self) -> usize {
         self.lists.span()
@@ -291,7 +297,7 @@ impl Eviction for Lfu {
 
     #[inline(always)]
     fn item(&self, place: Place) -> Item {
-        *self.lists.get(place)
+        self.lists.get(place).whole()
     }
 
     fn order(&self) -> Result<Vec<Item>> {

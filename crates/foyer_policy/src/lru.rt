@@ -8,8 +8,10 @@ ghost use Rattle.foyer_policy.specs.Policy.{Pops, without};
 
 mod pools;
 
+use crate::due::first_of_lists;
 use crate::error::{Error, Field, Reason, Result};
 use crate::eviction::Eviction;
+use crate::kept::Kept;
 use crate::limit::{Range, check_ratio, limit_of};
 use crate::lists::{Lists, Place};
 use crate::queued::{Queued, append_items};
@@ -175,17 +177,20 @@ impl Eviction for Lru {
     fn push_at(&mut self, place: Place, item: Item) {
         // A push pins nothing.
         let pinned = false;
+        let kept = Kept::of(item);
         match item.hint {
             Hint::Low => {
                 let state = LruState {
                     high: false,
                     pinned,
                 };
-                self.lists.push_back_at(LOW, place, Queued { item, state });
+                self.lists
+                    .push_back_at(LOW, place, Queued { item: kept, state });
             }
             Hint::Normal => {
                 let state = LruState { high: true, pinned };
-                self.lists.push_back_at(HIGH, place, Queued { item, state });
+                self.lists
+                    .push_back_at(HIGH, place, Queued { item: kept, state });
                 let weight = self.high_weight + item.weight;
                 self.high_weight = settle(&mut self.lists, weight, self.limit);
             }
@@ -211,18 +216,20 @@ impl Eviction for Lru {
         ensures span { self.new.span ≡ self.old.span }
     {
         if let Some(found) = self.lists.pop_front_at(LOW) {
-            return Ok(Some((found.0, found.1.item)));
+            return Ok(Some((found.0, found.1.item.whole())));
         }
         let Some(found) = self.lists.pop_front_at(HIGH) else {
             return Ok(None);
         };
-        self.high_weight -= found.1.item.weight;
-        Ok(Some((found.0, found.1.item)))
+        let item = found.1.item.whole();
+        self.high_weight -= item.weight;
+        Ok(Some((found.0, item)))
     }
 
     #[inline(always)]
     fn remove(&mut self, place: Place) -> Item {
-        let Queued { item, state } = self.lists.remove(place);
+        let Queued { item: kept, state } = self.lists.remove(place);
+        let item = kept.whole();
         if state.pinned {
             self.pinned_weight -= item.weight;
         } else if state.high {
@@ -245,7 +252,8 @@ impl Eviction for Lru {
 
     #[inline(always)]
     fn acquire(&mut self, place: Place) {
-        let Queued { item, state } = *self.lists.get(place);
+        let Queued { item: kept, state } = *self.lists.get(place);
+        let item = kept.whole();
         if state.pinned {
             return;
         }
@@ -262,7 +270,8 @@ impl Eviction for Lru {
 
     #[inline(always)]
     fn release(&mut self, place: Place) {
-        let Queued { item, state } = *self.lists.get(place);
+        let Queued { item: kept, state } = *self.lists.get(place);
+        let item = kept.whole();
         if !state.pinned {
             return;
         }
@@ -298,6 +307,11 @@ impl Eviction for Lru {
         }
     }
 
+    // The lists in front of the pinned one: what is pinned is not looked through.
+    fn expired(&self, now: u64) -> Option<Place> {
+        first_of_lists(&self.lists, PIN, now)
+    }
+
     #[inline(always)]
     fn span(&self) -> usize {
         self.lists.span()
@@ -305,7 +319,7 @@ impl Eviction for Lru {
 
     #[inline(always)]
     fn item(&self, place: Place) -> Item {
-        self.lists.get(place).item
+        self.lists.get(place).item.whole()
     }
 
     fn order(&self) -> Result<Vec<Item>> {

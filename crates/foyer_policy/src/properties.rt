@@ -1,6 +1,6 @@
-//! What comes with a record: whether it is a phantom, its hint, its place and its age.
+//! What comes with a record: whether it is a phantom, its hint, its place, its age and when it expires.
 
-ghost use Rattle.std.specs.Prelude.{◌≡◌, Bool, Option, Some};
+ghost use Rattle.std.specs.Prelude.{◌≡◌, ℕ, Bool, Option, Some};
 ghost use Rattle.foyer_policy.specs.declared.types.Age.{Age};
 ghost use Rattle.foyer_policy.specs.declared.types.Hint.{Hint};
 ghost use Rattle.foyer_policy.specs.declared.types.Location.{Location};
@@ -17,6 +17,8 @@ pub trait Properties: Default + Drop + 'static {
     ghost location_of: { Self → Option Location };
 
     ghost age_of: { Self → Option Age };
+
+    ghost expiry_of: { Self → Option ℕ };
 
     // The properties with another answer to `phantom`.
     ghost with_phantom_of: { Self → Bool → Self };
@@ -53,6 +55,19 @@ pub trait Properties: Default + Drop + 'static {
     fn age(&self) -> Option<Age>
         ensures { result ≡ age_of self.now };
 
+    /// The properties with the moment at which the record expires, or with none, where the type keeps it. A type
+    /// that keeps none has them as they are.
+    fn with_expiry(self, expires: Option<u64>) -> Self
+        ensures { phantom_of result ≡ phantom_of self }
+    {
+        let _ = expires;
+        self
+    }
+
+    /// When the record expires: from that moment on it is the first to leave.
+    fn expiry(&self) -> Option<u64>
+        ensures { result ≡ expiry_of self.now };
+
     // The phantom answer is the one that was given, and the other answers stay.
     ghost phantom_given: { (p : Self) (b : Bool) → phantom_of (with_phantom_of p b) ≡ Some b };
 
@@ -61,4 +76,6 @@ pub trait Properties: Default + Drop + 'static {
     ghost location_stays: { (p : Self) (b : Bool) → location_of (with_phantom_of p b) ≡ location_of p };
 
     ghost age_stays: { (p : Self) (b : Bool) → age_of (with_phantom_of p b) ≡ age_of p };
+
+    ghost expiry_stays: { (p : Self) (b : Bool) → expiry_of (with_phantom_of p b) ≡ expiry_of p };
 }

@@ -6,6 +6,7 @@ ghost use Rattle.foyer_policy.specs.declared.types.Item.{Item};
 ghost use Rattle.foyer_policy.specs.declared.error.Reason.TheVariants.{NoMemory};
 
 use crate::error::{Error, Reason, Result};
+use crate::kept::Kept;
 use crate::lists::{Lists, Place};
 use crate::types::Item;
 
@@ -18,18 +19,18 @@ pub(crate) trait HasItem {
         ensures { result ≡ item_of self.now };
 }
 
-impl HasItem for Item {
+impl HasItem for Kept {
     ghost item_of = { λ i. i };
 
     fn item(&self) -> Item {
-        *self
+        self.whole()
     }
 }
 
 /// An item, and what its policy keeps beside it.
 #[derive(Clone, Copy)]
 pub(crate) struct Queued<S> {
-    pub(crate) item: Item,
+    pub(crate) item: Kept,
     pub(crate) state: S,
 }
 
@@ -37,7 +38,18 @@ impl<S> HasItem for Queued<S> {
     ghost item_of = { λ h. h.item };
 
     fn item(&self) -> Item {
-        self.item
+        self.item.whole()
+    }
+}
+
+/// What was found at a place, with its item whole.
+#[inline(always)]
+pub(crate) fn whole_found(found: Option<(Place, Kept)>) -> Option<(Place, Item)>
+    ensures { result ≡ found }
+{
+    match found {
+        Some((place, kept)) => Some((place, kept.whole())),
+        None => None,
     }
 }
 

@@ -9,9 +9,11 @@ ghost use Rattle.foyer_policy.specs.S3FifoQueues.{S3Queues, IsSound, item_at, vi
 
 mod queues;
 
+use crate::due::first_of_lists;
 use crate::error::{Error, Field, Reason, Result};
 use crate::eviction::Eviction;
 use crate::ghost_queue::GhostQueue;
+use crate::kept::Kept;
 use crate::limit::{Range, check_ratio, limit_of};
 use crate::lists::{Lists, Place};
 use crate::queued::{Queued, append_items};
@@ -115,7 +117,7 @@ impl S3Fifo {
         match victim {
             Some(victim) => {
                 self.looks = victim.looks;
-                Some((victim.at, victim.item))
+                Some((victim.at, victim.item.whole()))
             }
             None => {
                 self.looks = 0;
@@ -212,6 +214,7 @@ impl Eviction for S3Fifo {
 
     #[inline(always)]
     fn push_at(&mut self, place: Place, item: Item) {
+        let kept = Kept::of(item);
         let is_main = self.ghost_queue.contains(item.hash);
         let state = S3FifoState {
             is_main,
@@ -219,12 +222,12 @@ impl Eviction for S3Fifo {
         };
         if is_main {
             self.queues
-                .push_back_at(MAIN, place, Queued { item, state });
+                .push_back_at(MAIN, place, Queued { item: kept, state });
             return;
         }
         self.small_weight += item.weight;
         self.queues
-            .push_back_at(SMALL, place, Queued { item, state });
+            .push_back_at(SMALL, place, Queued { item: kept, state });
     }
 
     fn pop_at(&mut self) -> Result<Option<(Place, Item)>>
@@ -253,7 +256,8 @@ impl Eviction for S3Fifo {
 
     #[inline(always)]
     fn remove(&mut self, place: Place) -> Item {
-        let Queued { item, state } = self.queues.remove(place);
+        let Queued { item: kept, state } = self.queues.remove(place);
+        let item = kept.whole();
         if !state.is_main {
             self.small_weight -= item.weight;
         }
@@ -298,6 +302,10 @@ impl Eviction for S3Fifo {
         self.queues.first_two(queue)
     }
 
+    fn expired(&self, now: u64) -> Option<Place> {
+        first_of_lists(&self.queues, 2, now)
+    }
+
     #[inline(always)]
     fn span(&self) -> usize {
         self.queues.span()
@@ -305,7 +313,7 @@ impl Eviction for S3Fifo {
 
     #[inline(always)]
     fn item(&self, place: Place) -> Item {
-        self.queues.get(place).item
+        self.queues.get(place).item.whole()
     }
 
     fn order(&self) -> Result<Vec<Item>> {

@@ -8,8 +8,10 @@ ghost use Rattle.foyer_policy.specs.Sieve.{hand_without, rotation, sieve, unvisi
 ghost use Rattle.foyer_policy.specs.declared.sieve.SieveConfig.{SieveConfig};
 ghost use Rattle.foyer_policy.specs.SieveQueue.{view_of, entry, entries, entry_items, item_at, IsTurn};
 
+use crate::due::first_of_lists;
 use crate::error::{Error, Reason, Result};
 use crate::eviction::Eviction;
+use crate::kept::Kept;
 use crate::lists::{Lists, Place};
 use crate::queued::{Queued, append_items};
 use crate::types::Item;
@@ -32,7 +34,7 @@ type Node = Queued<SieveState>;
 // What a pop took out, the place that it had, where the hand goes, and how many bits it read.
 #[derive(Drop)]
 struct Victim {
-    item: Item,
+    item: Kept,
     at: Place,
     hand: Option<Place>,
     looks: u128,
@@ -217,7 +219,7 @@ impl Eviction for Sieve {
             0,
             place,
             Node {
-                item,
+                item: Kept::of(item),
                 state: SieveState::default(),
             },
         );
@@ -256,13 +258,13 @@ impl Eviction for Sieve {
         } = take_victim(&mut self.queue, start);
         self.hand = hand;
         self.looks = looks;
-        Ok(Some((at, item)))
+        Ok(Some((at, item.whole())))
     }
 
     #[inline(always)]
     fn remove(&mut self, place: Place) -> Item {
         self.hand = hand_beside(self.hand, place);
-        self.queue.remove(place).item
+        self.queue.remove(place).item.whole()
     }
 
     fn reserve_clear(&mut self) -> Result<()> {
@@ -297,6 +299,10 @@ impl Eviction for Sieve {
         }
     }
 
+    fn expired(&self, now: u64) -> Option<Place> {
+        first_of_lists(&self.queue, 1, now)
+    }
+
     #[inline(always)]
     fn span(&self) -> usize {
         self.queue.span()
@@ -304,7 +310,7 @@ impl Eviction for Sieve {
 
     #[inline(always)]
     fn item(&self, place: Place) -> Item {
-        self.queue.get(place).item
+        self.queue.get(place).item.whole()
     }
 
     fn order(&self) -> Result<Vec<Item>> {

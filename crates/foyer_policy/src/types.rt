@@ -81,6 +81,8 @@ pub struct Item {
     pub weight: usize,
     /// The hint that came with the record.
     pub hint: Hint,
+    /// When the record expires, or none. From that moment on it is the first to leave.
+    pub expires: Option<u64>,
 }
 
 /// A cache's key. Every fitting type is one.

@@ -53,7 +53,7 @@ fn each_does_as_its_policy(rt: HostRuntime) -> Result<(), Fail> {
 }
 
 // The default configuration of each policy.
-fn defaults() -> [EvictionConfig; 5] {
+pub fn defaults() -> [EvictionConfig; 5] {
     [
         EvictionConfig::from(FifoConfig {}),
         EvictionConfig::from(S3FifoConfig::default()),

@@ -16,6 +16,8 @@ mod hash;
 #[cfg(test)]
 mod lists;
 #[cfg(test)]
+mod moments;
+#[cfg(test)]
 mod policies;
 #[cfg(test)]
 mod sketch;

@@ -12,6 +12,7 @@ pub fn item(id: u64) -> Item {
         hash: id,
         weight: 1,
         hint: Hint::Normal,
+        expires: None,
     }
 }
 

@@ -40,6 +40,7 @@ fn item(id: u64) -> Item {
         hash: id,
         weight: 1,
         hint: Hint::Normal,
+        expires: None,
     }
 }
 

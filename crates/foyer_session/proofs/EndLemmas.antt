@@ -15,6 +15,7 @@ use Rattle.foyer_core.specs.CoreFetches.{Completed, CompletesAt, EndsIn, PieceAr
 use Rattle.foyer_core.specs.Fetching.{Arrives, ArrivesBack}
 use Rattle.foyer_core.specs.Inflight.{Opens, OpenFetch, closed, waiters_of}
 use Rattle.foyer_core.specs.Pieces.{ReturnsBy, is_in, is_known, returning}
+use Rattle.foyer_core.specs.Rules.{Rules}
 use Rattle.foyer_core.specs.State.{AllData, Meaning, State, handles_in, is_phantom_record}
 use Rattle.foyer_core.specs.Steps.{newcomer}
 use Rattle.foyer_core.specs.Values.{Carried, Gone, Held}
@@ -104,28 +105,28 @@ module _ {K V P View C S W A N R : Type 0} (m : Meaning K P View C) (old : Core 
       let few = so h.arrived.before h.arrived.after h.arrived.stepped in
       record { waiters = h.waiters; each = few.0; alike = few.1; closes = h.closes; lost_is = found_some ended h.found }
 
-  module _ (hash : K → ℕ) (weighs : K → V → ℕ → Type 0) (admits : K → V → Bool → Type 0) (properties : P → Bool → P)
+  module _ (rules : Rules K V P)
       (source : Source) where
     piece_answers : (b : Bool) (piece : Carried K V P) (o : OpenFetch N R) →
-        PieceCompletes m b (weighs piece.kept.key piece.kept.value) (hash piece.kept.key) piece k o ended old f new g
+        PieceCompletes m b (rules.weighs piece.kept.key piece.kept.value) (rules.hash piece.kept.key) piece k o ended old f new g
         → Answering m.same k (Some o) f g ended
     piece_answers true piece o h =
         completes_answers
-        (λ s. PieceArrives m (is_known s (hash piece.kept.key) piece) (weighs piece.kept.key piece.kept.value)
-        (hash piece.kept.key) piece (length o.tokens) s) o
-        (λ s t came. piece_alike m s t ended.leaves (weighs piece.kept.key piece.kept.value) (hash piece.kept.key)
-        piece (length o.tokens) (is_known s (hash piece.kept.key) piece) ended.outcome came) h
+        (λ s. PieceArrives m (is_known s (rules.hash piece.kept.key) piece) (rules.weighs piece.kept.key piece.kept.value)
+        (rules.hash piece.kept.key) piece (length o.tokens) s) o
+        (λ s t came. piece_alike m s t ended.leaves (rules.weighs piece.kept.key piece.kept.value) (rules.hash piece.kept.key)
+        piece (length o.tokens) (is_known s (rules.hash piece.kept.key) piece) ended.outcome came) h
     piece_answers false piece o h = ends_answers (Some o) WrongKey h.0
 
     pub completed_answers : (target : FetchTarget K V P) (p : Option (OpenFetch N R)) →
-        Completed m hash weighs admits properties source target k p ended old f new g → Answering m.same k p f g ended
+        Completed m rules source target k p ended old f new g → Answering m.same k p f g ended
     completed_answers target None h = lost_answers h.0 h.2
     completed_answers (Entry value own) (Some o) h =
         let d : Data K V P =
         record {
           key = h.own;
           value = value;
-          properties = properties own h.admitted;
+          properties = rules.properties own h.admitted;
           hash = k.0;
           weight =
               h.weight;
@@ -133,7 +134,7 @@ module _ {K V P View C S W A N R : Type 0} (m : Meaning K P View C) (old : Core 
         completes_answers (λ s. Arrives m source s (newcomer s d (length o.tokens))) o
         (λ s t came. arrives_alike m s t ended.leaves source d (length o.tokens) ended.outcome came) h.completes
     completed_answers (PieceOf piece) (Some o) h =
-        piece_answers (is_of m old (hash piece.kept.key) piece k (shard_at old k.0)) piece o h
+        piece_answers (is_of m old (rules.hash piece.kept.key) piece k (shard_at old k.0)) piece o h
 
 -- who ends with a refusal gets no entry
 pub ends_none : {K V P N R : Type 0} (eq : K → K → Bool) (k : ℕ × K) (ended : Ending K V P N) (p : Option (OpenFetch N R))

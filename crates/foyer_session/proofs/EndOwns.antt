@@ -10,6 +10,7 @@ use Rattle.foyer_core.specs.CoreFetches.{Completed, PieceArrives, PieceCompletes
 use Rattle.foyer_core.specs.Fetching.{Arrives}
 use Rattle.foyer_core.specs.Inflight.{Opens, OpenFetch}
 use Rattle.foyer_core.specs.Pieces.{coming_under, is_known}
+use Rattle.foyer_core.specs.Rules.{Rules}
 use Rattle.foyer_core.specs.State.{AllData, Meaning, State, handles_in}
 use Rattle.foyer_core.specs.Steps.{newcomer}
 use Rattle.foyer_core.specs.Values.{Carried, Held}
@@ -43,25 +44,25 @@ module _ {K V P View C S W A N R : Type 0} (m : Meaning K P View C) (old : Core 
       let one = first_holds (shard_of old hash == shard_of old k.0) (m.same k.1 (coming_under s hash piece).1) both in
       grind (arith, nat_tests)
 
-  module _ (hash : K → ℕ) (weighs : K → V → ℕ → Type 0) (admits : K → V → Bool → Type 0) (properties : P → Bool → P)
+  module _ (rules : Rules K V P)
       (source : Source) where
     piece_end : (b : Bool) (piece : Carried K V P) (o : OpenFetch N R) →
-        is_of m old (hash piece.kept.key) piece k (shard_at old k.0) ≡ b
-        → PieceCompletes m b (weighs piece.kept.key piece.kept.value) (hash piece.kept.key) piece k o ended old f new
+        is_of m old (rules.hash piece.kept.key) piece k (shard_at old k.0) ≡ b
+        → PieceCompletes m b (rules.weighs piece.kept.key piece.kept.value) (rules.hash piece.kept.key) piece k o ended old f new
         g → OwnsHandles new (handles ++ map given (entries_by ended.outcome))
     piece_end true piece o is h =
         let at = h.arrived in
         piece_owns m old new handles owns
-        (λ s. PieceArrives m (is_known s (hash piece.kept.key) piece) (weighs piece.kept.key piece.kept.value)
-        (hash piece.kept.key) piece (length o.tokens) s ended.outcome ended.leaves)
+        (λ s. PieceArrives m (is_known s (rules.hash piece.kept.key) piece) (rules.weighs piece.kept.key piece.kept.value)
+        (rules.hash piece.kept.key) piece (length o.tokens) s ended.outcome ended.leaves)
         k.0 at (belongs at.before at.there) (unused at.before at.there) ended.leaves
-        (weighs piece.kept.key piece.kept.value) (hash piece.kept.key) piece (length o.tokens) ended.outcome
-        (home_of (hash piece.kept.key) piece at.before at.there is) at.stepped
+        (rules.weighs piece.kept.key piece.kept.value) (rules.hash piece.kept.key) piece (length o.tokens) ended.outcome
+        (home_of (rules.hash piece.kept.key) piece at.before at.there is) at.stepped
     piece_end false piece o is h = same_owns old new handles (entries_by ended.outcome)
         (ap (λ (x : Ending K V P N). entries_by x.outcome) h.0.0) h.1 owns
 
     pub completed_owns : (target : FetchTarget K V P) (p : Option (OpenFetch N R)) →
-        Completed m hash weighs admits properties source target k p ended old f new g →
+        Completed m rules source target k p ended old f new g →
         OwnsHandles new (handles ++ map given (entries_by ended.outcome))
     completed_owns target None h = same_owns old new handles (entries_by ended.outcome)
         (ap (λ (x : Ending K V P N). entries_by x.outcome) h.0) h.1 owns
@@ -70,7 +71,7 @@ module _ {K V P View C S W A N R : Type 0} (m : Meaning K P View C) (old : Core 
         record {
           key = h.own;
           value = value;
-          properties = properties own h.admitted;
+          properties = rules.properties own h.admitted;
           hash = k.0;
           weight =
               h.weight;
@@ -81,4 +82,4 @@ module _ {K V P View C S W A N R : Type 0} (m : Meaning K P View C) (old : Core 
         (belongs at.before at.there) (unused at.before at.there) ended.leaves
         source d (length o.tokens) ended.outcome refl at.stepped
     completed_owns (PieceOf piece) (Some o) h =
-        piece_end (is_of m old (hash piece.kept.key) piece k (shard_at old k.0)) piece o refl h
+        piece_end (is_of m old (rules.hash piece.kept.key) piece k (shard_at old k.0)) piece o refl h

@@ -28,56 +28,37 @@ module _ {K V P View C S W A N R : Type 0} (m : Meaning K P View C) (laws : IsEq
   abbrev own : K → ℕ
   own = hashes old.hash_builder
 
-  abbrev nowhere : P → Option Location
-  nowhere p = None
+  module _ (weighs : K → V → ℕ → Type 0) (admits : K → V → Bool → Type 0) (properties : P → Bool → P) where
+    abbrev Completes : FetchTarget K V P → Option (OpenFetch N R) → Type 0
+    Completes target p = Completed m
+        record {
+          hash = own;
+          weighs = weighs;
+          admits = admits;
+          properties = properties;
+        } source target (own key, key) p ended old f new g
 
-  abbrev as_it_is : P → Bool → P
-  as_it_is p b = p
+    builder_stays : (target : FetchTarget K V P) (p : Option (OpenFetch N R)) → Completes target p →
+        new.hash_builder ≡ old.hash_builder
+    builder_stays target None h = ap (λ (c : Core K V P View S W A). c.hash_builder) h.1
+    builder_stays (Entry value q) (Some o) h =
+        ap (λ (c : Core K V P View S W A). c.hash_builder) h.completes.arrived.rest
+    builder_stays (PieceOf piece) (Some o) h =
+        of_piece (is_of m old (own piece.kept.key) piece (own key, key) (shard_at old (own key))) h
+      where
+        of_piece : (b : Bool) → PieceCompletes m b (weighs piece.kept.key piece.kept.value) (own piece.kept.key) piece
+            (own key, key) o ended old f new g → new.hash_builder ≡ old.hash_builder
+        of_piece true h = ap (λ (c : Core K V P View S W A). c.hash_builder) h.arrived.rest
+        of_piece false h = ap (λ (c : Core K V P View S W A). c.hash_builder) h.1
 
-  -- where it is as it is, it comes in so
-  comes_so : (admitted : Bool) (p : P) → coming_in nowhere as_it_is admitted p ≡ p
-  comes_so true p = refl
-  comes_so false p = refl
-
-  -- The index is told by the leaves and the entries of the end of a fetch, and the hash builder stays.
-  pub completed_told : (weighs : K → V → ℕ → Type 0) (admits : K → V → Bool → Type 0) (properties : P → Bool → P)
-      (target : FetchTarget K V P) (p : Option (OpenFetch N R)) → ((o : OpenFetch N R) → p ≡ Some o → 0 < length o.tokens)
-      → Completed m own weighs admits properties source target (own key, key) p ended old f new g →
-      (new.hash_builder ≡ old.hash_builder) × IsToldByEnd m.same own m.phantom old ended.leaves ended.outcome new
-  completed_told weighs admits properties target None waited h = (
-    ap (λ (c : Core K V P View S W A). c.hash_builder) h.1,
-    end_told m laws good hashes old new equal sound f g source key ended weighs admits nowhere as_it_is target
-        None waited h,
-  )
-  completed_told weighs admits properties (Entry value q) (Some o) waited h =
-      let p : P = properties q h.admitted in
-      let came : P → Data K V P = λ x.
-      record { key = h.own; value = value; properties = x; hash = own key; weight = h.weight } in (
-        ap (λ (c : Core K V P View S W A). c.hash_builder) h.completes.arrived.rest,
-        end_told m laws good hashes old new equal sound f g source key ended weighs admits nowhere as_it_is
-            (Entry value p) (Some o) waited
-            record {
-              own = h.own;
-              equal = h.equal;
-              weight = h.weight;
-              weighed = h.weighed;
-              admitted = h.admitted;
-              answered = h.answered;
-              completes = subst
-                  (λ (x : P). CompletesAt m (λ s. Arrives m source s (newcomer s (came x) (length o.tokens)))
-                  (own key, key) o ended old f new g) (sym (comes_so h.admitted p)) h.completes;
-            },
-      )
-  completed_told weighs admits properties (PieceOf piece) (Some o) waited h = (
-    builder (is_of m old (own piece.kept.key) piece (own key, key) (shard_at old (own key))) h,
-    end_told m laws good hashes old new equal sound f g source key ended weighs admits nowhere as_it_is
-        (PieceOf piece) (Some o) waited h,
-  )
-    where
-      builder : (b : Bool) → PieceCompletes m b (weighs piece.kept.key piece.kept.value) (own piece.kept.key) piece
-          (own key, key) o ended old f new g → new.hash_builder ≡ old.hash_builder
-      builder true h = ap (λ (c : Core K V P View S W A). c.hash_builder) h.arrived.rest
-      builder false h = ap (λ (c : Core K V P View S W A). c.hash_builder) h.1
+    -- The index is told by the leaves and the entries of the end of a fetch, and the hash builder stays.
+    pub completed_told : (target : FetchTarget K V P) (p : Option (OpenFetch N R)) →
+        ((o : OpenFetch N R) → p ≡ Some o → 0 < length o.tokens) → Completes target p →
+        (new.hash_builder ≡ old.hash_builder) × IsToldByEnd m.same own m.phantom old ended.leaves ended.outcome new
+    completed_told target p waited h = (
+      builder_stays target p h,
+      end_told m laws good hashes old new equal sound f g source key ended weighs admits properties target p waited h,
+    )
 
 module _ {K V P View C S W A N R : Type 0} (m : Meaning K P View C) (laws : IsEquivalence m.same)
     (good : IsPolicy m.policy) (hash : K → ℕ) (equal : (a b : K) → m.same a b ≡ true → hash a ≡ hash b)

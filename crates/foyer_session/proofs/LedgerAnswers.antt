@@ -21,7 +21,7 @@ use Rattle.foyer_session.specs.declared.command.Command.TheVariants.{Insert, Get
 use Rattle.foyer_session.specs.declared.command.End.{End}
 use Rattle.foyer_session.specs.declared.command.End.TheVariants.{Value, PieceNo as PieceEnd}
 use Rattle.foyer_session.specs.Ledger.{IsAnswered, IsHandleOf, MayGet, MayRefuse, came_in, outcomes}
-use Rattle.foyer_session.specs.Step.{SessionState, Step, GetStep, ContainsStep, TouchStep, RemoveStep, CloneStep, DropStep, TakePieceStep, RefsStep, OutdatedStep, GetOrFetchStep, CompletesWith, CompletesPiece, CompleteStep, EndStep, FetchOrTakeStep, IsOpenStep, TellsEnd, ClearStep, EvictAllStep, FlushIfStep, ResizeStep, ReconfigureStep, NumberStep, hash_in, hashed, nothing_by, open_at}
+use Rattle.foyer_session.specs.Step.{SessionState, Step, GetStep, ContainsStep, TouchStep, RemoveStep, CloneStep, DropStep, TakePieceStep, RefsStep, OutdatedStep, GetOrFetchStep, CompletesWith, CompletesPiece, CompleteStep, EndStep, FetchOrTakeStep, IsOpenStep, TellsEnd, ClearStep, EvictAllStep, FlushIfStep, ResizeStep, ReconfigureStep, NumberStep, hash_in, hashed, nothing_by, open_at, rules_in}
 use Rattle.foyer_session.specs.Terms.{Terms}
 use Rattle.foyer_session.specs.Tokens.{each_gets, numbers_of}
 use Rattle.foyer_session.proofs.EndTells.{asked_some}
@@ -52,20 +52,17 @@ module _ {K V P View C S W A : Type 0} (Q : Type 0) (t : Terms K V P View C S W 
   complete_with : (end : End V P) (k : K) (fetch : ℕ) (source : Source) (target : FetchTarget K V P)
       (answer : Answer K V P) (leaves : List (Event × Gone K V P))
       → ((ended : Ending K V P (Unit {0})) (o : OpenFetch (Unit {0}) ℕ)
-      → Completed t.meaning (hash_in t old) (t.weighs old.core.weighter) (t.admits old.core.filter)
-      (λ p admitted. t.incoming admitted p) source target (hashed t old k) (Some o) ended old.core old.fetches
+      → Completed t.meaning (rules_in t old) source target (hashed t old k) (Some o) ended old.core old.fetches
       new.core new.fetches
       → Right (Complete k fetch end) k (length o.tokens) ended.outcome)
       → CompletesWith t old k fetch source target answer leaves new → AllIs (Complete k fetch end) k answer
   complete_with end k fetch source target answer leaves right h =
       let ends = completed_place t.meaning old.core new.core old.fetches new.fetches (hashed t old k) h.0
-      (hash_in t old)
-      (t.weighs old.core.weighter) (t.admits old.core.filter) (λ p admitted. t.incoming admitted p) source target
+      (rules_in t old) source target
       (open_at t old k fetch) h.1 in
       told_end (Complete k fetch end) k fetch h.0 answer leaves ends.0.waiters
       (λ o is. right h.0 o
-      (subst (λ (p : Option (OpenFetch (Unit {0}) ℕ)). Completed t.meaning (hash_in t old) (t.weighs old.core.weighter)
-      (t.admits old.core.filter) (λ p admitted. t.incoming admitted p) source target
+      (subst (λ (p : Option (OpenFetch (Unit {0}) ℕ)). Completed t.meaning (rules_in t old) source target
       (hashed t old k) p h.0 old.core old.fetches new.core new.fetches) is h.1))
       h.2
 
@@ -76,8 +73,7 @@ module _ {K V P View C S W A : Type 0} (Q : Type 0) (t : Terms K V P View C S W 
   complete_value k fetch v p source answer leaves h =
       complete_with (Value v p source) k fetch source (ValueTarget v p) answer leaves
       (λ ended o done. value_all t.meaning old.core new.core old.fetches new.fetches (hashed t old k) ended
-      (hash_in t old)
-      (t.weighs old.core.weighter) (t.admits old.core.filter) (λ p admitted. t.incoming admitted p) source o v p done) h
+      (rules_in t old) source o v p done) h
 
   complete_piece : (k : K) (fetch n : ℕ) (piece : Option (Carried K V P)) (answer : Answer K V P)
       (leaves : List (Event × Gone K V P))
@@ -89,8 +85,7 @@ module _ {K V P View C S W A : Type 0} (Q : Type 0) (t : Terms K V P View C S W 
   complete_piece k fetch n (Some piece) answer leaves h =
       complete_with (PieceEnd n) k fetch Memory (PieceTarget piece) answer leaves
       (λ ended o done. piece_all t.meaning old.core new.core old.fetches new.fetches (hashed t old k) ended
-      (hash_in t old)
-      (t.weighs old.core.weighter) (t.admits old.core.filter) (λ p admitted. t.incoming admitted p) Memory o piece
+      (rules_in t old) Memory o piece
       done) h
 
   complete_answered : (k : K) (fetch : ℕ) (end : End V P) (answer : Answer K V P) (leaves : List (Event × Gone K V P))

@@ -11,6 +11,7 @@ use Rattle.foyer_core.specs.CoreFetches.{Completed, PieceArrives, PieceCompletes
 use Rattle.foyer_core.specs.Fetching.{Arrives}
 use Rattle.foyer_core.specs.Inflight.{Opens, OpenFetch}
 use Rattle.foyer_core.specs.Pieces.{PieceBy, RefusesReturnBy, coming_under, is_in, is_known, returning}
+use Rattle.foyer_core.specs.Rules.{Rules}
 use Rattle.foyer_core.specs.State.{Meaning, State, is_phantom_record}
 use Rattle.foyer_core.specs.Steps.{RefusesBy, RefusesHandles, newcomer}
 use Rattle.foyer_core.specs.Values.{Carried, Gone, Held, Incoming}
@@ -119,39 +120,39 @@ wrong_too of_key n (Err reason) h = inl h
 
 module _ {K V P View C S W A N R : Type 0} (m : Meaning K P View C) (old new : Core K V P View S W A)
     (f g : List (Opens K N R)) (k : ℕ × K) (ended : Ending K V P N)
-    (hash : K → ℕ) (weighs : K → V → ℕ → Type 0) (admits : K → V → Bool → Type 0) (properties : P → Bool → P)
+    (rules : Rules K V P)
     (source : Source) (o : OpenFetch N R) where
-  pub value_all : (v : V) (p : P) → Completed m hash weighs admits properties source (Entry v p) k (Some o) ended old
+  pub value_all : (v : V) (p : P) → Completed m rules source (Entry v p) k (Some o) ended old
       f new g
       → AllAre (λ x. m.same k.1 x ≡ true) IsRefusal (length o.tokens) ended.outcome
   value_all v p h =
       let at = h.completes.arrived in
       let d : Data K V P =
-      record { key = h.own; value = v; properties = properties p h.admitted; hash = k.0; weight = h.weight } in
+      record { key = h.own; value = v; properties = rules.properties p h.admitted; hash = k.0; weight = h.weight } in
       equal_all m.same k.1 h.own (length o.tokens) ended.outcome h.equal
       (arrived m at.before at.after ended.leaves source d (length o.tokens) ended.outcome at.stepped)
 
-  piece_by : (b : Bool) (piece : Carried K V P) → is_of m old (hash piece.kept.key) piece k (shard_at old k.0) ≡ b
-      → PieceCompletes m b (weighs piece.kept.key piece.kept.value) (hash piece.kept.key) piece k o ended old f new g
+  piece_by : (b : Bool) (piece : Carried K V P) → is_of m old (rules.hash piece.kept.key) piece k (shard_at old k.0) ≡ b
+      → PieceCompletes m b (rules.weighs piece.kept.key piece.kept.value) (rules.hash piece.kept.key) piece k o ended old f new g
       → AllAre (λ x. m.same k.1 x ≡ true) (λ reason. IsRefusal reason ⊎ (reason ≡ WrongKey)) (length o.tokens)
       ended.outcome
   piece_by true piece is h =
       let at = h.arrived in
-      let h0 = hash piece.kept.key in
+      let h0 = rules.hash piece.kept.key in
       let both : ((shard_of old h0 == shard_of old k.0) && m.same k.1 (coming_under at.before h0 piece).1) ≡ true =
       sym (ap (is_of m old h0 piece k) at.there) ∙ is in
       let one = and_second (shard_of old h0 == shard_of old k.0) (m.same k.1 (coming_under at.before h0 piece).1)
       both in
       wrong_too (λ x. m.same k.1 x ≡ true) (length o.tokens) ended.outcome
       (equal_all m.same k.1 (coming_under at.before h0 piece).1 (length o.tokens) ended.outcome one
-      (piece_arrived m at.before at.after ended.leaves (weighs piece.kept.key piece.kept.value) h0 piece
+      (piece_arrived m at.before at.after ended.leaves (rules.weighs piece.kept.key piece.kept.value) h0 piece
       (length o.tokens) ended.outcome at.stepped))
   piece_by false piece is h =
       subst (AllAre (λ x. m.same k.1 x ≡ true) (λ reason. IsRefusal reason ⊎ (reason ≡ WrongKey)) (length o.tokens))
       (sym (ap (λ (x : Ending K V P N). x.outcome) h.0.0)) (inr refl)
 
-  pub piece_all : (piece : Carried K V P) → Completed m hash weighs admits properties source (PieceOf piece) k
+  pub piece_all : (piece : Carried K V P) → Completed m rules source (PieceOf piece) k
       (Some o) ended old f new g
       → AllAre (λ x. m.same k.1 x ≡ true) (λ reason. IsRefusal reason ⊎ (reason ≡ WrongKey)) (length o.tokens)
       ended.outcome
-  piece_all piece h = piece_by (is_of m old (hash piece.kept.key) piece k (shard_at old k.0)) piece refl h
+  piece_all piece h = piece_by (is_of m old (rules.hash piece.kept.key) piece k (shard_at old k.0)) piece refl h

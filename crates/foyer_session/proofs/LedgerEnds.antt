@@ -7,6 +7,7 @@ use Rattle.foyer_core.specs.declared.outcome.FetchTarget.TheVariants.{Entry, Pie
 use Rattle.foyer_core.specs.Core.{Core, shard_at}
 use Rattle.foyer_core.specs.CoreFetches.{Completed, EndsIn, PieceCompletes, is_of}
 use Rattle.foyer_core.specs.Inflight.{Opens, OpenFetch, waiters_of}
+use Rattle.foyer_core.specs.Rules.{Rules}
 use Rattle.foyer_core.specs.State.{Meaning}
 use Rattle.foyer_core.specs.Values.{Carried, Held}
 use Rattle.foyer_core.specs.Waited.{Ending}
@@ -55,20 +56,20 @@ module _ {K V P N R : Type 0} (eq : K → K → Bool) (k : ℕ × K) (f g : List
 
 module _ {K V P View C S W A N R : Type 0} (m : Meaning K P View C) (old new : Core K V P View S W A)
     (f g : List (Opens K N R)) (k : ℕ × K) (ended : Ending K V P N)
-    (hash : K → ℕ) (weighs : K → V → ℕ → Type 0) (admits : K → V → Bool → Type 0) (properties : P → Bool → P)
+    (rules : Rules K V P)
     (source : Source) where
   none_found : (o : OpenFetch N R) → ◌≡◌ {A = Option (OpenFetch N R)} None (Some o) → ended.found ≡ true
   none_found o h = absurd cc
 
   piece_place : (b : Bool) (piece : Carried K V P) (o : OpenFetch N R)
-      → PieceCompletes m b (weighs piece.kept.key piece.kept.value) (hash piece.kept.key) piece k o ended old f new g
+      → PieceCompletes m b (rules.weighs piece.kept.key piece.kept.value) (rules.hash piece.kept.key) piece k o ended old f new g
       → EndsPlace m.same k (Some o) f g ended × StaysBuilt old new
   piece_place true piece o h =
       (record { waiters = h.waiters; closes = h.closes; found = λ p is. h.found }, shard_built old new _ k.0 h.arrived)
   piece_place false piece o h = (ends_place m.same k f g ended (Some o) _ h.0, same_built old new h.1)
 
   pub completed_place : (target : FetchTarget K V P) (p : Option (OpenFetch N R)) →
-      Completed m hash weighs admits properties source target k p ended old f new g
+      Completed m rules source target k p ended old f new g
       → EndsPlace m.same k p f g ended × StaysBuilt old new
   completed_place target None h = (
     record { waiters = ap (λ (x : Ending K V P N). x.waiters) h.0; closes = h.2; found = none_found },
@@ -79,4 +80,4 @@ module _ {K V P View C S W A N R : Type 0} (m : Meaning K P View C) (old new : C
     shard_built old new _ k.0 h.completes.arrived,
   )
   completed_place (PieceOf piece) (Some o) h =
-      piece_place (is_of m old (hash piece.kept.key) piece k (shard_at old k.0)) piece o h
+      piece_place (is_of m old (rules.hash piece.kept.key) piece k (shard_at old k.0)) piece o h

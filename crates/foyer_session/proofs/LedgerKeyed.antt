@@ -22,7 +22,7 @@ use Rattle.foyer_session.specs.declared.command.End.{End}
 use Rattle.foyer_session.specs.declared.command.End.TheVariants.{Value, PieceNo as PieceEnd}
 use Rattle.foyer_session.specs.Answering.{ClosedBy}
 use Rattle.foyer_session.specs.Ledger.{issues, key_by, of_key}
-use Rattle.foyer_session.specs.Step.{SessionState, Step, InsertStep, GetStep, ContainsStep, TouchStep, RemoveStep, CloneStep, DropStep, TakePieceStep, InsertPieceStep, RefsStep, OutdatedStep, GetOrFetchStep, CompletesWith, CompletesPiece, CompleteStep, EndStep, FetchOrTakeStep, IsOpenStep, TellsEnd, ClearStep, EvictAllStep, FlushIfStep, ResizeStep, ReconfigureStep, NumberStep, hash_in, hashed, open_at}
+use Rattle.foyer_session.specs.Step.{SessionState, Step, InsertStep, GetStep, ContainsStep, TouchStep, RemoveStep, CloneStep, DropStep, TakePieceStep, InsertPieceStep, RefsStep, OutdatedStep, GetOrFetchStep, CompletesWith, CompletesPiece, CompleteStep, EndStep, FetchOrTakeStep, IsOpenStep, TellsEnd, ClearStep, EvictAllStep, FlushIfStep, ResizeStep, ReconfigureStep, NumberStep, hash_in, hashed, open_at, rules_in}
 use Rattle.foyer_session.specs.Terms.{Terms}
 use Rattle.foyer_session.proofs.LedgerEnds.{completed_place, ends_place}
 use Rattle.foyer_session.proofs.LedgerKeys.{Keyed, closed_keyed_at, enqueued_keyed, nothing_keyed_at, same_keyed}
@@ -108,8 +108,7 @@ module _ {K V P View C S W A : Type 0} (t : Terms K V P View C S W A) (old new :
       → CompletesWith t old k fetch source target answer leaves new → Keyed t.meaning.same old.fetches new.fetches []
   with_keyed k fetch source target answer leaves h =
       closes_keyed k (open_at t old k fetch)
-      (completed_place t.meaning old.core new.core old.fetches new.fetches (hashed t old k) h.0 (hash_in t old)
-      (t.weighs old.core.weighter) (t.admits old.core.filter) (λ p admitted. t.incoming admitted p) source target
+      (completed_place t.meaning old.core new.core old.fetches new.fetches (hashed t old k) h.0 (rules_in t old) source target
       (open_at t old k fetch) h.1).0.closes
 
   told_none : (ended : Ending K V P (Unit {0})) (answer : Answer K V P) (leaves : List (Event × Gone K V P)) →

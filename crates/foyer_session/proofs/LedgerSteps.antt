@@ -23,7 +23,7 @@ use Rattle.foyer_session.specs.declared.command.End.{End}
 use Rattle.foyer_session.specs.declared.command.End.TheVariants.{Value, PieceNo as PieceEnd}
 use Rattle.foyer_session.specs.Answering.{ClosedBy}
 use Rattle.foyer_session.specs.Ledger.{Settles, issues, of_shard, outcomes, who_got}
-use Rattle.foyer_session.specs.Step.{SessionState, InsertStep, InsertPieceStep, InsertsPieceIn, GetOrFetchStep, CompletesWith, CompletesPiece, CompleteStep, EndStep, FetchOrTakeStep, TellsEnd, hash_in, hashed, nothing_by, open_at, waiting_at}
+use Rattle.foyer_session.specs.Step.{SessionState, InsertStep, InsertPieceStep, InsertsPieceIn, GetOrFetchStep, CompletesWith, CompletesPiece, CompleteStep, EndStep, FetchOrTakeStep, TellsEnd, hash_in, hashed, nothing_by, open_at, waiting_at, rules_in}
 use Rattle.foyer_session.specs.Terms.{Terms}
 use Rattle.foyer_session.specs.Tokens.{each_gets, numbers_of}
 use Rattle.foyer_session.proofs.EndTells.{asked_some}
@@ -163,8 +163,7 @@ module _ {K V P View C S W A : Type 0} (t : Terms K V P View C S W A) (laws : Is
       → CompletesWith t old k fetch source target answer leaves new
       → AnswerSettles (shard_by (hash k)) answer
   complete_with_settled k fetch source target answer leaves h =
-      let ends = completed_place t.meaning old.core new.core old.fetches new.fetches (hashed t old k) h.0 hash
-      (t.weighs old.core.weighter) (t.admits old.core.filter) (λ p admitted. t.incoming admitted p) source target
+      let ends = completed_place t.meaning old.core new.core old.fetches new.fetches (hashed t old k) h.0 (rules_in t old) source target
       (open_at t old k fetch) h.1 in
       told_end k fetch h.0 answer leaves ends.0 ends.1 h.2
 

@@ -36,7 +36,7 @@ module _ {E K V P S W A N R I C : Type 0} {e : EvictionGhosts E C}
       let home : made.entry.kept.hash % length (core_of s).shards ≡ hash % length (core_of s).shards = ∥∥₁_elim
       (kept_at s hash at.before at.there) (hlevel props) (λ k.
       (piece_gives (meaning_of_core s) (length (core_of s).shards) place at.before at.after
-      (s.belong place at.before at.there) weighs hash piece made (more at.before) at.stepped refl
+      (s.whole.belong place at.before at.there) weighs hash piece made (more at.before) at.stepped refl
       (next_unused (meaning_of_core s) at.before k)).placed) in
       ap (λ (n : ℕ). hash % n) (fetches_long s) ∙ sym home
       ∙ ap (λ (n : ℕ). made.entry.kept.hash % n) (sym (fetches_long s))

@@ -15,6 +15,7 @@ use Rattle.foyer_core.specs.CoreFetches.{AtOpen, Completed, EndsAt, IsOpenIn, at
 use Rattle.foyer_core.specs.Fetching.{LooksUp}
 use Rattle.foyer_core.specs.Inflight.{Opens, OpenFetch, after_nothing, asked, closed, waiters_of}
 use Rattle.foyer_core.specs.Pieces.{InsertsPiece, coming_under}
+use Rattle.foyer_core.specs.Rules.{Rules}
 use Rattle.foyer_core.specs.State.{State, key_of}
 use Rattle.foyer_core.specs.Waited.{Ending, lost}
 use Rattle.foyer_core.specs.declared.outcome.FetchTarget.{FetchTarget}
@@ -139,6 +140,15 @@ module _ {K V P View C S W A : Type 0} (t : Terms K V P View C S W A) where
   -- the hash of a key
   abbrev pub hash_in : SessionState K V P View S W A → K → ℕ
   hash_in s k = t.hash s.core.hash_builder k
+
+  -- what the core's rules say of what comes in
+  abbrev pub rules_in : SessionState K V P View S W A → Rules K V P
+  rules_in s = record {
+    hash = hash_in s;
+    weighs = t.weighs s.core.weighter;
+    admits = t.admits s.core.filter;
+    properties = λ p admitted. t.incoming admitted p;
+  }
 
   -- what comes in, by what the weighter and the filter answered
   abbrev pub data_of : SessionState K V P View S W A → K → V → P → ℕ → Bool → Data K V P
@@ -330,8 +340,7 @@ module _ {K V P View C S W A : Type 0} (t : Terms K V P View C S W A) where
       List (Event × Gone K V P) → SessionState K V P View S W A → Type 0
   CompletesWith old k fetch source target answer leaves new =
       (ended : Ending K V P (Unit {0}))
-      × Completed t.meaning (hash_in old) (t.weighs old.core.weighter) (t.admits old.core.filter)
-      (λ p admitted. t.incoming admitted p) source target (hashed old k) (open_at old k fetch) ended
+      × Completed t.meaning (rules_in old) source target (hashed old k) (open_at old k fetch) ended
       old.core old.fetches new.core new.fetches
       × TellsEnd old ended answer leaves new
 

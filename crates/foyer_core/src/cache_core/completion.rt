@@ -53,10 +53,13 @@ impl<
         source: Source,
     ) -> Ended<K, V, P, N>
         requires clones { (k c : K) → K.is_clone k c → K.eq c k ≡ true }
-        ensures completed { Completed (meaning_of_core self.old) (hashes_of self.old)
-            (W.weighs (core_of self.old).weighter) (A.admits (core_of self.old).filter)
-            (λ properties admitted. coming_in P.location_of P.with_phantom_of admitted properties) source target (hashes_of self.old key.now, key.now)
-            (asked (Some fetch) (open_in (fetches_of self.old) (hashes_of self.old key.now, key.now))) (ending_of result)
+        ensures completed { let k : ℕ × K = (hashes_of self.old key.now, key.now) in
+            Completed (meaning_of_core self.old) (record {
+              hash = hashes_of self.old;
+              weighs = W.weighs (core_of self.old).weighter;
+              admits = A.admits (core_of self.old).filter;
+              properties = λ p admitted. coming_in P.location_of P.with_phantom_of admitted p;
+            }) source target k (asked (Some fetch) (open_in (fetches_of self.old) k)) (ending_of result)
             (core_of self.old) (fetches_of self.old) (core_of self.new) (fetches_of self.new) }
         ensures found { FindsTarget (meaning_of_core self.new) (hashes_of self.new) P.location_of
             (A.admits (core_of self.old).filter) target key.now (ending_of result).outcome (core_of self.new) }

@@ -24,10 +24,10 @@ impl<
     R: Drop,
     I: Finder<K>,
 > CacheCore<E, K, V, P, S, W, A, N, R, I> {
+    ghost use Rattle.foyer_core.specs.CallLaws.{CallLaws};
     ghost use Rattle.foyer_core.specs.Core.{AtShard, IsOutdatedIn, Owns, refs_in};
     ghost use Rattle.foyer_core.specs.Cores.{core_of, fetches_of, hashes_of, meaning_of_core};
-    ghost use Rattle.foyer_core.specs.Laws.{HandlesStay, one_of};
-    ghost use Rattle.foyer_core.specs.Observed.{IsTold};
+    ghost use Rattle.foyer_core.specs.Laws.{one_of};
     ghost use Rattle.foyer_core.specs.Steps.{ClonesHandle, GivesBack, Removes, Touches};
 
     /// Whether a get finds a record under the key; if it does, that counts as a use, as a `get` does whose
@@ -38,8 +38,7 @@ impl<
             AtShard (λ s t. Touches (meaning_of_core self.old) s (hash, key.now) result t)
             hash (core_of self.old) (core_of self.new) }
         ensures fetches { fetches_of self.new ≡ fetches_of self.old }
-        ensures stay { HandlesStay (λ _. 0) (core_of self.old) (core_of self.new) }
-        ensures told { IsTold K.eq (hashes_of self.old) (core_of self.old) [] (core_of self.new) }
+        ensures laws { CallLaws K.eq (hashes_of self.old) (λ _. 0) (core_of self.old) [] (core_of self.new) }
     {
         let hash = self.hash(key);
         let place = self.shard_index(hash);
@@ -54,10 +53,10 @@ impl<
             AtShard (λ s t. Removes (meaning_of_core self.old) s (hash, key.now) result t)
             hash (core_of self.old) (core_of self.new) }
         ensures fetches { fetches_of self.new ≡ fetches_of self.old }
-        ensures stay { HandlesStay (λ _. 0) (core_of self.old) (core_of self.new) }
-        ensures told { MatchResult result
-            (λ out. IsTold K.eq (hashes_of self.old) (core_of self.old) (option_to_list (option_map (λ o. (Remove, o.1)) out)) (core_of self.new))
-            (λ _. IsTold K.eq (hashes_of self.old) (core_of self.old) [] (core_of self.new)) }
+        ensures laws { MatchResult result
+            (λ out. CallLaws K.eq (hashes_of self.old) (λ _. 0) (core_of self.old)
+            (option_to_list (option_map (λ o. (Remove, o.1)) out)) (core_of self.new))
+            (λ _. CallLaws K.eq (hashes_of self.old) (λ _. 0) (core_of self.old) [] (core_of self.new)) }
     {
         let hash = self.hash(key);
         let place = self.shard_index(hash);
@@ -76,8 +75,7 @@ impl<
         ensures clones { AtShard (λ s t. ClonesHandle s entry.now result t)
             entry.now.kept.hash (core_of self.old) (core_of self.new) }
         ensures fetches { fetches_of self.new ≡ fetches_of self.old }
-        ensures stay { HandlesStay (λ _. 0) (core_of self.old) (core_of self.new) }
-        ensures told { IsTold K.eq (hashes_of self.old) (core_of self.old) [] (core_of self.new) }
+        ensures laws { CallLaws K.eq (hashes_of self.old) (λ _. 0) (core_of self.old) [] (core_of self.new) }
     {
         let place = self.shard_index(entry.hash());
         self.shards[place].clone_handle(entry)
@@ -107,8 +105,7 @@ impl<
             entry.kept.hash (core_of self.old) (core_of self.new) }
         ensures foreign { (Owns (core_of self.old) entry → ⊥) → (result ≡ None) × (core_of self.new ≡ core_of self.old) }
         ensures fetches { fetches_of self.new ≡ fetches_of self.old }
-        ensures stay { HandlesStay (one_of (core_of self.old) entry) (core_of self.old) (core_of self.new) }
-        ensures told { IsTold K.eq (hashes_of self.old) (core_of self.old) (option_to_list result) (core_of self.new) }
+        ensures laws { CallLaws K.eq (hashes_of self.old) (one_of (core_of self.old) entry) (core_of self.old) (option_to_list result) (core_of self.new) }
     {
         match self.give_back(entry) {
             Ok(leave) => leave,

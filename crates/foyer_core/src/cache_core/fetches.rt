@@ -30,8 +30,8 @@ impl<
     ghost use Rattle.foyer_core.specs.CoreFetches.{AtOpen, EndsAt, IsOpenIn, at_hash, open_in};
     ghost use Rattle.foyer_core.specs.Cores.{core_of, fetches_of, hashes_of, meaning_of_core};
     ghost use Rattle.foyer_core.specs.Fetching.{LooksUp};
-    ghost use Rattle.foyer_core.specs.Laws.{HandlesStay};
-    ghost use Rattle.foyer_core.specs.Observed.{IsTold, known};
+    ghost use Rattle.foyer_core.specs.CallLaws.{CallLaws};
+    ghost use Rattle.foyer_core.specs.Observed.{known};
 
     /// An entry of the key's record, as `get` answers it, or where the key is missing a token to wait with: for a new
     /// fetch, which the one who asks leads and for which it gets its builder back, or for the one that is open. A
@@ -49,8 +49,7 @@ impl<
         ensures looked_up { let hash = S.hash_of (core_of self.old).hash_builder (K.hash_input key.now) in
             AtOpen (λ s f t g. LooksUp (meaning_of_core self.old) s f (hash, key.now) waiter required result t g)
             hash (core_of self.old) (fetches_of self.old) (core_of self.new) (fetches_of self.new) }
-        ensures stay { HandlesStay (λ _. 0) (core_of self.old) (core_of self.new) }
-        ensures told { IsTold K.eq (hashes_of self.old) (core_of self.old) [] (core_of self.new) }
+        ensures laws { CallLaws K.eq (hashes_of self.old) (λ _. 0) (core_of self.old) [] (core_of self.new) }
     {
         let hash = self.hash(key);
         let place = self.shard_index(hash);

@@ -27,11 +27,11 @@ pub(super) fn evict_each<
     R: Drop,
     I: Finder<K>,
 >(shards: &mut Vec<Shard<E, K, V, P, N, R, I>>, leaves: &mut Vec<Leave<K, V, P>>) -> Result<()>
-    ensures done { OnOk result (GoesOn leaves.old.items leaves.new.items (λ ls. InTurn (EvictsUnpinned (meaning K.eq E.model P.hint_of P.phantom_of))
+    ensures done { OnOk result (GoesOn leaves.old.items leaves.new.items (λ ls. InTurn (EvictsUnpinned (meaning K.eq E.model P.hint_of P.phantom_of P.expiry_of))
         (map state_of shards.old.items) ls (map state_of shards.new.items))) }
     ensures refused { OnErr result (GoesOn leaves.old.items leaves.new.items
-        (λ ls. InTurnUntil (EvictsUnpinned (meaning K.eq E.model P.hint_of P.phantom_of))
-        (EvictingUnpinned (meaning K.eq E.model P.hint_of P.phantom_of))
+        (λ ls. InTurnUntil (EvictsUnpinned (meaning K.eq E.model P.hint_of P.phantom_of P.expiry_of))
+        (EvictingUnpinned (meaning K.eq E.model P.hint_of P.phantom_of P.expiry_of))
         (map state_of shards.old.items) ls (map state_of shards.new.items))) }
     ensures reason { IfErr result (λ e. e ≡ NoMemory) }
     ensures opens { map opens_of shards.new.items ≡ map opens_of shards.old.items }
@@ -54,11 +54,11 @@ pub(super) fn evict_each_to_capacity<
     R: Drop,
     I: Finder<K>,
 >(shards: &mut Vec<Shard<E, K, V, P, N, R, I>>, leaves: &mut Vec<Leave<K, V, P>>) -> Result<()>
-    ensures done { OnOk result (GoesOn leaves.old.items leaves.new.items (λ ls. InTurn (EvictsToCapacity (meaning K.eq E.model P.hint_of P.phantom_of))
+    ensures done { OnOk result (GoesOn leaves.old.items leaves.new.items (λ ls. InTurn (EvictsToCapacity (meaning K.eq E.model P.hint_of P.phantom_of P.expiry_of))
         (map state_of shards.old.items) ls (map state_of shards.new.items))) }
     ensures refused { OnErr result (GoesOn leaves.old.items leaves.new.items
-        (λ ls. InTurnUntil (EvictsToCapacity (meaning K.eq E.model P.hint_of P.phantom_of))
-        (EvictingToCapacity (meaning K.eq E.model P.hint_of P.phantom_of))
+        (λ ls. InTurnUntil (EvictsToCapacity (meaning K.eq E.model P.hint_of P.phantom_of P.expiry_of))
+        (EvictingToCapacity (meaning K.eq E.model P.hint_of P.phantom_of P.expiry_of))
         (map state_of shards.old.items) ls (map state_of shards.new.items))) }
     ensures reason { IfErr result (λ e. e ≡ NoMemory) }
     ensures opens { map opens_of shards.new.items ≡ map opens_of shards.old.items }
@@ -80,7 +80,7 @@ pub(super) fn share_out<
     R: Drop,
     I: Finder<K>,
 >(shards: &mut Vec<Shard<E, K, V, P, N, R, I>>, capacity: usize)
-    ensures shares { SharesOut (meaning K.eq E.model P.hint_of P.phantom_of) capacity (map state_of shards.old.items) (map state_of shards.new.items) }
+    ensures shares { SharesOut (meaning K.eq E.model P.hint_of P.phantom_of P.expiry_of) capacity (map state_of shards.old.items) (map state_of shards.new.items) }
     ensures opens { map opens_of shards.new.items ≡ map opens_of shards.old.items }
     ensures len { vec_len shards.new ≡ vec_len shards.old }
 {
@@ -100,8 +100,8 @@ pub(super) fn taken_by_each<
     R: Drop,
     I: Finder<K>,
 >(shards: &Vec<Shard<E, K, V, P, N, R, I>>, config: &E::Config) -> bool
-    ensures yes { IsTrue result → TakenByEach (meaning K.eq E.model P.hint_of P.phantom_of) config.now (map state_of shards.now.items) }
-    ensures no { result ≡ false → NotTaken (meaning K.eq E.model P.hint_of P.phantom_of) config.now (map state_of shards.now.items) }
+    ensures yes { IsTrue result → TakenByEach (meaning K.eq E.model P.hint_of P.phantom_of P.expiry_of) config.now (map state_of shards.now.items) }
+    ensures no { result ≡ false → NotTaken (meaning K.eq E.model P.hint_of P.phantom_of P.expiry_of) config.now (map state_of shards.now.items) }
 {
     for place in 0..shards.len() {
         if !shards[place].takes(config) {
@@ -122,8 +122,8 @@ pub(super) fn configure_each<
     I: Finder<K>,
 >(shards: &mut Vec<Shard<E, K, V, P, N, R, I>>, config: &E::Config)
     requires accepted { E.model.fault config.now ≡ None }
-    requires taken { TakenByEach (meaning K.eq E.model P.hint_of P.phantom_of) config.now (map state_of shards.old.items) }
-    ensures configured { ConfiguresEach (meaning K.eq E.model P.hint_of P.phantom_of) config.now
+    requires taken { TakenByEach (meaning K.eq E.model P.hint_of P.phantom_of P.expiry_of) config.now (map state_of shards.old.items) }
+    ensures configured { ConfiguresEach (meaning K.eq E.model P.hint_of P.phantom_of P.expiry_of) config.now
         (map state_of shards.old.items) (map state_of shards.new.items) }
     ensures opens { map opens_of shards.new.items ≡ map opens_of shards.old.items }
     ensures len { vec_len shards.new ≡ vec_len shards.old }
@@ -144,7 +144,7 @@ pub(super) fn clear_each<
     R: Drop,
     I: Finder<K>,
 >(shards: &mut Vec<Shard<E, K, V, P, N, R, I>>, alloc: Global) -> Result<Vec<Leave<K, V, P>>>
-    ensures done { IfOk result (λ leaves. InTurn (Clears (meaning K.eq E.model P.hint_of P.phantom_of))
+    ensures done { IfOk result (λ leaves. InTurn (Clears (meaning K.eq E.model P.hint_of P.phantom_of P.expiry_of))
         (map state_of shards.old.items) leaves.items (map state_of shards.new.items)) }
     ensures err { OnErr result (map state_of shards.new.items ≡ map state_of shards.old.items) }
     ensures refused { IfErr result (λ e. e ≡ NoMemory) }
@@ -196,7 +196,7 @@ pub(super) fn evict_each_if<
     predicate: &F,
 ) -> Result<Vec<Leave<K, V, P>>>
     requires { F.IsAlwaysCallable predicate.now }
-    ensures done { IfOk result (λ leaves. InTurn (EvictsIf (meaning K.eq E.model P.hint_of P.phantom_of)
+    ensures done { IfOk result (λ leaves. InTurn (EvictsIf (meaning K.eq E.model P.hint_of P.phantom_of P.expiry_of)
         (Says F.Fn predicate.now)) (map state_of shards.old.items) leaves.items (map state_of shards.new.items)) }
     ensures err { OnErr result (map state_of shards.new.items ≡ map state_of shards.old.items) }
     ensures refused { IfErr result (λ e. e ≡ NoMemory) }
@@ -224,7 +224,7 @@ fn pick_each<
 >(shards: &[Shard<E, K, V, P, N, R, I>], alloc: Global, predicate: &F) -> Result<Vec<Vec<Item>>>
     requires { F.IsAlwaysCallable predicate.now }
     ensures picks { IfOk result (λ lists. AllZip
-        (λ s list. Picks (meaning K.eq E.model P.hint_of P.phantom_of) (Says F.Fn predicate.now)
+        (λ s list. Picks (meaning K.eq E.model P.hint_of P.phantom_of P.expiry_of) (Says F.Fn predicate.now)
         (state_of s) list.items × IsWithin list.items (E.model.order (E.view s.store.eviction)))
         shards.now lists.items) }
     ensures refused { IfErr result (λ e. e ≡ NoMemory) }

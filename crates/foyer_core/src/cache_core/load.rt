@@ -25,7 +25,7 @@ impl Load {
     pub(super) fn of<E: Eviction, K: Key, V: Value, P: Properties, N: Drop, R: Drop, I: Finder<K>>(
         shard: &Shard<E, K, V, P, N, R, I>,
     ) -> Self
-        ensures usage { result.usage ≡ usage_of (meaning K.eq E.model P.hint_of P.phantom_of) (state_of shard.now) }
+        ensures usage { result.usage ≡ usage_of (meaning K.eq E.model P.hint_of P.phantom_of P.expiry_of) (state_of shard.now) }
         ensures entries { result.entries ≡ length (E.model.order (state_of shard.now).view) }
         ensures small { (result.usage < 2 ^ 64) × (result.entries < 2 ^ 64) }
     {
@@ -45,7 +45,7 @@ impl Load {
         R: Drop,
         I: Finder<K>,
     >(shards: &[Shard<E, K, V, P, N, R, I>]) -> Self
-        ensures { AreSums (meaning K.eq E.model P.hint_of P.phantom_of) result.usage result.entries (map state_of shards.now) }
+        ensures { AreSums (meaning K.eq E.model P.hint_of P.phantom_of P.expiry_of) result.usage result.entries (map state_of shards.now) }
     {
         let mut sum = Load {
             usage: 0,

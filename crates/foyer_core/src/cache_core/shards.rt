@@ -59,7 +59,7 @@ impl<
     ) -> Result<Vec<Shard<E, K, V, P, N, R, I>>>
         requires some { 0 < config.now.shards }
         ensures made { IfOk result (λ shards. AreNewShards
-            (meaning K.eq E.model P.hint_of P.phantom_of) config.now config.now.shards (map state_of shards.items)) }
+            (meaning K.eq E.model P.hint_of P.phantom_of P.expiry_of) config.now config.now.shards (map state_of shards.items)) }
         ensures opens { IfOk result (λ shards. All (λ f. f ≡ no_opens) (map opens_of shards.items)) }
         ensures accepted { OnOk result (E.model.fault config.now.eviction_config ≡ None) }
         ensures refused { IfSome (E.model.fault config.now.eviction_config) (λ reason. result ≡ Err reason) }

@@ -49,6 +49,7 @@ impl<E: Eviction, K: Key, V: Value, P: Properties, I: Finder<K>> Store<E, K, V, 
         let hash = slot.hash();
         let weight = slot.weight();
         let hint = slot.properties().hint().unwrap_or(Hint::Normal);
+        let expires = slot.properties().expiry();
         let id = slot.id();
         let was = self.slot_under(hash, &key);
         let stands = self.stands(id);
@@ -63,6 +64,7 @@ impl<E: Eviction, K: Key, V: Value, P: Properties, I: Finder<K>> Store<E, K, V, 
             hash,
             weight,
             hint,
+            expires,
         };
         self.eviction.push_at(Place::at(number), item);
         self.usage += weight;

@@ -63,11 +63,11 @@ impl<E: Eviction, K: Key, V: Value, P: Properties, I: Finder<K>> Store<E, K, V, 
         items: &[Item],
         leaves: &mut Vec<Leave<K, V, P>>,
     )
-        requires lined { Lined (meaning K.eq E.model P.hint_of P.phantom_of) number (I.view index.old) records.old items.now }
+        requires lined { Lined (meaning K.eq E.model P.hint_of P.phantom_of P.expiry_of) number (I.view index.old) records.old items.now }
         requires room { vec_len leaves.old + length items.now ≤ vec_capacity leaves.old }
-        ensures told { (o : Lined (meaning K.eq E.model P.hint_of P.phantom_of) number
+        ensures told { (o : Lined (meaning K.eq E.model P.hint_of P.phantom_of P.expiry_of) number
             (I.view index.old) records.old items.now) → GoesOn leaves.old.items leaves.new.items
-            (λ ls. Passes (meaning K.eq E.model P.hint_of P.phantom_of) o items.now [] ls
+            (λ ls. Passes (meaning K.eq E.model P.hint_of P.phantom_of P.expiry_of) o items.now [] ls
             (I.view index.new) records.new) }
         ensures len { vec_len leaves.new ≡ vec_len leaves.old + length items.now }
         ensures capacity { vec_capacity leaves.new ≡ vec_capacity leaves.old }

@@ -10,7 +10,7 @@ use Rattle.foyer_policy.specs.Policy.{IsPolicy, PinsAtMost, removed}
 use Rattle.foyer_policy.specs.PopTimes.{pop_times}
 use Rattle.foyer_policy.specs.declared.types.Item.{Item}
 use Rattle.foyer_policy.specs.ItemLaws.{one_if, count-same}
-use Rattle.foyer_policy.specs.PartLaws.{IsPermutation-remove_id, remove_id-none, find_id-front, remove_id-front, remove_id-back, find_id-one_part}
+use Rattle.foyer_policy.specs.PartLaws.{IsPermutation-remove_id, remove_id-none, remove_id-new, find_id-front, remove_id-front, remove_id-back, find_id-one_part}
 use Rattle.foyer_policy.proofs.LazyPolicies.{pinning, or_stay}
 
 pop-is : (xs ps : List Item) (w : List Item × List Item) (i : Item) → pinning.pop (xs, ps) ≡ Some (i, w) →
@@ -50,6 +50,12 @@ remove-pinned id xs ps once = go (find_id id xs) refl where
   go None is = refl
   go (Some i) is = sym (remove_id-none id ps (find_id-one_part id i xs ps once is))
 
+remove-unpinned : (id : ℕ) (xs ps : List Item) → IsNewIn id ps → pinning.pinned (pinning.remove (xs, ps) id) ≡ ps
+remove-unpinned id xs ps free = go (find_id id xs) where
+  go : (o : Option Item) → pinning.pinned (or_stay o (xs, remove_id id ps) (λ i. (remove_id id xs, ps))) ≡ ps
+  go None = remove_id-new id ps free
+  go (Some i) = refl
+
 acquire-order : (id : ℕ) (xs ps : List Item) → IsPermutation (xs ++ ps) (pinning.order (pinning.acquire (xs, ps) id))
 acquire-order id xs ps = go (find_id id xs) refl where
   go : (o : Option Item) → find_id id xs ≡ o →
@@ -88,11 +94,11 @@ no_more : (n : ℕ) (ps : List Item) → pop_times pinning.pop n ([], ps) ≡ ([
 no_more zero ps = refl
 no_more (suc n) ps = refl
 
-all_popped : (xs ps : List Item) → pop_times pinning.pop (length (xs ++ ps)) (xs, ps) ≡ ([], ps)
+pub all_popped : (xs ps : List Item) → pop_times pinning.pop (length (xs ++ ps)) (xs, ps) ≡ ([], ps)
 all_popped [] ps = no_more (length ps) ps
 all_popped (x ∷ xs) ps = all_popped xs ps
 
-all_removed : (ps : List Item) → removed pinning ps ([], ps) ≡ ([], [])
+pub all_removed : (ps : List Item) → removed pinning ps ([], ps) ≡ ([], [])
 all_removed [] = refl
 all_removed (p ∷ ps) = (let e : (p.id == p.id) ≡ true = grind (arith, nat_tests) in rw e (all_removed ps))
 
@@ -114,6 +120,7 @@ pinning_lawful = record {
   none_looks = λ v h. refl;
   remove_order = λ v id. remove-order id v.0 v.1;
   remove_pinned = λ v id once. remove-pinned id v.0 v.1 once;
+  remove_unpinned = λ v id free. remove-unpinned id v.0 v.1 free;
   remove_credit = λ v id. omega arith;
   acquire_order = λ v id once. acquire-order id v.0 v.1;
   acquire_pinned = λ v id once. acquire-pinned id v.0 v.1;

@@ -37,7 +37,7 @@ fn lower(lists: &mut Lists<Node, 3>) -> usize
         Some(place) => {
             let node = lists.get_mut(place);
             node.state.high = false;
-            let weight = node.item.weight;
+            let weight = node.item.whole().weight;
             lists.move_back(place, LOW);
             weight
         }

@@ -9,9 +9,9 @@ ghost use Rattle.foyer_policy.specs.S3Fifo.{Setting, items, main_looks, from_mai
 ghost use Rattle.foyer_policy.specs.S3FifoQueues.{item_at, small_of, main_of, view_with, Gives, AreQueues, PlacesAfter, TakesSmall, TakesMain};
 
 use crate::ghost_queue::GhostQueue;
+use crate::kept::Kept;
 use crate::lists::{Lists, Place};
 use crate::queued::Queued;
-use crate::types::Item;
 
 // The numbers of the two lists.
 pub(super) const SMALL: usize = 0;
@@ -34,7 +34,7 @@ pub(super) type Node = Queued<S3FifoState>;
 // A victim, the place that it had, and how many frequencies of the main queue were read.
 #[derive(Clone, Copy)]
 pub(super) struct Victim {
-    pub(super) item: Item,
+    pub(super) item: Kept,
     pub(super) at: Place,
     pub(super) looks: u128,
 }
@@ -59,7 +59,7 @@ pub(super) fn take_small(
 {
     while let Some(front) = queues.front(SMALL) {
         let Queued { item, state } = *queues.get(front);
-        *weight -= item.weight;
+        *weight -= item.whole().weight;
         if state.frequency < threshold {
             queues.remove(front);
             return Some(Victim {
@@ -140,7 +140,7 @@ fn pop_main(queues: &mut Lists<Node, 2>, weight: &mut usize) -> Option<Victim>
     }
     let found = queues.pop_front_at(SMALL)?;
     let item = found.1.item;
-    *weight -= item.weight;
+    *weight -= item.whole().weight;
     Some(Victim {
         item,
         at: found.0,
@@ -182,7 +182,8 @@ pub(super) fn pop_victim(
     }
     match take_small(queues, weight, threshold) {
         Some(victim) => {
-            ghost_queue.push_reserved(victim.item.hash, victim.item.weight);
+            let item = victim.item.whole();
+            ghost_queue.push_reserved(item.hash, item.weight);
             Some(victim)
         }
         None => pop_main(queues, weight),

@@ -194,9 +194,12 @@ fn complete_in<
 ) -> Ended<K, V, P, ()>
     requires clones { (k c : K) → K.is_clone k c → K.eq c k ≡ true }
     ensures completed { let k : ℕ × K = (hashes_of core.old key.now, key.now) in
-        Completed (meaning_of_core core.old) (hashes_of core.old) (W.weighs (core_of core.old).weighter) (A.admits (core_of core.old).filter)
-        (λ properties admitted. coming_in P.location_of P.with_phantom_of admitted properties) source target k
-        (asked (Some fetch) (open_in (fetches_of core.old) k)) (ending_of result)
+        Completed (meaning_of_core core.old) (record {
+          hash = hashes_of core.old;
+          weighs = W.weighs (core_of core.old).weighter;
+          admits = A.admits (core_of core.old).filter;
+          properties = λ p admitted. coming_in P.location_of P.with_phantom_of admitted p;
+        }) source target k (asked (Some fetch) (open_in (fetches_of core.old) k)) (ending_of result)
         (core_of core.old) (fetches_of core.old) (core_of core.new) (fetches_of core.new) }
     ensures answering { let k : ℕ × K = (hashes_of core.old key.now, key.now) in
         Answering K.eq k (asked (Some fetch) (open_in (fetches_of core.old) k)) (fetches_of core.old) (fetches_of core.new) (ending_of result) }

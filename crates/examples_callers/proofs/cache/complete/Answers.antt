@@ -12,9 +12,13 @@ returns-clause-same g c =
     let numbers = c.args.numbers.now in
     let key = c.args.key in
     let after = c.complete-answers.new.self in
-    served (meaning_of_core numbers) (hashes_of numbers) (λ _ number weight. weight ≡ number)
-    (λ _ _ admitted. admitted ≡ true)
-    (λ p admitted. coming_in (λ _. None) (λ p b. record p { phantom = Some b }) admitted p) _
+    served (meaning_of_core numbers)
+    record {
+      hash = hashes_of numbers;
+      weighs = λ _ number weight. weight ≡ number;
+      admits = λ _ _ admitted. admitted ≡ true;
+      properties = λ p admitted. coming_in (λ _. None) (λ p b. record p { phantom = Some b }) admitted p;
+    } _
     c.args.number c.default.result (hashes_of numbers key, key) (ending_of c.complete-answers.result) (core_of numbers)
     (fetches_of numbers) (core_of after) (fetches_of after)
     (asked (Some c.args.fetch) (open_in (fetches_of numbers) (hashes_of numbers key, key)))

@@ -14,29 +14,22 @@ use Rattle.foyer_core.proofs.Origins.{all_cleared_belong, done_belong}
 use Rattle.foyer_core.proofs.Sound.{core_sound}
 use Rattle.foyer_core.proofs.cache_core.CacheCore.clear.Goals as goal
 
-pub invariant_of-self-clause-belong : goal.invariant_of-self-clause-belong
-invariant_of-self-clause-belong g c =
+pub invariant_of-self-clause-whole : goal.invariant_of-self-clause-whole
+invariant_of-self-clause-whole g c =
     let s = c.args.self.now in
     let m = meaning_of_core s in
     let ss = map state_of s.shards.items in
     let ts = map state_of c.clear_each-cleared.new.shards.items in
-    done_belong c.clear_each-cleared.result ss ts (λ leaves. leaves.items) (InTurn (Clears m))
-    c.clear_each-cleared.ensures.done c.clear_each-cleared.ensures.err (λ ls. all_cleared_belong m ss ls ts)
-    s.belong
-
-pub invariant_of-self-clause-hashed : goal.invariant_of-self-clause-hashed
-invariant_of-self-clause-hashed g c =
-    let s = c.args.self.now in
     let hash = λ (k : g.row.K.Denot). g.S.HashBuilder.hash_of s.hash_builder (g.K.Hash.hash_input k) in
-    let m = meaning_of_core s in
-    let ss = map state_of s.shards.items in
-    let ts = map state_of c.clear_each-cleared.new.shards.items in
-    done_hashed hash c.clear_each-cleared.result ss ts (λ leaves. leaves.items) (InTurn (Clears m))
-    c.clear_each-cleared.ensures.done c.clear_each-cleared.ensures.err (λ ls. all_cleared_hashed hash m ss ls ts)
-    s.hashed
-
-pub invariant_of-self-clause-summed : goal.invariant_of-self-clause-summed
-invariant_of-self-clause-summed g c = rw c.deref.ensures.value at c.of_all-self.ensures
+    record {
+      belong = done_belong c.clear_each-cleared.result ss ts (λ leaves. leaves.items) (InTurn (Clears m))
+          c.clear_each-cleared.ensures.done c.clear_each-cleared.ensures.err (λ ls. all_cleared_belong m ss ls ts)
+          s.whole.belong;
+      hashed = done_hashed hash c.clear_each-cleared.result ss ts (λ leaves. leaves.items) (InTurn (Clears m))
+          c.clear_each-cleared.ensures.done c.clear_each-cleared.ensures.err (λ ls. all_cleared_hashed hash m ss ls ts)
+          s.whole.hashed;
+      summed = rw c.deref.ensures.value at c.of_all-self.ensures;
+    }
 
 pub returns : goal.returns
 returns g c =

@@ -14,35 +14,25 @@ use Rattle.foyer_core.proofs.Sound.{core_sound}
 use Rattle.foyer_core.proofs.Zips.{map-write}
 use Rattle.foyer_core.proofs.cache_core.CacheCore.clone_handle.Goals as goal
 
-pub invariant_of-self-clause-belong : goal.invariant_of-self-clause-belong
-invariant_of-self-clause-belong g c =
+pub invariant_of-self-clause-whole : goal.invariant_of-self-clause-whole
+invariant_of-self-clause-whole g c =
     let s = c.args.self.now in
     let x = c.index_mut.result.now in
     let y = c.clone_handle.new.self in
-    belongs_over state_of s.shards.items c.hash.result (vec_len s.shards) c.shard_index-place.result x s.shards.ok.0
-    c.shard_index-place.ensures.within c.shard_index-place.ensures.index c.index_mut.ensures.value
-    y (clones_from (λ d. d.hash ≡ c.hash.result) (state_of x) c.args.entry.now c.clone_handle.result (state_of y)
-    c.clone_handle.ensures.clones) s.belong
-
-pub invariant_of-self-clause-hashed : goal.invariant_of-self-clause-hashed
-invariant_of-self-clause-hashed g c =
-    let s = c.args.self.now in
-    let x = c.index_mut.result.now in
-    let y = c.clone_handle.new.self in
-    hashed_over (λ k. g.S.HashBuilder.hash_of s.hash_builder (g.K.Hash.hash_input k)) state_of s.shards.items
-    (vec_len s.shards) c.shard_index-place.result x s.shards.ok.0 c.shard_index-place.ensures.within c.index_mut.ensures.value
-    y (clones_from (IsHashed (λ k. g.S.HashBuilder.hash_of s.hash_builder (g.K.Hash.hash_input k))) (state_of x)
-    c.args.entry.now c.clone_handle.result (state_of y) c.clone_handle.ensures.clones) s.hashed
-
-pub invariant_of-self-clause-summed : goal.invariant_of-self-clause-summed
-invariant_of-self-clause-summed g c =
-    let s = c.args.self.now in
-    let x = c.index_mut.result.now in
-    let y = c.clone_handle.new.self in
-    sums_same (meaning_of_core s) state_of s.shards.items (vec_len s.shards) c.shard_index-place.result x s.load.usage
-    s.load.entries s.shards.ok.0 c.shard_index-place.ensures.within c.index_mut.ensures.value s.summed
-    y (clones_load (meaning_of_core s) g.met.E.Eviction.lawful (state_of x) (state_of y) c.args.entry.now
-    c.clone_handle.result c.clone_handle.ensures.clones)
+    record {
+      belong = belongs_over state_of s.shards.items c.hash.result (vec_len s.shards) c.shard_index-place.result x s.shards.ok.0
+          c.shard_index-place.ensures.within c.shard_index-place.ensures.index c.index_mut.ensures.value
+          y (clones_from (λ d. d.hash ≡ c.hash.result) (state_of x) c.args.entry.now c.clone_handle.result (state_of y)
+          c.clone_handle.ensures.clones) s.whole.belong;
+      hashed = hashed_over (λ k. g.S.HashBuilder.hash_of s.hash_builder (g.K.Hash.hash_input k)) state_of s.shards.items
+          (vec_len s.shards) c.shard_index-place.result x s.shards.ok.0 c.shard_index-place.ensures.within c.index_mut.ensures.value
+          y (clones_from (IsHashed (λ k. g.S.HashBuilder.hash_of s.hash_builder (g.K.Hash.hash_input k))) (state_of x)
+          c.args.entry.now c.clone_handle.result (state_of y) c.clone_handle.ensures.clones) s.whole.hashed;
+      summed = sums_same (meaning_of_core s) state_of s.shards.items (vec_len s.shards) c.shard_index-place.result x s.load.usage
+          s.load.entries s.shards.ok.0 c.shard_index-place.ensures.within c.index_mut.ensures.value s.whole.summed
+          y (clones_load (meaning_of_core s) g.met.E.Eviction.lawful (state_of x) (state_of y) c.args.entry.now
+          c.clone_handle.result c.clone_handle.ensures.clones);
+    }
 
 pub returns : goal.returns
 returns g c =
@@ -66,8 +56,10 @@ returns g c =
       clones = step;
       fetches = map-write opens_of s.shards.items (vec_len s.shards) c.shard_index-place.result x y s.shards.ok.0
           c.shard_index-place.ensures.within c.index_mut.ensures.value c.clone_handle.ensures.opens;
-      stay = stays_at (core_of s) _ e.kept.hash
-          (over (RecordsStay nothing) y (clones_stay (state_of x) e c.clone_handle.result (state_of y) did));
-      told = clone_told m g.met.K.Eq.laws g.met.E.Eviction.lawful (hashes_of s) equal (core_of s) new sound e
-          e.kept.hash c.clone_handle.result step;
+      laws = record {
+        stay = stays_at (core_of s) _ e.kept.hash
+            (over (RecordsStay nothing) y (clones_stay (state_of x) e c.clone_handle.result (state_of y) did));
+        told = clone_told m g.met.K.Eq.laws g.met.E.Eviction.lawful (hashes_of s) equal (core_of s) new sound e
+            e.kept.hash c.clone_handle.result step;
+      };
     }

@@ -1,4 +1,4 @@
-use Rattle.std.proofs.Common.{◌≡◌, ℕ, Option, Some, true, refl, sym, ap, subst}
+use Rattle.std.proofs.Common.{◌≡◌, ℕ, Bool, Option, Some, true, refl, sym, ap, subst}
 use Rattle.foyer_core.specs.declared.outcome.FetchTarget.{FetchTarget}
 use Rattle.foyer_core.specs.declared.outcome.FetchTarget.TheVariants.{Entry, Piece as PieceOf}
 use Rattle.foyer_core.specs.CoreFetches.{Completed, open_in}
@@ -25,6 +25,8 @@ returns-in-Entry g c =
     let ended = ending_of c.complete_value.result in
     let weighs = g.W.Weighter.weighs s.rules.weighter in
     let admits = g.A.Filter.admits s.rules.filter in
+    let properties = λ (p : g.row.P.Denot) (admitted : Bool).
+    coming_in g.P.Properties.location_of g.P.Properties.with_phantom_of admitted p in
     let laws = g.met.K.Eq.laws in
     let good = g.met.E.Eviction.lawful in
     let equal : (a b : g.row.K.Denot) → g.K.PartialEq.eq a b ≡ true → hashes_of s a ≡ hashes_of s b =
@@ -35,9 +37,12 @@ returns-in-Entry g c =
     let opened = asked (Some c.args.fetch) (open_in (fetches_of s) k) in
     let comes : (target : FetchTarget g.row.K.Denot g.row.V.Denot g.row.P.Denot)
     (p : Option (OpenFetch g.row.N.Denot g.row.R.Denot)) → Type 0 = λ target p.
-    Completed m (hashes_of s) weighs admits
-    (λ properties admitted. coming_in g.P.Properties.location_of g.P.Properties.with_phantom_of admitted properties)
-    c.args.source target k p ended (core_of s) (fetches_of s) (core_of t) (fetches_of t) in
+    Completed m record {
+      hash = hashes_of s;
+      weighs = weighs;
+      admits = admits;
+      properties = properties;
+    } c.args.source target k p ended (core_of s) (fetches_of s) (core_of t) (fetches_of t) in
     let completed : comes c.args.target opened =
     rw c.in-Entry.is
     (subst (comes (Entry c.in-Entry.value c.in-Entry.properties)) (sym found.1) (c.complete_value.ensures.completed found.0 found.1)) in
@@ -53,11 +58,9 @@ returns-in-Entry g c =
           ended weighs admits g.P.Properties.location_of g.P.Properties.with_phantom_of c.args.target opened waited
           completed;
       stay = end_stays m laws good hashes (core_of s) (core_of t) equal sound (fetches_of s) (fetches_of t) c.args.source key
-          ended weighs admits g.P.Properties.location_of g.P.Properties.with_phantom_of c.args.target opened waited
-          completed;
+          ended weighs admits properties c.args.target opened waited completed;
       told = end_told m laws good hashes (core_of s) (core_of t) equal sound (fetches_of s) (fetches_of t) c.args.source key
-          ended weighs admits g.P.Properties.location_of g.P.Properties.with_phantom_of c.args.target opened waited
-          completed;
+          ended weighs admits properties c.args.target opened waited completed;
     }
 
 pub returns-in-Piece : goal.returns-in-Piece
@@ -70,6 +73,8 @@ returns-in-Piece g c =
     let ended = ending_of c.complete_piece.result in
     let weighs = g.W.Weighter.weighs s.rules.weighter in
     let admits = g.A.Filter.admits s.rules.filter in
+    let properties = λ (p : g.row.P.Denot) (admitted : Bool).
+    coming_in g.P.Properties.location_of g.P.Properties.with_phantom_of admitted p in
     let laws = g.met.K.Eq.laws in
     let good = g.met.E.Eviction.lawful in
     let equal : (a b : g.row.K.Denot) → g.K.PartialEq.eq a b ≡ true → hashes_of s a ≡ hashes_of s b =
@@ -80,9 +85,12 @@ returns-in-Piece g c =
     let opened = asked (Some c.args.fetch) (open_in (fetches_of s) k) in
     let comes : (target : FetchTarget g.row.K.Denot g.row.V.Denot g.row.P.Denot)
     (p : Option (OpenFetch g.row.N.Denot g.row.R.Denot)) → Type 0 = λ target p.
-    Completed m (hashes_of s) weighs admits
-    (λ properties admitted. coming_in g.P.Properties.location_of g.P.Properties.with_phantom_of admitted properties)
-    c.args.source target k p ended (core_of s) (fetches_of s) (core_of t) (fetches_of t) in
+    Completed m record {
+      hash = hashes_of s;
+      weighs = weighs;
+      admits = admits;
+      properties = properties;
+    } c.args.source target k p ended (core_of s) (fetches_of s) (core_of t) (fetches_of t) in
     let completed : comes c.args.target opened =
     rw c.in-Piece.is
     (subst (comes (PieceOf c.in-Piece.piece)) (sym found.1) (c.complete_piece.ensures.completed found.0 found.1)) in
@@ -98,9 +106,7 @@ returns-in-Piece g c =
           ended weighs admits g.P.Properties.location_of g.P.Properties.with_phantom_of c.args.target opened waited
           completed;
       stay = end_stays m laws good hashes (core_of s) (core_of t) equal sound (fetches_of s) (fetches_of t) c.args.source key
-          ended weighs admits g.P.Properties.location_of g.P.Properties.with_phantom_of c.args.target opened waited
-          completed;
+          ended weighs admits properties c.args.target opened waited completed;
       told = end_told m laws good hashes (core_of s) (core_of t) equal sound (fetches_of s) (fetches_of t) c.args.source key
-          ended weighs admits g.P.Properties.location_of g.P.Properties.with_phantom_of c.args.target opened waited
-          completed;
+          ended weighs admits properties c.args.target opened waited completed;
     }

@@ -21,8 +21,8 @@ use Rattle.foyer_core.proofs.Origins.{placed_over}
 use Rattle.foyer_core.proofs.PieceTold.{returning_at, under_at}
 use Rattle.foyer_core.proofs.cache_core.CacheCore.complete_piece.Goals as goal
 
-pub invariant_of-self-clause-belong : goal.invariant_of-self-clause-belong
-invariant_of-self-clause-belong g c =
+pub invariant_of-self-clause-whole : goal.invariant_of-self-clause-whole
+invariant_of-self-clause-whole g c =
     let s = c.args.self.now in
     let x = c.index_mut.result.now in
     let y = c.complete_piece-ended.new.self in
@@ -41,7 +41,7 @@ invariant_of-self-clause-belong g c =
     let laws = g.met.K.Eq.laws in
     let good = g.met.E.Eviction.lawful in
     let recs = records_over (hashes_of s) state_of s.shards.items n place x s.shards.ok.0
-    c.shard_index-place.ensures.within c.index_mut.ensures.value s.belong s.hashed in
+    c.shard_index-place.ensures.within c.index_mut.ensures.value s.whole.belong s.whole.hashed in
     let home = c.shard_index.result == place in
     let comes = λ (b : Bool). comes_under m (state_of x) own piece b (hash, key) in
     let here : comes home ≡ true → own % n ≡ place =
@@ -52,63 +52,29 @@ invariant_of-self-clause-belong g c =
     let weight = c.weight_under-weight.result in
     let p = asked (Some c.args.fetch) ((opens_of x).by_key (hash, key)) in
     let ended = ending_of c.complete_piece-ended.result in
-    placed_over state_of s.shards.items n place x s.shards.ok.0 c.shard_index-place.ensures.within
-    c.index_mut.ensures.value y
-    (completes_piece_from (λ d. d.hash % n ≡ place) m (state_of x) (state_of y) own piece (λ w. w ≡ weight) home
-    (opens_of x) (opens_of y) (hash, key) ended
-    (λ yes known. (returning_at m laws good (hashes_of s) equal n place (state_of x) recs piece 0 (here yes) known).0)
-    (λ yes w. here yes) p did) s.belong
-
-pub invariant_of-self-clause-hashed : goal.invariant_of-self-clause-hashed
-invariant_of-self-clause-hashed g c =
-    let s = c.args.self.now in
-    let x = c.index_mut.result.now in
-    let y = c.complete_piece-ended.new.self in
-    let m = meaning_of_core s in
-    let n = vec_len s.shards in
-    let place = c.shard_index-place.result in
-    let piece = c.args.piece in
-    let key = c.args.key.now in
-    let hash = hashes_of s key in
-    let own = hashes_of s piece.kept.key in
-    let own_is : c.hash-own.result ≡ own = c.hash-own.ensures.hash ∙ ap (hashes_of s) c.key.ensures in
-    let at : place ≡ hash % n = c.shard_index-place.ensures.index
-    ∙ ap (λ (h : ℕ). h % n) c.hash-hash.ensures.hash in
-    let equal : (a b : g.row.K.Denot) → g.K.PartialEq.eq a b ≡ true → hashes_of s a ≡ hashes_of s b =
-    λ a b same. ap (g.S.HashBuilder.hash_of s.hash_builder) (g.met.K.Hash.respects_eq a b same) in
-    let laws = g.met.K.Eq.laws in
-    let good = g.met.E.Eviction.lawful in
-    let recs = records_over (hashes_of s) state_of s.shards.items n place x s.shards.ok.0
-    c.shard_index-place.ensures.within c.index_mut.ensures.value s.belong s.hashed in
-    let home = c.shard_index.result == place in
-    let comes = λ (b : Bool). comes_under m (state_of x) own piece b (hash, key) in
-    let here : comes home ≡ true → own % n ≡ place =
-    λ yes. sym (c.shard_index.ensures.index ∙ ap (λ (h : ℕ). h % n) own_is)
-    ∙ eqb-true c.shard_index.result place
-    (and_left home (same_key m.same (hash, key) (coming_under (state_of x) own piece)) yes) in
-    let did = rw (c.hash-hash.ensures.hash, own_is) at c.complete_piece-ended.ensures.completed in
-    let weight = c.weight_under-weight.result in
-    let p = asked (Some c.args.fetch) ((opens_of x).by_key (hash, key)) in
-    let ended = ending_of c.complete_piece-ended.result in
-    hashed_over (hashes_of s) state_of s.shards.items n place x s.shards.ok.0 c.shard_index-place.ensures.within
-    c.index_mut.ensures.value y
-    (completes_piece_from (IsHashed (hashes_of s)) m (state_of x) (state_of y) own piece (λ w. w ≡ weight) home
-    (opens_of x) (opens_of y) (hash, key) ended
-    (λ yes known. (returning_at m laws good (hashes_of s) equal n place (state_of x) recs piece 0 (here yes) known).1)
-    (λ yes w. refl) p did) s.hashed
-
-pub invariant_of-self-clause-summed : goal.invariant_of-self-clause-summed
-invariant_of-self-clause-summed g c =
-    let s = c.args.self.now in
     let before = c.of-before in
     let after = c.of-after in
-    sums_set (meaning_of_core s) state_of s.shards.items (vec_len s.shards) c.shard_index-place.result c.index.result.now
-    s.load.usage s.load.entries
-    s.shards.ok.0 (omega (arith, s.shards.ok.1, s.shards.small)) c.shard_index-place.ensures.within c.index.ensures s.summed
-    before.result.usage before.result.entries before.ensures.usage before.ensures.entries
-    c.complete_piece-ended.new.self c.index-2.result.now c.index-2.ensures after.result.usage after.result.entries
-    after.ensures.usage after.ensures.entries after.ensures.small
-    c.replace.new.self.usage c.replace.new.self.entries c.replace.ensures.usage c.replace.ensures.entries
+    record {
+      belong = placed_over state_of s.shards.items n place x s.shards.ok.0 c.shard_index-place.ensures.within
+          c.index_mut.ensures.value y
+          (completes_piece_from (λ d. d.hash % n ≡ place) m (state_of x) (state_of y) own piece (λ w. w ≡ weight) home
+          (opens_of x) (opens_of y) (hash, key) ended
+          (λ yes known. (returning_at m laws good (hashes_of s) equal n place (state_of x) recs piece 0 (here yes) known).0)
+          (λ yes w. here yes) p did) s.whole.belong;
+      hashed = hashed_over (hashes_of s) state_of s.shards.items n place x s.shards.ok.0 c.shard_index-place.ensures.within
+          c.index_mut.ensures.value y
+          (completes_piece_from (IsHashed (hashes_of s)) m (state_of x) (state_of y) own piece (λ w. w ≡ weight) home
+          (opens_of x) (opens_of y) (hash, key) ended
+          (λ yes known. (returning_at m laws good (hashes_of s) equal n place (state_of x) recs piece 0 (here yes) known).1)
+          (λ yes w. refl) p did) s.whole.hashed;
+      summed = sums_set (meaning_of_core s) state_of s.shards.items (vec_len s.shards) c.shard_index-place.result c.index.result.now
+          s.load.usage s.load.entries
+          s.shards.ok.0 (omega (arith, s.shards.ok.1, s.shards.small)) c.shard_index-place.ensures.within c.index.ensures s.whole.summed
+          before.result.usage before.result.entries before.ensures.usage before.ensures.entries
+          c.complete_piece-ended.new.self c.index-2.result.now c.index-2.ensures after.result.usage after.result.entries
+          after.ensures.usage after.ensures.entries after.ensures.small
+          c.replace.new.self.usage c.replace.new.self.entries c.replace.ensures.usage c.replace.ensures.entries;
+    }
 
 pub replace-requires-clause-usage : goal.replace-requires-clause-usage
 replace-requires-clause-usage g c =
@@ -117,7 +83,7 @@ replace-requires-clause-usage g c =
     let after = c.of-after in
     usage_fits (meaning_of_core s) state_of s.shards.items (vec_len s.shards) c.shard_index-place.result c.index.result.now
     s.load.usage s.load.entries
-    s.shards.ok.0 (omega (arith, s.shards.ok.1, s.shards.small)) c.shard_index-place.ensures.within c.index.ensures s.summed
+    s.shards.ok.0 (omega (arith, s.shards.ok.1, s.shards.small)) c.shard_index-place.ensures.within c.index.ensures s.whole.summed
     before.result.usage before.result.entries before.ensures.usage before.ensures.entries
     c.complete_piece-ended.new.self c.index-2.result.now c.index-2.ensures after.result.usage after.result.entries
     after.ensures.usage after.ensures.entries after.ensures.small
@@ -129,7 +95,7 @@ replace-requires-clause-entries g c =
     let after = c.of-after in
     entries_fit (meaning_of_core s) state_of s.shards.items (vec_len s.shards) c.shard_index-place.result c.index.result.now
     s.load.usage s.load.entries
-    s.shards.ok.0 (omega (arith, s.shards.ok.1, s.shards.small)) c.shard_index-place.ensures.within c.index.ensures s.summed
+    s.shards.ok.0 (omega (arith, s.shards.ok.1, s.shards.small)) c.shard_index-place.ensures.within c.index.ensures s.whole.summed
     before.result.usage before.result.entries before.ensures.usage before.ensures.entries
     c.complete_piece-ended.new.self c.index-2.result.now c.index-2.ensures after.result.usage after.result.entries
     after.ensures.usage after.ensures.entries after.ensures.small
@@ -154,7 +120,7 @@ returns g c =
     let laws = g.met.K.Eq.laws in
     let good = g.met.E.Eviction.lawful in
     let recs = records_over (hashes_of s) state_of s.shards.items n place x s.shards.ok.0
-    c.shard_index-place.ensures.within c.index_mut.ensures.value s.belong s.hashed in
+    c.shard_index-place.ensures.within c.index_mut.ensures.value s.whole.belong s.whole.hashed in
     let home = c.shard_index.result == place in
     let comes = λ (b : Bool). comes_under m (state_of x) own piece b (hash, key) in
     let here : comes home ≡ true → own % n ≡ place =

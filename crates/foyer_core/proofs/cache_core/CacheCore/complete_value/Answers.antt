@@ -19,28 +19,8 @@ use Rattle.foyer_core.proofs.Loads.{sums_set, usage_fits, entries_fit}
 use Rattle.foyer_core.proofs.Origins.{belongs_over}
 use Rattle.foyer_core.proofs.cache_core.CacheCore.complete_value.Goals as goal
 
-pub invariant_of-self-clause-belong : goal.invariant_of-self-clause-belong
-invariant_of-self-clause-belong g c =
-    let s = c.args.self.now in
-    let x = c.index_mut.result.now in
-    let y = c.complete-ended.new.self in
-    let d : Data g.row.K.Denot g.row.V.Denot g.row.P.Denot =
-    record {
-      key = c.in-Ok.own;
-      value = c.args.value;
-      properties = c.judge-weight.result.1;
-      hash = c.hash-hash.result;
-      weight = c.judge-weight.result.0;
-    } in
-    belongs_over state_of s.shards.items d.hash (vec_len s.shards) c.shard_index-place.result x s.shards.ok.0
-    c.shard_index-place.ensures.within c.shard_index-place.ensures.index c.index_mut.ensures.value
-    y (completes_from (λ e. e.hash ≡ d.hash) (meaning_of x) (state_of x) (opens_of x) (key_of d)
-    (ending_of c.complete-ended.result) (state_of y) (opens_of y)
-    (asked (Some c.args.fetch) ((opens_of x).by_key (key_of d))) c.args.source d
-    c.complete-ended.ensures.completed refl) s.belong
-
-pub invariant_of-self-clause-hashed : goal.invariant_of-self-clause-hashed
-invariant_of-self-clause-hashed g c =
+pub invariant_of-self-clause-whole : goal.invariant_of-self-clause-whole
+invariant_of-self-clause-whole g c =
     let s = c.args.self.now in
     let x = c.index_mut.result.now in
     let y = c.complete-ended.new.self in
@@ -54,27 +34,31 @@ invariant_of-self-clause-hashed g c =
     } in
     let same : g.K.PartialEq.eq c.args.key.now c.in-Ok.own ≡ true = g.met.K.Eq.laws.symm c.args.key.now c.in-Ok.own
     ∙ c.requires.clones c.args.key.now c.in-Ok.own c.in-Ok.ensures.cases in
-    hashed_over (hashes_of s) state_of s.shards.items (vec_len s.shards) c.shard_index-place.result x s.shards.ok.0
-    c.shard_index-place.ensures.within c.index_mut.ensures.value
-    y (completes_from (IsHashed (hashes_of s)) (meaning_of x) (state_of x) (opens_of x) (key_of d)
-    (ending_of c.complete-ended.result) (state_of y) (opens_of y)
-    (asked (Some c.args.fetch) ((opens_of x).by_key (key_of d))) c.args.source d
-    c.complete-ended.ensures.completed
-    (c.hash-hash.ensures.hash ∙ ap (g.S.HashBuilder.hash_of s.hash_builder)
-    (g.met.K.Hash.respects_eq c.args.key.now c.in-Ok.own same))) s.hashed
-
-pub invariant_of-self-clause-summed : goal.invariant_of-self-clause-summed
-invariant_of-self-clause-summed g c =
-    let s = c.args.self.now in
     let before = c.of-before in
     let after = c.of-after in
-    sums_set (meaning_of_core s) state_of s.shards.items (vec_len s.shards) c.shard_index-place.result c.index.result.now
-    s.load.usage s.load.entries
-    s.shards.ok.0 (omega (arith, s.shards.ok.1, s.shards.small)) c.shard_index-place.ensures.within c.index.ensures s.summed
-    before.result.usage before.result.entries before.ensures.usage before.ensures.entries
-    c.complete-ended.new.self c.index-2.result.now c.index-2.ensures after.result.usage after.result.entries
-    after.ensures.usage after.ensures.entries after.ensures.small
-    c.replace.new.self.usage c.replace.new.self.entries c.replace.ensures.usage c.replace.ensures.entries
+    record {
+      belong = belongs_over state_of s.shards.items d.hash (vec_len s.shards) c.shard_index-place.result x s.shards.ok.0
+          c.shard_index-place.ensures.within c.shard_index-place.ensures.index c.index_mut.ensures.value
+          y (completes_from (λ e. e.hash ≡ d.hash) (meaning_of x) (state_of x) (opens_of x) (key_of d)
+          (ending_of c.complete-ended.result) (state_of y) (opens_of y)
+          (asked (Some c.args.fetch) ((opens_of x).by_key (key_of d))) c.args.source d
+          c.complete-ended.ensures.completed refl) s.whole.belong;
+      hashed = hashed_over (hashes_of s) state_of s.shards.items (vec_len s.shards) c.shard_index-place.result x s.shards.ok.0
+          c.shard_index-place.ensures.within c.index_mut.ensures.value
+          y (completes_from (IsHashed (hashes_of s)) (meaning_of x) (state_of x) (opens_of x) (key_of d)
+          (ending_of c.complete-ended.result) (state_of y) (opens_of y)
+          (asked (Some c.args.fetch) ((opens_of x).by_key (key_of d))) c.args.source d
+          c.complete-ended.ensures.completed
+          (c.hash-hash.ensures.hash ∙ ap (g.S.HashBuilder.hash_of s.hash_builder)
+          (g.met.K.Hash.respects_eq c.args.key.now c.in-Ok.own same))) s.whole.hashed;
+      summed = sums_set (meaning_of_core s) state_of s.shards.items (vec_len s.shards) c.shard_index-place.result c.index.result.now
+          s.load.usage s.load.entries
+          s.shards.ok.0 (omega (arith, s.shards.ok.1, s.shards.small)) c.shard_index-place.ensures.within c.index.ensures s.whole.summed
+          before.result.usage before.result.entries before.ensures.usage before.ensures.entries
+          c.complete-ended.new.self c.index-2.result.now c.index-2.ensures after.result.usage after.result.entries
+          after.ensures.usage after.ensures.entries after.ensures.small
+          c.replace.new.self.usage c.replace.new.self.entries c.replace.ensures.usage c.replace.ensures.entries;
+    }
 
 pub replace-requires-clause-usage : goal.replace-requires-clause-usage
 replace-requires-clause-usage g c =
@@ -83,7 +67,7 @@ replace-requires-clause-usage g c =
     let after = c.of-after in
     usage_fits (meaning_of_core s) state_of s.shards.items (vec_len s.shards) c.shard_index-place.result c.index.result.now
     s.load.usage s.load.entries
-    s.shards.ok.0 (omega (arith, s.shards.ok.1, s.shards.small)) c.shard_index-place.ensures.within c.index.ensures s.summed
+    s.shards.ok.0 (omega (arith, s.shards.ok.1, s.shards.small)) c.shard_index-place.ensures.within c.index.ensures s.whole.summed
     before.result.usage before.result.entries before.ensures.usage before.ensures.entries
     c.complete-ended.new.self c.index-2.result.now c.index-2.ensures after.result.usage after.result.entries
     after.ensures.usage after.ensures.entries after.ensures.small
@@ -95,7 +79,7 @@ replace-requires-clause-entries g c =
     let after = c.of-after in
     entries_fit (meaning_of_core s) state_of s.shards.items (vec_len s.shards) c.shard_index-place.result c.index.result.now
     s.load.usage s.load.entries
-    s.shards.ok.0 (omega (arith, s.shards.ok.1, s.shards.small)) c.shard_index-place.ensures.within c.index.ensures s.summed
+    s.shards.ok.0 (omega (arith, s.shards.ok.1, s.shards.small)) c.shard_index-place.ensures.within c.index.ensures s.whole.summed
     before.result.usage before.result.entries before.ensures.usage before.ensures.entries
     c.complete-ended.new.self c.index-2.result.now c.index-2.ensures after.result.usage after.result.entries
     after.ensures.usage after.ensures.entries after.ensures.small

@@ -24,8 +24,8 @@ loop-entry-preserved g c =
           c.loop-entry.entries.items c.pop.new.self.items c.in-Some.entry drop.result (core_of s) (core_of mid)
           (core_of drop.new.self)
           c.in-Some.ensures.items c.loop-entry.invariant.dropped
-          (record { owned = drop.ensures.owned; foreign = drop.ensures.foreign }) drop.ensures.told
-          drop.ensures.stay;
+          (record { owned = drop.ensures.owned; foreign = drop.ensures.foreign }) drop.ensures.laws.told
+          drop.ensures.laws.stay;
       fetches = drop.ensures.fetches ∙ c.loop-entry.invariant.fetches;
     }
 

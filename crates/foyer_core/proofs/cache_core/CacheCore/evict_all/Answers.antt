@@ -13,31 +13,24 @@ use Rattle.foyer_core.proofs.Origins.{all_unpinned_belong, all_unpinned_until_be
 use Rattle.foyer_core.proofs.Sound.{core_sound}
 use Rattle.foyer_core.proofs.cache_core.CacheCore.evict_all.Goals as goal
 
-pub invariant_of-self-clause-belong : goal.invariant_of-self-clause-belong
-invariant_of-self-clause-belong g c =
+pub invariant_of-self-clause-whole : goal.invariant_of-self-clause-whole
+invariant_of-self-clause-whole g c =
     let s = c.args.self.now in
     let m = meaning_of_core s in
     let ss = map state_of s.shards.items in
     let ts = map state_of c.evict_each-done.new.shards.items in
-    told_belong c.evict_each-done.result ss ts c.new-leaves.result.items c.evict_each-done.new.leaves.items
-    (InTurn (EvictsUnpinned m)) (InTurnUntil (EvictsUnpinned m) (EvictingUnpinned m))
-    c.evict_each-done.ensures.done c.evict_each-done.ensures.refused (λ ls. all_unpinned_belong m ss ls ts)
-    (λ ls. all_unpinned_until_belong m ss ls ts) s.belong
-
-pub invariant_of-self-clause-hashed : goal.invariant_of-self-clause-hashed
-invariant_of-self-clause-hashed g c =
-    let s = c.args.self.now in
     let hash = λ (k : g.row.K.Denot). g.S.HashBuilder.hash_of s.hash_builder (g.K.Hash.hash_input k) in
-    let m = meaning_of_core s in
-    let ss = map state_of s.shards.items in
-    let ts = map state_of c.evict_each-done.new.shards.items in
-    told_hashed hash c.evict_each-done.result ss ts c.new-leaves.result.items c.evict_each-done.new.leaves.items
-    (InTurn (EvictsUnpinned m)) (InTurnUntil (EvictsUnpinned m) (EvictingUnpinned m))
-    c.evict_each-done.ensures.done c.evict_each-done.ensures.refused (λ ls. all_unpinned_hashed hash m ss ls ts)
-    (λ ls. all_unpinned_until_hashed hash m ss ls ts) s.hashed
-
-pub invariant_of-self-clause-summed : goal.invariant_of-self-clause-summed
-invariant_of-self-clause-summed g c = rw c.deref.ensures.value at c.of_all-self.ensures
+    record {
+      belong = told_belong c.evict_each-done.result ss ts c.new-leaves.result.items c.evict_each-done.new.leaves.items
+          (InTurn (EvictsUnpinned m)) (InTurnUntil (EvictsUnpinned m) (EvictingUnpinned m))
+          c.evict_each-done.ensures.done c.evict_each-done.ensures.refused (λ ls. all_unpinned_belong m ss ls ts)
+          (λ ls. all_unpinned_until_belong m ss ls ts) s.whole.belong;
+      hashed = told_hashed hash c.evict_each-done.result ss ts c.new-leaves.result.items c.evict_each-done.new.leaves.items
+          (InTurn (EvictsUnpinned m)) (InTurnUntil (EvictsUnpinned m) (EvictingUnpinned m))
+          c.evict_each-done.ensures.done c.evict_each-done.ensures.refused (λ ls. all_unpinned_hashed hash m ss ls ts)
+          (λ ls. all_unpinned_until_hashed hash m ss ls ts) s.whole.hashed;
+      summed = rw c.deref.ensures.value at c.of_all-self.ensures;
+    }
 
 pub returns-in-Ok : goal.returns-in-Ok
 returns-in-Ok g c =

@@ -7,32 +7,14 @@ use Rattle.foyer_core.proofs.FetchesOver.{fetches_become, fetches_stay, if_none_
 use Rattle.foyer_core.proofs.Zips.{map-write}
 use Rattle.foyer_core.proofs.cache_core.CacheCore.fetch_or_take.Goals as goal
 
-pub invariant_of-self-clause-belong : goal.invariant_of-self-clause-belong
-invariant_of-self-clause-belong g c =
+pub invariant_of-self-clause-whole : goal.invariant_of-self-clause-whole
+invariant_of-self-clause-whole g c =
     let s = c.args.self.now in
     let x = c.index_mut.result.now in
     let y = c.fetch_or_take.new.self in
     let same = map-write state_of s.shards.items (vec_len s.shards) c.shard_index-place.result x y s.shards.ok.0
     c.shard_index-place.ensures.within c.index_mut.ensures.value c.fetch_or_take.ensures.state in
-    rw same s.belong
-
-pub invariant_of-self-clause-hashed : goal.invariant_of-self-clause-hashed
-invariant_of-self-clause-hashed g c =
-    let s = c.args.self.now in
-    let x = c.index_mut.result.now in
-    let y = c.fetch_or_take.new.self in
-    let same = map-write state_of s.shards.items (vec_len s.shards) c.shard_index-place.result x y s.shards.ok.0
-    c.shard_index-place.ensures.within c.index_mut.ensures.value c.fetch_or_take.ensures.state in
-    rw same s.hashed
-
-pub invariant_of-self-clause-summed : goal.invariant_of-self-clause-summed
-invariant_of-self-clause-summed g c =
-    let s = c.args.self.now in
-    let x = c.index_mut.result.now in
-    let y = c.fetch_or_take.new.self in
-    let same = map-write state_of s.shards.items (vec_len s.shards) c.shard_index-place.result x y s.shards.ok.0
-    c.shard_index-place.ensures.within c.index_mut.ensures.value c.fetch_or_take.ensures.state in
-    rw same s.summed
+    rw same s.whole
 
 pub returns-clause-core : goal.returns-clause-core
 returns-clause-core g c =

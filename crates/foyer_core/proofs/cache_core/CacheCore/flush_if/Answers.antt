@@ -13,31 +13,23 @@ use Rattle.foyer_core.proofs.Origins.{all_picked_belong, done_belong}
 use Rattle.foyer_core.proofs.Sound.{core_sound}
 use Rattle.foyer_core.proofs.cache_core.CacheCore.flush_if.Goals as goal
 
-pub invariant_of-self-clause-belong : goal.invariant_of-self-clause-belong
-invariant_of-self-clause-belong g c =
+pub invariant_of-self-clause-whole : goal.invariant_of-self-clause-whole
+invariant_of-self-clause-whole g c =
     let s = c.args.self.now in
     let m = meaning_of_core s in
     let says = Says g.F.Fn c.args.predicate.now in
     let ss = map state_of s.shards.items in
     let ts = map state_of c.evict_each_if-flushed.new.shards.items in
-    done_belong c.evict_each_if-flushed.result ss ts (λ leaves. leaves.items) (InTurn (EvictsIf m says))
-    c.evict_each_if-flushed.ensures.done c.evict_each_if-flushed.ensures.err
-    (λ ls. all_picked_belong m ss ls ts says) s.belong
-
-pub invariant_of-self-clause-hashed : goal.invariant_of-self-clause-hashed
-invariant_of-self-clause-hashed g c =
-    let s = c.args.self.now in
     let hash = λ (k : g.row.K.Denot). g.S.HashBuilder.hash_of s.hash_builder (g.K.Hash.hash_input k) in
-    let m = meaning_of_core s in
-    let says = Says g.F.Fn c.args.predicate.now in
-    let ss = map state_of s.shards.items in
-    let ts = map state_of c.evict_each_if-flushed.new.shards.items in
-    done_hashed hash c.evict_each_if-flushed.result ss ts (λ leaves. leaves.items) (InTurn (EvictsIf m says))
-    c.evict_each_if-flushed.ensures.done c.evict_each_if-flushed.ensures.err
-    (λ ls. all_picked_hashed hash m ss ls ts says) s.hashed
-
-pub invariant_of-self-clause-summed : goal.invariant_of-self-clause-summed
-invariant_of-self-clause-summed g c = rw c.deref.ensures.value at c.of_all-self.ensures
+    record {
+      belong = done_belong c.evict_each_if-flushed.result ss ts (λ leaves. leaves.items) (InTurn (EvictsIf m says))
+          c.evict_each_if-flushed.ensures.done c.evict_each_if-flushed.ensures.err
+          (λ ls. all_picked_belong m ss ls ts says) s.whole.belong;
+      hashed = done_hashed hash c.evict_each_if-flushed.result ss ts (λ leaves. leaves.items) (InTurn (EvictsIf m says))
+          c.evict_each_if-flushed.ensures.done c.evict_each_if-flushed.ensures.err
+          (λ ls. all_picked_hashed hash m ss ls ts says) s.whole.hashed;
+      summed = rw c.deref.ensures.value at c.of_all-self.ensures;
+    }
 
 pub returns : goal.returns
 returns g c =

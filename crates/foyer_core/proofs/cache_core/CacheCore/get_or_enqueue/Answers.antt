@@ -16,38 +16,28 @@ use Rattle.foyer_core.proofs.Sound.{core_sound}
 use Rattle.foyer_core.proofs.Staying.{RecordsStay, nothing}
 use Rattle.foyer_core.proofs.cache_core.CacheCore.get_or_enqueue.Goals as goal
 
-pub invariant_of-self-clause-belong : goal.invariant_of-self-clause-belong
-invariant_of-self-clause-belong g c =
+pub invariant_of-self-clause-whole : goal.invariant_of-self-clause-whole
+invariant_of-self-clause-whole g c =
     let s = c.args.self.now in
     let x = c.index_mut.result.now in
     let y = c.get_or_enqueue.new.self in
-    belongs_over state_of s.shards.items c.hash-hash.result (vec_len s.shards) c.shard_index-place.result x s.shards.ok.0
-    c.shard_index-place.ensures.within c.shard_index-place.ensures.index c.index_mut.ensures.value
-    y (looks_from (meaning_of x) (state_of x) (opens_of x) (c.hash-hash.result, c.args.key.now) c.args.waiter
-    c.args.required (state_of y) (opens_of y) c.get_or_enqueue.result c.get_or_enqueue.ensures.looked_up
-    (λ d. d.hash ≡ c.hash-hash.result)) s.belong
-
-pub invariant_of-self-clause-hashed : goal.invariant_of-self-clause-hashed
-invariant_of-self-clause-hashed g c =
-    let s = c.args.self.now in
-    let x = c.index_mut.result.now in
-    let y = c.get_or_enqueue.new.self in
-    hashed_over (hashes_of s) state_of s.shards.items (vec_len s.shards) c.shard_index-place.result x s.shards.ok.0
-    c.shard_index-place.ensures.within c.index_mut.ensures.value
-    y (looks_from (meaning_of x) (state_of x) (opens_of x) (c.hash-hash.result, c.args.key.now) c.args.waiter
-    c.args.required (state_of y) (opens_of y) c.get_or_enqueue.result c.get_or_enqueue.ensures.looked_up
-    (IsHashed (hashes_of s))) s.hashed
-
-pub invariant_of-self-clause-summed : goal.invariant_of-self-clause-summed
-invariant_of-self-clause-summed g c =
-    let s = c.args.self.now in
-    let x = c.index_mut.result.now in
-    let y = c.get_or_enqueue.new.self in
-    sums_same (meaning_of_core s) state_of s.shards.items (vec_len s.shards) c.shard_index-place.result x s.load.usage
-    s.load.entries s.shards.ok.0 c.shard_index-place.ensures.within c.index_mut.ensures.value s.summed
-    y (looks_load (meaning_of x) (state_of x) (opens_of x) (c.hash-hash.result, c.args.key.now) c.args.waiter
-    c.args.required (state_of y) (opens_of y) c.get_or_enqueue.result c.get_or_enqueue.ensures.looked_up
-    g.met.E.Eviction.lawful x.store.sound)
+    record {
+      belong = belongs_over state_of s.shards.items c.hash-hash.result (vec_len s.shards) c.shard_index-place.result x s.shards.ok.0
+          c.shard_index-place.ensures.within c.shard_index-place.ensures.index c.index_mut.ensures.value
+          y (looks_from (meaning_of x) (state_of x) (opens_of x) (c.hash-hash.result, c.args.key.now) c.args.waiter
+          c.args.required (state_of y) (opens_of y) c.get_or_enqueue.result c.get_or_enqueue.ensures.looked_up
+          (λ d. d.hash ≡ c.hash-hash.result)) s.whole.belong;
+      hashed = hashed_over (hashes_of s) state_of s.shards.items (vec_len s.shards) c.shard_index-place.result x s.shards.ok.0
+          c.shard_index-place.ensures.within c.index_mut.ensures.value
+          y (looks_from (meaning_of x) (state_of x) (opens_of x) (c.hash-hash.result, c.args.key.now) c.args.waiter
+          c.args.required (state_of y) (opens_of y) c.get_or_enqueue.result c.get_or_enqueue.ensures.looked_up
+          (IsHashed (hashes_of s))) s.whole.hashed;
+      summed = sums_same (meaning_of_core s) state_of s.shards.items (vec_len s.shards) c.shard_index-place.result x s.load.usage
+          s.load.entries s.shards.ok.0 c.shard_index-place.ensures.within c.index_mut.ensures.value s.whole.summed
+          y (looks_load (meaning_of x) (state_of x) (opens_of x) (c.hash-hash.result, c.args.key.now) c.args.waiter
+          c.args.required (state_of y) (opens_of y) c.get_or_enqueue.result c.get_or_enqueue.ensures.looked_up
+          g.met.E.Eviction.lawful x.store.sound);
+    }
 
 pub returns : goal.returns
 returns g c =
@@ -74,11 +64,13 @@ returns g c =
           c.index_mut.ensures.value y
           (λ s f t g. LooksUp m s f (hash, c.args.key.now) c.args.waiter c.args.required c.get_or_enqueue.result t g)
           did;
-      stay = stays_at (core_of s) _ hash
-          (over (RecordsStay nothing) y
-          (looks_stay (meaning_of x) (state_of x) (opens_of x) (c.hash-hash.result, c.args.key.now) c.args.waiter
-          c.args.required (state_of y) (opens_of y) c.get_or_enqueue.result
-          c.get_or_enqueue.ensures.looked_up));
-      told = stays_so m g.met.K.Eq.laws g.met.E.Eviction.lawful (hashes_of s) equal (core_of s) new sound
-          (λ s t. SameIndex s t) hash index index.stepped;
+      laws = record {
+        stay = stays_at (core_of s) _ hash
+            (over (RecordsStay nothing) y
+            (looks_stay (meaning_of x) (state_of x) (opens_of x) (c.hash-hash.result, c.args.key.now) c.args.waiter
+            c.args.required (state_of y) (opens_of y) c.get_or_enqueue.result
+            c.get_or_enqueue.ensures.looked_up));
+        told = stays_so m g.met.K.Eq.laws g.met.E.Eviction.lawful (hashes_of s) equal (core_of s) new sound
+            (λ s t. SameIndex s t) hash index index.stepped;
+      };
     }

@@ -2,11 +2,12 @@ use Rattle.std.proofs.Common.{◌≡◌, ap, ◌∙◌, ℕ, ◌%◌, vec_len, t
 use Rattle.std.proofs.lemmas.Result.{IfOk-weaker, on_err_weaker}
 use Rattle.std.specs.Prelude.{slice_set}
 use Rattle.std.specs.Option.{option_to_list}
+use Rattle.foyer_core.specs.Laws.{one_of}
 use Rattle.foyer_core.specs.Observed.{IsTold}
 use Rattle.foyer_core.specs.Cores.{core_of, hashes_of, meaning_of_core}
 use Rattle.foyer_core.specs.Shards.{meaning_of, opens_of, state_of}
 use Rattle.foyer_core.specs.Steps.{GivesBack}
-use Rattle.foyer_core.proofs.CallsTold.{give_back_told, match_so, nothing_told}
+use Rattle.foyer_core.proofs.CallsTold.{give_back_told, laws_by, match_so, nothing_told, returned_same}
 use Rattle.foyer_core.proofs.CoreLaws.{gives_at}
 use Rattle.foyer_core.proofs.CoreLemmas.{at_over, core_over, same_over}
 use Rattle.foyer_core.proofs.Staying.{RecordsStay, one, given_back_stays}
@@ -17,41 +18,29 @@ use Rattle.foyer_core.proofs.Sound.{core_sound}
 use Rattle.foyer_core.proofs.Zips.{map-write}
 use Rattle.foyer_core.proofs.cache_core.CacheCore.give_back.Goals as goal
 
-pub invariant_of-self-clause-belong : goal.invariant_of-self-clause-belong
-invariant_of-self-clause-belong g c =
+pub invariant_of-self-clause-whole : goal.invariant_of-self-clause-whole
+invariant_of-self-clause-whole g c =
     let s = c.args.self.now in
     let e = c.args.entry in
     let x = c.index_mut.result.now in
     let y = c.give_back.new.self in
-    belongs_over state_of s.shards.items c.hash.result (vec_len s.shards) c.shard_index-place.result x s.shards.ok.0
-    c.shard_index-place.ensures.within c.shard_index-place.ensures.index c.index_mut.ensures.value
-    y (given_back_from (λ d. d.hash ≡ c.hash.result) (meaning_of x) (state_of x) e.id
-    (λ leave. e.number ≡ (state_of x).number) c.give_back.result (state_of y) c.give_back.ensures.taken
-    c.give_back.ensures.err) s.belong
-
-pub invariant_of-self-clause-hashed : goal.invariant_of-self-clause-hashed
-invariant_of-self-clause-hashed g c =
-    let s = c.args.self.now in
-    let e = c.args.entry in
-    let x = c.index_mut.result.now in
-    let y = c.give_back.new.self in
-    hashed_over (λ k. g.S.HashBuilder.hash_of s.hash_builder (g.K.Hash.hash_input k)) state_of s.shards.items
-    (vec_len s.shards) c.shard_index-place.result x s.shards.ok.0 c.shard_index-place.ensures.within c.index_mut.ensures.value
-    y (given_back_from (IsHashed (λ k. g.S.HashBuilder.hash_of s.hash_builder (g.K.Hash.hash_input k))) (meaning_of x)
-    (state_of x) e.id (λ leave. e.number ≡ (state_of x).number) c.give_back.result (state_of y)
-    c.give_back.ensures.taken c.give_back.ensures.err) s.hashed
-
-pub invariant_of-self-clause-summed : goal.invariant_of-self-clause-summed
-invariant_of-self-clause-summed g c =
-    let s = c.args.self.now in
-    let e = c.args.entry in
-    let x = c.index_mut.result.now in
-    let y = c.give_back.new.self in
-    sums_same (meaning_of_core s) state_of s.shards.items (vec_len s.shards) c.shard_index-place.result x s.load.usage
-    s.load.entries s.shards.ok.0 c.shard_index-place.ensures.within c.index_mut.ensures.value s.summed
-    y (given_back_load (meaning_of x) g.met.E.Eviction.lawful (state_of x) (state_of y) e.id
-    (λ leave. e.number ≡ (state_of x).number) c.give_back.result x.store.sound c.give_back.ensures.taken
-    c.give_back.ensures.err)
+    record {
+      belong = belongs_over state_of s.shards.items c.hash.result (vec_len s.shards) c.shard_index-place.result x s.shards.ok.0
+          c.shard_index-place.ensures.within c.shard_index-place.ensures.index c.index_mut.ensures.value
+          y (given_back_from (λ d. d.hash ≡ c.hash.result) (meaning_of x) (state_of x) e.id
+          (λ leave. e.number ≡ (state_of x).number) c.give_back.result (state_of y) c.give_back.ensures.taken
+          c.give_back.ensures.err) s.whole.belong;
+      hashed = hashed_over (λ k. g.S.HashBuilder.hash_of s.hash_builder (g.K.Hash.hash_input k)) state_of s.shards.items
+          (vec_len s.shards) c.shard_index-place.result x s.shards.ok.0 c.shard_index-place.ensures.within c.index_mut.ensures.value
+          y (given_back_from (IsHashed (λ k. g.S.HashBuilder.hash_of s.hash_builder (g.K.Hash.hash_input k))) (meaning_of x)
+          (state_of x) e.id (λ leave. e.number ≡ (state_of x).number) c.give_back.result (state_of y)
+          c.give_back.ensures.taken c.give_back.ensures.err) s.whole.hashed;
+      summed = sums_same (meaning_of_core s) state_of s.shards.items (vec_len s.shards) c.shard_index-place.result x s.load.usage
+          s.load.entries s.shards.ok.0 c.shard_index-place.ensures.within c.index_mut.ensures.value s.whole.summed
+          y (given_back_load (meaning_of x) g.met.E.Eviction.lawful (state_of x) (state_of y) e.id
+          (λ leave. e.number ≡ (state_of x).number) c.give_back.result x.store.sound c.give_back.ensures.taken
+          c.give_back.ensures.err);
+    }
 
 pub returns-clause-taken : goal.returns-clause-taken
 returns-clause-taken g c =
@@ -66,32 +55,19 @@ returns-clause-taken g c =
     (λ leave given. over (λ a b. GivesBack (meaning_of x) a e.id leave b) c.give_back.new.self given.1)
     c.give_back.ensures.taken
 
-pub returns-clause-err : goal.returns-clause-err
-returns-clause-err g c =
+pub returns-clause-returned : goal.returns-clause-returned
+returns-clause-returned g c =
     let s = c.args.self.now in
     let e = c.args.entry in
     let same = same_over state_of s.capacity s.hash_builder s.rules.weighter s.rules.filter s.shards.items e.kept.hash
     (vec_len s.shards) c.shard_index-place.result c.index_mut.result.now
     s.shards.ok.0 c.shard_index-place.ensures.within
     (c.shard_index-place.ensures.index ∙ ap (λ (n : ℕ). n % vec_len s.shards) c.hash.ensures) c.index_mut.ensures.value in
-    on_err_weaker c.give_back.result (same c.give_back.new.self) c.give_back.ensures.err
+    returned_same _ c.give_back.result e c.give_back.ensures.returned
+    (on_err_weaker c.give_back.result (same c.give_back.new.self) c.give_back.ensures.err)
 
-pub returns-clause-stay : goal.returns-clause-stay
-returns-clause-stay g c =
-    let s = c.args.self.now in
-    let e = c.args.entry in
-    let x = c.index_mut.result.now in
-    let y = c.give_back.new.self in
-    let over = at_over state_of s.capacity s.hash_builder s.rules.weighter s.rules.filter s.shards.items e.kept.hash
-    (vec_len s.shards) c.shard_index-place.result x
-    s.shards.ok.0 c.shard_index-place.ensures.within
-    (c.shard_index-place.ensures.index ∙ ap (λ (n : ℕ). n % vec_len s.shards) c.hash.ensures) c.index_mut.ensures.value in
-    gives_at (core_of s) _ e (over (RecordsStay (one e.id)) y
-    (given_back_stays (meaning_of x) (state_of x) e.id (λ leave. e.number ≡ (state_of x).number) c.give_back.result
-    (state_of y) c.give_back.ensures.taken c.give_back.ensures.err))
-
-pub returns-clause-told : goal.returns-clause-told
-returns-clause-told g c =
+pub returns-clause-laws : goal.returns-clause-laws
+returns-clause-laws g c =
     let s = c.args.self.now in
     let e = c.args.entry in
     let x = c.index_mut.result.now in
@@ -110,7 +86,12 @@ returns-clause-told g c =
     let equal : (a b : g.row.K.Denot) → g.K.PartialEq.eq a b ≡ true → hashes_of s a ≡ hashes_of s b =
     λ a b same. ap (g.S.HashBuilder.hash_of s.hash_builder) (g.met.K.Hash.respects_eq a b same) in
     let sound = core_sound s g.met.K.Eq.laws g.met.E.Eviction.lawful equal in
-    match_so c.give_back.result
+    laws_by m g.met.K.Eq.laws g.met.E.Eviction.lawful (hashes_of s) equal (core_of s) new sound
+    (one_of (core_of s) e) c.give_back.result option_to_list
+    (gives_at (core_of s) _ e (over (RecordsStay (one e.id)) y
+    (given_back_stays (meaning_of x) (state_of x) e.id (λ leave. e.number ≡ (state_of x).number) c.give_back.result
+    (state_of y) c.give_back.ensures.taken c.give_back.ensures.err)))
+    (match_so c.give_back.result
     (λ leave. (e.number ≡ (state_of x).number) × GivesBack (meaning_of x) (state_of x) e.id leave (state_of y))
     (state_of y ≡ state_of x)
     (λ leave. IsTold m.same (hashes_of s) (core_of s) (option_to_list leave) new)
@@ -118,7 +99,7 @@ returns-clause-told g c =
     (λ leave given. give_back_told m g.met.K.Eq.laws g.met.E.Eviction.lawful (hashes_of s) equal (core_of s) new sound
     e.id e.kept.hash leave (over (λ a b. GivesBack (meaning_of x) a e.id leave b) y given.1))
     (λ stays. nothing_told m g.met.K.Eq.laws g.met.E.Eviction.lawful (hashes_of s) equal (core_of s) new sound
-    (same y stays))
+    (same y stays)))
 
 pub returns-clause-fetches : goal.returns-clause-fetches
 returns-clause-fetches g c =

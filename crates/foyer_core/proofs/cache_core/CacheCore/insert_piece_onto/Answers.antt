@@ -21,8 +21,8 @@ use Rattle.foyer_core.proofs.PieceTold.{piece_here, returning_at, under_at}
 use Rattle.foyer_core.proofs.Sound.{core_sound}
 use Rattle.foyer_core.proofs.cache_core.CacheCore.insert_piece_onto.Goals as goal
 
-pub invariant_of-self-clause-belong : goal.invariant_of-self-clause-belong
-invariant_of-self-clause-belong g c =
+pub invariant_of-self-clause-whole : goal.invariant_of-self-clause-whole
+invariant_of-self-clause-whole g c =
     let s = c.args.self.now in
     let x = c.index_mut.result.now in
     let y = c.emplace_piece-made.new.self in
@@ -38,57 +38,32 @@ invariant_of-self-clause-belong g c =
     let laws = g.met.K.Eq.laws in
     let good = g.met.E.Eviction.lawful in
     let recs = records_over (hashes_of s) state_of s.shards.items n place x s.shards.ok.0
-    c.shard_index-place.ensures.within c.index_mut.ensures.value s.belong s.hashed in
+    c.shard_index-place.ensures.within c.index_mut.ensures.value s.whole.belong s.whole.hashed in
     let went = rw is at c.emplace_piece-made.ensures.inserted in
     let weight = c.weight_under-weight.result in
     let answer = insertion_onto c.emplace_piece-made.result went.more in
     let more = 1 + waiting_for (opens_of x) (coming_under (state_of x) hash piece) in
-    placed_over state_of s.shards.items n place x s.shards.ok.0 c.shard_index-place.ensures.within
-    c.index_mut.ensures.value y
-    (piece_from (λ d. d.hash % n ≡ place) m (state_of x) (state_of y) hash piece (λ w. w ≡ weight)
-    (λ known. (returning_at m laws good (hashes_of s) equal n place (state_of x) recs piece more (sym at) known).0)
-    (λ w. sym at) more answer went.so) s.belong
-
-pub invariant_of-self-clause-hashed : goal.invariant_of-self-clause-hashed
-invariant_of-self-clause-hashed g c =
-    let s = c.args.self.now in
-    let x = c.index_mut.result.now in
-    let y = c.emplace_piece-made.new.self in
-    let m = meaning_of_core s in
-    let n = vec_len s.shards in
-    let place = c.shard_index-place.result in
-    let piece = c.args.piece in
-    let hash = hashes_of s piece.kept.key in
-    let is : c.hash-hash.result ≡ hash = c.hash-hash.ensures.hash ∙ ap (hashes_of s) c.key.ensures in
-    let at : place ≡ hash % n = c.shard_index-place.ensures.index ∙ ap (λ (h : ℕ). h % n) is in
-    let equal : (a b : g.row.K.Denot) → g.K.PartialEq.eq a b ≡ true → hashes_of s a ≡ hashes_of s b =
-    λ a b same. ap (g.S.HashBuilder.hash_of s.hash_builder) (g.met.K.Hash.respects_eq a b same) in
-    let laws = g.met.K.Eq.laws in
-    let good = g.met.E.Eviction.lawful in
-    let recs = records_over (hashes_of s) state_of s.shards.items n place x s.shards.ok.0
-    c.shard_index-place.ensures.within c.index_mut.ensures.value s.belong s.hashed in
-    let went = rw is at c.emplace_piece-made.ensures.inserted in
-    let weight = c.weight_under-weight.result in
-    let answer = insertion_onto c.emplace_piece-made.result went.more in
-    let more = 1 + waiting_for (opens_of x) (coming_under (state_of x) hash piece) in
-    hashed_over (hashes_of s) state_of s.shards.items n place x s.shards.ok.0 c.shard_index-place.ensures.within
-    c.index_mut.ensures.value y
-    (piece_from (IsHashed (hashes_of s)) m (state_of x) (state_of y) hash piece (λ w. w ≡ weight)
-    (λ known. (returning_at m laws good (hashes_of s) equal n place (state_of x) recs piece more (sym at) known).1)
-    (λ w. refl) more answer went.so) s.hashed
-
-pub invariant_of-self-clause-summed : goal.invariant_of-self-clause-summed
-invariant_of-self-clause-summed g c =
-    let s = c.args.self.now in
     let before = c.of-before in
     let after = c.of-after in
-    sums_set (meaning_of_core s) state_of s.shards.items (vec_len s.shards) c.shard_index-place.result c.index.result.now
-    s.load.usage s.load.entries
-    s.shards.ok.0 (omega (arith, s.shards.ok.1, s.shards.small)) c.shard_index-place.ensures.within c.index.ensures s.summed
-    before.result.usage before.result.entries before.ensures.usage before.ensures.entries
-    c.emplace_piece-made.new.self c.index-2.result.now c.index-2.ensures after.result.usage after.result.entries
-    after.ensures.usage after.ensures.entries after.ensures.small
-    c.replace.new.self.usage c.replace.new.self.entries c.replace.ensures.usage c.replace.ensures.entries
+    record {
+      belong = placed_over state_of s.shards.items n place x s.shards.ok.0 c.shard_index-place.ensures.within
+          c.index_mut.ensures.value y
+          (piece_from (λ d. d.hash % n ≡ place) m (state_of x) (state_of y) hash piece (λ w. w ≡ weight)
+          (λ known. (returning_at m laws good (hashes_of s) equal n place (state_of x) recs piece more (sym at) known).0)
+          (λ w. sym at) more answer went.so) s.whole.belong;
+      hashed = hashed_over (hashes_of s) state_of s.shards.items n place x s.shards.ok.0 c.shard_index-place.ensures.within
+          c.index_mut.ensures.value y
+          (piece_from (IsHashed (hashes_of s)) m (state_of x) (state_of y) hash piece (λ w. w ≡ weight)
+          (λ known. (returning_at m laws good (hashes_of s) equal n place (state_of x) recs piece more (sym at) known).1)
+          (λ w. refl) more answer went.so) s.whole.hashed;
+      summed = sums_set (meaning_of_core s) state_of s.shards.items (vec_len s.shards) c.shard_index-place.result c.index.result.now
+          s.load.usage s.load.entries
+          s.shards.ok.0 (omega (arith, s.shards.ok.1, s.shards.small)) c.shard_index-place.ensures.within c.index.ensures s.whole.summed
+          before.result.usage before.result.entries before.ensures.usage before.ensures.entries
+          c.emplace_piece-made.new.self c.index-2.result.now c.index-2.ensures after.result.usage after.result.entries
+          after.ensures.usage after.ensures.entries after.ensures.small
+          c.replace.new.self.usage c.replace.new.self.entries c.replace.ensures.usage c.replace.ensures.entries;
+    }
 
 pub replace-requires-clause-usage : goal.replace-requires-clause-usage
 replace-requires-clause-usage g c =
@@ -97,7 +72,7 @@ replace-requires-clause-usage g c =
     let after = c.of-after in
     usage_fits (meaning_of_core s) state_of s.shards.items (vec_len s.shards) c.shard_index-place.result c.index.result.now
     s.load.usage s.load.entries
-    s.shards.ok.0 (omega (arith, s.shards.ok.1, s.shards.small)) c.shard_index-place.ensures.within c.index.ensures s.summed
+    s.shards.ok.0 (omega (arith, s.shards.ok.1, s.shards.small)) c.shard_index-place.ensures.within c.index.ensures s.whole.summed
     before.result.usage before.result.entries before.ensures.usage before.ensures.entries
     c.emplace_piece-made.new.self c.index-2.result.now c.index-2.ensures after.result.usage after.result.entries
     after.ensures.usage after.ensures.entries after.ensures.small
@@ -109,7 +84,7 @@ replace-requires-clause-entries g c =
     let after = c.of-after in
     entries_fit (meaning_of_core s) state_of s.shards.items (vec_len s.shards) c.shard_index-place.result c.index.result.now
     s.load.usage s.load.entries
-    s.shards.ok.0 (omega (arith, s.shards.ok.1, s.shards.small)) c.shard_index-place.ensures.within c.index.ensures s.summed
+    s.shards.ok.0 (omega (arith, s.shards.ok.1, s.shards.small)) c.shard_index-place.ensures.within c.index.ensures s.whole.summed
     before.result.usage before.result.entries before.ensures.usage before.ensures.entries
     c.emplace_piece-made.new.self c.index-2.result.now c.index-2.ensures after.result.usage after.result.entries
     after.ensures.usage after.ensures.entries after.ensures.small
@@ -131,7 +106,7 @@ returns g c =
     let laws = g.met.K.Eq.laws in
     let good = g.met.E.Eviction.lawful in
     let recs = records_over (hashes_of s) state_of s.shards.items n place x s.shards.ok.0
-    c.shard_index-place.ensures.within c.index_mut.ensures.value s.belong s.hashed in
+    c.shard_index-place.ensures.within c.index_mut.ensures.value s.whole.belong s.whole.hashed in
     let went = rw is at c.emplace_piece-made.ensures.inserted in
     let weight = c.weight_under-weight.result in
     let answer = insertion_onto c.emplace_piece-made.result went.more in

@@ -22,46 +22,36 @@ use Rattle.foyer_core.proofs.Origins.{belongs_over, emplaced_from}
 use Rattle.foyer_core.proofs.Sound.{core_sound}
 use Rattle.foyer_core.proofs.cache_core.CacheCore.insert_with_properties_onto.Goals as goal
 
-pub invariant_of-self-clause-belong : goal.invariant_of-self-clause-belong
-invariant_of-self-clause-belong g c =
+pub invariant_of-self-clause-whole : goal.invariant_of-self-clause-whole
+invariant_of-self-clause-whole g c =
     let s = c.args.self.now in
     let x = c.index_mut.result.now in
     let y = c.emplace-emplaced.new.self in
     let d = c.data-kept.result in
     let went = c.emplace-emplaced.ensures.inserted in
-    belongs_over state_of s.shards.items c.hash-hash.result (vec_len s.shards) c.shard_index-place.result x s.shards.ok.0
-    c.shard_index-place.ensures.within c.shard_index-place.ensures.index c.index_mut.ensures.value
-    y (emplaced_from (λ e. e.hash ≡ c.hash-hash.result) (meaning_of x) c.emplace-emplaced.result (λ made. went.more)
-    (λ made. made.entry) (λ reason. reason) (λ reason. went.more)
-    Outer (state_of x) d (1 + waiting_for (opens_of x) (key_of d)) (state_of y) went.so c.data-kept.ensures.hash)
-    s.belong
-
-pub invariant_of-self-clause-hashed : goal.invariant_of-self-clause-hashed
-invariant_of-self-clause-hashed g c =
-    let s = c.args.self.now in
-    let x = c.index_mut.result.now in
-    let y = c.emplace-emplaced.new.self in
-    let d = c.data-kept.result in
-    let went = c.emplace-emplaced.ensures.inserted in
-    hashed_over (hashes_of s) state_of s.shards.items
-    (vec_len s.shards) c.shard_index-place.result x s.shards.ok.0 c.shard_index-place.ensures.within c.index_mut.ensures.value
-    y (emplaced_from (IsHashed (hashes_of s)) (meaning_of x) c.emplace-emplaced.result (λ made. went.more)
-    (λ made. made.entry) (λ reason. reason) (λ reason. went.more)
-    Outer (state_of x) d (1 + waiting_for (opens_of x) (key_of d)) (state_of y) went.so
-    (c.data-kept.ensures.hash ∙ c.hash-hash.ensures.hash ∙ ap (hashes_of s) (sym c.data-kept.ensures.key))) s.hashed
-
-pub invariant_of-self-clause-summed : goal.invariant_of-self-clause-summed
-invariant_of-self-clause-summed g c =
-    let s = c.args.self.now in
     let before = c.of-before in
     let after = c.of-after in
-    sums_set (meaning_of_core s) state_of s.shards.items (vec_len s.shards) c.shard_index-place.result c.index.result.now
-    s.load.usage s.load.entries
-    s.shards.ok.0 (omega (arith, s.shards.ok.1, s.shards.small)) c.shard_index-place.ensures.within c.index.ensures s.summed
-    before.result.usage before.result.entries before.ensures.usage before.ensures.entries
-    c.emplace-emplaced.new.self c.index-2.result.now c.index-2.ensures after.result.usage after.result.entries
-    after.ensures.usage after.ensures.entries after.ensures.small
-    c.replace.new.self.usage c.replace.new.self.entries c.replace.ensures.usage c.replace.ensures.entries
+    record {
+      belong = belongs_over state_of s.shards.items c.hash-hash.result (vec_len s.shards) c.shard_index-place.result x s.shards.ok.0
+          c.shard_index-place.ensures.within c.shard_index-place.ensures.index c.index_mut.ensures.value
+          y (emplaced_from (λ e. e.hash ≡ c.hash-hash.result) (meaning_of x) c.emplace-emplaced.result (λ made. went.more)
+          (λ made. made.entry) (λ reason. reason) (λ reason. went.more)
+          Outer (state_of x) d (1 + waiting_for (opens_of x) (key_of d)) (state_of y) went.so c.data-kept.ensures.hash)
+          s.whole.belong;
+      hashed = hashed_over (hashes_of s) state_of s.shards.items
+          (vec_len s.shards) c.shard_index-place.result x s.shards.ok.0 c.shard_index-place.ensures.within c.index_mut.ensures.value
+          y (emplaced_from (IsHashed (hashes_of s)) (meaning_of x) c.emplace-emplaced.result (λ made. went.more)
+          (λ made. made.entry) (λ reason. reason) (λ reason. went.more)
+          Outer (state_of x) d (1 + waiting_for (opens_of x) (key_of d)) (state_of y) went.so
+          (c.data-kept.ensures.hash ∙ c.hash-hash.ensures.hash ∙ ap (hashes_of s) (sym c.data-kept.ensures.key))) s.whole.hashed;
+      summed = sums_set (meaning_of_core s) state_of s.shards.items (vec_len s.shards) c.shard_index-place.result c.index.result.now
+          s.load.usage s.load.entries
+          s.shards.ok.0 (omega (arith, s.shards.ok.1, s.shards.small)) c.shard_index-place.ensures.within c.index.ensures s.whole.summed
+          before.result.usage before.result.entries before.ensures.usage before.ensures.entries
+          c.emplace-emplaced.new.self c.index-2.result.now c.index-2.ensures after.result.usage after.result.entries
+          after.ensures.usage after.ensures.entries after.ensures.small
+          c.replace.new.self.usage c.replace.new.self.entries c.replace.ensures.usage c.replace.ensures.entries;
+    }
 
 pub replace-requires-clause-usage : goal.replace-requires-clause-usage
 replace-requires-clause-usage g c =
@@ -70,7 +60,7 @@ replace-requires-clause-usage g c =
     let after = c.of-after in
     usage_fits (meaning_of_core s) state_of s.shards.items (vec_len s.shards) c.shard_index-place.result c.index.result.now
     s.load.usage s.load.entries
-    s.shards.ok.0 (omega (arith, s.shards.ok.1, s.shards.small)) c.shard_index-place.ensures.within c.index.ensures s.summed
+    s.shards.ok.0 (omega (arith, s.shards.ok.1, s.shards.small)) c.shard_index-place.ensures.within c.index.ensures s.whole.summed
     before.result.usage before.result.entries before.ensures.usage before.ensures.entries
     c.emplace-emplaced.new.self c.index-2.result.now c.index-2.ensures after.result.usage after.result.entries
     after.ensures.usage after.ensures.entries after.ensures.small
@@ -82,7 +72,7 @@ replace-requires-clause-entries g c =
     let after = c.of-after in
     entries_fit (meaning_of_core s) state_of s.shards.items (vec_len s.shards) c.shard_index-place.result c.index.result.now
     s.load.usage s.load.entries
-    s.shards.ok.0 (omega (arith, s.shards.ok.1, s.shards.small)) c.shard_index-place.ensures.within c.index.ensures s.summed
+    s.shards.ok.0 (omega (arith, s.shards.ok.1, s.shards.small)) c.shard_index-place.ensures.within c.index.ensures s.whole.summed
     before.result.usage before.result.entries before.ensures.usage before.ensures.entries
     c.emplace-emplaced.new.self c.index-2.result.now c.index-2.ensures after.result.usage after.result.entries
     after.ensures.usage after.ensures.entries after.ensures.small

@@ -19,7 +19,7 @@ returns-in_err-shard-clause-refused g c =
 pub loop-number-preserved : goal.loop-number-preserved
 loop-number-preserved g c =
     let config = c.args.config.now in
-    let m = meaning g.K.PartialEq.eq g.E.Eviction.model g.P.Properties.hint_of g.P.Properties.phantom_of in
+    let m = meaning g.K.PartialEq.eq g.E.Eviction.model g.P.Properties.hint_of g.P.Properties.phantom_of g.P.Properties.expiry_of in
     let made = c.in_ok-shard.ensures in
     record {
       made = rw (c.push_reserved.ensures.items, c.reserve.ensures.items, map-append)

@@ -9,25 +9,19 @@ use Rattle.foyer_core.proofs.Origins.{configured_belong}
 use Rattle.foyer_core.proofs.TurnLaws.{configured_stay, stays_same}
 use Rattle.foyer_core.proofs.cache_core.CacheCore.reconfigure.Goals as goal
 
-pub invariant_of-self-clause-belong : goal.invariant_of-self-clause-belong
-invariant_of-self-clause-belong g c =
+pub invariant_of-self-clause-whole : goal.invariant_of-self-clause-whole
+invariant_of-self-clause-whole g c =
     let s = c.args.self.now in
-    configured_belong (meaning_of_core s) c.args.config.now (map state_of s.shards.items)
-    (map state_of c.configure_each.new.shards.items) c.configure_each.ensures.configured s.belong
-
-pub invariant_of-self-clause-hashed : goal.invariant_of-self-clause-hashed
-invariant_of-self-clause-hashed g c =
-    let s = c.args.self.now in
-    configured_hashed (hashes_of s) (meaning_of_core s) c.args.config.now (map state_of s.shards.items)
-    (map state_of c.configure_each.new.shards.items) c.configure_each.ensures.configured s.hashed
-
-pub invariant_of-self-clause-summed : goal.invariant_of-self-clause-summed
-invariant_of-self-clause-summed g c =
-    let s = c.args.self.now in
-    configured_sums (meaning_of_core s) g.met.E.Eviction.lawful state_of s.shards.items
-    (map state_of c.configure_each.new.shards.items) (λ x. x.store.sound) c.args.config.now
-    c.configure_each.ensures.configured
-    s.load.usage s.load.entries s.summed
+    record {
+      belong = configured_belong (meaning_of_core s) c.args.config.now (map state_of s.shards.items)
+          (map state_of c.configure_each.new.shards.items) c.configure_each.ensures.configured s.whole.belong;
+      hashed = configured_hashed (hashes_of s) (meaning_of_core s) c.args.config.now (map state_of s.shards.items)
+          (map state_of c.configure_each.new.shards.items) c.configure_each.ensures.configured s.whole.hashed;
+      summed = configured_sums (meaning_of_core s) g.met.E.Eviction.lawful state_of s.shards.items
+          (map state_of c.configure_each.new.shards.items) (λ x. x.store.sound) c.args.config.now
+          c.configure_each.ensures.configured
+          s.load.usage s.load.entries s.whole.summed;
+    }
 
 pub returns-in_err-check-clause-laws : goal.returns-in_err-check-clause-laws
 returns-in_err-check-clause-laws g c =

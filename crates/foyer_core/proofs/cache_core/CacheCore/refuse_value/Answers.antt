@@ -10,29 +10,13 @@ use Rattle.foyer_core.proofs.FetchesOver.{open_over}
 use Rattle.foyer_core.proofs.Zips.{map-write}
 use Rattle.foyer_core.proofs.cache_core.CacheCore.refuse_value.Goals as goal
 
-pub invariant_of-self-clause-belong : goal.invariant_of-self-clause-belong
-invariant_of-self-clause-belong g c =
+pub invariant_of-self-clause-whole : goal.invariant_of-self-clause-whole
+invariant_of-self-clause-whole g c =
     let s = c.args.self.now in
     let same = map-write state_of s.shards.items (vec_len s.shards) c.shard_index-place.result c.index_mut.result.now
     c.refuse_value.new.self s.shards.ok.0 c.shard_index-place.ensures.within c.index_mut.ensures.value
     c.refuse_value.ensures.state in
-    rw same s.belong
-
-pub invariant_of-self-clause-hashed : goal.invariant_of-self-clause-hashed
-invariant_of-self-clause-hashed g c =
-    let s = c.args.self.now in
-    let same = map-write state_of s.shards.items (vec_len s.shards) c.shard_index-place.result c.index_mut.result.now
-    c.refuse_value.new.self s.shards.ok.0 c.shard_index-place.ensures.within c.index_mut.ensures.value
-    c.refuse_value.ensures.state in
-    rw same s.hashed
-
-pub invariant_of-self-clause-summed : goal.invariant_of-self-clause-summed
-invariant_of-self-clause-summed g c =
-    let s = c.args.self.now in
-    let same = map-write state_of s.shards.items (vec_len s.shards) c.shard_index-place.result c.index_mut.result.now
-    c.refuse_value.new.self s.shards.ok.0 c.shard_index-place.ensures.within c.index_mut.ensures.value
-    c.refuse_value.ensures.state in
-    rw same s.summed
+    rw same s.whole
 
 pub returns : goal.returns
 returns g c = record {

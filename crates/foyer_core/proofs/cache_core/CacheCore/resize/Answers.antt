@@ -12,35 +12,27 @@ use Rattle.foyer_core.proofs.Origins.{all_evicted_belong, all_evicted_until_belo
 use Rattle.foyer_core.proofs.Sound.{core_sound}
 use Rattle.foyer_core.proofs.cache_core.CacheCore.resize.Goals as goal
 
-pub invariant_of-self-clause-belong : goal.invariant_of-self-clause-belong
-invariant_of-self-clause-belong g c =
+pub invariant_of-self-clause-whole : goal.invariant_of-self-clause-whole
+invariant_of-self-clause-whole g c =
     let s = c.args.self.now in
     let m = meaning_of_core s in
     let ss = map state_of c.share_out.new.shards.items in
     let done = c.evict_each_to_capacity-done in
     let ts = map state_of done.new.shards.items in
-    told_belong done.result ss ts c.new-evicted.result.items done.new.leaves.items (InTurn (EvictsToCapacity m))
-    (InTurnUntil (EvictsToCapacity m) (EvictingToCapacity m))
-    done.ensures.done done.ensures.refused (λ ls. all_evicted_belong m ss ls ts)
-    (λ ls. all_evicted_until_belong m ss ls ts)
-    (shared_belong m c.args.capacity (map state_of s.shards.items) ss c.share_out.ensures.shares s.belong)
-
-pub invariant_of-self-clause-hashed : goal.invariant_of-self-clause-hashed
-invariant_of-self-clause-hashed g c =
-    let s = c.args.self.now in
     let hash = λ (k : g.row.K.Denot). g.S.HashBuilder.hash_of s.hash_builder (g.K.Hash.hash_input k) in
-    let m = meaning_of_core s in
-    let ss = map state_of c.share_out.new.shards.items in
-    let done = c.evict_each_to_capacity-done in
-    let ts = map state_of done.new.shards.items in
-    told_hashed hash done.result ss ts c.new-evicted.result.items done.new.leaves.items (InTurn (EvictsToCapacity m))
-    (InTurnUntil (EvictsToCapacity m) (EvictingToCapacity m))
-    done.ensures.done done.ensures.refused (λ ls. all_evicted_hashed hash m ss ls ts)
-    (λ ls. all_evicted_until_hashed hash m ss ls ts)
-    (shared_hashed hash m c.args.capacity (map state_of s.shards.items) ss c.share_out.ensures.shares s.hashed)
-
-pub invariant_of-self-clause-summed : goal.invariant_of-self-clause-summed
-invariant_of-self-clause-summed g c = rw c.deref.ensures.value at c.of_all-self.ensures
+    record {
+      belong = told_belong done.result ss ts c.new-evicted.result.items done.new.leaves.items (InTurn (EvictsToCapacity m))
+          (InTurnUntil (EvictsToCapacity m) (EvictingToCapacity m))
+          done.ensures.done done.ensures.refused (λ ls. all_evicted_belong m ss ls ts)
+          (λ ls. all_evicted_until_belong m ss ls ts)
+          (shared_belong m c.args.capacity (map state_of s.shards.items) ss c.share_out.ensures.shares s.whole.belong);
+      hashed = told_hashed hash done.result ss ts c.new-evicted.result.items done.new.leaves.items (InTurn (EvictsToCapacity m))
+          (InTurnUntil (EvictsToCapacity m) (EvictingToCapacity m))
+          done.ensures.done done.ensures.refused (λ ls. all_evicted_hashed hash m ss ls ts)
+          (λ ls. all_evicted_until_hashed hash m ss ls ts)
+          (shared_hashed hash m c.args.capacity (map state_of s.shards.items) ss c.share_out.ensures.shares s.whole.hashed);
+      summed = rw c.deref.ensures.value at c.of_all-self.ensures;
+    }
 
 pub returns-in-Ok : goal.returns-in-Ok
 returns-in-Ok g c =

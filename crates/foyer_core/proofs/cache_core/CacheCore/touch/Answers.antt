@@ -14,35 +14,25 @@ use Rattle.foyer_core.proofs.Sound.{core_sound}
 use Rattle.foyer_core.proofs.Zips.{map-write}
 use Rattle.foyer_core.proofs.cache_core.CacheCore.touch.Goals as goal
 
-pub invariant_of-self-clause-belong : goal.invariant_of-self-clause-belong
-invariant_of-self-clause-belong g c =
+pub invariant_of-self-clause-whole : goal.invariant_of-self-clause-whole
+invariant_of-self-clause-whole g c =
     let s = c.args.self.now in
     let x = c.index_mut.result.now in
     let y = c.touch.new.self in
-    belongs_over state_of s.shards.items c.hash-hash.result (vec_len s.shards) c.shard_index-place.result x s.shards.ok.0
-    c.shard_index-place.ensures.within c.shard_index-place.ensures.index c.index_mut.ensures.value
-    y (touches_from (λ d. d.hash ≡ c.hash-hash.result) (meaning_of x) (state_of x)
-    (c.hash-hash.result, c.args.key.now) c.touch.result (state_of y) c.touch.ensures.touches) s.belong
-
-pub invariant_of-self-clause-hashed : goal.invariant_of-self-clause-hashed
-invariant_of-self-clause-hashed g c =
-    let s = c.args.self.now in
-    let x = c.index_mut.result.now in
-    let y = c.touch.new.self in
-    hashed_over (λ k. g.S.HashBuilder.hash_of s.hash_builder (g.K.Hash.hash_input k)) state_of s.shards.items
-    (vec_len s.shards) c.shard_index-place.result x s.shards.ok.0 c.shard_index-place.ensures.within c.index_mut.ensures.value
-    y (touches_from (IsHashed (λ k. g.S.HashBuilder.hash_of s.hash_builder (g.K.Hash.hash_input k))) (meaning_of x)
-    (state_of x) (c.hash-hash.result, c.args.key.now) c.touch.result (state_of y) c.touch.ensures.touches) s.hashed
-
-pub invariant_of-self-clause-summed : goal.invariant_of-self-clause-summed
-invariant_of-self-clause-summed g c =
-    let s = c.args.self.now in
-    let x = c.index_mut.result.now in
-    let y = c.touch.new.self in
-    sums_same (meaning_of_core s) state_of s.shards.items (vec_len s.shards) c.shard_index-place.result x s.load.usage
-    s.load.entries s.shards.ok.0 c.shard_index-place.ensures.within c.index_mut.ensures.value s.summed
-    y (touches_load (meaning_of_core s) g.met.E.Eviction.lawful (state_of x) (state_of y)
-    (c.hash-hash.result, c.args.key.now) c.touch.result x.store.sound c.touch.ensures.touches)
+    record {
+      belong = belongs_over state_of s.shards.items c.hash-hash.result (vec_len s.shards) c.shard_index-place.result x s.shards.ok.0
+          c.shard_index-place.ensures.within c.shard_index-place.ensures.index c.index_mut.ensures.value
+          y (touches_from (λ d. d.hash ≡ c.hash-hash.result) (meaning_of x) (state_of x)
+          (c.hash-hash.result, c.args.key.now) c.touch.result (state_of y) c.touch.ensures.touches) s.whole.belong;
+      hashed = hashed_over (λ k. g.S.HashBuilder.hash_of s.hash_builder (g.K.Hash.hash_input k)) state_of s.shards.items
+          (vec_len s.shards) c.shard_index-place.result x s.shards.ok.0 c.shard_index-place.ensures.within c.index_mut.ensures.value
+          y (touches_from (IsHashed (λ k. g.S.HashBuilder.hash_of s.hash_builder (g.K.Hash.hash_input k))) (meaning_of x)
+          (state_of x) (c.hash-hash.result, c.args.key.now) c.touch.result (state_of y) c.touch.ensures.touches) s.whole.hashed;
+      summed = sums_same (meaning_of_core s) state_of s.shards.items (vec_len s.shards) c.shard_index-place.result x s.load.usage
+          s.load.entries s.shards.ok.0 c.shard_index-place.ensures.within c.index_mut.ensures.value s.whole.summed
+          y (touches_load (meaning_of_core s) g.met.E.Eviction.lawful (state_of x) (state_of y)
+          (c.hash-hash.result, c.args.key.now) c.touch.result x.store.sound c.touch.ensures.touches);
+    }
 
 pub returns : goal.returns
 returns g c =
@@ -67,9 +57,11 @@ returns g c =
       touches = step;
       fetches = map-write opens_of s.shards.items (vec_len s.shards) c.shard_index-place.result x y s.shards.ok.0
           c.shard_index-place.ensures.within c.index_mut.ensures.value c.touch.ensures.opens;
-      stay = stays_at (core_of s) _ hash
-          (over (RecordsStay nothing) y
-          (touches_stay (meaning_of x) (state_of x) (hash, c.args.key.now) c.touch.result (state_of y) did));
-      told = touch_told m g.met.K.Eq.laws g.met.E.Eviction.lawful (hashes_of s) equal (core_of s) new sound
-          (hash, c.args.key.now) hash c.touch.result step;
+      laws = record {
+        stay = stays_at (core_of s) _ hash
+            (over (RecordsStay nothing) y
+            (touches_stay (meaning_of x) (state_of x) (hash, c.args.key.now) c.touch.result (state_of y) did));
+        told = touch_told m g.met.K.Eq.laws g.met.E.Eviction.lawful (hashes_of s) equal (core_of s) new sound
+            (hash, c.args.key.now) hash c.touch.result step;
+      };
     }

@@ -27,7 +27,7 @@ loop-place-init g c =
 
 pub loop-place-preserved : goal.loop-place-preserved
 loop-place-preserved g c =
-    let m = meaning g.K.PartialEq.eq g.E.Eviction.model g.P.Properties.hint_of g.P.Properties.phantom_of in
+    let m = meaning g.K.PartialEq.eq g.E.Eviction.model g.P.Properties.hint_of g.P.Properties.phantom_of g.P.Properties.expiry_of in
     let ss = map state_of c.args.shards.now.items in
     let now = c.loop-place.shards in
     let lists = c.in_ok-held.held in
@@ -64,6 +64,6 @@ loop-place-preserved g c =
 
 pub returns-clause-done : goal.returns-clause-done
 returns-clause-done g c =
-    let m = meaning g.K.PartialEq.eq g.E.Eviction.model g.P.Properties.hint_of g.P.Properties.phantom_of in
+    let m = meaning g.K.PartialEq.eq g.E.Eviction.model g.P.Properties.hint_of g.P.Properties.phantom_of g.P.Properties.expiry_of in
     over-all state_of (Clears m) c.args.shards.now.items c.loop-place.leaves.items
     (map state_of c.loop-place.shards.items) c.loop-place.place (omega arith) c.loop-place.invariant.begun

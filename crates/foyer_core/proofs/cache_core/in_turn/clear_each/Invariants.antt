@@ -10,7 +10,7 @@ use Rattle.foyer_core.proofs.cache_core.in_turn.clear_each.Given as goal
 abbrev pub invariant-loop-place : goal.invariant-loop-place
 invariant-loop-place g l = record {
   begun : InFirst
-      (Clears (meaning g.K.PartialEq.eq g.E.Eviction.model g.P.Properties.hint_of g.P.Properties.phantom_of)) l.place
+      (Clears (meaning g.K.PartialEq.eq g.E.Eviction.model g.P.Properties.hint_of g.P.Properties.phantom_of g.P.Properties.expiry_of)) l.place
       (map state_of l.fn.shards.items) l.leaves.items (map state_of l.shards.items);
   opens : map opens_of l.shards.items ≡ map opens_of l.fn.shards.items;
   len : vec_len l.shards ≡ vec_len l.fn.shards;

@@ -8,7 +8,7 @@ use Rattle.foyer_core.proofs.cache_core.in_turn.configure_each.Goals as goal
 
 pub loop-place-preserved : goal.loop-place-preserved
 loop-place-preserved g c =
-    let m = meaning g.K.PartialEq.eq g.E.Eviction.model g.P.Properties.hint_of g.P.Properties.phantom_of in
+    let m = meaning g.K.PartialEq.eq g.E.Eviction.model g.P.Properties.hint_of g.P.Properties.phantom_of g.P.Properties.expiry_of in
     let now = c.loop-place.shards in
     let x = c.index_mut.result.now in
     record {
@@ -24,7 +24,7 @@ loop-place-preserved g c =
 
 pub returns-clause-configured : goal.returns-clause-configured
 returns-clause-configured g c =
-    let m = meaning g.K.PartialEq.eq g.E.Eviction.model g.P.Properties.hint_of g.P.Properties.phantom_of in
+    let m = meaning g.K.PartialEq.eq g.E.Eviction.model g.P.Properties.hint_of g.P.Properties.phantom_of g.P.Properties.expiry_of in
     over-configured m state_of c.args.shards.now.items (map state_of c.loop-place.shards.items) c.loop-place.place
     (omega arith) c.args.config.now c.loop-place.invariant.begun
 

@@ -11,7 +11,7 @@ invariant-loop-place g l = record {
   begun : GoesOn l.fn.leaves.items l.leaves.items
       (λ ls. InFirst
       (EvictsUnpinned
-      (meaning g.K.PartialEq.eq g.E.Eviction.model g.P.Properties.hint_of g.P.Properties.phantom_of)) l.place
+      (meaning g.K.PartialEq.eq g.E.Eviction.model g.P.Properties.hint_of g.P.Properties.phantom_of g.P.Properties.expiry_of)) l.place
       (map state_of l.fn.shards.items) ls (map state_of l.shards.items));
   opens : map opens_of l.shards.items ≡ map opens_of l.fn.shards.items;
   len : vec_len l.shards ≡ vec_len l.fn.shards;

@@ -11,7 +11,7 @@ use Rattle.foyer_core.proofs.cache_core.in_turn.evict_each_if.Goals as goal
 
 pub loop-place-init : goal.loop-place-init
 loop-place-init g c =
-    let m = meaning g.K.PartialEq.eq g.E.Eviction.model g.P.Properties.hint_of g.P.Properties.phantom_of in
+    let m = meaning g.K.PartialEq.eq g.E.Eviction.model g.P.Properties.hint_of g.P.Properties.phantom_of g.P.Properties.expiry_of in
     let says = Says g.F.Fn c.args.predicate.now in
     let shards = c.args.shards.now in
     let lists = c.in_ok-picked.picked in
@@ -31,7 +31,7 @@ loop-place-init g c =
 
 pub evict_picked-requires-clause-within : goal.evict_picked-requires-clause-within
 evict_picked-requires-clause-within g c κs within =
-    let m = meaning g.K.PartialEq.eq g.E.Eviction.model g.P.Properties.hint_of g.P.Properties.phantom_of in
+    let m = meaning g.K.PartialEq.eq g.E.Eviction.model g.P.Properties.hint_of g.P.Properties.phantom_of g.P.Properties.expiry_of in
     let says = Says g.F.Fn c.args.predicate.now in
     let now = c.loop-place.shards in
     let lists = c.in_ok-picked.picked in
@@ -47,7 +47,7 @@ evict_picked-requires-clause-within g c κs within =
 
 pub loop-place-preserved : goal.loop-place-preserved
 loop-place-preserved g c =
-    let m = meaning g.K.PartialEq.eq g.E.Eviction.model g.P.Properties.hint_of g.P.Properties.phantom_of in
+    let m = meaning g.K.PartialEq.eq g.E.Eviction.model g.P.Properties.hint_of g.P.Properties.phantom_of g.P.Properties.expiry_of in
     let says = Says g.F.Fn c.args.predicate.now in
     let ss = map state_of c.args.shards.now.items in
     let now = c.loop-place.shards in
@@ -91,7 +91,7 @@ loop-place-preserved g c =
 
 pub returns-clause-done : goal.returns-clause-done
 returns-clause-done g c =
-    let m = meaning g.K.PartialEq.eq g.E.Eviction.model g.P.Properties.hint_of g.P.Properties.phantom_of in
+    let m = meaning g.K.PartialEq.eq g.E.Eviction.model g.P.Properties.hint_of g.P.Properties.phantom_of g.P.Properties.expiry_of in
     let says = Says g.F.Fn c.args.predicate.now in
     over-all state_of (EvictsIf m says) c.args.shards.now.items c.loop-place.leaves.items
     (map state_of c.loop-place.shards.items) c.loop-place.place (omega arith) c.loop-place.invariant.begun

@@ -11,13 +11,13 @@ use Rattle.foyer_core.proofs.cache_core.in_turn.evict_each_if.Given as goal
 abbrev pub invariant-loop-place : goal.invariant-loop-place
 invariant-loop-place g l = record {
   begun : InFirst
-      (EvictsIf (meaning g.K.PartialEq.eq g.E.Eviction.model g.P.Properties.hint_of g.P.Properties.phantom_of)
+      (EvictsIf (meaning g.K.PartialEq.eq g.E.Eviction.model g.P.Properties.hint_of g.P.Properties.phantom_of g.P.Properties.expiry_of)
       (Says g.F.Fn l.predicate)) l.place (map state_of l.fn.shards.items) l.leaves.items
       (map state_of l.shards.items);
   opens : map opens_of l.shards.items ≡ map opens_of l.fn.shards.items;
   len : vec_len l.shards ≡ vec_len l.fn.shards;
   picked : AllZip
-      (λ s list. Picks (meaning g.K.PartialEq.eq g.E.Eviction.model g.P.Properties.hint_of g.P.Properties.phantom_of)
+      (λ s list. Picks (meaning g.K.PartialEq.eq g.E.Eviction.model g.P.Properties.hint_of g.P.Properties.phantom_of g.P.Properties.expiry_of)
       (Says g.F.Fn l.predicate) (state_of s) list.items
       × IsWithin list.items (g.E.Eviction.model.order (g.E.Eviction.view s.store.eviction)))
       (drop l.place l.shards.items) (drop l.place l.picked.items);

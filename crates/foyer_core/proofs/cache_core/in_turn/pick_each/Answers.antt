@@ -8,7 +8,7 @@ use Rattle.foyer_core.proofs.cache_core.in_turn.pick_each.Goals as goal
 
 pub loop-shard-preserved : goal.loop-shard-preserved
 loop-shard-preserved g c =
-    let m = meaning g.K.PartialEq.eq g.E.Eviction.model g.P.Properties.hint_of g.P.Properties.phantom_of in
+    let m = meaning g.K.PartialEq.eq g.E.Eviction.model g.P.Properties.hint_of g.P.Properties.phantom_of g.P.Properties.expiry_of in
     record {
       picked = rw c.push_reserved.ensures.items
           (zip-read

@@ -10,7 +10,7 @@ use Rattle.foyer_core.proofs.cache_core.in_turn.pick_each.Given as goal
 abbrev pub invariant-loop-shard : goal.invariant-loop-shard
 invariant-loop-shard g l = record {
   picked : AllZip
-      (λ s list. Picks (meaning g.K.PartialEq.eq g.E.Eviction.model g.P.Properties.hint_of g.P.Properties.phantom_of)
+      (λ s list. Picks (meaning g.K.PartialEq.eq g.E.Eviction.model g.P.Properties.hint_of g.P.Properties.phantom_of g.P.Properties.expiry_of)
       (Says g.F.Fn l.predicate) (state_of s) list.items
       × IsWithin list.items (g.E.Eviction.model.order (g.E.Eviction.view s.store.eviction)))
       (take l.shard-index l.shards) l.lists.items;

@@ -8,7 +8,7 @@ use Rattle.foyer_core.proofs.cache_core.in_turn.share_out.Goals as goal
 
 pub loop-place-preserved : goal.loop-place-preserved
 loop-place-preserved g c =
-    let m = meaning g.K.PartialEq.eq g.E.Eviction.model g.P.Properties.hint_of g.P.Properties.phantom_of in
+    let m = meaning g.K.PartialEq.eq g.E.Eviction.model g.P.Properties.hint_of g.P.Properties.phantom_of g.P.Properties.expiry_of in
     let now = c.loop-place.shards in
     record {
       begun = updated-over m (λ i s. share_of c.args.capacity c.len-count.result i) None state_of
@@ -24,7 +24,7 @@ loop-place-preserved g c =
 
 pub returns-clause-shares : goal.returns-clause-shares
 returns-clause-shares g c =
-    let m = meaning g.K.PartialEq.eq g.E.Eviction.model g.P.Properties.hint_of g.P.Properties.phantom_of in
+    let m = meaning g.K.PartialEq.eq g.E.Eviction.model g.P.Properties.hint_of g.P.Properties.phantom_of g.P.Properties.expiry_of in
     let old = c.args.shards.now in
     over-shared m state_of old.items (map state_of c.loop-place.shards.items) c.loop-place.place (omega arith)
     c.args.capacity c.len-count.result (omega arith) c.loop-place.invariant.begun

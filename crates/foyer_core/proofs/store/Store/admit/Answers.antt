@@ -310,6 +310,7 @@ overflow_add-self-2 g c =
       weight =
           c.weight-weight.result;
       hint = c.unwrap_or-hint.result;
+      expires = c.expiry-expires.result;
     } in i) ≡ item_of m inc.id inc.kept =
     (rw (
       c.id-id.ensures,
@@ -318,6 +319,8 @@ overflow_add-self-2 g c =
       c.unwrap_or-hint.ensures,
       c.hint.ensures,
       c.properties.ensures,
+      c.expiry-expires.ensures,
+      c.properties-2.ensures,
     ) refl) in
     let done : Admitted m laws lawful (holding s) inc n unled c.requires.out c.give_way-gone.result.1
     (s.usage - c.give_way-gone.result.0) (s.entries - cond (is_some c.give_way-gone.result.1) 1 0)
@@ -384,6 +387,7 @@ invariant_of-self-2 g c =
       weight =
           c.weight-weight.result;
       hint = c.unwrap_or-hint.result;
+      expires = c.expiry-expires.result;
     } in i) ≡ item_of m inc.id inc.kept =
     (rw (
       c.id-id.ensures,
@@ -392,6 +396,8 @@ invariant_of-self-2 g c =
       c.unwrap_or-hint.ensures,
       c.hint.ensures,
       c.properties.ensures,
+      c.expiry-expires.ensures,
+      c.properties-2.ensures,
     ) refl) in
     let done : Admitted m laws lawful (holding s) inc n unled c.requires.out c.give_way-gone.result.1
     (s.usage - c.give_way-gone.result.0) (s.entries - cond (is_some c.give_way-gone.result.1) 1 0)
@@ -462,6 +468,7 @@ returns-clause-admitted g c =
       weight =
           c.weight-weight.result;
       hint = c.unwrap_or-hint.result;
+      expires = c.expiry-expires.result;
     } in i) ≡ item_of m inc.id inc.kept =
     (rw (
       c.id-id.ensures,
@@ -470,6 +477,8 @@ returns-clause-admitted g c =
       c.unwrap_or-hint.ensures,
       c.hint.ensures,
       c.properties.ensures,
+      c.expiry-expires.ensures,
+      c.properties-2.ensures,
     ) refl) in
     let done : Admitted m laws lawful (holding s) inc n unled c.requires.out c.give_way-gone.result.1
     (s.usage - c.give_way-gone.result.0) (s.entries - cond (is_some c.give_way-gone.result.1) 1 0)

@@ -1,4 +1,4 @@
-use Rattle.std.proofs.Common.{◌≡◌, ◌+◌, List, ◌∷◌, ◌++◌, [], length, take, drop, refl, ap, subst, arith}
+use Rattle.std.proofs.Common.{◌≡◌, ◌+◌, List, ◌∷◌, ◌++◌, [], None, length, take, drop, refl, ap, subst, arith}
 use Rattle.std.specs.Prelude.{slice_index_or}
 use Rattle.std.proofs.lemmas.List.{take_more, drop_more, take_all, drop_all}
 use Rattle.foyer_policy.specs.declared.types.Item.{Item}
@@ -28,7 +28,7 @@ take_out-left-requires-after_bounds g c κs within =
     let s = c.args.self.now in
     let m = meaning_of s in
     let k = c.loop-item.item-index in
-    let none : Item = record { id = 0; hash = 0; weight = 0; hint = Normal } in
+    let none : Item = record { id = 0; hash = 0; weight = 0; hint = Normal; expires = None } in
     let i : Item = slice_index_or c.args.picked.now k none in
     let more : drop k c.args.picked.now ≡ i ∷ drop (k + 1) c.args.picked.now =
     drop_more c.args.picked.now k none c.loop-item-test.true in
@@ -41,7 +41,7 @@ take_out-left-requires-after_bounds g c κs within =
 pub push_reserved-requires : goal.push_reserved-requires
 push_reserved-requires g c =
     let k = c.loop-item.item-index in
-    let none : Item = record { id = 0; hash = 0; weight = 0; hint = Normal } in
+    let none : Item = record { id = 0; hash = 0; weight = 0; hint = Normal; expires = None } in
     let i : Item = slice_index_or c.args.picked.now k none in
     let more : drop k c.args.picked.now ≡ i ∷ drop (k + 1) c.args.picked.now =
     drop_more c.args.picked.now k none c.loop-item-test.true in
@@ -55,7 +55,7 @@ loop-item-preserved g c =
     let m = meaning_of s in
     let k = c.loop-item.item-index in
     let ps = c.args.picked.now in
-    let none : Item = record { id = 0; hash = 0; weight = 0; hint = Normal } in
+    let none : Item = record { id = 0; hash = 0; weight = 0; hint = Normal; expires = None } in
     let i : Item = slice_index_or ps k none in
     let more : drop k ps ≡ i ∷ drop (k + 1) ps = drop_more ps k none c.loop-item-test.true in
     let further : take (k + 1) ps ≡ take k ps ++ i ∷ [] = take_more ps k none c.loop-item-test.true in

@@ -1,4 +1,4 @@
-use Rattle.std.proofs.Common.{◌≡◌, ◌+◌, List, ◌∷◌, ◌++◌, [], Some, length, take, drop, refl, sym, ◌∙◌, ap, subst, subst₂, arith}
+use Rattle.std.proofs.Common.{◌≡◌, ◌+◌, List, ◌∷◌, ◌++◌, [], Some, None, length, take, drop, refl, sym, ◌∙◌, ap, subst, subst₂, arith}
 use Rattle.std.specs.Prelude.{Option, IsSomeAnd, true, slice_index_or}
 use Rattle.std.proofs.lemmas.List.{take_more, drop_more, take_all, drop_all}
 use Rattle.foyer_policy.specs.declared.types.Item.{Item}
@@ -18,7 +18,7 @@ use Rattle.foyer_core.proofs.store.Store.leave_all.Goals as goal
 
 pub loop-item-init : goal.loop-item-init
 loop-item-init g c =
-    let m = meaning g.K.PartialEq.eq g.E.Eviction.model g.P.Properties.hint_of g.P.Properties.phantom_of in
+    let m = meaning g.K.PartialEq.eq g.E.Eviction.model g.P.Properties.hint_of g.P.Properties.phantom_of g.P.Properties.expiry_of in
     let is = c.args.items.now in
     record {
       begun = λ o. goes_start c.args.leaves.now.items
@@ -29,10 +29,10 @@ loop-item-init g c =
 
 pub unreachable-requires : goal.unreachable-requires
 unreachable-requires g c =
-    let m = meaning g.K.PartialEq.eq g.E.Eviction.model g.P.Properties.hint_of g.P.Properties.phantom_of in
+    let m = meaning g.K.PartialEq.eq g.E.Eviction.model g.P.Properties.hint_of g.P.Properties.phantom_of g.P.Properties.expiry_of in
     let is = c.args.items.now in
     let k = c.loop-item.item-index in
-    let none : Item = record { id = 0; hash = 0; weight = 0; hint = Normal } in
+    let none : Item = record { id = 0; hash = 0; weight = 0; hint = Normal; expires = None } in
     let i : Item = slice_index_or is k none in
     let more : drop k is ≡ i ∷ drop (k + 1) is = drop_more is k none c.loop-item-test.true in
     let keys = g.I.Finder.view c.loop-item.index in
@@ -47,10 +47,10 @@ unreachable-requires g c =
 
 pub leave_slot-left-requires-after_bounds : goal.leave_slot-left-requires-after_bounds
 leave_slot-left-requires-after_bounds g c κs within =
-    let m = meaning g.K.PartialEq.eq g.E.Eviction.model g.P.Properties.hint_of g.P.Properties.phantom_of in
+    let m = meaning g.K.PartialEq.eq g.E.Eviction.model g.P.Properties.hint_of g.P.Properties.phantom_of g.P.Properties.expiry_of in
     let is = c.args.items.now in
     let k = c.loop-item.item-index in
-    let none : Item = record { id = 0; hash = 0; weight = 0; hint = Normal } in
+    let none : Item = record { id = 0; hash = 0; weight = 0; hint = Normal; expires = None } in
     let i : Item = slice_index_or is k none in
     let more : drop k is ≡ i ∷ drop (k + 1) is = drop_more is k none c.loop-item-test.true in
     let keys = g.I.Finder.view c.loop-item.index in
@@ -70,10 +70,10 @@ leave_slot-left-requires-after_bounds g c κs within =
 
 pub loop-item-preserved : goal.loop-item-preserved
 loop-item-preserved g c =
-    let m = meaning g.K.PartialEq.eq g.E.Eviction.model g.P.Properties.hint_of g.P.Properties.phantom_of in
+    let m = meaning g.K.PartialEq.eq g.E.Eviction.model g.P.Properties.hint_of g.P.Properties.phantom_of g.P.Properties.expiry_of in
     let is = c.args.items.now in
     let k = c.loop-item.item-index in
-    let none : Item = record { id = 0; hash = 0; weight = 0; hint = Normal } in
+    let none : Item = record { id = 0; hash = 0; weight = 0; hint = Normal; expires = None } in
     let i : Item = slice_index_or is k none in
     let more : drop k is ≡ i ∷ drop (k + 1) is = drop_more is k none c.loop-item-test.true in
     let keys = g.I.Finder.view c.loop-item.index in
@@ -109,7 +109,7 @@ loop-item-preserved g c =
 
 pub returns-clause-told : goal.returns-clause-told
 returns-clause-told g c o =
-    let m = meaning g.K.PartialEq.eq g.E.Eviction.model g.P.Properties.hint_of g.P.Properties.phantom_of in
+    let m = meaning g.K.PartialEq.eq g.E.Eviction.model g.P.Properties.hint_of g.P.Properties.phantom_of g.P.Properties.expiry_of in
     let is = c.args.items.now in
     let k = c.loop-item.item-index in
     let keys = g.I.Finder.view c.loop-item.index in

@@ -5,7 +5,7 @@ use Rattle.foyer_core.proofs.store.Store.new.Goals as goal
 
 pub invariant_of-result : goal.invariant_of-result
 invariant_of-result g c =
-    let m = meaning g.K.PartialEq.eq g.E.Eviction.model g.P.Properties.hint_of g.P.Properties.phantom_of in
+    let m = meaning g.K.PartialEq.eq g.E.Eviction.model g.P.Properties.hint_of g.P.Properties.phantom_of g.P.Properties.expiry_of in
     let s = c.in_ok-eviction.eviction in
     let keys = g.I.Finder.view c.args.index in
     let t = c.new-2.result in

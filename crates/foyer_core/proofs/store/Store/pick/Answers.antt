@@ -1,4 +1,4 @@
-use Rattle.std.proofs.Common.{◌≡◌, ◌<◌, ◌≤◌, ◌+◌, List, ◌∷◌, ◌++◌, [], length, take, drop, refl, sym, ◌∙◌, ap, subst, arith, append-nil, vec_len, vec_capacity}
+use Rattle.std.proofs.Common.{◌≡◌, ◌<◌, ◌≤◌, ◌+◌, List, ◌∷◌, ◌++◌, [], None, length, take, drop, refl, sym, ◌∙◌, ap, subst, arith, append-nil, vec_len, vec_capacity}
 use Rattle.std.specs.Prelude.{slice_index_or, if◌then◌else◌}
 use Rattle.std.proofs.lemmas.List.{take_more, drop_more, take_all}
 use Rattle.foyer_policy.specs.Items.{count_of, IsWithin}
@@ -28,7 +28,7 @@ pub says-requires-clause-there : goal.says-requires-clause-there
 says-requires-clause-there g c κs within =
     let is = c.deref-item-items.result.now in
     let k = c.loop-item.item-index in
-    let none : Item = record { id = 0; hash = 0; weight = 0; hint = Normal } in
+    let none : Item = record { id = 0; hash = 0; weight = 0; hint = Normal; expires = None } in
     let i : Item = slice_index_or is k none in
     let more : drop k is ≡ i ∷ drop (k + 1) is = drop_more is k none c.loop-item-test.true in
     let first : 0 < count_of i.id (drop k is) = rw more (counted_first i (drop (k + 1) is)) in
@@ -40,7 +40,7 @@ loop-item-preserved g c =
     let s = c.args.self.now in
     let is = c.deref-item-items.result.now in
     let k = c.loop-item.item-index in
-    let none : Item = record { id = 0; hash = 0; weight = 0; hint = Normal } in
+    let none : Item = record { id = 0; hash = 0; weight = 0; hint = Normal; expires = None } in
     let i : Item = slice_index_or is k none in
     let more : drop k is ≡ i ∷ drop (k + 1) is = drop_more is k none c.loop-item-test.true in
     let further : take (k + 1) is ≡ take k is ++ i ∷ [] = take_more is k none c.loop-item-test.true in

@@ -1,4 +1,4 @@
-use Rattle.std.proofs.Common.{◌≡◌, ◌<◌, ◌+◌, ◌∷◌, ◌++◌, [], length, take, drop, refl, sym, ◌∙◌, ap, subst, arith, inl, inr}
+use Rattle.std.proofs.Common.{◌≡◌, ◌<◌, ◌+◌, ◌∷◌, ◌++◌, [], None, length, take, drop, refl, sym, ◌∙◌, ap, subst, arith, inl, inr}
 use Rattle.std.specs.Prelude.{slice_index_or}
 use Rattle.std.proofs.lemmas.Bool.Decides.{eqb_tells}
 use Rattle.std.proofs.lemmas.List.{take_more, drop_more, take_all}
@@ -23,7 +23,7 @@ pub tell-requires-clause-there : goal.tell-requires-clause-there
 tell-requires-clause-there g c κs within =
     let is = c.args.items.now in
     let k = c.loop-item.item-index in
-    let none : Item = record { id = 0; hash = 0; weight = 0; hint = Normal } in
+    let none : Item = record { id = 0; hash = 0; weight = 0; hint = Normal; expires = None } in
     let i : Item = slice_index_or is k none in
     let more : drop k is ≡ i ∷ drop (k + 1) is = drop_more is k none c.loop-item-test.true in
     let first : 0 < count_of i.id (drop k is) = rw more (counted_first i (drop (k + 1) is)) in
@@ -33,7 +33,7 @@ pub loop-item-preserved : goal.loop-item-preserved
 loop-item-preserved g c =
     let is = c.args.items.now in
     let k = c.loop-item.item-index in
-    let none : Item = record { id = 0; hash = 0; weight = 0; hint = Normal } in
+    let none : Item = record { id = 0; hash = 0; weight = 0; hint = Normal; expires = None } in
     let i : Item = slice_index_or is k none in
     let more : drop k is ≡ i ∷ drop (k + 1) is = drop_more is k none c.loop-item-test.true in
     let further : take (k + 1) is ≡ take k is ++ i ∷ [] = take_more is k none c.loop-item-test.true in

@@ -22,7 +22,7 @@ returns-clause-view c =
     ap (λ x. get_or x 0 []) c.remove.ensures.lists ∙ get_or-map (drop_place c.args.place) ls 0 [] in
     let n : length c.remove.new.self.lists ≡ 1 = ap length c.remove.ensures.lists
     ∙ length-map ls (drop_place c.args.place) ∙ c.remove.ensures.apart.count in
-    rw (← c.self.view_is)
+    rw (← c.self.view_is, c.whole.ensures)
     (remove-view ls c.remove.new.self.lists c.remove.ensures.apart c.args.place c.remove.result
     c.remove.ensures.value d n c.self.invariant)
 
@@ -33,12 +33,12 @@ returns-clause-places c =
     ap (λ x. get_or x 0 []) c.remove.ensures.lists ∙ get_or-map (drop_place c.args.place) ls 0 [] in
     let n : length c.remove.new.self.lists ≡ 1 = ap length c.remove.ensures.lists
     ∙ length-map ls (drop_place c.args.place) ∙ c.remove.ensures.apart.count in
-    rw (← c.self.view_is)
+    rw (← c.self.view_is, c.whole.ensures)
     (remove-places ls c.remove.new.self.lists c.remove.ensures.apart c.args.place c.remove.result
     c.remove.ensures.value d n c.self.invariant)
 
 pub returns-clause-member : goal.returns-clause-member
 returns-clause-member c =
     let ls = c.self.inside.queue.lists in
-    rw (← c.self.view_is)
+    rw (← c.self.view_is, c.whole.ensures)
     (remove-member ls c.remove.ensures.apart c.args.place c.remove.result c.remove.ensures.value c.self.invariant)

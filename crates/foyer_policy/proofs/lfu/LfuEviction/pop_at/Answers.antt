@@ -13,7 +13,7 @@ overflow_sub-self c =
     let p = popped i.lists.lists c.next_list-list.result c.in-Some.found.1 e.apart
     (entry-value _ _ e.entry) in
     (IsLfu-removed (lfu_view (the_view i)) i.lists.lists e.apart c.self.invariant.once p.place c.in-Some.found.1
-    c.next_list-list.result _ _ _ _ c.next_list-list.ensures.within p.there c.self.invariant c.weight_if.ensures
+    c.next_list-list.result _ _ _ _ c.next_list-list.ensures.within p.there c.self.invariant (rw c.whole-item.ensures at c.weight_if.ensures)
     refl).0
 
 pub overflow_sub-self-2 : goal.overflow_sub-self-2
@@ -24,7 +24,7 @@ overflow_sub-self-2 c =
     (entry-value _ _ e.entry) in
     (IsLfu-removed (lfu_view (the_view i)) i.lists.lists e.apart c.self.invariant.once p.place c.in-Some.found.1
     c.next_list-list.result _ _ _ _ c.next_list-list.ensures.within p.there c.self.invariant refl
-    c.weight_if-2.ensures).1
+    (rw c.whole-item.ensures at c.weight_if-2.ensures)).1
 
 pub invariant_of-self-2 : goal.invariant_of-self-2
 invariant_of-self-2 c =
@@ -34,8 +34,8 @@ invariant_of-self-2 c =
     (entry-value _ _ e.entry) in
     let kept =
     (IsLfu-removed (lfu_view (the_view i)) i.lists.lists e.apart c.self.invariant.once p.place c.in-Some.found.1
-    c.next_list-list.result _ _ _ _ c.next_list-list.ensures.within p.there c.self.invariant c.weight_if.ensures
-    c.weight_if-2.ensures).2 in
+    c.next_list-list.result _ _ _ _ c.next_list-list.ensures.within p.there c.self.invariant (rw c.whole-item.ensures at c.weight_if.ensures)
+    (rw c.whole-item.ensures at c.weight_if-2.ensures)).2 in
     rw (e.lists ∙ p.gone) kept
 
 pub returns-clause-places : goal.returns-clause-places
@@ -44,6 +44,6 @@ returns-clause-places c =
     let e = c.in-Some.ensures in
     let p = popped i.lists.lists c.next_list-list.result c.in-Some.found.1 e.apart
     (entry-value _ _ e.entry) in
-    rw (← c.self.view_is, e.lists ∙ p.gone)
+    rw (← c.self.view_is, c.whole-item.ensures, e.lists ∙ p.gone)
     (dropped-places (lfu_view (the_view i)) i.lists.lists e.apart c.self.invariant.once p.place c.in-Some.found.1
     c.next_list-list.result c.next_list-list.ensures.within p.there)

@@ -15,7 +15,7 @@ invariant_of-self c =
     let new = c.settle-self-inside.new.lists.lists in
     let view : view_of (seen b item.hash) new ≡ lfu.push b item =
     pushed-view b i.lists.lists c.push_back_at.new.self.lists new c.args.place item
-    c.push_back_at.ensures.apart c.push_back_at.ensures.lists
+    c.push_back_at.ensures.apart (rw c.of.ensures at c.push_back_at.ensures.lists)
     s.from s.probation (s.others 2 (λ e. omega arith) (λ e. omega arith)) in
     let new_id = subst (λ (l : LfuLists). IsNewIn item.id (lfu.order (lfu_view l))) (sym c.self.view_is)
     c.requires.new_id in

@@ -21,10 +21,10 @@ overflow_sub-self c =
       sketch =
           i.sketch;
     }) in
-    let stands : find_in c.args.place (list_at i.lists.lists c.list_of-list.result) ≡ Some c.remove-item.result =
-    c.list_of-list.ensures.stands ∙ c.remove-item.ensures.value in
-    (IsLfu-removed b i.lists.lists c.remove-item.ensures.apart c.self.invariant.once c.args.place c.remove-item.result
-    c.list_of-list.result _ _ _ _ c.list_of-list.ensures.within stands c.self.invariant c.weight_if.ensures refl).0
+    let stands : find_in c.args.place (list_at i.lists.lists c.list_of-list.result) ≡ Some c.remove.result =
+    c.list_of-list.ensures.stands ∙ c.remove.ensures.value in
+    (IsLfu-removed b i.lists.lists c.remove.ensures.apart c.self.invariant.once c.args.place c.remove.result
+    c.list_of-list.result _ _ _ _ c.list_of-list.ensures.within stands c.self.invariant (rw c.whole-item.ensures at c.weight_if.ensures) refl).0
 
 pub overflow_sub-self-2 : goal.overflow_sub-self-2
 overflow_sub-self-2 c =
@@ -42,11 +42,11 @@ overflow_sub-self-2 c =
       sketch =
           i.sketch;
     }) in
-    let stands : find_in c.args.place (list_at i.lists.lists c.list_of-list.result) ≡ Some c.remove-item.result =
-    c.list_of-list.ensures.stands ∙ c.remove-item.ensures.value in
-    (IsLfu-removed b i.lists.lists c.remove-item.ensures.apart c.self.invariant.once c.args.place c.remove-item.result
+    let stands : find_in c.args.place (list_at i.lists.lists c.list_of-list.result) ≡ Some c.remove.result =
+    c.list_of-list.ensures.stands ∙ c.remove.ensures.value in
+    (IsLfu-removed b i.lists.lists c.remove.ensures.apart c.self.invariant.once c.args.place c.remove.result
     c.list_of-list.result _ _ _ _ c.list_of-list.ensures.within stands c.self.invariant refl
-    c.weight_if-2.ensures).1
+    (rw c.whole-item.ensures at c.weight_if-2.ensures)).1
 
 pub invariant_of-self : goal.invariant_of-self
 invariant_of-self c =
@@ -64,13 +64,13 @@ invariant_of-self c =
       sketch =
           i.sketch;
     }) in
-    let stands : find_in c.args.place (list_at i.lists.lists c.list_of-list.result) ≡ Some c.remove-item.result =
-    c.list_of-list.ensures.stands ∙ c.remove-item.ensures.value in
+    let stands : find_in c.args.place (list_at i.lists.lists c.list_of-list.result) ≡ Some c.remove.result =
+    c.list_of-list.ensures.stands ∙ c.remove.ensures.value in
     let kept =
-    (IsLfu-removed b i.lists.lists c.remove-item.ensures.apart c.self.invariant.once c.args.place
-    c.remove-item.result c.list_of-list.result _ _ _ _ c.list_of-list.ensures.within stands c.self.invariant
-    c.weight_if.ensures c.weight_if-2.ensures).2 in
-    rw c.remove-item.ensures.lists kept
+    (IsLfu-removed b i.lists.lists c.remove.ensures.apart c.self.invariant.once c.args.place
+    c.remove.result c.list_of-list.result _ _ _ _ c.list_of-list.ensures.within stands c.self.invariant
+    (rw c.whole-item.ensures at c.weight_if.ensures) (rw c.whole-item.ensures at c.weight_if-2.ensures)).2 in
+    rw c.remove.ensures.lists kept
 
 pub returns-clause-view : goal.returns-clause-view
 returns-clause-view c =
@@ -88,12 +88,13 @@ returns-clause-view c =
       sketch =
           i.sketch;
     }) in
-    let stands : find_in c.args.place (list_at i.lists.lists c.list_of-list.result) ≡ Some c.remove-item.result =
-    c.list_of-list.ensures.stands ∙ c.remove-item.ensures.value in
-    let view = removed-view b i.lists.lists c.remove-item.ensures.apart c.self.invariant.once c.args.place
-    c.remove-item.result c.list_of-list.result c.list_of-list.ensures.within stands in
-    ap (view_of b) c.remove-item.ensures.lists ∙ view
-    ∙ ap (λ (l : LfuLists). lfu.remove (lfu_view l) c.remove-item.result.id) c.self.view_is
+    let stands : find_in c.args.place (list_at i.lists.lists c.list_of-list.result) ≡ Some c.remove.result =
+    c.list_of-list.ensures.stands ∙ c.remove.ensures.value in
+    let view = removed-view b i.lists.lists c.remove.ensures.apart c.self.invariant.once c.args.place
+    c.remove.result c.list_of-list.result c.list_of-list.ensures.within stands in
+    rw c.whole-item.ensures
+    (ap (view_of b) c.remove.ensures.lists ∙ view
+    ∙ ap (λ (l : LfuLists). lfu.remove (lfu_view l) c.remove.result.id) c.self.view_is)
 
 pub returns-clause-member : goal.returns-clause-member
 returns-clause-member c =
@@ -111,10 +112,10 @@ returns-clause-member c =
       sketch =
           i.sketch;
     }) in
-    let stands : find_in c.args.place (list_at i.lists.lists c.list_of-list.result) ≡ Some c.remove-item.result =
-    c.list_of-list.ensures.stands ∙ c.remove-item.ensures.value in
-    rw (← c.self.view_is)
-    (in_all b i.lists.lists c.remove-item.ensures.apart c.self.invariant.once c.args.place c.remove-item.result
+    let stands : find_in c.args.place (list_at i.lists.lists c.list_of-list.result) ≡ Some c.remove.result =
+    c.list_of-list.ensures.stands ∙ c.remove.ensures.value in
+    rw (← c.self.view_is, c.whole-item.ensures)
+    (in_all b i.lists.lists c.remove.ensures.apart c.self.invariant.once c.args.place c.remove.result
     c.list_of-list.result c.list_of-list.ensures.within stands)
 
 pub returns-clause-places : goal.returns-clause-places
@@ -133,8 +134,8 @@ returns-clause-places c =
       sketch =
           i.sketch;
     }) in
-    let stands : find_in c.args.place (list_at i.lists.lists c.list_of-list.result) ≡ Some c.remove-item.result =
-    c.list_of-list.ensures.stands ∙ c.remove-item.ensures.value in
-    rw (← c.self.view_is, c.remove-item.ensures.lists)
-    (dropped-places b i.lists.lists c.remove-item.ensures.apart c.self.invariant.once c.args.place
-    c.remove-item.result c.list_of-list.result c.list_of-list.ensures.within stands)
+    let stands : find_in c.args.place (list_at i.lists.lists c.list_of-list.result) ≡ Some c.remove.result =
+    c.list_of-list.ensures.stands ∙ c.remove.ensures.value in
+    rw (← c.self.view_is, c.remove.ensures.lists, c.whole-item.ensures)
+    (dropped-places b i.lists.lists c.remove.ensures.apart c.self.invariant.once c.args.place
+    c.remove.result c.list_of-list.result c.list_of-list.ensures.within stands)

@@ -6,6 +6,7 @@ use Rattle.foyer_policy.proofs.lfu.segments.first_hash.Goals as goal
 
 pub returns : goal.returns
 returns c =
-    sym (ap (option_map (λ (i : Item). i.hash))
+    rw c.whole.ensures
+    (sym (ap (option_map (λ (i : Item). i.hash))
     (first-value c.args.lists.now.lists c.front.ensures.apart c.args.list c.in_ok-place.place
-    c.in_ok-place.ensures.place c.get.result.now c.get.ensures.value))
+    c.in_ok-place.ensures.place c.get.result.now c.get.ensures.value)))

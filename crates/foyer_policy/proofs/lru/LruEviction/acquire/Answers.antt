@@ -17,13 +17,15 @@ overflow_add-self c =
     let n : Node = c.get.result.now in
     let less = fits_pinned i.lists.lists i.limit i.ratio i.high_weight i.pinned_weight c.self.invariant
     c.get.ensures.apart c.args.place n c.get.ensures.value c.if-state.false in
-    search rules
+    rw c.whole-item.ensures
+    (search rules)
 
 pub overflow_sub-self : goal.overflow_sub-self
 overflow_sub-self c =
     let i = c.self.inside in
-    high_weighs i.lists.lists i.limit i.ratio i.high_weight i.pinned_weight c.self.invariant
-    c.get.ensures.apart c.args.place c.get.result.now c.get.ensures.value c.if-state.false c.if-state-2.true
+    rw c.whole-item.ensures
+    (high_weighs i.lists.lists i.limit i.ratio i.high_weight i.pinned_weight c.self.invariant
+    c.get.ensures.apart c.args.place c.get.result.now c.get.ensures.value c.if-state.false c.if-state-2.true)
 
 pub invariant_of-self : goal.invariant_of-self
 invariant_of-self c =
@@ -33,20 +35,22 @@ invariant_of-self c =
     c.get.ensures.apart c.args.place n c.get.ensures.value c.if-state.false c.if-state-2.true in
     let sum : i.high_weight - n.item.weight + cond n.state.high n.item.weight 0 ≡ i.high_weight =
     rw c.if-state-2.true (omega arith) in
-    acquired_is i.lists.lists i.limit i.ratio i.high_weight i.pinned_weight c.self.invariant
+    rw c.whole-item.ensures
+    (acquired_is i.lists.lists i.limit i.ratio i.high_weight i.pinned_weight c.self.invariant
     c.get.ensures.apart c.args.place n c.get.ensures.value c.if-state.false
     c.relist.new.lists.lists (c.relist.ensures.lists n c.get.ensures.value)
-    (i.high_weight - n.item.weight) (i.pinned_weight + n.item.weight) sum refl
+    (i.high_weight - n.item.weight) (i.pinned_weight + n.item.weight) sum refl)
 
 pub invariant_of-self-else-state-2 : goal.invariant_of-self-else-state-2
 invariant_of-self-else-state-2 c =
     let i = c.self.inside in
     let n : Node = c.get.result.now in
     let sum : i.high_weight + cond n.state.high n.item.weight 0 ≡ i.high_weight = rw c.if-state-2.false (omega arith) in
-    acquired_is i.lists.lists i.limit i.ratio i.high_weight i.pinned_weight c.self.invariant
+    rw c.whole-item.ensures
+    (acquired_is i.lists.lists i.limit i.ratio i.high_weight i.pinned_weight c.self.invariant
     c.get.ensures.apart c.args.place n c.get.ensures.value c.if-state.false
     c.relist.new.lists.lists (c.relist.ensures.lists n c.get.ensures.value) i.high_weight
-    (i.pinned_weight + n.item.weight) sum refl
+    (i.pinned_weight + n.item.weight) sum refl)
 
 pub returns-then-state-2-clause-view : goal.returns-then-state-2-clause-view
 returns-then-state-2-clause-view c =

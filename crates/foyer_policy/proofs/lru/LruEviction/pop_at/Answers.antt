@@ -34,7 +34,7 @@ returns-in-Some-clause-places c =
     let n : Node = c.in-Some.found.1 in
     let p = popped_low ls c.pop_front_at.new.self.lists c.pop_front_at.ensures.apart n
     (entry-value _ _ (sym c.in-Some.is ∙ c.pop_front_at.ensures.entry)) c.pop_front_at.ensures.lists in
-    rw (← c.self.view_is)
+    rw (← c.self.view_is, c.whole.ensures)
     (removed_places ls i.limit i.ratio i.high_weight i.pinned_weight c.self.invariant
     c.pop_front_at.ensures.apart p.place n p.found
     c.pop_front_at.new.self.lists p.dropped)
@@ -57,7 +57,7 @@ overflow_sub-self c =
     let less = high_weighs ls i.limit i.ratio i.high_weight i.pinned_weight old
     c.pop_front_at-2.ensures.apart p.place n p.found (ap (λ (s : LruState). s.pinned) is)
     (ap (λ (s : LruState). s.high) is) in
-    less
+    rw c.whole-item.ensures less
 
 pub invariant_of-self-2 : goal.invariant_of-self-2
 invariant_of-self-2 c =
@@ -81,10 +81,11 @@ invariant_of-self-2 c =
     ≡ i.high_weight = rw (ap (λ (s : LruState). s.pinned) is, ap (λ (s : LruState). s.high) is) (omega arith) in
     let pinned : i.pinned_weight + cond n.state.pinned n.item.weight 0 ≡ i.pinned_weight =
     rw (ap (λ (s : LruState). s.pinned) is) (omega arith) in
-    removed_is ls i.limit i.ratio i.high_weight i.pinned_weight old c.pop_front_at-2.ensures.apart p.place n
+    rw c.whole-item.ensures
+    (removed_is ls i.limit i.ratio i.high_weight i.pinned_weight old c.pop_front_at-2.ensures.apart p.place n
     p.found
     c.pop_front_at-2.new.self.lists p.dropped (i.high_weight - n.item.weight) i.pinned_weight
-    high pinned
+    high pinned)
 
 pub returns-clause-places : goal.returns-clause-places
 returns-clause-places c =
@@ -99,7 +100,7 @@ returns-clause-places c =
     (sym same) c.self.invariant in
     let p = popped_high ls c.pop_front_at-2.new.self.lists c.pop_front_at-2.ensures.apart n
     (entry-value _ _ (sym c.in-Some-pop_front_at.is ∙ c.pop_front_at-2.ensures.entry)) c.pop_front_at-2.ensures.lists in
-    rw (← c.self.view_is, ← same)
+    rw (← c.self.view_is, ← same, c.whole-item.ensures)
     (removed_places ls i.limit i.ratio i.high_weight i.pinned_weight old c.pop_front_at-2.ensures.apart
     p.place n p.found
     c.pop_front_at-2.new.self.lists p.dropped)
@@ -113,7 +114,7 @@ returns-in-Some-clause-unpinned c =
     (entry-value _ _ (sym c.in-Some.is ∙ c.pop_front_at.ensures.entry)) c.pop_front_at.ensures.lists in
     let is : n.state ≡ state false false = state_at (λ s. s ≡ state false false) p.place n (list_at ls 0)
     c.self.invariant.tell.low p.there in
-    rw (← c.self.view_is)
+    rw (← c.self.view_is, c.whole.ensures)
     (unpinned-new ls i.limit i.ratio c.self.invariant.once c.pop_front_at.ensures.apart p.place n
     c.self.invariant.tell p.found (ap (λ (s : LruState). s.pinned) is))
 
@@ -132,6 +133,6 @@ returns-clause-unpinned c =
     (entry-value _ _ (sym c.in-Some-pop_front_at.is ∙ c.pop_front_at-2.ensures.entry)) c.pop_front_at-2.ensures.lists in
     let is : n.state ≡ state true false = state_at (λ s. s ≡ state true false) p.place n (list_at ls 1) old.tell.high
     p.there in
-    rw (← c.self.view_is, ← same)
+    rw (← c.self.view_is, ← same, c.whole-item.ensures)
     (unpinned-new ls i.limit i.ratio old.once c.pop_front_at-2.ensures.apart p.place n old.tell p.found
     (ap (λ (s : LruState). s.pinned) is))

@@ -25,8 +25,9 @@ pub overflow_sub-self : goal.overflow_sub-self
 overflow_sub-self c =
     let i = c.self.inside in
     let n : Node = c.get.result.now in
-    pinned_weighs i.lists.lists i.limit i.ratio i.high_weight i.pinned_weight c.self.invariant
-    c.get.ensures.apart c.args.place n c.get.ensures.value (is_on n.state.pinned c.if-not-state.false)
+    rw c.whole-item.ensures
+    (pinned_weighs i.lists.lists i.limit i.ratio i.high_weight i.pinned_weight c.self.invariant
+    c.get.ensures.apart c.args.place n c.get.ensures.value (is_on n.state.pinned c.if-not-state.false))
 
 pub invariant_of-self : goal.invariant_of-self
 invariant_of-self c =
@@ -35,11 +36,12 @@ invariant_of-self c =
     let w = pinned_weighs i.lists.lists i.limit i.ratio i.high_weight i.pinned_weight c.self.invariant
     c.get.ensures.apart c.args.place n c.get.ensures.value (is_on n.state.pinned c.if-not-state.false) in
     let less : i.pinned_weight - n.item.weight + n.item.weight ≡ i.pinned_weight = omega arith in
-    released_to_low_is i.lists.lists i.limit i.ratio i.high_weight i.pinned_weight c.self.invariant
+    rw c.whole-item.ensures
+    (released_to_low_is i.lists.lists i.limit i.ratio i.high_weight i.pinned_weight c.self.invariant
     c.get.ensures.apart c.args.place n c.get.ensures.value (is_on n.state.pinned c.if-not-state.false)
     (is_off n.state.high c.if-not-state-2.true)
     c.relist.new.lists.lists (c.relist.ensures.lists n c.get.ensures.value)
-    (i.pinned_weight - n.item.weight) less
+    (i.pinned_weight - n.item.weight) less)
 
 pub returns-then-not-state-2-clause-view : goal.returns-then-not-state-2-clause-view
 returns-then-not-state-2-clause-view c =
@@ -60,16 +62,18 @@ overflow_add-weight c =
     let all = weights i.lists.lists i.limit i.ratio i.high_weight i.pinned_weight c.self.invariant
     c.get.ensures.apart c.args.place n c.get.ensures.value in
     let fits : i.high_weight + n.item.weight < 2 ^ 64 = omega arith in
-    search rules
+    rw c.whole-item.ensures
+    (search rules)
 
 pub settle-self-inside-requires : goal.settle-self-inside-requires
 settle-self-inside-requires c =
     let i = c.self.inside in
     let n : Node = c.get.result.now in
-    released_weight i.lists.lists i.limit i.ratio i.high_weight i.pinned_weight c.self.invariant
+    rw c.whole-item.ensures
+    (released_weight i.lists.lists i.limit i.ratio i.high_weight i.pinned_weight c.self.invariant
     c.get.ensures.apart c.args.place n c.get.ensures.value (is_on n.state.pinned c.if-not-state.false)
     (is_on n.state.high c.if-not-state-2.false)
-    c.relist-2.new.lists.lists (c.relist-2.ensures.lists n c.get.ensures.value)
+    c.relist-2.new.lists.lists (c.relist-2.ensures.lists n c.get.ensures.value))
 
 pub invariant_of-self-2 : goal.invariant_of-self-2
 invariant_of-self-2 c =
@@ -78,12 +82,13 @@ invariant_of-self-2 c =
     let w = pinned_weighs i.lists.lists i.limit i.ratio i.high_weight i.pinned_weight c.self.invariant
     c.get.ensures.apart c.args.place n c.get.ensures.value (is_on n.state.pinned c.if-not-state.false) in
     let less : i.pinned_weight - n.item.weight + n.item.weight ≡ i.pinned_weight = omega arith in
-    released_to_high_is i.lists.lists i.limit i.ratio i.high_weight i.pinned_weight c.self.invariant
+    rw c.whole-item.ensures
+    (released_to_high_is i.lists.lists i.limit i.ratio i.high_weight i.pinned_weight c.self.invariant
     c.get.ensures.apart c.args.place n c.get.ensures.value (is_on n.state.pinned c.if-not-state.false)
     (is_on n.state.high c.if-not-state-2.false)
     c.relist-2.new.lists.lists (c.relist-2.ensures.lists n c.get.ensures.value) c.settle-self-inside.new.lists.lists c.settle-self-inside.ensures.low c.settle-self-inside.ensures.high
     c.settle-self-inside.ensures.pin
-    c.settle-self-inside.result (i.pinned_weight - n.item.weight) c.settle-self-inside.ensures.weight less
+    c.settle-self-inside.result (i.pinned_weight - n.item.weight) c.settle-self-inside.ensures.weight less)
 
 pub returns-clause-view : goal.returns-clause-view
 returns-clause-view c =

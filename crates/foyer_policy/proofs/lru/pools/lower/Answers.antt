@@ -3,6 +3,7 @@ use Rattle.std.specs.Prelude.{option_map}
 use Rattle.foyer_policy.specs.Lists.{list_at}
 use Rattle.foyer_policy.specs.LruLists.{state}
 use Rattle.foyer_policy.specs.declared.queued.Queued.{Queued}
+use Rattle.foyer_policy.specs.declared.types.Item.{Item}
 use Rattle.foyer_policy.specs.declared.lru.LruState.{LruState}
 use Rattle.foyer_policy.proofs.QueuedLemmas.{item_of, queued-write}
 use Rattle.foyer_policy.proofs.PoolLemmas.{node_is, lowers}
@@ -10,7 +11,8 @@ use Rattle.foyer_policy.proofs.lru.pools.lower.Goals as goal
 
 pub returns-clause-weight : goal.returns-clause-weight
 returns-clause-weight c = λ e es h.
-    ap (λ (n : Queued LruState). n.item.weight)
+    ap (λ (i : Item). i.weight) c.whole-weight.ensures
+    ∙ ap (λ (n : Queued LruState). n.item.weight)
     (node_is c.args.lists.now.lists c.front.ensures.apart c.in-Some.place c.get_mut-node.result.now e es
     c.in-Some.ensures.place c.get_mut-node.ensures.value h)
 

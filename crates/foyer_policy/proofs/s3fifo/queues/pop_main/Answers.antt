@@ -42,20 +42,22 @@ returns-clause-places c = λ q.
 
 pub overflow_sub-weight : goal.overflow_sub-weight
 overflow_sub-weight c =
-    omega (
+    rw c.whole.ensures
+    (omega (
       arith,
       c.requires.weight,
       ap (λ (l : List Entry). weight_of (items l)) c.in_default.ensures.takes.2,
       popped-weight c.take_main.new.queues.lists c.pop_front_at.new.self.lists c.in_ok-found.found
           c.pop_front_at.ensures.apart c.in_ok-found.ensures.entry c.pop_front_at.ensures.lists,
-    )
+    ))
 
 pub returns-clause-weight : goal.returns-clause-weight
 returns-clause-weight c =
-    omega (
+    rw c.whole.ensures
+    (omega (
       arith,
       c.requires.weight,
       ap (λ (l : List Entry). weight_of (items l)) c.in_default.ensures.takes.2,
       popped-weight c.take_main.new.queues.lists c.pop_front_at.new.self.lists c.in_ok-found.found
           c.pop_front_at.ensures.apart c.in_ok-found.ensures.entry c.pop_front_at.ensures.lists,
-    )
+    ))

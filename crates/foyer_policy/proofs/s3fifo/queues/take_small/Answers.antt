@@ -63,12 +63,13 @@ returns-then-state-threshold-clause-weight c =
     let head = small-head ls c.get.ensures.apart i.queues p v c.get.ensures.value f in
     let out = ap (λ l. small_of l) c.remove.ensures.lists
     ∙ out-small ls c.get.ensures.apart i.queues p v c.get.ensures.value f in
-    omega (
+    rw c.whole.ensures
+    (omega (
       arith,
       i.weight,
       weight-head (small_of ls) (entry (p, v)) (entries f.back) head,
       ap (λ l. weight_of (items l)) out,
-    )
+    ))
 
 pub loop-front-preserved : goal.loop-front-preserved
 loop-front-preserved c =
@@ -108,12 +109,13 @@ loop-front-preserved c =
       queues = rw is (promote-queues ls sound i.queues p v c.get.ensures.value f w item frequency refl);
       placed = λ q. ap (option_map item_of) (c.move_back.ensures.places q)
           ∙ write-places ls sound i.queues p v c.get.ensures.value w item q ∙ i.placed q;
-      weight = omega (
-        arith,
-        i.weight,
-        weight-head (small_of ls) (entry (p, v)) (entries f.back) head,
-        ap (λ l. weight_of (items l)) small,
-      );
+      weight = rw c.whole.ensures
+          (omega (
+            arith,
+            i.weight,
+            weight-head (small_of ls) (entry (p, v)) (entries f.back) head,
+            ap (λ l. weight_of (items l)) small,
+          ));
       room = c.move_back.ensures.room ∙ i.room;
       span = c.move_back.ensures.span ∙ i.span;
     }

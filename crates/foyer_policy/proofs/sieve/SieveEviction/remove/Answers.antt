@@ -15,7 +15,7 @@ invariant_of-self c =
     }
 
 pub returns-clause-member : goal.returns-clause-member
-returns-clause-member c = rw (← c.self.view_is)
+returns-clause-member c = rw (← c.self.view_is, c.whole.ensures)
     (out-member c.self.inside.queue.lists c.remove.ensures.apart c.self.invariant.once c.args.place c.remove.result
     c.remove.ensures.value)
 
@@ -24,7 +24,7 @@ returns-clause-view c =
     let ls = c.self.inside.queue.lists in
     let sound = c.remove.ensures.apart in
     let once = c.self.invariant.once in
-    rw (← c.self.view_is) (same_view _ _ _ _
+    rw (← c.self.view_is, c.whole.ensures) (same_view _ _ _ _
     (ap (λ l. entries (list_at l 0)) c.remove.ensures.lists
     ∙ out-queue ls sound once c.args.place c.remove.result c.remove.ensures.value)
     (ap (λ l. hand_id l c.hand_beside-self-inside.result) c.remove.ensures.lists
@@ -33,6 +33,6 @@ returns-clause-view c =
     c.self.invariant.there))
 
 pub returns-clause-places : goal.returns-clause-places
-returns-clause-places c = rw (← c.self.view_is) (λ q. ap (λ l. item_at l q) c.remove.ensures.lists
+returns-clause-places c = rw (← c.self.view_is, c.whole.ensures) (λ q. ap (λ l. item_at l q) c.remove.ensures.lists
     ∙ out-places c.self.inside.queue.lists c.remove.ensures.apart c.self.invariant.once c.args.place c.remove.result
     c.remove.ensures.value q)

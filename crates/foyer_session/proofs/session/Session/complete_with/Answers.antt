@@ -49,10 +49,14 @@ invariant_of-self-clause-owns g c =
     rw c.tell_ended.ensures.handles (∥∥₁_map s.owns (λ o.
     completed_owns m (core_of s.core) (fetches_of s.core) (core_of t) (fetches_of t) k
     (ending_of c.complete_in-ended.result) s.handles.items o
-    (λ x there. s.core.belong (shard_of (core_of s.core) k.0) x there)
+    (λ x there. s.core.whole.belong (shard_of (core_of s.core) k.0) x there)
     (λ x there. ∥∥₁_elim (kept_at s.core k.0 x there) (hlevel props) (λ kept. next_unused m x kept))
-    (hashes_of s.core) (g.W.Weighter.weighs s.core.rules.weighter) (g.A.Filter.admits s.core.rules.filter)
-    (λ properties admitted. coming_in g.P.Properties.location_of g.P.Properties.with_phantom_of admitted properties)
+    record {
+      hash = hashes_of s.core;
+      weighs = g.W.Weighter.weighs s.core.rules.weighter;
+      admits = g.A.Filter.admits s.core.rules.filter;
+      properties = λ p admitted. coming_in g.P.Properties.location_of g.P.Properties.with_phantom_of admitted p;
+    }
     c.args.source c.args.target (asked (Some c.args.fetch) (open_in (fetches_of s.core) k))
     c.complete_in-ended.ensures.completed))
 

@@ -58,7 +58,7 @@ invariant_of-self-clause-owns g c =
     given_owns m (core_of s.core) new s.handles.items o
     (λ a b. InsertsAnswering m Outer a (newcomer a d n) (Ok (made_of made)) b) hash did.inserts made.entry n
     (inserts_gives m (length (core_of s.core).shards) (shard_of (core_of s.core) hash) did.inserts.before
-    did.inserts.after (s.core.belong (shard_of (core_of s.core) hash) did.inserts.before did.inserts.there)
+    did.inserts.after (s.core.whole.belong (shard_of (core_of s.core) hash) did.inserts.before did.inserts.there)
     Outer (newcomer did.inserts.before d n) made.leaves.items made.entry n did.inserts.stepped
     (let none = next_unused m did.inserts.before k in omega (arith, none)) refl))))
 

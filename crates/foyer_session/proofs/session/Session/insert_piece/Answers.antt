@@ -65,7 +65,7 @@ invariant_of-self-clause-owns g c =
     (λ a b. InsertsPiece m weighs hash piece
     (1 + length (waiters_of (open_in (fetches_of s.core) (coming_under a hash piece)))) (Ok (made_of made)) a
     b) hash at made.entry n
-    (piece_gives m (length (core_of s.core).shards) place at.before at.after (s.core.belong place at.before at.there)
+    (piece_gives m (length (core_of s.core).shards) place at.before at.after (s.core.whole.belong place at.before at.there)
     weighs hash piece (made_of made) n at.stepped refl (next_unused m at.before k)))))
 
 pub invariant_of-self-clause-waits : goal.invariant_of-self-clause-waits

@@ -14,6 +14,10 @@ returns-clause-answering g c =
     let k : ℕ × g.row.K.Denot = (hashes_of s c.args.key.now, c.args.key.now) in
     completed_answers (meaning_of_core s) (core_of s) (fetches_of s) (core_of t) (fetches_of t) k
     (ending_of c.complete.result)
-    (hashes_of s) (g.W.Weighter.weighs s.rules.weighter) (g.A.Filter.admits s.rules.filter)
-    (λ properties admitted. coming_in g.P.Properties.location_of g.P.Properties.with_phantom_of admitted properties)
+    record {
+      hash = hashes_of s;
+      weighs = g.W.Weighter.weighs s.rules.weighter;
+      admits = g.A.Filter.admits s.rules.filter;
+      properties = λ p admitted. coming_in g.P.Properties.location_of g.P.Properties.with_phantom_of admitted p;
+    }
     c.args.source c.args.target (asked (Some c.args.fetch) (open_in (fetches_of s) k)) c.complete.ensures.completed

@@ -6,7 +6,7 @@ use Rattle.foyer_core.proofs.cache_core.load.Load.of_all.Goals as goal
 
 pub loop-shard-preserved : goal.loop-shard-preserved
 loop-shard-preserved g c =
-    let m = meaning g.K.PartialEq.eq g.E.Eviction.model g.P.Properties.hint_of g.P.Properties.phantom_of in
+    let m = meaning g.K.PartialEq.eq g.E.Eviction.model g.P.Properties.hint_of g.P.Properties.phantom_of g.P.Properties.expiry_of in
     let sum = c.loop-shard.sum in
     let load = c.of-load in
     let so_far = c.loop-shard.invariant in
@@ -20,6 +20,6 @@ loop-shard-preserved g c =
 
 pub returns : goal.returns
 returns g c =
-    let m = meaning g.K.PartialEq.eq g.E.Eviction.model g.P.Properties.hint_of g.P.Properties.phantom_of in
+    let m = meaning g.K.PartialEq.eq g.E.Eviction.model g.P.Properties.hint_of g.P.Properties.phantom_of g.P.Properties.expiry_of in
     sums_all m state_of c.args.shards.now c.loop-shard.shard-index c.loop-shard.sum.usage c.loop-shard.sum.entries
     (omega (arith, c.loop-shard-test.false)) c.loop-shard.invariant.summed

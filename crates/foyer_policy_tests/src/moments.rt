@@ -1,0 +1,85 @@
+//! What is expired at a moment, and is the first to leave.
+
+use crate::any::defaults;
+use crate::policies::{assert_order, item, push};
+use foyer_policy::{
+    AnyEviction, Eviction, Item, Lru, LruConfig, due_first_is_a_policy, victims_are_closed,
+};
+use std::process::Abort;
+use std::test::Fail;
+
+fn expiring(id: u64, expires: Option<u64>) -> Item {
+    Item {
+        expires,
+        ..item(id)
+    }
+}
+
+// Takes out what is expired at a moment, one by one, as the policy's order has it; answers how many these were.
+fn take_expired<E: Eviction>(rt: &impl Abort, policy: &mut E, now: u64) -> Result<usize, Fail> {
+    let order = policy.order()?;
+    let mut count = 0;
+    for item in order.iter() {
+        if item.expires.is_some_and(|moment| moment <= now) {
+            let Some(place) = policy.expired(now) else {
+                panic!(rt; "{} is expired", item.id)
+            };
+            assert_eq!(rt; policy.item(place), *item);
+            policy.remove(place);
+            count += 1;
+        }
+    }
+    assert_eq!(rt; policy.expired(now), None);
+    Ok(count)
+}
+
+#[test]
+fn what_is_expired_comes_first_in_each_order(rt: HostRuntime) -> Result<(), Fail> {
+    due_first_is_a_policy::<AnyEviction>();
+    victims_are_closed::<AnyEviction>();
+    for config in &defaults() {
+        let mut policy = AnyEviction::new(rt.alloc(), 16, config)?;
+        assert_eq!(rt; policy.expired(u64::MAX), None);
+        let moments = [Some(30), None, Some(10), Some(20), Some(10)];
+        for (id, expires) in moments.iter().enumerate() {
+            push(&mut policy, expiring(id as u64, *expires))?;
+        }
+        assert_eq!(rt; policy.expired(9), None);
+        assert_eq!(rt; take_expired(&rt, &mut policy, 10)?, 2);
+        assert_eq!(rt; take_expired(&rt, &mut policy, 29)?, 1);
+        assert_eq!(rt; take_expired(&rt, &mut policy, 30)?, 1);
+        assert_order(&rt, &policy, &[1])?;
+    }
+    Ok(())
+}
+
+#[test]
+fn what_is_pinned_does_not_leave_when_it_expires(rt: HostRuntime) -> Result<(), Fail> {
+    let mut lru = Lru::new(rt.alloc(), 16, &LruConfig::default())?;
+    let first = push(&mut lru, expiring(0, Some(5)))?;
+    let second = push(&mut lru, expiring(1, Some(7)))?;
+    assert_eq!(rt; lru.expired(7), Some(first));
+    lru.acquire(first);
+    assert_eq!(rt; lru.expired(7), Some(second));
+    lru.acquire(second);
+    assert_eq!(rt; lru.expired(7), None);
+    lru.release(first);
+    assert_eq!(rt; lru.expired(7), Some(first));
+    Ok(())
+}
+
+#[test]
+fn the_first_and_the_last_moment_are_moments(rt: HostRuntime) -> Result<(), Fail> {
+    for config in &defaults() {
+        let mut policy = AnyEviction::new(rt.alloc(), 16, config)?;
+        push(&mut policy, expiring(0, None))?;
+        let last = push(&mut policy, expiring(1, Some(u64::MAX)))?;
+        assert_eq!(rt; policy.expired(u64::MAX - 1), None);
+        assert_eq!(rt; policy.expired(u64::MAX), Some(last));
+        let first = push(&mut policy, expiring(2, Some(0)))?;
+        assert_eq!(rt; policy.expired(0), Some(first));
+        assert_eq!(rt; policy.remove(first), expiring(2, Some(0)));
+        assert_eq!(rt; policy.expired(0), None);
+    }
+    Ok(())
+}
