@@ -64,7 +64,7 @@ pub trait Properties: Default + Drop + 'static {
         self
     }
 
-    /// When the record expires: from that moment on it is the first to leave.
+    /// When the record expires, or none: its item says the same (`Item::expires`). No cache looks at it yet.
     fn expiry(&self) -> Option<u64>
         ensures { result ≡ expiry_of self.now };
 

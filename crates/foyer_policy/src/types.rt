@@ -81,7 +81,7 @@ pub struct Item {
     pub weight: usize,
     /// The hint that came with the record.
     pub hint: Hint,
-    /// When the record expires, or none. From that moment on it is the first to leave.
+    /// When the record expires, or none. From that moment on `Eviction::expired` may name it.
     pub expires: Option<u64>,
 }
 
