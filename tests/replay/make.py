@@ -42,7 +42,7 @@ KINDS_WITH_FETCHES = {
 }
 # How many scripts there are for each policy, of which kinds of lines, and in how many parts each is made.
 SETS = ((12, KINDS, 4), (4, KINDS_WITH_FETCHES, 24))
-STRANGE = ("", "  ", "insert 1", "get x", "clear 1", "steal 1", "get 18446744073709551616", "insert 1 2 3 4")
+STRANGE = ("", "  ", "insert 1", "get x", "clear 1", "steal 1", "get 18446744073709551616", "insert 1 2 3 4 5")
 
 
 def answers(oracle, policy, capacity, shards, lines):

@@ -1,5 +1,5 @@
 -- Who waits for a fetch that ends with a value gets an entry of that value.
-use Rattle.std.proofs.Common.{◌≡◌, ℕ, Bool, true, false, List, Option, Some, None, Result, Ok, sym, ap, subst, arith}
+use Rattle.std.proofs.Common.{◌≡◌, ℕ, Bool, true, false, List, Option, Some, None, Result, Ok, sym, ◌∙◌, ap, subst, arith}
 use Rattle.std.specs.Prelude.{All, IfOk}
 use Rattle.std.proofs.lemmas.List.Elements.{All-replicate}
 use Rattle.foyer_policy.specs.declared.error.Reason.{Reason}
@@ -13,18 +13,24 @@ use Rattle.foyer_core.specs.CoreFetches.{Completed}
 use Rattle.foyer_core.specs.Fetching.{Arrives}
 use Rattle.foyer_core.specs.Inflight.{Opens, OpenFetch}
 use Rattle.foyer_core.specs.Rules.{Rules}
-use Rattle.foyer_core.specs.State.{Meaning, State, is_phantom_record}
-use Rattle.foyer_core.specs.Steps.{InsertsBy}
-use Rattle.foyer_core.specs.Values.{Gone, Held, Incoming}
+use Rattle.foyer_policy.specs.Moments.{is_expired}
+use Rattle.foyer_core.specs.State.{Meaning, State, coming_in, is_phantom_record}
+use Rattle.foyer_core.specs.Steps.{Inserts, InsertsBy}
+use Rattle.foyer_core.specs.declared.record.Data.{Data}
+use Rattle.foyer_core.specs.Values.{Answered, Gone, Held, Incoming}
 use Rattle.foyer_core.specs.Waited.{Ending, got_of, handed_out}
 
 module _ {K V P View C : Type 0} (m : Meaning K P View C) where
-  -- an insert's entry has the value that came in
-  entry_has : (phantom : Bool) (source : Source) (old : State K V P View) (i : Incoming K V P)
+  -- an insert's entry has the data that came in
+  entry_by : (phantom : Bool) (source : Source) (old : State K V P View) (i : Incoming K V P)
       (ls : List (Event × Gone K V P)) (entry : Held K V P) (new : State K V P View)
-      → InsertsBy m phantom source old i ls entry new → entry.kept.value ≡ i.kept.value
-  entry_has true source old i ls entry new did = ap (λ (e : Held K V P). e.kept.value) did.entry_is
-  entry_has false source old i ls entry new did = ap (λ (e : Held K V P). e.kept.value) did.entry_is
+      → InsertsBy m phantom source old i ls entry new → entry.kept ≡ i.kept
+  entry_by true source old i ls entry new did = ap (λ (e : Held K V P). e.kept) did.entry_is
+  entry_by false source old i ls entry new did = ap (λ (e : Held K V P). e.kept) did.entry_is
+
+  pub entry_has : (source : Source) (old : State K V P View) (i : Incoming K V P) (ls : List (Event × Gone K V P))
+      (entry : Held K V P) (new : State K V P View) → Inserts m source old i ls entry new → entry.kept ≡ i.kept
+  entry_has source old i ls entry new did = entry_by (is_phantom_record m i.kept) source old i ls entry new did
 
   -- so has each entry of those who wait for it
   arrives : (source : Source) (old : State K V P View) (i : Incoming K V P) (outcome : Outcome K V P)
@@ -38,7 +44,7 @@ module _ {K V P View C : Type 0} (m : Meaning K P View C) where
       let here : Arrives m source old i (Ok (Some entries.items)) ls new =
       subst (λ (x : Result (Option (List (Held K V P))) Reason). Arrives m source old i x ls new) is came in
       let has : here.0.kept.value ≡ i.kept.value =
-      entry_has (is_phantom_record m i.kept) source old i ls here.0 new here.1 in
+      ap (λ (d : Data K V P). d.value) (entry_has source old i ls here.0 new here.1) in
       subst (λ (x : List (Held K V P)). All (λ e. e.kept.value ≡ i.kept.value) x) (sym here.2)
       (All-replicate (λ (e : Held K V P). e.kept.value ≡ i.kept.value) i.handles here.0 has)
 
@@ -56,3 +62,11 @@ module _ {K V P View C S W A N R : Type 0} (m : Meaning K P View C) (rules : Rul
   served (Some o) outcome got did =
       let came = did.completes.arrived in
       arrives m source came.before _ outcome ended.outcome ended.leaves came.after got came.stepped
+
+-- what comes in with default properties of a cache never expires
+pub lives : (now : ℕ) (admitted : Bool) (p q : Answered) → p.expires ≡ None
+    → q ≡ coming_in (λ _. None) (λ p b. record p { phantom = Some b }) admitted p → is_expired now q.expires ≡ false
+lives now true p q none is = ap (λ (x : Answered). is_expired now x.expires) is
+    ∙ ap (λ (e : Option ℕ). is_expired now e) none
+lives now false p q none is = ap (λ (x : Answered). is_expired now x.expires) is
+    ∙ ap (λ (e : Option ℕ). is_expired now e) none

@@ -1,6 +1,6 @@
 //! A cache of numbers in one thread's hands, and what a caller proves of it from the library's contracts alone.
 
-ghost use Rattle.std.specs.Prelude.{◌≡◌, All, IfOk, Some, length};
+ghost use Rattle.std.specs.Prelude.{◌≡◌, All, IfOk, IsSomeAnd, Some, length};
 ghost use Rattle.foyer_core.specs.CoreFetches.{open_in};
 ghost use Rattle.foyer_core.specs.Cores.{fetches_of, hashes_of};
 ghost use Rattle.foyer_core.specs.Inflight.{asked, waiters_of};
@@ -54,28 +54,38 @@ pub fn empty(alloc: Global, capacity: usize) -> Result<Numbers<Lru>> {
     CacheCore::new(alloc, RawCacheConfig { shards: 1, ..base })
 }
 
-/// Puts a number in under a key and looks it up: it is found, however heavy it is, unless one of the two calls
-/// is refused.
-pub fn put_and_get<E: Eviction>(numbers: &mut Numbers<E>, key: u64, number: u64) -> Result<Number>
-    ensures { IfOk result (λ entry. entry.kept.value ≡ number) }
+/// Puts a number in under a key, at a moment, and looks it up: it is found, however heavy it is, unless one of the two
+/// calls is refused.
+pub fn put_and_get<E: Eviction>(
+    numbers: &mut Numbers<E>,
+    now: u64,
+    key: u64,
+    number: u64,
+) -> Result<Option<Number>>
+    ensures { IfOk result (λ found. IsSomeAnd found (λ entry. entry.kept.value ≡ number)) }
 {
     // Those who wait for a fetch of the key get handles too, which are let go here, as is what left.
     let Inserted {
         entry,
         answers,
         leaves: _,
-    } = numbers.insert(key, number)?;
-    let found = numbers.get(&key);
+    } = numbers.insert(now, key, number)?;
+    let found = numbers.get(now, &key);
     numbers.drop_answers(answers);
     numbers.drop_entry(entry);
-    // The insert says that a get finds the number. So there is an entry, where the get is not refused.
-    Ok(found?.unwrap())
+    // The insert says that a get finds the number, unless it has expired, and default properties never do.
+    found
 }
 
-/// Looks a number up for a caller. Where it is missing the caller waits for its fetch, and the first one gets the
+/// Looks a number up for a caller, at a moment. Where it is missing the caller waits for its fetch, and the first one gets the
 /// fetch, which it is to end.
-pub fn ask<E: Eviction>(numbers: &mut Numbers<E>, key: u64, caller: Caller) -> Result<Option<u64>> {
-    match numbers.get_or_enqueue(&key, None, caller)? {
+pub fn ask<E: Eviction>(
+    numbers: &mut Numbers<E>,
+    now: u64,
+    key: u64,
+    caller: Caller,
+) -> Result<Option<u64>> {
+    match numbers.get_or_enqueue(now, &key, None, caller)? {
         Lookup::Hit(entry) => {
             numbers.drop_entry(entry);
             Ok(None)
@@ -89,9 +99,15 @@ pub fn ask<E: Eviction>(numbers: &mut Numbers<E>, key: u64, caller: Caller) -> R
     }
 }
 
-/// Ends a fetch with a number. All who wait for it are answered: each gets a handle of the number, or all get the one
+/// Ends a fetch with a number, at a moment. All who wait for it are answered: each gets a handle of the number, or all get the one
 /// refusal. Where the fetch is not open, nobody is.
-pub fn complete<E: Eviction>(numbers: &mut Numbers<E>, key: u64, fetch: u64, number: u64) -> Told
+pub fn complete<E: Eviction>(
+    numbers: &mut Numbers<E>,
+    now: u64,
+    key: u64,
+    fetch: u64,
+    number: u64,
+) -> Told
     ensures all { result.waiters.items ≡ waiters_of (asked (Some fetch) (open_in (fetches_of numbers.old) (hashes_of numbers.old key, key))) }
     ensures each { IfOk (handed_out result.outcome) (λ handles. length handles ≡ length result.waiters.items) }
     ensures same { IfOk (handed_out result.outcome) (All (λ handle. handle.kept.value ≡ number)) }
@@ -104,6 +120,6 @@ pub fn complete<E: Eviction>(numbers: &mut Numbers<E>, key: u64, fetch: u64, num
         found: _,
         answers,
         leaves: _,
-    } = numbers.complete(&key, fetch, target, Source::Outer);
+    } = numbers.complete(now, &key, fetch, target, Source::Outer);
     answers
 }

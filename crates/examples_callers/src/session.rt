@@ -15,11 +15,12 @@ pub type Numbers = Session<Lru, u64, u64, CacheProperties, DefaultHasher, UnitWe
 /// A command to it.
 pub type Ask = Command<u64, u64, CacheProperties, NoPredicate, LruConfig>;
 
-/// Puts a value in and looks it up. What each key finds afterwards is what the replies tell; where memory
+/// Puts a value in and looks it up, at a moment. What each key finds afterwards is what the replies tell; where memory
 /// is missing, nothing has changed.
 pub fn put_and_look(
     numbers: &mut Numbers,
     alloc: Global,
+    now: u64,
     key: u64,
     value: u64,
 ) -> Result<Vec<Reply<u64, u64, CacheProperties>>>
@@ -27,7 +28,7 @@ pub fn put_and_look(
     ensures err { OnErr result (session_of numbers.new ≡ session_of numbers.old) }
 {
     let mut asks: Vec<Ask> = Vec::with_capacity(alloc, 2)?;
-    asks.push_reserved(Command::Insert(key, value, CacheProperties::default()));
-    asks.push_reserved(Command::Get(key));
+    asks.push_reserved(Command::Insert(now, key, value, CacheProperties::default()));
+    asks.push_reserved(Command::Get(now, key));
     numbers.run(asks)
 }

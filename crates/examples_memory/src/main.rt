@@ -6,7 +6,7 @@ mod squares;
 use foyer_memory::CacheBuilder;
 use foyer_raw::ListSpawner;
 use futures::executor::block_on;
-use squares::{AllTasks, Counter, Service, Squares, THREADS, fetch, found_by, square};
+use squares::{AllTasks, Counter, NOW, Service, Squares, THREADS, fetch, found_by, square};
 use std::thread::map_indices;
 
 fn main(rt: HostRuntime) -> anyhow::Result<()> {
@@ -17,17 +17,17 @@ fn main(rt: HostRuntime) -> anyhow::Result<()> {
         .with_event_listener(gone.share()?)
         .build(rt, alloc, &rt)?;
     for number in 1..5 {
-        let entry = squares.insert(number, square(number))?;
+        let entry = squares.insert(NOW, number, square(number))?;
         println!(rt; "{number} squared is {}", *entry)?;
     }
-    if let Some(entry) = squares.get(&4)? {
+    if let Some(entry) = squares.get(NOW, &4)? {
         println!(rt; "found {}", *entry)?;
     }
     // The square of 9 is missing: the first who asks leads its fetch, and the second waits for the same one.
     let mut tasks = ListSpawner::new(alloc);
     let (ann, ben) = (fetch(9, &fetched)?, fetch(9, &fetched)?);
-    let ann = squares.get_or_fetch(&9, || ann, &mut tasks)?;
-    let ben = squares.get_or_fetch(&9, || ben, &mut tasks)?;
+    let ann = squares.get_or_fetch(NOW, &9, || ann, &mut tasks)?;
+    let ben = squares.get_or_fetch(NOW, &9, || ben, &mut tasks)?;
     block_on(&rt, AllTasks { tasks })?;
     let (ann, ben) = (block_on(&rt, ann)??, block_on(&rt, ben)??);
     println!(rt; "Ann gets {}, Ben gets {}", *ann, *ben)?;

@@ -12,6 +12,9 @@ use std::alloc::{AllocError, Global};
 use std::sync::atomic::{AtomicU64, Ordering};
 use std::sync::{Arc, Wait};
 
+/// The moment of each call. No square expires, and so any number will do.
+pub const NOW: u64 = 0;
+
 /// How many threads share the cache.
 pub const THREADS: usize = 4;
 
@@ -44,7 +47,7 @@ pub struct Service<H: Wait + Drop> {
 impl<H: Wait + Drop> Service<H> {
     /// A service whose cache has room for all that its threads put in.
     pub fn new(squares: Squares<H>, fetched: Counter) -> Result<Self> {
-        squares.resize(500)?;
+        squares.resize(NOW, 500)?;
         Ok(Service { squares, fetched })
     }
 }
@@ -141,7 +144,7 @@ pub fn square(number: u32) -> u64
 pub fn put<H: Wait + Drop>(squares: &Squares<H>, number: u32) -> Result<u64>
     ensures { IfOk result (λ square. square ≡ number * number) }
 {
-    let entry = squares.insert(number, square(number))?;
+    let entry = squares.insert(NOW, number, square(number))?;
     Ok(*entry)
 }
 
@@ -161,7 +164,7 @@ pub fn found_by<H: Wait + Drop>(service: &Service<H>, thread: usize) -> Result<b
 /// Puts the square of a number in and looks it up. Whether it was found.
 fn put_and_find<H: Wait + Drop>(squares: &Squares<H>, number: u32) -> Result<bool> {
     put(squares, number)?;
-    match squares.get(&number)? {
+    match squares.get(NOW, &number)? {
         Some(entry) => Ok(*entry == square(number)),
         None => Ok(false),
     }

@@ -12,13 +12,13 @@ use Rattle.foyer_session.specs.Terms.{Terms}
 
 -- the key that a command names
 abbrev pub key_of : {K V P Q C : Type 0} → Command K V P Q C → Option K
-key_of (Insert k v p) = Some k
-key_of (Get k) = Some k
-key_of (Contains k) = Some k
-key_of (Touch k) = Some k
+key_of (Insert now k v p) = Some k
+key_of (Get now k) = Some k
+key_of (Contains now k) = Some k
+key_of (Touch now k) = Some k
 key_of (Remove k) = Some k
-key_of (GetOrFetch k later) = Some k
-key_of (Complete k fetch end) = Some k
+key_of (GetOrFetch now k later) = Some k
+key_of (Complete now k fetch end) = Some k
 key_of (Fail k fetch fault) = Some k
 key_of (Cancel k fetch) = Some k
 key_of (FetchOrTake k fetch outcome) = Some k

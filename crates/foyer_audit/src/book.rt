@@ -242,13 +242,13 @@ fn key<K, V, P, Q, C>(command: &Command<K, V, P, Q, C>) -> Option<&K>
     ensures { MatchOption result (key_of command.now ≡ None) (λ key. key_of command.now ≡ Some key.now) }
 {
     match command {
-        Command::Insert(key, _, _) => Some(key),
-        Command::Get(key) => Some(key),
-        Command::Contains(key) => Some(key),
-        Command::Touch(key) => Some(key),
+        Command::Insert(_, key, _, _) => Some(key),
+        Command::Get(_, key) => Some(key),
+        Command::Contains(_, key) => Some(key),
+        Command::Touch(_, key) => Some(key),
         Command::Remove(key) => Some(key),
-        Command::GetOrFetch(key, _) => Some(key),
-        Command::Complete(key, _, _) => Some(key),
+        Command::GetOrFetch(_, key, _) => Some(key),
+        Command::Complete(_, key, _, _) => Some(key),
         Command::Fail(key, _, _) => Some(key),
         Command::Cancel(key, _) => Some(key),
         Command::FetchOrTake(key, _, _) => Some(key),

@@ -49,7 +49,7 @@ fn two_callers<G: Ledger>(alloc: Global, blank: Blank) -> Outcome<(Shard<G>, Par
 fn one_is_missing<G: Ledger>(rt: &(impl Wait + Abort), alloc: Global, blank: Blank) -> Outcome {
     let (shard, mut one, mut other) = two_callers::<G>(alloc, blank)?;
     answer(rt, &shard, &mut one, insert(1, 10))?;
-    answer(rt, &shard, &mut other, Command::Get(1))?;
+    answer(rt, &shard, &mut other, Command::Get(0, 1))?;
     let mut shares = Vec::new(alloc);
     shares.push(one)?;
     let ended = shard.close(shares);
@@ -75,7 +75,7 @@ fn call_here_and_elsewhere<G: Ledger>(
     // Key 2 lives in the first shard.
     let (told, number) = answer(rt, shard, other, insert(2, 20))?;
     assert!(rt; matches!(told, Answer::NotHeld) && number == 1);
-    let (told, number) = answer(rt, shard, one, Command::Get(3))?;
+    let (told, number) = answer(rt, shard, one, Command::Get(0, 3))?;
     assert!(rt; matches!(told, Answer::Found { handle: 1, .. }) && number == 2);
     let (told, number) = answer(rt, shard, other, Command::Entries)?;
     assert!(rt; matches!(told, Answer::Number(1)) && number == 3);
@@ -93,7 +93,7 @@ fn keys_elsewhere<G: Ledger>(rt: &(impl Wait + Abort), alloc: Global, blank: Bla
     assert!(rt; ended.yes);
     let second = ended.history.get(1);
     assert!(rt;
-        matches!(second, Some((Command::Insert(2, 20, _), reply)) if matches!(reply.answer, Answer::NotHeld))
+        matches!(second, Some((Command::Insert(0, 2, 20, _), reply)) if matches!(reply.answer, Answer::NotHeld))
     );
     Ok(())
 }

@@ -25,8 +25,8 @@ fn each_call_has_its_number_and_reply(rt: HostRuntime) -> Outcome {
     let mut book: PlainBook = Book::new(alloc, config(5, 2), 1)?;
     assert_eq!(rt; book.apply(insert(1, 10))?, 0);
     assert_eq!(rt; book.apply(insert(2, 20))?, 1);
-    assert_eq!(rt; book.apply(Command::Get(1))?, 2);
-    assert_eq!(rt; book.apply(Command::Contains(2))?, 3);
+    assert_eq!(rt; book.apply(Command::Get(0, 1))?, 2);
+    assert_eq!(rt; book.apply(Command::Contains(0, 2))?, 3);
     assert_eq!(rt; book.apply(Command::Capacity)?, 4);
     assert!(rt;
         matches!(book.reply(0), Some(reply) if matches!(reply.answer, Answer::Entry { handle: 0, .. }))

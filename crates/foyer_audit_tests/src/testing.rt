@@ -47,7 +47,7 @@ pub fn session(
 }
 
 pub fn insert(key: u64, value: u64) -> Plain {
-    Command::Insert(key, value, CacheProperties::default())
+    Command::Insert(0, key, value, CacheProperties::default())
 }
 
 fn fault(alloc: Global, code: u64) -> std::result::Result<Arc<Fault, Global>, AllocError> {
@@ -69,21 +69,29 @@ pub fn is_keyed(number: u64) -> bool {
     kind(number) < KEYED
 }
 
-// The command of a number, of this key where it names one: each kind that names no handle and no piece.
+// The command of a number, of this key where it names one, at some moment: each kind that names no handle and no
+// piece.
 pub fn command(alloc: Global, number: u64, key: u64) -> std::result::Result<Plain, AllocError> {
     let fetch = (number >> 50) % 4;
+    let now = (number >> 40) % 4;
+    let expires = match number % 3 {
+        0 => Some((number >> 44) % 8),
+        _ => None,
+    };
+    let properties = CacheProperties::default().with_expiry(expires);
     Ok(match kind(number) {
-        0 | 1 | 2 => insert(key, number % 1000),
-        3 => Command::Get(key),
-        4 => Command::Contains(key),
-        5 => Command::Touch(key),
+        0 | 1 | 2 => Command::Insert(now, key, number % 1000, properties),
+        3 => Command::Get(now, key),
+        4 => Command::Contains(now, key),
+        5 => Command::Touch(now, key),
         6 => Command::Remove(key),
-        7 => Command::GetOrFetch(key, None),
-        8 => Command::GetOrFetch(key, Some(number % 1000)),
+        7 => Command::GetOrFetch(now, key, None),
+        8 => Command::GetOrFetch(now, key, Some(number % 1000)),
         9 => Command::Complete(
+            now,
             key,
             fetch,
-            End::Value(number % 1000, CacheProperties::default(), Source::Outer),
+            End::Value(number % 1000, properties, Source::Outer),
         ),
         10 => Command::Fail(key, fetch, fault(alloc, number % 10)?),
         11 => Command::Cancel(key, fetch),
@@ -91,9 +99,9 @@ pub fn command(alloc: Global, number: u64, key: u64) -> std::result::Result<Plai
         13 => Command::FetchOrTake(key, fetch, Some(fault(alloc, number % 10)?)),
         14 => Command::IsOpen(key, fetch),
         15 => Command::Clear,
-        16 => Command::EvictAll,
+        16 => Command::EvictAll(now),
         17 => Command::FlushIf(NoPredicate),
-        18 => Command::Resize((number % 8) as usize),
+        18 => Command::Resize(now, (number % 8) as usize),
         19 => Command::Reconfigure(FifoConfig {}),
         20 => Command::Capacity,
         21 => Command::Usage,

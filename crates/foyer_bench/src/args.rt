@@ -54,6 +54,8 @@ pub struct BenchArgs {
     pub hasher: Hasher,
     /// How often the trace is run, each time over a new cache.
     pub reps: u64,
+    /// How many operations a record lives. Where it is `None`, it never expires.
+    pub ttl: Option<u64>,
     /// Whether the hits alone are printed.
     pub hits_alone: bool,
 }
@@ -102,6 +104,7 @@ fn args_of(threads: Option<u64>, words: &[String]) -> Option<BenchArgs> {
         seed: number_of(seed.as_str())?,
         hasher: Hasher::Default,
         reps: 1,
+        ttl: None,
         hits_alone: false,
     };
     with_options(args, options)
@@ -117,8 +120,9 @@ fn with_options(mut args: BenchArgs, words: &[String]) -> Option<BenchArgs> {
         option = "";
         match (asked, word) {
             ("", "--hits") => args.hits_alone = true,
-            ("", "--reps" | "--hasher") => option = word,
+            ("", "--reps" | "--hasher" | "--ttl") => option = word,
             ("--reps", _) => args.reps = some_of(word)?,
+            ("--ttl", _) => args.ttl = Some(number_of(word)?),
             ("--hasher", _) => args.hasher = hasher_of(word)?,
             _ => return None,
         }

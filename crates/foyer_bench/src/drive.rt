@@ -1,6 +1,7 @@
 //! A run over a core, in one thread: what is not found is put in.
 
 use crate::failure::Failure;
+use crate::moment::Moment;
 use crate::progress::Progress;
 use crate::report::Report;
 use foyer_core::{
@@ -23,14 +24,16 @@ pub fn run_core<R: Clock + Eprint, E: Eviction, S: HashBuilder>(
     alloc: Global,
     core: &mut Core<E, S>,
     keys: &[u64],
+    first: Moment,
     progress: &mut Progress,
 ) -> std::result::Result<Report, Failure> {
+    let mut moment = first;
     let mut hits = 0usize;
     let mut time = Duration::ZERO;
     let mut done = 0usize;
     for part in keys.chunks(PART) {
         let start = Instant::now(rt)?;
-        let found = drive(alloc, core, part)?;
+        let found = drive(alloc, core, part, &mut moment)?;
         time = time.saturating_add(start.elapsed(rt)?);
         hits = hits.saturating_add(found);
         done = done.saturating_add(part.len());
@@ -45,26 +48,31 @@ pub fn run_core<R: Clock + Eprint, E: Eviction, S: HashBuilder>(
     })
 }
 
-/// Looks each key up, and puts in each that is not found, as its own value. Each entry is given back at once.
-/// Answers how many keys were found. Refused where a key is: it and the keys after it are left out.
+/// Looks each key up, the first at the moment `next`, and puts in each that is not found, as its own value. Each entry
+/// is given back at once. `next` becomes the moment after the last key's. Answers how many keys were found. Refused
+/// where a key is: it and the keys after it are left out.
 pub fn drive<E: Eviction, S: HashBuilder>(
     alloc: Global,
     core: &mut Core<E, S>,
     keys: &[u64],
+    next: &mut Moment,
 ) -> Result<usize> {
     let mut hits = 0usize;
+    let mut moment = *next;
     // One list of what leaves serves all inserts.
     let mut leaves = Vec::new(alloc);
     for key in keys {
         // No `?` here and below: it would copy each answer.
-        let found = match look_up(core, *key, &mut leaves) {
+        let found = match look_up(core, moment, *key, &mut leaves) {
             Ok(found) => found,
             Err(error) => return Err(error),
         };
         if found {
             hits = hits.wrapping_add(1);
         }
+        moment = moment.next();
     }
+    *next = moment;
     Ok(hits)
 }
 
@@ -72,15 +80,16 @@ pub fn drive<E: Eviction, S: HashBuilder>(
 #[inline]
 fn look_up<E: Eviction, S: HashBuilder>(
     core: &mut Core<E, S>,
+    moment: Moment,
     key: u64,
     leaves: &mut Vec<Leave<u64, u64, CacheProperties>>,
 ) -> Result<bool> {
-    match core.get(&key) {
+    match core.get(moment.now(), &key) {
         Ok(Some(entry)) => {
             end(core, entry);
             Ok(true)
         }
-        Ok(None) => match put_in(core, key, leaves) {
+        Ok(None) => match put_in(core, moment, key, leaves) {
             Ok(()) => Ok(false),
             Err(error) => Err(error),
         },
@@ -92,10 +101,12 @@ fn look_up<E: Eviction, S: HashBuilder>(
 #[inline]
 fn put_in<E: Eviction, S: HashBuilder>(
     core: &mut Core<E, S>,
+    moment: Moment,
     key: u64,
     leaves: &mut Vec<Leave<u64, u64, CacheProperties>>,
 ) -> Result<()> {
-    match core.insert_with_properties_onto(key, key, CacheProperties::default(), leaves) {
+    let properties = CacheProperties::default().with_expiry(moment.expiry());
+    match core.insert_with_properties_onto(moment.now(), key, key, properties, leaves) {
         Ok(made) => {
             let InsertedOnto { entry, answers } = made;
             core.drop_answers(answers);

@@ -1,7 +1,9 @@
 //! Runs of threads over a cache that they share: what is not found is put in.
 
 use crate::failure::Failure;
+use crate::moment::Moment;
 use crate::report::Report;
+use foyer_core::CacheProperties;
 use foyer_policy::{Eviction, HashBuilder, Result};
 use foyer_raw::RawCache;
 use std::alloc::Global;
@@ -11,19 +13,20 @@ use std::time::{Clock, Instant};
 
 /// A cache that threads share.
 pub trait SharedCache: Drop {
-    /// Looks a key up, and puts it in where it is not found, as its own value. Answers whether it was found.
-    fn look_up(&self, key: u64) -> Result<bool>;
+    /// Looks a key up at a moment, and puts it in where it is not found, as its own value. Answers whether it was found.
+    fn look_up(&self, moment: Moment, key: u64) -> Result<bool>;
 
     /// The sum of the weights that are in.
     fn usage(&self) -> u128;
 }
 
 impl<H: Wait + Drop, E: Eviction, S: HashBuilder> SharedCache for RawCache<H, E, u64, u64, S> {
-    fn look_up(&self, key: u64) -> Result<bool> {
-        if self.get(&key)?.is_some() {
+    fn look_up(&self, moment: Moment, key: u64) -> Result<bool> {
+        if self.get(moment.now(), &key)?.is_some() {
             return Ok(true);
         }
-        drop(self.insert(key, key)?);
+        let properties = CacheProperties::default().with_expiry(moment.expiry());
+        drop(self.insert_with_properties(moment.now(), key, key, properties)?);
         Ok(false)
     }
 
@@ -33,19 +36,21 @@ impl<H: Wait + Drop, E: Eviction, S: HashBuilder> SharedCache for RawCache<H, E,
 }
 
 /// Runs over each trace in a thread of its own where one can be made, all over one cache, from the first thread's start
-/// to the last one's end. Refused where a key is, or where a thread's answer finds no memory.
+/// to the last one's end. Each thread's first key has the same moment. Refused where a key is, or where a thread's answer
+/// finds no memory.
 pub fn run_threads<R: Clock + Threads + Sync, C: SharedCache + Sync>(
     rt: &R,
     alloc: Global,
     cache: C,
     traces: &[Vec<u64>],
+    first: Moment,
 ) -> std::result::Result<Report, Failure> {
     let start = Instant::now(rt)?;
     let made = thread::map_indices(
         rt,
         alloc,
         traces.len(),
-        &|place| drive(&cache, &traces[place]).ok(),
+        &|place| drive(&cache, &traces[place], first).ok(),
     );
     let time = start.elapsed(rt)?;
     let mut ops = 0usize;
@@ -62,14 +67,16 @@ pub fn run_threads<R: Clock + Threads + Sync, C: SharedCache + Sync>(
     })
 }
 
-/// Looks each key up, and puts in each that is not found. Answers how many keys were found. Refused where a key is: it
-/// and the keys after it are left out.
-pub fn drive<C: SharedCache>(cache: &C, keys: &Vec<u64>) -> Result<usize> {
+/// Looks each key up, the first at this moment, and puts in each that is not found. Answers how many keys were found.
+/// Refused where a key is: it and the keys after it are left out.
+pub fn drive<C: SharedCache>(cache: &C, keys: &Vec<u64>, first: Moment) -> Result<usize> {
     let mut hits = 0usize;
+    let mut moment = first;
     for key in keys {
-        if cache.look_up(*key)? {
+        if cache.look_up(moment, *key)? {
             hits = hits.wrapping_add(1);
         }
+        moment = moment.next();
     }
     Ok(hits)
 }

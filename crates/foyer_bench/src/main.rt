@@ -18,6 +18,7 @@ mod args;
 mod drive;
 mod failure;
 mod locked;
+mod moment;
 mod progress;
 mod random;
 mod report;
@@ -28,13 +29,14 @@ use args::{BenchArgs, Hasher, Policy, are_locked, bench_args};
 use drive::{Core, run_core};
 use failure::Failure;
 use locked::run_threads;
+use moment::Moment;
 use progress::Progress;
 use report::Report;
 use trace::traces_of;
 
 // How the program is called.
 const WORDS: &str =
-    "POLICY CAPACITY SHARDS OPS KEYSPACE SKEW SEED [--hasher mod|default] [--reps N] [--hits]";
+    "POLICY CAPACITY SHARDS OPS KEYSPACE SKEW SEED [--hasher mod|default] [--reps N] [--ttl T] [--hits]";
 
 fn main(rt: HostRuntime) -> ExitCode {
     let is_terminal = rt.stderr().is_terminal();
@@ -111,6 +113,7 @@ fn run_once<R: AllocGlobal + Clock + Eprint + Threads + Wait + Sync>(
     traces: &[Vec<u64>],
     progress: &mut Progress,
 ) -> Result<Report, Failure> {
+    let first = Moment::first(args.ttl);
     macro_rules! over {
         ($policy:ty) => {
             match (args.threads, args.hasher) {
@@ -119,10 +122,10 @@ fn run_once<R: AllocGlobal + Clock + Eprint + Threads + Wait + Sync>(
                     on_core::<R, $policy, DefaultHasher>(rt, args, traces, progress)
                 }
                 (Some(_), Hasher::Mod) => {
-                    run_threads(rt, rt.alloc(), shared::<R, $policy, ModHasher>(rt, args)?, traces)
+                    run_threads(rt, rt.alloc(), shared::<R, $policy, ModHasher>(rt, args)?, traces, first)
                 }
                 (Some(_), Hasher::Default) => {
-                    run_threads(rt, rt.alloc(), shared::<R, $policy, DefaultHasher>(rt, args)?, traces)
+                    run_threads(rt, rt.alloc(), shared::<R, $policy, DefaultHasher>(rt, args)?, traces, first)
                 }
             }
         };
@@ -154,7 +157,8 @@ where
         ..RawCacheConfig::new(args.capacity as usize)
     };
     let mut core = Core::<E, S>::new(rt.alloc(), config)?;
-    run_core(rt, rt.alloc(), &mut core, keys.as_slice(), progress)
+    let first = Moment::first(args.ttl);
+    run_core(rt, rt.alloc(), &mut core, keys.as_slice(), first, progress)
 }
 
 // A cache behind locks, in its policy's default configuration.

@@ -21,7 +21,7 @@ use Rattle.foyer_core.specs.Onto.{insertion_onto}
 use Rattle.foyer_core.specs.Pieces.{is_in}
 use Rattle.foyer_core.specs.State.{Meaning, State, IsKept, MakesPlain, coming_in, is_phantom_record, key_of}
 use Rattle.foyer_core.specs.Steps.{Inserts, InsertsBy, InsertsPlain, RefusesInsert, newcomer}
-use Rattle.foyer_core.specs.Values.{Denied, Gone, Held, Incoming, Made, Rec}
+use Rattle.foyer_core.specs.Values.{Denied, Gone, Held, Made, Rec}
 use Rattle.foyer_core.specs.Waited.{AnswersEach, waiting_for}
 use Rattle.foyer_core.proofs.CallsTold.{insert_told, refused_told}
 use Rattle.foyer_core.proofs.CoreLaws.{Came, Stands, came_stands, bounded_at, finds_at, stays_at}
@@ -83,7 +83,7 @@ module _ {K V P View C S W A : Type 0} (m : Meaning K P View C) (laws : IsEquiva
 
   comes_found : (r : Result (Made K V P) (Denied K V P)) → Comes r
       → IfOk r (λ made. is_phantom_record m made.entry.kept ≡ false →
-      Finds m hash new made.entry.kept.key made.entry.kept.value)
+      Finds m hash new made.entry.kept.key made.entry.kept.value made.entry.kept.properties)
   comes_found (Ok made) at = λ plain.
       let stands : AtShard (λ s t. Stands m laws good d t) d.hash old new = record {
         before = at.before;
@@ -94,7 +94,7 @@ module _ {K V P View C S W A : Type 0} (m : Meaning K P View C) (laws : IsEquiva
             (as_plain m source d handles at.before at.after made.leaves made.entry plain at.stepped);
         rest = at.rest;
       } in
-      subst (λ (e : Data K V P). Finds m hash new e.key e.value)
+      subst (λ (e : Data K V P). Finds m hash new e.key e.value e.properties)
       (sym (entry_data m source d handles at.before at.after made.leaves made.entry at.stepped))
       (finds_at m laws good old new d d.hash refl stands hash (λ k same. sym (equal d.key k same) ∙ sym hashed))
   comes_found (Err denied) at = tt

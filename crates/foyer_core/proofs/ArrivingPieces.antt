@@ -1,9 +1,7 @@
 -- A piece with which a fetch ends: whether it is of the key, and the weight of a new record.
-use Rattle.std.proofs.Common.{◌≡◌, ℕ, Bool, true, false, List, Option, Some, None, length, refl, sym, ◌∙◌, ap, subst}
+use Rattle.std.proofs.Common.{◌≡◌, ℕ, Bool, true, false, Option, Some, None, length, refl, sym, ◌∙◌, ap, subst}
 use Rattle.std.specs.Prelude.{Result, if◌then◌else◌, ◌&&◌, ◌==◌}
 use Rattle.std.proofs.lemmas.Bool.{eq-eqb}
-use Rattle.foyer_policy.specs.declared.error.Reason.{Reason}
-use Rattle.foyer_policy.specs.declared.types.Event.{Event}
 use Rattle.foyer_core.specs.Core.{Core, shard_of}
 use Rattle.foyer_core.specs.CoreFetches.{PieceArrives, is_of}
 use Rattle.foyer_core.specs.Indexer.{same_key}
@@ -11,7 +9,7 @@ use Rattle.foyer_core.specs.Inflight.{Opens, OpenFetch}
 use Rattle.foyer_core.specs.PieceEnds.{CompletesPieceBy, PieceComes, comes_under}
 use Rattle.foyer_core.specs.Pieces.{InsertsPiece, PieceBy, coming_under, held_or, is_known}
 use Rattle.foyer_core.specs.State.{Meaning, State, key_of}
-use Rattle.foyer_core.specs.Values.{Carried, Denied, Gone, Held, Made}
+use Rattle.foyer_core.specs.Values.{Carried, Denied, Made}
 use Rattle.foyer_core.specs.Waited.{Ending}
 
 pub and_left : (b c : Bool) → (b && c) ≡ true → b ≡ true

@@ -8,6 +8,7 @@ use Rattle.foyer_core.specs.declared.record.Data.{Data}
 use Rattle.foyer_core.specs.State.{Meaning, State, IsKept}
 use Rattle.foyer_core.specs.Steps.{ClonesHandle, Gets, Removes}
 use Rattle.foyer_core.specs.Values.{Gone, Held, Rec}
+use Rattle.foyer_core.proofs.Hits.{hit_index}
 
 second : (a b : Bool) → (a && b) ≡ true → b ≡ true
 second true b h = h
@@ -20,12 +21,12 @@ module _ {K V P View C : Type 0} (m : Meaning K P View C) (old : State K V P Vie
   led_key : (id : ℕ) (r : Rec K V P) → old.index k ≡ Some id → old.records id ≡ Some r → m.same k.1 r.kept.key ≡ true
   led_key id r led there = ∥∥₁_elim kept (hlevel props) (λ h. second _ _ ((h.indexed k id led).1 r there))
 
-  pub got_key : (r : Result (Option (Held K V P)) Reason) → Gets m old k r new →
+  pub got_key : (now : ℕ) (r : Result (Option (Held K V P)) Reason) → Gets m now old k r new →
       IfOk r (λ found. IfSome found (λ entry. m.same k.1 entry.kept.key ≡ true))
-  got_key (Ok None) h = tt
-  got_key (Ok (Some entry)) h = subst (λ (d : Data K V P). m.same k.1 d.key ≡ true)
-      (sym (ap (λ (e : Held K V P). e.kept) h.4)) (led_key entry.id h.0 h.1 h.2)
-  got_key (Err reason) h = tt
+  got_key now (Ok None) h = tt
+  got_key now (Ok (Some entry)) h = subst (λ (d : Data K V P). m.same k.1 d.key ≡ true)
+      (sym (ap (λ (e : Held K V P). e.kept) h.4)) (led_key entry.id h.0 (hit_index m now old k entry.id h.1) h.2)
+  got_key now (Err reason) h = tt
 
   pub removed_key : (r : Result (Option (Held K V P × Gone K V P)) Reason) → Removes m old k r new →
       IfOk r (λ taken. IfSome taken (λ out. m.same k.1 out.0.kept.key ≡ true))

@@ -32,7 +32,7 @@ use Rattle.std.specs.Prelude.{if◌then◌else◌, slice_get}
 use Rattle.std.proofs.lemmas.Option.{none-some, same_Some, slice_get_within}
 use Rattle.std.proofs.lemmas.Bool.Decides.{eqb_tells}
 use Rattle.std.proofs.Math.Path.{fun_ext}
-use Rattle.foyer_core.specs.Probing.{home, named, IsPut, IsProbed, IsOnce, IsBefore, part_in, part_of, one_if, count_in}
+use Rattle.foyer_core.specs.Probing.{home, named, IsProbed, IsOnce, IsBefore, part_in, part_of, one_if, count_in}
 use Rattle.foyer_core.specs.declared.tags.buckets.Tag.{Tag}
 
 -- what holds of some tags holds of the same ones

@@ -43,15 +43,15 @@ module _ {K V P View C S W A : Type 0} (m : Meaning K P View C) (laws : IsEquiva
   nothing_told same k = ap (λ (c : Core K V P View S W A). known hash c k) same
 
   module _ (k : ℕ × K) (h : ℕ) where
-    pub get_told : (answer : Result (Option (Held K V P)) Reason) → AtShard (λ s t. Gets m s k answer t) h old new →
-        IsTold m.same hash old [] new
-    get_told answer at = stays_so (λ s t. Gets m s k answer t) h at
-        (gets_index m at.before k answer at.after at.stepped)
+    pub get_told : (now : ℕ) (answer : Result (Option (Held K V P)) Reason) →
+        AtShard (λ s t. Gets m now s k answer t) h old new → IsTold m.same hash old [] new
+    get_told now answer at = stays_so (λ s t. Gets m now s k answer t) h at
+        (gets_index m now at.before k answer at.after at.stepped)
 
-    pub touch_told : (answer : Result Bool Reason) → AtShard (λ s t. Touches m s k answer t) h old new →
+    pub touch_told : (now : ℕ) (answer : Result Bool Reason) → AtShard (λ s t. Touches m now s k answer t) h old new →
         IsTold m.same hash old [] new
-    touch_told answer at = stays_so (λ s t. Touches m s k answer t) h at
-        (touches_index m at.before k answer at.after at.stepped)
+    touch_told now answer at = stays_so (λ s t. Touches m now s k answer t) h at
+        (touches_index m now at.before k answer at.after at.stepped)
 
     pub remove_told : (answer : Result (Option (Held K V P × Gone K V P)) Reason) →
         AtShard (λ s t. Removes m s k answer t) h old new

@@ -1,8 +1,8 @@
 -- A shard that counts more handles of a record, of which the policy is not told.
-use Rattle.std.proofs.Common.{◌≡◌, ℕ, ◌+◌, ◌<◌, ◌≤◌, Option, Some, None, Bool, true, false, true≢false, nat_eq, refl, sym, ◌∙◌, ap, subst, inr, arith}
+use Rattle.std.proofs.Common.{◌≡◌, ℕ, ◌+◌, ◌<◌, ◌≤◌, Option, Some, Bool, true, false, true≢false, nat_eq, refl, sym, ◌∙◌, ap, subst, inr, arith}
 use Rattle.std.proofs.Math.Logic.{∥∥₁_elim, ∥∥₁_map}
 use Rattle.std.proofs.Props.{props}
-use Rattle.std.specs.Prelude.{not, is_some, option_map, option_and_then, ◌↔◌}
+use Rattle.std.specs.Prelude.{not, option_map, option_and_then, ◌↔◌}
 use Rattle.std.specs.Cmp.{IsEquivalence}
 use Rattle.std.specs.Map.{update}
 use Rattle.std.proofs.lemmas.List.Sorted.{IsPermutation-refl}
@@ -12,7 +12,7 @@ use Rattle.foyer_core.specs.declared.records.Records.{Records}
 use Rattle.foyer_core.specs.Values.{Kept, Rec}
 use Rattle.foyer_core.specs.Table.{rec_of}
 use Rattle.foyer_core.specs.Records.{slot_in, number_of, record_in}
-use Rattle.foyer_core.specs.State.{Meaning, State, IsKept, handles_of}
+use Rattle.foyer_core.specs.State.{Meaning, State, IsKept}
 use Rattle.foyer_core.specs.Stored.{IsStored, state}
 use Rattle.foyer_core.specs.Steps.{after_handle, after_handles, IsOutdated}
 use Rattle.foyer_core.proofs.GivingBack.{named_id}

@@ -7,6 +7,7 @@ use Rattle.std.specs.Prelude.{Result, IfOk, IsSomeAnd, option_and_then, if◌the
 use Rattle.std.specs.Cmp.{IsEquivalence}
 use Rattle.std.proofs.lemmas.Bool.Decides.{eqb_tells, nat_tests}
 use Rattle.std.proofs.lemmas.Map.{update_here}
+use Rattle.foyer_policy.specs.Moments.{is_expired}
 use Rattle.foyer_policy.specs.Policy.{IsPolicy}
 use Rattle.foyer_policy.specs.declared.types.Event.{Event}
 use Rattle.foyer_policy.specs.declared.types.Source.{Source}
@@ -15,11 +16,12 @@ use Rattle.foyer_core.specs.declared.record.Data.{Data}
 use Rattle.foyer_core.specs.Indexer.{same_key}
 use Rattle.foyer_core.specs.Laws.{Finds, HandlesStay, IsBounded, IsBoundedAt, one_of}
 use Rattle.foyer_core.specs.Values.{Rec, Gone, Held, Incoming}
-use Rattle.foyer_core.specs.State.{Meaning, State, IsKept, key_of}
+use Rattle.foyer_core.specs.State.{Meaning, State, IsKept, is_expired_in, key_of}
 use Rattle.foyer_core.specs.Steps.{Gets, InsertsPlain}
 use Rattle.foyer_core.specs.Core.{Core, AtShard, shard_at, shard_of}
 use Rattle.foyer_core.proofs.CoreLemmas.{set_here, set_apart}
 use Rattle.foyer_core.proofs.GaveLemmas.{alike_key}
+use Rattle.foyer_core.proofs.Hits.{hit_index, hit_live}
 use Rattle.foyer_core.proofs.InsertLemmas.{usage_after}
 use Rattle.foyer_core.proofs.Staying.{RecordsStay, nothing, one}
 
@@ -92,14 +94,17 @@ module _ {K V P View C : Type 0} (m : Meaning K P View C) (laws : IsEquivalence 
     pub there : t.records id ≡ Some rec
     pub data_are : rec.kept ≡ d
 
-  -- a get of an equal key finds it
-  finds_stood : (d : Data K V P) (t : State K V P View) → Stands d t → (k : ℕ × K) → same_key m.same (key_of d) k
-      ≡ true → (answer : Result (Option (Held K V P)) Reason) (after : State K V P View) → Gets m t k answer after
+  -- a get of an equal key finds it, where it is not expired
+  finds_stood : (d : Data K V P) (t : State K V P View) → Stands d t → (now : ℕ) →
+      is_expired now (m.expires d.properties) ≡ false → (k : ℕ × K) → same_key m.same (key_of d) k ≡ true →
+      (answer : Result (Option (Held K V P)) Reason) (after : State K V P View) → Gets m now t k answer after
       → IfOk answer (λ found. IsSomeAnd found (λ e. e.kept.value ≡ d.value))
-  finds_stood d t h k same (Ok None) after g =
-      absurd (let e : ◌≡◌ {A = Option ℕ} None (Some h.id) = sym g.0 ∙ h.under k same in cc)
-  finds_stood d t h k same (Ok (Some e)) after g =
-      let id : e.id ≡ h.id = some_nat (sym g.1 ∙ h.under k same) in
+  finds_stood d t h now live k same (Ok None) after g =
+      let fresh : is_expired_in m.expires now (t.records h.id) ≡ false = ap (is_expired_in m.expires now) h.there
+      ∙ ap (λ (x : Data K V P). is_expired now (m.expires x.properties)) h.data_are ∙ live in
+      absurd (let e : ◌≡◌ {A = Option ℕ} None (Some h.id) = sym g.0 ∙ hit_live m now t k h.id (h.under k same) fresh in cc)
+  finds_stood d t h now live k same (Ok (Some e)) after g =
+      let id : e.id ≡ h.id = some_nat (sym (hit_index m now t k e.id g.1) ∙ h.under k same) in
       let r : g.0 ≡ h.rec = some_rec (sym g.2 ∙ ap t.records id ∙ h.there) in
       ap (λ (x : Held K V P). x.kept.value) g.4 ∙ ap (λ (x : Rec K V P). x.kept.value) r
       ∙ ap (λ (x : Data K V P). x.value) h.data_are
@@ -109,7 +114,7 @@ module _ {K V P View C : Type 0} (m : Meaning K P View C) (laws : IsEquivalence 
 
       some_rec : {x y : Rec K V P} → Some x ≡ Some y → x ≡ y
       some_rec h = cc
-  finds_stood d t h k same (Err reason) after g = tt
+  finds_stood d t h now live k same (Err reason) after g = tt
 
   -- so it is of a plain record that came in
   pub came_stands : (source : Source) (old : State K V P View) (inc : Incoming K V P) (ls : List (Event × Gone K V P))
@@ -139,14 +144,14 @@ module _ {K V P View C : Type 0} (m : Meaning K P View C) (laws : IsEquivalence 
 
     pub finds_at : (d : Data K V P) (hash : ℕ) → shard_of old d.hash ≡ shard_of old hash →
         AtShard (λ s t. Stands d t) hash old new
-        → (hashes : K → ℕ) → ((k : K) → m.same d.key k ≡ true → hashes k ≡ d.hash) → Finds m hashes new d.key d.value
-    finds_at d hash belongs at hashes equal k same answer after next =
+        → (hashes : K → ℕ) → ((k : K) → m.same d.key k ≡ true → hashes k ≡ d.hash) → Finds m hashes new d.key d.value d.properties
+    finds_at d hash belongs at hashes equal now live k same answer after next =
         let place : shard_of old (hashes k) ≡ shard_of old hash = ap (shard_of old) (equal k same) ∙ belongs in
         let here : next.before ≡ at.after = same_state_of next.before at.after
         (sym next.there ∙ now_here old new (λ s t. Stands d t) hash at (hashes k) place) in
-        finds_stood d at.after at.stepped (d.hash, k) (alike_key m.same d.hash d.key k same) answer next.after
-        (subst (λ (n : ℕ). Gets m at.after (n, k) answer next.after) (equal k same)
-        (subst (λ (x : State K V P View). Gets m x (hashes k, k) answer next.after) here next.stepped))
+        finds_stood d at.after at.stepped now live (d.hash, k) (alike_key m.same d.hash d.key k same) answer next.after
+        (subst (λ (n : ℕ). Gets m now at.after (n, k) answer next.after) (equal k same)
+        (subst (λ (x : State K V P View). Gets m now x (hashes k, k) answer next.after) here next.stepped))
 
     module _ (source : Source) (d : Data K V P) (ls : List (Event × Gone K V P)) (entry : Held K V P) (hash : ℕ)
         (at : AtShard (Came source d ls entry) hash old new) where

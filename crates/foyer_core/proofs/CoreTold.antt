@@ -14,7 +14,7 @@ use Rattle.foyer_core.specs.Bulk.{after_update}
 use Rattle.foyer_core.specs.Core.{Core, AreHashed, AtShard, Belong, share_of, shard_of}
 use Rattle.foyer_core.specs.CoreBulk.{Configures, InTurn, InTurnUntil, SharesOut, Resizes}
 use Rattle.foyer_core.specs.Observed.{IsTold, after_leaves, known}
-use Rattle.foyer_core.specs.State.{Meaning, State, IsKept, AllData, hit}
+use Rattle.foyer_core.specs.State.{Meaning, State, IsKept, AllData}
 use Rattle.foyer_core.specs.Values.{Gone}
 use Rattle.foyer_core.proofs.CoreLemmas.{set_here, set_apart}
 use Rattle.foyer_core.proofs.Observing.{BelongsAt, Knows, Tells, leaves_append, leaves_congr}
@@ -85,7 +85,7 @@ module _ {S : Type 0} where
 
 -- what so many shards know
 abbrev pub known_in : {K V P View : Type 0} → (K → ℕ) → ℕ → List (State K V P View) → K → Option ℕ
-known_in hash many ss k = option_and_then (λ s. hit s (hash k, k)) (slice_get ss (hash k % many))
+known_in hash many ss k = option_and_then (λ s. s.index (hash k, k)) (slice_get ss (hash k % many))
 
 module _ {K V P View C : Type 0} (m : Meaning K P View C) (laws : IsEquivalence m.same) (good : IsPolicy m.policy)
     (hash : K → ℕ) (equal : (a b : K) → m.same a b ≡ true → hash a ≡ hash b) where
@@ -121,16 +121,16 @@ module _ {K V P View C : Type 0} (m : Meaning K P View C) (laws : IsEquivalence 
       (here : slice_get ss place ≡ Some s) (now : slice_get ts place ≡ Some t)
       (others : (j : ℕ) → j ≢ place → slice_get ts j ≡ slice_get ss j) where
     knows_here : Knows m laws hash equal many place s (known_in hash many ss)
-    knows_here k at = ap (λ (j : ℕ). option_and_then (λ (x : State K V P View). hit x (hash k, k)) (slice_get ss j))
-        at ∙ ap (option_and_then (λ (x : State K V P View). hit x (hash k, k))) here
+    knows_here k at = ap (λ (j : ℕ). option_and_then (λ (x : State K V P View). x.index (hash k, k)) (slice_get ss j))
+        at ∙ ap (option_and_then (λ (x : State K V P View). x.index (hash k, k))) here
 
     -- where the shard of a place makes a step, and no other does, all know what is told
     pub place_told : (g : K → Option ℕ) → Tells m laws hash equal many place t (known_in hash many ss) g → (k : K) →
         known_in hash many ts k ≡ g k
     place_told g tells k = elim (eqb_tells (hash k % many) place) [
-      | inl e ↦ ap (λ (j : ℕ). option_and_then (λ (x : State K V P View). hit x (hash k, k)) (slice_get ts j)) e.1
-          ∙ ap (option_and_then (λ (x : State K V P View). hit x (hash k, k))) now ∙ sym (tells.knows k e.1)
-      | inr e ↦ ap (option_and_then (λ (x : State K V P View). hit x (hash k, k))) (others (hash k % many) e.1)
+      | inl e ↦ ap (λ (j : ℕ). option_and_then (λ (x : State K V P View). x.index (hash k, k)) (slice_get ts j)) e.1
+          ∙ ap (option_and_then (λ (x : State K V P View). x.index (hash k, k))) now ∙ sym (tells.knows k e.1)
+      | inr e ↦ ap (option_and_then (λ (x : State K V P View). x.index (hash k, k))) (others (hash k % many) e.1)
           ∙ sym (tells.apart k e.1)
     ]
 
@@ -254,14 +254,14 @@ module _ {K V P View C : Type 0} (m : Meaning K P View C) (laws : IsEquivalence 
     onward_known : (many : ℕ) (k : K) → known_in hash many ts k ≡ known_in hash many ss k
     onward_known many k = go (slice_get ss (hash k % many)) refl where
       go : (o : Option (State K V P View)) → slice_get ss (hash k % many) ≡ o → known_in hash many ts k
-          ≡ option_and_then (λ (s : State K V P View). hit s (hash k, k)) o
+          ≡ option_and_then (λ (s : State K V P View). s.index (hash k, k)) o
       go (Some s) is =
           (let t = zip-at Onward ss ts onward (hash k % many) s is in
-          ap (option_and_then (λ (x : State K V P View). hit x (hash k, k))) t.1 ∙ t.2.1 (hash k, k))
+          ap (option_and_then (λ (x : State K V P View). x.index (hash k, k))) t.1 ∙ t.2.1 (hash k, k))
       go None is = none (slice_get ts (hash k % many)) refl where
         none : (o : Option (State K V P View)) → slice_get ts (hash k % many) ≡ o →
-            option_and_then (λ (s : State K V P View). hit s (hash k, k)) (slice_get ts (hash k % many)) ≡ None
-        none None e = ap (option_and_then (λ (x : State K V P View). hit x (hash k, k))) e
+            option_and_then (λ (s : State K V P View). s.index (hash k, k)) (slice_get ts (hash k % many)) ≡ None
+        none None e = ap (option_and_then (λ (x : State K V P View). x.index (hash k, k))) e
         none (Some t) e =
             absurd (let s = zip-back Onward ss ts onward (hash k % many) t e in
             let f : ◌≡◌ {A = Option (State K V P View)} None (Some s.0) = sym is ∙ s.1 in cc)

@@ -1,6 +1,6 @@
 -- What follows for a core from the end of a fetch with a record of its key: what follows from its insert.
 use Rattle.std.proofs.Common.{◌≡◌, ℕ, zero, suc, ◌<◌, List, [], ◌∷◌, length, replicate, Option, Some, None, Ok, Err, Bool, true, false, refl, sym, ◌∙◌, ap, subst, arith}
-use Rattle.std.specs.Prelude.{IfOk, MatchResult, Result, ◌&&◌, ◌==◌, slice_get, slice_set}
+use Rattle.std.specs.Prelude.{IfOk, MatchResult, Result, ◌==◌, slice_get, slice_set}
 use Rattle.std.specs.Cmp.{IsEquivalence}
 use Rattle.std.proofs.lemmas.Bool.{eqb-true}
 use Rattle.foyer_policy.specs.Policy.{IsPolicy}
@@ -165,19 +165,19 @@ module _ {K V P View C S W A N R : Type 0} (m : Meaning K P View C) (laws : IsEq
       is_new : IfOk answer (λ made. IsNewEntry old (own key) h.own value made.entry)
       is_new = comes_new m laws good own equal old new sound source came (equal key h.own h.equal) n answer came_at
 
-      entry_found : IfEntries ended.outcome (λ e. Finds m (hashes new.hash_builder) new key value)
+      entry_found : IfEntries ended.outcome (λ e. Finds m (hashes new.hash_builder) new key value e.kept.properties)
       entry_found =
           let builder : new.hash_builder ≡ old.hash_builder =
           ap (λ (c : Core K V P View S W A). c.hash_builder) came_at.rest in
           entries_so ended.outcome ended.leaves
-          (λ e. (is_phantom_record m e.kept ≡ false → Finds m own new e.kept.key e.kept.value)
+          (λ e. (is_phantom_record m e.kept ≡ false → Finds m own new e.kept.key e.kept.value e.kept.properties)
           × ((is_phantom_record m e.kept ≡ false) × IsNewEntry old (own key) h.own value e))
-          (λ e. Finds m (hashes new.hash_builder) new key value)
-          (λ e so. subst (λ (b : S). Finds m (hashes b) new key value) (sym builder)
-          (λ k alike result next got.
-          subst (λ (v : V). Finds m own new h.own v) so.1.1.value_is
-          (subst (λ (q : K). Finds m own new q e.kept.value) so.1.1.key_is (so.0 so.1.0))
-          k (sym (laws.congr key h.own k h.equal) ∙ alike) result next got))
+          (λ e. Finds m (hashes new.hash_builder) new key value e.kept.properties)
+          (λ e so. subst (λ (b : S). Finds m (hashes b) new key value e.kept.properties) (sym builder)
+          (λ now live k alike result next got.
+          subst (λ (v : V). Finds m own new h.own v e.kept.properties) so.1.1.value_is
+          (subst (λ (q : K). Finds m own new q e.kept.value e.kept.properties) so.1.1.key_is (so.0 so.1.0))
+          now live k (sym (laws.congr key h.own k h.equal) ∙ alike) result next got))
           (both answer _ _ entry_laws.found (both answer _ _ is_plain is_new))
 
       entry_bounded : IfEntries ended.outcome (λ e. IsBoundedAt m (own key) e.kept.weight old new)
@@ -224,7 +224,8 @@ module _ {K V P View C S W A N R : Type 0} (m : Meaning K P View C) (laws : IsEq
         (sym h.0.0) (nothing_told m laws good own equal old new sound h.1)
 
     abbrev Found : Held K V P → Type 0
-    Found e = is_phantom_record m e.kept ≡ false → Finds m (hashes new.hash_builder) new e.kept.key e.kept.value
+    Found e = is_phantom_record m e.kept ≡ false →
+        Finds m (hashes new.hash_builder) new e.kept.key e.kept.value e.kept.properties
 
     of_found : (b : Bool) → is ≡ b → Ends b → IfEntries ended.outcome Found
     of_found true stands h = entries_so ended.outcome ended.leaves Found Found (λ e so. so) (back_laws stands h).found
@@ -281,12 +282,12 @@ module _ {K V P View C S W A N R : Type 0} (m : Meaning K P View C) (laws : IsEq
             ((o : OpenFetch N R) → p ≡ Some o → 0 < length o.tokens) → EndsAs target p →
             FindsTarget m (hashes new.hash_builder) location admits target key ended.outcome new
         go (Entry value q) None some h = λ plain sure. subst
-            (λ (e : Ending K V P N). IfEntries e.outcome (λ _. Finds m (hashes new.hash_builder) new key value))
+            (λ (e : Ending K V P N). IfEntries e.outcome (λ x. Finds m (hashes new.hash_builder) new key value x.kept.properties))
             (sym h.0) tt
         go (PieceOf piece) None some h = subst
             (λ (e : Ending K V P N). IfEntries e.outcome
             (λ e. is_phantom_record m e.kept ≡ false →
-            Finds m (hashes new.hash_builder) new e.kept.key e.kept.value)) (sym h.0) tt
+            Finds m (hashes new.hash_builder) new e.kept.key e.kept.value e.kept.properties)) (sym h.0) tt
         go (Entry value q) (Some o) some h = λ plain sure. entry_found (weighs key value) (admits key value) value
             (λ admitted. coming_in location with_phantom admitted q) o h (some o refl) location with_phantom q refl
             plain sure

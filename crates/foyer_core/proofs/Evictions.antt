@@ -7,7 +7,7 @@ use Rattle.foyer_policy.specs.declared.types.Event.{Event}
 use Rattle.foyer_policy.specs.declared.types.Event.TheVariants.{Evict}
 use Rattle.foyer_core.specs.Values.{Rec, Gone}
 use Rattle.foyer_core.specs.State.{Meaning, State, usage_of}
-use Rattle.foyer_core.specs.Steps.{EvictsOne, after_out, gone_of, ids_of, Leave, Evicting, Evicts}
+use Rattle.foyer_core.specs.Steps.{EvictsOne, after_out, gone_of, ids_of, Leave, Evicts}
 use Rattle.foyer_core.proofs.Popped.{pop_weight, pop_shorter, pops_some, first_pops_none, after_pops_more, until_low, until_more}
 
 module _ {K V P View C : Type 0} (m : Meaning K P View C) where

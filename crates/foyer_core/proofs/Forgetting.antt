@@ -5,7 +5,7 @@ use Rattle.std.proofs.Math.Path.{ap₂}
 use Rattle.std.specs.Prelude.{not, option_map, option_and_then, is_some}
 use Rattle.std.specs.Cmp.{IsEquivalence}
 use Rattle.std.specs.Map.{update}
-use Rattle.std.proofs.lemmas.Map.{update_here, update_apart}
+use Rattle.std.proofs.lemmas.Map.{update_apart}
 use Rattle.std.proofs.lemmas.Bool.Decides.{eqb_tells}
 use Rattle.foyer_policy.specs.Policy.{IsPolicy}
 use Rattle.foyer_policy.specs.declared.types.Event.{Event}

@@ -81,7 +81,7 @@ has_more t n ts h = go (tells (has t ts)) where
 
 module _ {N R : Type 0} where
   -- the tokens once one more waits
-  tokens-joined : (o : OpenFetch N R) (w : Waiting N) (later : Option R) → tokens_of (joined (Some o) o.fetch w later)
+  tokens-joined : (o : OpenFetch N R) (w : Waiting N) (later : Option R) → tokens_of (joined (Some o) o.opened o.fetch w later)
       ≡ tokens_of o ++ w.token ∷ []
   tokens-joined o w later = map_push (λ (w : Waiting N). w.token) o.tokens w
 
@@ -245,10 +245,11 @@ module _ {K N R : Type 0} {eq : K → K → Bool} where
       one_open p q x y t tx ty (inr e) (inr d) = a.one_open p q x y t e.1 d.1 tx ty
 
   -- a fetch opens
-  pub fits_new : (f : Opens K N R) (k : ℕ × K) (w : Waiting N) → w.token ≡ f.next_token → AreOpen eq f → Fits eq f
-      (f.next_fetch + 1) (f.next_token + 1) k (record { fetch = f.next_fetch; tokens = w ∷ []; later = None })
+  pub fits_new : (now : ℕ) (f : Opens K N R) (k : ℕ × K) (w : Waiting N) → w.token ≡ f.next_token → AreOpen eq f →
+      Fits eq f (f.next_fetch + 1) (f.next_token + 1) k
+      (record { fetch = f.next_fetch; opened = now; tokens = w ∷ []; later = None })
   unfolding IsDistinct
-  fits_new f k w token a = record {
+  fits_new now f k w token a = record {
     waited = omega arith;
     below = omega arith;
     tokens_below = λ t h. (let is : t ≡ w.token = only t h in omega (arith, is, token));
@@ -264,7 +265,7 @@ module _ {K N R : Type 0} {eq : K → K → Bool} where
   -- one more waits
   pub fits_joined : (laws : IsEquivalence eq) (f : Opens K N R) (k : ℕ × K) (o : OpenFetch N R) (w : Waiting N)
       (later : Option R) → f.by_key k ≡ Some o → w.token ≡ f.next_token → AreOpen eq f → Fits eq f f.next_fetch
-      (f.next_token + 1) k (joined (Some o) o.fetch w later)
+      (f.next_token + 1) k (joined (Some o) o.opened o.fetch w later)
   fits_joined laws f k o w later there token a = record {
     waited = subst (λ (n : ℕ). 0 < n) (sym (length_push o.tokens w)) (omega arith);
     below = a.below k o there;
@@ -275,7 +276,7 @@ module _ {K N R : Type 0} {eq : K → K → Bool} where
     own_fetch = λ q x h same. a.one_fetch k q o x there h (sym same);
     own_tokens = λ q x t h tx to. own_tokens q x t h tx (more t to);
   } where
-    more : (t : ℕ) → has t (tokens_of (joined (Some o) o.fetch w later)) ≡ true → (has t (tokens_of o) ≡ true)
+    more : (t : ℕ) → has t (tokens_of (joined (Some o) o.opened o.fetch w later)) ≡ true → (has t (tokens_of o) ≡ true)
         ⊎ (t ≡ w.token)
     more t h = has_more t w.token (tokens_of o) (ap (has t) (sym (tokens-joined o w later)) ∙ h)
 
@@ -294,7 +295,7 @@ module _ {K N R : Type 0} {eq : K → K → Bool} where
 
   -- the kept builder is taken
   pub fits_same : (f : Opens K N R) (k : ℕ × K) (o : OpenFetch N R) (later : Option R) → f.by_key k ≡ Some o → AreOpen eq
-      f → Fits eq f f.next_fetch f.next_token k (record { fetch = o.fetch; tokens = o.tokens; later = later })
+      f → Fits eq f f.next_fetch f.next_token k (record { fetch = o.fetch; opened = o.opened; tokens = o.tokens; later = later })
   fits_same f k o later there a = record {
     waited = a.waited k o there;
     below = a.below k o there;
@@ -350,13 +351,13 @@ module _ {K N R : Type 0} {eq : K → K → Bool} where
             (update_other (same_key eq) (λ p. option_and_then slots (keys p)) k (Some new) q e.0)
 
       -- what is open then, where it is a first one who waits
-      pub lead_open : (id token : ℕ) (w : Waiting N) → w.token ≡ token → new ≡ record
-          { fetch = id; tokens = w ∷ []; later = None } → AreOpen eq (opens_by keys slots id token) → AreOpen eq
+      pub lead_open : (now id token : ℕ) (w : Waiting N) → w.token ≡ token → new ≡ record
+          { fetch = id; opened = now; tokens = w ∷ []; later = None } → AreOpen eq (opens_by keys slots id token) → AreOpen eq
           (opens_by keys' slots' (id + 1) (token + 1))
-      lead_open id token w is made a =
+      lead_open now id token w is made a =
           let f = opens_by keys slots id token in
           open_write laws f (opens_by keys' slots' (id + 1) (token + 1)) k new lead_places (omega arith) (omega arith)
-          (subst (λ (o : OpenFetch N R). Fits eq f (id + 1) (token + 1) k o) (sym made) (fits_new f k w is a)) a
+          (subst (λ (o : OpenFetch N R). Fits eq f (id + 1) (token + 1) k o) (sym made) (fits_new now f k w is a)) a
 
       pub lead_linked : AreLinked eq keys' slots'
       lead_linked = record {
@@ -416,7 +417,7 @@ module _ {K N R : Type 0} {eq : K → K → Bool} where
 
         -- what is open then, where one more waits
         pub join_open : (id token : ℕ) (o : OpenFetch N R) (w : Waiting N) (later : Option R) → slots n ≡ Some o → w.token
-            ≡ token → new ≡ joined (Some o) o.fetch w later → AreOpen eq (opens_by keys slots id token) → AreOpen eq
+            ≡ token → new ≡ joined (Some o) o.opened o.fetch w later → AreOpen eq (opens_by keys slots id token) → AreOpen eq
             (opens_by keys slots' id (token + 1))
         join_open id token o w later was is made a =
             let f = opens_by keys slots id token in
@@ -427,7 +428,7 @@ module _ {K N R : Type 0} {eq : K → K → Bool} where
 
         -- what is open then, where the builder alone is another
         pub later_open : (id token : ℕ) (o : OpenFetch N R) (later : Option R) → slots n ≡ Some o → new ≡ record
-            { fetch = o.fetch; tokens = o.tokens; later = later } → AreOpen eq (opens_by keys slots id token) → AreOpen
+            { fetch = o.fetch; opened = o.opened; tokens = o.tokens; later = later } → AreOpen eq (opens_by keys slots id token) → AreOpen
             eq (opens_by keys slots' id token)
         later_open id token o later was made a =
             let f = opens_by keys slots id token in
@@ -510,7 +511,7 @@ module _ {N R : Type 0} where
 module _ {K N R : Type 0} (eq : K → K → Bool) (f : Opens K N R) (k : ℕ × K) (o : OpenFetch N R)
     (there : f.by_key k ≡ Some o) where
   abbrev bare : OpenFetch N R
-  bare = record { fetch = o.fetch; tokens = o.tokens; later = None }
+  bare = record { fetch = o.fetch; opened = o.opened; tokens = o.tokens; later = None }
 
   -- or is closed
   pub nothing_taken : is_some o.later ≡ false → closed eq (with_open eq f k (Some bare)) k ≡ after_nothing eq f k

@@ -14,7 +14,7 @@ use Rattle.foyer_policy.specs.declared.types.Source.TheVariants.{Memory}
 use Rattle.foyer_core.specs.Pieces.{is_in, held_or, returning, Returns, ReturnsBy, RefusesReturn, RefusesReturnBy}
 use Rattle.foyer_core.specs.Values.{Carried, Gone, Held, Incoming}
 use Rattle.foyer_core.specs.State.{Meaning, State, IsKept, handles_in, handles_of, coming_in, MakesPlain, is_phantom_record}
-use Rattle.foyer_core.specs.Steps.{newcomer, Inserts, InsertsBy, InsertsPlain, RefusesBy}
+use Rattle.foyer_core.specs.Steps.{newcomer, Inserts, InsertsBy, RefusesBy}
 use Rattle.foyer_core.proofs.Staying.{RecordsStay, GoesOnAs, nothing, stay_same, new_goes_on, handles_stay, refused_handles_stay, holds_stay, inserts_stay, refused_insert_stays}
 
 -- properties that make a plain record come in as they are

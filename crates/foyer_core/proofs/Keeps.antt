@@ -11,7 +11,7 @@ use Rattle.foyer_policy.specs.declared.types.Item.{Item}
 use Rattle.foyer_policy.proofs.ItemLemmas.{one_if, found-id, found-where, sum-remove_id}
 use Rattle.foyer_core.specs.Indexer.{same_key}
 use Rattle.foyer_core.specs.Values.{Rec, Incoming}
-use Rattle.foyer_core.specs.State.{Meaning, State, key_of, item_of, is_phantom_record, usage_of, hit, IsKept}
+use Rattle.foyer_core.specs.State.{Meaning, State, key_of, item_of, is_phantom_record, usage_of, IsKept}
 use Rattle.foyer_core.specs.Steps.{after_out, after_push, after_get, after_give_back}
 use Rattle.foyer_core.proofs.Found.{sum-removed}
 use Rattle.foyer_core.proofs.Handles.{stands_some, stands_none, change_keeps}
@@ -132,10 +132,9 @@ module _ {K V P View C : Type 0} (m : Meaning K P View C) (laws : IsEquivalence 
               (m.policy.pinned (m.policy.acquire s.view id)) perm,
         )
 
-  pub get_keeps : (s : State K V P View) → IsKept m s → (k : ℕ × K) (id : ℕ) (r : Rec K V P) → hit s k ≡ Some id →
-      s.records id ≡ Some r
-      → r.handles < s.limits.handles → IsKept m (after_get m s id r)
-  get_keeps s kept k id r under there room =
+  pub get_keeps : (s : State K V P View) → IsKept m s → (id : ℕ) (r : Rec K V P) → s.records id ≡ Some r →
+      r.handles < s.limits.handles → IsKept m (after_get m s id r)
+  get_keeps s kept id r there room =
       change_keeps m s kept id r there (m.policy.acquire s.view id) (Some (record r { handles = r.handles + 1 }))
       (good.acquire_order s.view id kept.once) (acquired_pins s kept id)
       (stands_some s.limits.handles (count_of id (m.policy.pinned (m.policy.acquire s.view id))) r (r.handles + 1)

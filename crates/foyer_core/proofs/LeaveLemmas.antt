@@ -1,5 +1,5 @@
 -- What leaves change, and what they do not.
-use Rattle.std.proofs.Common.{◌≡◌, ℕ, inl, inr, List, [], ◌∷◌, ◌++◌, Option, Some, None, Bool, true, false, length, refl, sym, ◌∙◌, ap, subst, append_assoc}
+use Rattle.std.proofs.Common.{◌≡◌, ℕ, inl, inr, List, [], ◌∷◌, ◌++◌, Option, Some, None, Bool, true, false, length, refl, sym, ◌∙◌, ap, subst}
 use Rattle.std.specs.Cmp.{IsEquivalence}
 use Rattle.std.specs.Map.{update}
 use Rattle.std.proofs.lemmas.Map.{update_here, update_apart}
@@ -12,7 +12,7 @@ use Rattle.foyer_policy.specs.declared.types.Event.TheVariants.{Evict, Replace}
 use Rattle.foyer_core.specs.Indexer.{same_key}
 use Rattle.foyer_core.specs.Values.{Rec, Gone}
 use Rattle.foyer_core.specs.State.{Meaning, State, key_of, IsKept}
-use Rattle.foyer_core.specs.Steps.{outside, after_out, ids_of, Leave, GivesWay, Evicting, Evicts}
+use Rattle.foyer_core.specs.Steps.{outside, after_out, ids_of, Leave, GivesWay, Evicts}
 use Rattle.foyer_core.proofs.Keeps.{popped_keeps}
 use Rattle.foyer_core.proofs.Leaving.{outside_is}
 use Rattle.foyer_core.proofs.Popped.{pops_first, until_begins}

@@ -6,7 +6,7 @@ use Rattle.std.specs.Prelude.{option_and_then, option_map, is_some, ◌==◌}
 use Rattle.std.specs.Cmp.{IsEquivalence}
 use Rattle.std.specs.Map.{update}
 use Rattle.std.proofs.lemmas.Bool.Decides.{eqb_tells}
-use Rattle.std.proofs.lemmas.Map.{update_here, update_apart}
+use Rattle.std.proofs.lemmas.Map.{update_apart}
 use Rattle.foyer_policy.specs.Items.{weight_of}
 use Rattle.foyer_policy.specs.Policy.{IsPolicy, without}
 use Rattle.foyer_policy.specs.declared.types.Item.{Item}
@@ -24,7 +24,7 @@ use Rattle.foyer_core.proofs.Evictions.{popped_shorter}
 use Rattle.foyer_core.proofs.States.{same_state}
 use Rattle.foyer_core.proofs.ShardLemmas.{Holding, now_of}
 use Rattle.foyer_core.proofs.StoredLemmas.{index_is, slot_record, some_of, items_write}
-use Rattle.foyer_core.proofs.TableLemmas.{id_by-some, id_by-there}
+use Rattle.foyer_core.proofs.TableLemmas.{id_by-some}
 
 some_one : (a b : ℕ) → Some a ≡ Some b → a ≡ b
 some_one a b h = cc

@@ -29,6 +29,7 @@ pub mod Found
 pub mod GaveLemmas
 pub mod GivingBack
 pub mod Handles
+pub mod Hits
 pub mod Hashing
 pub mod HoldLemmas
 pub mod Holdings
@@ -48,6 +49,8 @@ pub mod LeftLemmas
 pub mod Loads
 pub mod Looking
 pub mod Masks
+pub mod MomentLaws
+pub mod Moments
 pub mod NearLemmas
 pub mod Observing
 pub mod Opening
@@ -78,6 +81,8 @@ pub mod ShardTold
 pub mod Sharing
 pub mod SharingOut
 pub mod SlotLemmas
+pub mod SoonSteps
+pub mod Soonest
 pub mod Sound
 pub mod States
 pub mod Staying

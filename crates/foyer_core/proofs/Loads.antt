@@ -193,28 +193,28 @@ module _ {K V P View C : Type 0} (m : Meaning K P View C) where
         SameLoad s t
     by-kept s t kept h = ∥∥₁_elim kept (hlevel props) (λ k. h k.once)
 
-    got-once : (s t : State K V P View) (k : ℕ × K) (answer : Result (Option (Held K V P)) Reason) →
-        Gets m s k answer t → HasIdsOnce (m.policy.order s.view)
+    got-once : (now : ℕ) (s t : State K V P View) (k : ℕ × K) (answer : Result (Option (Held K V P)) Reason) →
+        Gets m now s k answer t → HasIdsOnce (m.policy.order s.view)
         → SameLoad s t × HasIdsOnce (m.policy.order t.view)
-    got-once s t k (Ok None) h once = (
+    got-once now s t k (Ok None) h once = (
       same-view s t (ap (λ (a : State K V P View). a.view) h.1),
       subst (λ (a : State K V P View). HasIdsOnce (m.policy.order a.view)) (sym h.1) once,
     )
-    got-once s t k (Ok (Some entry)) h once =
+    got-once now s t k (Ok (Some entry)) h once =
         let perm = good.acquire_order s.view entry.id once in
         subst (λ (a : State K V P View). SameLoad s a × HasIdsOnce (m.policy.order a.view)) (sym h.5) (
           permuted s (after_get m s entry.id h.0) perm,
           once-permuted (m.policy.order s.view) (m.policy.order (m.policy.acquire s.view entry.id)) perm once,
         )
-    got-once s t k (Err Handles) h once = (
+    got-once now s t k (Err Handles) h once = (
       same-view s t (ap (λ (a : State K V P View). a.view) h.5),
       subst (λ (a : State K V P View). HasIdsOnce (m.policy.order a.view)) (sym h.5) once,
     )
-    got-once s t k (Err NoMemory) h once = (
+    got-once now s t k (Err NoMemory) h once = (
       same-view s t (ap (λ (a : State K V P View). a.view) h.5),
       subst (λ (a : State K V P View). HasIdsOnce (m.policy.order a.view)) (sym h.5) once,
     )
-    got-once s t k (Err _) h once = absurd h
+    got-once now s t k (Err _) h once = absurd h
 
     gave-once : (s t : State K V P View) (id : ℕ) (leave : Option (Event × Gone K V P)) → GivesBack m s id leave t →
         HasIdsOnce (m.policy.order s.view) → SameLoad s t
@@ -238,22 +238,22 @@ module _ {K V P View C : Type 0} (m : Meaning K P View C) where
       go true false = (refl, refl)
       go false c = (refl, refl)
 
-    pub gets_load : (s t : State K V P View) (k : ℕ × K) (answer : Result (Option (Held K V P)) Reason) →
-        ∥ IsKept m s ∥₁ → Gets m s k answer t → SameLoad s t
-    gets_load s t k answer kept h = by-kept s t kept (λ once. (got-once s t k answer h once).0)
+    pub gets_load : (now : ℕ) (s t : State K V P View) (k : ℕ × K) (answer : Result (Option (Held K V P)) Reason) →
+        ∥ IsKept m s ∥₁ → Gets m now s k answer t → SameLoad s t
+    gets_load now s t k answer kept h = by-kept s t kept (λ once. (got-once now s t k answer h once).0)
 
     gives_load : (s t : State K V P View) (id : ℕ) (leave : Option (Event × Gone K V P)) → ∥ IsKept m s ∥₁ →
         GivesBack m s id leave t → SameLoad s t
     gives_load s t id leave kept h = by-kept s t kept (gave-once s t id leave h)
 
-    pub touches_load : (s t : State K V P View) (k : ℕ × K) (answer : Result Bool Reason) → ∥ IsKept m s ∥₁ →
-        Touches m s k answer t → SameLoad s t
-    touches_load s t k (Ok false) kept h = gets_load s t k (Ok None) kept h
-    touches_load s t k (Ok true) kept h = by-kept s t kept (λ once.
-        let got = got-once s h.1 k (Ok (Some h.0)) h.2 once in
+    pub touches_load : (now : ℕ) (s t : State K V P View) (k : ℕ × K) (answer : Result Bool Reason) → ∥ IsKept m s ∥₁ →
+        Touches m now s k answer t → SameLoad s t
+    touches_load now s t k (Ok false) kept h = gets_load now s t k (Ok None) kept h
+    touches_load now s t k (Ok true) kept h = by-kept s t kept (λ once.
+        let got = got-once now s h.1 k (Ok (Some h.0)) h.2 once in
         then-same s h.1 t got.0 (gave-once h.1 t h.0.id None h.3 got.1))
-    touches_load s t k (Err Handles) kept h = gets_load s t k (Err Handles) kept h
-    touches_load s t k (Err _) kept h = absurd h
+    touches_load now s t k (Err Handles) kept h = gets_load now s t k (Err Handles) kept h
+    touches_load now s t k (Err _) kept h = absurd h
 
     pub clones_load : (s t : State K V P View) (entry : Held K V P) (answer : Result (Held K V P) Reason) →
         ClonesHandle s entry answer t → SameLoad s t

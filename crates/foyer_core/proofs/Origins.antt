@@ -79,7 +79,7 @@ module _ {K V P View : Type 0} (New : Data K V P → Type 0) where
   from_new old new id now write so = from_update old new id (Some now) write
       (λ r is. inr (subst New (ap (λ (x : Rec K V P). x.kept) (same_rec now r is)) so))
 
-  handles_from : (old : State K V P View) (id more : ℕ) (r : Rec K V P) → old.records id ≡ Some r →
+  pub handles_from : (old : State K V P View) (id more : ℕ) (r : Rec K V P) → old.records id ≡ Some r →
       RecordsFrom old (after_handles old id more r)
   handles_from old id more r there = from_write old (after_handles old id more r) id r
       (record r { handles = r.handles + more }) there (λ j. refl) refl
@@ -110,15 +110,15 @@ module _ {K V P View : Type 0} (New : Data K V P → Type 0) where
         (new : State K V P View) → Leave m e ids old ls v new → RecordsFrom old new
     leave_from e ids old ls v new h id r there = inl ((leave-rests m e ids old ls v new h).records id r there)
 
-    pub gets_from : (old : State K V P View) (k : ℕ × K) (answer : Result (Option (Held K V P)) Reason)
-        (new : State K V P View) → Gets m old k answer new → RecordsFrom old new
-    gets_from old k (Ok None) new h = from_same old new h.1
-    gets_from old k (Ok (Some entry)) new h = subst (RecordsFrom old) (sym h.5)
+    pub gets_from : (now : ℕ) (old : State K V P View) (k : ℕ × K) (answer : Result (Option (Held K V P)) Reason)
+        (new : State K V P View) → Gets m now old k answer new → RecordsFrom old new
+    gets_from now old k (Ok None) new h = from_same old new h.1
+    gets_from now old k (Ok (Some entry)) new h = subst (RecordsFrom old) (sym h.5)
         (from_write old (after_get m old entry.id h.0) entry.id h.0 (record h.0 { handles = h.0.handles + 1 }) h.2
         (λ j. refl) refl)
-    gets_from old k (Err Handles) new h = from_same old new h.5
-    gets_from old k (Err NoMemory) new h = from_same old new h.5
-    gets_from old k (Err _) new h = absurd h
+    gets_from now old k (Err Handles) new h = from_same old new h.5
+    gets_from now old k (Err NoMemory) new h = from_same old new h.5
+    gets_from now old k (Err _) new h = absurd h
 
     pub removes_from : (old : State K V P View) (k : ℕ × K)
         (answer : Result (Option (Held K V P × Gone K V P)) Reason) (new : State K V P View) →
@@ -153,7 +153,7 @@ module _ {K V P View : Type 0} (New : Data K V P → Type 0) where
         RecordsFrom old (after_give_back m old id r)
     back_from old id r there = back_by old id r there (r.handles == 1) r.resident
 
-    gives_back_from : (old : State K V P View) (id : ℕ) (leave : Option (Event × Gone K V P)) (new : State K V P View)
+    pub gives_back_from : (old : State K V P View) (id : ℕ) (leave : Option (Event × Gone K V P)) (new : State K V P View)
         → GivesBack m old id leave new → RecordsFrom old new
     gives_back_from old id leave new h = subst (RecordsFrom old) (sym h.after) (back_from old id h.rec h.there)
 
@@ -163,13 +163,13 @@ module _ {K V P View : Type 0} (New : Data K V P → Type 0) where
     given_back_from old id x (Ok leave) new ok err = gives_back_from old id leave new ok.1
     given_back_from old id x (Err e) new ok err = from_same old new err
 
-    pub touches_from : (old : State K V P View) (k : ℕ × K) (answer : Result Bool Reason) (new : State K V P View) →
-        Touches m old k answer new → RecordsFrom old new
-    touches_from old k (Ok false) new h = from_same old new h.1
-    touches_from old k (Ok true) new h = from_then old h.1 new (gets_from old k (Ok (Some h.0)) h.1 h.2)
+    pub touches_from : (now : ℕ) (old : State K V P View) (k : ℕ × K) (answer : Result Bool Reason)
+        (new : State K V P View) → Touches m now old k answer new → RecordsFrom old new
+    touches_from now old k (Ok false) new h = from_same old new h.1
+    touches_from now old k (Ok true) new h = from_then old h.1 new (gets_from now old k (Ok (Some h.0)) h.1 h.2)
         (gives_back_from h.1 h.0.id None new h.3)
-    touches_from old k (Err Handles) new h = from_same old new h.5
-    touches_from old k (Err _) new h = absurd h
+    touches_from now old k (Err Handles) new h = from_same old new h.5
+    touches_from now old k (Err _) new h = absurd h
 
     -- an insert
     way_from : (o : Option ℕ) (old : State K V P View) (ls : List (Event × Gone K V P)) (new : State K V P View) →

@@ -60,7 +60,7 @@ module _ {K V P View C S W A : Type 0} (m : Meaning K P View C) (laws : IsEquiva
   piece_finds : (result : Result (Made K V P) (Denied K V P)) → Came result
       → IfOk result
       (λ made. is_phantom_record m made.entry.kept ≡ false →
-      Finds m (hashes new.hash_builder) new made.entry.kept.key made.entry.kept.value)
+      Finds m (hashes new.hash_builder) new made.entry.kept.key made.entry.kept.value made.entry.kept.properties)
   piece_finds (Ok made) at = λ plain.
       let place = shard_of old (hash piece.kept.key) in
       let s = sound place at.before at.there in
@@ -76,7 +76,7 @@ module _ {K V P View C S W A : Type 0} (m : Meaning K P View C) (laws : IsEquiva
         rest = at.rest;
       } in
       let builder : new.hash_builder ≡ old.hash_builder = ap (λ (c : Core K V P View S W A). c.hash_builder) at.rest in
-      subst (λ (b : S). Finds m (hashes b) new d.key d.value) (sym builder)
+      subst (λ (b : S). Finds m (hashes b) new d.key d.value d.properties) (sym builder)
       (finds_at m laws good old new d (hash piece.kept.key) own.0 stands hash
       (λ k same. sym (equal d.key k same) ∙ sym own.1))
   piece_finds (Err denied) at = tt

@@ -12,15 +12,16 @@ use Rattle.foyer_core.specs.declared.record.Data.{Data}
 use Rattle.foyer_core.specs.Core.{InsertsAnswering}
 use Rattle.foyer_core.specs.CoreFetches.{PieceArrives}
 use Rattle.foyer_core.specs.Indexer.{same_key}
-use Rattle.foyer_core.specs.Inflight.{Apart, Opens, OpenFetch, closed}
+use Rattle.foyer_core.specs.Fetching.{Apart}
+use Rattle.foyer_core.specs.Inflight.{Opens, OpenFetch, closed}
 use Rattle.foyer_core.specs.Onto.{handles_onto, shared_out}
 use Rattle.foyer_core.specs.PieceEnds.{CompletesPieceBy, PieceComes, comes_under}
 use Rattle.foyer_core.specs.Pieces.{InsertsPiece, PieceBy, RefusesReturn, RefusesReturnBy, Returns, ReturnsAnswering, ReturnsBy, coming_under, held_or, is_in, is_known, returning}
-use Rattle.foyer_core.specs.State.{Meaning, State, handles_of, key_of}
+use Rattle.foyer_core.specs.State.{Meaning, State, IsKept, handles_of, key_of}
 use Rattle.foyer_core.specs.Steps.{Inserts, RefusesInsert, newcomer}
 use Rattle.foyer_core.specs.Values.{Carried, Denied, Gone, Held, Incoming, Made, Rec}
 use Rattle.foyer_core.specs.Waited.{Ending}
-use Rattle.foyer_core.proofs.ApartLemmas.{arrived_apart, back_apart, closed_apart, refuses_apart, refuses_return_apart}
+use Rattle.foyer_core.proofs.ApartLemmas.{arrived_apart, back_apart, closed_apart, new_apart, refuses_apart, refuses_return_apart}
 use Rattle.foyer_core.proofs.Completing.{closed_same}
 use Rattle.foyer_core.proofs.Returning.{inserted_entry, returned_kept}
 
@@ -95,20 +96,20 @@ module _ {K V P View C : Type 0} (m : Meaning K P View C) (s t : State K V P Vie
         made.entry t h.2)
 
   -- what is in the index stays apart from the open fetches, where the entry's key's fetch is closed
-  module _ {N R : Type 0} (f : Opens K N R) (apart : Apart s.index f) where
+  module _ (sound : ∥ IsKept m s ∥₁) {N R : Type 0} (f : Opens K N R) (apart : Apart m.expires s f) where
     pub came_apart : (made : Made K V P) → InsertsPiece m weighs hash piece more (Ok made) s t → (g : Opens K N R) → g
-        ≡ closed m.same f (key_of made.entry.kept) → Apart t.index g
+        ≡ closed m.same f (key_of made.entry.kept) → Apart m.expires t g
     came_apart made h g shut = go (is_known s hash piece) h where
-      go : (b : Bool) → PieceBy m b weighs hash piece more (Ok made) s t → Apart t.index g
-      go true h = back_apart m f s piece more made.leaves made.entry t h made.entry.kept.hash made.entry.kept.key refl
+      go : (b : Bool) → PieceBy m b weighs hash piece more (Ok made) s t → Apart m.expires t g
+      go true h = back_apart m f s sound piece more made.leaves made.entry t h made.entry.kept.hash made.entry.kept.key refl
           refl g shut apart
-      go false h = arrived_apart m f Memory s (newcomer s (record piece.kept { hash = hash; weight = h.0 }) more)
-          made.leaves made.entry t h.2 made.entry.kept.hash made.entry.kept.key refl refl g shut apart
+      go false h = arrived_apart m f s sound (newcomer s (record piece.kept { hash = hash; weight = h.0 }) more)
+          (new_apart m f s (record piece.kept { hash = hash; weight = h.0 }) more) Memory made.leaves made.entry t h.2 made.entry.kept.hash made.entry.kept.key refl refl g shut apart
 
     pub denied_apart : (denied : Denied K V P) → InsertsPiece m weighs hash piece more (Err denied) s t →
-        Apart t.index f
+        Apart m.expires t f
     denied_apart denied h = go (is_known s hash piece) h where
-      go : (b : Bool) → PieceBy m b weighs hash piece more (Err denied) s t → Apart t.index f
+      go : (b : Bool) → PieceBy m b weighs hash piece more (Err denied) s t → Apart m.expires t f
       go true h = refuses_return_apart m f s piece more denied.reason denied.leaves t h apart
       go false h = refuses_apart m f s (newcomer s (record piece.kept { hash = hash; weight = h.0 }) more)
           denied.reason denied.leaves t h.2 apart
@@ -116,11 +117,11 @@ module _ {K V P View C : Type 0} (m : Meaning K P View C) (s t : State K V P Vie
     -- where that of a key is closed under which the piece comes in
     pub ended_apart : IsEquivalence m.same → (k : ℕ × K) → same_key m.same k (coming_under s hash piece) ≡ true →
         (r : Result (Made K V P) (Denied K V P)) → InsertsPiece m weighs hash piece more r s t
-        → Apart t.index (closed m.same f k)
+        → Apart m.expires t (closed m.same f k)
     ended_apart laws k same (Ok made) h = came_apart made h (closed m.same f k)
         (sym (closed_same laws f k (coming_under s hash piece) same)
         ∙ ap (λ (q : ℕ × K). closed m.same f q) (sym (came_under made h)))
-    ended_apart laws k same (Err denied) h = closed_apart m.same t.index f k (denied_apart denied h)
+    ended_apart laws k same (Err denied) h = closed_apart m.expires t f m.same k (denied_apart denied h)
 
 -- a fetch ends with a piece
 module _ {K V P View C : Type 0} (m : Meaning K P View C) (s t : State K V P View) (weighs : ℕ → Type 0) (own : ℕ)

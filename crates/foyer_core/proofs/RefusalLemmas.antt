@@ -1,10 +1,10 @@
 -- What a refusal of an insert, or none, tells.
-use Rattle.std.proofs.Common.{◌≡◌, ◌+◌, ◌<◌, ◌≤◌, ◌^◌, ◌⊎◌, ◌↔◌, ◌∙◌, inl, inr, [], Option, Some, None, refl, sym, ap, subst, arith}
+use Rattle.std.proofs.Common.{◌≡◌, ◌+◌, ◌<◌, ◌≤◌, ◌^◌, ◌⊎◌, ◌↔◌, ◌∙◌, inl, inr, [], Option, Some, refl, sym, ap, subst}
 use Rattle.foyer_policy.specs.declared.error.Reason.{Reason}
 use Rattle.foyer_policy.specs.declared.error.Reason.TheVariants.{Ids, Handles, Weight}
 use Rattle.foyer_core.specs.Values.{Incoming}
 use Rattle.foyer_core.specs.State.{Meaning, State, key_of, pinned_beside}
-use Rattle.foyer_core.specs.Steps.{HasId, LacksId, MayInsert, RefusesPlain}
+use Rattle.foyer_core.specs.Steps.{HasId, LacksId, RefusesPlain}
 
 module _ {K V P View C : Type 0} (m : Meaning K P View C) (s : State K V P View) (inc : Incoming K V P)
     (r : Option Reason)

@@ -71,13 +71,13 @@ module _ {K V P View : Type 0} where
   clones_index old entry (Err reason) new h = refused_index old entry.id reason new h
 
 module _ {K V P View C : Type 0} (m : Meaning K P View C) where
-  pub gets_index : (old : State K V P View) (k : ℕ × K) (answer : Result (Option (Held K V P)) Reason)
-      (new : State K V P View) → Gets m old k answer new → SameIndex old new
-  gets_index old k (Ok None) new h = same_index old new h.1
-  gets_index old k (Ok (Some entry)) new h = λ q. ap (λ (s : State K V P View). s.index q) h.5
-  gets_index old k (Err Handles) new h = same_index old new h.5
-  gets_index old k (Err NoMemory) new h = same_index old new h.5
-  gets_index old k (Err _) new h = absurd h
+  pub gets_index : (now : ℕ) (old : State K V P View) (k : ℕ × K) (answer : Result (Option (Held K V P)) Reason)
+      (new : State K V P View) → Gets m now old k answer new → SameIndex old new
+  gets_index now old k (Ok None) new h = same_index old new h.1
+  gets_index now old k (Ok (Some entry)) new h = λ q. ap (λ (s : State K V P View). s.index q) h.5
+  gets_index now old k (Err Handles) new h = same_index old new h.5
+  gets_index now old k (Err NoMemory) new h = same_index old new h.5
+  gets_index now old k (Err _) new h = absurd h
 
   pub back_index : (old : State K V P View) (id : ℕ) (leave : Option (Event × Gone K V P)) (new : State K V P View) →
       GivesBack m old id leave new → SameIndex old new
@@ -98,13 +98,13 @@ module _ {K V P View C : Type 0} (m : Meaning K P View C) where
         go true false = refl
         go false c = refl
 
-  pub touches_index : (old : State K V P View) (k : ℕ × K) (answer : Result Bool Reason) (new : State K V P View) →
-      Touches m old k answer new → SameIndex old new
-  touches_index old k (Ok false) new h = same_index old new h.1
-  touches_index old k (Ok true) new h = λ q. back_index h.1 h.0.id None new h.3 q
-      ∙ gets_index old k (Ok (Some h.0)) h.1 h.2 q
-  touches_index old k (Err Handles) new h = same_index old new h.5
-  touches_index old k (Err _) new h = absurd h
+  pub touches_index : (now : ℕ) (old : State K V P View) (k : ℕ × K) (answer : Result Bool Reason)
+      (new : State K V P View) → Touches m now old k answer new → SameIndex old new
+  touches_index now old k (Ok false) new h = same_index old new h.1
+  touches_index now old k (Ok true) new h = λ q. back_index h.1 h.0.id None new h.3 q
+      ∙ gets_index now old k (Ok (Some h.0)) h.1 h.2 q
+  touches_index now old k (Err Handles) new h = same_index old new h.5
+  touches_index now old k (Err _) new h = absurd h
 
   -- what is used of what a shard keeps
   pub record Stands (s : State K V P View) : Type 0 where

@@ -150,15 +150,15 @@ module _ {K V P View C : Type 0} (m : Meaning K P View C) where
       stay_then nothing old (after_out m old i h.0) new (out_stays old i h.0 h.1)
       (leave_stays e ids (after_out m old i h.0) ls v new h.3)
 
-  pub gets_stay : (old : State K V P View) (k : ℕ × K) (answer : Result (Option (Held K V P)) Reason)
-      (new : State K V P View) → Gets m old k answer new → RecordsStay nothing old new
-  gets_stay old k (Ok None) new h = stay_same old new h.1
-  gets_stay old k (Ok (Some entry)) new h = subst (RecordsStay nothing old) (sym h.5)
+  pub gets_stay : (now : ℕ) (old : State K V P View) (k : ℕ × K) (answer : Result (Option (Held K V P)) Reason)
+      (new : State K V P View) → Gets m now old k answer new → RecordsStay nothing old new
+  gets_stay now old k (Ok None) new h = stay_same old new h.1
+  gets_stay now old k (Ok (Some entry)) new h = subst (RecordsStay nothing old) (sym h.5)
       (stay_write nothing old (after_get m old entry.id h.0) entry.id h.0 (record h.0 { handles = h.0.handles + 1 })
       h.2 (λ j. refl) refl (omega arith))
-  gets_stay old k (Err Handles) new h = stay_same old new h.5
-  gets_stay old k (Err NoMemory) new h = stay_same old new h.5
-  gets_stay old k (Err _) new h = absurd h
+  gets_stay now old k (Err Handles) new h = stay_same old new h.5
+  gets_stay now old k (Err NoMemory) new h = stay_same old new h.5
+  gets_stay now old k (Err _) new h = absurd h
 
   pub removes_stay : (old : State K V P View) (k : ℕ × K) (answer : Result (Option (Held K V P × Gone K V P)) Reason)
       (new : State K V P View) → Removes m old k answer new → RecordsStay nothing old new
@@ -230,9 +230,9 @@ module _ {K V P View C : Type 0} (m : Meaning K P View C) where
   given_back_stays old id x (Err e) new ok err = stay_given (one id) old new err
 
   -- a handle that comes and goes
-  used_stays : (old : State K V P View) (k : ℕ × K) (entry : Held K V P) (mid new : State K V P View) →
-      Gets m old k (Ok (Some entry)) mid → GivesBack m mid entry.id None new → RecordsStay nothing old new
-  used_stays old k entry mid new g b j x is less = elim (eqb_tells j entry.id) [
+  used_stays : (now : ℕ) (old : State K V P View) (k : ℕ × K) (entry : Held K V P) (mid new : State K V P View) →
+      Gets m now old k (Ok (Some entry)) mid → GivesBack m mid entry.id None new → RecordsStay nothing old new
+  used_stays now old k entry mid new g b j x is less = elim (eqb_tells j entry.id) [
     | inl e ↦ (let alike : g.0 ≡ x = same_rec g.0 x (sym g.2 ∙ ap old.records (sym e.1) ∙ is) in
         let more : Rec K V P = record g.0 { handles = g.0.handles + 1 } in
         let mid_is : mid.records entry.id ≡ Some more = ap (λ (s : State K V P View). s.records entry.id) g.5
@@ -256,12 +256,12 @@ module _ {K V P View C : Type 0} (m : Meaning K P View C) where
     )
   ]
 
-  pub touches_stay : (old : State K V P View) (k : ℕ × K) (answer : Result Bool Reason) (new : State K V P View) →
-      Touches m old k answer new → RecordsStay nothing old new
-  touches_stay old k (Ok false) new h = stay_same old new h.1
-  touches_stay old k (Ok true) new h = used_stays old k h.0 h.1 new h.2 h.3
-  touches_stay old k (Err Handles) new h = stay_same old new h.5
-  touches_stay old k (Err _) new h = absurd h
+  pub touches_stay : (now : ℕ) (old : State K V P View) (k : ℕ × K) (answer : Result Bool Reason)
+      (new : State K V P View) → Touches m now old k answer new → RecordsStay nothing old new
+  touches_stay now old k (Ok false) new h = stay_same old new h.1
+  touches_stay now old k (Ok true) new h = used_stays now old k h.0 h.1 new h.2 h.3
+  touches_stay now old k (Err Handles) new h = stay_same old new h.5
+  touches_stay now old k (Err _) new h = absurd h
 
   -- an insert
   pub way_stays : (o : Option ℕ) (old : State K V P View) (ls : List (Event × Gone K V P)) (new : State K V P View) →

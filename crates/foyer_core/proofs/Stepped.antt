@@ -12,14 +12,14 @@ use Rattle.foyer_core.proofs.Keeps.{get_keeps, give_back_keeps}
 
 module _ {K V P View C : Type 0} (m : Meaning K P View C) (laws : IsEquivalence m.same) (good : IsPolicy m.policy) where
   pub gets_keeps : (old : State K V P View) → IsKept m old →
-      (k : ℕ × K) (answer : Result (Option (Held K V P)) Reason) (new : State K V P View) → Gets m old k answer new →
-      IsKept m new
-  gets_keeps old kept k (Ok None) new h = subst (IsKept m) (sym h.1) kept
-  gets_keeps old kept k (Ok (Some entry)) new h =
-      subst (IsKept m) (sym h.5) (get_keeps m laws good old kept k entry.id h.0 h.1 h.2 h.3)
-  gets_keeps old kept k (Err Handles) new h = subst (IsKept m) (sym h.5) kept
-  gets_keeps old kept k (Err NoMemory) new h = subst (IsKept m) (sym h.5) kept
-  gets_keeps old kept k (Err _) new h = absurd h
+      (now : ℕ) (k : ℕ × K) (answer : Result (Option (Held K V P)) Reason) (new : State K V P View) →
+      Gets m now old k answer new → IsKept m new
+  gets_keeps old kept now k (Ok None) new h = subst (IsKept m) (sym h.1) kept
+  gets_keeps old kept now k (Ok (Some entry)) new h =
+      subst (IsKept m) (sym h.5) (get_keeps m laws good old kept entry.id h.0 h.2 h.3)
+  gets_keeps old kept now k (Err Handles) new h = subst (IsKept m) (sym h.5) kept
+  gets_keeps old kept now k (Err NoMemory) new h = subst (IsKept m) (sym h.5) kept
+  gets_keeps old kept now k (Err _) new h = absurd h
 
   pub gives_back_keeps : (old : State K V P View) → IsKept m old →
       (id : ℕ) (leave : Option (Event × Gone K V P)) (new : State K V P View) → GivesBack m old id leave new →

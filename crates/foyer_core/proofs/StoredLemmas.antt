@@ -1,6 +1,6 @@
 -- How a shard's fields go on standing for its state.
 use Rattle.std.proofs.Common.{◌≡◌, ◌≢◌, ℕ, Option, Some, None, Bool, true, false, cond, nat_eq, refl, sym, ◌∙◌, ap, subst, inl, inr}
-use Rattle.std.specs.Prelude.{option_and_then, is_some, IsSome, Result, Ok, Err, IsErrAnd}
+use Rattle.std.specs.Prelude.{option_and_then, is_some, IfSome, Result, Ok, Err, IsErrAnd}
 use Rattle.std.specs.Map.{update}
 use Rattle.std.proofs.lemmas.Map.{update_here, update_apart}
 use Rattle.std.proofs.lemmas.Bool.Decides.{eqb_tells}
@@ -79,9 +79,10 @@ module _ {K V P View C : Type 0} (m : Meaning K P View C) (at : ℕ → Option I
           (same n ∙ stored.placed n ∙ ap (item_in m) there) (λ p apart. same p);
     }
 
-  -- a key hits a record exactly where it leads to a slot
-  pub index_some : IsStored m at keys t → (q : ℕ × K) → is_some (option_and_then (id_in t) (keys q)) ≡ is_some (keys q)
-  index_some stored q = go (keys q) refl where
-    go : (o : Option ℕ) → keys q ≡ o → is_some (option_and_then (id_in t) o) ≡ is_some o
-    go None h = refl
-    go (Some n) h = (let s = some_of (slot_in t n) (stored.led q n h) in ap is_some (id_by-some (slot_in t) n s.0 s.1))
+  -- what a key leads to holds a record
+  pub led_some : IsStored m at keys t → (q : ℕ × K) (o : Option ℕ) → IfSome o (λ n. keys q ≡ Some n) →
+      is_some (option_and_then (id_in t) o) ≡ is_some o
+  led_some stored q None led = refl
+  led_some stored q (Some n) led =
+      let s = some_of (slot_in t n) (stored.led q n led) in
+      ap is_some (id_by-some (slot_in t) n s.0 s.1)

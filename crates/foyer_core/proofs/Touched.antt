@@ -3,7 +3,7 @@ use Rattle.std.proofs.Common.{◌≡◌, ℕ, ◌+◌, ◌-◌, ◌<◌, ◌==�
 use Rattle.std.proofs.Math.Logic.{∥∥₁_elim, ∥∥₁_map}
 use Rattle.std.proofs.Math.Path.{ap₂}
 use Rattle.std.proofs.Props.{props}
-use Rattle.std.specs.Prelude.{not, option_and_then, if◌then◌else◌}
+use Rattle.std.specs.Prelude.{not, if◌then◌else◌}
 use Rattle.std.specs.Cmp.{IsEquivalence}
 use Rattle.std.specs.Map.{update}
 use Rattle.std.proofs.lemmas.Bool.Decides.{eqb_tells, nat_tests}
@@ -18,11 +18,11 @@ use Rattle.foyer_policy.specs.declared.types.Source.TheVariants.{Memory}
 use Rattle.foyer_core.specs.Values.{Kept, Rec, Gone, Held}
 use Rattle.foyer_core.specs.Table.{rec_of}
 use Rattle.foyer_core.specs.Records.{slot_in, record_in}
-use Rattle.foyer_core.specs.State.{Meaning, State, IsKept, is_phantom_record}
+use Rattle.foyer_core.specs.State.{Meaning, State, IsKept, hit, is_phantom_record}
 use Rattle.foyer_core.specs.Stored.{IsStored, state}
 use Rattle.foyer_core.specs.Steps.{Gets, GivesBack, Touches, entry_of, after_get, after_give_back, after_last, last_leave}
 use Rattle.foyer_core.proofs.Found.{once-permuted}
-use Rattle.foyer_core.proofs.ShardLemmas.{Holding, now_of, hits, found, resident}
+use Rattle.foyer_core.proofs.ShardLemmas.{Holding, now_of, found, resident}
 use Rattle.foyer_core.proofs.States.{same_state}
 use Rattle.foyer_core.proofs.Stepped.{gets_keeps, gives_back_keeps}
 
@@ -52,7 +52,8 @@ module _ {K V P View C : Type 0} (m : Meaning K P View C) (laws : IsEquivalence 
   used_last id handles none = (let e : (handles == 0) ≡ true = grind (arith, nat_tests) in rw e refl)
 
   module _ (k : ℕ × K) (n : ℕ) (led : keys k ≡ Some n) (x : Kept K V P) (there : slot_in t n ≡ Some x)
-      (room : x.handles < limits.handles) (view' : View) (viewed : view' ≡ used x.id x.handles) where
+      (moment : ℕ) (live : hit m moment (now_of o) k ≡ Some x.id) (room : x.handles < limits.handles) (view' : View)
+      (viewed : view' ≡ used x.id x.handles) where
     abbrev more : Rec K V P
     more = record { kept = x.kept; handles = x.handles + 1; resident = x.resident }
 
@@ -62,8 +63,8 @@ module _ {K V P View C : Type 0} (m : Meaning K P View C) (laws : IsEquivalence 
     abbrev entry : Held K V P
     entry = entry_of (now_of o) x.id x.kept Memory
 
-    gets : Gets m (now_of o) k (Ok (Some entry)) mid
-    gets = (rec_of x, hits m laws good o k n led x there, found m laws good o k n led x there, room, refl, refl)
+    gets : Gets m moment (now_of o) k (Ok (Some entry)) mid
+    gets = (rec_of x, live, found m laws good o k n led x there, room, refl, refl)
 
     res : x.resident ≡ true
     res = resident m laws good o k n led x there
@@ -124,12 +125,12 @@ module _ {K V P View C : Type 0} (m : Meaning K P View C) (laws : IsEquivalence 
       after = after;
     }
 
-    pub touched : Touches m (now_of o) k (Ok true) (state number capacity limits view' keys t next)
+    pub touched : Touches m moment (now_of o) k (Ok true) (state number capacity limits view' keys t next)
     touched = (entry, mid, gets, gives)
 
     pub touched_kept : ∥ IsKept m (state number capacity limits view' keys t next) ∥₁
     touched_kept = ∥∥₁_map sound
-        (λ k'. gives_back_keeps m laws good mid (gets_keeps m laws good (now_of o) k' k (Ok (Some entry)) mid gets)
+        (λ k'. gives_back_keeps m laws good mid (gets_keeps m laws good (now_of o) k' moment k (Ok (Some entry)) mid gets)
         x.id None (state number capacity limits view' keys t next) gives)
 
     pub touched_stored : (at' : ℕ → Option Item) → ((p : ℕ) → at' p ≡ at p) → IsStored m at' keys t

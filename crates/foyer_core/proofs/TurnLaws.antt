@@ -1,6 +1,6 @@
 -- What follows for a core from steps of all of its shards in turn.
 use Rattle.std.proofs.Common.{◌≡◌, ℕ, zero, suc, ◌+◌, ◌%◌, ◌≤◌, List, [], ◌∷◌, ◌++◌, length, Option, Some, None, refl, sym, ◌∙◌, ap, subst, subst₂, arith}
-use Rattle.std.specs.Prelude.{Bool, Result, Ok, Err, IfOk, OnOk, OnErr, option_and_then, slice_get}
+use Rattle.std.specs.Prelude.{Bool, Result, Ok, Err, IfOk, OnOk, option_and_then, slice_get}
 use Rattle.std.specs.List.{AllZip}
 use Rattle.std.proofs.lemmas.Slice.Zip.{AllZip-long}
 use Rattle.foyer_policy.specs.Policy.{pops, after_all_pops, after_pops, evicted, removed}

@@ -3,7 +3,7 @@ use Rattle.std.proofs.Common.{◌≡◌, ℕ, ◌+◌, List, [], ◌∷◌, ◌+
 use Rattle.std.proofs.Math.Logic.{∥∥₁_elim}
 use Rattle.std.proofs.Props.{props}
 use Rattle.std.proofs.lemmas.List.{replicate-append-replicate}
-use Rattle.std.specs.Prelude.{Result, Ok, Err, IsSomeAnd, MatchResult, if◌then◌else◌, is_some}
+use Rattle.std.specs.Prelude.{Result, Ok, Err, IsSomeAnd, MatchResult, if◌then◌else◌, is_some, option_and_then}
 use Rattle.std.specs.Cmp.{IsEquivalence}
 use Rattle.std.specs.Map.{update}
 use Rattle.foyer_policy.specs.declared.error.Reason.{Reason}
@@ -13,12 +13,11 @@ use Rattle.foyer_core.specs.declared.outcome.Waiting.{Waiting}
 use Rattle.foyer_core.specs.declared.record.Data.{Data}
 use Rattle.foyer_core.specs.Fetching.{Arrives, CompletesBy}
 use Rattle.foyer_core.specs.Indexer.{same_key, same_key_equiv}
-use Rattle.foyer_core.specs.Inflight.{Apart, Opens, OpenFetch, after_enqueue, closed, joined}
-use Rattle.foyer_core.specs.State.{Meaning, State, IsKept}
+use Rattle.foyer_core.specs.Inflight.{Opens, OpenFetch, after_enqueue, closed, joined}
+use Rattle.foyer_core.specs.State.{Meaning, State, IsKept, hit, is_expired_in}
 use Rattle.foyer_core.specs.Steps.{Inserts, newcomer}
 use Rattle.foyer_core.specs.Values.{Gone, Held}
 use Rattle.foyer_core.specs.Waited.{Ending}
-use Rattle.foyer_core.proofs.ApartLemmas.{placed_apart}
 use Rattle.foyer_core.proofs.InflightLemmas.{same_opens}
 
 -- equal keys are in the index together
@@ -26,26 +25,24 @@ pub index_alike : {K V P View C : Type 0} (m : Meaning K P View C) (s : State K 
     (k l : ℕ × K) → same_key m.same k l ≡ true → s.index k ≡ s.index l
 index_alike m s kept k l same = ∥∥₁_elim kept (hlevel props) (λ h. h.respects k l same)
 
--- one more asks for a key that is not in the index
-pub enqueued_apart : {K N R : Type 0} (eq : K → K → Bool) (index : ℕ × K → Option ℕ) (f : Opens K N R) (k : ℕ × K)
-    (w : N) (later : Option R)
-    → ((q : ℕ × K) → same_key eq k q ≡ true → index k ≡ index q) → index k ≡ None → Apart index f →
-    Apart index (after_enqueue eq f k w later)
-enqueued_apart {N = N} eq index f k w later respects missing apart =
-    let asks : Waiting N = record { token = f.next_token; waiter = w } in
-    placed_apart eq index f (after_enqueue eq f k w later) k (Some (joined (f.by_key k) f.next_fetch asks later))
-    (λ q. refl) respects missing apart
+-- and are hit together
+pub hit_alike : {K V P View C : Type 0} (m : Meaning K P View C) (now : ℕ) (s : State K V P View) → ∥ IsKept m s ∥₁ →
+    (k l : ℕ × K) → same_key m.same k l ≡ true → hit m now s k ≡ hit m now s l
+hit_alike m now s kept k l same =
+    ap (option_and_then (λ (id : ℕ). cond (is_expired_in m.expires now (s.records id)) None (Some id)))
+    (index_alike m s kept k l same)
 
 -- one more asks for a key, by another that equals it
 module _ {K N R : Type 0} {eq : K → K → Bool} (laws : IsEquivalence eq) (f : Opens K N R) (k l : ℕ × K)
     (same : same_key eq k l ≡ true) (alike : f.by_key k ≡ f.by_key l) where
-  pub enqueued_alike : (w : N) (later : Option R) → after_enqueue eq f k w later ≡ after_enqueue eq f l w later
-  enqueued_alike w later =
+  pub enqueued_alike : (now : ℕ) (w : N) (later : Option R) → after_enqueue eq now f k w later
+      ≡ after_enqueue eq now f l w later
+  enqueued_alike now w later =
       let asks : Waiting N = record { token = f.next_token; waiter = w } in
-      same_opens (after_enqueue eq f k w later) (after_enqueue eq f l w later)
-      (λ q. ap (λ (b : Bool). cond b (Some (joined (f.by_key k) f.next_fetch asks later)) (f.by_key q))
+      same_opens (after_enqueue eq now f k w later) (after_enqueue eq now f l w later)
+      (λ q. ap (λ (b : Bool). cond b (Some (joined (f.by_key k) now f.next_fetch asks later)) (f.by_key q))
       ((same_key_equiv laws).congr k l q same)
-      ∙ ap (λ (o : Option (OpenFetch N R)). update (same_key eq) f.by_key l (Some (joined o f.next_fetch asks later)) q)
+      ∙ ap (λ (o : Option (OpenFetch N R)). update (same_key eq) f.by_key l (Some (joined o now f.next_fetch asks later)) q)
       alike)
       (ap (λ (o : Option (OpenFetch N R)). if is_some o then f.next_fetch else f.next_fetch + 1) alike) refl
 

@@ -34,8 +34,8 @@ pub record IsNewEntry {K V P View S W A : Type 0} (core : Core K V P View S W A)
   pub outside : IsOutside core hash entry.id
 
 -- What follows from an insert in the shard of a hash: whoever has a handle still has it, the leaves and what came in
--- tell of the index, a get of an equal key finds what came in, unless it is phantom, and the shard's usage is bounded,
--- where it was not in before. `before` and `after` give each key its hash.
+-- tell of the index, a get of an equal key finds what came in, unless it is phantom or expired by then, and the shard's
+-- usage is bounded, where it was not in before. `before` and `after` give each key its hash.
 pub record InsertLaws {K V P View C S W A : Type 0} (m : Meaning K P View C) (before after : K → ℕ) (hash : ℕ)
     (old : Core K V P View S W A) (result : Result (Made K V P) (Denied K V P)) (new : Core K V P View S W A) : Type 0
   where
@@ -44,6 +44,6 @@ pub record InsertLaws {K V P View C S W A : Type 0} (m : Meaning K P View C) (be
         (λ made. IsToldWith m.same before m.phantom old made.leaves made.entry.id made.entry.kept new)
         (λ denied. IsTold m.same before old denied.leaves new)
     pub found : IfOk result (λ made. is_phantom_record m made.entry.kept ≡ false →
-        Finds m after new made.entry.kept.key made.entry.kept.value)
+        Finds m after new made.entry.kept.key made.entry.kept.value made.entry.kept.properties)
     pub bounded : IfOk result (λ made. is_phantom_record m made.entry.kept ≡ false → IsOutside old hash made.entry.id →
         IsBoundedAt m hash made.entry.kept.weight old new)

@@ -41,9 +41,9 @@ shard_at core hash = slice_get core.shards (shard_of core hash)
 abbrev pub index_in : {K V P View S W A : Type 0} → Core K V P View S W A → ℕ × K → Option ℕ
 index_in core k = option_and_then (λ s. s.index k) (shard_at core k.0)
 
--- what a hashed key hits, in its shard
-abbrev pub hit_in : {K V P View S W A : Type 0} → Core K V P View S W A → ℕ × K → Option ℕ
-hit_in core k = option_and_then (λ s. hit s k) (shard_at core k.0)
+-- what a hashed key hits at a moment, in its shard
+abbrev pub hit_in : {K V P View C S W A : Type 0} → Meaning K P View C → ℕ → Core K V P View S W A → ℕ × K → Option ℕ
+hit_in m now core k = option_and_then (λ s. hit m now s k) (shard_at core k.0)
 
 -- an entry is this core's where the shard of its hash has its number and a handle of its id
 abbrev pub Owns : {K V P View S W A : Type 0} → Core K V P View S W A → Held K V P → Type 0

@@ -1,5 +1,6 @@
 -- The open fetches of a core: a list of those of each shard.
 use Rattle.std.specs.Prelude.{◌≡◌, ℕ, ◌%◌, ◌==◌, ◌&&◌, Bool, true, false, List, [], Option, Some, None, Result, Err, IsSomeAnd, length, option_and_then, slice_get, slice_set}
+use Rattle.foyer_policy.specs.Moments.{is_expired}
 use Rattle.foyer_policy.specs.declared.error.Reason.{Reason}
 use Rattle.foyer_policy.specs.declared.error.Reason.TheVariants.{WrongKey}
 use Rattle.foyer_policy.specs.declared.types.Event.{Event}
@@ -14,7 +15,7 @@ use Rattle.foyer_core.specs.Pieces.{coming_under, is_known}
 use Rattle.foyer_core.specs.Rules.{Rules}
 use Rattle.foyer_core.specs.State.{Meaning, State}
 use Rattle.foyer_core.specs.Steps.{newcomer}
-use Rattle.foyer_core.specs.Values.{Carried, Gone, Held}
+use Rattle.foyer_core.specs.Values.{Carried, Gone, Held, Rec}
 use Rattle.foyer_core.specs.Waited.{Ending, lost}
 
 module _ {K N R : Type 0} where
@@ -34,6 +35,15 @@ module _ {K N R : Type 0} where
   -- so for the shard of a hash
   abbrev pub at_hash : (Opens K N R → Opens K N R) → List (Opens K N R) → ℕ → List (Opens K N R)
   at_hash step fetches hash = replaced fetches (hash % length fetches) step (slice_get fetches (hash % length fetches))
+
+-- The record of a hashed key that is in the index and has an open fetch was expired when that was opened. `expires` says
+-- when properties are.
+abbrev pub WasExpired : {K V P View S W A N R : Type 0} → (P → Option ℕ) → Core K V P View S W A → List (Opens K N R) →
+    ℕ × K → Type 0
+WasExpired {K} {V} {P} {View} {S} {W} {A} {N} {R} expires core fetches k =
+    (s : State K V P View) (id : ℕ) (r : Rec K V P) (o : OpenFetch N R) → shard_at core k.0 ≡ Some s
+    → s.index k ≡ Some id → s.records id ≡ Some r → open_in fetches k ≡ Some o
+    → is_expired o.opened (expires r.kept.properties) ≡ true
 
 -- the shard of a hash makes a step together with its open fetches, and all else stays
 pub record AtOpen {K V P View S W A N R : Type 0}

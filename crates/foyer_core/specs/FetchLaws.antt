@@ -31,9 +31,10 @@ module _ {K V P View C S W A : Type 0} (m : Meaning K P View C) where
   abbrev pub FindsTarget : (K → ℕ) → (P → Option Location) → (K → V → Bool → Type 0) → FetchTarget K V P → K →
       Result (Option (List (Held K V P))) Reason → Core K V P View S W A → Type 0
   FindsTarget hash location admits (Entry value p) key outcome new = MakesPlain m.phantom location p →
-      IsAdmitted (admits key value) → IfEntries outcome (λ _. Finds m hash new key value)
+      IsAdmitted (admits key value) → IfEntries outcome (λ e. Finds m hash new key value e.kept.properties)
   FindsTarget hash location admits (PieceOf piece) key outcome new =
-      IfEntries outcome (λ e. is_phantom_record m e.kept ≡ false → Finds m hash new e.kept.key e.kept.value)
+      IfEntries outcome (λ e. is_phantom_record m e.kept ≡ false →
+      Finds m hash new e.kept.key e.kept.value e.kept.properties)
 
   -- So it is for the bound of the shard's usage, where a value came in.
   abbrev pub BoundsTarget : (P → Option Location) → (K → V → Bool → Type 0) → FetchTarget K V P → ℕ → K →

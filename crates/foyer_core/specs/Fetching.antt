@@ -1,5 +1,6 @@
 -- The steps of a shard that begin and end fetches.
 use Rattle.std.specs.Prelude.{◌≡◌, ℕ, Bool, true, List, [], Option, Some, None, Result, Ok, Err, length, replicate}
+use Rattle.foyer_policy.specs.Moments.{is_expired}
 use Rattle.foyer_policy.specs.declared.error.Reason.{Reason}
 use Rattle.foyer_policy.specs.declared.types.Event.{Event}
 use Rattle.foyer_policy.specs.declared.types.Source.{Source}
@@ -12,7 +13,7 @@ use Rattle.foyer_core.specs.Inflight.{HasNumbers, Opens, OpenFetch, RefusesEnque
 use Rattle.foyer_core.specs.State.{Meaning, State, hit}
 use Rattle.foyer_core.specs.Pieces.{RefusesReturn, Returns}
 use Rattle.foyer_core.specs.Steps.{Gets, Inserts, RefusesInsert, newcomer}
-use Rattle.foyer_core.specs.Values.{Carried, Gone, Held, Incoming}
+use Rattle.foyer_core.specs.Values.{Carried, Gone, Held, Incoming, Rec}
 use Rattle.foyer_core.specs.Waited.{Ending, lost}
 
 module _ {K V P View C : Type 0} (m : Meaning K P View C) where
@@ -33,28 +34,29 @@ module _ {K V P View C : Type 0} (m : Meaning K P View C) where
   ArrivesBack old piece more (Err reason) ls new = RefusesReturn m old piece more reason ls new
 
 module _ {K V P View C N R : Type 0} (m : Meaning K P View C) where
-  -- One more asks for a key that is missing: it leads a new fetch where none is open, and else waits.
-  abbrev pub Enqueues : State K V P View → Opens K N R → ℕ × K → N → Option R → Enqueue R → State K V P View →
+  -- One more asks for a key that is missing at a moment: it leads a new fetch where none is open, and else waits.
+  abbrev pub Enqueues : ℕ → State K V P View → Opens K N R → ℕ × K → N → Option R → Enqueue R → State K V P View →
       Opens K N R → Type 0
-  Enqueues old f k waiter later answer new g =
-      (hit old k ≡ None) × HasNumbers old.limits.ids f k
+  Enqueues now old f k waiter later answer new g =
+      (hit m now old k ≡ None) × HasNumbers old.limits.ids f k
       × (answer ≡ enqueued (f.by_key k) f.next_fetch f.next_token later)
-      × (new ≡ old) × (g ≡ after_enqueue m.same f k waiter later)
+      × (new ≡ old) × (g ≡ after_enqueue m.same now f k waiter later)
 
   -- why a look-up is refused, by what the key hits: as a get is, or for want of a number or of memory
-  abbrev pub RefusesLookUp : Option ℕ → State K V P View → Opens K N R → ℕ × K → Reason → State K V P View → Type 0
-  RefusesLookUp None old f k reason new = RefusesEnqueue old.limits.ids f k reason × (new ≡ old)
-  RefusesLookUp (Some id) old f k reason new = Gets m old k (Err reason) new
+  abbrev pub RefusesLookUp : ℕ → Option ℕ → State K V P View → Opens K N R → ℕ × K → Reason → State K V P View → Type 0
+  RefusesLookUp now None old f k reason new = RefusesEnqueue old.limits.ids f k reason × (new ≡ old)
+  RefusesLookUp now (Some id) old f k reason new = Gets m now old k (Err reason) new
 
-  -- What a look-up answers that leads to a fetch where the key is missing. Where the key hits, it is a get, and nobody
-  -- waits. A refused one changes nothing.
-  abbrev pub LooksUp : State K V P View → Opens K N R → ℕ × K → N → Option R → Result (Lookup K V P R) Reason →
+  -- What a look-up answers at a moment, that leads to a fetch where the key is missing. Where the key hits, it is a
+  -- get, and nobody waits. A refused one changes nothing.
+  abbrev pub LooksUp : ℕ → State K V P View → Opens K N R → ℕ × K → N → Option R → Result (Lookup K V P R) Reason →
       State K V P View → Opens K N R → Type 0
-  LooksUp old f k waiter later (Ok (Hit entry)) new g = Gets m old k (Ok (Some entry)) new × (g ≡ f)
-  LooksUp old f k waiter later (Ok (Lead fetch token required)) new g =
-      Enqueues old f k waiter later (LeadsFetch fetch token required) new g
-  LooksUp old f k waiter later (Ok (Wait token)) new g = Enqueues old f k waiter later (WaitsFetch token) new g
-  LooksUp old f k waiter later (Err reason) new g = RefusesLookUp (hit old k) old f k reason new × (g ≡ f)
+  LooksUp now old f k waiter later (Ok (Hit entry)) new g = Gets m now old k (Ok (Some entry)) new × (g ≡ f)
+  LooksUp now old f k waiter later (Ok (Lead fetch token required)) new g =
+      Enqueues now old f k waiter later (LeadsFetch fetch token required) new g
+  LooksUp now old f k waiter later (Ok (Wait token)) new g =
+      Enqueues now old f k waiter later (WaitsFetch token) new g
+  LooksUp now old f k waiter later (Err reason) new g = RefusesLookUp now (hit m now old k) old f k reason new × (g ≡ f)
 
   -- The end of an open fetch of a key with a new record of it: the record comes in, with a handle for each who waits,
   -- and the fetch is closed, even where the record is refused.
@@ -84,3 +86,10 @@ abbrev pub EndsBy : {K V P N R : Type 0} → Option (OpenFetch N R) → (K → K
 EndsBy None eq k reason f ended g = (ended ≡ lost) × (g ≡ f)
 EndsBy (Some o) eq k reason f ended g =
     (ended ≡ record { found = true; waiters = o.tokens; outcome = Err reason; leaves = [] }) × (g ≡ closed eq f k)
+
+-- The record of a key that is in the index and has an open fetch was expired when that was opened. `expires` says when
+-- properties are.
+abbrev pub Apart : {K V P View N R : Type 0} → (P → Option ℕ) → State K V P View → Opens K N R → Type 0
+Apart {K} {V} {P} {View} {N} {R} expires s f = (q : ℕ × K) (id : ℕ) (r : Rec K V P) (o : OpenFetch N R)
+    → s.index q ≡ Some id → s.records id ≡ Some r → f.by_key q ≡ Some o
+    → is_expired o.opened (expires r.kept.properties) ≡ true

@@ -18,10 +18,11 @@ use Rattle.foyer_core.specs.declared.inflight.FetchOrTake.{FetchOrTake}
 use Rattle.foyer_core.specs.declared.inflight.FetchOrTake.TheVariants.{Fetch, Notifiers}
 use Rattle.foyer_core.specs.declared.outcome.Waiting.{Waiting}
 
--- a key's open fetch: its number, the tokens that wait for it in order, each with who waits, and the first
--- builder that one who waits brought
+-- a key's open fetch: its number, the moment at which it was opened, the tokens that wait for it in order, each with
+-- who waits, and the first builder that one who waits brought
 pub record OpenFetch (N R : Type 0) : Type 0 where
   pub fetch : ℕ
+  pub opened : ℕ
   pub tokens : List (Waiting N)
   pub later : Option R
 
@@ -35,12 +36,11 @@ module _ {N R : Type 0} where
   abbrev pub tokens_of : OpenFetch N R → List ℕ
   tokens_of o = map (λ w. w.token) o.tokens
 
-  -- the open fetch once this one waits for it too, with this builder. Where there is none, one opens with this number, and who
-  -- leads it keeps the builder
-  abbrev pub joined : Option (OpenFetch N R) → ℕ → Waiting N → Option R → OpenFetch N R
-  joined None fetch w later = record { fetch = fetch; tokens = w ∷ []; later = None }
-  joined (Some o) fetch w later =
-      record { fetch = o.fetch; tokens = o.tokens ++ w ∷ []; later = first_of o.later later }
+  -- the open fetch once this one waits for it too, with this builder. Where there is none, one opens now with this
+  -- number, and who leads it keeps the builder
+  abbrev pub joined : Option (OpenFetch N R) → ℕ → ℕ → Waiting N → Option R → OpenFetch N R
+  joined None now fetch w later = record { fetch = fetch; opened = now; tokens = w ∷ []; later = None }
+  joined (Some o) now fetch w later = record o { tokens = o.tokens ++ w ∷ []; later = first_of o.later later }
 
   -- what one gets who asks, where these are the next numbers
   abbrev pub enqueued : Option (OpenFetch N R) → ℕ → ℕ → Option R → Enqueue R
@@ -64,7 +64,7 @@ module _ {N R : Type 0} where
 
   -- what then is open of it: all but the builder, or nothing
   abbrev pub without_later : OpenFetch N R → Option (OpenFetch N R)
-  without_later o = if is_some o.later then Some (record { fetch = o.fetch; tokens = o.tokens; later = None }) else None
+  without_later o = if is_some o.later then Some (record o { later = None }) else None
 
 -- the open fetches of a shard by their hashed keys, with the number of the next one and the next token
 pub record Opens (K N R : Type 0) : Type 0 where
@@ -106,11 +106,11 @@ module _ {K N R : Type 0} where
   abbrev pub closed : (K → K → Bool) → Opens K N R → ℕ × K → Opens K N R
   closed eq f k = with_open eq f k None
 
-  -- one more asked for a key
-  abbrev pub after_enqueue : (K → K → Bool) → Opens K N R → ℕ × K → N → Option R → Opens K N R
-  after_enqueue eq f k waiter later = record {
+  -- one more asked for a key at a moment
+  abbrev pub after_enqueue : (K → K → Bool) → ℕ → Opens K N R → ℕ × K → N → Option R → Opens K N R
+  after_enqueue eq now f k waiter later = record {
     by_key = update (same_key eq) f.by_key k
-        (Some (joined (f.by_key k) f.next_fetch (record { token = f.next_token; waiter = waiter }) later));
+        (Some (joined (f.by_key k) now f.next_fetch (record { token = f.next_token; waiter = waiter }) later));
     next_fetch = next_fetch_after f k;
     next_token = f.next_token + 1;
   }
@@ -118,10 +118,6 @@ module _ {K N R : Type 0} where
   -- a fetch of a key found nothing: it goes on with the builder that is kept, or else it is closed
   abbrev pub after_nothing : (K → K → Bool) → Opens K N R → ℕ × K → Opens K N R
   after_nothing eq f k = with_open eq f k (option_and_then without_later (f.by_key k))
-
-  -- a key that is in the index has no open fetch
-  abbrev pub Apart : (ℕ × K → Option ℕ) → Opens K N R → Type 0
-  Apart index f = (q : ℕ × K) (id : ℕ) → index q ≡ Some id → f.by_key q ≡ None
 
   -- someone waits for each open fetch. No fetch and no token stands twice, and all are below the next ones
   pub record AreOpen (eq : K → K → Bool) (f : Opens K N R) : Type 0 where

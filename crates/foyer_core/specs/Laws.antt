@@ -1,6 +1,7 @@
 -- What follows from the steps.
 use Rattle.std.specs.Prelude.{◌≡◌, ℕ, ◌+◌, ◌<◌, ◌≤◌, ◌==◌, ◌&&◌, max, if◌then◌else◌, Option, Some, Result, IfOk, IsSomeAnd, true, false}
 use Rattle.foyer_policy.specs.Items.{weight_of}
+use Rattle.foyer_policy.specs.Moments.{is_expired}
 use Rattle.foyer_policy.specs.declared.error.Reason.{Reason}
 use Rattle.foyer_core.specs.Core.{Core, AtShard, record_of, shard_at, shard_of}
 use Rattle.foyer_core.specs.Values.{Rec, Held}
@@ -29,11 +30,13 @@ abbrev pub IsBounded : {K V P View C : Type 0} → Meaning K P View C → ℕ �
 IsBounded m weight old new = usage_of m new ≤ max old.capacity (weight + weight_of (m.policy.pinned old.view))
 
 module _ {K V P View C S W A : Type 0} (m : Meaning K P View C) where
-  -- a get of an equal key that is not refused finds this value; `hash` gives each key its hash
-  abbrev pub Finds : (K → ℕ) → Core K V P View S W A → K → V → Type 0
-  Finds hash core key value = (k : K) → m.same key k ≡ true
+  -- a get of an equal key, at a moment at which what has these properties is not expired, finds this value, unless it
+  -- is refused; `hash` gives each key its hash
+  abbrev pub Finds : (K → ℕ) → Core K V P View S W A → K → V → P → Type 0
+  Finds hash core key value properties = (now : ℕ) → is_expired now (m.expires properties) ≡ false
+      → (k : K) → m.same key k ≡ true
       → (answer : Result (Option (Held K V P)) Reason) (new : Core K V P View S W A) →
-      AtShard (λ s t. Gets m s (hash k, k) answer t) (hash k) core new
+      AtShard (λ s t. Gets m now s (hash k, k) answer t) (hash k) core new
       → IfOk answer (λ found. IsSomeAnd found (λ entry. entry.kept.value ≡ value))
 
   -- so it is for the shard of a hash

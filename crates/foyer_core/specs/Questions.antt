@@ -2,12 +2,12 @@
 use Rattle.std.specs.Prelude.{◌≡◌, ℕ, ◌<◌, true, Some}
 use denote.Ref.{Bor}
 use Rattle.std.specs.Fn.{Shared, FnReturns}
-use Rattle.foyer_core.specs.State.{State, hit}
+use Rattle.foyer_core.specs.State.{Meaning, State, hit}
 use Rattle.foyer_core.specs.Values.{Rec}
 
--- what a key hits may have a handle more
-abbrev pub MayGet : {K V P View : Type 0} → State K V P View → ℕ × K → Type 0
-MayGet {K} {V} {P} s k = (id : ℕ) (r : Rec K V P) → hit s k ≡ Some id → s.records id ≡ Some r →
+-- what a key hits at a moment may have a handle more
+abbrev pub MayGet : {K V P View C : Type 0} → Meaning K P View C → ℕ → State K V P View → ℕ × K → Type 0
+MayGet {K} {V} {P} m now s k = (id : ℕ) (r : Rec K V P) → hit m now s k ≡ Some id → s.records id ≡ Some r →
     r.handles < s.limits.handles
 
 -- a call that only looks was made with a key and a value, and ended

@@ -1,6 +1,7 @@
 -- A shard as maps.
-use Rattle.std.specs.Prelude.{◌≡◌, ℕ, ◌<◌, ◌≤◌, ◌^◌, ◌⊎◌, List, Option, Some, None, Bool, true, false, not, ◌||◌, if◌then◌else◌}
+use Rattle.std.specs.Prelude.{◌≡◌, ℕ, ◌<◌, ◌≤◌, ◌^◌, ◌⊎◌, List, Option, Some, None, Bool, true, false, not, ◌||◌, if◌then◌else◌, option_and_then}
 use Rattle.foyer_policy.specs.Items.{weight_of, count_of, find_id, remove_id, HasIdsOnce}
+use Rattle.foyer_policy.specs.Moments.{is_expired, timed}
 use Rattle.foyer_policy.specs.Policy.{Policy}
 use Rattle.foyer_policy.specs.Properties.{is_phantom, hint_or_normal}
 use Rattle.foyer_policy.specs.declared.types.Hint.{Hint}
@@ -57,9 +58,18 @@ MakesPlain phantom location p = (is_phantom (phantom p) ≡ false) × (is_on_dis
 abbrev pub AllData : {K V P View : Type 0} → (Data K V P → Type 0) → State K V P View → Type 0
 AllData {K} {V} {P} Q s = (id : ℕ) (r : Rec K V P) → s.records id ≡ Some r → Q r.kept
 
--- what a key hits: the one definition of a hit
-abbrev pub hit : {K V P View : Type 0} → State K V P View → ℕ × K → Option ℕ
-hit s k = s.index k
+-- a shard at a moment: what is expired then is the first to leave
+abbrev pub at_moment : {K P View C : Type 0} → ℕ → Meaning K P View C → Meaning K P View C
+at_moment now m = record m { policy = timed now m.policy }
+
+-- whether what is held of an id is expired at a moment; `expires` says when properties do
+abbrev pub is_expired_in : {K V P : Type 0} → (P → Option ℕ) → ℕ → Option (Rec K V P) → Bool
+is_expired_in expires now None = false
+is_expired_in expires now (Some r) = is_expired now (expires r.kept.properties)
+
+-- what a key hits at a moment, the one definition of a hit: the record in the index, unless that is expired then
+abbrev pub hit : {K V P View C : Type 0} → Meaning K P View C → ℕ → State K V P View → ℕ × K → Option ℕ
+hit m now s k = option_and_then (λ id. if is_expired_in m.expires now (s.records id) then None else Some id) (s.index k)
 
 -- how many handles there are of an id
 abbrev pub handles_of : {K V P : Type 0} → Option (Rec K V P) → ℕ

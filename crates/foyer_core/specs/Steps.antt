@@ -246,18 +246,19 @@ module _ {K V P View C : Type 0} (m : Meaning K P View C) where
         update nat_eq s.records id (Some (record r { handles = r.handles + 1 }));
   }
 
-  -- What a get answers: nothing where the key hits nothing, else an entry, or a refusal: F9 at the limit
-  -- of handles, or F7 where the record could not be shared. A refused one changes nothing.
-  abbrev pub Gets : State K V P View → ℕ × K → Result (Option (Held K V P)) Reason → State K V P View → Type 0
-  Gets old k (Ok None) new = (hit old k ≡ None) × (new ≡ old)
-  Gets old k (Ok (Some entry)) new =
-      (r : Rec K V P) × (hit old k ≡ Some entry.id) × (old.records entry.id ≡ Some r) × (r.handles < old.limits.handles)
-      × (entry ≡ entry_of old entry.id r.kept Memory) × (new ≡ after_get old entry.id r)
-  Gets old k (Err Handles) new = (id : ℕ) × (r : Rec K V P) × (hit old k ≡ Some id) × (old.records id ≡ Some r)
-      × (old.limits.handles ≤ r.handles) × (new ≡ old)
-  Gets old k (Err NoMemory) new = (id : ℕ) × (r : Rec K V P) × (hit old k ≡ Some id) × (old.records id ≡ Some r)
-      × (r.handles < old.limits.handles) × (new ≡ old)
-  Gets old k (Err _) new = ⊥
+  -- What a get answers at a moment: nothing where the key hits nothing, else an entry, or a refusal: F9 at the
+  -- limit of handles, or F7 where the record could not be shared. A refused one changes nothing.
+  abbrev pub Gets : ℕ → State K V P View → ℕ × K → Result (Option (Held K V P)) Reason → State K V P View → Type 0
+  Gets now old k (Ok None) new = (hit m now old k ≡ None) × (new ≡ old)
+  Gets now old k (Ok (Some entry)) new =
+      (r : Rec K V P) × (hit m now old k ≡ Some entry.id) × (old.records entry.id ≡ Some r)
+      × (r.handles < old.limits.handles) × (entry ≡ entry_of old entry.id r.kept Memory)
+      × (new ≡ after_get old entry.id r)
+  Gets now old k (Err Handles) new = (id : ℕ) × (r : Rec K V P) × (hit m now old k ≡ Some id)
+      × (old.records id ≡ Some r) × (old.limits.handles ≤ r.handles) × (new ≡ old)
+  Gets now old k (Err NoMemory) new = (id : ℕ) × (r : Rec K V P) × (hit m now old k ≡ Some id)
+      × (old.records id ≡ Some r) × (r.handles < old.limits.handles) × (new ≡ old)
+  Gets now old k (Err _) new = ⊥
 
   -- the last handle is gone: what is in the index is released, and else forgotten
   abbrev pub after_last : State K V P View → ℕ → Rec K V P → State K V P View
@@ -286,14 +287,14 @@ module _ {K V P View C : Type 0} (m : Meaning K P View C) where
     pub leaves : leave ≡ last_leave old.number id rec
     pub after : new ≡ after_give_back old id rec
 
-  -- What a touch answers: a get, whose entry is given back at once. It is refused at the limit of handles
+  -- What a touch answers at a moment: a get, whose entry is given back at once. It is refused at the limit of handles
   -- alone (F9).
-  abbrev pub Touches : State K V P View → ℕ × K → Result Bool Reason → State K V P View → Type 0
-  Touches old k (Ok false) new = Gets old k (Ok None) new
-  Touches old k (Ok true) new = (entry : Held K V P) × (mid : State K V P View) × Gets old k (Ok (Some entry)) mid
-      × GivesBack mid entry.id None new
-  Touches old k (Err Handles) new = Gets old k (Err Handles) new
-  Touches old k (Err _) new = ⊥
+  abbrev pub Touches : ℕ → State K V P View → ℕ × K → Result Bool Reason → State K V P View → Type 0
+  Touches now old k (Ok false) new = Gets now old k (Ok None) new
+  Touches now old k (Ok true) new = (entry : Held K V P) × (mid : State K V P View)
+      × Gets now old k (Ok (Some entry)) mid × GivesBack mid entry.id None new
+  Touches now old k (Err Handles) new = Gets now old k (Err Handles) new
+  Touches now old k (Err _) new = ⊥
 
   -- What a remove answers: nothing where the key has no record in the index, else an entry, and the record
   -- leaves as `Remove`; or a refusal of the handle.

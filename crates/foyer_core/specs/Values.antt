@@ -82,3 +82,4 @@ pub record Rec (K V P : Type 0) : Type 0 where
 pub record Answered : Type 0 where
   pub phantom : Option Bool
   pub hint : Hint
+  pub expires : Option ℕ

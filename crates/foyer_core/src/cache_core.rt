@@ -10,7 +10,7 @@ ghost use Rattle.foyer_core.specs.Idle.{NoneOpen};
 ghost use Rattle.foyer_core.specs.Inflight.{no_opens, waiters_of};
 ghost use Rattle.foyer_core.specs.Shards.{state_of};
 ghost use Rattle.foyer_core.specs.Waited.{insertion_of};
-ghost use Rattle.foyer_core.specs.State.{IsAdmitted, MakesPlain, coming_in};
+ghost use Rattle.foyer_core.specs.State.{IsAdmitted, MakesPlain, at_moment, coming_in};
 ghost use Rattle.foyer_core.specs.Stored.{meaning};
 
 use crate::config::RawCacheConfig;
@@ -189,40 +189,41 @@ impl<
         &self.hash_builder
     }
 
-    /// Whether a get finds a record under the key. It takes no memory.
-    pub fn contains(&self, key: &K) -> bool
+    /// Whether a get finds a record under the key at a moment. It takes no memory.
+    pub fn contains(&self, now: u64, key: &K) -> bool
         ensures { let hash = S.hash_of (core_of self.now).hash_builder (K.hash_input key.now) in
-            result ≡ is_some (hit_in (core_of self.now) (hash, key.now)) }
+            result ≡ is_some (hit_in (meaning_of_core self.now) now (core_of self.now) (hash, key.now)) }
     {
         let hash = self.hash(key);
-        self.shards[self.shard_index(hash)].contains(hash, key)
+        self.shards[self.shard_index(hash)].contains(now, hash, key)
     }
 
-    /// An entry of the key's record, where there is one, which counts as a handle and as a use. Refused at
-    /// the limit of handles (F9), or where the record could not be shared (F7); then nothing has changed.
+    /// An entry of the key's record, where there is one that is not expired at a moment, which counts as a handle and as a
+    /// use. Refused at the limit of handles (F9), or where the record could not be shared (F7); then nothing has changed.
     /// It allocates nothing.
     #[inline(always)]
-    pub fn get(&mut self, key: &K) -> Result<Option<CoreEntry<K, V, P>>>
+    pub fn get(&mut self, now: u64, key: &K) -> Result<Option<CoreEntry<K, V, P>>>
         ensures gets { let hash = S.hash_of (core_of self.old).hash_builder (K.hash_input key.now) in
-            AtShard (λ s t. Gets (meaning_of_core self.old) s (hash, key.now) result t)
+            AtShard (λ s t. Gets (meaning_of_core self.old) now s (hash, key.now) result t)
             hash (core_of self.old) (core_of self.new) }
         ensures fetches { fetches_of self.new ≡ fetches_of self.old }
         ensures laws { CallLaws K.eq (hashes_of self.old) (λ _. 0) (core_of self.old) [] (core_of self.new) }
     {
         let hash = self.hash(key);
         let place = self.shard_index(hash);
-        self.shards[place].get(hash, key)
+        self.shards[place].get(now, hash, key)
     }
 
     /// Puts a value in under a key, with default properties, as `insert_with_properties` does.
     pub fn insert(
         &mut self,
+        now: u64,
         key: K,
         value: V,
     ) -> std::result::Result<Inserted<K, V, P, N>, Refused<K, V, P>>
         requires clones { (k c : K) → K.is_clone k c → K.eq c k ≡ true }
         ensures inserted { (p : P) × P.is_default p
-            × InsertsWeighed (meaning_of_core self.old) Outer (W.weighs (core_of self.old).weighter key value) (A.admits (core_of self.old).filter key value)
+            × InsertsWeighed (at_moment now (meaning_of_core self.old)) Outer (W.weighs (core_of self.old).weighter key value) (A.admits (core_of self.old).filter key value)
             (hashes_of self.old key) key value (λ admitted. coming_in P.location_of P.with_phantom_of admitted p)
             (1 + length (waiters_of (open_in (fetches_of self.old) (hashes_of self.old key, key)))) (insertion_of result) (core_of self.old) (core_of self.new) }
         ensures given { IfOk result (λ made. IsNewEntry (core_of self.old) (hashes_of self.old key) key value made.entry) }
@@ -234,7 +235,7 @@ impl<
         ensures laws { InsertLaws (meaning_of_core self.old) (hashes_of self.old) (hashes_of self.new) (hashes_of self.old key)
             (core_of self.old) (insertion_of result) (core_of self.new) }
     {
-        self.insert_with_properties(key, value, P::default())
+        self.insert_with_properties(now, key, value, P::default())
     }
 
     /// Puts a record in, of the weight that the weighter gives it, and answers an entry of it, one more for each who
@@ -242,10 +243,10 @@ impl<
     /// which is asked after the weighter, does not admit the record, or it is to be on disk alone, its properties are
     /// made to say that it is phantom.
     ///
-    /// For a plain record others are evicted until its shard's capacity has room for it, or nothing more leaves,
-    /// and then the key's record gives way (`Replace`). Afterwards a get of an equal key finds the value, however
-    /// heavy it is, and the shard's usage is at most its capacity, or the record's weight and what was pinned
-    /// before, whichever is more. A phantom one, which its properties say, is never found: nothing is evicted for
+    /// For a plain record others are evicted until its shard's capacity has room for it, or nothing more leaves, those
+    /// first that are expired at the moment, and then the key's record gives way (`Replace`). Afterwards a get of an equal
+    /// key finds the value until it expires, however heavy it is, and the shard's usage is at most its capacity, or the
+    /// record's weight and what was pinned before, whichever is more. A phantom one, which its properties say, is never found: nothing is evicted for
     /// it, the key's record gives way, it is told as `Remove`, and it leaves (`Evict`) with its last handle.
     ///
     /// Refused, in this order, where no id is left (F10), the handle would pass the limit (F9), the weight of a
@@ -254,12 +255,13 @@ impl<
     /// waits for the key still waits.
     pub fn insert_with_properties(
         &mut self,
+        now: u64,
         key: K,
         value: V,
         properties: P,
     ) -> std::result::Result<Inserted<K, V, P, N>, Refused<K, V, P>>
         requires clones { (k c : K) → K.is_clone k c → K.eq c k ≡ true }
-        ensures inserted { InsertsWeighed (meaning_of_core self.old) Outer (W.weighs (core_of self.old).weighter key value) (A.admits (core_of self.old).filter key value)
+        ensures inserted { InsertsWeighed (at_moment now (meaning_of_core self.old)) Outer (W.weighs (core_of self.old).weighter key value) (A.admits (core_of self.old).filter key value)
             (hashes_of self.old key) key value (λ admitted. coming_in P.location_of P.with_phantom_of admitted properties)
             (1 + length (waiters_of (open_in (fetches_of self.old) (hashes_of self.old key, key)))) (insertion_of result) (core_of self.old) (core_of self.new) }
         ensures given { IfOk result (λ made. IsNewEntry (core_of self.old) (hashes_of self.old key) key value made.entry) }
@@ -272,7 +274,7 @@ impl<
             (core_of self.old) (insertion_of result) (core_of self.new) }
     {
         let mut leaves = Vec::new(self.alloc);
-        match self.insert_with_properties_onto(key, value, properties, &mut leaves) {
+        match self.insert_with_properties_onto(now, key, value, properties, &mut leaves) {
             Ok(made) => {
                 let InsertedOnto { entry, answers } = made;
                 Ok(Inserted {

@@ -19,6 +19,8 @@ mod answering;
 #[derive(Drop)]
 struct Inflight<N, R> {
     id: u64,
+    // the moment at which it was opened
+    opened: u64,
     waiters: Vec<Waiting<N>>,
     // the first builder that one who waits brought
     later: Option<R>,
@@ -29,13 +31,13 @@ impl<N, R> Model for Inflight<N, R> {
 
     ghost Value = { OpenFetch N R };
 
-    ghost view = { λ p. record { fetch = p.id; tokens = p.waiters.items; later = p.later } };
+    ghost view = { λ p. record { fetch = p.id; opened = p.opened; tokens = p.waiters.items; later = p.later } };
 }
 
 impl<N: Drop, R: Drop> Inflight<N, R> {
-    // A new fetch, for which this one waits. Only memory can be missing.
-    fn new(alloc: Global, id: u64, waiting: Waiting<N>) -> Result<Self>
-        ensures made { IfOk result (λ o. o ≡ record { fetch = id; tokens = waiting ∷ []; later = None }) }
+    // A new fetch, opened at a moment, for which this one waits. Only memory can be missing.
+    fn new(alloc: Global, now: u64, id: u64, waiting: Waiting<N>) -> Result<Self>
+        ensures made { IfOk result (λ o. o ≡ record { fetch = id; opened = now; tokens = waiting ∷ []; later = None }) }
         ensures refused { IfErr result (λ e. e ≡ NoMemory) }
     {
         let Ok(mut waiters) = Vec::with_capacity(alloc, 1) else {
@@ -44,6 +46,7 @@ impl<N: Drop, R: Drop> Inflight<N, R> {
         waiters.push_reserved(waiting);
         Ok(Inflight {
             id,
+            opened: now,
             waiters,
             later: None,
         })
@@ -51,7 +54,7 @@ impl<N: Drop, R: Drop> Inflight<N, R> {
 
     // One more waits. Its builder is kept where none is. Only memory can be missing, and nothing changes then.
     fn join(&mut self, waiting: Waiting<N>, later: Option<R>) -> Result<()>
-        ensures joined { OnOk result (self.new ≡ joined (Some self.old) self.old.fetch waiting later) }
+        ensures joined { OnOk result (self.new ≡ joined (Some self.old) self.old.opened self.old.fetch waiting later) }
         ensures refused { IfErr result (λ e. e ≡ NoMemory) }
         ensures err { OnErr result (self.new ≡ self.old) }
     {
@@ -68,7 +71,7 @@ impl<N: Drop, R: Drop> Inflight<N, R> {
     // The builder that is kept, which is kept no longer.
     fn take_later(&mut self) -> Option<R>
         ensures later { result ≡ self.old.later }
-        ensures taken { self.new ≡ record { fetch = self.old.fetch; tokens = self.old.tokens; later = None } }
+        ensures taken { self.new ≡ record self.old { later = None } }
     {
         self.later.take()
     }
@@ -141,11 +144,12 @@ impl<K: Key, N: Drop, R: Drop> InflightManager<K, N, R> {
         }
     }
 
-    /// One more asks for a key that is missing. It leads a new fetch where none is open, and else waits. Its
+    /// One more asks for a key that is missing at a moment. It leads a new fetch where none is open, and else waits. Its
     /// builder is kept where it waits and no builder is kept. Refused where a number is not below `ids` (F10), and
     /// then only for want of memory (F7); nothing changes.
     pub fn enqueue(
         &mut self,
+        now: u64,
         hash: u64,
         key: K,
         required_fetch_builder: Option<R>,
@@ -154,13 +158,13 @@ impl<K: Key, N: Drop, R: Drop> InflightManager<K, N, R> {
     ) -> Result<Enqueue<R>>
         ensures answer { IfOk result (λ answer. answer ≡ enqueued ((opens_of self.old).by_key (hash, key))
             (opens_of self.old).next_fetch (opens_of self.old).next_token required_fetch_builder) }
-        ensures opens { OnOk result (opens_of self.new ≡ after_enqueue K.eq (opens_of self.old) (hash, key) waiter required_fetch_builder) }
+        ensures opens { OnOk result (opens_of self.new ≡ after_enqueue K.eq now (opens_of self.old) (hash, key) waiter required_fetch_builder) }
         ensures numbers { OnOk result (HasNumbers ids (opens_of self.old) (hash, key)) }
         ensures refused { IfErr result (λ e. RefusesEnqueue ids (opens_of self.old) (hash, key) e) }
         ensures err { OnErr result (opens_of self.new ≡ opens_of self.old) }
     {
         let Some(number) = self.index.get(hash, &key) else {
-            return self.lead(hash, key, required_fetch_builder, waiter, ids);
+            return self.lead(now, hash, key, required_fetch_builder, waiter, ids);
         };
         let token = self.next_token;
         if token >= ids {
@@ -177,6 +181,7 @@ impl<K: Key, N: Drop, R: Drop> InflightManager<K, N, R> {
     // The first one asks for a key.
     fn lead(
         &mut self,
+        now: u64,
         hash: u64,
         key: K,
         required_fetch_builder: Option<R>,
@@ -185,7 +190,7 @@ impl<K: Key, N: Drop, R: Drop> InflightManager<K, N, R> {
     ) -> Result<Enqueue<R>>
         requires { numbers_in self.old.index (hash, key) ≡ None }
         ensures answer { IfOk result (λ answer. answer ≡ enqueued {N = N} None self.old.next_fetch self.old.next_token required_fetch_builder) }
-        ensures opens { OnOk result (opens_of self.new ≡ after_enqueue K.eq (opens_of self.old) (hash, key) waiter required_fetch_builder) }
+        ensures opens { OnOk result (opens_of self.new ≡ after_enqueue K.eq now (opens_of self.old) (hash, key) waiter required_fetch_builder) }
         ensures numbers { OnOk result (HasNumbers ids (opens_of self.old) (hash, key)) }
         ensures refused { IfErr result (λ e. RefusesEnqueue ids (opens_of self.old) (hash, key) e) }
         ensures err { OnErr result (opens_of self.new ≡ opens_of self.old) }
@@ -195,7 +200,7 @@ impl<K: Key, N: Drop, R: Drop> InflightManager<K, N, R> {
         if id >= ids || token >= ids {
             return Err(Error::new(Reason::Ids));
         }
-        let inflight = Inflight::new(self.alloc, id, Waiting { token, waiter })?;
+        let inflight = Inflight::new(self.alloc, now, id, Waiting { token, waiter })?;
         let Ok(()) = self.inflights.reserve() else {
             return Err(Error::new(Reason::NoMemory));
         };
@@ -274,7 +279,7 @@ impl<K: Key, N: Drop, R: Drop> InflightManager<K, N, R> {
         requires { is_some ((opens_of self.old).by_key (hash, key.now)) ≡ true }
         ensures later { (o : OpenFetch N R) → (opens_of self.old).by_key (hash, key.now) ≡ Some o → result ≡ o.later }
         ensures opens { (o : OpenFetch N R) → (opens_of self.old).by_key (hash, key.now) ≡ Some o
-            → opens_of self.new ≡ with_open K.eq (opens_of self.old) (hash, key.now) (Some (record { fetch = o.fetch; tokens = o.tokens; later = None })) }
+            → opens_of self.new ≡ with_open K.eq (opens_of self.old) (hash, key.now) (Some (record o { later = None })) }
     {
         let number = self.index.get(hash, key)?;
         let Some(inflight) = self.inflights.get_mut(number as usize) else {

@@ -2,38 +2,49 @@
 
 ghost use Rattle.std.specs.Prelude.{◌≡◌};
 ghost use Rattle.foyer_core.specs.State.{coming_in};
+ghost use Rattle.foyer_policy.specs.Moments.{is_expired};
 
 use foyer_policy::{Age, Hint, Location, Properties};
 use std::marker::Model;
 
-/// Whether a record is a phantom, and its hint. Of location and age nothing is kept.
+/// Whether a record is a phantom, its hint, and when it expires. Of location and age nothing is kept.
 #[derive(Clone, Debug, Drop, PartialEq, Eq)]
 pub struct CacheProperties {
     phantom: Option<bool>,
     hint: Hint,
+    // 0 where the record does not expire
+    moment: u64,
+    expires: bool,
 }
 
 impl Model for CacheProperties {
     ghost use Rattle.foyer_core.specs.Values.{Answered};
+    ghost use Rattle.foyer_core.specs.CacheProperties.{IsPlain, whole, parts, parts-whole};
 
     ghost Value = { Answered };
 
-    ghost view = { λ p. record { phantom = p.phantom; hint = p.hint } };
+    ghost view = { whole };
 
-    ghost inverse = { λ a. record { phantom = a.phantom; hint = a.hint } };
+    ghost invariant = { IsPlain };
+
+    ghost inverse = { parts };
+
+    ghost inverse_ok = { parts-whole };
 }
 
 impl Default for CacheProperties {
     ghost use Rattle.std.specs.Prelude.{◌≡◌, None};
     ghost use Rattle.foyer_policy.specs.declared.types.Hint.TheVariants.{Normal};
 
-    ghost is_default = { λ p. p ≡ record { phantom = None; hint = Normal } };
+    ghost is_default = { λ p. p ≡ record { phantom = None; hint = Normal; expires = None } };
 
-    /// No phantom answer, and the normal hint.
+    /// No phantom answer, the normal hint, and no expiry.
     fn default() -> CacheProperties {
         CacheProperties {
             phantom: None,
             hint: Hint::Normal,
+            moment: 0,
+            expires: false,
         }
     }
 }
@@ -53,6 +64,35 @@ impl CacheProperties {
     {
         self.hint
     }
+
+    /// The same properties, which say that the record expires at this moment, or never where there is none. From that
+    /// moment on a lookup misses the record.
+    pub fn with_expiry(self, expires: Option<u64>) -> Self
+        ensures { result ≡ record self { expires = expires } }
+    {
+        let (expires, moment) = match expires {
+            Some(moment) => (true, moment),
+            None => (false, 0),
+        };
+        CacheProperties {
+            phantom: self.phantom,
+            hint: self.hint,
+            moment,
+            expires,
+        }
+    }
+
+    /// When the record expires, or none.
+    #[inline(always)]
+    pub fn expiry(&self) -> Option<u64>
+        ensures { result ≡ self.now.expires }
+    {
+        if self.expires {
+            Some(self.moment)
+        } else {
+            None
+        }
+    }
 }
 
 impl Properties for CacheProperties {
@@ -66,7 +106,7 @@ impl Properties for CacheProperties {
 
     ghost age_of = { λ _. None };
 
-    ghost expiry_of = { λ _. None };
+    ghost expiry_of = { λ p. p.expires };
 
     ghost with_phantom_of = { λ p b. record p { phantom = Some b } };
 
@@ -120,8 +160,27 @@ impl Properties for CacheProperties {
         None
     }
 
+    // The expiry is kept.
+    fn with_expiry(self, expires: Option<u64>) -> CacheProperties
+        ensures { result ≡ record self { expires = expires } }
+    {
+        CacheProperties::with_expiry(self, expires)
+    }
+
+    #[inline(always)]
     fn expiry(&self) -> Option<u64> {
-        None
+        CacheProperties::expiry(self)
+    }
+}
+
+/// Whether a record is expired at a moment that expires then, or never where there is none.
+#[inline(always)]
+pub(crate) fn is_expired(expiry: Option<u64>, now: u64) -> bool
+    ensures { result ≡ is_expired now expiry }
+{
+    match expiry {
+        Some(moment) => moment <= now,
+        None => false,
     }
 }
 

@@ -2,7 +2,8 @@
 
 ghost use Rattle.std.specs.Prelude.{◌≡◌, ◌↔◌, ℕ, ◌<◌, None, OnOk, IfOk, IfErr, IfSome, IsTrue, is_some, length, Err};
 ghost use Rattle.foyer_policy.specs.declared.error.Reason.TheVariants.{NoMemory};
-ghost use Rattle.foyer_core.specs.Inflight.{Apart, no_opens};
+ghost use Rattle.foyer_core.specs.Fetching.{Apart};
+ghost use Rattle.foyer_core.specs.Inflight.{no_opens};
 ghost use Rattle.foyer_core.specs.Inflights.{opens_of as manager_opens};
 ghost use Rattle.foyer_core.specs.Stores.{state_of as store_state};
 
@@ -29,8 +30,8 @@ mod questions;
 pub struct Shard<E: Eviction, K: Key, V: Value, P: Properties, N: Drop, R: Drop, I: Finder<K>> {
     store: Store<E, K, V, P, I>,
     inflights: InflightManager<K, N, R>,
-    // a key that is in the index has no open fetch
-    ghost apart: { Apart (store_state store).index (manager_opens inflights) },
+    // a key that is in the index and has an open fetch was expired when that was opened
+    ghost apart: { Apart P.expiry_of (store_state store) (manager_opens inflights) },
 }
 
 impl<E: Eviction, K: Key, V: Value, P: Properties, N: Drop, R: Drop, I: Finder<K>> Shard<
@@ -93,11 +94,11 @@ impl<E: Eviction, K: Key, V: Value, P: Properties, N: Drop, R: Drop, I: Finder<K
         self.store.entries()
     }
 
-    /// Whether a key has a record in the index. It takes no memory.
-    pub fn contains(&self, hash: u64, key: &K) -> bool
-        ensures { result ≡ is_some (hit (state_of self.now) (hash, key.now)) }
+    /// Whether a key has a record in the index that is not expired at a moment. It takes no memory.
+    pub fn contains(&self, now: u64, hash: u64, key: &K) -> bool
+        ensures { result ≡ is_some (hit (meaning_of self.now) now (state_of self.now) (hash, key.now)) }
     {
-        self.store.contains(hash, key)
+        self.store.contains(now, hash, key)
     }
 
     /// Whether the entry has the number of the shard's core and its record has a handle here. It takes no memory.

@@ -17,6 +17,7 @@ mod drops;
 mod entries;
 mod fetches;
 mod memory;
+mod moments;
 mod refused;
 mod shards;
 
@@ -57,7 +58,7 @@ fn put<E: Eviction, W: Weighter<u64, u64>, A: Filter<u64, u64>, I: Finder<u64>>(
     key: u64,
     value: u64,
 ) -> (Entry, Leaves) {
-    let made = core.insert(key, value).expect(rt, "an insert");
+    let made = core.insert(0, key, value).expect(rt, "an insert");
     taken(rt, core, made)
 }
 
@@ -90,7 +91,7 @@ fn found<E: Eviction, W: Weighter<u64, u64>, A: Filter<u64, u64>, I: Finder<u64>
     core: &mut Core<E, W, A, I>,
     key: u64,
 ) -> Entry {
-    core.get(&key).expect(rt, "a get").expect(rt, "an entry")
+    core.get(0, &key).expect(rt, "a get").expect(rt, "an entry")
 }
 
 // An entry that the core owns goes back, and nothing leaves with it.
@@ -124,8 +125,19 @@ fn ask<E: Eviction, W: Weighter<u64, u64>, A: Filter<u64, u64>, I: Finder<u64>>(
     key: u64,
     builder: Option<u64>,
 ) -> Asked {
+    ask_at(rt, core, 0, key, builder)
+}
+
+// Asks for a key at a moment.
+fn ask_at<E: Eviction, W: Weighter<u64, u64>, A: Filter<u64, u64>, I: Finder<u64>>(
+    rt: &impl Abort,
+    core: &mut Core<E, W, A, I>,
+    now: u64,
+    key: u64,
+    builder: Option<u64>,
+) -> Asked {
     match core
-        .get_or_enqueue(&key, builder, key)
+        .get_or_enqueue(now, &key, builder, key)
         .expect(rt, "a look-up")
     {
         Lookup::Lead {
@@ -154,7 +166,7 @@ fn gets_find_what_was_inserted(rt: HostRuntime) -> Done {
         assert_eq!(rt; (entry.source(), core.owns(&entry)), (Source::Memory, true));
         release(&rt, &mut core, entry);
     }
-    assert!(rt; core.contains(&99) && !core.contains(&100));
+    assert!(rt; core.contains(0, &99) && !core.contains(0, &100));
     assert_eq!(rt; (core.capacity(), core.shards()), (100, 1));
     assert_eq!(rt; (core.usage(), core.entries()), (100, 100));
     assert_eq!(rt;
@@ -186,11 +198,11 @@ fn a_phantom_record_leaves_with_its_last_handle(rt: HostRuntime) -> Done {
     let phantom = CacheProperties::default()
         .with_hint(Hint::Low)
         .with_phantom(true);
-    let made = core.insert_with_properties(1, 100, phantom);
+    let made = core.insert_with_properties(0, 1, 100, phantom);
     let (entry, leaves) = taken(&rt, &mut core, made.expect(&rt, "an insert"));
     assert_left(&rt, &leaves, &[(Event::Replace, 1), (Event::Remove, 1)]);
     assert_eq!(rt;
-        (entry.properties().hint(), core.contains(&1)),
+        (entry.properties().hint(), core.contains(0, &1)),
         (Hint::Low, false)
     );
     let (event, left) = core.drop_entry(entry).expect(&rt, "a leave");
@@ -219,6 +231,7 @@ fn leaves_go_onto_a_list(rt: HostRuntime) -> Done {
     let mut leaves = Vec::new(rt.alloc());
     for key in [1, 2, 3] {
         let made = core.insert_with_properties_onto(
+            0,
             key,
             key,
             CacheProperties::default(),
@@ -227,7 +240,7 @@ fn leaves_go_onto_a_list(rt: HostRuntime) -> Done {
         settle(&rt, &mut core, made.expect(&rt, "an insert"));
     }
     let (_, left) = leaves.pop().expect(&rt, "a leave");
-    let made = core.insert_piece_onto(left.piece(), &mut leaves);
+    let made = core.insert_piece_onto(0, left.piece(), &mut leaves);
     settle(&rt, &mut core, made.expect(&rt, "an insert"));
     assert_left(&rt, &leaves, &[(Event::Evict, 1), (Event::Evict, 3)]);
     Ok(())
@@ -240,7 +253,7 @@ fn a_refusal_has_a_text(rt: HostRuntime) -> Done {
         ..config(2, 1)
     };
     let mut core: Core = CacheCore::new(rt.alloc(), config)?;
-    match core.insert(1, 10) {
+    match core.insert(0, 1, 10) {
         Ok(made) => {
             taken(&rt, &mut core, made).0.discard();
             panic!(rt; "a record without a number");

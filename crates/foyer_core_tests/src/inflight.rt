@@ -13,7 +13,7 @@ fn ask(
     key: u64,
     builder: Option<u64>,
 ) -> Result<(Option<u64>, u64, Option<u64>)> {
-    match fetches.enqueue(7, key, builder, key + 100, u64::MAX)? {
+    match fetches.enqueue(0, 7, key, builder, key + 100, u64::MAX)? {
         Enqueue::Lead {
             id,
             token,

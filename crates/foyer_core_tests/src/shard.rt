@@ -68,7 +68,7 @@ fn all_back<E: Eviction>(
 // Puts a record in, for which nothing leaves, and lets its entry go.
 fn put<E: Eviction>(rt: &impl Abort, alloc: Global, shard: &mut Over<E>, key: u64, weight: usize) {
     let mut leaves = Vec::new(alloc);
-    let made = shard.emplace(alloc, data(key, weight), Source::Outer, &mut leaves);
+    let made = shard.emplace(alloc, 0, data(key, weight), Source::Outer, &mut leaves);
     settle(rt, shard, made.expect(rt, "an insert"));
     assert!(rt; leaves.is_empty(), "insert of {key}");
 }
@@ -85,7 +85,7 @@ fn three(rt: &impl Abort, alloc: Global) -> Result<Over<Lru>> {
 // An entry of a key that is in.
 fn hold<E: Eviction>(rt: &impl Abort, shard: &mut Over<E>, key: u64) -> Entry {
     shard
-        .get(key, &key)
+        .get(0, key, &key)
         .expect(rt, "a get")
         .expect(rt, "an entry")
 }
@@ -104,7 +104,7 @@ fn leaves_go_onto_a_list(rt: HostRuntime) -> Done {
     let mut shard = three(&rt, rt.alloc())?;
     let mut leaves = Vec::new(rt.alloc());
     shard.evict_if(rt.alloc(), &|key: &u64, _: &u64| *key == 2, &mut leaves)?;
-    let made = shard.emplace(rt.alloc(), data(4, 5), Source::Outer, &mut leaves);
+    let made = shard.emplace(rt.alloc(), 0, data(4, 5), Source::Outer, &mut leaves);
     settle(&rt, &mut shard, made.expect(&rt, "an insert"));
     shard.clear_onto(&mut leaves)?;
     assert_left(
@@ -125,16 +125,16 @@ fn records_are_evicted_by_weight(rt: HostRuntime) -> Done {
     let mut shard = three(&rt, rt.alloc())?;
     shard.configure(&LruConfig::default());
     let mut leaves = Vec::new(rt.alloc());
-    shard.evict_onto(&mut leaves, 3)?;
+    shard.evict_onto(0, &mut leaves, 3)?;
     assert_eq!(rt; (leaves.len(), shard.usage()), (2, 1));
     leaves.clear();
     put(&rt, rt.alloc(), &mut shard, 4, 2);
-    shard.evict_onto(&mut leaves, 2)?;
+    shard.evict_onto(0, &mut leaves, 2)?;
     put(&rt, rt.alloc(), &mut shard, 5, 1);
     shard.set_capacity(1);
     assert_eq!(rt; (shard.entries(), shard.usage()), (2, 3));
-    shard.evict_to_capacity(&mut leaves)?;
-    shard.evict_unpinned(&mut leaves)?;
+    shard.evict_to_capacity(0, &mut leaves)?;
+    shard.evict_unpinned(0, &mut leaves)?;
     assert_left(
         &rt,
         &leaves,
@@ -172,9 +172,9 @@ fn refusals_are_foreseen(rt: HostRuntime) -> Done {
     assert!(rt; shard.refuses_insert(1, &1, &properties, 1).is_none());
     put(&rt, rt.alloc(), &mut shard, 1, 1);
     assert!(rt; shard.refuses_insert(2, &2, &properties, 1) == Some(Reason::Ids));
-    assert!(rt; shard.refuses_get(1, &1).is_none());
+    assert!(rt; shard.refuses_get(0, 1, &1).is_none());
     let held = hold(&rt, &mut shard, 1);
-    assert!(rt; shard.refuses_get(1, &1) == Some(Reason::Handles));
+    assert!(rt; shard.refuses_get(0, 1, &1) == Some(Reason::Handles));
     release(&rt, &mut shard, held);
     Ok(())
 }

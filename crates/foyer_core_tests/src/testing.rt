@@ -21,3 +21,11 @@ pub fn assert_left(rt: &impl Abort, leaves: &Leaves, told: &[(Event, u64)]) {
         assert_eq!(rt; (*event, *left.key()), (*reason, *key));
     }
 }
+
+/// These keys were evicted, in this order, and no other.
+pub fn assert_evicted(rt: &impl Abort, leaves: &Leaves, keys: &[u64]) {
+    assert_eq!(rt; leaves.len(), keys.len());
+    for ((event, left), key) in leaves.iter().zip(keys) {
+        assert_eq!(rt; (*event, *left.key()), (Event::Evict, *key));
+    }
+}

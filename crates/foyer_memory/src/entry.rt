@@ -135,7 +135,7 @@ where
         self.entry.refs()
     }
 
-    /// Whether no get finds the record any more. It locks the record's shard.
+    /// Whether the record is in no more: it left, or gave way to another. It locks the record's shard.
     pub fn is_outdated(&self) -> bool {
         self.entry.is_outdated()
     }

@@ -1,11 +1,12 @@
-//! A cache beside a core of one thread: random calls, which both answer alike.
+//! A cache beside a core of one thread: random calls at random moments, which both answer alike.
 
-use crate::testing::{Cache, Entry, Outcome, at_once, finish, given, target};
+use crate::testing::{Cache, Entry, Outcome, Target, at_once, finish};
 use foyer_core::{Answers, CacheCore, CoreEntry, Ended, Inserted, Leave, Lookup};
-use foyer_memory::{CacheProperties, Eviction};
+use foyer_memory::{CacheProperties, Eviction, FetchTarget};
 use foyer_policy::{ModHasher, Source};
 use foyer_raw::ListSpawner;
 use foyer_raw_tests::notes::{Note, Notes};
+use futures::future::ready;
 use std::alloc::Global;
 use std::random::RandomSource;
 use std::sync::Wait;
@@ -36,6 +37,23 @@ struct Both<H: Wait + Drop, E: Eviction> {
     heard: Notes,
     left: Vec<Note>,
     held: Vec<(Entry<H>, Kept)>,
+    // The moment of the next call.
+    now: u64,
+}
+
+// The properties of a record with this value, which is the number of the call that puts it in: of two records one expires,
+// some calls later.
+fn properties(value: u64) -> CacheProperties {
+    let expires = (value % 2 == 1).then(|| value / 4 + 4 + value % 8);
+    CacheProperties::default().with_expiry(expires)
+}
+
+// What a fetch of this value gives.
+fn target(value: u64) -> Target {
+    FetchTarget::Entry {
+        value,
+        properties: properties(value),
+    }
 }
 
 // The handles of the first two who get one.
@@ -100,8 +118,13 @@ impl<H: Wait + RandomSource + Alloc<A = Global> + Copy + Drop, E: Eviction> Both
 
     // An insert.
     fn insert(&mut self, key: u32, value: u64) -> Outcome<bool> {
-        let entry = self.cache.insert(key, value)?;
-        let (kept, leaves) = match self.core.insert(key, value) {
+        let entry = self
+            .cache
+            .insert_with_properties(self.now, key, value, properties(value))?;
+        let made = self
+            .core
+            .insert_with_properties(self.now, key, value, properties(value));
+        let (kept, leaves) = match made {
             Ok(
                 Inserted {
                     entry,
@@ -134,12 +157,13 @@ impl<H: Wait + RandomSource + Alloc<A = Global> + Copy + Drop, E: Eviction> Both
     // Two look-ups that fetch, and the fetch.
     fn fetch(&mut self, rt: H, key: u32, value: u64) -> Outcome<bool> {
         let mut spawner = ListSpawner::new(rt.alloc());
+        let fetch = || ready(Ok(target(value)));
         let first = self
             .cache
-            .get_or_fetch(&key, || given(value), &mut spawner)?;
+            .get_or_fetch(self.now, &key, fetch, &mut spawner)?;
         let second = self
             .cache
-            .get_or_fetch(&key, || given(value), &mut spawner)?;
+            .get_or_fetch(self.now, &key, fetch, &mut spawner)?;
         finish(&rt, spawner)?;
         let (first, second) = (at_once(&rt, first)??, at_once(&rt, second)??);
         let (fetch, lead) = self.ask(key)?;
@@ -159,7 +183,7 @@ impl<H: Wait + RandomSource + Alloc<A = Global> + Copy + Drop, E: Eviction> Both
             leaves,
         } = self
             .core
-            .complete(&key, fetch, target(value), Source::Outer);
+            .complete(self.now, &key, fetch, target(value), Source::Outer);
         let two = two_of(answers);
         self.note(leaves)?;
         Ok(two)
@@ -167,7 +191,7 @@ impl<H: Wait + RandomSource + Alloc<A = Global> + Copy + Drop, E: Eviction> Both
 
     // What the core answers who asks for a key: the fetch that is to be led, or a handle.
     fn ask(&mut self, key: u32) -> Outcome<(Option<u64>, Kept)> {
-        match self.core.get_or_enqueue(&key, None, ())? {
+        match self.core.get_or_enqueue(self.now, &key, None, ())? {
             Lookup::Hit(handle) => Ok((None, Kept(Some(handle)))),
             Lookup::Lead {
                 fetch,
@@ -180,15 +204,16 @@ impl<H: Wait + RandomSource + Alloc<A = Global> + Copy + Drop, E: Eviction> Both
 
     // One call, picked by a number; whether both answered alike.
     fn step(&mut self, rt: H, pick: u64, key: u32, value: u64) -> Outcome<bool> {
+        let now = self.now;
         match pick {
             0 | 1 => self.insert(key, value),
             2 => {
-                let entry = self.cache.get(&key)?;
-                let kept = Kept(self.core.get(&key)?);
+                let entry = self.cache.get(now, &key)?;
+                let kept = Kept(self.core.get(now, &key)?);
                 self.hold_found(entry, kept)
             }
-            3 => Ok(self.cache.touch(&key)? == self.core.touch(&key)?),
-            4 => Ok(self.cache.contains(&key) == self.core.contains(&key)),
+            3 => Ok(self.cache.touch(now, &key)? == self.core.touch(now, &key)?),
+            4 => Ok(self.cache.contains(now, &key) == self.core.contains(now, &key)),
             5 => self.remove(key),
             _ => self.fetch(rt, key, value),
         }

@@ -111,8 +111,8 @@ impl<H: Wait + Drop, T: FetchTypes<u32, u64, CacheProperties>> Future for Twice<
 fn two_wait_for_one_fetch(rt: HostRuntime) -> Outcome {
     let cache: Cache<HostRuntime> = fetching(rt)?;
     let mut spawner = ListSpawner::new(rt.alloc());
-    let first = cache.get_or_fetch(&7, || given(69), &mut spawner)?;
-    let second = cache.get_or_fetch(&7, || given(68), &mut spawner)?;
+    let first = cache.get_or_fetch(0, &7, || given(69), &mut spawner)?;
+    let second = cache.get_or_fetch(0, &7, || given(68), &mut spawner)?;
     let first = first.try_unwrap().err().ok_or("a hit")?;
     finish(&rt, spawner)?;
     let (first, second) = (at_once(&rt, first)??, at_once(&rt, second)??);
@@ -122,7 +122,7 @@ fn two_wait_for_one_fetch(rt: HostRuntime) -> Outcome {
         (Source::Outer, Source::Outer)
     );
     let mut spawner = ListSpawner::new(rt.alloc());
-    let hit = cache.get_or_fetch(&7, || given(1), &mut spawner)?;
+    let hit = cache.get_or_fetch(0, &7, || given(1), &mut spawner)?;
     let hit = hit.try_unwrap().ok().ok_or("a miss")??;
     assert_eq!(rt; (*hit, hit.source()), (69, Source::Memory));
     Ok(())
@@ -157,7 +157,7 @@ fn each_kind_prints_its_name(rt: HostRuntime) -> Outcome {
         let kind = format!(in alloc; "Cache::{name}Cache")?;
         assert_eq!(rt; format!(in alloc; "{cache:?}")?, kind);
         let mut last: Last<Task<HostRuntime>> = Last { task: None };
-        let look = cache.get_or_fetch(&7, || given(69), &mut last)?;
+        let look = cache.get_or_fetch(0, &7, || given(69), &mut last)?;
         let miss = format!(in alloc; "{name}(Miss)")?;
         assert_eq!(rt; format!(in alloc; "{look:?}")?, miss);
         let task = last.task.take().ok_or("no task")?;
@@ -167,14 +167,14 @@ fn each_kind_prints_its_name(rt: HostRuntime) -> Outcome {
                 .starts_with("RawFetch {")
         );
         drop(task);
-        let held = cache.insert(7, 70)?;
+        let held = cache.insert(0, 7, 70)?;
         let open = format!(in alloc; "{name}(")?;
         assert!(rt;
             format!(in alloc; "{held:?}")?
                 .as_str()
                 .starts_with(open.as_str())
         );
-        let look = cache.get_or_fetch(&7, || given(69), &mut last)?;
+        let look = cache.get_or_fetch(0, &7, || given(69), &mut last)?;
         let hit = format!(in alloc; "{name}(Hit)")?;
         assert_eq!(rt; format!(in alloc; "{look:?}")?, hit);
     }
@@ -186,11 +186,11 @@ fn each_kind_prints_its_name(rt: HostRuntime) -> Outcome {
 fn an_answer_is_given_once(rt: HostRuntime) -> Outcome {
     let cache: Cache<HostRuntime> = fetching(rt)?;
     let mut spawner = ListSpawner::new(rt.alloc());
-    let mut wait = cache.get_or_fetch(&7, || given(5), &mut spawner)?;
+    let mut wait = cache.get_or_fetch(0, &7, || given(5), &mut spawner)?;
     finish(&rt, spawner)?;
     assert_eq!(rt; block_on(&rt, Twice { look: &mut wait })?, (5, Some(16)));
     let mut spawner = ListSpawner::new(rt.alloc());
-    let mut hit = cache.get_or_fetch(&7, || given(6), &mut spawner)?;
+    let mut hit = cache.get_or_fetch(0, &7, || given(6), &mut spawner)?;
     assert_eq!(rt; block_on(&rt, Twice { look: &mut hit })?, (5, Some(16)));
     Ok(())
 }
@@ -199,8 +199,8 @@ fn an_answer_is_given_once(rt: HostRuntime) -> Outcome {
 fn a_builder_that_was_lent(rt: HostRuntime) -> Outcome {
     let cache: Cache<HostRuntime, Trial> = fetching(rt)?;
     let mut spawner = ListSpawner::new(rt.alloc());
-    let first = cache.get_or_fetch_inner(&7, || may(None), || None, (), &mut spawner)?;
-    let second = cache.get_or_fetch_inner(&7, || None, || must(5), (), &mut spawner)?;
+    let first = cache.get_or_fetch_inner(0, &7, || may(None), || None, (), &mut spawner)?;
+    let second = cache.get_or_fetch_inner(0, &7, || None, || must(5), (), &mut spawner)?;
     finish(&rt, spawner)?;
     assert_eq!(rt; (*at_once(&rt, first)??, *at_once(&rt, second)??), (5, 5));
     Ok(())
@@ -211,7 +211,7 @@ fn a_builder_that_was_lent(rt: HostRuntime) -> Outcome {
 #[test]
 fn a_fetch_says_where_its_value_is_from(rt: HostRuntime) -> Outcome {
     let cache: Cache<HostRuntime, Trial> = fetching(rt)?;
-    let [own, strange] = [3u32, 5].map(|key| cache.insert(key, u64::from(10 * key)));
+    let [own, strange] = [3u32, 5].map(|key| cache.insert(0, key, u64::from(10 * key)));
     let (own, strange) = (own?.piece()?, strange?.piece()?);
     drop(cache.remove(&3)?);
     let given = [
@@ -223,7 +223,7 @@ fn a_fetch_says_where_its_value_is_from(rt: HostRuntime) -> Outcome {
     let mut spawner = ListSpawner::new(rt.alloc());
     let mut looks = Vec::new(rt.alloc());
     for (key, optional, required) in given {
-        looks.push(cache.get_or_fetch_inner(&key, || optional, || required, (), &mut spawner)?)?;
+        looks.push(cache.get_or_fetch_inner(0, &key, || optional, || required, (), &mut spawner)?)?;
     }
     finish(&rt, spawner)?;
     let wrong = looks.pop().ok_or("no look-up")?;
@@ -244,10 +244,10 @@ fn a_fetch_says_where_its_value_is_from(rt: HostRuntime) -> Outcome {
 fn nothing_was_found(rt: HostRuntime) -> Outcome {
     let cache: Cache<HostRuntime, Trial> = fetching(rt)?;
     let mut spawner = ListSpawner::new(rt.alloc());
-    let mut first = cache.get_or_fetch_inner(&7, || None, || None, (), &mut spawner)?;
-    let lost = cache.get_or_fetch_inner(&8, || None, || None, (), &mut spawner)?;
+    let mut first = cache.get_or_fetch_inner(0, &7, || None, || None, (), &mut spawner)?;
+    let lost = cache.get_or_fetch_inner(0, &8, || None, || None, (), &mut spawner)?;
     let mut other = ListSpawner::new(rt.alloc());
-    let dropped = cache.get_or_fetch_inner(&9, || None, || must(5), (), &mut other)?;
+    let dropped = cache.get_or_fetch_inner(0, &9, || None, || must(5), (), &mut other)?;
     drop(other);
     finish(&rt, spawner)?;
     assert_eq!(rt; block_on(&rt, Twice { look: &mut first })?, (13, Some(16)));

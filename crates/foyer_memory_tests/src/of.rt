@@ -31,7 +31,7 @@ fn a_fifo_cache_is_one_of_any(rt: HostRuntime) -> Outcome {
         ..RawCacheConfig::new(2)
     };
     let cache: Fifo<HostRuntime> = FifoCache::new(rt, alloc, config, NoListener::new())?;
-    let entry = cache.insert(1, 10)?;
+    let entry = cache.insert(0, 1, 10)?;
     assert_eq!(rt; (cache.kind(), entry.kind()), (Kind::Fifo, Kind::Fifo));
     let own: FifoCacheEntry<_, _, _, _, _, _, _, _, _, Direct<Fetch>> = entry
         .of_policy()
@@ -39,7 +39,7 @@ fn a_fifo_cache_is_one_of_any(rt: HostRuntime) -> Outcome {
         .ok_or("another policy")?;
     assert_eq!(rt; (*own.key(), **own), (1, 10));
     let mut spawner = ListSpawner::new(alloc);
-    let look = cache.get_or_fetch(&1, || given(11), &mut spawner)?;
+    let look = cache.get_or_fetch(0, &1, || given(11), &mut spawner)?;
     let own_look: FifoGetOrFetch<_, _, _, _, _, _, _, _, _, Direct<Fetch>> = look
         .of_policy()
         .ok()

@@ -39,26 +39,26 @@ fn strange_pieces_come_in(rt: HostRuntime) -> Outcome {
     for (config, same) in all_policies().into_iter().zip(all_policies()) {
         let cache = cache(rt, config)?;
         let other = self::cache(rt, same)?;
-        drop(other.insert(1, 10)?);
-        drop(other.insert(2, 20)?);
-        let strange = other.insert(3, 30)?.piece()?;
-        let gone = cache.insert(4, 40)?.piece()?;
+        drop(other.insert(0, 1, 10)?);
+        drop(other.insert(0, 2, 20)?);
+        let strange = other.insert(0, 3, 30)?.piece()?;
+        let gone = cache.insert(0, 4, 40)?.piece()?;
         drop(cache.remove(&4)?);
-        let strange = cache.insert_piece(strange)?;
-        let back = cache.insert_piece(gone)?;
+        let strange = cache.insert_piece(0, strange)?;
+        let back = cache.insert_piece(0, gone)?;
         assert_eq!(rt; seen(&strange), (3, 30, 1, Source::Memory, 1));
         assert_eq!(rt; seen(&back), (4, 40, 1, Source::Memory, 1));
         assert_eq!(rt; (cache.usage(), cache.entries()), (2, 2));
         for key in 5..8u32 {
-            drop(cache.insert(key, u64::from(10 * key))?);
+            drop(cache.insert(0, key, u64::from(10 * key))?);
         }
         for key in 3..8u32 {
-            assert_eq!(rt; *cache.get(&key)?.ok_or("none")?, u64::from(10 * key));
+            assert_eq!(rt; *cache.get(0, &key)?.ok_or("none")?, u64::from(10 * key));
         }
         assert_eq!(rt; (cache.usage(), cache.entries()), (5, 5));
         drop(strange);
         drop(back);
-        cache.evict_all()?;
+        cache.evict_all(0)?;
         assert_eq!(rt; (cache.usage(), cache.entries()), (0, 0));
     }
     Ok(())

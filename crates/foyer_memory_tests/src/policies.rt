@@ -46,11 +46,11 @@ fn calls_on_keys_and_entries(rt: HostRuntime) -> Outcome {
             (cache.hash(&7), cache.hash_builder().hash_one(&7u32)),
             (7, 7)
         );
-        let entry = cache.insert(7, 70)?;
+        let entry = cache.insert(0, 7, 70)?;
         assert_eq!(rt; (cache.usage(), cache.entries(), entry.weight()), (1, 1, 1));
-        assert!(rt; cache.touch(&7)? && !cache.touch(&8)?);
-        assert!(rt; cache.contains(&7) && !cache.contains(&8));
-        let found = cache.get(&7)?.ok_or("none")?;
+        assert!(rt; cache.touch(0, &7)? && !cache.touch(0, &8)?);
+        assert!(rt; cache.contains(0, &7) && !cache.contains(0, &8));
+        let found = cache.get(0, &7)?.ok_or("none")?;
         let again = found.try_clone()?;
         assert_eq!(rt;
             (entry.source(), found.source()),
@@ -58,7 +58,7 @@ fn calls_on_keys_and_entries(rt: HostRuntime) -> Outcome {
         );
         assert_eq!(rt; (entry.refs(), found.refs(), again.refs()), (3, 3, 3));
         assert_eq!(rt;
-            (number(cache.get(&7)), number(again.try_clone())),
+            (number(cache.get(0, &7)), number(again.try_clone())),
             (Some(9), Some(9))
         );
         again.release();
@@ -67,12 +67,12 @@ fn calls_on_keys_and_entries(rt: HostRuntime) -> Outcome {
         let other = cache.try_clone()?;
         assert_eq!(rt; *other.remove(&7)?.ok_or("none")?, 70);
         assert!(rt; entry.is_outdated() && cache.remove(&7)?.is_none());
-        let back = cache.insert_piece(entry.piece()?)?;
+        let back = cache.insert_piece(0, entry.piece()?)?;
         assert_eq!(rt;
             (*back, back.source(), back.refs()),
             (70, Source::Memory, 2)
         );
-        drop(cache.insert(7, 71)?);
+        drop(cache.insert(0, 7, 71)?);
         assert!(rt; notes.are(&[Remove(7, 70), Replace(7, 70)]));
     }
     Ok(())
@@ -83,23 +83,23 @@ fn calls_on_all_records(rt: HostRuntime) -> Outcome {
     for config in all_policies() {
         let notes = Notes::new(rt.alloc())?;
         let cache: Cache<HostRuntime> = piped(rt, config, 0, &notes)?;
-        drop(cache.insert(1, 10)?);
+        drop(cache.insert(0, 1, 10)?);
         cache.clear()?;
-        drop(cache.insert(2, 20)?);
-        cache.evict_all()?;
+        drop(cache.insert(0, 2, 20)?);
+        cache.evict_all(0)?;
         assert!(rt; notes.are(&[Clear(1, 10), Evict(2, 20), Piece(2, 20)]));
         notes.forget();
-        drop(cache.insert(3, 30)?);
-        assert!(rt; block_on(&rt, cache.flush())?.is_ok());
+        drop(cache.insert(0, 3, 30)?);
+        assert!(rt; block_on(&rt, cache.flush(0))?.is_ok());
         assert!(rt; notes.are(&[Evict(3, 30), Piece(3, 30), Flush(1)]));
         notes.forget();
-        drop(cache.insert(4, 40)?);
-        drop(cache.insert(5, 50)?);
+        drop(cache.insert(0, 4, 40)?);
+        drop(cache.insert(0, 5, 50)?);
         let flush = cache.flush_if(|key, value| *key == 4 && *value == 40);
         assert!(rt; block_on(&rt, flush)?.is_ok());
         assert!(rt; notes.are(&[Evict(4, 40), Piece(4, 40), Flush(1)]));
         notes.forget();
-        cache.resize(0)?;
+        cache.resize(0, 0)?;
         assert!(rt; notes.are(&[Evict(5, 50), Piece(5, 50)]));
         assert_eq!(rt;
             (cache.capacity(), cache.usage(), cache.entries()),
@@ -107,7 +107,7 @@ fn calls_on_all_records(rt: HostRuntime) -> Outcome {
         );
         notes.forget();
         let phantom = CacheProperties::default().with_phantom(true);
-        drop(cache.insert_with_properties(6, 60, phantom)?);
+        drop(cache.insert_with_properties(0, 6, 60, phantom)?);
         assert!(rt; notes.are(&[Remove(6, 60), Evict(6, 60), Piece(6, 60)]));
     }
     Ok(())
@@ -120,9 +120,9 @@ fn caches_have_their_numbers(rt: HostRuntime) -> Outcome {
         let notes = Notes::new(rt.alloc())?;
         let cache: Cache<HostRuntime> = piped(rt, config, 0, &notes)?;
         let other: Cache<HostRuntime> = piped(rt, same, 3, &notes)?;
-        let piece = cache.insert(1, 10)?.piece()?;
-        drop(other.insert(1, 20)?);
-        assert_eq!(rt; *other.insert_piece(piece)?, 10);
+        let piece = cache.insert(0, 1, 10)?.piece()?;
+        drop(other.insert(0, 1, 20)?);
+        assert_eq!(rt; *other.insert_piece(0, piece)?, 10);
         assert!(rt; notes.are(&[Replace(1, 20)]));
     }
     Ok(())
@@ -139,11 +139,11 @@ fn the_policy_has_its_configuration(rt: HostRuntime) -> Outcome {
         let cache: Cache<HostRuntime> = builder(3, config, &notes)?
             .with_shards(1)
             .build(rt, rt.alloc(), &rt)?;
-        drop(cache.insert(1, 10)?);
-        drop(cache.insert(2, 20)?);
+        drop(cache.insert(0, 1, 10)?);
+        drop(cache.insert(0, 2, 20)?);
         let low = CacheProperties::default().with_hint(Hint::Low);
-        drop(cache.insert_with_properties(3, 30, low)?);
-        drop(cache.insert(4, 40)?);
+        drop(cache.insert_with_properties(0, 3, 30, low)?);
+        drop(cache.insert(0, 4, 40)?);
         assert!(rt; notes.are(&[evicted]));
     }
     Ok(())
@@ -189,11 +189,11 @@ fn weights_and_admissions(rt: HostRuntime) -> Outcome {
             .with_weighter(ByValue)
             .with_filter(NotNine)
             .build(rt, rt.alloc(), &rt)?;
-        let entry = cache.insert(1, 40)?;
-        let phantom = cache.insert(9, 5)?;
+        let entry = cache.insert(0, 1, 40)?;
+        let phantom = cache.insert(0, 9, 5)?;
         assert_eq!(rt; (entry.weight(), phantom.weight()), (40, 5));
         assert_eq!(rt;
-            (cache.usage(), cache.entries(), cache.contains(&9)),
+            (cache.usage(), cache.entries(), cache.contains(0, &9)),
             (40, 1, false)
         );
         assert_eq!(rt; (cache.capacity(), cache.shards()), (100, 1));
@@ -211,9 +211,9 @@ fn weightless_records_stay_in_no_room(rt: HostRuntime) -> Outcome {
             .with_weighter(ByValue)
             .with_filter(NotNine)
             .build(rt, rt.alloc(), &rt)?;
-        drop(cache.insert(1, 0)?);
-        drop(cache.insert(2, 0)?);
-        assert!(rt; notes.are(&[]) && cache.contains(&1) && cache.contains(&2));
+        drop(cache.insert(0, 1, 0)?);
+        drop(cache.insert(0, 2, 0)?);
+        assert!(rt; notes.are(&[]) && cache.contains(0, &1) && cache.contains(0, &2));
         assert_eq!(rt; (cache.usage(), cache.entries()), (0, 2));
     }
     Ok(())
@@ -223,8 +223,8 @@ fn weightless_records_stay_in_no_room(rt: HostRuntime) -> Outcome {
 fn texts_are_kept(rt: HostRuntime) -> Outcome {
     let alloc = rt.alloc();
     let cache: CacheOf<HostRuntime, String, String> = CacheBuilder::new(16).build(rt, alloc, &rt)?;
-    let held = cache.insert("hello".to_string(alloc)?, "world".to_string(alloc)?)?;
-    let found = cache.get(&"hello".to_string(alloc)?)?.ok_or("none")?;
+    let held = cache.insert(0, "hello".to_string(alloc)?, "world".to_string(alloc)?)?;
+    let found = cache.get(0, &"hello".to_string(alloc)?)?.ok_or("none")?;
     assert_eq!(rt; (held.as_str(), found.as_str()), ("world", "world"));
     assert_eq!(rt; (held.refs(), cache.usage()), (2, 1));
     Ok(())

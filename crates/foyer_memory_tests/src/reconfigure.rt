@@ -32,7 +32,7 @@ fn lru(num: u32, den: u32) -> EvictionConfig {
 
 fn put<H: Wait + Drop>(cache: &Cache<H>, keys: &[u32]) -> Outcome {
     for key in keys {
-        drop(cache.insert(*key, u64::from(*key))?);
+        drop(cache.insert(0, *key, u64::from(*key))?);
     }
     Ok(())
 }
@@ -46,8 +46,8 @@ fn lru_takes_a_smaller_pool_and_a_greater_one(rt: HostRuntime) -> Outcome {
     cache.reconfigure(lru(0, 1))?;
     cache.reconfigure(lru(1, 1))?;
     put(&cache, &[4])?;
-    assert!(rt; cache.touch(&1)? && notes.are(&[]));
-    cache.evict_all()?;
+    assert!(rt; cache.touch(0, &1)? && notes.are(&[]));
+    cache.evict_all(0)?;
     assert!(rt; notes.are(&[Evict(2, 2), Evict(3, 3), Evict(1, 1), Evict(4, 4)]));
     Ok(())
 }
@@ -64,7 +64,7 @@ fn s3fifo_takes_another_threshold(rt: HostRuntime) -> Outcome {
     let notes = Notes::new(rt.alloc())?;
     let cache: Cache<HostRuntime> = cache(rt, 2, with_threshold(1), &notes)?;
     put(&cache, &[1, 2])?;
-    assert!(rt; cache.touch(&1)?);
+    assert!(rt; cache.touch(0, &1)?);
     cache.reconfigure(with_threshold(3))?;
     put(&cache, &[3])?;
     assert!(rt; notes.are(&[Evict(1, 1)]));
@@ -93,7 +93,7 @@ fn what_is_refused_changes_nothing(rt: HostRuntime) -> Outcome {
         assert_eq!(rt; number(cache.reconfigure(faulty.clone()?)), refusal);
         assert!(rt; notes.are(&[]));
         assert_eq!(rt; (cache.capacity(), cache.entries()), (3, 3));
-        cache.evict_all()?;
+        cache.evict_all(0)?;
         assert!(rt; notes.are(&[Evict(1, 1), Evict(2, 2), Evict(3, 3)]));
     }
     Ok(())

@@ -52,7 +52,7 @@ fn value(thread: u32, key: u32) -> u64 {
 
 // Whether a key is in with this value.
 fn has<H: Wait + Drop>(cache: &Cache<H>, key: u32, value: u64) -> bool {
-    match cache.get(&key) {
+    match cache.get(0, &key) {
         Ok(Some(entry)) => *entry == value,
         _ => false,
     }
@@ -70,7 +70,7 @@ fn each_thread_finds_its_own(rt: HostRuntime) -> Outcome {
             &|thread: u32| {
                 let mut found = 0;
                 for key in 100 * thread..100 * thread + 100 {
-                    let put = cache.insert(key, value(thread, key)).is_ok();
+                    let put = cache.insert(0, key, value(thread, key)).is_ok();
                     found += u64::from(put && has(&cache, key, value(thread, key)));
                 }
                 for key in 100 * thread..100 * thread + 100 {

@@ -15,9 +15,9 @@ fn an_insert_answers_two(rt: HostRuntime) -> Outcome {
         let notes = Notes::new(rt.alloc())?;
         let cache: Cache<HostRuntime> = builder(16, config, &notes)?.build(rt, rt.alloc(), &rt)?;
         let mut spawner = ListSpawner::new(rt.alloc());
-        let first = cache.get_or_fetch(&7, || given(69), &mut spawner)?;
-        let second = cache.get_or_fetch(&7, || given(68), &mut spawner)?;
-        let held = cache.insert(7, 70)?;
+        let first = cache.get_or_fetch(0, &7, || given(69), &mut spawner)?;
+        let second = cache.get_or_fetch(0, &7, || given(68), &mut spawner)?;
+        let held = cache.insert(0, 7, 70)?;
         let (first, second) = (at_once(&rt, first)??, at_once(&rt, second)??);
         finish(&rt, spawner)?;
         assert_eq!(rt; (*first, first.source()), (70, Source::Outer));
@@ -49,12 +49,12 @@ fn a_fault_answers_two(rt: HostRuntime) -> Outcome {
             }))
         };
         let mut spawner = ListSpawner::new(rt.alloc());
-        let first = cache.get_or_fetch(&7, || fault(3), &mut spawner)?;
-        let second = cache.get_or_fetch(&7, || fault(4), &mut spawner)?;
+        let first = cache.get_or_fetch(0, &7, || fault(3), &mut spawner)?;
+        let second = cache.get_or_fetch(0, &7, || fault(4), &mut spawner)?;
         finish(&rt, spawner)?;
         assert_eq!(rt; code(at_once(&rt, first)?), Some(3));
         assert_eq!(rt; code(at_once(&rt, second)?), Some(3));
-        assert!(rt; !cache.contains(&7));
+        assert!(rt; !cache.contains(0, &7));
     }
     Ok(())
 }
@@ -95,20 +95,20 @@ fn nothing_is_admitted(rt: HostRuntime) -> Outcome {
         let cache: Shut<HostRuntime> = builder(16, config, &notes)?
             .with_filter(AdmitNone)
             .build(rt, rt.alloc(), &rt)?;
-        let held = cache.insert(1, 10)?;
-        assert!(rt; held.is_outdated() && !cache.contains(&1) && cache.get(&1)?.is_none());
+        let held = cache.insert(0, 1, 10)?;
+        assert!(rt; held.is_outdated() && !cache.contains(0, &1) && cache.get(0, &1)?.is_none());
         assert_eq!(rt; (*held, cache.usage(), cache.entries()), (10, 0, 0));
         assert!(rt; notes.are(&[Remove(1, 10)]));
         drop(held);
         assert!(rt; notes.are(&[Remove(1, 10), Evict(1, 10)]));
         notes.forget();
         let mut spawner = ListSpawner::new(rt.alloc());
-        let first = cache.get_or_fetch(&7, || given(70), &mut spawner)?;
-        let second = cache.get_or_fetch(&7, || given(71), &mut spawner)?;
+        let first = cache.get_or_fetch(0, &7, || given(70), &mut spawner)?;
+        let second = cache.get_or_fetch(0, &7, || given(71), &mut spawner)?;
         finish(&rt, spawner)?;
         let (first, second) = (at_once(&rt, first)??, at_once(&rt, second)??);
         assert_eq!(rt; (*first, *second, first.refs()), (70, 70, 2));
-        assert!(rt; !cache.contains(&7) && cache.get(&7)?.is_none());
+        assert!(rt; !cache.contains(0, &7) && cache.get(0, &7)?.is_none());
         drop(first);
         assert!(rt; notes.are(&[Remove(7, 70)]));
         drop(second);

@@ -164,12 +164,12 @@ where
         self.shares.shared.shards.len()
     }
 
-    /// The sum of the weights of the records that a get finds, one shard after the other.
+    /// The sum of the weights of the records that are in, expired or not, one shard after the other.
     pub fn usage(&self) -> u128 {
         self.shares.shared.shards.usage()
     }
 
-    /// How many records a get finds, one shard after the other.
+    /// How many records are in, expired or not, one shard after the other.
     pub fn entries(&self) -> u128 {
         self.shares.shared.shards.entries()
     }

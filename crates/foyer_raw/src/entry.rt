@@ -154,7 +154,7 @@ where
         self.shares.shared.shards.refs(&self.core)
     }
 
-    /// Whether no get finds the record any more. It locks the record's shard.
+    /// Whether the record is in no more: it left, or gave way to another. It locks the record's shard.
     pub fn is_outdated(&self) -> bool {
         self.shares.shared.shards.is_outdated(&self.core)
     }

@@ -19,6 +19,10 @@ pub(crate) use keys::RawInserted;
 /// A shard of a cache whose waiters hold senders, and whose later builders are of this type.
 pub(crate) type RawShard<E, K, V, P, R, I> = Shard<E, K, V, P, Notifier<Answer<K, V, P>>, R, I>;
 
+/// The first moment. A question that knows no moment is asked at it: what has not expired from the start is not expired
+/// then.
+pub(crate) const FIRST: u64 = 0;
+
 /// The shards of a cache. Each call locks one shard, makes one step, and unlocks, or does so with each in turn.
 #[derive(Drop)]
 pub(crate) struct Shards<H, E, K, V, P, R, I>

@@ -87,10 +87,11 @@ where
         self.rules.weighter.weigh(piece.key(), piece.value())
     }
 
-    // Ends an open fetch of a key, which has this hash, with a piece. F12 where the record for which the piece stands has
+    // Ends an open fetch of a key, which has this hash, at a moment, with a piece. F12 where the record for which the piece stands has
     // another key, or lives in another shard. The weighter is asked of a piece that stands for none here and has this key.
     pub(crate) fn complete_piece(
         &self,
+        now: u64,
         hash: u64,
         key: &K,
         fetch: u64,
@@ -108,6 +109,7 @@ where
         let mut shard = self.shards.lock(hash);
         shard.complete_piece(
             self.shards.alloc,
+            now,
             hash,
             key,
             fetch,

@@ -9,9 +9,9 @@ use futures::executor::block_on;
 fn a_flush_by_a_predicate(rt: HostRuntime) -> Outcome {
     let (cache, notes) = piped(rt, fifo(256, 4))?;
     for key in 0..8u32 {
-        drop(cache.insert(key, u64::from(10 * key))?);
+        drop(cache.insert(0, key, u64::from(10 * key))?);
     }
-    let held = cache.insert(8, 80)?;
+    let held = cache.insert(0, 8, 80)?;
     let flush = cache.flush_if(|key, value| *key % 2 == 0 && *value < 60 || *key == 8);
     let wanted = [
         Evict(0, 0),
@@ -34,8 +34,8 @@ fn a_flush_by_a_predicate(rt: HostRuntime) -> Outcome {
 #[test]
 fn a_flush_of_all(rt: HostRuntime) -> Outcome {
     let (cache, notes) = heard(rt, fifo(4, 2))?;
-    drop(cache.insert(1, 10)?);
-    assert!(rt; block_on(&rt, cache.flush())?.is_ok());
+    drop(cache.insert(0, 1, 10)?);
+    assert!(rt; block_on(&rt, cache.flush(0))?.is_ok());
     assert!(rt; notes.are(&[Evict(1, 10)]));
     assert_eq!(rt; cache.entries(), 0);
     Ok(())
@@ -46,8 +46,8 @@ fn a_flush_of_all(rt: HostRuntime) -> Outcome {
 fn a_disabled_pipe_gets_no_eviction(rt: HostRuntime) -> Outcome {
     let (cache, notes) = heard(rt, fifo(1, 1))?;
     let cache = with_tube(cache, rt.alloc(), &notes, false)?;
-    drop(cache.insert(1, 10)?);
-    drop(cache.insert(2, 20)?);
+    drop(cache.insert(0, 1, 10)?);
+    drop(cache.insert(0, 2, 20)?);
     assert!(rt; notes.are(&[Evict(1, 10)]));
     Ok(())
 }
@@ -56,8 +56,8 @@ fn a_disabled_pipe_gets_no_eviction(rt: HostRuntime) -> Outcome {
 fn a_disabled_pipe_gets_no_flush(rt: HostRuntime) -> Outcome {
     let (cache, notes) = heard(rt, fifo(1, 1))?;
     let cache = with_tube(cache, rt.alloc(), &notes, false)?;
-    drop(cache.insert(1, 10)?);
-    assert!(rt; block_on(&rt, cache.flush())?.is_ok());
+    drop(cache.insert(0, 1, 10)?);
+    assert!(rt; block_on(&rt, cache.flush(0))?.is_ok());
     assert!(rt; notes.are(&[Evict(1, 10)]));
     Ok(())
 }
@@ -66,13 +66,13 @@ fn a_disabled_pipe_gets_no_flush(rt: HostRuntime) -> Outcome {
 fn a_resize(rt: HostRuntime) -> Outcome {
     let (cache, notes) = heard(rt, fifo(4, 2))?;
     for key in 0..4u32 {
-        drop(cache.insert(key, u64::from(10 * key))?);
+        drop(cache.insert(0, key, u64::from(10 * key))?);
     }
-    cache.resize(2)?;
+    cache.resize(0, 2)?;
     assert!(rt; notes.are(&[Evict(0, 0), Evict(1, 10)]));
     assert_eq!(rt; (cache.usage(), cache.capacity()), (2, 2));
-    drop(cache.insert(4, 40)?);
-    cache.evict_all()?;
+    drop(cache.insert(0, 4, 40)?);
+    cache.evict_all(0)?;
     assert!(rt;
         notes.are(&[
             Evict(0, 0),
@@ -83,9 +83,9 @@ fn a_resize(rt: HostRuntime) -> Outcome {
         ])
     );
     assert_eq!(rt; cache.entries(), 0);
-    cache.resize(4)?;
+    cache.resize(0, 4)?;
     for key in 0..8u32 {
-        drop(cache.insert(key, 0)?);
+        drop(cache.insert(0, key, 0)?);
     }
     assert_eq!(rt; (cache.usage(), cache.capacity()), (4, 4));
     Ok(())

@@ -11,6 +11,9 @@ use futures::future::{Ready, ready};
 use futures::task::{Context, Poll};
 use std::test::Fail;
 
+/// The moment of each call. No record here expires, and so any number will do.
+const NOW: u64 = 0;
+
 /// A cache of numbers under numbers that fetches with these types.
 type Numbers<H, T> = RawCache<
     H,
@@ -64,17 +67,17 @@ fn clones_share_a_cache(rt: HostRuntime) -> Result<(), Fail> {
         config,
         NoListener::new(),
     )?;
-    let entry = cache.insert(1, 10)?;
+    let entry = cache.insert(NOW, 1, 10)?;
     let other = cache.try_clone()?;
-    let found = other.get(&1)?.ok_or("none")?;
+    let found = other.get(NOW, &1)?.ok_or("none")?;
     assert_eq!(rt; (*found, entry.refs()), (10, 2));
     drop(found);
     drop(other.remove(&1)?);
-    assert!(rt; entry.is_outdated() && !cache.contains(&1));
+    assert!(rt; entry.is_outdated() && !cache.contains(NOW, &1));
 
     let mut spawner = ListSpawner::new(alloc);
-    let first = cache.get_or_fetch(&7, || fetched(70), &mut spawner)?;
-    let second = other.get_or_fetch(&7, || fetched(71), &mut spawner)?;
+    let first = cache.get_or_fetch(NOW, &7, || fetched(70), &mut spawner)?;
+    let second = other.get_or_fetch(NOW, &7, || fetched(71), &mut spawner)?;
     block_on(&rt, Drive(spawner))?;
     let first = block_on(&rt, first)??.ok_or("none")?;
     let second = block_on(&rt, second)??.ok_or("none")?;

@@ -12,10 +12,10 @@ use std::sync::atomic::{AtomicU64, Ordering};
 #[test]
 fn an_entry_is_found(rt: HostRuntime) -> Outcome {
     let (cache, _notes) = heard(rt, fifo(4, 2))?;
-    let entry = cache.insert(7, 70)?;
+    let entry = cache.insert(0, 7, 70)?;
     assert_eq!(rt; (entry.source(), entry.weight()), (Source::Outer, 1));
     assert_eq!(rt; entry.hash(), cache.hash(&7));
-    let found = cache.get(&7)?.ok_or("none")?;
+    let found = cache.get(0, &7)?.ok_or("none")?;
     assert_eq!(rt; (*found, found.source()), (70, Source::Memory));
     assert_eq!(rt; found.refs(), 2);
     let again = found.try_clone()?;
@@ -24,18 +24,18 @@ fn an_entry_is_found(rt: HostRuntime) -> Outcome {
     drop(found);
     assert_eq!(rt; entry.refs(), 1);
     assert_eq!(rt; (cache.entries(), cache.usage(), cache.shards()), (1, 1, 2));
-    assert!(rt; cache.touch(&7)? && !cache.touch(&8)? && !entry.is_outdated());
+    assert!(rt; cache.touch(0, &7)? && !cache.touch(0, &8)? && !entry.is_outdated());
     let removed = cache.remove(&7)?.ok_or("none")?;
     assert_eq!(rt; *removed.key(), 7);
-    assert!(rt; entry.is_outdated() && !cache.contains(&7));
-    assert!(rt; cache.get(&7)?.is_none() && cache.remove(&7)?.is_none());
+    assert!(rt; entry.is_outdated() && !cache.contains(0, &7));
+    assert!(rt; cache.get(0, &7)?.is_none() && cache.remove(&7)?.is_none());
     assert_eq!(rt; cache.entries(), 0);
-    let back = cache.insert_piece(entry.piece()?)?;
+    let back = cache.insert_piece(0, entry.piece()?)?;
     assert_eq!(rt;
         (*back, back.source(), back.refs()),
         (70, Source::Memory, 3)
     );
-    assert!(rt; cache.contains(&7));
+    assert!(rt; cache.contains(0, &7));
     Ok(())
 }
 
@@ -43,7 +43,7 @@ fn an_entry_is_found(rt: HostRuntime) -> Outcome {
 fn texts_are_printed(rt: HostRuntime) -> Outcome {
     let alloc = rt.alloc();
     let (cache, _notes) = heard(rt, fifo(4, 2))?;
-    let entry = cache.insert(7, 70)?;
+    let entry = cache.insert(0, 7, 70)?;
     assert_eq!(rt;
         format!(in alloc; "{entry:?}")?.as_str(),
         "RawCacheEntry { record: Record { hash: 7 } }"
@@ -65,13 +65,13 @@ fn a_pin_ends_with_its_entry(rt: HostRuntime) -> Outcome {
         config,
         NoListener::new(),
     )?;
-    drop(cache.insert(1, 10)?);
-    let held = cache.get(&1)?.ok_or("none")?;
-    drop(cache.insert(2, 20)?);
-    assert!(rt; cache.contains(&1) && cache.contains(&2));
+    drop(cache.insert(0, 1, 10)?);
+    let held = cache.get(0, &1)?.ok_or("none")?;
+    drop(cache.insert(0, 2, 20)?);
+    assert!(rt; cache.contains(0, &1) && cache.contains(0, &2));
     drop(held);
-    drop(cache.insert(3, 30)?);
-    assert!(rt; !cache.contains(&1) && cache.contains(&3));
+    drop(cache.insert(0, 3, 30)?);
+    assert!(rt; !cache.contains(0, &1) && cache.contains(0, &3));
     Ok(())
 }
 
@@ -142,13 +142,13 @@ fn weighter_and_filter_are_asked_once(rt: HostRuntime) -> Outcome {
         TracedWeighter,
         TracedFilter,
     > = RawCache::new(rt, rt.alloc(), config, NoListener::new())?;
-    let entry = cache.insert(1, 10)?;
+    let entry = cache.insert(0, 1, 10)?;
     assert_eq!(rt; (trail.swap(0, Ordering::SeqCst), cache.usage()), (12, 2));
-    let refused = cache.insert(9, 90)?;
+    let refused = cache.insert(0, 9, 90)?;
     assert_eq!(rt; (trail.swap(0, Ordering::SeqCst), *refused), (12, 90));
-    assert!(rt; !cache.contains(&9) && cache.get(&9)?.is_none());
+    assert!(rt; !cache.contains(0, &9) && cache.get(0, &9)?.is_none());
     assert_eq!(rt; (cache.usage(), cache.entries()), (2, 1));
-    drop(cache.insert_piece(entry.piece()?)?);
+    drop(cache.insert_piece(0, entry.piece()?)?);
     assert_eq!(rt; trail.swap(0, Ordering::SeqCst), 0);
     let (other, _notes) = heard(
         rt,
@@ -157,7 +157,7 @@ fn weighter_and_filter_are_asked_once(rt: HostRuntime) -> Outcome {
             ..fifo(4, 1)
         },
     )?;
-    let foreign = cache.insert_piece(other.insert(3, 30)?.piece()?)?;
+    let foreign = cache.insert_piece(0, other.insert(0, 3, 30)?.piece()?)?;
     assert_eq!(rt; (trail.load(Ordering::SeqCst), foreign.weight()), (1, 2));
     Ok(())
 }

@@ -62,18 +62,18 @@ fn colliding() -> RawCacheConfig<FifoConfig, Zeros, UnitWeighter, AdmitAll> {
 #[test]
 fn colliding_keys_have_their_own_records(rt: HostRuntime) -> Outcome {
     let cache: Cache<HostRuntime> = RawCache::new(rt, rt.alloc(), colliding(), NoListener::new())?;
-    let one = cache.insert(1, 10)?;
-    let two = cache.insert(2, 20)?;
+    let one = cache.insert(0, 1, 10)?;
+    let two = cache.insert(0, 2, 20)?;
     assert_eq!(rt; (one.hash(), two.hash()), (0, 0));
-    assert_eq!(rt; *cache.get(&1)?.ok_or("none")?, 10);
-    assert_eq!(rt; *cache.get(&2)?.ok_or("none")?, 20);
-    assert!(rt; cache.get(&3)?.is_none() && cache.remove(&3)?.is_none());
+    assert_eq!(rt; *cache.get(0, &1)?.ok_or("none")?, 10);
+    assert_eq!(rt; *cache.get(0, &2)?.ok_or("none")?, 20);
+    assert!(rt; cache.get(0, &3)?.is_none() && cache.remove(&3)?.is_none());
     assert_eq!(rt; *cache.remove(&1)?.ok_or("none")?, 10);
     assert!(rt; one.is_outdated() && !two.is_outdated());
-    assert!(rt; !cache.contains(&1) && cache.contains(&2));
-    drop(cache.insert(3, 30)?);
-    drop(cache.insert(4, 40)?);
-    assert!(rt; !cache.contains(&2) && cache.contains(&3) && cache.contains(&4));
+    assert!(rt; !cache.contains(0, &1) && cache.contains(0, &2));
+    drop(cache.insert(0, 3, 30)?);
+    drop(cache.insert(0, 4, 40)?);
+    assert!(rt; !cache.contains(0, &2) && cache.contains(0, &3) && cache.contains(0, &4));
     assert_eq!(rt; (cache.usage(), cache.entries()), (2, 2));
     Ok(())
 }

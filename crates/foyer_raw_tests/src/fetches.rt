@@ -19,6 +19,7 @@ use std::random::RandomSource;
 use std::sync::Wait;
 
 mod ends;
+mod moments;
 mod tasks;
 mod waits;
 
@@ -27,13 +28,23 @@ type Builders = (Option<May>, Option<Must>);
 
 const NONE: Builders = (None, None);
 
-// Looks 7 up with these builders.
+// Looks 7 up with these builders, at the first moment.
 fn look<H: Wait + Drop>(
     cache: &Cache<H>,
     spawner: &mut Tasks<H>,
+    builders: Builders,
+) -> Result<Look<H>> {
+    look_at(cache, 0, spawner, builders)
+}
+
+// Looks 7 up with these builders at a moment.
+fn look_at<H: Wait + Drop>(
+    cache: &Cache<H>,
+    now: u64,
+    spawner: &mut Tasks<H>,
     (optional, required): Builders,
 ) -> Result<Look<H>> {
-    cache.get_or_fetch_inner(&7, || optional, || required, (), spawner)
+    cache.get_or_fetch_inner(now, &7, || optional, || required, (), spawner)
 }
 
 // Who waits for 7 after a look-up with these builders, and the tasks.

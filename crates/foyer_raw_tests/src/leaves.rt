@@ -7,15 +7,15 @@ use crate::testing::{Outcome, fifo, phantom};
 #[test]
 fn a_phantom_leaves_with_its_entry(rt: HostRuntime) -> Outcome {
     let (cache, notes) = piped(rt, fifo(2, 1))?;
-    drop(cache.insert(1, 1)?);
-    let held = cache.insert_with_properties(1, 100, phantom())?;
+    drop(cache.insert(0, 1, 1)?);
+    let held = cache.insert_with_properties(0, 1, 100, phantom())?;
     let [replaced, removed] = [Replace(1, 1), Remove(1, 100)];
     assert!(rt; notes.are(&[replaced, removed]));
     assert_eq!(rt; cache.usage(), 0);
     assert!(rt; held.is_outdated());
     drop(held);
     assert!(rt; notes.are(&[replaced, removed, Evict(1, 100), Piece(1, 100)]));
-    assert!(rt; cache.get(&1)?.is_none());
+    assert!(rt; cache.get(0, &1)?.is_none());
     Ok(())
 }
 
@@ -23,11 +23,11 @@ fn a_phantom_leaves_with_its_entry(rt: HostRuntime) -> Outcome {
 fn the_listener_hears_before_the_pipe(rt: HostRuntime) -> Outcome {
     let (cache, notes) = heard(rt, fifo(1, 1))?;
     let piped = with_tube(cache.try_clone()?, rt.alloc(), &notes, true)?;
-    drop(cache.insert(1, 10)?);
-    drop(cache.insert(2, 20)?);
-    drop(piped.insert(3, 30)?);
+    drop(cache.insert(0, 1, 10)?);
+    drop(cache.insert(0, 2, 20)?);
+    drop(piped.insert(0, 3, 30)?);
     drop(piped.remove(&3)?);
-    drop(piped.insert(4, 40)?);
+    drop(piped.insert(0, 4, 40)?);
     piped.clear()?;
     assert!(rt;
         notes.are(&[
@@ -44,9 +44,9 @@ fn the_listener_hears_before_the_pipe(rt: HostRuntime) -> Outcome {
 #[test]
 fn the_last_owner_clears(rt: HostRuntime) -> Outcome {
     let (cache, notes) = heard(rt, fifo(4, 2))?;
-    let held = cache.insert(1, 10)?;
-    drop(cache.insert(3, 30)?);
-    drop(cache.insert(2, 20)?);
+    let held = cache.insert(0, 1, 10)?;
+    drop(cache.insert(0, 3, 30)?);
+    drop(cache.insert(0, 2, 20)?);
     drop(cache);
     assert!(rt; notes.are(&[]));
     drop(held);

@@ -16,6 +16,8 @@ mod fetches;
 mod leaves;
 #[cfg(test)]
 mod limits;
+#[cfg(test)]
+mod moments;
 pub mod notes;
 #[cfg(test)]
 mod races;

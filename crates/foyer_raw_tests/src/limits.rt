@@ -30,13 +30,13 @@ fn handles_have_a_limit(rt: HostRuntime) -> Outcome {
         ..Limits::default()
     };
     let (cache, _notes) = heard(rt, limited(4, limits))?;
-    let first = cache.insert(1, 10)?;
-    let second = cache.get(&1)?.ok_or("none")?;
-    assert_eq!(rt; number(cache.get(&1)), Some(9));
-    assert_eq!(rt; number(cache.touch(&1)), Some(9));
+    let first = cache.insert(0, 1, 10)?;
+    let second = cache.get(0, &1)?.ok_or("none")?;
+    assert_eq!(rt; number(cache.get(0, &1)), Some(9));
+    assert_eq!(rt; number(cache.touch(0, &1)), Some(9));
     assert_eq!(rt; number(first.try_clone()), Some(9));
     drop(second);
-    assert!(rt; cache.touch(&1)? && cache.get(&1)?.is_some());
+    assert!(rt; cache.touch(0, &1)? && cache.get(0, &1)?.is_some());
     Ok(())
 }
 
@@ -44,16 +44,16 @@ fn handles_have_a_limit(rt: HostRuntime) -> Outcome {
 #[test]
 fn ids_have_a_limit(rt: HostRuntime) -> Outcome {
     let (cache, notes) = heard(rt, limited(2, Limits { ids: 2, handles: 4 }))?;
-    let piece = cache.insert(1, 10)?.piece()?;
-    drop(cache.insert(2, 20)?);
-    assert_eq!(rt; number(cache.insert(3, 30)), Some(10));
+    let piece = cache.insert(0, 1, 10)?.piece()?;
+    drop(cache.insert(0, 2, 20)?);
+    assert_eq!(rt; number(cache.insert(0, 3, 30)), Some(10));
     assert_eq!(rt;
-        number(cache.insert_with_properties(3, 30, phantom())),
+        number(cache.insert_with_properties(0, 3, 30, phantom())),
         Some(10)
     );
-    assert!(rt; notes.are(&[]) && cache.contains(&1));
+    assert!(rt; notes.are(&[]) && cache.contains(0, &1));
     drop(cache.remove(&1)?);
-    assert_eq!(rt; *cache.insert_piece(piece)?, 10);
+    assert_eq!(rt; *cache.insert_piece(0, piece)?, 10);
     assert!(rt; notes.are(&[Remove(1, 10)]));
     Ok(())
 }
@@ -62,9 +62,9 @@ fn ids_have_a_limit(rt: HostRuntime) -> Outcome {
 #[test]
 fn a_record_without_handles_is_refused(rt: HostRuntime) -> Outcome {
     let (cache, _notes) = heard(rt, limited(2, Limits { ids: 0, handles: 0 }))?;
-    assert_eq!(rt; number(cache.insert(1, 10)), Some(10));
+    assert_eq!(rt; number(cache.insert(0, 1, 10)), Some(10));
     let (cache, notes) = heard(rt, limited(2, Limits { ids: 1, handles: 0 }))?;
-    assert_eq!(rt; number(cache.insert(1, 10)), Some(9));
+    assert_eq!(rt; number(cache.insert(0, 1, 10)), Some(9));
     assert!(rt; notes.are(&[]) && cache.entries() == 0);
     Ok(())
 }
@@ -114,10 +114,10 @@ fn refusing<H: Wait + Alloc<A = Global> + Copy + Drop>(
 #[test]
 fn leaves_of_a_refused_insert_are_told(rt: HostRuntime) -> Outcome {
     let (cache, notes) = refusing(rt, 2)?;
-    drop(cache.insert(1, 1)?);
-    drop(cache.insert(2, 1)?);
-    assert_eq!(rt; number(cache.insert(3, 2)), Some(7));
-    assert!(rt; notes.are(&[Evict(1, 1)]) && !cache.contains(&1) && !cache.contains(&3));
+    drop(cache.insert(0, 1, 1)?);
+    drop(cache.insert(0, 2, 1)?);
+    assert_eq!(rt; number(cache.insert(0, 3, 2)), Some(7));
+    assert!(rt; notes.are(&[Evict(1, 1)]) && !cache.contains(0, &1) && !cache.contains(0, &3));
     Ok(())
 }
 
@@ -126,12 +126,12 @@ fn leaves_of_a_refused_insert_are_told(rt: HostRuntime) -> Outcome {
 fn a_refused_resize_sets_the_capacity(rt: HostRuntime) -> Outcome {
     let (cache, notes) = refusing(rt, 3)?;
     for key in 1..4u32 {
-        drop(cache.insert(key, 1)?);
+        drop(cache.insert(0, key, 1)?);
     }
-    assert_eq!(rt; number(cache.resize(0)), Some(7));
+    assert_eq!(rt; number(cache.resize(0, 0)), Some(7));
     assert!(rt; notes.are(&[Evict(1, 1)]));
     assert_eq!(rt; (cache.capacity(), cache.usage()), (0, 2));
-    drop(cache.insert(4, 1)?);
+    drop(cache.insert(0, 4, 1)?);
     assert!(rt; notes.are(&[Evict(1, 1), Evict(2, 1), Evict(3, 1)]));
     Ok(())
 }
@@ -142,17 +142,17 @@ fn a_weight_fits_beside_what_is_pinned(rt: HostRuntime) -> Outcome {
     let config = weighed(usize::MAX, LruConfig::default());
     let cache: RawCache<HostRuntime, Lru, u32, u64, ModHasher, CacheProperties, ByValue> =
         RawCache::new(rt, rt.alloc(), config, NoListener::new())?;
-    drop(cache.insert(1, u64::MAX)?);
-    let held = cache.get(&1)?.ok_or("none")?;
-    assert_eq!(rt; number(cache.insert(2, 1)), Some(8));
-    assert!(rt; cache.contains(&1) && !cache.contains(&2));
-    drop(cache.insert(2, 0)?);
-    assert!(rt; cache.contains(&2));
-    drop(cache.insert_with_properties(2, 1, phantom())?);
-    assert!(rt; !cache.contains(&2));
+    drop(cache.insert(0, 1, u64::MAX)?);
+    let held = cache.get(0, &1)?.ok_or("none")?;
+    assert_eq!(rt; number(cache.insert(0, 2, 1)), Some(8));
+    assert!(rt; cache.contains(0, &1) && !cache.contains(0, &2));
+    drop(cache.insert(0, 2, 0)?);
+    assert!(rt; cache.contains(0, &2));
+    drop(cache.insert_with_properties(0, 2, 1, phantom())?);
+    assert!(rt; !cache.contains(0, &2));
     drop(held);
-    assert_eq!(rt; *cache.insert(2, 1)?, 1);
-    assert!(rt; !cache.contains(&1));
+    assert_eq!(rt; *cache.insert(0, 2, 1)?, 1);
+    assert!(rt; !cache.contains(0, &1));
     assert_eq!(rt; cache.usage(), 1);
     Ok(())
 }

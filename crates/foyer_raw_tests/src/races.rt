@@ -115,10 +115,10 @@ fn crossings<H: Wait + Drop>(
     let fetch = || after_polls(0, Ok(value(69)));
     let mut all = Vec::new(alloc);
     for key in 0..KEYS {
-        let first = cache.get_or_fetch(&key, fetch, spawner)?;
+        let first = cache.get_or_fetch(0, &key, fetch, spawner)?;
         let mut others = Vec::new(alloc);
         for _ in 0..WAITS {
-            others.push(cache.get_or_fetch(&key, fetch, spawner)?)?;
+            others.push(cache.get_or_fetch(0, &key, fetch, spawner)?)?;
         }
         all.push(Crossing { first, others })?;
     }
@@ -138,7 +138,7 @@ fn a_wait_is_dropped_while_it_is_answered(rt: HostRuntime) -> Outcome {
         || {
             for key in 0..KEYS {
                 meet(&inserter, &dropper);
-                drop(cache.insert(key, 70));
+                drop(cache.insert(0, key, 70));
             }
         },
         || {
@@ -149,7 +149,7 @@ fn a_wait_is_dropped_while_it_is_answered(rt: HostRuntime) -> Outcome {
         },
     );
     for key in 0..KEYS {
-        assert_eq!(rt; cache.get(&key)?.ok_or("none")?.refs(), 1);
+        assert_eq!(rt; cache.get(0, &key)?.ok_or("none")?.refs(), 1);
     }
     Ok(())
 }
@@ -161,14 +161,18 @@ fn resizes_take_turns(rt: HostRuntime) -> Outcome {
     let cache: Fetching<HostRuntime> = RawCache::new(rt, rt.alloc(), config, NoListener::new())?;
     for _ in 0..4u64 {
         for key in 0..8192u32 {
-            drop(cache.insert(key, 0)?);
+            drop(cache.insert(0, key, 0)?);
         }
         // the first of both needs a new thread, and begins later
-        let (greater, smaller) = thread::join(&rt, || cache.resize(8192), || cache.resize(64));
+        let (greater, smaller) = thread::join(
+            &rt,
+            || cache.resize(0, 8192),
+            || cache.resize(0, 64),
+        );
         greater?;
         smaller?;
         assert_eq!(rt; cache.usage(), 64);
-        cache.resize(8192)?;
+        cache.resize(0, 8192)?;
     }
     Ok(())
 }
@@ -194,11 +198,11 @@ fn pool(num: u32) -> LruConfig {
 // Whether the first shard, which has room for three and is empty, evicts what has a low priority first.
 fn has_pool<H: Wait + Drop>(cache: &RawCache<H, Lru, u32, u64, ModHasher>) -> Outcome<bool> {
     let low = CacheProperties::default().with_hint(Hint::Low);
-    drop(cache.insert(0, 0)?);
-    drop(cache.insert(2, 0)?);
-    drop(cache.insert_with_properties(4, 0, low)?);
-    drop(cache.insert(6, 0)?);
-    let has = cache.contains(&0);
+    drop(cache.insert(0, 0, 0)?);
+    drop(cache.insert(0, 2, 0)?);
+    drop(cache.insert_with_properties(0, 4, 0, low)?);
+    drop(cache.insert(0, 6, 0)?);
+    let has = cache.contains(0, &0);
     for key in [0u32, 2, 4, 6] {
         drop(cache.remove(&key)?);
     }
@@ -234,7 +238,7 @@ fn a_reconfiguration_takes_turns_with_resizes(rt: HostRuntime) -> Outcome {
         config,
         NoListener::new(),
     )?;
-    drop(cache.insert(1, 10)?);
+    drop(cache.insert(0, 1, 10)?);
     let [inside, answered, seen] = [AtomicU64::new(0), AtomicU64::new(0), AtomicU64::new(0)];
     let (_, (_, asked)) = thread::join(
         &rt,

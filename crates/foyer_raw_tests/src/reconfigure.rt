@@ -24,7 +24,7 @@ fn lru(num: u32) -> EvictionConfig {
 // Puts a record of low priority in.
 fn put_low<H: Wait + Drop>(cache: &Any<H>, key: u32) -> Outcome {
     let low = CacheProperties::default().with_hint(Hint::Low);
-    drop(cache.insert_with_properties(key, 0, low)?);
+    drop(cache.insert_with_properties(0, key, 0, low)?);
     Ok(())
 }
 
@@ -44,7 +44,7 @@ fn heard<H: Wait + Alloc<A = Global> + Copy + Drop>(rt: H) -> Outcome<(Any<H>, N
     };
     let cache = RawCache::new(rt, rt.alloc(), config, Ear(notes.share()?))?;
     for key in 0..4u32 {
-        drop(cache.insert(key, 0)?);
+        drop(cache.insert(0, key, 0)?);
     }
     put_low(&cache, 4)?;
     put_low(&cache, 5)?;
@@ -55,7 +55,7 @@ fn heard<H: Wait + Alloc<A = Global> + Copy + Drop>(rt: H) -> Outcome<(Any<H>, N
 fn evict_two<H: Wait + Drop>(cache: &Any<H>) -> Outcome {
     put_low(cache, 6)?;
     put_low(cache, 7)?;
-    Ok(cache.resize(4)?)
+    Ok(cache.resize(0, 4)?)
 }
 
 // F17 goes before a fault, and neither changes what leaves next.

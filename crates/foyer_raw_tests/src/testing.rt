@@ -2,6 +2,7 @@
 
 use foyer_core::{AdmitAll, CacheProperties, Limits, RawCacheConfig, UnitWeighter};
 use foyer_policy::{FifoConfig, ModHasher, Properties, Result};
+use std::sync::Wait;
 use std::test::Fail;
 
 pub(crate) mod builders;
@@ -33,6 +34,25 @@ pub(crate) fn limited(capacity: usize, limits: Limits) -> Config {
         limits,
         ..fifo(capacity, 1)
     }
+}
+
+/// When records expire that do.
+pub(crate) const EXPIRY: u64 = 10;
+
+/// The last moment before that.
+pub(crate) const BEFORE: u64 = EXPIRY - 1;
+
+/// The properties of a record that expires.
+pub(crate) fn expiring() -> CacheProperties {
+    CacheProperties::default().with_expiry(Some(EXPIRY))
+}
+
+/// Puts 1, 2 and 3 in at the first moment, of which 2 expires.
+pub(crate) fn put_three<H: Wait + Drop>(cache: &cache::Cache<H>) -> Outcome {
+    drop(cache.insert(0, 1, 10)?);
+    drop(cache.insert_with_properties(0, 2, 20, expiring())?);
+    drop(cache.insert(0, 3, 30)?);
+    Ok(())
 }
 
 /// With which number a call is refused, if it is.

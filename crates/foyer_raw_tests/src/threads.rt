@@ -17,7 +17,7 @@ type Cache<H> = RawCache<H, Fifo, u32, u64, ModHasher>;
 // Inserts a thousand keys with this value. How many inserts were accepted.
 fn insert_all<H: Wait + Drop>(cache: &Cache<H>, value: u64) -> u64 {
     (0..1000u32)
-        .map(|key| u64::from(cache.insert(key, value).is_ok()))
+        .map(|key| u64::from(cache.insert(0, key, value).is_ok()))
         .sum()
 }
 
@@ -88,14 +88,14 @@ fn flush_slowly<H: Wait + Drop>(rt: &impl Clock, cache: &Cache<H>, flags: &Flags
 #[test]
 fn each_shard_has_a_lock_of_its_own(rt: HostRuntime) -> Outcome {
     let cache: Cache<HostRuntime> = RawCache::new(rt, rt.alloc(), fifo(64, 2), NoListener::new())?;
-    drop(cache.insert(0, 10)?);
-    drop(cache.insert(1, 11)?);
+    drop(cache.insert(0, 0, 10)?);
+    drop(cache.insert(0, 1, 11)?);
     let flags = Flags::new();
     thread::join(
         &rt,
         || flush_slowly(&rt, &cache, &flags),
         || {
-            if is_up(&rt, &flags.inside) && cache.contains(&1) {
+            if is_up(&rt, &flags.inside) && cache.contains(0, &1) {
                 flags.looked.store(1, Ordering::SeqCst);
             }
         },
@@ -140,15 +140,15 @@ type Told<H> = RawCache<
 // Makes one of the calls by which key 1 leaves a cache of one record. Whether it was accepted.
 fn make_leave<H: Wait + Clock + Drop + 'static>(cache: &Told<H>, call: u64) -> bool {
     match call {
-        0 => cache.insert(2, 20).is_ok(),
-        1 => cache.insert(1, 11).is_ok(),
-        2 => cache.insert_with_properties(1, 11, phantom()).is_ok(),
+        0 => cache.insert(0, 2, 20).is_ok(),
+        1 => cache.insert(0, 1, 11).is_ok(),
+        2 => cache.insert_with_properties(0, 1, 11, phantom()).is_ok(),
         3 => cache.remove(&1).is_ok(),
         4 => cache.clear().is_ok(),
-        5 => cache.evict_all().is_ok(),
-        6 => cache.resize(0).is_ok(),
+        5 => cache.evict_all(0).is_ok(),
+        6 => cache.resize(0, 0).is_ok(),
         7 => {
-            drop(cache.flush());
+            drop(cache.flush(0));
             true
         }
         _ => {
@@ -168,12 +168,12 @@ fn no_lock_is_held_while_a_leave_is_told(rt: HostRuntime) -> Outcome {
             flags: Arc::try_clone(&flags)?,
         };
         let cache: Told<HostRuntime> = RawCache::new(rt, rt.alloc(), fifo(1, 1), listener)?;
-        drop(cache.insert(1, 10)?);
+        drop(cache.insert(0, 1, 10)?);
         let (accepted, _) = thread::join(
             &rt,
             || make_leave(&cache, call),
             || {
-                if is_up(&rt, &flags.inside) && !cache.contains(&3) && cache.capacity() <= 1 {
+                if is_up(&rt, &flags.inside) && !cache.contains(0, &3) && cache.capacity() <= 1 {
                     flags.looked.store(1, Ordering::SeqCst);
                 }
             },
@@ -192,12 +192,12 @@ fn who_waits_is_answered_before_a_leave_is_told(rt: HostRuntime) -> Outcome {
         flags: Arc::try_clone(&flags)?,
     };
     let cache: Told<HostRuntime> = RawCache::new(rt, rt.alloc(), fifo(1, 1), listener)?;
-    drop(cache.insert(1, 10)?);
+    drop(cache.insert(0, 1, 10)?);
     let mut spawner = ListSpawner::new(rt.alloc());
-    let wait = cache.get_or_fetch(&7, || after_polls(0, Ok(value(69))), &mut spawner)?;
+    let wait = cache.get_or_fetch(0, &7, || after_polls(0, Ok(value(69))), &mut spawner)?;
     let (accepted, answer) = thread::join(
         &rt,
-        || cache.insert(7, 70).is_ok(),
+        || cache.insert(0, 7, 70).is_ok(),
         || -> Outcome<u64> {
             is_up(&rt, &flags.inside);
             let entry = at_once(&rt, wait)??.ok_or("none")?;

@@ -154,9 +154,9 @@ fn prepare<E: Eviction, R: Records<E>>(records: &mut R) -> Result<()> {
         granted(records.make(inserting::<E>(key))?)?;
     }
     granted(records.make(Command::TakePiece(0))?)?;
-    granted(records.make(Command::GetOrFetch(9, None))?)?;
-    granted(records.make(Command::Contains(0))?)?;
-    granted(records.make(Command::Contains(1))?)
+    granted(records.make(Command::GetOrFetch(0, 9, None))?)?;
+    granted(records.make(Command::Contains(0, 0))?)?;
+    granted(records.make(Command::Contains(0, 1))?)
 }
 
 fn granted(made: (u64, Option<Step>)) -> Result<()> {

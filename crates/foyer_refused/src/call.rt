@@ -60,18 +60,18 @@ where
     E::Config: Default,
 {
     let made = match op {
-        Op::Insert(key, weight) => core.insert(key, weighing(weight))?,
+        Op::Insert(key, weight) => core.insert(0, key, weighing(weight))?,
         Op::Phantom(key) => {
             let properties = CacheProperties::default().with_phantom(true);
-            core.insert_with_properties(key, weighing(1), properties)?
+            core.insert_with_properties(0, key, weighing(1), properties)?
         }
         Op::Piece(_) => match piece.map(|piece| piece.clone()) {
-            Some(Ok(piece)) => core.insert_piece(piece)?,
+            Some(Ok(piece)) => core.insert_piece(0, piece)?,
             Some(Err(refused)) => return bare(alloc, Err(Error::from(refused))),
             None => return bare(alloc, Ok(None)),
         },
-        Op::Resize(capacity) => return Ok((core.resize(capacity)?, None)),
-        Op::EvictAll => return Ok((core.evict_all()?, None)),
+        Op::Resize(capacity) => return Ok((core.resize(0, capacity)?, None)),
+        Op::EvictAll => return Ok((core.evict_all(0)?, None)),
         Op::Clear => return taken(alloc, core.clear()),
         Op::FlushIf => return taken(alloc, core.flush_if(&|key, _| *key % 2 == 0)),
         _ => return bare(alloc, looked(core, op)),
@@ -103,7 +103,7 @@ where
     E::Config: Default,
 {
     let found = match op {
-        Op::Ask(key) => match core.get_or_enqueue(&key, None, 0)? {
+        Op::Ask(key) => match core.get_or_enqueue(0, &key, None, 0)? {
             Lookup::Hit(entry) => {
                 drop(core.drop_entry(entry));
                 return Ok(None);
@@ -115,9 +115,9 @@ where
             } => return Ok(Some(token)),
             Lookup::Wait { token } => return Ok(Some(token)),
         },
-        Op::Get(key) => core.get(&key)?,
+        Op::Get(key) => core.get(0, &key)?,
         Op::Remove(key) => core.remove(&key)?.map(|(entry, _)| entry),
-        Op::Touch(key) => return Ok(if core.touch(&key)? { None } else { Some(0) }),
+        Op::Touch(key) => return Ok(if core.touch(0, &key)? { None } else { Some(0) }),
         _ => {
             core.reconfigure(&E::Config::default())?;
             return Ok(None);

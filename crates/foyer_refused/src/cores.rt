@@ -48,7 +48,7 @@ where
 /// Puts records of the keys below `end` in, each of weight 1, and lets their entries go.
 pub fn fill<E: Eviction>(core: &mut Core<E>, end: u64) -> Result<()> {
     for key in 0..end {
-        let made = core.insert(key, weighing(1))?;
+        let made = core.insert(0, key, weighing(1))?;
         drop(ended(core, made));
     }
     Ok(())
@@ -90,7 +90,7 @@ impl Look {
             core.usage(),
             core.entries(),
             core.capacity(),
-            &|key| core.contains(key),
+            &|key| core.contains(0, key),
         );
         Look {
             is_open: core.is_open(&FETCHED, 0),

@@ -91,7 +91,7 @@ where
     let mut core = empty::<E>(alloc, filled.capacity, filled.shards, 0)?;
     fill(&mut core, filled.records)?;
     if filled.shards == 1 {
-        let _ = core.touch(&5)?;
+        let _ = core.touch(0, &5)?;
     }
     if filled.waits {
         ask_for(&mut core)?;
@@ -107,7 +107,7 @@ where
         if let Some((entry, _)) = core.remove(&key)? {
             drop(core.drop_entry(entry));
         }
-        drop(core.resize(capacity)?);
+        drop(core.resize(0, capacity)?);
     }
     Ok((core, piece))
 }
@@ -117,7 +117,7 @@ pub fn ask_for<E: Eviction>(core: &mut Core<E>) -> Result<()>
 where
     E::Config: Default,
 {
-    match core.get_or_enqueue(&FETCHED, None, 0)? {
+    match core.get_or_enqueue(0, &FETCHED, None, 0)? {
         Lookup::Hit(entry) => drop(core.drop_entry(entry)),
         Lookup::Lead {
             fetch: _,
@@ -135,7 +135,7 @@ where
     E::Config: Default,
 {
     let mut other = empty::<E>(alloc, 4, 1, 1)?;
-    let made = other.insert(key, weighing(1))?;
+    let made = other.insert(0, key, weighing(1))?;
     drop(ended(&mut other, made));
     piece_of(&mut other, key)
 }
@@ -145,7 +145,7 @@ fn piece_of<E: Eviction>(core: &mut Core<E>, key: u64) -> Result<Option<Kept>>
 where
     E::Config: Default,
 {
-    let Some(entry) = core.get(&key)? else {
+    let Some(entry) = core.get(0, &key)? else {
         return Ok(None);
     };
     let piece = entry.piece();

@@ -100,7 +100,7 @@ where
         found,
         answers,
         leaves,
-    } = core.complete(&FETCHED, fetch, target, Source::Outer);
+    } = core.complete(0, &FETCHED, fetch, target, Source::Outer);
     let token = answers.waiters.first().map(|waiting| waiting.token);
     let refused = match &answers.outcome {
         Outcome::Fault(error) => Some(error.number()),
@@ -200,7 +200,7 @@ where
     if told.refused.is_some() || all != 10 || !begin(&told.leaves, gone, wanted) {
         return Shown::Wrong("what left for the insert behind a resize");
     }
-    if core.usage() == 3 && core.entries() == 3 && core.contains(&50) {
+    if core.usage() == 3 && core.entries() == 3 && core.contains(0, &50) {
         return Shown::Kept;
     }
     Shown::Wrong("the core after the insert behind a resize")
@@ -233,7 +233,13 @@ fn put_onto<E: Eviction>(core: &mut Core<E>, leaves: &mut Leaves) -> Option<u8>
 where
     E::Config: Default,
 {
-    match core.insert_with_properties_onto(50, weighing(10), CacheProperties::default(), leaves) {
+    match core.insert_with_properties_onto(
+        0,
+        50,
+        weighing(10),
+        CacheProperties::default(),
+        leaves,
+    ) {
         Ok(InsertedOnto { entry, answers }) => {
             core.drop_answers(answers);
             drop(core.drop_entry(entry));

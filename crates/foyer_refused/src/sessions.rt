@@ -91,21 +91,21 @@ where
 {
     let (command, kind, leaves, usage) = match name {
         "step_insert" | "run" => (inserting::<E>(7), Kind::Entry, 1, 4),
-        "step_insert_piece" => (Command::InsertPiece(0), Kind::Entry, 0, 4),
-        "step_get" => (Command::Get(2), Kind::Found, 0, 4),
-        "step_contains" => (Command::Contains(2), Kind::Yes, 0, 4),
-        "step_touch" => (Command::Touch(2), Kind::Yes, 0, 4),
+        "step_insert_piece" => (Command::InsertPiece(0, 0), Kind::Entry, 0, 4),
+        "step_get" => (Command::Get(0, 2), Kind::Found, 0, 4),
+        "step_contains" => (Command::Contains(0, 2), Kind::Yes, 0, 4),
+        "step_touch" => (Command::Touch(0, 2), Kind::Yes, 0, 4),
         "step_remove" => (Command::Remove(2), Kind::Found, 1, 3),
         "step_clone" => (Command::Clone(1), Kind::Found, 0, 4),
         "step_drop" => (Command::Drop(1), Kind::Done, 0, 4),
         "step_take_piece" => (Command::TakePiece(1), Kind::Piece, 0, 4),
         "step_refs" => (Command::Refs(1), Kind::Number, 0, 4),
         "step_outdated" => (Command::Outdated(1), Kind::No, 0, 4),
-        "step_lead" => (Command::GetOrFetch(8, None), Kind::Token, 0, 4),
-        "step_wait" => (Command::GetOrFetch(9, Some(5)), Kind::Token, 0, 4),
+        "step_lead" => (Command::GetOrFetch(0, 8, None), Kind::Token, 0, 4),
+        "step_wait" => (Command::GetOrFetch(0, 9, Some(5)), Kind::Token, 0, 4),
         "step_complete" => {
             let end = End::Value(weighing(1), CacheProperties::default(), Source::Outer);
-            (Command::Complete(9, 0, end), Kind::Answered, 1, 4)
+            (Command::Complete(0, 9, 0, end), Kind::Answered, 1, 4)
         }
         "step_fail" => {
             let fault = Arc::try_clone(fault).ok()?;
@@ -115,9 +115,9 @@ where
         "step_fetch_or_take" => (Command::FetchOrTake(9, 0, None), Kind::Answered, 0, 4),
         "step_is_open" => (Command::IsOpen(9, 0), Kind::Yes, 0, 4),
         "step_clear" => (Command::Clear, Kind::Done, 4, 0),
-        "step_evict_all" => (Command::EvictAll, Kind::Done, 4, 0),
+        "step_evict_all" => (Command::EvictAll(0), Kind::Done, 4, 0),
         "step_flush_if" => (Command::FlushIf(EvenKeys), Kind::Done, 2, 2),
-        "step_resize" => (Command::Resize(2), Kind::Done, 2, 2),
+        "step_resize" => (Command::Resize(0, 2), Kind::Done, 2, 2),
         "step_reconfigure" => {
             let config = E::Config::default();
             (Command::Reconfigure(config), Kind::Done, 0, 4)
@@ -137,7 +137,7 @@ where
 
 /// The insert of a key.
 pub fn inserting<E: Eviction>(key: u64) -> Asked<E> {
-    Command::Insert(key, weighing(1), CacheProperties::default())
+    Command::Insert(0, key, weighing(1), CacheProperties::default())
 }
 
 /// Shows the command of this name, where there is one.
@@ -167,7 +167,7 @@ where
         granted(session.step(inserting::<E>(key))?)?;
     }
     granted(session.step::<EvenKeys>(Command::TakePiece(0))?)?;
-    granted(session.step::<EvenKeys>(Command::GetOrFetch(9, None))?)?;
+    granted(session.step::<EvenKeys>(Command::GetOrFetch(0, 9, None))?)?;
     Ok(session)
 }
 

@@ -217,9 +217,9 @@ module _ {K V P View C : Type 0} (m : Meaning K P View C) where
     | inr e ↦ (let c = h j in let ne = e.0 in let same = e.1 in grind (arith, nat_tests))
   ]
 
-  pub gets_counts : (old : State K V P View) (k : ℕ × K) (entry : Held K V P) (new : State K V P View)
-      → Gets m old k (Ok (Some entry)) new → (held : ℕ → ℕ) → Counts old held → Counts new (one_more held entry.id)
-  gets_counts old k entry new h held counts =
+  pub gets_counts : (now : ℕ) (old : State K V P View) (k : ℕ × K) (entry : Held K V P) (new : State K V P View)
+      → Gets m now old k (Ok (Some entry)) new → (held : ℕ → ℕ) → Counts old held → Counts new (one_more held entry.id)
+  gets_counts now old k entry new h held counts =
       more_counts old new entry.id h.0 (Some (record h.0 { handles = h.0.handles + 1 })) held 1 h.2
       (ap (λ (x : State K V P View). x.records) h.5) refl counts
 

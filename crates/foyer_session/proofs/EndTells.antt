@@ -5,16 +5,20 @@ use Rattle.foyer_policy.specs.declared.types.Event.{Event}
 use Rattle.foyer_core.specs.CoreFetches.{at_hash, open_in}
 use Rattle.foyer_core.specs.Indexer.{same_key}
 use Rattle.foyer_core.specs.Inflight.{AreOpen, Opens, OpenFetch, after_nothing, asked, waiters_of}
-use Rattle.foyer_core.specs.Values.{Gone, Held}
+use Rattle.foyer_core.specs.Values.{Gone, Held, Carried}
 use Rattle.foyer_core.specs.Waited.{Ending, lost}
 use Rattle.foyer_session.specs.declared.command.Answer.{Answer}
-use Rattle.foyer_session.specs.declared.command.Answer.TheVariants.{Answered, Lost}
-use Rattle.foyer_session.specs.Step.{SessionState, TellsEnd, entries_by, first_told, given}
+use Rattle.foyer_session.specs.declared.command.Answer.TheVariants.{Answered, Lost, Refused}
+use Rattle.foyer_session.specs.Step.{SessionState, TellsEnd, entries_by, first_told, given, CompletesPiece, CompletesWith}
 use Rattle.foyer_session.specs.Tokens.{got_of, numbers_of}
 use Rattle.foyer_session.specs.Waits.{SoManyWait}
 use Rattle.foyer_session.specs.Answering.{ClosedBy}
 use Rattle.foyer_session.proofs.LedgerFetches.{nothing_at, taken_at}
 use Rattle.foyer_session.proofs.WaitsLemmas.{closed_waiting, of_shard_long, settled_waiting, still_waiting, waiting_counted}
+use Rattle.foyer_session.specs.Terms.{Terms}
+use Rattle.foyer_policy.specs.declared.types.Source.TheVariants.{Memory}
+use Rattle.foyer_policy.specs.declared.error.Reason.TheVariants.{NoMemory}
+use Rattle.foyer_core.specs.declared.outcome.FetchTarget.TheVariants.{Piece as PieceTarget}
 
 pub tells_end : {K V P View S W A : Type 0} (old new : SessionState K V P View S W A)
     (ended : Ending K V P (Unit {0})) (answer : Answer K V P) (leaves : List (Event × Gone K V P))
@@ -94,3 +98,11 @@ module _ {K N R : Type 0} (eq : K → K → Bool) (f : List (Opens K N R))
 pub some_so : {A : Type 0} {P : A → Type 0} (o : Option A) → IsSomeAnd o P → (x : A) × (o ≡ Some x) × P x
 some_so None h = absurd h
 some_so (Some x) h = (x, refl, h)
+
+-- a fetch that ends with a piece ends with the record that is carried
+pub piece_completes : {K V P View C S W A : Type 0} (t : Terms K V P View C S W A) (old : SessionState K V P View S W A)
+    (k : K) (fetch : ℕ) (piece : Carried K V P) (answer : Answer K V P) (leaves : List (Event × Gone K V P))
+    (new : SessionState K V P View S W A) → CompletesWith t old k fetch Memory (PieceTarget piece) answer leaves new →
+    CompletesPiece t old k fetch (Some piece) answer leaves new
+piece_completes t old k fetch piece (Refused NoMemory) leaves new h = absurd h.2
+piece_completes t old k fetch piece answer leaves new h = h

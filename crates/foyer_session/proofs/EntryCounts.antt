@@ -25,21 +25,21 @@ refusals_same old new id more _ h = absurd h
 
 module _ {K V P View C : Type 0} (m : Meaning K P View C) where
   -- a touch, whatever it answers
-  pub touches_counts : (old : State K V P View) (k : ℕ × K) (result : Result Bool Reason) (new : State K V P View) →
-      Touches m old k result new → (held : ℕ → ℕ) → Counts old held → Counts new held
-  touches_counts old k (Ok true) new h held counts =
-      gives_back_counts m h.1 h.0.id None new h.3 held (gets_counts m old k h.0 h.1 h.2 held counts)
-  touches_counts old k (Ok false) new h held counts = rw h.1 counts
-  touches_counts old k (Err Handles) new h held counts = rw h.5 counts
-  touches_counts old k (Err _) new h held counts = absurd h
+  pub touches_counts : (now : ℕ) (old : State K V P View) (k : ℕ × K) (result : Result Bool Reason) (new : State K V P View) →
+      Touches m now old k result new → (held : ℕ → ℕ) → Counts old held → Counts new held
+  touches_counts now old k (Ok true) new h held counts =
+      gives_back_counts m h.1 h.0.id None new h.3 held (gets_counts m now old k h.0 h.1 h.2 held counts)
+  touches_counts now old k (Ok false) new h held counts = rw h.1 counts
+  touches_counts now old k (Err Handles) new h held counts = rw h.5 counts
+  touches_counts now old k (Err _) new h held counts = absurd h
 
-  pub touches_number : (old : State K V P View) (k : ℕ × K) (result : Result Bool Reason) (new : State K V P View) →
-      Touches m old k result new → new.number ≡ old.number
-  touches_number old k (Ok true) new h = gives_back_number m h.1 h.0.id None new h.3
+  pub touches_number : (now : ℕ) (old : State K V P View) (k : ℕ × K) (result : Result Bool Reason) (new : State K V P View) →
+      Touches m now old k result new → new.number ≡ old.number
+  touches_number now old k (Ok true) new h = gives_back_number m h.1 h.0.id None new h.3
       ∙ ap (λ (x : State K V P View). x.number) h.2.5
-  touches_number old k (Ok false) new h = ap (λ (x : State K V P View). x.number) h.1
-  touches_number old k (Err Handles) new h = ap (λ (x : State K V P View). x.number) h.5
-  touches_number old k (Err _) new h = absurd h
+  touches_number now old k (Ok false) new h = ap (λ (x : State K V P View). x.number) h.1
+  touches_number now old k (Err Handles) new h = ap (λ (x : State K V P View). x.number) h.5
+  touches_number now old k (Err _) new h = absurd h
 
   pub handles_counts : (old : State K V P View) (id more : ℕ) (r : Rec K V P) → old.records id ≡ Some r →
       (held : ℕ → ℕ) → Counts old held → Counts (after_handles old id more r) (gained held id more)

@@ -43,12 +43,12 @@ tight_weight b (c ∷ ys) rest tight =
     )) (cases_eq c 32)
 
 -- what is tight and long is bad, whatever follows
-pub tight-bad : (xs rest : List ℕ) → is_tight_after 32 xs ≡ true → 84 < length xs → line_of (xs ++ rest) ≡ Bad
+pub tight-bad : (xs rest : List ℕ) → is_tight_after 32 xs ≡ true → 105 < length xs → line_of (xs ++ rest) ≡ Bad
 tight-bad xs rest tight long = line_of_words-long (words (xs ++ rest))
     (omega (arith, (tight_weight 32 xs rest tight).0 refl))
 
 -- so another byte changes nothing
-pub StandsFor-full : (xs : List ℕ) (b : ℕ) → is_tight_after 32 xs ≡ true → 84 < length xs → StandsFor xs (xs ++ b ∷ [])
+pub StandsFor-full : (xs : List ℕ) (b : ℕ) → is_tight_after 32 xs ≡ true → 105 < length xs → StandsFor xs (xs ++ b ∷ [])
 StandsFor-full xs b tight long = λ rest. tight-bad xs rest tight long
     ∙ sym (ap line_of (append_assoc xs (b ∷ []) rest) ∙ tight-bad xs (b ∷ rest) tight long)
 

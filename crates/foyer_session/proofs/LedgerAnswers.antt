@@ -22,12 +22,13 @@ use Rattle.foyer_session.specs.declared.command.End.{End}
 use Rattle.foyer_session.specs.declared.command.End.TheVariants.{Value, PieceNo as PieceEnd}
 use Rattle.foyer_session.specs.Ledger.{IsAnswered, IsHandleOf, MayGet, MayRefuse, came_in, outcomes}
 use Rattle.foyer_session.specs.Step.{SessionState, Step, GetStep, ContainsStep, TouchStep, RemoveStep, CloneStep, DropStep, TakePieceStep, RefsStep, OutdatedStep, GetOrFetchStep, CompletesWith, CompletesPiece, CompleteStep, EndStep, FetchOrTakeStep, IsOpenStep, TellsEnd, ClearStep, EvictAllStep, FlushIfStep, ResizeStep, ReconfigureStep, NumberStep, hash_in, hashed, nothing_by, open_at, rules_in}
-use Rattle.foyer_session.specs.Terms.{Terms}
+use Rattle.foyer_session.specs.Terms.{Terms, terms_at}
 use Rattle.foyer_session.specs.Tokens.{each_gets, numbers_of}
 use Rattle.foyer_session.proofs.EndTells.{asked_some}
 use Rattle.foyer_session.proofs.LedgerArrivals.{AllAre, piece_all, value_all}
 use Rattle.foyer_session.proofs.LedgerEnds.{completed_place, ends_place}
 use Rattle.foyer_session.proofs.LedgerOutcomes.{OneIs, all_told, insert_answered, insert_piece_answered, open_all}
+use Rattle.foyer_core.specs.State.{at_moment}
 
 module _ {K V P View C S W A : Type 0} (Q : Type 0) (t : Terms K V P View C S W A)
     (laws : IsEquivalence t.meaning.same) (old new : SessionState K V P View S W A) where
@@ -49,50 +50,50 @@ module _ {K V P View C S W A : Type 0} (Q : Type 0) (t : Terms K V P View C S W 
   told_end command k fetch ended Lost leaves waited right h = tt
   told_end command k fetch ended _ leaves waited right h = absurd h
 
-  complete_with : (end : End V P) (k : K) (fetch : ℕ) (source : Source) (target : FetchTarget K V P)
+  complete_with : (now : ℕ) (end : End V P) (k : K) (fetch : ℕ) (source : Source) (target : FetchTarget K V P)
       (answer : Answer K V P) (leaves : List (Event × Gone K V P))
       → ((ended : Ending K V P (Unit {0})) (o : OpenFetch (Unit {0}) ℕ)
-      → Completed t.meaning (rules_in t old) source target (hashed t old k) (Some o) ended old.core old.fetches
+      → Completed (at_moment now t.meaning) (rules_in t old) source target (hashed t old k) (Some o) ended old.core old.fetches
       new.core new.fetches
-      → Right (Complete k fetch end) k (length o.tokens) ended.outcome)
-      → CompletesWith t old k fetch source target answer leaves new → AllIs (Complete k fetch end) k answer
-  complete_with end k fetch source target answer leaves right h =
-      let ends = completed_place t.meaning old.core new.core old.fetches new.fetches (hashed t old k) h.0
+      → Right (Complete now k fetch end) k (length o.tokens) ended.outcome)
+      → CompletesWith (terms_at now t) old k fetch source target answer leaves new → AllIs (Complete now k fetch end) k answer
+  complete_with now end k fetch source target answer leaves right h =
+      let ends = completed_place (at_moment now t.meaning) old.core new.core old.fetches new.fetches (hashed t old k) h.0
       (rules_in t old) source target
       (open_at t old k fetch) h.1 in
-      told_end (Complete k fetch end) k fetch h.0 answer leaves ends.0.waiters
+      told_end (Complete now k fetch end) k fetch h.0 answer leaves ends.0.waiters
       (λ o is. right h.0 o
-      (subst (λ (p : Option (OpenFetch (Unit {0}) ℕ)). Completed t.meaning (rules_in t old) source target
+      (subst (λ (p : Option (OpenFetch (Unit {0}) ℕ)). Completed (at_moment now t.meaning) (rules_in t old) source target
       (hashed t old k) p h.0 old.core old.fetches new.core new.fetches) is h.1))
       h.2
 
-  complete_value : (k : K) (fetch : ℕ) (v : V) (p : P) (source : Source) (answer : Answer K V P)
+  complete_value : (now : ℕ) (k : K) (fetch : ℕ) (v : V) (p : P) (source : Source) (answer : Answer K V P)
       (leaves : List (Event × Gone K V P))
-      → CompletesWith t old k fetch source (ValueTarget v p) answer leaves new
-      → AllIs (Complete k fetch (Value v p source)) k answer
-  complete_value k fetch v p source answer leaves h =
-      complete_with (Value v p source) k fetch source (ValueTarget v p) answer leaves
-      (λ ended o done. value_all t.meaning old.core new.core old.fetches new.fetches (hashed t old k) ended
+      → CompletesWith (terms_at now t) old k fetch source (ValueTarget v p) answer leaves new
+      → AllIs (Complete now k fetch (Value v p source)) k answer
+  complete_value now k fetch v p source answer leaves h =
+      complete_with now (Value v p source) k fetch source (ValueTarget v p) answer leaves
+      (λ ended o done. value_all (at_moment now t.meaning) old.core new.core old.fetches new.fetches (hashed t old k) ended
       (rules_in t old) source o v p done) h
 
-  complete_piece : (k : K) (fetch n : ℕ) (piece : Option (Carried K V P)) (answer : Answer K V P)
+  complete_piece : (now : ℕ) (k : K) (fetch n : ℕ) (piece : Option (Carried K V P)) (answer : Answer K V P)
       (leaves : List (Event × Gone K V P))
-      → CompletesPiece t old k fetch piece answer leaves new
-      → AllIs (Complete k fetch (PieceEnd n)) k answer
-  complete_piece k fetch n None NotHeld leaves h = tt
-  complete_piece k fetch n None _ leaves h = absurd h
-  complete_piece k fetch n (Some piece) (Refused NoMemory) leaves h = tt
-  complete_piece k fetch n (Some piece) answer leaves h =
-      complete_with (PieceEnd n) k fetch Memory (PieceTarget piece) answer leaves
-      (λ ended o done. piece_all t.meaning old.core new.core old.fetches new.fetches (hashed t old k) ended
+      → CompletesPiece (terms_at now t) old k fetch piece answer leaves new
+      → AllIs (Complete now k fetch (PieceEnd n)) k answer
+  complete_piece now k fetch n None NotHeld leaves h = tt
+  complete_piece now k fetch n None _ leaves h = absurd h
+  complete_piece now k fetch n (Some piece) (Refused NoMemory) leaves h = tt
+  complete_piece now k fetch n (Some piece) answer leaves h =
+      complete_with now (PieceEnd n) k fetch Memory (PieceTarget piece) answer leaves
+      (λ ended o done. piece_all (at_moment now t.meaning) old.core new.core old.fetches new.fetches (hashed t old k) ended
       (rules_in t old) Memory o piece
       done) h
 
-  complete_answered : (k : K) (fetch : ℕ) (end : End V P) (answer : Answer K V P) (leaves : List (Event × Gone K V P))
-      → CompleteStep t old k fetch end answer leaves new → AllIs (Complete k fetch end) k answer
-  complete_answered k fetch (Value v p source) answer leaves h = complete_value k fetch v p source answer leaves h
-  complete_answered k fetch (PieceEnd n) answer leaves h =
-      complete_piece k fetch n (slice_get old.pieces n) answer leaves h
+  complete_answered : (now : ℕ) (k : K) (fetch : ℕ) (end : End V P) (answer : Answer K V P) (leaves : List (Event × Gone K V P))
+      → CompleteStep (terms_at now t) old k fetch end answer leaves new → AllIs (Complete now k fetch end) k answer
+  complete_answered now k fetch (Value v p source) answer leaves h = complete_value now k fetch v p source answer leaves h
+  complete_answered now k fetch (PieceEnd n) answer leaves h =
+      complete_piece now k fetch n (slice_get old.pieces n) answer leaves h
 
   ended_right : (command : Command K V P Q C) (k : K) (reason : Reason) → MayRefuse command reason
       → (ended : Ending K V P (Unit {0})) (o : OpenFetch (Unit {0}) ℕ) →
@@ -136,23 +137,23 @@ module _ {K V P View C S W A : Type 0} (Q : Type 0) (t : Terms K V P View C S W 
   fetch_or_take_answered command k fetch outcome may Lost leaves h = tt
   fetch_or_take_answered command k fetch outcome may _ leaves h = absurd h
 
-  get_silent : (k : K) (answer : Answer K V P) (leaves : List (Event × Gone K V P)) →
-      GetStep t old k answer leaves new → outcomes answer ≡ []
-  get_silent k (Entry number came answers) leaves h = absurd h
-  get_silent k (Answered answers came) leaves h = absurd h
-  get_silent k _ leaves h = refl
+  get_silent : (now : ℕ) (k : K) (answer : Answer K V P) (leaves : List (Event × Gone K V P)) →
+      GetStep t now old k answer leaves new → outcomes answer ≡ []
+  get_silent now k (Entry number came answers) leaves h = absurd h
+  get_silent now k (Answered answers came) leaves h = absurd h
+  get_silent now k _ leaves h = refl
 
-  contains_silent : (k : K) (answer : Answer K V P) (leaves : List (Event × Gone K V P)) →
-      ContainsStep t old k answer leaves new → outcomes answer ≡ []
-  contains_silent k (Entry number came answers) leaves h = absurd h
-  contains_silent k (Answered answers came) leaves h = absurd h
-  contains_silent k _ leaves h = refl
+  contains_silent : (now : ℕ) (k : K) (answer : Answer K V P) (leaves : List (Event × Gone K V P)) →
+      ContainsStep t now old k answer leaves new → outcomes answer ≡ []
+  contains_silent now k (Entry number came answers) leaves h = absurd h
+  contains_silent now k (Answered answers came) leaves h = absurd h
+  contains_silent now k _ leaves h = refl
 
-  touch_silent : (k : K) (answer : Answer K V P) (leaves : List (Event × Gone K V P)) →
-      TouchStep t old k answer leaves new → outcomes answer ≡ []
-  touch_silent k (Entry number came answers) leaves h = absurd h
-  touch_silent k (Answered answers came) leaves h = absurd h
-  touch_silent k _ leaves h = refl
+  touch_silent : (now : ℕ) (k : K) (answer : Answer K V P) (leaves : List (Event × Gone K V P)) →
+      TouchStep t now old k answer leaves new → outcomes answer ≡ []
+  touch_silent now k (Entry number came answers) leaves h = absurd h
+  touch_silent now k (Answered answers came) leaves h = absurd h
+  touch_silent now k _ leaves h = refl
 
   remove_silent : (k : K) (answer : Answer K V P) (leaves : List (Event × Gone K V P)) →
       RemoveStep t old k answer leaves new → outcomes answer ≡ []
@@ -190,11 +191,11 @@ module _ {K V P View C S W A : Type 0} (Q : Type 0) (t : Terms K V P View C S W 
   outdated_silent n (Answered answers came) leaves h = absurd h
   outdated_silent n _ leaves h = refl
 
-  get_or_fetch_silent : (k : K) (later : Option ℕ) (answer : Answer K V P) (leaves : List (Event × Gone K V P))
-      → GetOrFetchStep t old k later answer leaves new → outcomes answer ≡ []
-  get_or_fetch_silent k later (Entry number came answers) leaves h = absurd h
-  get_or_fetch_silent k later (Answered answers came) leaves h = absurd h
-  get_or_fetch_silent k later _ leaves h = refl
+  get_or_fetch_silent : (now : ℕ) (k : K) (later : Option ℕ) (answer : Answer K V P) (leaves : List (Event × Gone K V P))
+      → GetOrFetchStep t now old k later answer leaves new → outcomes answer ≡ []
+  get_or_fetch_silent now k later (Entry number came answers) leaves h = absurd h
+  get_or_fetch_silent now k later (Answered answers came) leaves h = absurd h
+  get_or_fetch_silent now k later _ leaves h = refl
 
   is_open_silent : (k : K) (fetch : ℕ) (answer : Answer K V P) (leaves : List (Event × Gone K V P)) →
       IsOpenStep t old k fetch answer leaves new
@@ -209,18 +210,18 @@ module _ {K V P View C S W A : Type 0} (Q : Type 0) (t : Terms K V P View C S W 
   clear_silent (Answered answers came) leaves h = absurd h
   clear_silent _ leaves h = refl
 
-  evict_all_silent : (answer : Answer K V P) (leaves : List (Event × Gone K V P)) →
-      EvictAllStep t old answer leaves new → outcomes answer ≡ []
-  evict_all_silent (Entry number came answers) leaves h = absurd h
-  evict_all_silent (Answered answers came) leaves h = absurd h
-  evict_all_silent _ leaves h = refl
+  evict_all_silent : (now : ℕ) (answer : Answer K V P) (leaves : List (Event × Gone K V P)) →
+      EvictAllStep (terms_at now t) old answer leaves new → outcomes answer ≡ []
+  evict_all_silent now (Entry number came answers) leaves h = absurd h
+  evict_all_silent now (Answered answers came) leaves h = absurd h
+  evict_all_silent now _ leaves h = refl
 
-  resize_silent : (capacity : ℕ) (answer : Answer K V P) (leaves : List (Event × Gone K V P)) →
-      ResizeStep t old capacity answer leaves new
+  resize_silent : (now : ℕ) (capacity : ℕ) (answer : Answer K V P) (leaves : List (Event × Gone K V P)) →
+      ResizeStep t now old capacity answer leaves new
       → outcomes answer ≡ []
-  resize_silent capacity (Entry number came answers) leaves h = absurd h
-  resize_silent capacity (Answered answers came) leaves h = absurd h
-  resize_silent capacity _ leaves h = refl
+  resize_silent now capacity (Entry number came answers) leaves h = absurd h
+  resize_silent now capacity (Answered answers came) leaves h = absurd h
+  resize_silent now capacity _ leaves h = refl
 
   reconfigure_silent : (config : C) (answer : Answer K V P) (leaves : List (Event × Gone K V P)) →
       ReconfigureStep t old config answer leaves new
@@ -251,9 +252,9 @@ module _ {K V P View C S W A : Type 0} (Q : Type 0) (t : Terms K V P View C S W 
     -- the tokens that a step hands out are answered
     pub any_answered : (command : Command K V P Q C) (answer : Answer K V P) (leaves : List (Event × Gone K V P))
         → Step t picks old command answer leaves new → IsAnswered t old command answer new
-    any_answered (Insert k v p) answer leaves h = insert_answered Q t laws old new k v p answer leaves h
-    any_answered (InsertPiece n) answer leaves h = insert_piece_answered Q t laws old new n answer leaves h
-    any_answered (Complete k fetch end) answer leaves h = complete_answered k fetch end answer leaves h
+    any_answered (Insert now k v p) answer leaves h = insert_answered Q t laws old new now k v p answer leaves h
+    any_answered (InsertPiece now n) answer leaves h = insert_piece_answered Q t laws old new now n answer leaves h
+    any_answered (Complete now k fetch end) answer leaves h = complete_answered now k fetch end answer leaves h
     any_answered (Fail k fetch fault) answer leaves h =
         end_answered (Fail k fetch fault) k fetch (Fetch fault) refl answer leaves h
     any_answered (Cancel k fetch) answer leaves h =
@@ -263,23 +264,23 @@ module _ {K V P View C S W A : Type 0} (Q : Type 0) (t : Terms K V P View C S W 
     any_answered (FetchOrTake k fetch (Some fault)) answer leaves h =
         fetch_or_take_answered (FetchOrTake k fetch (Some fault)) k fetch (Some (Fetch fault)) (λ told. refl) answer
         leaves h
-    any_answered (Get k) answer leaves h = nobody (Get k) answer (get_silent k answer leaves h)
-    any_answered (Contains k) answer leaves h = nobody (Contains k) answer (contains_silent k answer leaves h)
-    any_answered (Touch k) answer leaves h = nobody (Touch k) answer (touch_silent k answer leaves h)
+    any_answered (Get now k) answer leaves h = nobody (Get now k) answer (get_silent now k answer leaves h)
+    any_answered (Contains now k) answer leaves h = nobody (Contains now k) answer (contains_silent now k answer leaves h)
+    any_answered (Touch now k) answer leaves h = nobody (Touch now k) answer (touch_silent now k answer leaves h)
     any_answered (Remove k) answer leaves h = nobody (Remove k) answer (remove_silent k answer leaves h)
     any_answered (Clone n) answer leaves h = nobody (Clone n) answer (clone_silent n answer leaves h)
     any_answered (Drop n) answer leaves h = nobody (Drop n) answer (drop_silent n answer leaves h)
     any_answered (TakePiece n) answer leaves h = nobody (TakePiece n) answer (take_piece_silent n answer leaves h)
     any_answered (Refs n) answer leaves h = nobody (Refs n) answer (refs_silent n answer leaves h)
     any_answered (Outdated n) answer leaves h = nobody (Outdated n) answer (outdated_silent n answer leaves h)
-    any_answered (GetOrFetch k later) answer leaves h =
-        nobody (GetOrFetch k later) answer (get_or_fetch_silent k later answer leaves h)
+    any_answered (GetOrFetch now k later) answer leaves h =
+        nobody (GetOrFetch now k later) answer (get_or_fetch_silent now k later answer leaves h)
     any_answered (IsOpen k fetch) answer leaves h =
         nobody (IsOpen k fetch) answer (is_open_silent k fetch answer leaves h)
     any_answered Clear answer leaves h = nobody Clear answer (clear_silent answer leaves h)
-    any_answered EvictAll answer leaves h = nobody EvictAll answer (evict_all_silent answer leaves h)
-    any_answered (Resize capacity) answer leaves h =
-        nobody (Resize capacity) answer (resize_silent capacity answer leaves h)
+    any_answered (EvictAll now) answer leaves h = nobody (EvictAll now) answer (evict_all_silent now answer leaves h)
+    any_answered (Resize now capacity) answer leaves h =
+        nobody (Resize now capacity) answer (resize_silent now capacity answer leaves h)
     any_answered (Reconfigure config) answer leaves h =
         nobody (Reconfigure config) answer (reconfigure_silent config answer leaves h)
     any_answered (FlushIf q) answer leaves h = nobody (FlushIf q) answer (flush_if_silent (picks q) answer leaves h)

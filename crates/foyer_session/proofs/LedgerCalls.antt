@@ -33,10 +33,10 @@ module _ {E K V P S W A I C : Type 0} {e : EvictionGhosts E C}
   pub comes_home : (s : Session E K V P S W A I C e q h c p d b w f i)
       (new : SessionState K V P e.View S W A)
       → ComesHome (terms_of s) (session_of s) new
-  comes_home s new piece made at =
+  comes_home s new now piece made at =
       let old = session_of s in
       let hash = hash_in (terms_of s) old piece.kept.key in
-      came_home s.core (w.weighs s.core.rules.weighter piece.kept.key piece.kept.value) piece made
+      came_home s.core now (w.weighs s.core.rules.weighter piece.kept.key piece.kept.value) piece made
       (λ x. 1 + length (waiting_at (terms_of s) old (coming_under x hash piece))) new.core at
 
   -- so a step of a session settles its tokens

@@ -96,14 +96,14 @@ module _ {K N R : Type 0} (eq : K → K → Bool) (fetches : List (Opens K N R))
   -- one more waits
   pub enqueued_at : (laws : IsEquivalence eq) (k : ℕ × K) (shard : ℕ) (f : Opens K N R) → slice_get fetches shard
       ≡ Some f → k.0 % length fetches ≡ shard
-      → (waiter : N) (later : Option R) (new : List (Opens K N R)) (token : ℕ)
-      → new ≡ slice_set fetches shard (after_enqueue eq f k waiter later) → token ≡ f.next_token →
+      → (now : ℕ) (waiter : N) (later : Option R) (new : List (Opens K N R)) (token : ℕ)
+      → new ≡ slice_set fetches shard (after_enqueue eq now f k waiter later) → token ≡ f.next_token →
       Settles fetches new (of_shard shard (token ∷ [])) []
-  enqueued_at laws k shard f there home waiter later new token is own =
+  enqueued_at laws k shard f there home now waiter later new token is own =
       subst (λ (g : List (Opens K N R)). Settles fetches g (of_shard shard (token ∷ [])) []) (sym is)
-      (subst (λ (n : ℕ). Settles fetches (slice_set fetches shard (after_enqueue eq f k waiter later))
+      (subst (λ (n : ℕ). Settles fetches (slice_set fetches shard (after_enqueue eq now f k waiter later))
       (of_shard shard (n ∷ [])) []) (sym own)
-      (enqueued_settled eq fetches known shard f there (sound shard f there) (alike shard f there) k home laws waiter
+      (enqueued_settled eq fetches known shard f there (sound shard f there) (alike shard f there) k home laws now waiter
       later))
 
   module _ (k : ℕ × K) (hash : ℕ) (same : hash % length fetches ≡ k.0 % length fetches) where

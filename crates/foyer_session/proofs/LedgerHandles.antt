@@ -17,7 +17,7 @@ use Rattle.foyer_session.specs.declared.command.Command.TheVariants.{Insert, Get
 use Rattle.foyer_session.specs.declared.command.End.{End}
 use Rattle.foyer_session.specs.declared.command.End.TheVariants.{Value, PieceNo as PieceEnd}
 use Rattle.foyer_session.specs.Step.{SessionState, Step, InsertStep, GetStep, ContainsStep, TouchStep, RemoveStep, CloneStep, DropStep, TakePieceStep, InsertPieceStep, RefsStep, OutdatedStep, GetOrFetchStep, CompletesPiece, CompleteStep, FetchOrTakeStep, IsOpenStep, TellsEnd, ClearStep, EvictAllStep, FlushIfStep, ResizeStep, ReconfigureStep, NumberStep, held_at}
-use Rattle.foyer_session.specs.Terms.{Terms}
+use Rattle.foyer_session.specs.Terms.{Terms, terms_at}
 
 module _ {K V P : Type 0} where
   -- each handle that there was is what it was, or was given back
@@ -75,31 +75,31 @@ module _ {K V P View C S W A : Type 0} (t : Terms K V P View C S W A) (old new :
   same : new.handles ≡ old.handles → Stay
   same is = stay_same old.handles new.handles is
 
-  insert_stays : (k : K) (v : V) (p : P) (answer : Answer K V P) (leaves : List (Event × Gone K V P)) →
-      InsertStep t old k v p answer leaves new → Stay
-  insert_stays k v p (Entry number told answers) leaves h = more _ h.6.handles
-  insert_stays k v p (Refused reason) leaves h = same h.5.0.0
-  insert_stays k v p _ leaves h = absurd h
+  insert_stays : (now : ℕ) (k : K) (v : V) (p : P) (answer : Answer K V P) (leaves : List (Event × Gone K V P)) →
+      InsertStep (terms_at now t) old k v p answer leaves new → Stay
+  insert_stays now k v p (Entry number told answers) leaves h = more _ h.6.handles
+  insert_stays now k v p (Refused reason) leaves h = same h.5.0.0
+  insert_stays now k v p _ leaves h = absurd h
 
-  get_stays : (k : K) (answer : Answer K V P) (leaves : List (Event × Gone K V P)) → GetStep t old k answer leaves new
+  get_stays : (now : ℕ) (k : K) (answer : Answer K V P) (leaves : List (Event × Gone K V P)) → GetStep t now old k answer leaves new
       → Stay
-  get_stays k (Found number told) leaves h = more _ h.2.handles
-  get_stays k Missing leaves h = unchanged h.2
-  get_stays k (Refused reason) leaves h = unchanged h.2
-  get_stays k _ leaves h = absurd h
+  get_stays now k (Found number told) leaves h = more _ h.2.handles
+  get_stays now k Missing leaves h = unchanged h.2
+  get_stays now k (Refused reason) leaves h = unchanged h.2
+  get_stays now k _ leaves h = absurd h
 
-  contains_stays : (k : K) (answer : Answer K V P) (leaves : List (Event × Gone K V P)) →
-      ContainsStep t old k answer leaves new → Stay
-  contains_stays k Yes leaves h = unchanged h.2
-  contains_stays k No leaves h = unchanged h.2
-  contains_stays k _ leaves h = absurd h
+  contains_stays : (now : ℕ) (k : K) (answer : Answer K V P) (leaves : List (Event × Gone K V P)) →
+      ContainsStep t now old k answer leaves new → Stay
+  contains_stays now k Yes leaves h = unchanged h.2
+  contains_stays now k No leaves h = unchanged h.2
+  contains_stays now k _ leaves h = absurd h
 
-  touch_stays : (k : K) (answer : Answer K V P) (leaves : List (Event × Gone K V P)) →
-      TouchStep t old k answer leaves new → Stay
-  touch_stays k Yes leaves h = same h.2.0.0
-  touch_stays k No leaves h = unchanged h.2
-  touch_stays k (Refused reason) leaves h = unchanged h.2
-  touch_stays k _ leaves h = absurd h
+  touch_stays : (now : ℕ) (k : K) (answer : Answer K V P) (leaves : List (Event × Gone K V P)) →
+      TouchStep t now old k answer leaves new → Stay
+  touch_stays now k Yes leaves h = same h.2.0.0
+  touch_stays now k No leaves h = unchanged h.2
+  touch_stays now k (Refused reason) leaves h = unchanged h.2
+  touch_stays now k _ leaves h = absurd h
 
   remove_stays : (k : K) (answer : Answer K V P) (leaves : List (Event × Gone K V P)) →
       RemoveStep t old k answer leaves new → Stay
@@ -128,15 +128,15 @@ module _ {K V P View C S W A : Type 0} (t : Terms K V P View C S W A) (old new :
   take_piece_stays n NotHeld leaves h = unchanged h.2
   take_piece_stays n _ leaves h = absurd h
 
-  insert_piece_stays : (n : ℕ) (answer : Answer K V P) (leaves : List (Event × Gone K V P)) →
-      InsertPieceStep t old n answer leaves new → Stay
-  insert_piece_stays n (Entry number told answers) leaves h = more _ h.4.handles
-  insert_piece_stays n (Refused reason) leaves h = elim h.2 [
+  insert_piece_stays : (now : ℕ) (n : ℕ) (answer : Answer K V P) (leaves : List (Event × Gone K V P)) →
+      InsertPieceStep (terms_at now t) old n answer leaves new → Stay
+  insert_piece_stays now n (Entry number told answers) leaves h = more _ h.4.handles
+  insert_piece_stays now n (Refused reason) leaves h = elim h.2 [
     | inl x ↦ unchanged x.2
     | inr y ↦ same y.1.0.0
   ]
-  insert_piece_stays n NotHeld leaves h = unchanged h.2
-  insert_piece_stays n _ leaves h = absurd h
+  insert_piece_stays now n NotHeld leaves h = unchanged h.2
+  insert_piece_stays now n _ leaves h = absurd h
 
   refs_stays : (n : ℕ) (answer : Answer K V P) (leaves : List (Event × Gone K V P)) →
       RefsStep t old n answer leaves new → Stay
@@ -151,13 +151,13 @@ module _ {K V P View C S W A : Type 0} (t : Terms K V P View C S W A) (old new :
   outdated_stays n NotHeld leaves h = unchanged h.2
   outdated_stays n _ leaves h = absurd h
 
-  get_or_fetch_stays : (k : K) (later : Option ℕ) (answer : Answer K V P) (leaves : List (Event × Gone K V P))
-      → GetOrFetchStep t old k later answer leaves new → Stay
-  get_or_fetch_stays k later (Found number told) leaves h = more _ h.2.handles
-  get_or_fetch_stays k later (Lead fetch token) leaves h = same h.2.0
-  get_or_fetch_stays k later (Wait token) leaves h = same h.1.0
-  get_or_fetch_stays k later (Refused reason) leaves h = unchanged h.2
-  get_or_fetch_stays k later _ leaves h = absurd h
+  get_or_fetch_stays : (now : ℕ) (k : K) (later : Option ℕ) (answer : Answer K V P) (leaves : List (Event × Gone K V P))
+      → GetOrFetchStep t now old k later answer leaves new → Stay
+  get_or_fetch_stays now k later (Found number told) leaves h = more _ h.2.handles
+  get_or_fetch_stays now k later (Lead fetch token) leaves h = same h.2.0
+  get_or_fetch_stays now k later (Wait token) leaves h = same h.1.0
+  get_or_fetch_stays now k later (Refused reason) leaves h = unchanged h.2
+  get_or_fetch_stays now k later _ leaves h = absurd h
 
   end_stays : (ended : Ending K V P (Unit {0})) (answer : Answer K V P) (leaves : List (Event × Gone K V P)) →
       TellsEnd old ended answer leaves new → Stay
@@ -165,19 +165,19 @@ module _ {K V P View C S W A : Type 0} (t : Terms K V P View C S W A) (old new :
   end_stays ended Lost leaves h = same h.2.0
   end_stays ended _ leaves h = absurd h
 
-  complete_piece_stays : (k : K) (fetch : ℕ) (piece : Option (Carried K V P)) (answer : Answer K V P)
+  complete_piece_stays : (now : ℕ) (k : K) (fetch : ℕ) (piece : Option (Carried K V P)) (answer : Answer K V P)
       (leaves : List (Event × Gone K V P))
-      → CompletesPiece t old k fetch piece answer leaves new → Stay
-  complete_piece_stays k fetch None NotHeld leaves h = unchanged h.1
-  complete_piece_stays k fetch None _ leaves h = absurd h
-  complete_piece_stays k fetch (Some piece) (Refused NoMemory) leaves h = unchanged h.1
-  complete_piece_stays k fetch (Some piece) answer leaves h = end_stays h.0 answer leaves h.2
+      → CompletesPiece (terms_at now t) old k fetch piece answer leaves new → Stay
+  complete_piece_stays now k fetch None NotHeld leaves h = unchanged h.1
+  complete_piece_stays now k fetch None _ leaves h = absurd h
+  complete_piece_stays now k fetch (Some piece) (Refused NoMemory) leaves h = unchanged h.1
+  complete_piece_stays now k fetch (Some piece) answer leaves h = end_stays h.0 answer leaves h.2
 
-  complete_stays : (k : K) (fetch : ℕ) (end : End V P) (answer : Answer K V P) (leaves : List (Event × Gone K V P))
-      → CompleteStep t old k fetch end answer leaves new → Stay
-  complete_stays k fetch (Value v p source) answer leaves h = end_stays h.0 answer leaves h.2
-  complete_stays k fetch (PieceEnd n) answer leaves h =
-      complete_piece_stays k fetch (slice_get old.pieces n) answer leaves h
+  complete_stays : (now : ℕ) (k : K) (fetch : ℕ) (end : End V P) (answer : Answer K V P) (leaves : List (Event × Gone K V P))
+      → CompleteStep (terms_at now t) old k fetch end answer leaves new → Stay
+  complete_stays now k fetch (Value v p source) answer leaves h = end_stays h.0 answer leaves h.2
+  complete_stays now k fetch (PieceEnd n) answer leaves h =
+      complete_piece_stays now k fetch (slice_get old.pieces n) answer leaves h
 
   fetch_or_take_stays : (k : K) (fetch : ℕ) (outcome : Option Reason) (answer : Answer K V P)
       (leaves : List (Event × Gone K V P))
@@ -200,11 +200,11 @@ module _ {K V P View C S W A : Type 0} (t : Terms K V P View C S W A) (old new :
   clear_stays (Refused NoMemory) leaves h = unchanged h.1
   clear_stays _ leaves h = absurd h
 
-  evict_all_stays : (answer : Answer K V P) (leaves : List (Event × Gone K V P)) →
-      EvictAllStep t old answer leaves new → Stay
-  evict_all_stays Done leaves h = same h.1.0.0
-  evict_all_stays (Refused NoMemory) leaves h = same h.1.0.0
-  evict_all_stays _ leaves h = absurd h
+  evict_all_stays : (now : ℕ) (answer : Answer K V P) (leaves : List (Event × Gone K V P)) →
+      EvictAllStep (terms_at now t) old answer leaves new → Stay
+  evict_all_stays now Done leaves h = same h.1.0.0
+  evict_all_stays now (Refused NoMemory) leaves h = same h.1.0.0
+  evict_all_stays now _ leaves h = absurd h
 
   flush_if_stays : (says : K → V → Bool → Type 0) (answer : Answer K V P) (leaves : List (Event × Gone K V P)) →
       FlushIfStep t old says answer leaves new → Stay
@@ -212,11 +212,11 @@ module _ {K V P View C S W A : Type 0} (t : Terms K V P View C S W A) (old new :
   flush_if_stays says (Refused NoMemory) leaves h = unchanged h.1
   flush_if_stays says _ leaves h = absurd h
 
-  resize_stays : (capacity : ℕ) (answer : Answer K V P) (leaves : List (Event × Gone K V P)) →
-      ResizeStep t old capacity answer leaves new → Stay
-  resize_stays capacity Done leaves h = same h.1.0.0
-  resize_stays capacity (Refused NoMemory) leaves h = same h.1.0.0
-  resize_stays capacity _ leaves h = absurd h
+  resize_stays : (now : ℕ) (capacity : ℕ) (answer : Answer K V P) (leaves : List (Event × Gone K V P)) →
+      ResizeStep t now old capacity answer leaves new → Stay
+  resize_stays now capacity Done leaves h = same h.1.0.0
+  resize_stays now capacity (Refused NoMemory) leaves h = same h.1.0.0
+  resize_stays now capacity _ leaves h = absurd h
 
   reconfigure_stays : (config : C) (answer : Answer K V P) (leaves : List (Event × Gone K V P)) →
       ReconfigureStep t old config answer leaves new → Stay
@@ -231,28 +231,28 @@ module _ {K V P View C S W A : Type 0} (t : Terms K V P View C S W A) (old new :
 
   pub step_stays : {Q : Type 0} (picks : Q → K → V → Bool → Type 0) (command : Command K V P Q C)
       (answer : Answer K V P) (leaves : List (Event × Gone K V P)) → Step t picks old command answer leaves new → Stay
-  step_stays picks (Insert k v p) answer leaves h = insert_stays k v p answer leaves h
-  step_stays picks (Get k) answer leaves h = get_stays k answer leaves h
-  step_stays picks (Contains k) answer leaves h = contains_stays k answer leaves h
-  step_stays picks (Touch k) answer leaves h = touch_stays k answer leaves h
+  step_stays picks (Insert now k v p) answer leaves h = insert_stays now k v p answer leaves h
+  step_stays picks (Get now k) answer leaves h = get_stays now k answer leaves h
+  step_stays picks (Contains now k) answer leaves h = contains_stays now k answer leaves h
+  step_stays picks (Touch now k) answer leaves h = touch_stays now k answer leaves h
   step_stays picks (Remove k) answer leaves h = remove_stays k answer leaves h
   step_stays picks (Clone n) answer leaves h = clone_stays n answer leaves h
   step_stays picks (Drop n) answer leaves h = drop_stays n answer leaves h
   step_stays picks (TakePiece n) answer leaves h = take_piece_stays n answer leaves h
-  step_stays picks (InsertPiece n) answer leaves h = insert_piece_stays n answer leaves h
+  step_stays picks (InsertPiece now n) answer leaves h = insert_piece_stays now n answer leaves h
   step_stays picks (Refs n) answer leaves h = refs_stays n answer leaves h
   step_stays picks (Outdated n) answer leaves h = outdated_stays n answer leaves h
-  step_stays picks (GetOrFetch k later) answer leaves h = get_or_fetch_stays k later answer leaves h
-  step_stays picks (Complete k fetch end) answer leaves h = complete_stays k fetch end answer leaves h
+  step_stays picks (GetOrFetch now k later) answer leaves h = get_or_fetch_stays now k later answer leaves h
+  step_stays picks (Complete now k fetch end) answer leaves h = complete_stays now k fetch end answer leaves h
   step_stays picks (Fail k fetch fault) answer leaves h = end_stays h.0 answer leaves h.3
   step_stays picks (Cancel k fetch) answer leaves h = end_stays h.0 answer leaves h.3
   step_stays picks (FetchOrTake k fetch outcome) answer leaves h =
       fetch_or_take_stays k fetch (option_map Fetch outcome) answer leaves h
   step_stays picks (IsOpen k fetch) answer leaves h = is_open_stays k fetch answer leaves h
   step_stays picks Clear answer leaves h = clear_stays answer leaves h
-  step_stays picks EvictAll answer leaves h = evict_all_stays answer leaves h
+  step_stays picks (EvictAll now) answer leaves h = evict_all_stays now answer leaves h
   step_stays picks (FlushIf q) answer leaves h = flush_if_stays (picks q) answer leaves h
-  step_stays picks (Resize capacity) answer leaves h = resize_stays capacity answer leaves h
+  step_stays picks (Resize now capacity) answer leaves h = resize_stays now capacity answer leaves h
   step_stays picks (Reconfigure config) answer leaves h = reconfigure_stays config answer leaves h
   step_stays picks Capacity answer leaves h = number_stays _ answer leaves h
   step_stays picks Usage answer leaves h = number_stays _ answer leaves h

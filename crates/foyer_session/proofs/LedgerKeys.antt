@@ -99,7 +99,7 @@ module _ {K N R : Type 0} (eq : K → K → Bool) where
       kept_place None token h = absurd h
       kept_place (Some o) token h = kept (is_some o.later) h where
         kept : (b : Bool) → IsSomeAnd
-            (cond b (Some (record { fetch = o.fetch; tokens = o.tokens; later = None })) None)
+            (cond b (Some (record o { later = None })) None)
             (λ (opened : OpenFetch N R). has token (tokens_of opened) ≡ true) → has token (tokens_of o) ≡ true
         kept true h = h
         kept false h = absurd h
@@ -109,7 +109,7 @@ module _ {K N R : Type 0} (eq : K → K → Bool) where
           (λ key token w. by_key (option_and_then without_later (f.by_key k)) [] key token (same_key eq k key) refl
           (λ is h. inl (kept_place (f.by_key k) token h)) w)
 
-      module _ (waiter : N) (later : Option R) where
+      module _ (now : ℕ) (waiter : N) (later : Option R) where
         abbrev own : Waiting N
         own = record { token = f.next_token; waiter = waiter }
 
@@ -123,7 +123,7 @@ module _ {K N R : Type 0} (eq : K → K → Bool) where
           | inr e ↦ absurd (let x : false ≡ true = sym e.0 ∙ h in cc)
         ]
 
-        in_joined : (p : Option (OpenFetch N R)) (token : ℕ) → has token (tokens_of (joined p f.next_fetch own later))
+        in_joined : (p : Option (OpenFetch N R)) (token : ℕ) → has token (tokens_of (joined p now f.next_fetch own later))
             ≡ true
             → IsSomeAnd p (λ opened. has token (tokens_of opened) ≡ true) ⊎ (f.next_token ≡ token)
         in_joined None token h = elim (one_of (nat_eq token f.next_token) false h) [
@@ -138,10 +138,10 @@ module _ {K N R : Type 0} (eq : K → K → Bool) where
               | inr e ↦ inr (is_next token e)
             ]
 
-        pub enqueued_keyed : Keyed fetches (slice_set fetches i (after_enqueue eq f k waiter later))
+        pub enqueued_keyed : Keyed fetches (slice_set fetches i (after_enqueue eq now f k waiter later))
             ((k, f.next_token) ∷ [])
-        enqueued_keyed = shard_keyed (after_enqueue eq f k waiter later) ((k, f.next_token) ∷ [])
-            (λ key token w. by_key (Some (joined (f.by_key k) f.next_fetch own later)) ((k, f.next_token) ∷ []) key
+        enqueued_keyed = shard_keyed (after_enqueue eq now f k waiter later) ((k, f.next_token) ∷ [])
+            (λ key token w. by_key (Some (joined (f.by_key k) now f.next_fetch own later)) ((k, f.next_token) ∷ []) key
             token (same_key eq k key) refl
             (λ is h. elim (in_joined (f.by_key k) token h) [
               | inl x ↦ inl x

@@ -16,7 +16,7 @@ use Rattle.foyer_session.specs.declared.command.Reply.{Reply}
 use Rattle.foyer_session.specs.Ledger.{IsSettled, Settles, handed, handed_by, issued, issued_by, issued_for, issues, key_by, of_key, shard_of_key}
 use Rattle.foyer_session.specs.Run.{Run}
 use Rattle.foyer_session.specs.Step.{SessionState, InsertPieceStep, Step, hash_in}
-use Rattle.foyer_session.specs.Terms.{Terms}
+use Rattle.foyer_session.specs.Terms.{Terms, terms_at}
 use Rattle.foyer_session.proofs.LedgerCores.{shard_built}
 use Rattle.foyer_session.proofs.LedgerKeyed.{any_keyed}
 use Rattle.foyer_session.proofs.LedgerKeys.{Keyed, keyed_more, same_keyed}
@@ -49,37 +49,39 @@ module _ {K V P View C S W A : Type 0} (t : Terms K V P View C S W A) (laws : Is
     abbrev by : Command K V P Q C → Answer K V P → ℕ
     by command answer = shard_of_key (length old.core.shards) (key_by (hash_in t old) command answer)
 
-    piece_step : (n : ℕ) (answer : Answer K V P) (leaves : List (Event × Gone K V P)) →
-        InsertPieceStep t old n answer leaves new
-        → Settled (by (InsertPiece n) answer) answer
-    piece_step n (Entry number told answers) leaves h =
-        insert_piece_settled t laws old new sound alike long home n number told answers leaves h
-    piece_step n (Refused reason) leaves h = elim h.2 [
+    piece_step : (now : ℕ) (n : ℕ) (answer : Answer K V P) (leaves : List (Event × Gone K V P)) →
+        InsertPieceStep (terms_at now t) old n answer leaves new
+        → Settled (by (InsertPiece now n) answer) answer
+    piece_step now n (Entry number told answers) leaves h =
+        insert_piece_settled t laws old new sound alike long home now n number told answers leaves h
+    piece_step now n (Refused reason) leaves h = elim h.2 [
       | inl same ↦ unchanged t laws old new sound alike long same.2
       | inr y ↦ quiet t laws old new sound alike long y.1.1
           (shard_built old.core new.core _ (hash_in t old h.0.kept.key) y.0)
     ]
-    piece_step n NotHeld leaves h = unchanged t laws old new sound alike long h.2
-    piece_step n _ leaves h = absurd h
+    piece_step now n NotHeld leaves h = unchanged t laws old new sound alike long h.2
+    piece_step now n _ leaves h = absurd h
 
     any_step : (command : Command K V P Q C) (answer : Answer K V P) (leaves : List (Event × Gone K V P)) →
         Step t picks old command answer leaves new
         → Settled (by command answer) answer
-    any_step (Insert k v p) answer leaves h = insert_settled t laws old new sound alike long k v p answer leaves h
-    any_step (Get k) answer leaves h = get_settled t laws old new sound alike long _ k answer leaves h
-    any_step (Contains k) answer leaves h = contains_settled t laws old new sound alike long _ k answer leaves h
-    any_step (Touch k) answer leaves h = touch_settled t laws old new sound alike long _ k answer leaves h
+    any_step (Insert now k v p) answer leaves h =
+        insert_settled (terms_at now t) laws old new sound alike long k v p answer leaves h
+    any_step (Get now k) answer leaves h = get_settled t laws old new sound alike long now _ k answer leaves h
+    any_step (Contains now k) answer leaves h =
+        contains_settled t laws old new sound alike long now _ k answer leaves h
+    any_step (Touch now k) answer leaves h = touch_settled t laws old new sound alike long now _ k answer leaves h
     any_step (Remove k) answer leaves h = remove_settled t laws old new sound alike long _ k answer leaves h
     any_step (Clone n) answer leaves h = clone_settled t laws old new sound alike long _ n answer leaves h
     any_step (Drop n) answer leaves h = drop_settled t laws old new sound alike long _ n answer leaves h
     any_step (TakePiece n) answer leaves h = take_piece_settled t laws old new sound alike long _ n answer leaves h
-    any_step (InsertPiece n) answer leaves h = piece_step n answer leaves h
+    any_step (InsertPiece now n) answer leaves h = piece_step now n answer leaves h
     any_step (Refs n) answer leaves h = refs_settled t laws old new sound alike long _ n answer leaves h
     any_step (Outdated n) answer leaves h = outdated_settled t laws old new sound alike long _ n answer leaves h
-    any_step (GetOrFetch k later) answer leaves h =
-        get_or_fetch_settled t laws old new sound alike long k later answer leaves h
-    any_step (Complete k fetch end) answer leaves h =
-        complete_settled t laws old new sound alike long k fetch end answer leaves h
+    any_step (GetOrFetch now k later) answer leaves h =
+        get_or_fetch_settled t laws old new sound alike long now k later answer leaves h
+    any_step (Complete now k fetch end) answer leaves h =
+        complete_settled (terms_at now t) laws old new sound alike long k fetch end answer leaves h
     any_step (Fail k fetch fault) answer leaves h =
         end_settled t laws old new sound alike long k fetch (Fetch fault) answer leaves h
     any_step (Cancel k fetch) answer leaves h =
@@ -89,10 +91,11 @@ module _ {K V P View C S W A : Type 0} (t : Terms K V P View C S W A) (laws : Is
     any_step (IsOpen k fetch) answer leaves h =
         is_open_settled t laws old new sound alike long _ k fetch answer leaves h
     any_step Clear answer leaves h = clear_settled t laws old new sound alike long _ answer leaves h
-    any_step EvictAll answer leaves h = evict_all_settled t laws old new sound alike long _ answer leaves h
+    any_step (EvictAll now) answer leaves h =
+        evict_all_settled (terms_at now t) laws old new sound alike long _ answer leaves h
     any_step (FlushIf q) answer leaves h = flush_if_settled t laws old new sound alike long _ (picks q) answer leaves h
-    any_step (Resize capacity) answer leaves h =
-        resize_settled t laws old new sound alike long _ capacity answer leaves h
+    any_step (Resize now capacity) answer leaves h =
+        resize_settled t laws old new sound alike long now _ capacity answer leaves h
     any_step (Reconfigure config) answer leaves h =
         reconfigure_settled t laws old new sound alike long _ config answer leaves h
     any_step Capacity answer leaves h = number_settled t laws old new sound alike long _ _ answer leaves h

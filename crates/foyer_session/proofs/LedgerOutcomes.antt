@@ -13,7 +13,7 @@ use Rattle.foyer_core.specs.declared.outcome.Waiting.{Waiting}
 use Rattle.foyer_core.specs.Chains.{has}
 use Rattle.foyer_core.specs.CoreFetches.{open_in}
 use Rattle.foyer_core.specs.Inflight.{OpenFetch, tokens_of, waiters_of}
-use Rattle.foyer_core.specs.State.{is_phantom_record, key_of}
+use Rattle.foyer_core.specs.State.{is_phantom_record, key_of, at_moment}
 use Rattle.foyer_core.specs.Steps.{newcomer}
 use Rattle.foyer_core.specs.Values.{Gone, Held}
 use Rattle.foyer_core.specs.Waited.{Ending}
@@ -23,7 +23,7 @@ use Rattle.foyer_session.specs.declared.command.Command.{Command}
 use Rattle.foyer_session.specs.declared.command.Command.TheVariants.{Insert, InsertPiece}
 use Rattle.foyer_session.specs.Ledger.{IsAnswered, IsHandleOf, MayGet, MayRefuse, WaitsFor}
 use Rattle.foyer_session.specs.Step.{SessionState, InsertStep, InsertPieceStep, data_of, entries_by, first_told, given, hashed, open_at, record_of, waiting_at}
-use Rattle.foyer_session.specs.Terms.{Terms}
+use Rattle.foyer_session.specs.Terms.{Terms, terms_at}
 use Rattle.foyer_session.specs.Tokens.{each_gets, got_of, handles_from, numbers_of}
 use Rattle.foyer_session.proofs.CountLemmas.{inserts_entry}
 use Rattle.foyer_session.proofs.EndTells.{asked_some}
@@ -142,34 +142,34 @@ module _ {K V P View C S W A : Type 0} (Q : Type 0) (t : Terms K V P View C S W 
       (same_all (OneIs command came key) got (numbers_of (waiters_of (open_in old.fetches key)))
       (λ token there. (waits_in (open_in old.fetches key) token there, may)))
 
-  pub insert_answered : (k : K) (v : V) (p : P) (answer : Answer K V P) (leaves : List (Event × Gone K V P)) →
-      InsertStep t old k v p answer leaves new
-      → IsAnswered {Q = Q} t old (Insert k v p) answer new
-  insert_answered k v p (Entry number told answers) leaves h =
+  pub insert_answered : (now : ℕ) (k : K) (v : V) (p : P) (answer : Answer K V P) (leaves : List (Event × Gone K V P)) →
+      InsertStep (terms_at now t) old k v p answer leaves new
+      → IsAnswered {Q = Q} t old (Insert now k v p) answer new
+  insert_answered now k v p (Entry number told answers) leaves h =
       let n = length (waiting_at t old (hashed t old k)) in
       let d = data_of t old k v p h.0 h.1 in
       let at = h.5 in
       let key : h.2.kept.key ≡ k = ap (λ (x : Held K V P). x.kept.key)
-      (inserts_entry t.meaning Outer at.before (newcomer at.before d (1 + n)) leaves h.2 at.after
+      (inserts_entry (at_moment now t.meaning) Outer at.before (newcomer at.before d (1 + n)) leaves h.2 at.after
       (is_phantom_record t.meaning d) at.stepped) in
-      all_handed (Insert k v p) (hashed t old k) h.2 told (1 + n) answers h.6.tells
+      all_handed (Insert now k v p) (hashed t old k) h.2 told (1 + n) answers h.6.tells
       (ap (t.meaning.same k) key ∙ laws.refl k) h.6.handles (omega arith) h.6.answered
-  insert_answered k v p (Refused reason) leaves h = tt
-  insert_answered k v p _ leaves h = absurd h
+  insert_answered now k v p (Refused reason) leaves h = tt
+  insert_answered now k v p _ leaves h = absurd h
 
-  pub insert_piece_answered : (n : ℕ) (answer : Answer K V P) (leaves : List (Event × Gone K V P)) →
-      InsertPieceStep t old n answer leaves new
-      → IsAnswered {Q = Q} t old (InsertPiece n) answer new
-  insert_piece_answered n (Entry number told answers) leaves h =
+  pub insert_piece_answered : (now : ℕ) (n : ℕ) (answer : Answer K V P) (leaves : List (Event × Gone K V P)) →
+      InsertPieceStep (terms_at now t) old n answer leaves new
+      → IsAnswered {Q = Q} t old (InsertPiece now n) answer new
+  insert_piece_answered now n (Entry number told answers) leaves h =
       let entry = h.1 in
       let many = length (waiting_at t old (key_of entry.kept)) in
-      let all = all_handed (InsertPiece n) (key_of entry.kept) entry told (1 + many) answers h.4.tells
+      let all = all_handed (InsertPiece now n) (key_of entry.kept) entry told (1 + many) answers h.4.tells
       (laws.refl entry.kept.key) h.4.handles (omega arith) h.4.answered in
-      subst (λ (g : Gone K V P). AllByRecursion (OneIs (InsertPiece n) (Some told) (key_of g.kept)) answers)
+      subst (λ (g : Gone K V P). AllByRecursion (OneIs (InsertPiece now n) (Some told) (key_of g.kept)) answers)
       (sym h.4.tells) all
-  insert_piece_answered n (Refused reason) leaves h = tt
-  insert_piece_answered n NotHeld leaves h = tt
-  insert_piece_answered n _ leaves h = absurd h
+  insert_piece_answered now n (Refused reason) leaves h = tt
+  insert_piece_answered now n NotHeld leaves h = tt
+  insert_piece_answered now n _ leaves h = absurd h
 
   -- the end of a fetch that is told so
   told_all : (command : Command K V P Q C) (k : K) (answers : List (ℕ × Result (Option ℕ) Reason))

@@ -29,28 +29,28 @@ module _ {K V P View C S W A : Type 0} (t : Terms K V P View C S W A) (laws : Is
   calm : new.fetches ≡ old.fetches → StaysBuilt old.core new.core → NothingSettles t laws old new sound alike long
   calm = quiet t laws old new sound alike long
 
-  pub get_settled : (shard : ℕ) (k : K) (answer : Answer K V P) (leaves : List (Event × Gone K V P)) →
-      GetStep t old k answer leaves new → Settled shard answer
-  get_settled shard k (Found number told) leaves h =
+  pub get_settled : (now : ℕ) (shard : ℕ) (k : K) (answer : Answer K V P) (leaves : List (Event × Gone K V P)) →
+      GetStep t now old k answer leaves new → Settled shard answer
+  get_settled now shard k (Found number told) leaves h =
       calm h.2.fetches (shard_built old.core new.core _ (hash_in t old k) h.1)
-  get_settled shard k Missing leaves h = same h.2
-  get_settled shard k (Refused reason) leaves h = same h.2
-  get_settled shard k _ leaves h = absurd h
+  get_settled now shard k Missing leaves h = same h.2
+  get_settled now shard k (Refused reason) leaves h = same h.2
+  get_settled now shard k _ leaves h = absurd h
 
-  pub contains_settled : (shard : ℕ) (k : K) (answer : Answer K V P) (leaves : List (Event × Gone K V P)) →
-      ContainsStep t old k answer leaves new
+  pub contains_settled : (now : ℕ) (shard : ℕ) (k : K) (answer : Answer K V P) (leaves : List (Event × Gone K V P)) →
+      ContainsStep t now old k answer leaves new
       → Settled shard answer
-  contains_settled shard k Yes leaves h = same h.2
-  contains_settled shard k No leaves h = same h.2
-  contains_settled shard k _ leaves h = absurd h
+  contains_settled now shard k Yes leaves h = same h.2
+  contains_settled now shard k No leaves h = same h.2
+  contains_settled now shard k _ leaves h = absurd h
 
-  pub touch_settled : (shard : ℕ) (k : K) (answer : Answer K V P) (leaves : List (Event × Gone K V P)) →
-      TouchStep t old k answer leaves new
+  pub touch_settled : (now : ℕ) (shard : ℕ) (k : K) (answer : Answer K V P) (leaves : List (Event × Gone K V P)) →
+      TouchStep t now old k answer leaves new
       → Settled shard answer
-  touch_settled shard k Yes leaves h = calm h.2.1 (shard_built old.core new.core _ (hash_in t old k) h.0)
-  touch_settled shard k No leaves h = same h.2
-  touch_settled shard k (Refused reason) leaves h = same h.2
-  touch_settled shard k _ leaves h = absurd h
+  touch_settled now shard k Yes leaves h = calm h.2.1 (shard_built old.core new.core _ (hash_in t old k) h.0)
+  touch_settled now shard k No leaves h = same h.2
+  touch_settled now shard k (Refused reason) leaves h = same h.2
+  touch_settled now shard k _ leaves h = absurd h
 
   pub remove_settled : (shard : ℕ) (k : K) (answer : Answer K V P) (leaves : List (Event × Gone K V P)) →
       RemoveStep t old k answer leaves new
@@ -127,14 +127,14 @@ module _ {K V P View C S W A : Type 0} (t : Terms K V P View C S W A) (laws : Is
   flush_if_settled shard says (Refused NoMemory) leaves h = same h.1
   flush_if_settled shard says _ leaves h = absurd h
 
-  pub resize_settled : (shard : ℕ) (capacity : ℕ) (answer : Answer K V P) (leaves : List (Event × Gone K V P)) →
-      ResizeStep t old capacity answer leaves new
+  pub resize_settled : (now : ℕ) (shard : ℕ) (capacity : ℕ) (answer : Answer K V P) (leaves : List (Event × Gone K V P)) →
+      ResizeStep t now old capacity answer leaves new
       → Settled shard answer
-  resize_settled shard capacity Done leaves h =
+  resize_settled now shard capacity Done leaves h =
       calm h.1.1 (resized_built old.core new.core t.meaning _ capacity leaves h.0)
-  resize_settled shard capacity (Refused NoMemory) leaves h =
+  resize_settled now shard capacity (Refused NoMemory) leaves h =
       calm h.1.1 (resizing_built old.core new.core t.meaning _ _ capacity leaves h.0)
-  resize_settled shard capacity _ leaves h = absurd h
+  resize_settled now shard capacity _ leaves h = absurd h
 
   pub reconfigure_settled : (shard : ℕ) (config : C) (answer : Answer K V P) (leaves : List (Event × Gone K V P))
       → ReconfigureStep t old config answer leaves new → Settled shard answer

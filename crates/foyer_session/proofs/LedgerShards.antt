@@ -134,7 +134,7 @@ module _ {K N R : Type 0} (eq : K → K → Bool) (fetches : List (Opens K N R))
   taken_settled o is later = shard_settled fetches i f there (after_nothing eq f k) [] [] known (omega arith)
       (λ token some. absurd (omega (arith, some))) even where
         left : OpenFetch N R
-        left = record { fetch = o.fetch; tokens = o.tokens; later = None }
+        left = record o { later = None }
 
         left_is : option_and_then without_later (f.by_key k) ≡ Some left
         left_is = ap (option_and_then without_later) is ∙ ap (λ (b : Bool). cond b (Some left) None) later
@@ -182,19 +182,19 @@ module _ {K N R : Type 0} (eq : K → K → Bool) (fetches : List (Opens K N R))
   nothing_closed o is later =
       let none : option_and_then without_later (f.by_key k) ≡ None =
       ap (option_and_then without_later) is ∙
-      ap (λ (x : Option R). cond (is_some x) (Some (record { fetch = o.fetch; tokens = o.tokens; later = None }))
+      ap (λ (x : Option R). cond (is_some x) (Some (record o { later = None }))
       None) later in
       ap (λ (w : Option (OpenFetch N R)). with_open eq f k w) none
 
-  module _ (laws : IsEquivalence eq) (waiter : N) (later : Option R) where
+  module _ (laws : IsEquivalence eq) (now : ℕ) (waiter : N) (later : Option R) where
     abbrev own : Waiting N
     own = record { token = f.next_token; waiter = waiter }
 
     abbrev g : Opens K N R
-    g = after_enqueue eq f k waiter later
+    g = after_enqueue eq now f k waiter later
 
     abbrev at : Option (OpenFetch N R) → OpenFetch N R
-    at p = joined p f.next_fetch own later
+    at p = joined p now f.next_fetch own later
 
     -- who waits for the fetch that was joined
     has_joined : (token : ℕ) (o : OpenFetch N R) → has token (tokens_of (at (Some o)))

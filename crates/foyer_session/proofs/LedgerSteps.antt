@@ -24,7 +24,7 @@ use Rattle.foyer_session.specs.declared.command.End.TheVariants.{Value, PieceNo 
 use Rattle.foyer_session.specs.Answering.{ClosedBy}
 use Rattle.foyer_session.specs.Ledger.{Settles, issues, of_shard, outcomes, who_got}
 use Rattle.foyer_session.specs.Step.{SessionState, InsertStep, InsertPieceStep, InsertsPieceIn, GetOrFetchStep, CompletesWith, CompletesPiece, CompleteStep, EndStep, FetchOrTakeStep, TellsEnd, hash_in, hashed, nothing_by, open_at, waiting_at, rules_in}
-use Rattle.foyer_session.specs.Terms.{Terms}
+use Rattle.foyer_session.specs.Terms.{Terms, terms_at}
 use Rattle.foyer_session.specs.Tokens.{each_gets, numbers_of}
 use Rattle.foyer_session.proofs.EndTells.{asked_some}
 use Rattle.foyer_session.proofs.LedgerCores.{StaysBuilt, rest_built, same_built, shard_built}
@@ -46,7 +46,7 @@ wait_token (Some o) token next_fetch next later h = cc
 module _ {K V P View C S W A : Type 0} (t : Terms K V P View C S W A) (old new : SessionState K V P View S W A) where
   -- what comes in by a piece is of the shard of the piece's key
   abbrev pub ComesHome : Type 0
-  ComesHome = (piece : Carried K V P) (made : Made K V P) → InsertsPieceIn t old piece (Ok made) new
+  ComesHome = (now : ℕ) (piece : Carried K V P) (made : Made K V P) → InsertsPieceIn (terms_at now t) old piece (Ok made) new
       → hash_in t old piece.kept.key % length old.fetches ≡ made.entry.kept.hash % length old.fetches
 
 module _ {K V P View C S W A : Type 0} (t : Terms K V P View C S W A) (laws : IsEquivalence t.meaning.same)
@@ -101,30 +101,30 @@ module _ {K V P View C S W A : Type 0} (t : Terms K V P View C S W A) (laws : Is
   insert_settled k v p (Refused reason) leaves h = quiet h.5.1 (shard_built old.core new.core _ (hash k) h.4)
   insert_settled k v p _ leaves h = absurd h
 
-  pub get_or_fetch_settled : (k : K) (later : Option ℕ) (answer : Answer K V P) (leaves : List (Event × Gone K V P))
-      → GetOrFetchStep t old k later answer leaves new → AnswerSettles (shard_by (hash k)) answer
-  get_or_fetch_settled k later (Found number told) leaves h =
+  pub get_or_fetch_settled : (now : ℕ) (k : K) (later : Option ℕ) (answer : Answer K V P) (leaves : List (Event × Gone K V P))
+      → GetOrFetchStep t now old k later answer leaves new → AnswerSettles (shard_by (hash k)) answer
+  get_or_fetch_settled now k later (Found number told) leaves h =
       quiet h.2.fetches (rest_built old.core new.core (shard_of old.core (hash k)) h.1.after h.1.rest)
-  get_or_fetch_settled k later (Lead fetch token) leaves h =
+  get_or_fetch_settled now k later (Lead fetch token) leaves h =
       let at = h.1 in (
         enqueued_at t.meaning.same old.fetches sound alike laws (hashed t old k) (shard_by (hash k)) at.open_before
-            at.open_there (ap (λ (n : ℕ). hash k % n) long) tt later new.fetches token
+            at.open_there (ap (λ (n : ℕ). hash k % n) long) now tt later new.fetches token
             (at.open_rest ∙ ap (slice_set old.fetches (shard_by (hash k))) at.stepped.4)
             (lead_token (at.open_before.by_key (hashed t old k)) fetch token at.open_before.next_fetch
             at.open_before.next_token h.0 later at.stepped.2),
         rest_built old.core new.core (shard_of old.core (hash k)) at.after at.rest,
       )
-  get_or_fetch_settled k later (Wait token) leaves h =
+  get_or_fetch_settled now k later (Wait token) leaves h =
       let at = h.0 in (
         enqueued_at t.meaning.same old.fetches sound alike laws (hashed t old k) (shard_by (hash k)) at.open_before
-            at.open_there (ap (λ (n : ℕ). hash k % n) long) tt later new.fetches token
+            at.open_there (ap (λ (n : ℕ). hash k % n) long) now tt later new.fetches token
             (at.open_rest ∙ ap (slice_set old.fetches (shard_by (hash k))) at.stepped.4)
             (wait_token (at.open_before.by_key (hashed t old k)) token at.open_before.next_fetch
             at.open_before.next_token later at.stepped.2),
         rest_built old.core new.core (shard_of old.core (hash k)) at.after at.rest,
       )
-  get_or_fetch_settled k later (Refused reason) leaves h = unchanged h.2
-  get_or_fetch_settled k later _ leaves h = absurd h
+  get_or_fetch_settled now k later (Refused reason) leaves h = unchanged h.2
+  get_or_fetch_settled now k later _ leaves h = absurd h
 
   -- a fetch ends
   ends_by : (k : K) (fetch : ℕ) (p : Option (OpenFetch (Unit {0}) ℕ)) → open_at t old k fetch ≡ p
@@ -233,14 +233,14 @@ module _ {K V P View C S W A : Type 0} (t : Terms K V P View C S W A) (laws : Is
   fetch_or_take_settled k fetch outcome _ leaves h = absurd h
 
   pub insert_piece_settled : ComesHome t old new
-      → (n : ℕ) (number : ℕ) (told : Gone K V P) (answers : List (ℕ × Result (Option ℕ) Reason))
+      → (now n : ℕ) (number : ℕ) (told : Gone K V P) (answers : List (ℕ × Result (Option ℕ) Reason))
       (leaves : List (Event × Gone K V P))
-      → InsertPieceStep t old n (Entry number told answers) leaves new →
+      → InsertPieceStep (terms_at now t) old n (Entry number told answers) leaves new →
       AnswerSettles (shard_by told.kept.hash) (Entry number told answers)
-  insert_piece_settled home n number told answers leaves h =
+  insert_piece_settled home now n number told answers leaves h =
       let entry = h.1 in
       let q = key_of entry.kept in
-      let comes = home h.0 (record { entry = entry; leaves = leaves }) h.3 in
+      let comes = home now h.0 (record { entry = entry; leaves = leaves }) h.3 in
       let from : told.kept.hash % length old.fetches ≡ hash h.0.kept.key % length old.fetches =
       ap (λ (g : Gone K V P). g.kept.hash % length old.fetches) h.4.tells ∙ sym comes in (
         hands told.kept.hash (numbers_of (waiting_at t old q)) _

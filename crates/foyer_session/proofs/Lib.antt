@@ -1,5 +1,6 @@
 pub mod AlikeLemmas
 pub mod AnswerLemmas
+pub mod AtMoments
 pub mod BulkLemmas
 pub mod CoreLemmas
 pub mod CountLemmas

@@ -3,7 +3,7 @@ use Rattle.std.proofs.Common.{◌≡◌, ℕ, suc, ◌+◌, ◌*◌, ◌<◌, �
 use Rattle.std.proofs.lemmas.Bool.{false_from_ne_true}
 use Rattle.std.proofs.lemmas.Slice.Eq.{bytes_eq-Decides}
 use Rattle.foyer_session.specs.declared.text.Line.TheVariants.{Bad}
-use Rattle.foyer_session.specs.Text.{number_of, numbers_of, line_with_none, line_with_one, line_with_two, line_with_three, insert_line, line_with, line_of_words}
+use Rattle.foyer_session.specs.Text.{number_of, numbers_of, line_with_none, line_with_one, line_with_two, line_with_three, line_with_four, insert_line, line_with, line_of_words}
 use Rattle.foyer_session.proofs.NumberLemmas.{number_of-short}
 
 bytes_eq-long : (word name : List ℕ) → length name < length word → bytes_eq word name ≡ false
@@ -17,7 +17,7 @@ line_with_none-long verb long = rw (bytes_eq-long verb (codes "clear") (omega ar
 
 line_with_one-long : (verb : List ℕ) (n : ℕ) → 8 < length verb → line_with_one verb n ≡ Bad
 unfolding line_with_one
-line_with_one-long verb n long = rw (bytes_eq-long verb (codes "get") (omega arith), bytes_eq-long verb (codes "contains") (omega arith), bytes_eq-long verb (codes "touch") (omega arith), bytes_eq-long verb (codes "remove") (omega arith), bytes_eq-long verb (codes "drop") (omega arith), bytes_eq-long verb (codes "resize") (omega arith), bytes_eq-long verb (codes "fetch") (omega arith)) refl
+line_with_one-long verb n long = rw (bytes_eq-long verb (codes "get") (omega arith), bytes_eq-long verb (codes "contains") (omega arith), bytes_eq-long verb (codes "touch") (omega arith), bytes_eq-long verb (codes "remove") (omega arith), bytes_eq-long verb (codes "drop") (omega arith), bytes_eq-long verb (codes "resize") (omega arith), bytes_eq-long verb (codes "fetch") (omega arith), bytes_eq-long verb (codes "at") (omega arith)) refl
 
 insert_line-long : (verb : List ℕ) (key value weight : ℕ) → 8 < length verb → insert_line verb key value weight ≡ Bad
 unfolding insert_line
@@ -30,6 +30,11 @@ line_with_two-long verb m n long = rw (bytes_eq-long verb (codes "high") (omega 
 line_with_three-long : (verb : List ℕ) (k m n : ℕ) → 8 < length verb → line_with_three verb k m n ≡ Bad
 unfolding line_with_three
 line_with_three-long verb k m n long = rw (bytes_eq-long verb (codes "done") (omega arith)) (insert_line-long verb k m n long)
+
+line_with_four-long : (verb : List ℕ) (key value weight expires : ℕ) → 8 < length verb →
+    line_with_four verb key value weight expires ≡ Bad
+unfolding line_with_four
+line_with_four-long verb key value weight expires long = rw (bytes_eq-long verb (codes "insert") (omega arith)) refl
 
 -- the bytes of the words, and one more for each
 abbrev pub weight_of : List (List ℕ) → ℕ
@@ -51,7 +56,7 @@ numbers_of-short (word ∷ more) = at (number_of word) (numbers_of more) (number
     at (Some n) (Some ns) h k = (ap suc k.0, omega (arith, k.1))
 
 line_with-long : (verb : List ℕ) (o : Option (List ℕ)) (count weight : ℕ) →
-    IfSome o (λ ns. (length ns ≡ count) × (weight ≤ 21 * count)) → 84 < suc (length verb) + weight → line_with verb o
+    IfSome o (λ ns. (length ns ≡ count) × (weight ≤ 21 * count)) → 105 < suc (length verb) + weight → line_with verb o
     ≡ Bad
 line_with-long verb None count weight h long = refl
 line_with-long verb (Some []) count weight h long = line_with_none-long verb (omega (arith, h.0, h.1))
@@ -59,10 +64,12 @@ line_with-long verb (Some (n ∷ [])) count weight h long = line_with_one-long v
 line_with-long verb (Some (m ∷ n ∷ [])) count weight h long = line_with_two-long verb m n (omega (arith, h.0, h.1))
 line_with-long verb (Some (k ∷ m ∷ n ∷ [])) count weight h long =
     line_with_three-long verb k m n (omega (arith, h.0, h.1))
-line_with-long verb (Some (j ∷ k ∷ m ∷ n ∷ ns)) count weight h long = refl
+line_with-long verb (Some (j ∷ k ∷ m ∷ n ∷ [])) count weight h long =
+    line_with_four-long verb j k m n (omega (arith, h.0, h.1))
+line_with-long verb (Some (i ∷ j ∷ k ∷ m ∷ n ∷ ns)) count weight h long = refl
 
--- words of more than 84 bytes, with one more for each, are no good line
-pub line_of_words-long : (all : List (List ℕ)) → 84 < weight_of all → line_of_words all ≡ Bad
+-- words of more than 105 bytes, with one more for each, are no good line
+pub line_of_words-long : (all : List (List ℕ)) → 105 < weight_of all → line_of_words all ≡ Bad
 line_of_words-long [] long = absurd (omega arith)
 line_of_words-long (verb ∷ more) long = line_with-long verb (numbers_of more) (length more) (weight_of more)
     (numbers_of-short more) long

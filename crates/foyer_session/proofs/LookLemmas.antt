@@ -20,7 +20,7 @@ use Rattle.foyer_session.proofs.OwnLemmas.{set_same}
 use Rattle.foyer_session.proofs.StepLemmas.{gets_refused}
 use Rattle.foyer_session.proofs.WaitsLemmas.{settled_waiting}
 
-module _ {K V P View C S W A : Type 0} (m : Meaning K P View C) (core : Core K V P View S W A)
+module _ {K V P View C S W A : Type 0} (m : Meaning K P View C) (now : ℕ) (core : Core K V P View S W A)
     (f : List (Opens K (Unit {0}) ℕ)) (new : Core K V P View S W A) (g : List (Opens K (Unit {0}) ℕ)) (k : ℕ × K)
     (later : Option ℕ) where
   -- where the shard and its open fetches stay, all does
@@ -37,23 +37,23 @@ module _ {K V P View C S W A : Type 0} (m : Meaning K P View C) (core : Core K V
       ∙ set_same f (shard_of core k.0) at.open_before at.open_there
 
   -- a hit is a get, and the fetches stay
-  pub looked_hit : (entry : Held K V P) → AtOpen (λ s x t y. LooksUp m s x k tt later (Ok (Hit entry)) t y) k.0 core f
-      new g → AtShard (λ s t. Gets m s k (Ok (Some entry)) t) k.0 core new × (g ≡ f)
+  pub looked_hit : (entry : Held K V P) → AtOpen (λ s x t y. LooksUp m now s x k tt later (Ok (Hit entry)) t y) k.0 core f
+      new g → AtShard (λ s t. Gets m now s k (Ok (Some entry)) t) k.0 core new × (g ≡ f)
   looked_hit entry at = (
     record { before = at.before; after = at.after; there = at.there; stepped = at.stepped.0; rest = at.rest },
-    fetches_stay (λ s x t y. LooksUp m s x k tt later (Ok (Hit entry)) t y) at at.stepped.1,
+    fetches_stay (λ s x t y. LooksUp m now s x k tt later (Ok (Hit entry)) t y) at at.stepped.1,
   )
 
   -- a miss leaves the core
   enqueued_core : (answer : Enqueue ℕ)
-      (at : AtOpen (λ s x t y. Enqueues m s x k tt later answer t y) k.0 core f new g) → new ≡ core
-  enqueued_core answer at = core_stays (λ s x t y. Enqueues m s x k tt later answer t y) at at.stepped.3
+      (at : AtOpen (λ s x t y. Enqueues m now s x k tt later answer t y) k.0 core f new g) → new ≡ core
+  enqueued_core answer at = core_stays (λ s x t y. Enqueues m now s x k tt later answer t y) at at.stepped.3
 
   pub led_core : (fetch token : ℕ) (required : Option ℕ) →
-      AtOpen (λ s x t y. LooksUp m s x k tt later (Ok (Lead fetch token required)) t y) k.0 core f new g → new ≡ core
+      AtOpen (λ s x t y. LooksUp m now s x k tt later (Ok (Lead fetch token required)) t y) k.0 core f new g → new ≡ core
   led_core fetch token required at = enqueued_core (LeadsFetch fetch token required) at
 
-  pub waited_core : (token : ℕ) → AtOpen (λ s x t y. LooksUp m s x k tt later (Ok (Wait token)) t y) k.0 core f new g
+  pub waited_core : (token : ℕ) → AtOpen (λ s x t y. LooksUp m now s x k tt later (Ok (Wait token)) t y) k.0 core f new g
       → new ≡ core
   waited_core token at = enqueued_core (WaitsFetch token) at
 
@@ -64,35 +64,35 @@ module _ {K V P View C S W A : Type 0} (m : Meaning K P View C) (core : Core K V
       same_key m.same p q ≡ true → x.by_key p ≡ x.by_key q)
       (long : length f ≡ length core.shards) (count : ℕ) (waits : ∥ SoManyWait f count ∥₁) where
     enqueued_waits : (answer : Enqueue ℕ) →
-        AtOpen (λ s x t y. Enqueues m s x k tt later answer t y) k.0 core f new g → ∥ SoManyWait g (count + 1) ∥₁
+        AtOpen (λ s x t y. Enqueues m now s x k tt later answer t y) k.0 core f new g → ∥ SoManyWait g (count + 1) ∥₁
     enqueued_waits answer at =
         let home : k.0 % length f ≡ shard_of core k.0 = ap (λ (n : ℕ). k.0 % n) long in
         let is : g ≡ slice_set f (shard_of core k.0) _ = at.open_rest
         ∙ ap (λ (x : Opens K (Unit {0}) ℕ). slice_set f (shard_of core k.0) x) at.stepped.4 in
         settled_waiting f g _ []
-        (enqueued_at m.same f sound alike laws k (shard_of core k.0) at.open_before at.open_there home tt later g
+        (enqueued_at m.same f sound alike laws k (shard_of core k.0) at.open_before at.open_there home now tt later g
         at.open_before.next_token is refl) count (count + 1) (omega arith) waits
 
     pub led_waits : (fetch token : ℕ) (required : Option ℕ) →
-        AtOpen (λ s x t y. LooksUp m s x k tt later (Ok (Lead fetch token required)) t y) k.0 core f new g →
+        AtOpen (λ s x t y. LooksUp m now s x k tt later (Ok (Lead fetch token required)) t y) k.0 core f new g →
         ∥ SoManyWait g (count + 1) ∥₁
     led_waits fetch token required at = enqueued_waits (LeadsFetch fetch token required) at
 
-    pub waited_waits : (token : ℕ) → AtOpen (λ s x t y. LooksUp m s x k tt later (Ok (Wait token)) t y) k.0 core f new
+    pub waited_waits : (token : ℕ) → AtOpen (λ s x t y. LooksUp m now s x k tt later (Ok (Wait token)) t y) k.0 core f new
         g → ∥ SoManyWait g (count + 1) ∥₁
     waited_waits token at = enqueued_waits (WaitsFetch token) at
 
   refused_stays : (o : Option ℕ) (s : State K V P View) (x : Opens K (Unit {0}) ℕ) (reason : Reason)
-      (t : State K V P View) → RefusesLookUp m o s x k reason t → t ≡ s
+      (t : State K V P View) → RefusesLookUp m now o s x k reason t → t ≡ s
   refused_stays None s x reason t h = h.1
-  refused_stays (Some id) s x reason t h = gets_refused m core new k s t reason h
+  refused_stays (Some id) s x reason t h = gets_refused m now core new k s t reason h
 
   -- a refusal changes nothing
-  pub looked_refused : (reason : Reason) → AtOpen (λ s x t y. LooksUp m s x k tt later (Err reason) t y) k.0 core f
+  pub looked_refused : (reason : Reason) → AtOpen (λ s x t y. LooksUp m now s x k tt later (Err reason) t y) k.0 core f
       new g → (new ≡ core) × (g ≡ f)
   looked_refused reason at =
       let step = λ (s : State K V P View) (x : Opens K (Unit {0}) ℕ) (t : State K V P View)
-      (y : Opens K (Unit {0}) ℕ). LooksUp m s x k tt later (Err reason) t y in (
-        core_stays step at (refused_stays (hit at.before k) at.before at.open_before reason at.after at.stepped.0),
+      (y : Opens K (Unit {0}) ℕ). LooksUp m now s x k tt later (Err reason) t y in (
+        core_stays step at (refused_stays (hit m now at.before k) at.before at.open_before reason at.after at.stepped.0),
         fetches_stay step at at.stepped.1,
       )

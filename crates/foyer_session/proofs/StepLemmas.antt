@@ -37,14 +37,14 @@ module _ {K V P View C S W A : Type 0} (m : Meaning K P View C) (core new : Core
       gives.numbered gives.counts owns
 
   -- an entry of the key's record was made, which has the key's hash
-  pub got_owns : (k : ℕ × K) (entry : Held K V P) (at : AtShard (λ s t. Gets m s k (Ok (Some entry)) t) k.0 core new)
+  pub got_owns : (now : ℕ) (k : ℕ × K) (entry : Held K V P) (at : AtShard (λ s t. Gets m now s k (Ok (Some entry)) t) k.0 core new)
       → entry.kept.hash ≡ k.0
       → OwnsHandles new (handles ++ Some (record entry { left = false }) ∷ [])
-  got_owns k entry at is =
-      owns_more core new (λ s t. Gets m s k (Ok (Some entry)) t) k.0 at
+  got_owns now k entry at is =
+      owns_more core new (λ s t. Gets m now s k (Ok (Some entry)) t) k.0 at
       (ap (λ (x : State K V P View). x.number) at.stepped.5) handles (record entry { left = false })
       (ap (λ (x : ℕ). x % length core.shards) is) (ap (λ (x : Held K V P). x.number) at.stepped.4)
-      (gets_counts m at.before k entry at.after at.stepped) owns
+      (gets_counts m now at.before k entry at.after at.stepped) owns
 
   -- a held handle was given back
   pub gave_back_owns : (n : ℕ) (entry : Held K V P) (result : Result (Option (Event × Gone K V P)) (Held K V P)) →
@@ -60,12 +60,12 @@ module _ {K V P View C S W A : Type 0} (m : Meaning K P View C) (core new : Core
       absurd (false≢true (taken (owned_entry core handles n entry owns there)))
 
   -- a touch, whatever it answers
-  pub touched_owns : (k : ℕ × K) (result : Result Bool Reason)
-      (at : AtShard (λ s t. Touches m s k result t) k.0 core new) → OwnsHandles new handles
-  touched_owns k result at =
-      owns_same core new (λ s t. Touches m s k result t) k.0 at
-      (touches_number m at.before k result at.after at.stepped) handles
-      (touches_counts m at.before k result at.after at.stepped) owns
+  pub touched_owns : (now : ℕ) (k : ℕ × K) (result : Result Bool Reason)
+      (at : AtShard (λ s t. Touches m now s k result t) k.0 core new) → OwnsHandles new handles
+  touched_owns now k result at =
+      owns_same core new (λ s t. Touches m now s k result t) k.0 at
+      (touches_number m now at.before k result at.after at.stepped) handles
+      (touches_counts m now at.before k result at.after at.stepped) owns
 
   -- a record was taken out, and an entry of it was made, which has the key's hash
   pub removed_owns : (k : ℕ × K) (entry : Held K V P) (gone : Gone K V P)
@@ -114,46 +114,48 @@ session_fetches {K} {V} {P} {View} {S} {W} {A} old new fetches now same is =
     ap (λ (c : Core K V P View S W A). record old { core = c; fetches = fetches }) same
     ∙ ap (λ (f : Fetches K). record old { fetches = f }) is
 
+module _ {K V P View C S W A : Type 0} (m : Meaning K P View C) (now : ℕ) (core new : Core K V P View S W A) (k : ℕ × K)
+  where
+    hit_there : (at : State K V P View) → shard_at core k.0 ≡ Some at → hit m now at k ≡ None → hit_in m now core k ≡ None
+    hit_there at there none = ap (option_and_then (λ s. hit m now s k)) there ∙ none
+
+    -- a get that finds nothing changes nothing
+    pub get_missing : AtShard (λ s t. Gets m now s k (Ok None) t) k.0 core new → (hit_in m now core k ≡ None) × (new ≡ core)
+    get_missing at = (
+      hit_there at.before at.there at.stepped.0,
+      shard_same core new (λ s t. Gets m now s k (Ok None) t) k.0 at at.stepped.1,
+    )
+
+    pub gets_refused : (s t : State K V P View) (reason : Reason) → Gets m now s k (Err reason) t → t ≡ s
+    gets_refused s t Handles h = h.5
+    gets_refused s t NoMemory h = h.5
+    gets_refused s t _ h = absurd h
+
+    -- nor does one that is refused
+    pub get_refused : (reason : Reason) → AtShard (λ s t. Gets m now s k (Err reason) t) k.0 core new → new ≡ core
+    get_refused reason at = shard_same core new (λ s t. Gets m now s k (Err reason) t) k.0 at
+        (gets_refused at.before at.after reason at.stepped)
+
+    -- the same of a touch
+    pub touch_missing : AtShard (λ s t. Touches m now s k (Ok false) t) k.0 core new → (hit_in m now core k ≡ None) × (new ≡ core)
+    touch_missing at = (
+      hit_there at.before at.there at.stepped.0,
+      shard_same core new (λ s t. Touches m now s k (Ok false) t) k.0 at at.stepped.1,
+    )
+
+    touches_refused : (s t : State K V P View) (reason : Reason) → Touches m now s k (Err reason) t → t ≡ s
+    touches_refused s t Handles h = h.5
+    touches_refused s t _ h = absurd h
+
+    pub touch_refused : (reason : Reason) → AtShard (λ s t. Touches m now s k (Err reason) t) k.0 core new → new ≡ core
+    touch_refused reason at = shard_same core new (λ s t. Touches m now s k (Err reason) t) k.0 at
+        (touches_refused at.before at.after reason at.stepped)
+
 module _ {K V P View C S W A : Type 0} (m : Meaning K P View C) (core new : Core K V P View S W A) (k : ℕ × K) where
-  hit_there : (at : State K V P View) → shard_at core k.0 ≡ Some at → hit at k ≡ None → hit_in core k ≡ None
-  hit_there at there none = ap (option_and_then (λ s. hit s k)) there ∙ none
-
-  -- a get that finds nothing changes nothing
-  pub get_missing : AtShard (λ s t. Gets m s k (Ok None) t) k.0 core new → (hit_in core k ≡ None) × (new ≡ core)
-  get_missing at = (
-    hit_there at.before at.there at.stepped.0,
-    shard_same core new (λ s t. Gets m s k (Ok None) t) k.0 at at.stepped.1,
-  )
-
-  pub gets_refused : (s t : State K V P View) (reason : Reason) → Gets m s k (Err reason) t → t ≡ s
-  gets_refused s t Handles h = h.5
-  gets_refused s t NoMemory h = h.5
-  gets_refused s t _ h = absurd h
-
-  -- nor does one that is refused
-  pub get_refused : (reason : Reason) → AtShard (λ s t. Gets m s k (Err reason) t) k.0 core new → new ≡ core
-  get_refused reason at = shard_same core new (λ s t. Gets m s k (Err reason) t) k.0 at
-      (gets_refused at.before at.after reason at.stepped)
-
-  -- the same of a touch
-  pub touch_missing : AtShard (λ s t. Touches m s k (Ok false) t) k.0 core new → (hit_in core k ≡ None) × (new ≡ core)
-  touch_missing at = (
-    hit_there at.before at.there at.stepped.0,
-    shard_same core new (λ s t. Touches m s k (Ok false) t) k.0 at at.stepped.1,
-  )
-
-  touches_refused : (s t : State K V P View) (reason : Reason) → Touches m s k (Err reason) t → t ≡ s
-  touches_refused s t Handles h = h.5
-  touches_refused s t _ h = absurd h
-
-  pub touch_refused : (reason : Reason) → AtShard (λ s t. Touches m s k (Err reason) t) k.0 core new → new ≡ core
-  touch_refused reason at = shard_same core new (λ s t. Touches m s k (Err reason) t) k.0 at
-      (touches_refused at.before at.after reason at.stepped)
-
   -- and of a remove
   pub remove_missing : AtShard (λ s t. Removes m s k (Ok None) t) k.0 core new → (index_in core k ≡ None) × (new ≡ core)
   remove_missing at = (
-    hit_there at.before at.there at.stepped.0,
+    ap (option_and_then (λ s. s.index k)) at.there ∙ at.stepped.0,
     shard_same core new (λ s t. Removes m s k (Ok None) t) k.0 at at.stepped.1,
   )
 

@@ -11,9 +11,9 @@ use Rattle.foyer_policy.specs.declared.types.Event.{Event}
 use Rattle.foyer_policy.specs.declared.types.Source.{Source}
 use Rattle.foyer_policy.specs.declared.types.Source.TheVariants.{Memory, Outer}
 use Rattle.foyer_core.specs.Core.{Core, AtShard}
-use Rattle.foyer_core.specs.CoreBulk.{OfShards}
+use Rattle.foyer_core.specs.CoreBulk.{OfShards, InTurn, InTurnUntil, EvictsToCapacity, EvictingToCapacity}
 use Rattle.foyer_core.specs.Observed.{IsTold as CoreTold, after_entry, after_leaves, known}
-use Rattle.foyer_core.specs.State.{State}
+use Rattle.foyer_core.specs.State.{State, at_moment}
 use Rattle.foyer_core.specs.CoreFetches.{open_in}
 use Rattle.foyer_core.specs.FetchLaws.{IsToldByEnd}
 use Rattle.foyer_core.specs.Inflight.{OpenFetch}
@@ -35,10 +35,14 @@ use Rattle.foyer_session.specs.Observed.{IsTold, after_answer, index_of, told}
 use Rattle.foyer_session.specs.Step.{SessionState, Step, InsertStep, GetStep, ContainsStep, TouchStep, RemoveStep, CloneStep, DropStep, TakePieceStep, InsertPieceStep, RefsStep, OutdatedStep, GetOrFetchStep, CompletesWith, CompletesPiece, CompleteStep, EndStep, FetchOrTakeStep, IsOpenStep, TellsEnd, ClearStep, EvictAllStep, FlushIfStep, ResizeStep, ReconfigureStep, NumberStep, data_of, entries_by, first_told, hash_in, hashed, leaves_of, open_at, record_of, waiting_at}
 use Rattle.foyer_session.specs.declared.command.End.{End}
 use Rattle.foyer_session.specs.declared.command.End.TheVariants.{Value, PieceNo as PieceEnd}
-use Rattle.foyer_session.specs.Terms.{Terms}
+use Rattle.foyer_session.specs.Terms.{Terms, terms_at}
 use Rattle.foyer_session.proofs.EndTells.{asked_some}
 use Rattle.foyer_session.proofs.EndTold.{completed_told, ends_told}
 use Rattle.foyer_session.proofs.LookLemmas.{led_core, looked_hit, waited_core}
+use Rattle.foyer_policy.specs.Moments.{timed}
+use Rattle.foyer_core.proofs.Moments.{timed_lawful}
+use Rattle.foyer_core.proofs.MomentLaws.{resized_at}
+use Rattle.foyer_session.proofs.AtMoments.{moment_sound}
 
 -- maps that agree do so after replies
 module _ {K V P : Type 0} (same : K → K → Bool) (phantom : P → Option Bool) where
@@ -129,46 +133,55 @@ module _ {K V P View C S W A : Type 0} (t : Terms K V P View C S W A) where
         CoreTold same hash old.core [] new.core → Leaves leaves
     silent leaves none builder h = subst Leaves (sym none) (builder, h)
 
-    insert_step : (k : K) (v : V) (p : P) (answer : Answer K V P) (leaves : List (Event × Gone K V P)) →
-        InsertStep t old k v p answer leaves new → StepTold answer leaves
-    insert_step k v p (Entry number told answers) leaves h =
+    -- at each moment
+    abbrev at_lawful : (now : ℕ) → IsPolicy (timed now t.meaning.policy)
+    at_lawful now = timed_lawful now t.meaning.policy good
+
+    sound_at : (now : ℕ) → AreSound (at_moment now t.meaning) laws (at_lawful now) (hash_in t old) equal
+        (length old.core.shards) old.core.shards
+    sound_at now = moment_sound t.meaning laws good (hash_in t old) equal now (length old.core.shards) old.core.shards
+        sound
+
+    insert_step : (now : ℕ) (k : K) (v : V) (p : P) (answer : Answer K V P) (leaves : List (Event × Gone K V P)) →
+        InsertStep (terms_at now t) old k v p answer leaves new → StepTold answer leaves
+    insert_step now k v p (Entry number told answers) leaves h =
         let d = data_of t old k v p h.0 h.1 in
         let entry = h.2 in (
           at_builder _ (hash k) h.5,
-          λ q. insert_told t.meaning laws good hash equal old.core new.core sound d refl leaves
+          λ q. insert_told (at_moment now t.meaning) laws (at_lawful now) hash equal old.core new.core (sound_at now) d refl leaves
               (1 + length (waiting_at t old (hashed t old k))) Outer entry h.5 q
               ∙ ap (λ (g : Gone K V P). after_entry same t.meaning.phantom
               (after_leaves same (known hash old.core) leaves) g.id g.kept q) (sym h.6.tells),
         )
-    insert_step k v p (Refused reason) leaves h = (
+    insert_step now k v p (Refused reason) leaves h = (
       at_builder _ (hash k) h.4,
-      refused_told t.meaning laws good hash equal old.core new.core sound
+      refused_told (at_moment now t.meaning) laws (at_lawful now) hash equal old.core new.core (sound_at now)
           (data_of t old k v p h.0 h.1) refl leaves (1 + length (waiting_at t old (hashed t old k))) reason h.4,
     )
-    insert_step k v p _ leaves h = absurd h
+    insert_step now k v p _ leaves h = absurd h
 
-    get_step : (k : K) (answer : Answer K V P) (leaves : List (Event × Gone K V P)) →
-        GetStep t old k answer leaves new → StepTold answer leaves
-    get_step k (Found number told) leaves h =
+    get_step : (now : ℕ) (k : K) (answer : Answer K V P) (leaves : List (Event × Gone K V P)) →
+        GetStep t now old k answer leaves new → StepTold answer leaves
+    get_step now k (Found number told) leaves h =
         silent leaves h.3 (at_builder _ (hash k) h.1)
-        (get_told t.meaning laws good hash equal old.core new.core sound (hash k, k) (hash k) (Ok (Some h.0)) h.1)
-    get_step k Missing leaves h = unchanged leaves h.1 h.2
-    get_step k (Refused reason) leaves h = unchanged leaves h.1 h.2
-    get_step k _ leaves h = absurd h
+        (get_told t.meaning laws good hash equal old.core new.core sound (hash k, k) (hash k) now (Ok (Some h.0)) h.1)
+    get_step now k Missing leaves h = unchanged leaves h.1 h.2
+    get_step now k (Refused reason) leaves h = unchanged leaves h.1 h.2
+    get_step now k _ leaves h = absurd h
 
-    contains_step : (k : K) (answer : Answer K V P) (leaves : List (Event × Gone K V P)) →
-        ContainsStep t old k answer leaves new → StepTold answer leaves
-    contains_step k Yes leaves h = unchanged leaves h.1 h.2
-    contains_step k No leaves h = unchanged leaves h.1 h.2
-    contains_step k _ leaves h = absurd h
+    contains_step : (now : ℕ) (k : K) (answer : Answer K V P) (leaves : List (Event × Gone K V P)) →
+        ContainsStep t now old k answer leaves new → StepTold answer leaves
+    contains_step now k Yes leaves h = unchanged leaves h.1 h.2
+    contains_step now k No leaves h = unchanged leaves h.1 h.2
+    contains_step now k _ leaves h = absurd h
 
-    touch_step : (k : K) (answer : Answer K V P) (leaves : List (Event × Gone K V P)) →
-        TouchStep t old k answer leaves new → StepTold answer leaves
-    touch_step k Yes leaves h = silent leaves h.1 (at_builder _ (hash k) h.0)
-        (touch_told t.meaning laws good hash equal old.core new.core sound (hash k, k) (hash k) (Ok true) h.0)
-    touch_step k No leaves h = unchanged leaves h.1 h.2
-    touch_step k (Refused reason) leaves h = unchanged leaves h.1 h.2
-    touch_step k _ leaves h = absurd h
+    touch_step : (now : ℕ) (k : K) (answer : Answer K V P) (leaves : List (Event × Gone K V P)) →
+        TouchStep t now old k answer leaves new → StepTold answer leaves
+    touch_step now k Yes leaves h = silent leaves h.1 (at_builder _ (hash k) h.0)
+        (touch_told t.meaning laws good hash equal old.core new.core sound (hash k, k) (hash k) now (Ok true) h.0)
+    touch_step now k No leaves h = unchanged leaves h.1 h.2
+    touch_step now k (Refused reason) leaves h = unchanged leaves h.1 h.2
+    touch_step now k _ leaves h = absurd h
 
     remove_step : (k : K) (answer : Answer K V P) (leaves : List (Event × Gone K V P)) →
         RemoveStep t old k answer leaves new → StepTold answer leaves
@@ -215,45 +228,45 @@ module _ {K V P View C S W A : Type 0} (t : Terms K V P View C S W A) where
     take_piece_step n _ leaves h = absurd h
 
     -- a piece's record comes in, or is refused
-    insert_piece_step : (n : ℕ) (answer : Answer K V P) (leaves : List (Event × Gone K V P)) →
-        InsertPieceStep t old n answer leaves new → StepTold answer leaves
-    insert_piece_step n (Entry number told answers) leaves h =
+    insert_piece_step : (now : ℕ) (n : ℕ) (answer : Answer K V P) (leaves : List (Event × Gone K V P)) →
+        InsertPieceStep (terms_at now t) old n answer leaves new → StepTold answer leaves
+    insert_piece_step now n (Entry number told answers) leaves h =
         let piece = h.0 in
         let weighs = t.weighs old.core.weighter piece.kept.key piece.kept.value in (
           at_builder _ (hash piece.kept.key) h.3,
-          λ q. (piece_laws t.meaning laws good t.hash old.core new.core equal sound weighs piece
+          λ q. (piece_laws (at_moment now t.meaning) laws (at_lawful now) t.hash old.core new.core equal (sound_at now) weighs piece
               (λ s. 1 + length (waiting_at t old (coming_under s (hash piece.kept.key) piece)))
               (Ok record { entry = h.1; leaves = leaves }) h.3).told q
               ∙ ap (λ (g : Gone K V P). after_entry same t.meaning.phantom
               (after_leaves same (known hash old.core) leaves) g.id g.kept q) (sym h.4.tells),
         )
-    insert_piece_step n (Refused reason) leaves h = elim h.2 [
+    insert_piece_step now n (Refused reason) leaves h = elim h.2 [
       | inl same ↦ unchanged leaves same.1 same.2
       | inr y ↦ (let weighs = t.weighs old.core.weighter h.0.kept.key h.0.kept.value in (
         at_builder _ (hash h.0.kept.key) y.0,
-        (piece_laws t.meaning laws good t.hash old.core new.core equal sound
+        (piece_laws (at_moment now t.meaning) laws (at_lawful now) t.hash old.core new.core equal (sound_at now)
             weighs h.0 (λ s. 1 + length (waiting_at t old (coming_under s (hash h.0.kept.key) h.0)))
             (Err record { reason = reason; leaves = leaves }) y.0).told,
       ))
     ]
-    insert_piece_step n NotHeld leaves h = unchanged leaves h.1 h.2
-    insert_piece_step n _ leaves h = absurd h
+    insert_piece_step now n NotHeld leaves h = unchanged leaves h.1 h.2
+    insert_piece_step now n _ leaves h = absurd h
 
     -- a look-up that may lead to a fetch
-    get_or_fetch_step : (k : K) (later : Option ℕ) (answer : Answer K V P) (leaves : List (Event × Gone K V P)) →
-        GetOrFetchStep t old k later answer leaves new → StepTold answer leaves
-    get_or_fetch_step k later (Found number told) leaves h =
-        let at = (looked_hit t.meaning old.core old.fetches new.core new.fetches (hashed t old k) later h.0 h.1).0 in
+    get_or_fetch_step : (now : ℕ) (k : K) (later : Option ℕ) (answer : Answer K V P) (leaves : List (Event × Gone K V P)) →
+        GetOrFetchStep t now old k later answer leaves new → StepTold answer leaves
+    get_or_fetch_step now k later (Found number told) leaves h =
+        let at = (looked_hit t.meaning now old.core old.fetches new.core new.fetches (hashed t old k) later h.0 h.1).0 in
         silent leaves h.3 (at_builder _ (hash k) at)
-        (get_told t.meaning laws good hash equal old.core new.core sound (hash k, k) (hash k) (Ok (Some h.0)) at)
-    get_or_fetch_step k later (Lead fetch token) leaves h =
+        (get_told t.meaning laws good hash equal old.core new.core sound (hash k, k) (hash k) now (Ok (Some h.0)) at)
+    get_or_fetch_step now k later (Lead fetch token) leaves h =
         same_core leaves h.3
-        (led_core t.meaning old.core old.fetches new.core new.fetches (hashed t old k) later fetch token h.0 h.1)
-    get_or_fetch_step k later (Wait token) leaves h =
+        (led_core t.meaning now old.core old.fetches new.core new.fetches (hashed t old k) later fetch token h.0 h.1)
+    get_or_fetch_step now k later (Wait token) leaves h =
         same_core leaves h.2
-        (waited_core t.meaning old.core old.fetches new.core new.fetches (hashed t old k) later token h.0)
-    get_or_fetch_step k later (Refused reason) leaves h = unchanged leaves h.1 h.2
-    get_or_fetch_step k later _ leaves h = absurd h
+        (waited_core t.meaning now old.core old.fetches new.core new.fetches (hashed t old k) later token h.0)
+    get_or_fetch_step now k later (Refused reason) leaves h = unchanged leaves h.1 h.2
+    get_or_fetch_step now k later _ leaves h = absurd h
 
     -- the end of a fetch tells its leaves, and the record of the entries that it gave
     told_end : (ended : Ending K V P (Unit {0})) (answer : Answer K V P) (leaves : List (Event × Gone K V P)) →
@@ -298,32 +311,32 @@ module _ {K V P View C S W A : Type 0} (t : Terms K V P View C S W A) where
     told_end ended _ leaves builder by h = absurd h
 
     -- with a target
-    complete_with_step : (k : K) (fetch : ℕ) (source : Source) (target : FetchTarget K V P) (answer : Answer K V P)
-        (leaves : List (Event × Gone K V P)) → CompletesWith t old k fetch source target answer leaves new →
+    complete_with_step : (now : ℕ) (k : K) (fetch : ℕ) (source : Source) (target : FetchTarget K V P) (answer : Answer K V P)
+        (leaves : List (Event × Gone K V P)) → CompletesWith (terms_at now t) old k fetch source target answer leaves new →
         StepTold answer leaves
-    complete_with_step k fetch source target answer leaves h =
-        let told = completed_told t.meaning laws good t.hash old.core new.core equal sound old.fetches new.fetches
+    complete_with_step now k fetch source target answer leaves h =
+        let told = completed_told (at_moment now t.meaning) laws (at_lawful now) t.hash old.core new.core equal (sound_at now) old.fetches new.fetches
         source k h.0
         (t.weighs old.core.weighter) (t.admits old.core.filter) (λ p admitted. t.incoming admitted p) target
         (open_at t old k fetch)
         (λ o is. waited (hashed t old k) o (asked_some fetch (open_in old.fetches (hashed t old k)) o is)) h.1 in
         told_end h.0 answer leaves told.0 told.1 h.2
 
-    complete_piece_step : (k : K) (fetch : ℕ) (piece : Option (Carried K V P)) (answer : Answer K V P)
-        (leaves : List (Event × Gone K V P)) → CompletesPiece t old k fetch piece answer leaves new →
+    complete_piece_step : (now : ℕ) (k : K) (fetch : ℕ) (piece : Option (Carried K V P)) (answer : Answer K V P)
+        (leaves : List (Event × Gone K V P)) → CompletesPiece (terms_at now t) old k fetch piece answer leaves new →
         StepTold answer leaves
-    complete_piece_step k fetch None NotHeld leaves h = unchanged leaves h.0 h.1
-    complete_piece_step k fetch None _ leaves h = absurd h
-    complete_piece_step k fetch (Some piece) (Refused NoMemory) leaves h = unchanged leaves h.0 h.1
-    complete_piece_step k fetch (Some piece) answer leaves h =
-        complete_with_step k fetch Memory (PieceTarget piece) answer leaves h
+    complete_piece_step now k fetch None NotHeld leaves h = unchanged leaves h.0 h.1
+    complete_piece_step now k fetch None _ leaves h = absurd h
+    complete_piece_step now k fetch (Some piece) (Refused NoMemory) leaves h = unchanged leaves h.0 h.1
+    complete_piece_step now k fetch (Some piece) answer leaves h =
+        complete_with_step now k fetch Memory (PieceTarget piece) answer leaves h
 
-    complete_step : (k : K) (fetch : ℕ) (end : End V P) (answer : Answer K V P) (leaves : List (Event × Gone K V P)) →
-        CompleteStep t old k fetch end answer leaves new → StepTold answer leaves
-    complete_step k fetch (Value v p source) answer leaves h =
-        complete_with_step k fetch source (ValueTarget v p) answer leaves h
-    complete_step k fetch (PieceEnd n) answer leaves h =
-        complete_piece_step k fetch (slice_get old.pieces n) answer leaves h
+    complete_step : (now : ℕ) (k : K) (fetch : ℕ) (end : End V P) (answer : Answer K V P) (leaves : List (Event × Gone K V P)) →
+        CompleteStep (terms_at now t) old k fetch end answer leaves new → StepTold answer leaves
+    complete_step now k fetch (Value v p source) answer leaves h =
+        complete_with_step now k fetch source (ValueTarget v p) answer leaves h
+    complete_step now k fetch (PieceEnd n) answer leaves h =
+        complete_piece_step now k fetch (slice_get old.pieces n) answer leaves h
 
     -- with a refusal
     end_step : (k : K) (fetch : ℕ) (reason : Reason) (answer : Answer K V P) (leaves : List (Event × Gone K V P)) →
@@ -378,19 +391,19 @@ module _ {K V P View C S W A : Type 0} (t : Terms K V P View C S W A) where
     clear_step (Refused NoMemory) leaves h = unchanged leaves h.0 h.1
     clear_step _ leaves h = absurd h
 
-    evict_all_step : (answer : Answer K V P) (leaves : List (Event × Gone K V P)) →
-        EvictAllStep t old answer leaves new → StepTold answer leaves
-    evict_all_step Done leaves h = (
+    evict_all_step : (now : ℕ) (answer : Answer K V P) (leaves : List (Event × Gone K V P)) →
+        EvictAllStep (terms_at now t) old answer leaves new → StepTold answer leaves
+    evict_all_step now Done leaves h = (
       all_builder _ leaves h.0,
-      unpinned_core t.meaning laws good hash equal old.core new.core sound leaves
+      unpinned_core (at_moment now t.meaning) laws (at_lawful now) hash equal old.core new.core (sound_at now) leaves
           h.0.stepped,
     )
-    evict_all_step (Refused NoMemory) leaves h = (
+    evict_all_step now (Refused NoMemory) leaves h = (
       all_builder _ leaves h.0,
-      unpinned_until_core t.meaning laws good hash equal old.core new.core sound leaves
+      unpinned_until_core (at_moment now t.meaning) laws (at_lawful now) hash equal old.core new.core (sound_at now) leaves
           h.0.stepped,
     )
-    evict_all_step _ leaves h = absurd h
+    evict_all_step now _ leaves h = absurd h
 
     flush_if_step : (says : K → V → Bool → Type 0) (answer : Answer K V P) (leaves : List (Event × Gone K V P)) →
         FlushIfStep t old says answer leaves new → StepTold answer leaves
@@ -402,17 +415,21 @@ module _ {K V P View C S W A : Type 0} (t : Terms K V P View C S W A) where
     flush_if_step says (Refused NoMemory) leaves h = unchanged leaves h.0 h.1
     flush_if_step says _ leaves h = absurd h
 
-    resize_step : (capacity : ℕ) (answer : Answer K V P) (leaves : List (Event × Gone K V P)) →
-        ResizeStep t old capacity answer leaves new → StepTold answer leaves
-    resize_step capacity Done leaves h = (
+    resize_step : (now : ℕ) (capacity : ℕ) (answer : Answer K V P) (leaves : List (Event × Gone K V P)) →
+        ResizeStep t now old capacity answer leaves new → StepTold answer leaves
+    resize_step now capacity Done leaves h = (
       ap (λ (c : Core K V P View S W A). c.hash_builder) h.0.evicted.rest,
-      resized_core t.meaning laws good hash equal old.core new.core sound capacity leaves h.0,
+      resized_core (at_moment now t.meaning) laws (at_lawful now) hash equal old.core new.core (sound_at now) capacity leaves
+          (resized_at t.meaning now capacity (InTurn (EvictsToCapacity (at_moment now t.meaning))) old.core leaves
+          new.core h.0.shared h.0.shares h.0.evicted),
     )
-    resize_step capacity (Refused NoMemory) leaves h = (
+    resize_step now capacity (Refused NoMemory) leaves h = (
       ap (λ (c : Core K V P View S W A). c.hash_builder) h.0.evicted.rest,
-      resized_until_core t.meaning laws good hash equal old.core new.core sound capacity leaves h.0,
+      resized_until_core (at_moment now t.meaning) laws (at_lawful now) hash equal old.core new.core (sound_at now) capacity
+          leaves (resized_at t.meaning now capacity (InTurnUntil (EvictsToCapacity (at_moment now t.meaning))
+          (EvictingToCapacity (at_moment now t.meaning))) old.core leaves new.core h.0.shared h.0.shares h.0.evicted),
     )
-    resize_step capacity _ leaves h = absurd h
+    resize_step now capacity _ leaves h = absurd h
 
     reconfigure_step : (config : C) (answer : Answer K V P) (leaves : List (Event × Gone K V P)) →
         ReconfigureStep t old config answer leaves new → StepTold answer leaves
@@ -429,28 +446,28 @@ module _ {K V P View C S W A : Type 0} (t : Terms K V P View C S W A) where
 
     any_step : {Q : Type 0} (picks : Q → K → V → Bool → Type 0) (command : Command K V P Q C) (answer : Answer K V P)
         (leaves : List (Event × Gone K V P)) → Step t picks old command answer leaves new → StepTold answer leaves
-    any_step picks (Insert k v p) answer leaves h = insert_step k v p answer leaves h
-    any_step picks (Get k) answer leaves h = get_step k answer leaves h
-    any_step picks (Contains k) answer leaves h = contains_step k answer leaves h
-    any_step picks (Touch k) answer leaves h = touch_step k answer leaves h
+    any_step picks (Insert now k v p) answer leaves h = insert_step now k v p answer leaves h
+    any_step picks (Get now k) answer leaves h = get_step now k answer leaves h
+    any_step picks (Contains now k) answer leaves h = contains_step now k answer leaves h
+    any_step picks (Touch now k) answer leaves h = touch_step now k answer leaves h
     any_step picks (Remove k) answer leaves h = remove_step k answer leaves h
     any_step picks (Clone n) answer leaves h = clone_step n answer leaves h
     any_step picks (Drop n) answer leaves h = drop_step n answer leaves h
     any_step picks (TakePiece n) answer leaves h = take_piece_step n answer leaves h
-    any_step picks (InsertPiece n) answer leaves h = insert_piece_step n answer leaves h
+    any_step picks (InsertPiece now n) answer leaves h = insert_piece_step now n answer leaves h
     any_step picks (Refs n) answer leaves h = refs_step n answer leaves h
     any_step picks (Outdated n) answer leaves h = outdated_step n answer leaves h
-    any_step picks (GetOrFetch k later) answer leaves h = get_or_fetch_step k later answer leaves h
-    any_step picks (Complete k fetch end) answer leaves h = complete_step k fetch end answer leaves h
+    any_step picks (GetOrFetch now k later) answer leaves h = get_or_fetch_step now k later answer leaves h
+    any_step picks (Complete now k fetch end) answer leaves h = complete_step now k fetch end answer leaves h
     any_step picks (Fail k fetch fault) answer leaves h = end_step k fetch (Fetch fault) answer leaves h
     any_step picks (Cancel k fetch) answer leaves h = end_step k fetch TaskCancelled answer leaves h
     any_step picks (FetchOrTake k fetch outcome) answer leaves h =
         fetch_or_take_step k fetch (option_map Fetch outcome) answer leaves h
     any_step picks (IsOpen k fetch) answer leaves h = is_open_step k fetch answer leaves h
     any_step picks Clear answer leaves h = clear_step answer leaves h
-    any_step picks EvictAll answer leaves h = evict_all_step answer leaves h
+    any_step picks (EvictAll now) answer leaves h = evict_all_step now answer leaves h
     any_step picks (FlushIf q) answer leaves h = flush_if_step (picks q) answer leaves h
-    any_step picks (Resize capacity) answer leaves h = resize_step capacity answer leaves h
+    any_step picks (Resize now capacity) answer leaves h = resize_step now capacity answer leaves h
     any_step picks (Reconfigure config) answer leaves h = reconfigure_step config answer leaves h
     any_step picks Capacity answer leaves h = number_step _ answer leaves h
     any_step picks Usage answer leaves h = number_step _ answer leaves h

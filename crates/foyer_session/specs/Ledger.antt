@@ -100,14 +100,14 @@ module _ {K V P Q C : Type 0} (hash : K → ℕ) where
   -- of
   -- the record which came in
   abbrev pub key_by : Command K V P Q C → Answer K V P → Option (ℕ × K)
-  key_by (Insert k v p) answer = Some (hash k, k)
-  key_by (Get k) answer = Some (hash k, k)
-  key_by (Contains k) answer = Some (hash k, k)
-  key_by (Touch k) answer = Some (hash k, k)
+  key_by (Insert now k v p) answer = Some (hash k, k)
+  key_by (Get now k) answer = Some (hash k, k)
+  key_by (Contains now k) answer = Some (hash k, k)
+  key_by (Touch now k) answer = Some (hash k, k)
   key_by (Remove k) answer = Some (hash k, k)
-  key_by (InsertPiece n) (Entry number came answers) = Some (key_of came.kept)
-  key_by (GetOrFetch k later) answer = Some (hash k, k)
-  key_by (Complete k fetch end) answer = Some (hash k, k)
+  key_by (InsertPiece now n) (Entry number came answers) = Some (key_of came.kept)
+  key_by (GetOrFetch now k later) answer = Some (hash k, k)
+  key_by (Complete now k fetch end) answer = Some (hash k, k)
   key_by (Fail k fetch fault) answer = Some (hash k, k)
   key_by (Cancel k fetch) answer = Some (hash k, k)
   key_by (FetchOrTake k fetch outcome) answer = Some (hash k, k)
@@ -181,8 +181,8 @@ IsRefusal _ = ⊥
 module _ {K V P Q C : Type 0} where
   -- why those get nothing who waited
   abbrev pub MayRefuse : Command K V P Q C → Reason → Type 0
-  MayRefuse (Complete k fetch (Value v p source)) reason = IsRefusal reason
-  MayRefuse (Complete k fetch (PieceNo n)) reason = IsRefusal reason ⊎ (reason ≡ WrongKey)
+  MayRefuse (Complete now k fetch (Value v p source)) reason = IsRefusal reason
+  MayRefuse (Complete now k fetch (PieceNo n)) reason = IsRefusal reason ⊎ (reason ≡ WrongKey)
   MayRefuse (Fail k fetch fault) reason = reason ≡ Fetch fault
   MayRefuse (Cancel k fetch) reason = reason ≡ TaskCancelled
   MayRefuse (FetchOrTake k fetch (Some fault)) reason = reason ≡ Fetch fault

@@ -16,7 +16,7 @@ use Rattle.foyer_core.specs.Fetching.{LooksUp}
 use Rattle.foyer_core.specs.Inflight.{Opens, OpenFetch, after_nothing, asked, closed, waiters_of}
 use Rattle.foyer_core.specs.Pieces.{InsertsPiece, coming_under}
 use Rattle.foyer_core.specs.Rules.{Rules}
-use Rattle.foyer_core.specs.State.{State, key_of}
+use Rattle.foyer_core.specs.State.{State, key_of, at_moment}
 use Rattle.foyer_core.specs.Waited.{Ending, lost}
 use Rattle.foyer_core.specs.declared.outcome.FetchTarget.{FetchTarget}
 use Rattle.foyer_core.specs.declared.outcome.FetchTarget.TheVariants.{Entry as ValueTarget, Piece as PieceTarget}
@@ -31,7 +31,7 @@ use Rattle.foyer_session.specs.declared.command.Command.{Command}
 use Rattle.foyer_session.specs.declared.command.Command.TheVariants.{Insert, Get, Contains, Touch, Remove, Clone, Drop, TakePiece, InsertPiece, Refs, Outdated, GetOrFetch, Complete, Fail, Cancel, FetchOrTake, IsOpen, Clear, EvictAll, FlushIf, Resize, Reconfigure, Capacity, Usage, Entries}
 use Rattle.foyer_session.specs.declared.command.End.{End}
 use Rattle.foyer_session.specs.declared.command.End.TheVariants.{Value, PieceNo as PieceEnd}
-use Rattle.foyer_session.specs.Terms.{Terms}
+use Rattle.foyer_session.specs.Terms.{Terms, terms_at}
 use Rattle.foyer_session.specs.Tokens.{each_gets, got_of, handles_from, numbers_of}
 
 -- the open fetches of a core, whose later builders are labels
@@ -191,36 +191,36 @@ module _ {K V P View C S W A : Type 0} (t : Terms K V P View C S W A) where
       × KeepsTables old new
   InsertStep old k v p _ leaves new = ⊥
 
-  abbrev pub GetStep : SessionState K V P View S W A → K → Answer K V P → List (Event × Gone K V P) →
+  abbrev pub GetStep : ℕ → SessionState K V P View S W A → K → Answer K V P → List (Event × Gone K V P) →
       SessionState K V P View S W A → Type 0
-  GetStep old k (Found number told) leaves new =
+  GetStep now old k (Found number told) leaves new =
       (entry : Held K V P)
-      × AtShard (λ s u. Gets t.meaning s (hash_in old k, k) (Ok (Some entry)) u) (hash_in old k) old.core new.core
+      × AtShard (λ s u. Gets t.meaning now s (hash_in old k, k) (Ok (Some entry)) u) (hash_in old k) old.core new.core
       × HandsOut old number told entry new × (leaves ≡ [])
-  GetStep old k Missing leaves new = (hit_in old.core (hash_in old k, k) ≡ None) × (leaves ≡ []) × (new ≡ old)
-  GetStep old k (Refused reason) leaves new =
-      AtShard (λ s u. Gets t.meaning s (hash_in old k, k) (Err reason) u) (hash_in old k) old.core new.core
+  GetStep now old k Missing leaves new = (hit_in t.meaning now old.core (hash_in old k, k) ≡ None) × (leaves ≡ []) × (new ≡ old)
+  GetStep now old k (Refused reason) leaves new =
+      AtShard (λ s u. Gets t.meaning now s (hash_in old k, k) (Err reason) u) (hash_in old k) old.core new.core
       × (leaves ≡ []) × (new ≡ old)
-  GetStep old k _ leaves new = ⊥
+  GetStep now old k _ leaves new = ⊥
 
-  abbrev pub ContainsStep : SessionState K V P View S W A → K → Answer K V P → List (Event × Gone K V P) →
+  abbrev pub ContainsStep : ℕ → SessionState K V P View S W A → K → Answer K V P → List (Event × Gone K V P) →
       SessionState K V P View S W A → Type 0
-  ContainsStep old k Yes leaves new = (is_some (hit_in old.core (hash_in old k, k)) ≡ true) × (leaves ≡ [])
+  ContainsStep now old k Yes leaves new = (is_some (hit_in t.meaning now old.core (hash_in old k, k)) ≡ true) × (leaves ≡ [])
       × (new ≡ old)
-  ContainsStep old k No leaves new = (is_some (hit_in old.core (hash_in old k, k)) ≡ false) × (leaves ≡ [])
+  ContainsStep now old k No leaves new = (is_some (hit_in t.meaning now old.core (hash_in old k, k)) ≡ false) × (leaves ≡ [])
       × (new ≡ old)
-  ContainsStep old k _ leaves new = ⊥
+  ContainsStep now old k _ leaves new = ⊥
 
-  abbrev pub TouchStep : SessionState K V P View S W A → K → Answer K V P → List (Event × Gone K V P) →
+  abbrev pub TouchStep : ℕ → SessionState K V P View S W A → K → Answer K V P → List (Event × Gone K V P) →
       SessionState K V P View S W A → Type 0
-  TouchStep old k Yes leaves new =
-      AtShard (λ s u. Touches t.meaning s (hash_in old k, k) (Ok true) u) (hash_in old k) old.core new.core
+  TouchStep now old k Yes leaves new =
+      AtShard (λ s u. Touches t.meaning now s (hash_in old k, k) (Ok true) u) (hash_in old k) old.core new.core
       × (leaves ≡ []) × KeepsTables old new
-  TouchStep old k No leaves new = (hit_in old.core (hash_in old k, k) ≡ None) × (leaves ≡ []) × (new ≡ old)
-  TouchStep old k (Refused reason) leaves new =
-      AtShard (λ s u. Touches t.meaning s (hash_in old k, k) (Err reason) u) (hash_in old k) old.core new.core
+  TouchStep now old k No leaves new = (hit_in t.meaning now old.core (hash_in old k, k) ≡ None) × (leaves ≡ []) × (new ≡ old)
+  TouchStep now old k (Refused reason) leaves new =
+      AtShard (λ s u. Touches t.meaning now s (hash_in old k, k) (Err reason) u) (hash_in old k) old.core new.core
       × (leaves ≡ []) × (new ≡ old)
-  TouchStep old k _ leaves new = ⊥
+  TouchStep now old k _ leaves new = ⊥
 
   abbrev pub RemoveStep : SessionState K V P View S W A → K → Answer K V P → List (Event × Gone K V P) →
       SessionState K V P View S W A → Type 0
@@ -315,25 +315,25 @@ module _ {K V P View C S W A : Type 0} (t : Terms K V P View C S W A) where
   OutdatedStep old n _ leaves new = ⊥
 
   -- what a look-up makes of the shard of the key and its open fetches
-  abbrev pub LooksUpIn : SessionState K V P View S W A → K → Option ℕ → Result (Lookup K V P ℕ) Reason →
+  abbrev pub LooksUpIn : ℕ → SessionState K V P View S W A → K → Option ℕ → Result (Lookup K V P ℕ) Reason →
       SessionState K V P View S W A → Type 0
-  LooksUpIn old k later result new = AtOpen (λ s f u g. LooksUp t.meaning s f (hashed old k) tt later result u g)
+  LooksUpIn now old k later result new = AtOpen (λ s f u g. LooksUp t.meaning now s f (hashed old k) tt later result u g)
       (hash_in old k) old.core old.fetches new.core new.fetches
 
   -- a handle of the key's record, or a token to wait with; nothing leaves
-  abbrev pub GetOrFetchStep : SessionState K V P View S W A → K → Option ℕ → Answer K V P → List (Event × Gone K V P)
+  abbrev pub GetOrFetchStep : ℕ → SessionState K V P View S W A → K → Option ℕ → Answer K V P → List (Event × Gone K V P)
       → SessionState K V P View S W A → Type 0
-  GetOrFetchStep old k later (Found number told) leaves new =
-      (entry : Held K V P) × LooksUpIn old k later (Ok (Hit entry)) new × HandsOut old number told entry new
+  GetOrFetchStep now old k later (Found number told) leaves new =
+      (entry : Held K V P) × LooksUpIn now old k later (Ok (Hit entry)) new × HandsOut old number told entry new
       × (leaves ≡ [])
-  GetOrFetchStep old k later (Lead fetch token) leaves new =
-      (required : Option ℕ) × LooksUpIn old k later (Ok (LeadsFetch fetch token required)) new × KeepsHandles old new
+  GetOrFetchStep now old k later (Lead fetch token) leaves new =
+      (required : Option ℕ) × LooksUpIn now old k later (Ok (LeadsFetch fetch token required)) new × KeepsHandles old new
       × (leaves ≡ [])
-  GetOrFetchStep old k later (Wait token) leaves new = LooksUpIn old k later (Ok (WaitsFetch token)) new
+  GetOrFetchStep now old k later (Wait token) leaves new = LooksUpIn now old k later (Ok (WaitsFetch token)) new
       × KeepsHandles old new × (leaves ≡ [])
-  GetOrFetchStep old k later (Refused reason) leaves new = LooksUpIn old k later (Err reason) new × (leaves ≡ [])
+  GetOrFetchStep now old k later (Refused reason) leaves new = LooksUpIn now old k later (Err reason) new × (leaves ≡ [])
       × (new ≡ old)
-  GetOrFetchStep old k later _ leaves new = ⊥
+  GetOrFetchStep now old k later _ leaves new = ⊥
 
   -- a fetch of the key ends with a target, where it is open
   abbrev pub CompletesWith : SessionState K V P View S W A → K → ℕ → Source → FetchTarget K V P → Answer K V P →
@@ -417,14 +417,16 @@ module _ {K V P View C S W A : Type 0} (t : Terms K V P View C S W A) where
   FlushIfStep old says _ leaves new = ⊥
 
   -- all capacities are set, and the evictions to them leave, or some beginning of those
-  abbrev pub ResizeStep : SessionState K V P View S W A → ℕ → Answer K V P → List (Event × Gone K V P) →
+  abbrev pub ResizeStep : ℕ → SessionState K V P View S W A → ℕ → Answer K V P → List (Event × Gone K V P) →
       SessionState K V P View S W A → Type 0
-  ResizeStep old capacity Done leaves new =
-      Resizes t.meaning (InTurn (EvictsToCapacity t.meaning)) capacity old.core leaves new.core × KeepsTables old new
-  ResizeStep old capacity (Refused NoMemory) leaves new =
-      Resizes t.meaning (InTurnUntil (EvictsToCapacity t.meaning) (EvictingToCapacity t.meaning)) capacity old.core
-      leaves new.core × KeepsTables old new
-  ResizeStep old capacity _ leaves new = ⊥
+  ResizeStep now old capacity Done leaves new =
+      Resizes t.meaning (InTurn (EvictsToCapacity (at_moment now t.meaning))) capacity old.core leaves new.core
+      × KeepsTables old new
+  ResizeStep now old capacity (Refused NoMemory) leaves new =
+      Resizes t.meaning
+      (InTurnUntil (EvictsToCapacity (at_moment now t.meaning)) (EvictingToCapacity (at_moment now t.meaning)))
+      capacity old.core leaves new.core × KeepsTables old new
+  ResizeStep now old capacity _ leaves new = ⊥
 
   -- a configuration is accepted: each shard's policy takes it as one of its own, and it has no fault
   abbrev pub AcceptsConfig : SessionState K V P View S W A → C → Type 0
@@ -450,28 +452,28 @@ module _ {K V P View C S W A Q : Type 0} (t : Terms K V P View C S W A) (picks :
   -- what a session answers to a command, what leaves, and the state then
   abbrev pub Step : SessionState K V P View S W A → Command K V P Q C → Answer K V P → List (Event × Gone K V P) →
       SessionState K V P View S W A → Type 0
-  Step old (Insert k v p) answer leaves new = InsertStep t old k v p answer leaves new
-  Step old (Get k) answer leaves new = GetStep t old k answer leaves new
-  Step old (Contains k) answer leaves new = ContainsStep t old k answer leaves new
-  Step old (Touch k) answer leaves new = TouchStep t old k answer leaves new
+  Step old (Insert now k v p) answer leaves new = InsertStep (terms_at now t) old k v p answer leaves new
+  Step old (Get now k) answer leaves new = GetStep t now old k answer leaves new
+  Step old (Contains now k) answer leaves new = ContainsStep t now old k answer leaves new
+  Step old (Touch now k) answer leaves new = TouchStep t now old k answer leaves new
   Step old (Remove k) answer leaves new = RemoveStep t old k answer leaves new
   Step old (Clone n) answer leaves new = CloneStep t old n answer leaves new
   Step old (Drop n) answer leaves new = DropStep t old n answer leaves new
   Step old (TakePiece n) answer leaves new = TakePieceStep t old n answer leaves new
-  Step old (InsertPiece n) answer leaves new = InsertPieceStep t old n answer leaves new
+  Step old (InsertPiece now n) answer leaves new = InsertPieceStep (terms_at now t) old n answer leaves new
   Step old (Refs n) answer leaves new = RefsStep t old n answer leaves new
   Step old (Outdated n) answer leaves new = OutdatedStep t old n answer leaves new
-  Step old (GetOrFetch k later) answer leaves new = GetOrFetchStep t old k later answer leaves new
-  Step old (Complete k fetch end) answer leaves new = CompleteStep t old k fetch end answer leaves new
+  Step old (GetOrFetch now k later) answer leaves new = GetOrFetchStep t now old k later answer leaves new
+  Step old (Complete now k fetch end) answer leaves new = CompleteStep (terms_at now t) old k fetch end answer leaves new
   Step old (Fail k fetch fault) answer leaves new = EndStep t old k fetch (Fetch fault) answer leaves new
   Step old (Cancel k fetch) answer leaves new = EndStep t old k fetch TaskCancelled answer leaves new
   Step old (FetchOrTake k fetch outcome) answer leaves new =
       FetchOrTakeStep t old k fetch (option_map Fetch outcome) answer leaves new
   Step old (IsOpen k fetch) answer leaves new = IsOpenStep t old k fetch answer leaves new
   Step old Clear answer leaves new = ClearStep t old answer leaves new
-  Step old EvictAll answer leaves new = EvictAllStep t old answer leaves new
+  Step old (EvictAll now) answer leaves new = EvictAllStep (terms_at now t) old answer leaves new
   Step old (FlushIf q) answer leaves new = FlushIfStep t old (picks q) answer leaves new
-  Step old (Resize capacity) answer leaves new = ResizeStep t old capacity answer leaves new
+  Step old (Resize now capacity) answer leaves new = ResizeStep t now old capacity answer leaves new
   Step old (Reconfigure config) answer leaves new = ReconfigureStep t old config answer leaves new
   Step old Capacity answer leaves new = NumberStep old.core.capacity old answer leaves new
   Step old Usage answer leaves new = NumberStep (usage_of_core t.meaning old.core) old answer leaves new

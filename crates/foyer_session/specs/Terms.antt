@@ -2,6 +2,7 @@
 use Rattle.std.specs.Prelude.{ℕ, Bool}
 use Rattle.foyer_policy.specs.Policy.{Policy}
 use Rattle.foyer_core.specs.State.{Meaning}
+use Rattle.foyer_policy.specs.Moments.{timed}
 
 -- When keys are equal, what its policy does and what properties answer, the hash that a hash builder gives a key,
 -- what a weighter and a filter may answer of a key and a value, and the properties with which a record comes in, by
@@ -17,3 +18,7 @@ pub record Terms (K V P View C S W A : Type 0) : Type 1 where
 abbrev pub with_policy : {K V P View C S W A : Type 0} → Policy View C → Terms K V P View C S W A →
     Terms K V P View C S W A
 with_policy policy t = record t { meaning = record t.meaning { policy = policy } }
+
+-- the same at a moment
+abbrev pub terms_at : {K V P View C S W A : Type 0} → ℕ → Terms K V P View C S W A → Terms K V P View C S W A
+terms_at now t = with_policy (timed now t.meaning.policy) t

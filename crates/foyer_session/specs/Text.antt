@@ -5,7 +5,7 @@ use Rattle.std.specs.Str.{all_ascii_digits}
 use Rattle.std.specs.Str.Parse.{digits_value}
 use Rattle.std.specs.Io.BufRead.{first_piece, drop_through}
 use Rattle.foyer_session.specs.declared.text.Line.{Line}
-use Rattle.foyer_session.specs.declared.text.Line.TheVariants.{Blank, Insert, Phantom, Get, Contains, Touch, Remove, Drop, Clear, Evict, Resize, High, Fetch, Done, Cancel, Bad}
+use Rattle.foyer_session.specs.declared.text.Line.TheVariants.{Blank, Insert, Phantom, Get, Contains, Touch, Remove, Drop, Clear, Evict, Resize, High, Fetch, At, Done, Cancel, Bad}
 
 -- the words: the longest runs of bytes other than the space, in order
 unfoldable pub words : List ℕ → List (List ℕ)
@@ -37,7 +37,8 @@ line_with_one verb n = if bytes_eq verb (codes "get") then Get n
     else (if bytes_eq verb (codes "drop") then Drop n
     else (if bytes_eq verb (codes "resize") then Resize n
     else (if bytes_eq verb (codes "fetch") then Fetch n
-    else Bad))))))
+    else (if bytes_eq verb (codes "at") then At n
+    else Bad)))))))
 
 -- of a share, whose numbers are below 2^32
 abbrev pub high_line : ℕ → ℕ → Line
@@ -45,7 +46,7 @@ high_line num den = if nat_lt num (2 ^ 32) && nat_lt den (2 ^ 32) then High (rec
 
 -- of a record that is to come in
 unfoldable pub insert_line : List ℕ → ℕ → ℕ → ℕ → Line
-insert_line verb key value weight = if bytes_eq verb (codes "insert") then Insert key value weight
+insert_line verb key value weight = if bytes_eq verb (codes "insert") then Insert key value weight None
     else (if bytes_eq verb (codes "phantom") then Phantom key value weight
     else Bad)
 
@@ -60,12 +61,18 @@ unfoldable pub line_with_three : List ℕ → ℕ → ℕ → ℕ → Line
 line_with_three verb k m n = if bytes_eq verb (codes "done") then Done k m n
     else insert_line verb k m n
 
+-- of a first word and four numbers, of which the last one is when a record expires
+unfoldable pub line_with_four : List ℕ → ℕ → ℕ → ℕ → ℕ → Line
+line_with_four verb key value weight expires = if bytes_eq verb (codes "insert")
+    then Insert key value weight (Some expires) else Bad
+
 -- of a first word and the numbers after it, `None` where a later word is no number
 abbrev pub line_with : List ℕ → Option (List ℕ) → Line
 line_with verb (Some []) = line_with_none verb
 line_with verb (Some (n ∷ [])) = line_with_one verb n
 line_with verb (Some (m ∷ n ∷ [])) = line_with_two verb m n
 line_with verb (Some (k ∷ m ∷ n ∷ [])) = line_with_three verb k m n
+line_with verb (Some (k ∷ m ∷ n ∷ e ∷ [])) = line_with_four verb k m n e
 line_with verb _ = Bad
 
 -- the line of these words

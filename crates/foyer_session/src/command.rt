@@ -12,18 +12,19 @@ use std::sync::Arc;
 mod alike;
 
 /// What a session is asked. It names a handle by its number: handles are numbered from 0 in the order in
-/// which they were handed out, and so are pieces. `Q` is the predicate of a `FlushIf`, and `C` the configuration of
+/// which they were handed out, and so are pieces. A first number `now` is the moment of the command: a record that has
+/// expired by then is not found, and is the first to be evicted. Moments may go back. `Q` is the predicate of a `FlushIf`, and `C` the configuration of
 /// the cache's policy.
 #[derive(Clone, Debug, Drop, PartialEq, Eq)]
 pub enum Command<K, V, P, Q, C> {
-    /// Takes a record of this key, value and properties in.
-    Insert(K, V, P),
-    /// Asks for a handle of the key's record.
-    Get(K),
-    /// Asks whether the key has a record.
-    Contains(K),
-    /// Uses the key's record, as a `Get` does whose handle is dropped at once.
-    Touch(K),
+    /// `now`, and a key, a value and properties of which a record is to come in.
+    Insert(u64, K, V, P),
+    /// Asks, at `now`, for a handle of the key's record.
+    Get(u64, K),
+    /// Asks whether the key has a record at `now`.
+    Contains(u64, K),
+    /// Uses the key's record at `now`, as a `Get` does whose handle is dropped at once.
+    Touch(u64, K),
     /// Takes the key's record out, and asks for a handle of it.
     Remove(K),
     /// Asks for one more handle of the record of the handle of this number.
@@ -32,17 +33,17 @@ pub enum Command<K, V, P, Q, C> {
     Drop(u64),
     /// Asks for a piece of the record of the handle of this number. The piece stays held.
     TakePiece(u64),
-    /// Takes the record of the piece of this number in. The piece stays held.
-    InsertPiece(u64),
+    /// `now`, and the number of a piece whose record is to come in. The piece stays held.
+    InsertPiece(u64, u64),
     /// Asks how many handles the record of the handle of this number has.
     Refs(u64),
     /// Asks whether the record of the handle of this number left.
     Outdated(u64),
-    /// Asks for a handle of the key's record. Where there is none, who asks waits for the key's fetch with a token,
+    /// Asks, at `now`, for a handle of the key's record. Where there is none, who asks waits for the key's fetch with a token,
     /// and leads a new one where none is open. The number is the label of a builder that who waits brings.
-    GetOrFetch(K, Option<u64>),
-    /// Ends the key's fetch of this number with a record of the key.
-    Complete(K, u64, End<V, P>),
+    GetOrFetch(u64, K, Option<u64>),
+    /// Ends, at `now`, the key's fetch of this number with a record of the key.
+    Complete(u64, K, u64, End<V, P>),
     /// Ends the key's fetch of this number with a fault.
     Fail(K, u64, Arc<Fault, Global>),
     /// Ends the key's fetch of this number, whose task was dropped.
@@ -54,12 +55,12 @@ pub enum Command<K, V, P, Q, C> {
     IsOpen(K, u64),
     /// Takes all records out.
     Clear,
-    /// Evicts all records that are not pinned.
-    EvictAll,
+    /// Evicts all records that are not pinned: those first that have expired at `now`.
+    EvictAll(u64),
     /// Evicts the records that the predicate picks, pinned or not.
     FlushIf(Q),
-    /// Sets the weight that the records may have together, and evicts to it.
-    Resize(usize),
+    /// Sets the weight that the records may have together, and evicts to it at `now`.
+    Resize(u64, usize),
     /// Sets the configuration of each shard's policy, where it is one of that policy's (F17) and has no fault (F2 to
     /// F6). Nothing leaves.
     Reconfigure(C),

@@ -211,19 +211,21 @@ impl<
     {
         let Ready { command, leaves } = ready;
         match command {
-            Command::Insert(key, value, properties) => self.insert(key, value, properties),
-            Command::Get(key) => self.get(&key),
-            Command::Contains(key) => self.contains(&key),
-            Command::Touch(key) => self.touch(&key),
+            Command::Insert(now, key, value, properties) => {
+                self.insert(now, key, value, properties)
+            }
+            Command::Get(now, key) => self.get(now, &key),
+            Command::Contains(now, key) => self.contains(now, &key),
+            Command::Touch(now, key) => self.touch(now, &key),
             Command::Remove(key) => self.remove(&key, leaves),
             Command::Clone(number) => self.clone_handle(number),
             Command::Drop(number) => self.give_back(number, leaves),
             Command::TakePiece(number) => self.take_piece(number),
-            Command::InsertPiece(number) => self.insert_piece(number),
+            Command::InsertPiece(now, number) => self.insert_piece(now, number),
             Command::Refs(number) => self.refs(number),
             Command::Outdated(number) => self.is_outdated(number),
-            Command::GetOrFetch(key, later) => self.get_or_fetch(&key, later),
-            Command::Complete(key, fetch, end) => self.complete(&key, fetch, end),
+            Command::GetOrFetch(now, key, later) => self.get_or_fetch(now, &key, later),
+            Command::Complete(now, key, fetch, end) => self.complete(now, &key, fetch, end),
             Command::Fail(key, fetch, fault) => self.end(&key, fetch, Some(fault)),
             Command::Cancel(key, fetch) => self.end(&key, fetch, None),
             Command::FetchOrTake(key, fetch, outcome) => {
@@ -231,9 +233,9 @@ impl<
             }
             Command::IsOpen(key, fetch) => self.is_open(&key, fetch),
             Command::Clear => self.clear(),
-            Command::EvictAll => self.evict_all(),
+            Command::EvictAll(now) => self.evict_all(now),
             Command::FlushIf(predicate) => self.flush_if(&predicate),
-            Command::Resize(capacity) => self.resize(capacity),
+            Command::Resize(now, capacity) => self.resize(now, capacity),
             Command::Reconfigure(config) => self.reconfigure(&config),
             Command::Capacity => self.tell_number(self.core.capacity() as u128),
             Command::Usage => self.tell_number(self.core.usage()),

@@ -1,6 +1,6 @@
 //! What a program over a session is asked for, keeps and prints.
 
-ghost use Rattle.std.specs.Prelude.{◌≡◌, [], Some, IfSome, OnOk, OnErr};
+ghost use Rattle.std.specs.Prelude.{◌≡◌, ℕ, [], Some, IfSome, OnOk, OnErr};
 ghost use Rattle.std.specs.Hash.{u64 as u64_input};
 ghost use Rattle.foyer_session.specs.Sessions.{session_of, meaning_of_session};
 ghost use Rattle.foyer_session.specs.Simulated.{LineTold};
@@ -36,7 +36,8 @@ pub type SimSession<S, I = TagFinder<u64>> = Session<
 
 /// Carries out the lines of a reader, each as a command, and writes for each the reply, what left, and the
 /// usage and the entries then. A line whose command is refused says so, and the next one is carried out. The line
-/// `high N D` asks for the configuration of LRU whose pool of high priority has the share `N / D`.
+/// `high N D` asks for the configuration of LRU whose pool of high priority has the share `N / D`. The line `at N` sets
+/// the moment of the lines after it, which is 0 at the start and may go back.
 ///
 /// What was written is flushed before each read that may wait, and at other times only as the writer does.
 /// It ends at the end of the input. It fails only where the reader or the writer does, or after 2^64
@@ -46,18 +47,19 @@ pub fn simulate<R: BufRead, W: Write, S: HashBuilder, I: Finder<u64>>(
     writer: &mut W,
     session: &mut SimSession<S, I>,
 ) -> io::Result<()>
-    ensures all { OnOk result (TellsAll (LineTold (meaning_of_session session.old) (λ builder key. S.hash_of builder (u64_input key)))
-        (session_of session.old) (session_of session.new) (R.remaining reader.old) (W.contents writer.old) (W.contents writer.new)) }
+    ensures all { OnOk result ((last : ℕ) × TellsAll (LineTold (meaning_of_session session.old) (λ builder key. S.hash_of builder (u64_input key)))
+        (record { now = 0; session = session_of session.old }) (record { now = last; session = session_of session.new }) (R.remaining reader.old) (W.contents writer.old) (W.contents writer.new)) }
     ensures at_end { OnOk result (IfSome (R.remaining reader.old) (λ _. R.remaining reader.new ≡ Some [])) }
-    ensures part { OnErr result (TellsPart (LineTold (meaning_of_session session.old) (λ builder key. S.hash_of builder (u64_input key)))
-        (session_of session.old) (session_of session.new) (R.remaining reader.old) (W.contents writer.old) (W.contents writer.new)) }
+    ensures part { OnErr result ((last : ℕ) × TellsPart (LineTold (meaning_of_session session.old) (λ builder key. S.hash_of builder (u64_input key)))
+        (record { now = 0; session = session_of session.old }) (record { now = last; session = session_of session.new }) (R.remaining reader.old) (W.contents writer.old) (W.contents writer.new)) }
 {
     let mut lines = Lines::new();
+    let mut moment = 0;
     for _turn in 0..u64::MAX {
         let Some(line) = lines.read(reader, writer)? else {
             return Ok(());
         };
-        tell::tell(writer, session, line)?;
+        tell::tell(writer, session, &mut moment, line)?;
     }
     Err(io::Error::from(ErrorKind::Other))
 }

@@ -20,10 +20,20 @@ pub use watched::Watched;
 pub enum Line {
     /// A line without words.
     Blank,
-    /// `insert K V [W]`. A line that leaves out W means the weight 1.
-    Insert { key: u64, value: u64, weight: usize },
+    /// `insert K V [W [E]]`. A line that leaves out W means the weight 1, and one without E that the record never
+    /// expires.
+    Insert {
+        key: u64,
+        value: u64,
+        weight: usize,
+        expires: Option<u64>,
+    },
     /// `phantom K V [W]`, an insert of a phantom record. A line that leaves out W means the weight 1.
-    Phantom { key: u64, value: u64, weight: usize },
+    Phantom {
+        key: u64,
+        value: u64,
+        weight: usize,
+    },
     /// `get K`.
     Get(u64),
     /// `contains K`.
@@ -44,10 +54,19 @@ pub enum Line {
     High(Ratio),
     /// `fetch K`.
     Fetch(u64),
+    /// `at N`, of the moment of the lines after it.
+    At(u64),
     /// `done K F V`, the end of the key's fetch of the number F with a value of the weight 1.
-    Done { key: u64, fetch: u64, value: u64 },
+    Done {
+        key: u64,
+        fetch: u64,
+        value: u64,
+    },
     /// `cancel K F`, the end of the key's fetch of the number F without one.
-    Cancel { key: u64, fetch: u64 },
+    Cancel {
+        key: u64,
+        fetch: u64,
+    },
     /// Any other line.
     Bad,
 }

@@ -74,7 +74,7 @@ fn filled(alloc: Global, last: u64) -> Result<SessionOf<Fifo>, Fail> {
 }
 
 fn insert<C>(key: u64, value: u64) -> CommandOf<C> {
-    Command::Insert(key, value, CacheProperties::default())
+    Command::Insert(0, key, value, CacheProperties::default())
 }
 
 // What a session answers to a command.

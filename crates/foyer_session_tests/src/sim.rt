@@ -168,8 +168,8 @@ fn answers_that_no_line_gives_have_texts(rt: HostRuntime) -> Result<(), Fail> {
     type Plain = Command<u64, SimValue, CacheProperties, NoPredicate, EvictionConfig>;
     let mut session = session_of_two(rt.alloc())?;
     let commands: Vec<Plain> = vec![in rt.alloc();
-        Command::GetOrFetch(7, None),
-        Command::GetOrFetch(7, Some(30)),
+        Command::GetOrFetch(0, 7, None),
+        Command::GetOrFetch(0, 7, Some(30)),
         Command::FetchOrTake(7, 0, None),
         Command::FetchOrTake(7, 0, None),
         Command::Capacity,

@@ -64,6 +64,8 @@ pub struct Runner<H: Wait + Drop> {
     fetches: Vec<Fetch<H>>,
     // Of each shard.
     next: Vec<Next>,
+    // The moment of the lines.
+    now: u64,
 }
 
 impl<H: Wait + Drop> Runner<H> {
@@ -93,32 +95,38 @@ impl<H: Wait + Drop> Runner<H> {
             waiting: Vec::new(alloc),
             fetches: Vec::new(alloc),
             next: vec![in alloc; Next::default(); shards]?,
+            now: 0,
         })
     }
 
-    /// Carries out a line. A line without words is none.
+    /// Carries out a line at the moment that the last `at` set. A line without words is none. A fetch ends at the moment at
+    /// which it was led.
     pub fn carry_out(&mut self, line: Line) -> Result<Option<Told>, Failure> {
         let plain = CacheProperties::default();
+        let now = self.now;
         Ok(Some(match line {
             Line::Blank => return Ok(None),
             Line::Bad => Told::NoLine,
-            Line::Insert { key, value, weight } => {
-                self.insert(key, SimValue { value, weight }, plain)?
-            }
+            Line::Insert {
+                key,
+                value,
+                weight,
+                expires,
+            } => self.insert(key, SimValue { value, weight }, plain.with_expiry(expires))?,
             Line::Phantom { key, value, weight } => {
                 self.insert(key, SimValue { value, weight }, plain.with_phantom(true))?
             }
-            Line::Get(key) => self.found(self.cache.get(&key))?,
-            Line::Contains(key) => Told::says(self.cache.contains(&key)),
-            Line::Touch(key) => match self.cache.touch(&key) {
+            Line::Get(key) => self.found(self.cache.get(now, &key))?,
+            Line::Contains(key) => Told::says(self.cache.contains(now, &key)),
+            Line::Touch(key) => match self.cache.touch(now, &key) {
                 Ok(is_found) => Told::says(is_found),
                 Err(error) => Told::refused(error),
             },
             Line::Remove(key) => self.found(self.cache.remove(&key))?,
             Line::Drop(number) => self.give_back(number),
             Line::Clear => Told::done(self.cache.clear()),
-            Line::Evict => Told::done(self.cache.evict_all()),
-            Line::Resize(capacity) => Told::done(self.cache.resize(capacity)),
+            Line::Evict => Told::done(self.cache.evict_all(now)),
+            Line::Resize(capacity) => Told::done(self.cache.resize(now, capacity)),
             Line::High(ratio) => {
                 let config = LruConfig {
                     high_priority_pool_ratio: ratio,
@@ -126,6 +134,10 @@ impl<H: Wait + Drop> Runner<H> {
                 Told::done(self.cache.reconfigure(EvictionConfig::from(config)))
             }
             Line::Fetch(key) => self.fetch(key)?,
+            Line::At(moment) => {
+                self.now = moment;
+                Told::Plain(Answer::Done)
+            }
             Line::Done { key, fetch, value } => self.end(key, fetch, Some(value))?,
             Line::Cancel { key, fetch } => self.end(key, fetch, None)?,
         }))
@@ -150,7 +162,10 @@ impl<H: Wait + Drop> Runner<H> {
         value: SimValue,
         properties: CacheProperties,
     ) -> Result<Told, Failure> {
-        let entry = match self.cache.insert_with_properties(key, value, properties) {
+        let entry = match self
+            .cache
+            .insert_with_properties(self.now, key, value, properties)
+        {
             Ok(entry) => entry,
             Err(error) => return Ok(Told::refused(error)),
         };

@@ -51,8 +51,8 @@ pub fn run<H: Wait + Threads + Send + Sync + Copy + Drop>(
 fn fill<H: Wait + Drop>(cache: &Cache<H>, thread: u64) -> Result<u64, Failure> {
     let mut put = 0;
     for key in KEYS * thread..KEYS * (thread + 1) {
-        if cache.get(&key)?.is_none() {
-            cache.insert(key, key)?;
+        if cache.get(0, &key)?.is_none() {
+            cache.insert(0, key, key)?;
             put += 1;
         }
     }

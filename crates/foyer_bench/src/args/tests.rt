@@ -24,14 +24,16 @@ fn all_arguments(rt: HostRuntime) -> Result<(), Fail> {
         seed: 7,
         hasher: Hasher::Mod,
         reps: 3,
+        ttl: Some(20),
         hits_alone: true,
     };
-    let text = "s3fifo 10 2 100 50 0.9 7 --hasher mod --hits --reps 3";
+    let text = "s3fifo 10 2 100 50 0.9 7 --hasher mod --hits --ttl 20 --reps 3";
     assert_eq!(rt; asked(rt.alloc(), text)?, Some(core));
     let plain = BenchArgs {
         threads: Some(4),
         hasher: Hasher::Default,
         reps: 1,
+        ttl: None,
         hits_alone: false,
         ..core
     };
@@ -54,6 +56,9 @@ fn bad_arguments(rt: HostRuntime) -> Result<(), Fail> {
         "fifo 10 1 100 50 0.9 18446744073709551616",
         "fifo 10 1 100 50 0.9 1 --reps",
         "fifo 10 1 100 50 0.9 1 --reps 0",
+        "fifo 10 1 100 50 0.9 1 --ttl",
+        "fifo 10 1 100 50 0.9 1 --ttl -1",
+        "fifo 10 1 100 50 0.9 1 --ttl 18446744073709551616",
         "fifo 10 1 100 50 0.9 1 --hasher sip",
         "fifo 10 1 100 50 0.9 1 --fast 1",
         "--locked",

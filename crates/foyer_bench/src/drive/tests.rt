@@ -5,8 +5,12 @@ use foyer_core::RawCacheConfig;
 use foyer_policy::{Fifo, Lfu, Lru, ModHasher, S3Fifo, Sieve};
 use std::test::Fail;
 
-// How many of two thousand keys a core of capacity 20 finds.
-fn hits<E: Eviction>(alloc: Global, shards: usize) -> std::result::Result<usize, Fail>
+// How many of two thousand keys a core of capacity 20 finds, where records live so long.
+fn hits<E: Eviction>(
+    alloc: Global,
+    shards: usize,
+    life: Option<u64>,
+) -> std::result::Result<usize, Fail>
 where
     E::Config: Default,
 {
@@ -19,26 +23,45 @@ where
         ..RawCacheConfig::new(20)
     };
     let mut core = Core::<E, ModHasher>::new(alloc, config)?;
-    Ok(drive(alloc, &mut core, keys.as_slice())?)
+    // In two parts: the moments go on.
+    let mut next = Moment::first(life);
+    let (first, second) = keys.as_slice().split_at(700);
+    let hits = drive(alloc, &mut core, first, &mut next)?;
+    Ok(hits + drive(alloc, &mut core, second, &mut next)?)
 }
 
 // As upstream finds them.
 #[test]
 fn one_shard(rt: HostRuntime) -> std::result::Result<(), Fail> {
-    assert_eq!(rt; hits::<Fifo>(rt.alloc(), 1)?, 721);
-    assert_eq!(rt; hits::<Lru>(rt.alloc(), 1)?, 807);
-    assert_eq!(rt; hits::<Lfu>(rt.alloc(), 1)?, 1_061);
-    assert_eq!(rt; hits::<S3Fifo>(rt.alloc(), 1)?, 1_000);
-    assert_eq!(rt; hits::<Sieve>(rt.alloc(), 1)?, 962);
+    assert_eq!(rt; hits::<Fifo>(rt.alloc(), 1, None)?, 721);
+    assert_eq!(rt; hits::<Lru>(rt.alloc(), 1, None)?, 807);
+    assert_eq!(rt; hits::<Lfu>(rt.alloc(), 1, None)?, 1_061);
+    assert_eq!(rt; hits::<S3Fifo>(rt.alloc(), 1, None)?, 1_000);
+    assert_eq!(rt; hits::<Sieve>(rt.alloc(), 1, None)?, 962);
     Ok(())
 }
 
 #[test]
 fn three_shards(rt: HostRuntime) -> std::result::Result<(), Fail> {
-    assert_eq!(rt; hits::<Fifo>(rt.alloc(), 3)?, 719);
-    assert_eq!(rt; hits::<Lru>(rt.alloc(), 3)?, 778);
-    assert_eq!(rt; hits::<Lfu>(rt.alloc(), 3)?, 946);
-    assert_eq!(rt; hits::<S3Fifo>(rt.alloc(), 3)?, 981);
-    assert_eq!(rt; hits::<Sieve>(rt.alloc(), 3)?, 963);
+    assert_eq!(rt; hits::<Fifo>(rt.alloc(), 3, None)?, 719);
+    assert_eq!(rt; hits::<Lru>(rt.alloc(), 3, None)?, 778);
+    assert_eq!(rt; hits::<Lfu>(rt.alloc(), 3, None)?, 946);
+    assert_eq!(rt; hits::<S3Fifo>(rt.alloc(), 3, None)?, 981);
+    assert_eq!(rt; hits::<Sieve>(rt.alloc(), 3, None)?, 963);
+    Ok(())
+}
+
+// As a model in another language finds them.
+#[test]
+fn where_records_expire(rt: HostRuntime) -> std::result::Result<(), Fail> {
+    let life = Some(100);
+    assert_eq!(rt; hits::<Fifo>(rt.alloc(), 3, life)?, 719);
+    assert_eq!(rt; hits::<Lru>(rt.alloc(), 3, life)?, 768);
+    assert_eq!(rt; hits::<Lfu>(rt.alloc(), 3, life)?, 815);
+    assert_eq!(rt; hits::<S3Fifo>(rt.alloc(), 3, life)?, 818);
+    assert_eq!(rt; hits::<Sieve>(rt.alloc(), 3, life)?, 814);
+    assert_eq!(rt; hits::<Fifo>(rt.alloc(), 1, Some(30))?, 685);
+    assert_eq!(rt; hits::<Sieve>(rt.alloc(), 1, Some(30))?, 689);
+    assert_eq!(rt; hits::<Lru>(rt.alloc(), 1, Some(1))?, 0);
     Ok(())
 }

@@ -6,11 +6,12 @@ use foyer_policy::{Fifo, Lfu, Lru, ModHasher, S3Fifo, Sieve};
 use foyer_raw::NoListener;
 use std::test::Fail;
 
-// How many of two thousand keys one thread finds in a cache of capacity 20.
+// How many of two thousand keys one thread finds in a cache of capacity 20, where records live so long.
 fn hits<H: Wait + Drop, E: Eviction>(
     rt: H,
     alloc: Global,
     shards: usize,
+    life: Option<u64>,
 ) -> std::result::Result<usize, Fail>
 where
     E::Config: Default,
@@ -29,17 +30,28 @@ where
         config,
         NoListener::new(),
     )?;
-    Ok(drive(&cache, &keys)?)
+    Ok(drive(&cache, &keys, Moment::first(life))?)
 }
 
 // As upstream finds them.
 #[test]
 fn one_thread(rt: HostRuntime) -> std::result::Result<(), Fail> {
     let alloc = rt.alloc();
-    assert_eq!(rt; hits::<_, Fifo>(&rt, alloc, 1)?, 721);
-    assert_eq!(rt; hits::<_, Lru>(&rt, alloc, 1)?, 807);
-    assert_eq!(rt; hits::<_, Lfu>(&rt, alloc, 3)?, 946);
-    assert_eq!(rt; hits::<_, S3Fifo>(&rt, alloc, 3)?, 981);
-    assert_eq!(rt; hits::<_, Sieve>(&rt, alloc, 3)?, 963);
+    assert_eq!(rt; hits::<_, Fifo>(&rt, alloc, 1, None)?, 721);
+    assert_eq!(rt; hits::<_, Lru>(&rt, alloc, 1, None)?, 807);
+    assert_eq!(rt; hits::<_, Lfu>(&rt, alloc, 3, None)?, 946);
+    assert_eq!(rt; hits::<_, S3Fifo>(&rt, alloc, 3, None)?, 981);
+    assert_eq!(rt; hits::<_, Sieve>(&rt, alloc, 3, None)?, 963);
+    Ok(())
+}
+
+// As a model in another language finds them.
+#[test]
+fn where_records_expire(rt: HostRuntime) -> std::result::Result<(), Fail> {
+    let alloc = rt.alloc();
+    assert_eq!(rt; hits::<_, Lru>(&rt, alloc, 1, Some(100))?, 793);
+    assert_eq!(rt; hits::<_, Lfu>(&rt, alloc, 1, Some(100))?, 861);
+    assert_eq!(rt; hits::<_, S3Fifo>(&rt, alloc, 1, Some(30))?, 687);
+    assert_eq!(rt; hits::<_, Sieve>(&rt, alloc, 3, Some(30))?, 665);
     Ok(())
 }

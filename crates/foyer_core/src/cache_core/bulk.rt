@@ -32,16 +32,20 @@ impl<
     ghost use Rattle.foyer_core.specs.CoreBulk.{InTurn, InTurnUntil, OfShards, EvictsToCapacity, EvictingToCapacity, Resizes, Configures, NotTaken, TakenByEach, NothingPinned, IsEmptied, FitsOrPinned};
     ghost use Rattle.foyer_core.specs.Cores.{core_of, fetches_of, hashes_of, meaning_of_core};
     ghost use Rattle.foyer_core.specs.CallLaws.{CallLaws};
+    ghost use Rattle.foyer_core.specs.State.{at_moment};
 
-    /// Evicts all that is not pinned, shard by shard, in the order in which each policy gives it, and answers
-    /// what left. Refused for want of memory alone (F7); then the first shards are done, and some beginning of
+    /// Evicts, at a moment, all that is not pinned, shard by shard, what is expired first and then in the order in which
+    /// each policy gives it, and answers what left. Refused for want of memory alone (F7); then the first shards are done, and some beginning of
     /// the next one's evictions has left, which the refusal hands out. Where nothing is pinned and it is not
     /// refused, nothing is in afterwards.
-    pub fn evict_all(&mut self) -> std::result::Result<Vec<Leave<K, V, P>>, Refused<K, V, P>>
+    pub fn evict_all(
+        &mut self,
+        now: u64,
+    ) -> std::result::Result<Vec<Leave<K, V, P>>, Refused<K, V, P>>
         ensures evicts { MatchResult result
-            (λ leaves. OfShards (InTurn (EvictsUnpinned (meaning_of_core self.old))) (core_of self.old) leaves.items (core_of self.new))
+            (λ leaves. OfShards (InTurn (EvictsUnpinned (at_moment now (meaning_of_core self.old)))) (core_of self.old) leaves.items (core_of self.new))
             (λ refused. (refused.error ≡ NoMemory) × OfShards
-            (InTurnUntil (EvictsUnpinned (meaning_of_core self.old)) (EvictingUnpinned (meaning_of_core self.old)))
+            (InTurnUntil (EvictsUnpinned (at_moment now (meaning_of_core self.old))) (EvictingUnpinned (at_moment now (meaning_of_core self.old))))
             (core_of self.old) refused.leaves.items (core_of self.new)) }
         ensures emptied { OnOk result (NothingPinned (meaning_of_core self.old) (core_of self.old) → IsEmptied (meaning_of_core self.new) (core_of self.new)) }
         ensures fetches { fetches_of self.new ≡ fetches_of self.old }
@@ -50,7 +54,7 @@ impl<
             (λ refused. CallLaws K.eq (hashes_of self.old) (λ _. 0) (core_of self.old) refused.leaves.items (core_of self.new)) }
     {
         let mut leaves = Vec::new(self.alloc);
-        let done = evict_each(&mut self.shards, &mut leaves);
+        let done = evict_each(&mut self.shards, now, &mut leaves);
         self.load = Load::of_all(&self.shards);
         match done {
             Ok(()) => Ok(leaves),
@@ -59,19 +63,20 @@ impl<
     }
 
     /// Sets the weight that the records may have together: each of the n shards gets one n-th of it, rounded
-    /// down, and the first ones one more, as many as that leaves over, and all policies are told. Then evicts,
-    /// shard by shard, until the usage of each is at most its capacity, or nothing more leaves, and answers
+    /// down, and the first ones one more, as many as that leaves over, and all policies are told. Then evicts, at a
+    /// moment, shard by shard, until the usage of each is at most its capacity, or nothing more leaves, and answers
     /// what left. Refused for want of memory alone (F7); then the capacities are set all the same, the first
     /// shards are done, and some beginning of the next one's evictions has left, which the refusal hands out.
     pub fn resize(
         &mut self,
+        now: u64,
         capacity: usize,
     ) -> std::result::Result<Vec<Leave<K, V, P>>, Refused<K, V, P>>
         ensures resizes { MatchResult result
-            (λ leaves. Resizes (meaning_of_core self.old) (InTurn (EvictsToCapacity (meaning_of_core self.old)))
+            (λ leaves. Resizes (meaning_of_core self.old) (InTurn (EvictsToCapacity (at_moment now (meaning_of_core self.old))))
             capacity (core_of self.old) leaves.items (core_of self.new))
             (λ refused. (refused.error ≡ NoMemory) × Resizes (meaning_of_core self.old)
-            (InTurnUntil (EvictsToCapacity (meaning_of_core self.old)) (EvictingToCapacity (meaning_of_core self.old)))
+            (InTurnUntil (EvictsToCapacity (at_moment now (meaning_of_core self.old))) (EvictingToCapacity (at_moment now (meaning_of_core self.old))))
             capacity (core_of self.old) refused.leaves.items (core_of self.new)) }
         ensures fits { OnOk result (FitsOrPinned (meaning_of_core self.new) (core_of self.new)) }
         ensures fetches { fetches_of self.new ≡ fetches_of self.old }
@@ -82,7 +87,7 @@ impl<
         self.capacity = capacity;
         share_out(&mut self.shards, capacity);
         let mut evicted = Vec::new(self.alloc);
-        let done = evict_each_to_capacity(&mut self.shards, &mut evicted);
+        let done = evict_each_to_capacity(&mut self.shards, now, &mut evicted);
         self.load = Load::of_all(&self.shards);
         match done {
             Ok(()) => Ok(evicted),

@@ -3,7 +3,7 @@
 ghost use Rattle.std.specs.Prelude.{◌≡◌, ℕ, Some, true};
 ghost use Rattle.foyer_policy.specs.declared.types.Source.{Source as SourceOf};
 ghost use Rattle.foyer_core.specs.Inflight.{OpenFetch, asked};
-ghost use Rattle.foyer_core.specs.State.{coming_in};
+ghost use Rattle.foyer_core.specs.State.{at_moment, coming_in};
 ghost use Rattle.foyer_core.specs.Waited.{ending_of};
 
 use super::CacheCore;
@@ -35,18 +35,20 @@ impl<
     ghost use Rattle.foyer_core.specs.Fetching.{CompletesBy};
     ghost use Rattle.foyer_core.specs.Laws.{HandlesStay};
 
-    /// Ends an open fetch of a key with a record of it, of which each who waits gets an entry, and answers what left. The
+    /// Ends an open fetch of a key, at a moment, with a record of it, of which each who waits gets an entry, and answers
+    /// what left. The
     /// key's fetch is closed. A clone of the key must equal it.
     ///
     /// A value comes in as an insert's does, with this source: the weighter is asked and then the filter. A piece comes
     /// in as an inserted one does, with the source `Memory`, where the record that it stands for has this key; else those
     /// who wait get F12. Where the record is refused, they get that refusal (F10, F9, F8, F7), and for want of memory
     /// some beginning of the evictions has left. Where it came in and is not phantom, a get of an equal key finds it
-    /// afterwards.
+    /// afterwards, until it expires.
     ///
     /// A fetch that is not open ends as lost: nothing happens, and neither the weighter nor the filter is asked.
     pub fn complete(
         &mut self,
+        now: u64,
         key: &K,
         fetch: u64,
         target: FetchTarget<K, V, P>,
@@ -54,7 +56,7 @@ impl<
     ) -> Ended<K, V, P, N>
         requires clones { (k c : K) → K.is_clone k c → K.eq c k ≡ true }
         ensures completed { let k : ℕ × K = (hashes_of self.old key.now, key.now) in
-            Completed (meaning_of_core self.old) (record {
+            Completed (at_moment now (meaning_of_core self.old)) (record {
               hash = hashes_of self.old;
               weighs = W.weighs (core_of self.old).weighter;
               admits = A.admits (core_of self.old).filter;
@@ -76,15 +78,16 @@ impl<
         }
         match target {
             FetchTarget::Entry { value, properties } => {
-                self.complete_value(key, fetch, value, properties, source)
+                self.complete_value(now, key, fetch, value, properties, source)
             }
-            FetchTarget::Piece(piece) => self.complete_piece(key, fetch, piece),
+            FetchTarget::Piece(piece) => self.complete_piece(now, key, fetch, piece),
         }
     }
 
     // Ends an open fetch with a value.
     fn complete_value(
         &mut self,
+        now: u64,
         key: &K,
         fetch: u64,
         value: V,
@@ -94,7 +97,7 @@ impl<
         requires clones { (k c : K) → K.is_clone k c → K.eq c k ≡ true }
         ensures completed { let k : ℕ × K = (hashes_of self.old key.now, key.now) in
             (o : OpenFetch N R) → asked (Some fetch) (open_in (fetches_of self.old) k) ≡ Some o
-            → ValueCompletes (meaning_of_core self.old) source (W.weighs (core_of self.old).weighter key.now value)
+            → ValueCompletes (at_moment now (meaning_of_core self.old)) source (W.weighs (core_of self.old).weighter key.now value)
             (A.admits (core_of self.old).filter key.now value) k value
             (λ admitted. coming_in P.location_of P.with_phantom_of admitted properties) o (ending_of result)
             (core_of self.old) (fetches_of self.old) (core_of self.new) (fetches_of self.new) }
@@ -113,7 +116,7 @@ impl<
         };
         let place = self.shard_index(hash);
         let before = Load::of(&self.shards[place]);
-        let ended = self.shards[place].complete(self.alloc, fetch, kept, source);
+        let ended = self.shards[place].complete(self.alloc, now, fetch, kept, source);
         let after = Load::of(&self.shards[place]);
         self.load.replace(before, after);
         ended
@@ -128,8 +131,8 @@ impl<
         properties: &P,
         weight: usize,
     ) -> Ended<K, V, P, N>
-        ensures completed { let k : ℕ × K = (hash, key.now) in (source : SourceOf) (value : V) →
-            AtOpen (λ s f t g. CompletesBy (meaning_of_core self.old) (asked (Some fetch) (f.by_key k)) source s f k
+        ensures completed { let k : ℕ × K = (hash, key.now) in (now : ℕ) (source : SourceOf) (value : V) →
+            AtOpen (λ s f t g. CompletesBy (at_moment now (meaning_of_core self.old)) (asked (Some fetch) (f.by_key k)) source s f k
             (record { key = key.now; value = value; properties = properties.now; hash = hash; weight = weight }) (ending_of result) t g)
             hash (core_of self.old) (fetches_of self.old) (core_of self.new) (fetches_of self.new) }
     {
@@ -138,11 +141,17 @@ impl<
     }
 
     // Ends an open fetch with a piece.
-    fn complete_piece(&mut self, key: &K, fetch: u64, piece: Piece<K, V, P>) -> Ended<K, V, P, N>
+    fn complete_piece(
+        &mut self,
+        now: u64,
+        key: &K,
+        fetch: u64,
+        piece: Piece<K, V, P>,
+    ) -> Ended<K, V, P, N>
         requires clones { (k c : K) → K.is_clone k c → K.eq c k ≡ true }
         ensures completed { let k : ℕ × K = (hashes_of self.old key.now, key.now) in let hash = hashes_of self.old piece.kept.key in
             (o : OpenFetch N R) → asked (Some fetch) (open_in (fetches_of self.old) k) ≡ Some o
-            → PieceCompletes (meaning_of_core self.old) (is_of (meaning_of_core self.old) (core_of self.old) hash piece k (shard_at (core_of self.old) k.0))
+            → PieceCompletes (at_moment now (meaning_of_core self.old)) (is_of (at_moment now (meaning_of_core self.old)) (core_of self.old) hash piece k (shard_at (core_of self.old) k.0))
             (W.weighs (core_of self.old).weighter piece.kept.key piece.kept.value) hash piece k o (ending_of result)
             (core_of self.old) (fetches_of self.old) (core_of self.new) (fetches_of self.new) }
     {
@@ -153,7 +162,7 @@ impl<
         let is_home = self.shard_index(own) == place;
         let before = Load::of(&self.shards[place]);
         let ended = self.shards[place].complete_piece(
-            self.alloc, hash, key, fetch, piece, own, is_home, weight,
+            self.alloc, now, hash, key, fetch, piece, own, is_home, weight,
         );
         let after = Load::of(&self.shards[place]);
         self.load.replace(before, after);

@@ -30,19 +30,19 @@ impl<
     ghost use Rattle.foyer_core.specs.Laws.{one_of};
     ghost use Rattle.foyer_core.specs.Steps.{ClonesHandle, GivesBack, Removes, Touches};
 
-    /// Whether a get finds a record under the key; if it does, that counts as a use, as a `get` does whose
+    /// Whether a get finds a record under the key at a moment; if it does, that counts as a use, as a `get` does whose
     /// entry is given back at once. Refused at the limit of handles alone (F9); then nothing has changed. It
     /// takes no memory.
-    pub fn touch(&mut self, key: &K) -> Result<bool>
+    pub fn touch(&mut self, now: u64, key: &K) -> Result<bool>
         ensures touches { let hash = S.hash_of (core_of self.old).hash_builder (K.hash_input key.now) in
-            AtShard (λ s t. Touches (meaning_of_core self.old) s (hash, key.now) result t)
+            AtShard (λ s t. Touches (meaning_of_core self.old) now s (hash, key.now) result t)
             hash (core_of self.old) (core_of self.new) }
         ensures fetches { fetches_of self.new ≡ fetches_of self.old }
         ensures laws { CallLaws K.eq (hashes_of self.old) (λ _. 0) (core_of self.old) [] (core_of self.new) }
     {
         let hash = self.hash(key);
         let place = self.shard_index(hash);
-        self.shards[place].touch(hash, key)
+        self.shards[place].touch(now, hash, key)
     }
 
     /// Takes the key's record out, where it is in the index, and answers an entry of it, which counts as a

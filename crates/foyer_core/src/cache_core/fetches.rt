@@ -27,13 +27,12 @@ impl<
     R: Drop,
     I: Finder<K>,
 > CacheCore<E, K, V, P, S, W, A, N, R, I> {
-    ghost use Rattle.foyer_core.specs.CoreFetches.{AtOpen, EndsAt, IsOpenIn, at_hash, open_in};
+    ghost use Rattle.foyer_core.specs.CoreFetches.{AtOpen, EndsAt, IsOpenIn, WasExpired, at_hash, open_in};
     ghost use Rattle.foyer_core.specs.Cores.{core_of, fetches_of, hashes_of, meaning_of_core};
     ghost use Rattle.foyer_core.specs.Fetching.{LooksUp};
     ghost use Rattle.foyer_core.specs.CallLaws.{CallLaws};
-    ghost use Rattle.foyer_core.specs.Observed.{known};
 
-    /// An entry of the key's record, as `get` answers it, or where the key is missing a token to wait with: for a new
+    /// An entry of the key's record, as `get` answers it at a moment, or where the key is missing a token to wait with: for a new
     /// fetch, which the one who asks leads and for which it gets its builder back, or for the one that is open. A
     /// builder that one who waits brings is kept where none is kept. A clone of the key must equal it.
     ///
@@ -41,30 +40,31 @@ impl<
     /// memory (F7); nothing has changed.
     pub fn get_or_enqueue(
         &mut self,
+        now: u64,
         key: &K,
         required: Option<R>,
         waiter: N,
     ) -> Result<Lookup<K, V, P, R>>
         requires clones { (k c : K) → K.is_clone k c → K.eq c k ≡ true }
         ensures looked_up { let hash = S.hash_of (core_of self.old).hash_builder (K.hash_input key.now) in
-            AtOpen (λ s f t g. LooksUp (meaning_of_core self.old) s f (hash, key.now) waiter required result t g)
+            AtOpen (λ s f t g. LooksUp (meaning_of_core self.old) now s f (hash, key.now) waiter required result t g)
             hash (core_of self.old) (fetches_of self.old) (core_of self.new) (fetches_of self.new) }
         ensures laws { CallLaws K.eq (hashes_of self.old) (λ _. 0) (core_of self.old) [] (core_of self.new) }
     {
         let hash = self.hash(key);
         let place = self.shard_index(hash);
-        self.shards[place].get_or_enqueue(hash, key, required, waiter)
+        self.shards[place].get_or_enqueue(now, hash, key, required, waiter)
     }
 
-    /// Whether this fetch of a key is open. Equal keys have the same, a key has at most one, and a key that is in the
-    /// index has none. It takes no memory.
+    /// Whether this fetch of a key is open. Equal keys have the same, and a key has at most one. Where it has one and is in
+    /// the index, its record was expired when the fetch was opened. It takes no memory.
     pub fn is_open(&self, key: &K, fetch: u64) -> bool
         ensures is_open { let hash = S.hash_of (core_of self.now).hash_builder (K.hash_input key.now) in
             IsTrue result ↔ IsOpenIn (fetches_of self.now) (hash, key.now) fetch }
         ensures equal_keys { let hash = S.hash_of (core_of self.now).hash_builder (K.hash_input key.now) in
             (other : K) → IsTrue (K.eq key.now other) → open_in (fetches_of self.now) (hash, other) ≡ open_in (fetches_of self.now) (hash, key.now) }
         ensures apart { let hash = S.hash_of (core_of self.now).hash_builder (K.hash_input key.now) in
-            (id : ℕ) → known (hashes_of self.now) (core_of self.now) key.now ≡ Some id → open_in (fetches_of self.now) (hash, key.now) ≡ None }
+            WasExpired P.expiry_of (core_of self.now) (fetches_of self.now) (hash, key.now) }
     {
         let hash = self.hash(key);
         self.shards[self.shard_index(hash)].is_open(hash, key, fetch)

@@ -7,6 +7,7 @@ ghost use Rattle.foyer_policy.specs.declared.error.Reason.TheVariants.{NoMemory}
 ghost use Rattle.foyer_core.specs.Bulk.{GoesOn, Clears, EvictsIf, EvictsUnpinned, EvictingUnpinned, Picks, Says};
 ghost use Rattle.foyer_core.specs.CoreBulk.{InTurn, InTurnUntil, ConfiguresEach, NotTaken, TakenByEach, EvictsToCapacity, EvictingToCapacity, SharesOut};
 ghost use Rattle.foyer_core.specs.Shards.{opens_of, state_of};
+ghost use Rattle.foyer_core.specs.State.{at_moment};
 ghost use Rattle.foyer_core.specs.Stored.{meaning};
 
 use super::shards::shard_capacity;
@@ -26,19 +27,23 @@ pub(super) fn evict_each<
     N: Drop,
     R: Drop,
     I: Finder<K>,
->(shards: &mut Vec<Shard<E, K, V, P, N, R, I>>, leaves: &mut Vec<Leave<K, V, P>>) -> Result<()>
-    ensures done { OnOk result (GoesOn leaves.old.items leaves.new.items (λ ls. InTurn (EvictsUnpinned (meaning K.eq E.model P.hint_of P.phantom_of P.expiry_of))
+>(
+    shards: &mut Vec<Shard<E, K, V, P, N, R, I>>,
+    now: u64,
+    leaves: &mut Vec<Leave<K, V, P>>,
+) -> Result<()>
+    ensures done { OnOk result (GoesOn leaves.old.items leaves.new.items (λ ls. InTurn (EvictsUnpinned (at_moment now (meaning K.eq E.model P.hint_of P.phantom_of P.expiry_of)))
         (map state_of shards.old.items) ls (map state_of shards.new.items))) }
     ensures refused { OnErr result (GoesOn leaves.old.items leaves.new.items
-        (λ ls. InTurnUntil (EvictsUnpinned (meaning K.eq E.model P.hint_of P.phantom_of P.expiry_of))
-        (EvictingUnpinned (meaning K.eq E.model P.hint_of P.phantom_of P.expiry_of))
+        (λ ls. InTurnUntil (EvictsUnpinned (at_moment now (meaning K.eq E.model P.hint_of P.phantom_of P.expiry_of)))
+        (EvictingUnpinned (at_moment now (meaning K.eq E.model P.hint_of P.phantom_of P.expiry_of)))
         (map state_of shards.old.items) ls (map state_of shards.new.items))) }
     ensures reason { IfErr result (λ e. e ≡ NoMemory) }
     ensures opens { map opens_of shards.new.items ≡ map opens_of shards.old.items }
     ensures len { vec_len shards.new ≡ vec_len shards.old }
 {
     for place in 0..shards.len() {
-        shards[place].evict_unpinned(leaves)?;
+        shards[place].evict_unpinned(now, leaves)?;
     }
     Ok(())
 }
@@ -53,19 +58,23 @@ pub(super) fn evict_each_to_capacity<
     N: Drop,
     R: Drop,
     I: Finder<K>,
->(shards: &mut Vec<Shard<E, K, V, P, N, R, I>>, leaves: &mut Vec<Leave<K, V, P>>) -> Result<()>
-    ensures done { OnOk result (GoesOn leaves.old.items leaves.new.items (λ ls. InTurn (EvictsToCapacity (meaning K.eq E.model P.hint_of P.phantom_of P.expiry_of))
+>(
+    shards: &mut Vec<Shard<E, K, V, P, N, R, I>>,
+    now: u64,
+    leaves: &mut Vec<Leave<K, V, P>>,
+) -> Result<()>
+    ensures done { OnOk result (GoesOn leaves.old.items leaves.new.items (λ ls. InTurn (EvictsToCapacity (at_moment now (meaning K.eq E.model P.hint_of P.phantom_of P.expiry_of)))
         (map state_of shards.old.items) ls (map state_of shards.new.items))) }
     ensures refused { OnErr result (GoesOn leaves.old.items leaves.new.items
-        (λ ls. InTurnUntil (EvictsToCapacity (meaning K.eq E.model P.hint_of P.phantom_of P.expiry_of))
-        (EvictingToCapacity (meaning K.eq E.model P.hint_of P.phantom_of P.expiry_of))
+        (λ ls. InTurnUntil (EvictsToCapacity (at_moment now (meaning K.eq E.model P.hint_of P.phantom_of P.expiry_of)))
+        (EvictingToCapacity (at_moment now (meaning K.eq E.model P.hint_of P.phantom_of P.expiry_of)))
         (map state_of shards.old.items) ls (map state_of shards.new.items))) }
     ensures reason { IfErr result (λ e. e ≡ NoMemory) }
     ensures opens { map opens_of shards.new.items ≡ map opens_of shards.old.items }
     ensures len { vec_len shards.new ≡ vec_len shards.old }
 {
     for place in 0..shards.len() {
-        shards[place].evict_to_capacity(leaves)?;
+        shards[place].evict_to_capacity(now, leaves)?;
     }
     Ok(())
 }

@@ -4,7 +4,7 @@ ghost use Rattle.std.specs.Prelude.{◌≡◌, ◌+◌, true, false, IfOk, Match
 ghost use Rattle.foyer_policy.specs.Properties.{is_phantom};
 ghost use Rattle.foyer_policy.specs.declared.types.Source.TheVariants.{Outer};
 ghost use Rattle.foyer_core.specs.Inflight.{waiters_of};
-ghost use Rattle.foyer_core.specs.State.{IsAdmitted, MakesPlain, coming_in};
+ghost use Rattle.foyer_core.specs.State.{IsAdmitted, MakesPlain, at_moment, coming_in};
 
 use super::CacheCore;
 use super::load::Load;
@@ -38,6 +38,7 @@ impl<
     /// had left by then stands in the list.
     pub fn insert_with_properties_onto(
         &mut self,
+        now: u64,
         key: K,
         value: V,
         properties: P,
@@ -45,7 +46,7 @@ impl<
     ) -> Result<InsertedOnto<K, V, P, N>>
         requires clones { (k c : K) → K.is_clone k c → K.eq c k ≡ true }
         ensures inserted { GoesOn leaves.old.items leaves.new.items (λ ls.
-            InsertsWeighed (meaning_of_core self.old) Outer (W.weighs (core_of self.old).weighter key value) (A.admits (core_of self.old).filter key value)
+            InsertsWeighed (at_moment now (meaning_of_core self.old)) Outer (W.weighs (core_of self.old).weighter key value) (A.admits (core_of self.old).filter key value)
             (hashes_of self.old key) key value (λ admitted. coming_in P.location_of P.with_phantom_of admitted properties)
             (1 + length (waiters_of (open_in (fetches_of self.old) (hashes_of self.old key, key)))) (insertion_onto result ls) (core_of self.old) (core_of self.new)) }
         ensures given { IfOk result (λ made. IsNewEntry (core_of self.old) (hashes_of self.old key) key value made.entry) }
@@ -62,7 +63,7 @@ impl<
         let kept = self.rules.data(hash, key, value, properties);
         let place = self.shard_index(hash);
         let before = Load::of(&self.shards[place]);
-        let emplaced = self.shards[place].emplace(self.alloc, kept, Source::Outer, leaves);
+        let emplaced = self.shards[place].emplace(self.alloc, now, kept, Source::Outer, leaves);
         let after = Load::of(&self.shards[place]);
         self.load.replace(before, after);
         emplaced

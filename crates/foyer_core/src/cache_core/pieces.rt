@@ -3,7 +3,7 @@
 ghost use Rattle.std.specs.Prelude.{◌≡◌, ◌+◌, MatchResult, Some, false, length, true};
 ghost use Rattle.foyer_core.specs.Inflight.{waiters_of};
 ghost use Rattle.foyer_core.specs.Onto.{insertion_onto};
-ghost use Rattle.foyer_core.specs.State.{State};
+ghost use Rattle.foyer_core.specs.State.{State, at_moment};
 ghost use Rattle.foyer_core.specs.Waited.{insertion_of};
 
 use super::CacheCore;
@@ -48,11 +48,12 @@ impl<
     /// Refused as an insert is; a record that has an id needs no other (F10).
     pub fn insert_piece(
         &mut self,
+        now: u64,
         piece: Piece<K, V, P>,
     ) -> std::result::Result<Inserted<K, V, P, N>, Refused<K, V, P>>
         requires clones { (k c : K) → K.is_clone k c → K.eq c k ≡ true }
         ensures inserted { let hash = hashes_of self.old piece.kept.key in
-            AtShard (λ s t. InsertsPiece (meaning_of_core self.old) (W.weighs (core_of self.old).weighter piece.kept.key piece.kept.value) hash piece
+            AtShard (λ s t. InsertsPiece (at_moment now (meaning_of_core self.old)) (W.weighs (core_of self.old).weighter piece.kept.key piece.kept.value) hash piece
             (1 + length (waiters_of (open_in (fetches_of self.old) (coming_under s hash piece)))) (insertion_of result) s t)
             hash (core_of self.old) (core_of self.new) }
         ensures fetches { MatchResult result
@@ -62,7 +63,7 @@ impl<
             (hashes_of self.old piece.kept.key) (core_of self.old) (insertion_of result) (core_of self.new) }
     {
         let mut leaves = Vec::new(self.alloc);
-        match self.insert_piece_onto(piece, &mut leaves) {
+        match self.insert_piece_onto(now, piece, &mut leaves) {
             Ok(made) => {
                 let InsertedOnto { entry, answers } = made;
                 Ok(Inserted {
@@ -79,13 +80,14 @@ impl<
     /// left by then stands in the list.
     pub fn insert_piece_onto(
         &mut self,
+        now: u64,
         piece: Piece<K, V, P>,
         leaves: &mut Vec<Leave<K, V, P>>,
     ) -> Result<InsertedOnto<K, V, P, N>>
         requires clones { (k c : K) → K.is_clone k c → K.eq c k ≡ true }
         ensures inserted { let hash = hashes_of self.old piece.kept.key in
             GoesOn leaves.old.items leaves.new.items (λ ls.
-            AtShard (λ s t. InsertsPiece (meaning_of_core self.old) (W.weighs (core_of self.old).weighter piece.kept.key piece.kept.value) hash piece
+            AtShard (λ s t. InsertsPiece (at_moment now (meaning_of_core self.old)) (W.weighs (core_of self.old).weighter piece.kept.key piece.kept.value) hash piece
             (1 + length (waiters_of (open_in (fetches_of self.old) (coming_under s hash piece)))) (insertion_onto result ls) s t)
             hash (core_of self.old) (core_of self.new)) }
         ensures fetches { MatchResult result
@@ -99,7 +101,7 @@ impl<
         let weight = self.weight_under(hash, &piece, piece.key());
         let place = self.shard_index(hash);
         let before = Load::of(&self.shards[place]);
-        let made = self.shards[place].emplace_piece(self.alloc, piece, hash, weight, leaves);
+        let made = self.shards[place].emplace_piece(self.alloc, now, piece, hash, weight, leaves);
         let after = Load::of(&self.shards[place]);
         self.load.replace(before, after);
         made

@@ -20,6 +20,7 @@ impl<E: Eviction, K: Key, V: Value, P: Properties, N: Drop, R: Drop, I: Finder<K
     ghost use Rattle.foyer_core.specs.Shards.{state_of, meaning_of, opens_of};
     ghost use Rattle.foyer_core.specs.Bulk.{GoesOn, after_capacity, after_update, EvictsUnpinned, EvictingUnpinned};
     ghost use Rattle.foyer_core.specs.CoreBulk.{EvictsToCapacity, EvictingToCapacity};
+    ghost use Rattle.foyer_core.specs.State.{at_moment};
     ghost use Rattle.foyer_core.specs.Steps.{Evicts, Evicting};
 
     /// Sets the weight that the records may have together, and tells the policy. Nothing leaves, even where the
@@ -50,42 +51,47 @@ impl<E: Eviction, K: Key, V: Value, P: Properties, N: Drop, R: Drop, I: Finder<K
         self.store.configure(config)
     }
 
-    /// Evicts until the usage is at most the capacity, or nothing more leaves, and appends what leaves. Refused
-    /// for want of memory alone (F7); then some beginning of the evictions has left, and stands in the list.
-    pub fn evict_to_capacity(&mut self, leaves: &mut Vec<Leave<K, V, P>>) -> Result<()>
+    /// Evicts, at a moment, until the usage is at most the capacity, or nothing more leaves, and appends what leaves.
+    /// Refused for want of memory alone (F7); then some beginning of the evictions has left, and stands in the list.
+    pub fn evict_to_capacity(&mut self, now: u64, leaves: &mut Vec<Leave<K, V, P>>) -> Result<()>
         ensures done { OnOk result (GoesOn leaves.old.items leaves.new.items
-            (λ ls. EvictsToCapacity (meaning_of self.old) (state_of self.old) ls (state_of self.new))) }
+            (λ ls. EvictsToCapacity (at_moment now (meaning_of self.old)) (state_of self.old) ls (state_of self.new))) }
         ensures refused { OnErr result (GoesOn leaves.old.items leaves.new.items
-            (λ ls. EvictingToCapacity (meaning_of self.old) (state_of self.old) ls (state_of self.new))) }
+            (λ ls. EvictingToCapacity (at_moment now (meaning_of self.old)) (state_of self.old) ls (state_of self.new))) }
         ensures reason { IfErr result (λ e. e ≡ NoMemory) }
         ensures opens { opens_of self.new ≡ opens_of self.old }
     {
-        self.store.evict_to_capacity(leaves)
+        self.store.evict_to_capacity(now, leaves)
     }
 
-    /// Evicts all that is not pinned, in the order in which the policy gives it, and appends what leaves.
-    /// Refused for want of memory alone (F7); then some beginning of it has left, and stands in the list.
-    pub fn evict_unpinned(&mut self, leaves: &mut Vec<Leave<K, V, P>>) -> Result<()>
+    /// Evicts, at a moment, all that is not pinned, what is expired first and then in the order in which the policy gives
+    /// it, and appends what leaves. Refused for want of memory alone (F7); then some beginning of it has left, and stands in the list.
+    pub fn evict_unpinned(&mut self, now: u64, leaves: &mut Vec<Leave<K, V, P>>) -> Result<()>
         ensures done { OnOk result (GoesOn leaves.old.items leaves.new.items
-            (λ ls. EvictsUnpinned (meaning_of self.old) (state_of self.old) ls (state_of self.new))) }
+            (λ ls. EvictsUnpinned (at_moment now (meaning_of self.old)) (state_of self.old) ls (state_of self.new))) }
         ensures refused { OnErr result (GoesOn leaves.old.items leaves.new.items
-            (λ ls. EvictingUnpinned (meaning_of self.old) (state_of self.old) ls (state_of self.new))) }
+            (λ ls. EvictingUnpinned (at_moment now (meaning_of self.old)) (state_of self.old) ls (state_of self.new))) }
         ensures reason { IfErr result (λ e. e ≡ NoMemory) }
         ensures opens { opens_of self.new ≡ opens_of self.old }
     {
-        self.store.evict_unpinned(leaves)
+        self.store.evict_unpinned(now, leaves)
     }
 
-    /// Evicts until the usage is at most the target, or nothing more leaves, and appends what leaves. Refused
+    /// Evicts, at a moment, until the usage is at most the target, or nothing more leaves, and appends what leaves. Refused
     /// for want of memory alone (F7); then some beginning of the evictions has left, and stands in the list.
-    pub fn evict_onto(&mut self, leaves: &mut Vec<Leave<K, V, P>>, target: usize) -> Result<()>
+    pub fn evict_onto(
+        &mut self,
+        now: u64,
+        leaves: &mut Vec<Leave<K, V, P>>,
+        target: usize,
+    ) -> Result<()>
         ensures done { OnOk result (GoesOn leaves.old.items leaves.new.items
-            (λ ls. Evicts (meaning_of self.old) target (state_of self.old) ls (state_of self.new))) }
+            (λ ls. Evicts (at_moment now (meaning_of self.old)) target (state_of self.old) ls (state_of self.new))) }
         ensures refused { OnErr result (GoesOn leaves.old.items leaves.new.items
-            (λ ls. Evicting (meaning_of self.old) target (state_of self.old) ls (state_of self.new))) }
+            (λ ls. Evicting (at_moment now (meaning_of self.old)) target (state_of self.old) ls (state_of self.new))) }
         ensures reason { IfErr result (λ e. e ≡ NoMemory) }
         ensures opens { opens_of self.new ≡ opens_of self.old }
     {
-        self.store.evict_onto(leaves, target)
+        self.store.evict_onto(now, leaves, target)
     }
 }

@@ -20,16 +20,16 @@ impl<E: Eviction, K: Key, V: Value, P: Properties, N: Drop, R: Drop, I: Finder<K
     ghost use Rattle.foyer_core.specs.State.{handles_in};
     ghost use Rattle.foyer_core.specs.Steps.{ClonesHandle, Gets, GivesBack, IsOutdated};
 
-    /// An entry of the key's record, where it is in the index, which counts as a handle and as a use.
-    /// Refused at the limit of handles (F9), or where the record could not be shared (F7); then nothing
+    /// An entry of the key's record, where it is in the index and not expired at a moment, which counts as a handle and as
+    /// a use. Refused at the limit of handles (F9), or where the record could not be shared (F7); then nothing
     /// has changed. It allocates nothing.
     #[inline(always)]
-    pub fn get(&mut self, hash: u64, key: &K) -> Result<Option<CoreEntry<K, V, P>>>
-        ensures gets { Gets (meaning_of self.old) (state_of self.old) (hash, key.now) result (state_of self.new) }
+    pub fn get(&mut self, now: u64, hash: u64, key: &K) -> Result<Option<CoreEntry<K, V, P>>>
+        ensures gets { Gets (meaning_of self.old) now (state_of self.old) (hash, key.now) result (state_of self.new) }
         ensures asked { IfOk result (λ found. IfSome found (λ entry. K.eq key.now entry.kept.key ≡ true)) }
         ensures opens { opens_of self.new ≡ opens_of self.old }
     {
-        self.store.get(hash, key)
+        self.store.get(now, hash, key)
     }
 
     /// Takes an entry back: its record has one handle less. With its last handle a record in the index is

@@ -25,11 +25,11 @@ impl<E: Eviction, K: Key, V: Value, P: Properties, N: Drop, R: Drop, I: Finder<K
     I,
 > {
     ghost use Rattle.foyer_core.specs.Shards.{state_of, meaning_of, opens_of};
-    ghost use Rattle.foyer_core.specs.State.{hit};
-    ghost use Rattle.foyer_core.specs.Fetching.{CompletesBy, EndsBy, LooksUp};
+    ghost use Rattle.foyer_core.specs.State.{at_moment, hit};
+    ghost use Rattle.foyer_core.specs.Fetching.{Apart, CompletesBy, EndsBy, LooksUp};
     ghost use Rattle.foyer_core.specs.PieceEnds.{CompletesPieceBy, comes_under};
 
-    /// An entry of the key's record, as `get` answers it, or where the key is missing a token to wait with: for a new
+    /// An entry of the key's record, as `get` answers it at a moment, or where the key is missing a token to wait with: for a new
     /// fetch, which the one who asks leads, or for the one that is open. A builder that one who waits brings is kept
     /// where none is kept. A clone of the key must equal it.
     ///
@@ -37,18 +37,19 @@ impl<E: Eviction, K: Key, V: Value, P: Properties, N: Drop, R: Drop, I: Finder<K
     /// memory (F7); nothing has changed.
     pub fn get_or_enqueue(
         &mut self,
+        now: u64,
         hash: u64,
         key: &K,
         required: Option<R>,
         waiter: N,
     ) -> Result<Lookup<K, V, P, R>>
         requires clones { (k c : K) → K.is_clone k c → K.eq c k ≡ true }
-        ensures looked_up { LooksUp (meaning_of self.old) (state_of self.old) (opens_of self.old)
+        ensures looked_up { LooksUp (meaning_of self.old) now (state_of self.old) (opens_of self.old)
             (hash, key.now) waiter required result (state_of self.new) (opens_of self.new) }
         ensures asked { IfOk result (elim [ Hit e ↦ K.eq key.now e.kept.key ≡ true | Lead _ _ _ ↦ Unit {0} | Wait _ ↦ Unit {0} ]) }
     {
-        match self.get(hash, key) {
-            Ok(None) => self.enqueue(hash, key, required, waiter),
+        match self.get(now, hash, key) {
+            Ok(None) => self.enqueue(now, hash, key, required, waiter),
             Ok(Some(entry)) => Ok(Lookup::Hit(entry)),
             Err(error) => Err(error),
         }
@@ -57,14 +58,15 @@ impl<E: Eviction, K: Key, V: Value, P: Properties, N: Drop, R: Drop, I: Finder<K
     // One more asks for a key that is missing.
     fn enqueue(
         &mut self,
+        now: u64,
         hash: u64,
         key: &K,
         required: Option<R>,
         waiter: N,
     ) -> Result<Lookup<K, V, P, R>>
         requires clones { (k c : K) → K.is_clone k c → K.eq c k ≡ true }
-        requires missing { hit (state_of self.old) (hash, key.now) ≡ None }
-        ensures looked_up { LooksUp (meaning_of self.old) (state_of self.old) (opens_of self.old)
+        requires missing { hit (meaning_of self.old) now (state_of self.old) (hash, key.now) ≡ None }
+        ensures looked_up { LooksUp (meaning_of self.old) now (state_of self.old) (opens_of self.old)
             (hash, key.now) waiter required result (state_of self.new) (opens_of self.new) }
         ensures missed { IfOk result (elim [ Hit _ ↦ ⊥ | Lead _ _ _ ↦ Unit {0} | Wait _ ↦ Unit {0} ]) }
     {
@@ -75,7 +77,10 @@ impl<E: Eviction, K: Key, V: Value, P: Properties, N: Drop, R: Drop, I: Finder<K
         let Ok(own) = key.clone() else {
             return Err(Error::new(Reason::NoMemory));
         };
-        match self.inflights.enqueue(hash, own, required, waiter, ids) {
+        match self
+            .inflights
+            .enqueue(now, hash, own, required, waiter, ids)
+        {
             Ok(
                 Enqueue::Lead {
                     id,
@@ -92,13 +97,13 @@ impl<E: Eviction, K: Key, V: Value, P: Properties, N: Drop, R: Drop, I: Finder<K
         }
     }
 
-    /// Whether this fetch of a key is open. A key has at most one, and none where it is in the index. It takes no
-    /// memory.
+    /// Whether this fetch of a key is open. A key has at most one, and where it has one and is in the index, its record was
+    /// expired when the fetch was opened. It takes no memory.
     pub fn is_open(&self, hash: u64, key: &K, fetch: u64) -> bool
         ensures is_open { IsTrue result ↔ IsOpen (opens_of self.now) (hash, key.now) fetch }
         ensures equal_keys { (other : K) → IsTrue (K.eq key.now other)
             → (opens_of self.now).by_key (hash, other) ≡ (opens_of self.now).by_key (hash, key.now) }
-        ensures apart { (id : ℕ) → (state_of self.now).index (hash, key.now) ≡ Some id → (opens_of self.now).by_key (hash, key.now) ≡ None }
+        ensures apart { Apart P.expiry_of (state_of self.now) (opens_of self.now) }
     {
         self.inflights.is_open(hash, key, fetch)
     }
@@ -135,19 +140,20 @@ impl<E: Eviction, K: Key, V: Value, P: Properties, N: Drop, R: Drop, I: Finder<K
         }
     }
 
-    /// Ends an open fetch of a key with a new record of it, as `emplace` takes one in, but with one handle for each who
+    /// Ends an open fetch of a key with a new record of it, as `emplace` takes one in at a moment, but with one handle for each who
     /// waits and none beside. The fetch is closed, and where the record is refused, those who wait get the refusal.
     /// Where that fetch is not open, nothing happens. A clone of the key must equal it.
     pub fn complete(
         &mut self,
         alloc: Global,
+        now: u64,
         fetch: u64,
         kept: Data<K, V, P>,
         source: Source,
     ) -> Ended<K, V, P, N>
         requires clones { (k c : K) → K.is_clone k c → K.eq c k ≡ true }
         ensures completed { let key : ℕ × K = (kept.hash, kept.key) in
-            CompletesBy (meaning_of self.old) (asked (Some fetch) ((opens_of self.old).by_key key)) source
+            CompletesBy (at_moment now (meaning_of self.old)) (asked (Some fetch) ((opens_of self.old).by_key key)) source
             (state_of self.old) (opens_of self.old) key kept (ending_of result) (state_of self.new)
             (opens_of self.new) }
     {
@@ -161,7 +167,7 @@ impl<E: Eviction, K: Key, V: Value, P: Properties, N: Drop, R: Drop, I: Finder<K
         let mut leaves = Vec::new(alloc);
         let came = self
             .store
-            .emplace(alloc, kept, source, further, &mut leaves);
+            .emplace(alloc, now, kept, source, further, &mut leaves);
         Ended::found(waiters, came, leaves)
     }
 
@@ -172,6 +178,7 @@ impl<E: Eviction, K: Key, V: Value, P: Properties, N: Drop, R: Drop, I: Finder<K
     pub fn complete_piece(
         &mut self,
         alloc: Global,
+        now: u64,
         hash: u64,
         key: &K,
         fetch: u64,
@@ -181,7 +188,7 @@ impl<E: Eviction, K: Key, V: Value, P: Properties, N: Drop, R: Drop, I: Finder<K
         weight: usize,
     ) -> Ended<K, V, P, N>
         requires clones { (k c : K) → K.is_clone k c → K.eq c k ≡ true }
-        ensures completed { CompletesPieceBy (meaning_of self.old)
+        ensures completed { CompletesPieceBy (at_moment now (meaning_of self.old))
             (asked (Some fetch) ((opens_of self.old).by_key (hash, key.now)))
             (λ w. w ≡ weight) own piece is_home (state_of self.old) (opens_of self.old) (hash, key.now) (ending_of result)
             (state_of self.new) (opens_of self.new) }
@@ -200,7 +207,7 @@ impl<E: Eviction, K: Key, V: Value, P: Properties, N: Drop, R: Drop, I: Finder<K
         };
         let came = self
             .store
-            .emplace_piece(alloc, piece, own, weight, further, &mut leaves);
+            .emplace_piece(alloc, now, piece, own, weight, further, &mut leaves);
         Ended::found(waiters, came, leaves)
     }
 
@@ -227,8 +234,8 @@ impl<E: Eviction, K: Key, V: Value, P: Properties, N: Drop, R: Drop, I: Finder<K
         properties: &P,
         weight: usize,
     ) -> Ended<K, V, P, N>
-        ensures completed { (source : SourceOf) (value : V)
-            → CompletesBy (meaning_of self.old) (asked (Some fetch) ((opens_of self.old).by_key (hash, key.now)))
+        ensures completed { (now : ℕ) (source : SourceOf) (value : V)
+            → CompletesBy (at_moment now (meaning_of self.old)) (asked (Some fetch) ((opens_of self.old).by_key (hash, key.now)))
             source (state_of self.old) (opens_of self.old) (hash, key.now)
             (record { key = key.now; value = value; properties = properties.now; hash = hash; weight = weight })
             (ending_of result) (state_of self.new) (opens_of self.new) }

@@ -25,15 +25,15 @@ impl<E: Eviction, K: Key, V: Value, P: Properties, N: Drop, R: Drop, I: Finder<K
 > {
     ghost use Rattle.foyer_core.specs.Shards.{state_of, meaning_of, opens_of};
     ghost use Rattle.foyer_core.specs.Bulk.{GoesOn};
-    ghost use Rattle.foyer_core.specs.State.{key_of};
+    ghost use Rattle.foyer_core.specs.State.{at_moment, key_of};
     ghost use Rattle.foyer_core.specs.Steps.{Inserts, RefusesInsert, newcomer};
     ghost use Rattle.foyer_core.specs.Pieces.{InsertsPiece, coming_under, is_known};
 
     /// Takes a new record in, and answers an entry of it, with this source, and one more for each who waits for its
     /// key, whose fetch is closed. What leaves is appended to a list. A clone of the key must equal it.
     ///
-    /// For a plain record others are evicted until the capacity has room for it, or nothing more leaves, and
-    /// then the key's record gives way (`Replace`). For a phantom one, which its properties say, the key's
+    /// For a plain record others are evicted until the capacity has room for it, or nothing more leaves, those first that
+    /// are expired at the moment, and then the key's record gives way (`Replace`). For a phantom one, which its properties say, the key's
     /// record gives way and nothing is evicted; it is told as `Remove`, is in the index at no time, and leaves
     /// with its last handle.
     ///
@@ -43,23 +43,24 @@ impl<E: Eviction, K: Key, V: Value, P: Properties, N: Drop, R: Drop, I: Finder<K
     pub fn emplace(
         &mut self,
         alloc: Global,
+        now: u64,
         kept: Data<K, V, P>,
         source: Source,
         leaves: &mut Vec<Leave<K, V, P>>,
     ) -> Result<InsertedOnto<K, V, P, N>>
         requires clones { (k c : K) → K.is_clone k c → K.eq c k ≡ true }
         ensures inserted { let handles = 1 + waiting_for (opens_of self.old) (key_of kept) in GoesOn leaves.old.items leaves.new.items (λ ls. MatchResult result
-            (λ made. Inserts (meaning_of self.old) source (state_of self.old) (newcomer (state_of self.old) kept handles) ls made.entry (state_of self.new))
-            (λ error. RefusesInsert (meaning_of self.old) (state_of self.old) (newcomer (state_of self.old) kept handles) error ls (state_of self.new))) }
+            (λ made. Inserts (at_moment now (meaning_of self.old)) source (state_of self.old) (newcomer (state_of self.old) kept handles) ls made.entry (state_of self.new))
+            (λ error. RefusesInsert (at_moment now (meaning_of self.old)) (state_of self.old) (newcomer (state_of self.old) kept handles) error ls (state_of self.new))) }
         ensures given { IfOk result (λ made. made.entry.kept ≡ kept) }
         ensures answers { IfOk result (λ made. AnswersEach (waiters_of ((opens_of self.old).by_key (key_of made.entry.kept))) made.entry made.answers) }
         ensures closed { IfOk result (λ made. opens_of self.new ≡ closed K.eq (opens_of self.old) (key_of made.entry.kept)) }
         ensures opens { OnErr result (opens_of self.new ≡ opens_of self.old) }
     {
         if !self.inflights.is_empty() {
-            return self.emplace_answering(alloc, kept, source, leaves);
+            return self.emplace_answering(alloc, now, kept, source, leaves);
         }
-        match self.store.emplace_one(alloc, kept, source, leaves) {
+        match self.store.emplace_one(alloc, now, kept, source, leaves) {
             Ok(entry) => Ok(InsertedOnto {
                 entry,
                 answers: Answers::nobody(alloc),
@@ -74,21 +75,25 @@ impl<E: Eviction, K: Key, V: Value, P: Properties, N: Drop, R: Drop, I: Finder<K
     fn emplace_answering(
         &mut self,
         alloc: Global,
+        now: u64,
         kept: Data<K, V, P>,
         source: Source,
         leaves: &mut Vec<Leave<K, V, P>>,
     ) -> Result<InsertedOnto<K, V, P, N>>
         requires clones { (k c : K) → K.is_clone k c → K.eq c k ≡ true }
         ensures inserted { let handles = 1 + waiting_for (opens_of self.old) (key_of kept) in GoesOn leaves.old.items leaves.new.items (λ ls. MatchResult result
-            (λ made. Inserts (meaning_of self.old) source (state_of self.old) (newcomer (state_of self.old) kept handles) ls made.entry (state_of self.new))
-            (λ error. RefusesInsert (meaning_of self.old) (state_of self.old) (newcomer (state_of self.old) kept handles) error ls (state_of self.new))) }
+            (λ made. Inserts (at_moment now (meaning_of self.old)) source (state_of self.old) (newcomer (state_of self.old) kept handles) ls made.entry (state_of self.new))
+            (λ error. RefusesInsert (at_moment now (meaning_of self.old)) (state_of self.old) (newcomer (state_of self.old) kept handles) error ls (state_of self.new))) }
         ensures given { IfOk result (λ made. made.entry.kept ≡ kept) }
         ensures answers { IfOk result (λ made. AnswersEach (waiters_of ((opens_of self.old).by_key (key_of made.entry.kept))) made.entry made.answers) }
         ensures closed { IfOk result (λ made. opens_of self.new ≡ closed K.eq (opens_of self.old) (key_of made.entry.kept)) }
         ensures opens { OnErr result (opens_of self.new ≡ opens_of self.old) }
     {
         let further = self.further(kept.hash, &kept.key);
-        match self.store.emplace(alloc, kept, source, further, leaves) {
+        match self
+            .store
+            .emplace(alloc, now, kept, source, further, leaves)
+        {
             Ok(made) => {
                 let Handles { entry, others } = made;
                 let answers = self.inflights.answers(&entry, others);
@@ -116,13 +121,14 @@ impl<E: Eviction, K: Key, V: Value, P: Properties, N: Drop, R: Drop, I: Finder<K
     pub fn emplace_piece(
         &mut self,
         alloc: Global,
+        now: u64,
         piece: Piece<K, V, P>,
         hash: u64,
         weight: usize,
         leaves: &mut Vec<Leave<K, V, P>>,
     ) -> Result<InsertedOnto<K, V, P, N>>
         requires clones { (k c : K) → K.is_clone k c → K.eq c k ≡ true }
-        ensures inserted { GoesOn leaves.old.items leaves.new.items (λ ls. InsertsPiece (meaning_of self.old) (λ w. w ≡ weight) hash piece
+        ensures inserted { GoesOn leaves.old.items leaves.new.items (λ ls. InsertsPiece (at_moment now (meaning_of self.old)) (λ w. w ≡ weight) hash piece
             (1 + waiting_for (opens_of self.old) (coming_under (state_of self.old) hash piece))
             (insertion_onto result ls) (state_of self.old) (state_of self.new)) }
         ensures answers { IfOk result (λ made. AnswersEach (waiters_of ((opens_of self.old).by_key (key_of made.entry.kept))) made.entry made.answers) }
@@ -132,7 +138,7 @@ impl<E: Eviction, K: Key, V: Value, P: Properties, N: Drop, R: Drop, I: Finder<K
         let further = self.further_of(hash, &piece);
         match self
             .store
-            .emplace_piece(alloc, piece, hash, weight, further, leaves)
+            .emplace_piece(alloc, now, piece, hash, weight, further, leaves)
         {
             Ok(made) => {
                 let Handles { entry, others } = made;

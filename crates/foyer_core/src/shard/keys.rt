@@ -19,14 +19,14 @@ impl<E: Eviction, K: Key, V: Value, P: Properties, N: Drop, R: Drop, I: Finder<K
     ghost use Rattle.foyer_core.specs.Shards.{state_of, meaning_of, opens_of};
     ghost use Rattle.foyer_core.specs.Steps.{Touches, Removes};
 
-    /// Whether the key's record is in the index; if it is, that counts as a use, as a `get` does whose entry
-    /// is given back at once. Refused at the limit of handles alone (F9); then nothing has changed. It takes no
+    /// Whether the key's record is in the index and not expired at a moment; if so, that counts as a use, as a `get` does
+    /// whose entry is given back at once. Refused at the limit of handles alone (F9); then nothing has changed. It takes no
     /// memory.
-    pub fn touch(&mut self, hash: u64, key: &K) -> Result<bool>
-        ensures touches { Touches (meaning_of self.old) (state_of self.old) (hash, key.now) result (state_of self.new) }
+    pub fn touch(&mut self, now: u64, hash: u64, key: &K) -> Result<bool>
+        ensures touches { Touches (meaning_of self.old) now (state_of self.old) (hash, key.now) result (state_of self.new) }
         ensures opens { opens_of self.new ≡ opens_of self.old }
     {
-        self.store.touch(hash, key)
+        self.store.touch(now, hash, key)
     }
 
     /// Takes the key's record out, where it is in the index, and answers an entry of it, which counts as a

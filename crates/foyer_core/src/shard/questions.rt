@@ -22,14 +22,14 @@ impl<E: Eviction, K: Key, V: Value, P: Properties, N: Drop, R: Drop, I: Finder<K
     ghost use Rattle.foyer_core.specs.Steps.{Gets, MayBy, RefusesInsert, newcomer};
     ghost use Rattle.foyer_core.specs.Waited.{waiting_for};
 
-    /// Why a `get` of a key would be refused now, whatever memory there is: where its record has as many handles as one
-    /// may have (F9). Else none, also where the key has no record in the index.
-    pub fn refuses_get(&self, hash: u64, key: &K) -> Option<Reason>
+    /// Why a `get` of a key at a moment would be refused, whatever memory there is: where its record has as many handles as
+    /// one may have (F9). Else none, also where the key has no record in the index, or an expired one.
+    pub fn refuses_get(&self, now: u64, hash: u64, key: &K) -> Option<Reason>
         ensures some { IfSome result (λ reason. (reason ≡ Handles)
-            × Gets (meaning_of self.now) (state_of self.now) (hash, key.now) (Err Handles) (state_of self.now)) }
-        ensures none { IfNone result (MayGet (state_of self.now) (hash, key.now)) }
+            × Gets (meaning_of self.now) now (state_of self.now) (hash, key.now) (Err Handles) (state_of self.now)) }
+        ensures none { IfNone result (MayGet (meaning_of self.now) now (state_of self.now) (hash, key.now)) }
     {
-        self.store.get_refusal(hash, key)
+        self.store.get_refusal(now, hash, key)
     }
 
     /// Why an `emplace` of a record with this key, these properties and this weight would be refused now, whatever its

@@ -12,6 +12,7 @@ impl<E: Eviction, K: Key, V: Value, P: Properties, I: Finder<K>> Store<E, K, V, 
     ghost use Rattle.foyer_core.specs.Stores.{state_of, meaning_of};
     ghost use Rattle.foyer_core.specs.Bulk.{GoesOn, after_capacity, after_update, EvictsUnpinned, EvictingUnpinned};
     ghost use Rattle.foyer_core.specs.CoreBulk.{EvictsToCapacity, EvictingToCapacity};
+    ghost use Rattle.foyer_core.specs.State.{at_moment};
 
     /// Sets the weight that the records may have together, and tells the policy. Nothing leaves, even where the
     /// usage is above it. It takes no memory.
@@ -40,32 +41,32 @@ impl<E: Eviction, K: Key, V: Value, P: Properties, I: Finder<K>> Store<E, K, V, 
         tell_config(&mut self.eviction, self.capacity, config);
     }
 
-    /// Evicts until the usage is at most the capacity, or nothing more leaves, and appends what leaves. Refused
-    /// for want of memory alone (F7); then some beginning of the evictions has left, and stands in the list.
-    pub fn evict_to_capacity(&mut self, leaves: &mut Vec<Leave<K, V, P>>) -> Result<()>
+    /// Evicts, at a moment, until the usage is at most the capacity, or nothing more leaves, and appends what leaves.
+    /// Refused for want of memory alone (F7); then some beginning of the evictions has left, and stands in the list.
+    pub fn evict_to_capacity(&mut self, now: u64, leaves: &mut Vec<Leave<K, V, P>>) -> Result<()>
         ensures done { OnOk result (GoesOn leaves.old.items leaves.new.items
-            (λ ls. EvictsToCapacity (meaning_of self.old) (state_of self.old) ls (state_of self.new))) }
+            (λ ls. EvictsToCapacity (at_moment now (meaning_of self.old)) (state_of self.old) ls (state_of self.new))) }
         ensures refused { OnErr result (GoesOn leaves.old.items leaves.new.items
-            (λ ls. EvictingToCapacity (meaning_of self.old) (state_of self.old) ls (state_of self.new))) }
+            (λ ls. EvictingToCapacity (at_moment now (meaning_of self.old)) (state_of self.old) ls (state_of self.new))) }
         ensures reason { IfErr result (λ e. e ≡ NoMemory) }
     {
-        self.evict_onto(leaves, self.capacity)
+        self.evict_onto(now, leaves, self.capacity)
     }
 
-    /// Evicts all that is not pinned, in the order in which the policy gives it, and appends what leaves.
-    /// Refused for want of memory alone (F7); then some beginning of it has left, and stands in the list.
-    pub fn evict_unpinned(&mut self, leaves: &mut Vec<Leave<K, V, P>>) -> Result<()>
+    /// Evicts, at a moment, all that is not pinned, what is due first and then in the order in which the policy gives it,
+    /// and appends what leaves. Refused for want of memory alone (F7); then some beginning of it has left, and stands in the list.
+    pub fn evict_unpinned(&mut self, now: u64, leaves: &mut Vec<Leave<K, V, P>>) -> Result<()>
         ensures done { OnOk result (GoesOn leaves.old.items leaves.new.items
-            (λ ls. EvictsUnpinned (meaning_of self.old) (state_of self.old) ls (state_of self.new))) }
+            (λ ls. EvictsUnpinned (at_moment now (meaning_of self.old)) (state_of self.old) ls (state_of self.new))) }
         ensures refused { OnErr result (GoesOn leaves.old.items leaves.new.items
-            (λ ls. EvictingUnpinned (meaning_of self.old) (state_of self.old) ls (state_of self.new))) }
+            (λ ls. EvictingUnpinned (at_moment now (meaning_of self.old)) (state_of self.old) ls (state_of self.new))) }
         ensures reason { IfErr result (λ e. e ≡ NoMemory) }
     {
         loop {
             let Ok(()) = leaves.reserve(1) else {
                 return Err(Error::new(Reason::NoMemory));
             };
-            match self.evict_one() {
+            match self.evict_one(now) {
                 Ok(Some(left)) => leaves.push_reserved((Event::Evict, left)),
                 Ok(None) => return Ok(()),
                 Err(_) => return Err(Error::new(Reason::NoMemory)),

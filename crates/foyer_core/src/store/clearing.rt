@@ -9,7 +9,7 @@ ghost use Rattle.foyer_core.specs.Steps.{outside};
 ghost use Rattle.foyer_core.specs.Values.{Kept};
 ghost use Rattle.foyer_core.specs.Stored.{meaning};
 ghost use Rattle.foyer_core.specs.Table.{rec_of, slot_outside};
-ghost use Rattle.foyer_core.specs.Records.{slot_in, record_in, HasRoom};
+ghost use Rattle.foyer_core.specs.Records.{count_in, slot_in, record_in, HasRoom};
 
 use super::Store;
 use crate::entry::{Leave, Left};
@@ -99,6 +99,7 @@ pub(super) fn leave_slot<K: Key, V: Drop, P: Drop, I: Finder<K>>(
     ensures records { (s : Kept K V P) → slot_in records.old slot ≡ Some s → (id : ℕ)
         → record_in records.new id ≡ update nat_eq (record_in records.old) s.id (outside (rec_of s)) id }
     ensures room { HasRoom records.old → HasRoom records.new }
+    ensures count { count_in records.new ≡ count_in records.old }
 {
     let Some(found) = records.get(slot) else {
         unreachable!();

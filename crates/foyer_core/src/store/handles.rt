@@ -5,7 +5,7 @@ ghost use Rattle.foyer_core.specs.Values.{Kept};
 ghost use Rattle.foyer_core.specs.Records.{slot_in};
 ghost use Rattle.foyer_core.specs.Table.{rec_of};
 
-use super::Store;
+use super::{Store, sooner};
 use crate::entry::{CoreEntry, Leave};
 use crate::finder::Finder;
 use crate::slot::Slot;
@@ -16,14 +16,14 @@ impl<E: Eviction, K: Key, V: Value, P: Properties, I: Finder<K>> Store<E, K, V, 
     ghost use Rattle.foyer_core.specs.State.{handles_in};
     ghost use Rattle.foyer_core.specs.Steps.{Gets, GivesBack};
 
-    /// An entry of the key's record, where it is in the index, which counts as a handle and as a use.
-    /// Refused at the limit of handles (F9), or where the record could not be shared (F7); then nothing
+    /// An entry of the key's record, where it is in the index and not expired at a moment, which counts as a handle and as
+    /// a use. Refused at the limit of handles (F9), or where the record could not be shared (F7); then nothing
     /// has changed. It allocates nothing.
     #[inline(always)]
-    pub fn get(&mut self, hash: u64, key: &K) -> Result<Option<CoreEntry<K, V, P>>>
-        ensures gets { Gets (meaning_of self.old) (state_of self.old) (hash, key.now) result (state_of self.new) }
+    pub fn get(&mut self, now: u64, hash: u64, key: &K) -> Result<Option<CoreEntry<K, V, P>>>
+        ensures gets { Gets (meaning_of self.old) now (state_of self.old) (hash, key.now) result (state_of self.new) }
     {
-        let Some(slot) = self.slot_under(hash, key) else {
+        let Some(slot) = self.live_under(now, hash, key) else {
             return Ok(None);
         };
         let Some(found) = self.records.get(slot) else {
@@ -80,8 +80,10 @@ impl<E: Eviction, K: Key, V: Value, P: Properties, I: Finder<K>> Store<E, K, V, 
         if !found.is_resident() {
             return Ok(self.forget(slot));
         }
+        let expires = found.properties().expiry();
         self.records.take_handle(slot);
         self.eviction.release(Place::at(slot));
+        self.soonest = sooner(self.soonest, expires);
         Ok(None)
     }
 

@@ -18,7 +18,7 @@ use std::alloc::Global;
 
 impl<E: Eviction, K: Key, V: Value, P: Properties, I: Finder<K>> Store<E, K, V, P, I> {
     ghost use Rattle.foyer_core.specs.Stores.{state_of, meaning_of, HasPlaces};
-    ghost use Rattle.foyer_core.specs.State.{is_phantom_record};
+    ghost use Rattle.foyer_core.specs.State.{at_moment, is_phantom_record};
     ghost use Rattle.foyer_core.specs.Bulk.{GoesOn};
     ghost use Rattle.foyer_core.specs.Steps.{Inserts, RefusesInsert, RefusesPlain, MayBy, MayInsert, newcomer};
     ghost use Rattle.foyer_core.specs.Settled.{Settles, SettlesPlain};
@@ -26,8 +26,8 @@ impl<E: Eviction, K: Key, V: Value, P: Properties, I: Finder<K>> Store<E, K, V, 
     /// Takes a new record in, and answers handles of it, with this source: one, and as many further ones as are said.
     /// What leaves is appended to a list. A clone of the key must equal it.
     ///
-    /// For a plain record others are evicted until the capacity has room for it, or nothing more leaves, and
-    /// then the key's record gives way (`Replace`). For a phantom one, which its properties say, the key's
+    /// For a plain record others are evicted until the capacity has room for it, or nothing more leaves, those first that
+    /// are expired at the moment, and then the key's record gives way (`Replace`). For a phantom one, which its properties say, the key's
     /// record gives way and nothing is evicted; it is told as `Remove`, is in the index at no time, and leaves
     /// with its last handle.
     ///
@@ -37,6 +37,7 @@ impl<E: Eviction, K: Key, V: Value, P: Properties, I: Finder<K>> Store<E, K, V, 
     pub(crate) fn emplace(
         &mut self,
         alloc: Global,
+        now: u64,
         kept: Data<K, V, P>,
         source: Source,
         further: Further,
@@ -45,9 +46,9 @@ impl<E: Eviction, K: Key, V: Value, P: Properties, I: Finder<K>> Store<E, K, V, 
         requires clones { (k c : K) → K.is_clone k c → K.eq c k ≡ true }
         requires listed { further.count + further.room < 2 ^ 64 }
         ensures inserted { GoesOn leaves.old.items leaves.new.items (λ ls. MatchResult result
-            (λ made. Inserts (meaning_of self.old) source (state_of self.old)
+            (λ made. Inserts (at_moment now (meaning_of self.old)) source (state_of self.old)
             (newcomer (state_of self.old) kept (1 + further.count)) ls made.entry (state_of self.new))
-            (λ error. RefusesInsert (meaning_of self.old) (state_of self.old)
+            (λ error. RefusesInsert (at_moment now (meaning_of self.old)) (state_of self.old)
             (newcomer (state_of self.old) kept (1 + further.count)) error ls (state_of self.new))) }
         ensures others { IfOk result (λ made. made.others.items ≡ replicate further.count made.entry) }
         ensures room { IfOk result (λ made. vec_len made.others + further.room ≤ vec_capacity made.others) }
@@ -60,7 +61,7 @@ impl<E: Eviction, K: Key, V: Value, P: Properties, I: Finder<K>> Store<E, K, V, 
             return Err(Error::new(Reason::NoMemory));
         };
         let slot = Slot::outside(share, id, 1 + further.count);
-        self.come(alloc, slot, source, further, leaves)
+        self.come(alloc, now, slot, source, further, leaves)
     }
 
     /// The same with one entry alone, for which no list is made.
@@ -68,14 +69,15 @@ impl<E: Eviction, K: Key, V: Value, P: Properties, I: Finder<K>> Store<E, K, V, 
     pub(crate) fn emplace_one(
         &mut self,
         alloc: Global,
+        now: u64,
         kept: Data<K, V, P>,
         source: Source,
         leaves: &mut Vec<Leave<K, V, P>>,
     ) -> Result<CoreEntry<K, V, P>>
         requires clones { (k c : K) → K.is_clone k c → K.eq c k ≡ true }
         ensures inserted { GoesOn leaves.old.items leaves.new.items (λ ls. MatchResult result
-            (λ entry. Inserts (meaning_of self.old) source (state_of self.old) (newcomer (state_of self.old) kept 1) ls entry (state_of self.new))
-            (λ error. RefusesInsert (meaning_of self.old) (state_of self.old) (newcomer (state_of self.old) kept 1) error ls (state_of self.new))) }
+            (λ entry. Inserts (at_moment now (meaning_of self.old)) source (state_of self.old) (newcomer (state_of self.old) kept 1) ls entry (state_of self.new))
+            (λ error. RefusesInsert (at_moment now (meaning_of self.old)) (state_of self.old) (newcomer (state_of self.old) kept 1) error ls (state_of self.new))) }
     {
         if let Some(reason) = self.data_refusal(&kept, 0) {
             return Err(Error::new(reason));
@@ -85,7 +87,7 @@ impl<E: Eviction, K: Key, V: Value, P: Properties, I: Finder<K>> Store<E, K, V, 
             return Err(Error::new(Reason::NoMemory));
         };
         let slot = Slot::outside(share, id, 1);
-        self.arrive(slot, source, leaves)
+        self.arrive(now, slot, source, leaves)
     }
 
     // A record comes in that is not refused but for want of memory, and handles of it are made. What leaves is appended
@@ -94,6 +96,7 @@ impl<E: Eviction, K: Key, V: Value, P: Properties, I: Finder<K>> Store<E, K, V, 
     pub(super) fn come(
         &mut self,
         alloc: Global,
+        now: u64,
         slot: Slot<K, V, P>,
         source: Source,
         further: Further,
@@ -107,15 +110,15 @@ impl<E: Eviction, K: Key, V: Value, P: Properties, I: Finder<K>> Store<E, K, V, 
         requires may { MayBy (meaning_of self.old) (is_phantom_record (meaning_of self.old) slot.kept) (state_of self.old) (incoming_of slot) }
         requires listed { further.count + further.room < 2 ^ 64 }
         ensures inserted { GoesOn leaves.old.items leaves.new.items (λ ls. MatchResult result
-            (λ made. Inserts (meaning_of self.old) source (state_of self.old) (incoming_of slot) ls made.entry (state_of self.new))
-            (λ error. RefusesInsert (meaning_of self.old) (state_of self.old) (incoming_of slot) error ls (state_of self.new))) }
+            (λ made. Inserts (at_moment now (meaning_of self.old)) source (state_of self.old) (incoming_of slot) ls made.entry (state_of self.new))
+            (λ error. RefusesInsert (at_moment now (meaning_of self.old)) (state_of self.old) (incoming_of slot) error ls (state_of self.new))) }
         ensures others { IfOk result (λ made. made.others.items ≡ replicate further.count made.entry) }
         ensures room { IfOk result (λ made. vec_len made.others + further.room ≤ vec_capacity made.others) }
     {
         let Ok(others) = slot.entries(alloc, self.number, source, further) else {
             return Err(Error::new(Reason::NoMemory));
         };
-        match self.arrive(slot, source, leaves) {
+        match self.arrive(now, slot, source, leaves) {
             Ok(entry) => Ok(Handles { entry, others }),
             Err(error) => {
                 discard_all(others);
@@ -128,6 +131,7 @@ impl<E: Eviction, K: Key, V: Value, P: Properties, I: Finder<K>> Store<E, K, V, 
     #[inline(always)]
     fn arrive(
         &mut self,
+        now: u64,
         slot: Slot<K, V, P>,
         source: Source,
         leaves: &mut Vec<Leave<K, V, P>>,
@@ -139,13 +143,13 @@ impl<E: Eviction, K: Key, V: Value, P: Properties, I: Finder<K>> Store<E, K, V, 
         requires held { 0 < slot.handles }
         requires may { MayBy (meaning_of self.old) (is_phantom_record (meaning_of self.old) slot.kept) (state_of self.old) (incoming_of slot) }
         ensures inserted { GoesOn leaves.old.items leaves.new.items (λ ls. MatchResult result
-            (λ entry. Inserts (meaning_of self.old) source (state_of self.old) (incoming_of slot) ls entry (state_of self.new))
-            (λ error. RefusesInsert (meaning_of self.old) (state_of self.old) (incoming_of slot) error ls (state_of self.new))) }
+            (λ entry. Inserts (at_moment now (meaning_of self.old)) source (state_of self.old) (incoming_of slot) ls entry (state_of self.new))
+            (λ error. RefusesInsert (at_moment now (meaning_of self.old)) (state_of self.old) (incoming_of slot) error ls (state_of self.new))) }
     {
         let Ok(mut entry) = slot.entry(self.number, 0, source) else {
             return Err(Error::new(Reason::NoMemory));
         };
-        match self.settle(slot, leaves) {
+        match self.settle(now, slot, leaves) {
             Ok(place) => {
                 entry.set_slot(place);
                 Ok(entry)
@@ -159,7 +163,12 @@ impl<E: Eviction, K: Key, V: Value, P: Properties, I: Finder<K>> Store<E, K, V, 
 
     // The same with no entry: it answers the slot where the record is. An entry with any source would be of it.
     #[inline(always)]
-    fn settle(&mut self, slot: Slot<K, V, P>, leaves: &mut Vec<Leave<K, V, P>>) -> Result<usize>
+    fn settle(
+        &mut self,
+        now: u64,
+        slot: Slot<K, V, P>,
+        leaves: &mut Vec<Leave<K, V, P>>,
+    ) -> Result<usize>
         requires clones { (k c : K) → K.is_clone k c → K.eq c k ≡ true }
         requires apart { slot ≡ record slot { resident = false } }
         requires out { (r : Rec K V P) → (state_of self.old).records slot.id ≡ Some r → r.resident ≡ false }
@@ -167,13 +176,13 @@ impl<E: Eviction, K: Key, V: Value, P: Properties, I: Finder<K>> Store<E, K, V, 
         requires held { 0 < slot.handles }
         requires may { MayBy (meaning_of self.old) (is_phantom_record (meaning_of self.old) slot.kept) (state_of self.old) (incoming_of slot) }
         ensures inserted { (source : Source) → GoesOn leaves.old.items leaves.new.items (λ ls. MatchResult result
-            (λ _. Settles (meaning_of self.old) source (state_of self.old) (incoming_of slot) ls (state_of self.new))
-            (λ error. RefusesInsert (meaning_of self.old) (state_of self.old) (incoming_of slot) error ls (state_of self.new))) }
+            (λ _. Settles (at_moment now (meaning_of self.old)) source (state_of self.old) (incoming_of slot) ls (state_of self.new))
+            (λ error. RefusesInsert (at_moment now (meaning_of self.old)) (state_of self.old) (incoming_of slot) error ls (state_of self.new))) }
     {
         if slot.properties().phantom().unwrap_or(false) {
             return self.hold_in(slot, leaves);
         }
-        self.bring_in(slot, leaves)
+        self.bring_in(now, slot, leaves)
     }
 
     // Brings a plain record in, which is not refused but for want of memory: one with a new id, or one that
@@ -181,6 +190,7 @@ impl<E: Eviction, K: Key, V: Value, P: Properties, I: Finder<K>> Store<E, K, V, 
     #[inline(always)]
     fn bring_in(
         &mut self,
+        now: u64,
         mut slot: Slot<K, V, P>,
         leaves: &mut Vec<Leave<K, V, P>>,
     ) -> Result<usize>
@@ -191,14 +201,14 @@ impl<E: Eviction, K: Key, V: Value, P: Properties, I: Finder<K>> Store<E, K, V, 
         requires held { 0 < slot.handles }
         requires may { MayInsert (meaning_of self.old) (state_of self.old) (incoming_of slot) }
         ensures inserted { (source : Source) → GoesOn leaves.old.items leaves.new.items (λ ls. MatchResult result
-            (λ _. SettlesPlain (meaning_of self.old) source (state_of self.old) (incoming_of slot) ls (state_of self.new))
-            (λ error. RefusesPlain (meaning_of self.old) (state_of self.old) (incoming_of slot) error ls (state_of self.new))) }
+            (λ _. SettlesPlain (at_moment now (meaning_of self.old)) source (state_of self.old) (incoming_of slot) ls (state_of self.new))
+            (λ error. RefusesPlain (at_moment now (meaning_of self.old)) (state_of self.old) (incoming_of slot) error ls (state_of self.new))) }
     {
         let target = self.capacity.saturating_sub(slot.weight());
         let Ok(key) = self.prepare(&mut slot, leaves) else {
             return Err(Error::new(Reason::NoMemory));
         };
-        let Ok(()) = self.evict_onto(leaves, target) else {
+        let Ok(()) = self.evict_onto(now, leaves, target) else {
             return Err(Error::new(Reason::NoMemory));
         };
         match self.admit(key, slot) {

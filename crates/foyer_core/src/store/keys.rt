@@ -2,7 +2,7 @@
 
 ghost use Rattle.std.specs.Prelude.{◌≡◌};
 
-use super::Store;
+use super::{Store, sooner};
 use crate::entry::{CoreEntry, Left};
 use crate::finder::Finder;
 use foyer_policy::{Error, Eviction, Key, Place, Properties, Reason, Result, Source, Value};
@@ -11,13 +11,13 @@ impl<E: Eviction, K: Key, V: Value, P: Properties, I: Finder<K>> Store<E, K, V, 
     ghost use Rattle.foyer_core.specs.Stores.{state_of, meaning_of};
     ghost use Rattle.foyer_core.specs.Steps.{Touches, Removes};
 
-    /// Whether the key's record is in the index; if it is, that counts as a use, as a `get` does whose entry
-    /// is given back at once. Refused at the limit of handles alone (F9); then nothing has changed. It takes no
+    /// Whether the key's record is in the index and not expired at a moment; if so, that counts as a use, as a `get` does
+    /// whose entry is given back at once. Refused at the limit of handles alone (F9); then nothing has changed. It takes no
     /// memory.
-    pub fn touch(&mut self, hash: u64, key: &K) -> Result<bool>
-        ensures touches { Touches (meaning_of self.old) (state_of self.old) (hash, key.now) result (state_of self.new) }
+    pub fn touch(&mut self, now: u64, hash: u64, key: &K) -> Result<bool>
+        ensures touches { Touches (meaning_of self.old) now (state_of self.old) (hash, key.now) result (state_of self.new) }
     {
-        let Some(slot) = self.slot_under(hash, key) else {
+        let Some(slot) = self.live_under(now, hash, key) else {
             return Ok(false);
         };
         let Some(found) = self.records.get(slot) else {
@@ -27,12 +27,14 @@ impl<E: Eviction, K: Key, V: Value, P: Properties, I: Finder<K>> Store<E, K, V, 
         if handles >= self.limits.handles {
             return Err(Error::new(Reason::Handles));
         }
+        let expires = found.properties().expiry();
         let place = Place::at(slot);
         self.eviction.acquire(place);
         if handles > 0 {
             return Ok(true);
         }
         self.eviction.release(place);
+        self.soonest = sooner(self.soonest, expires);
         Ok(true)
     }
 

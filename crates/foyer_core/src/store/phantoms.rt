@@ -1,6 +1,6 @@
 //! Phantom records, which are held and never in the index.
 
-ghost use Rattle.std.specs.Prelude.{◌≡◌, ◌+◌, ◌<◌, ◌≤◌, ◌^◌, Some, None, OnOk, IfOk, MatchResult, false, vec_len, vec_capacity};
+ghost use Rattle.std.specs.Prelude.{◌≡◌, ℕ, ◌+◌, ◌<◌, ◌≤◌, ◌^◌, Some, None, OnOk, IfOk, MatchResult, false, vec_len, vec_capacity};
 ghost use Rattle.foyer_policy.specs.declared.types.Source.{Source};
 ghost use Rattle.foyer_core.specs.Records.{HasRoom};
 ghost use Rattle.foyer_core.specs.Values.{Rec, incoming_of};
@@ -15,6 +15,7 @@ use foyer_policy::{Error, Event, Eviction, Key, Properties, Reason, Result, Valu
 impl<E: Eviction, K: Key, V: Value, P: Properties, I: Finder<K>> Store<E, K, V, P, I> {
     ghost use Rattle.foyer_core.specs.Stores.{state_of, meaning_of};
     ghost use Rattle.foyer_core.specs.Bulk.{GoesOn};
+    ghost use Rattle.foyer_core.specs.State.{at_moment};
     ghost use Rattle.foyer_core.specs.Steps.{RefusesPhantom, GivesWay, MayHold, after_hold, replaced_leaves};
     ghost use Rattle.foyer_core.specs.Settled.{SettlesPhantom};
 
@@ -32,9 +33,9 @@ impl<E: Eviction, K: Key, V: Value, P: Properties, I: Finder<K>> Store<E, K, V, 
         requires number { slot.id + 1 < 2 ^ 64 }
         requires held { 0 < slot.handles }
         requires may { MayHold (meaning_of self.old) (state_of self.old) (incoming_of slot) }
-        ensures inserted { (source : Source) → GoesOn leaves.old.items leaves.new.items (λ ls. MatchResult result
-            (λ _. SettlesPhantom (meaning_of self.old) source (state_of self.old) (incoming_of slot) ls (state_of self.new))
-            (λ error. RefusesPhantom (meaning_of self.old) (state_of self.old) (incoming_of slot) error ls (state_of self.new))) }
+        ensures inserted { (now : ℕ) (source : Source) → GoesOn leaves.old.items leaves.new.items (λ ls. MatchResult result
+            (λ _. SettlesPhantom (at_moment now (meaning_of self.old)) source (state_of self.old) (incoming_of slot) ls (state_of self.new))
+            (λ error. RefusesPhantom (at_moment now (meaning_of self.old)) (state_of self.old) (incoming_of slot) error ls (state_of self.new))) }
     {
         let Ok(gone) = self.prepare_phantom(&slot, leaves) else {
             return Err(Error::new(Reason::NoMemory));

@@ -14,7 +14,7 @@ use foyer_policy::{Error, Event, Eviction, Item, Key, Place, Properties, Reason,
 use std::alloc::Global;
 
 impl<E: Eviction, K: Key, V: Value, P: Properties, I: Finder<K>> Store<E, K, V, P, I> {
-    ghost use Rattle.foyer_core.specs.Stores.{state_of, meaning_of};
+    ghost use Rattle.foyer_core.specs.Stores.{state_of, meaning_of, HasPlaces};
     ghost use Rattle.foyer_core.specs.Bulk.{GoesOn, TakesRecordOut, TakesOut, Picks, Says, Answers};
 
     /// The items of the records of which the predicate says yes, pinned or not, in the policy's order. It is
@@ -74,6 +74,7 @@ impl<E: Eviction, K: Key, V: Value, P: Properties, I: Finder<K>> Store<E, K, V, 
         requires { 0 < count_of id (E.model.order (E.view self.old.eviction)) }
         ensures taken { TakesRecordOut (meaning_of self.old) (state_of self.old) id result (state_of self.new) }
         ensures room { HasRoom self.old.records → HasRoom self.new.records }
+        ensures places { HasPlaces self.old → HasPlaces self.new }
     {
         let Some(slot) = self.records.find(id, 0) else {
             unreachable!();

@@ -18,6 +18,7 @@ use std::alloc::Global;
 impl<E: Eviction, K: Key, V: Value, P: Properties, I: Finder<K>> Store<E, K, V, P, I> {
     ghost use Rattle.foyer_core.specs.Stores.{state_of, meaning_of};
     ghost use Rattle.foyer_core.specs.Bulk.{GoesOn};
+    ghost use Rattle.foyer_core.specs.State.{at_moment};
     ghost use Rattle.foyer_core.specs.Steps.{Inserts, RefusesHandles, RefusesInsert};
     ghost use Rattle.foyer_core.specs.Pieces.{GainsHandles, InsertsPiece, Returns, RefusesReturn, coming_under, is_known};
 
@@ -54,6 +55,7 @@ impl<E: Eviction, K: Key, V: Value, P: Properties, I: Finder<K>> Store<E, K, V, 
     pub(crate) fn emplace_piece(
         &mut self,
         alloc: Global,
+        now: u64,
         piece: Piece<K, V, P>,
         hash: u64,
         weight: usize,
@@ -63,21 +65,21 @@ impl<E: Eviction, K: Key, V: Value, P: Properties, I: Finder<K>> Store<E, K, V, 
         requires clones { (k c : K) → K.is_clone k c → K.eq c k ≡ true }
         requires listed { further.count + further.room < 2 ^ 64 }
         ensures inserted { GoesOn leaves.old.items leaves.new.items (λ ls.
-            InsertsPiece (meaning_of self.old) (λ w. w ≡ weight) hash piece (1 + further.count)
+            InsertsPiece (at_moment now (meaning_of self.old)) (λ w. w ≡ weight) hash piece (1 + further.count)
             (handles_onto result ls) (state_of self.old) (state_of self.new)) }
         ensures others { IfOk result (λ made. made.others.items ≡ replicate further.count made.entry) }
         ensures room { IfOk result (λ made. vec_len made.others + further.room ≤ vec_capacity made.others) }
     {
         if !self.knows(hash, &piece) {
             let slot = Slot::outside(piece.into_share().with(hash, weight), self.next, 1);
-            return self.come_in(alloc, slot, further, leaves);
+            return self.come_in(alloc, now, slot, further, leaves);
         }
         let id = piece.id();
         match self.records.find(id, piece.slot()) {
-            Some(slot) => self.come_back(alloc, slot, further, leaves),
+            Some(slot) => self.come_back(alloc, now, slot, further, leaves),
             None => {
                 let slot = Slot::outside(piece.into_share(), id, 1);
-                self.come_in(alloc, slot, further, leaves)
+                self.come_in(alloc, now, slot, further, leaves)
             }
         }
     }
@@ -86,6 +88,7 @@ impl<E: Eviction, K: Key, V: Value, P: Properties, I: Finder<K>> Store<E, K, V, 
     fn come_back(
         &mut self,
         alloc: Global,
+        now: u64,
         slot: usize,
         further: Further,
         leaves: &mut Vec<Leave<K, V, P>>,
@@ -95,8 +98,8 @@ impl<E: Eviction, K: Key, V: Value, P: Properties, I: Finder<K>> Store<E, K, V, 
         requires listed { further.count + further.room < 2 ^ 64 }
         ensures returned { (s : Kept K V P) → slot_in self.old.records slot ≡ Some s → (piece : Carried K V P) → piece.id ≡ s.id
             → GoesOn leaves.old.items leaves.new.items (λ ls. MatchResult result
-            (λ made. Returns (meaning_of self.old) (state_of self.old) piece (1 + further.count) ls made.entry (state_of self.new))
-            (λ error. RefusesReturn (meaning_of self.old) (state_of self.old) piece (1 + further.count) error ls (state_of self.new))) }
+            (λ made. Returns (at_moment now (meaning_of self.old)) (state_of self.old) piece (1 + further.count) ls made.entry (state_of self.new))
+            (λ error. RefusesReturn (at_moment now (meaning_of self.old)) (state_of self.old) piece (1 + further.count) error ls (state_of self.new))) }
         ensures others { IfOk result (λ made. made.others.items ≡ replicate further.count made.entry) }
         ensures room { IfOk result (λ made. vec_len made.others + further.room ≤ vec_capacity made.others) }
     {
@@ -106,7 +109,7 @@ impl<E: Eviction, K: Key, V: Value, P: Properties, I: Finder<K>> Store<E, K, V, 
         if found.is_resident() {
             return self.hand_out(alloc, slot, further);
         }
-        self.come_again(alloc, slot, further, leaves)
+        self.come_again(alloc, now, slot, further, leaves)
     }
 
     // A record that is in the index has more handles.
@@ -140,6 +143,7 @@ impl<E: Eviction, K: Key, V: Value, P: Properties, I: Finder<K>> Store<E, K, V, 
     fn come_again(
         &mut self,
         alloc: Global,
+        now: u64,
         slot: usize,
         further: Further,
         leaves: &mut Vec<Leave<K, V, P>>,
@@ -149,9 +153,9 @@ impl<E: Eviction, K: Key, V: Value, P: Properties, I: Finder<K>> Store<E, K, V, 
         requires listed { further.count + further.room < 2 ^ 64 }
         ensures inserted { (s : Kept K V P) → slot_in self.old.records slot ≡ Some s
             → GoesOn leaves.old.items leaves.new.items (λ ls. MatchResult result
-            (λ made. Inserts (meaning_of self.old) Memory (state_of self.old)
+            (λ made. Inserts (at_moment now (meaning_of self.old)) Memory (state_of self.old)
             (record { id = s.id; kept = s.kept; handles = s.handles + 1 + further.count }) ls made.entry (state_of self.new))
-            (λ error. RefusesInsert (meaning_of self.old) (state_of self.old)
+            (λ error. RefusesInsert (at_moment now (meaning_of self.old)) (state_of self.old)
             (record { id = s.id; kept = s.kept; handles = s.handles + 1 + further.count }) error ls (state_of self.new))) }
         ensures others { IfOk result (λ made. made.others.items ≡ replicate further.count made.entry) }
         ensures room { IfOk result (λ made. vec_len made.others + further.room ≤ vec_capacity made.others) }
@@ -168,13 +172,14 @@ impl<E: Eviction, K: Key, V: Value, P: Properties, I: Finder<K>> Store<E, K, V, 
         };
         let id = found.id();
         let slot = Slot::outside(share, id, handles + 1 + further.count);
-        self.come(alloc, slot, Source::Memory, further, leaves)
+        self.come(alloc, now, slot, Source::Memory, further, leaves)
     }
 
     // A record that is in nothing comes in, or is refused.
     fn come_in(
         &mut self,
         alloc: Global,
+        now: u64,
         mut slot: Slot<K, V, P>,
         further: Further,
         leaves: &mut Vec<Leave<K, V, P>>,
@@ -184,9 +189,9 @@ impl<E: Eviction, K: Key, V: Value, P: Properties, I: Finder<K>> Store<E, K, V, 
         requires out { (r : Rec K V P) → (state_of self.old).records slot.id ≡ Some r → r.resident ≡ false }
         requires listed { further.count + further.room < 2 ^ 64 }
         ensures inserted { GoesOn leaves.old.items leaves.new.items (λ ls. MatchResult result
-            (λ made. Inserts (meaning_of self.old) Memory (state_of self.old)
+            (λ made. Inserts (at_moment now (meaning_of self.old)) Memory (state_of self.old)
             (record (incoming_of slot) { handles = 1 + further.count }) ls made.entry (state_of self.new))
-            (λ error. RefusesInsert (meaning_of self.old) (state_of self.old)
+            (λ error. RefusesInsert (at_moment now (meaning_of self.old)) (state_of self.old)
             (record (incoming_of slot) { handles = 1 + further.count }) error ls (state_of self.new))) }
         ensures others { IfOk result (λ made. made.others.items ≡ replicate further.count made.entry) }
         ensures room { IfOk result (λ made. vec_len made.others + further.room ≤ vec_capacity made.others) }
@@ -195,6 +200,6 @@ impl<E: Eviction, K: Key, V: Value, P: Properties, I: Finder<K>> Store<E, K, V, 
             return Err(Error::new(reason));
         }
         slot.add_handles(further.count);
-        self.come(alloc, slot, Source::Memory, further, leaves)
+        self.come(alloc, now, slot, Source::Memory, further, leaves)
     }
 }

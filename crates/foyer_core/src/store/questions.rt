@@ -12,13 +12,13 @@ impl<E: Eviction, K: Key, V: Value, P: Properties, I: Finder<K>> Store<E, K, V, 
     ghost use Rattle.foyer_core.specs.Steps.{Gets};
     ghost use Rattle.foyer_core.specs.Questions.{MayGet};
 
-    // Why the key's record cannot have a handle more, whatever memory there is.
-    pub(crate) fn get_refusal(&self, hash: u64, key: &K) -> Option<Reason>
+    // Why the record that a key hits at a moment cannot have a handle more, whatever memory there is.
+    pub(crate) fn get_refusal(&self, now: u64, hash: u64, key: &K) -> Option<Reason>
         ensures some { IfSome result (λ reason. (reason ≡ Handles)
-            × Gets (meaning_of self.now) (state_of self.now) (hash, key.now) (Err Handles) (state_of self.now)) }
-        ensures none { IfNone result (MayGet (state_of self.now) (hash, key.now)) }
+            × Gets (meaning_of self.now) now (state_of self.now) (hash, key.now) (Err Handles) (state_of self.now)) }
+        ensures none { IfNone result (MayGet (meaning_of self.now) now (state_of self.now) (hash, key.now)) }
     {
-        let Some(slot) = self.slot_under(hash, key) else {
+        let Some(slot) = self.live_under(now, hash, key) else {
             return None;
         };
         let Some(found) = self.records.get(slot) else {

@@ -86,10 +86,10 @@ fn an_insert_asks_the_weighter_and_then_the_filter(rt: HostRuntime) -> Done {
             "insert of {key}"
         );
     }
-    assert!(rt; core.contains(&3) && !core.contains(&9));
+    assert!(rt; core.contains(0, &3) && !core.contains(0, &9));
     assert_eq!(rt; asked(&trail), 0);
     let mut leaves = Vec::new(rt.alloc());
-    let made = core.insert_with_properties_onto(4, 40, CacheProperties::default(), &mut leaves);
+    let made = core.insert_with_properties_onto(0, 4, 40, CacheProperties::default(), &mut leaves);
     settle(&rt, &mut core, made.expect(&rt, "an insert"));
     assert_eq!(rt; asked(&trail), 12);
     Ok(())
@@ -105,9 +105,9 @@ fn a_completion_asks_as_an_insert_does(rt: HostRuntime) -> Done {
         found,
         answers,
         leaves: _,
-    } = core.complete(&1, 0, FetchTarget::from(10), Source::Outer);
+    } = core.complete(0, &1, 0, FetchTarget::from(10), Source::Outer);
     core.drop_answers(answers);
-    assert!(rt; found && core.contains(&1));
+    assert!(rt; found && core.contains(0, &1));
     assert_eq!(rt; asked(&trail), 12);
     Ok(())
 }
@@ -119,11 +119,11 @@ fn a_foreign_piece_asks_the_weighter_once(rt: HostRuntime) -> Done {
     let mut core = traced(rt.alloc(), &trail)?;
     let mut other = super::core(rt.alloc(), 4, 1)?;
     let (entry, _) = put(&rt, &mut other, 9, 90);
-    let made = core.insert_piece(entry.piece().expect(&rt, "a piece"));
+    let made = core.insert_piece(0, entry.piece().expect(&rt, "a piece"));
     release(&rt, &mut other, entry);
     let (entry, _) = taken(&rt, &mut core, made.expect(&rt, "an insert"));
     assert_eq!(rt; (asked(&trail), core.usage()), (1, 2));
-    let made = core.insert_piece(entry.piece().expect(&rt, "a piece"));
+    let made = core.insert_piece(0, entry.piece().expect(&rt, "a piece"));
     let (again, _) = taken(&rt, &mut core, made.expect(&rt, "an insert"));
     assert_eq!(rt; asked(&trail), 0);
     release(&rt, &mut core, entry);

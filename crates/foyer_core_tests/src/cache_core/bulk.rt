@@ -34,10 +34,10 @@ fn what_is_pinned_survives(rt: HostRuntime) -> Done {
         release(&rt, &mut core, entry);
     }
     let held = found(&rt, &mut core, 2);
-    let leaves = core.evict_all().expect(&rt, "an eviction");
+    let leaves = core.evict_all(0).expect(&rt, "an eviction");
     release(&rt, &mut core, held);
     assert_left(&rt, &leaves, &[(Event::Evict, 1), (Event::Evict, 3)]);
-    assert!(rt; core.contains(&2) && core.usage() == 1);
+    assert!(rt; core.contains(0, &2) && core.usage() == 1);
     Ok(())
 }
 

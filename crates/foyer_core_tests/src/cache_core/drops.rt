@@ -47,7 +47,7 @@ fn put_counted(
         drops: Arc::try_clone(drops).expect(rt, "a count"),
     };
     let properties = CacheProperties::default().with_phantom(phantom);
-    let made = core.insert_with_properties(key, value, properties);
+    let made = core.insert_with_properties(0, key, value, properties);
     let Inserted {
         entry,
         answers,

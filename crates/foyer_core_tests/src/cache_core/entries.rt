@@ -20,7 +20,7 @@ fn removed_records_stay_with_their_handles(rt: HostRuntime) -> Done {
     release(&rt, &mut core, first);
     release(&rt, &mut core, second);
     release(&rt, &mut core, third);
-    assert!(rt; !core.contains(&1));
+    assert!(rt; !core.contains(0, &1));
     Ok(())
 }
 
@@ -28,7 +28,7 @@ fn removed_records_stay_with_their_handles(rt: HostRuntime) -> Done {
 fn touches_keep_no_handle(rt: HostRuntime) -> Done {
     let mut core = core(rt.alloc(), 2, 1)?;
     put_tenfold(&rt, &mut core, 1);
-    assert!(rt; core.touch(&1)? && !core.touch(&2)?);
+    assert!(rt; core.touch(0, &1)? && !core.touch(0, &2)?);
     let entry = found(&rt, &mut core, 1);
     assert_eq!(rt; core.refs(&entry), 1);
     release(&rt, &mut core, entry);
@@ -67,13 +67,13 @@ fn a_piece_brings_its_record_back(rt: HostRuntime) -> Done {
     let mut core = core(rt.alloc(), 1, 1)?;
     let (first, _) = put(&rt, &mut core, 1, 10);
     let piece = first.piece().expect(&rt, "a piece");
-    let made = core.insert_piece(first.piece().expect(&rt, "a piece"));
+    let made = core.insert_piece(0, first.piece().expect(&rt, "a piece"));
     let (second, leaves) = taken(&rt, &mut core, made.expect(&rt, "an insert"));
     assert_eq!(rt; (second.id(), core.refs(&first), leaves.len()), (0, 2, 0));
     release(&rt, &mut core, first);
     release(&rt, &mut core, second);
     put_tenfold(&rt, &mut core, 2);
-    let made = core.insert_piece(piece);
+    let made = core.insert_piece(0, piece);
     let (third, leaves) = taken(&rt, &mut core, made.expect(&rt, "an insert"));
     assert_eq!(rt;
         (third.id(), *third.value(), third.source()),

@@ -49,7 +49,7 @@ fn a_fetch_answers_all_who_wait(rt: HostRuntime) -> Done {
     assert_eq!(rt; ask(&rt, &mut core, 7, None), Asked::Waits(1));
     assert_eq!(rt; ask(&rt, &mut core, 8, None), Asked::Leads(1, 2, None));
     assert!(rt; core.is_open(&7, 0) && core.is_open(&8, 1) && !core.is_open(&8, 0));
-    let ended = core.complete(&7, 0, FetchTarget::from(70), Source::Disk);
+    let ended = core.complete(0, &7, 0, FetchTarget::from(70), Source::Disk);
     let ended = ending(&rt, &mut core, ended);
     assert_eq!(rt; ended, (true, 2, Got::Value(70, Source::Disk)));
     assert_eq!(rt; ask(&rt, &mut core, 7, None), Asked::Hit(70));
@@ -67,12 +67,12 @@ fn an_insert_overtakes_a_fetch(rt: HostRuntime) -> Done {
         entry,
         answers,
         leaves,
-    } = core.insert(7, 70).expect(&rt, "an insert");
+    } = core.insert(0, 7, 70).expect(&rt, "an insert");
     assert_eq!(rt; (core.refs(&entry), leaves.len()), (3, 0));
     core.drop_answers(answers);
     assert_eq!(rt; core.refs(&entry), 1);
     release(&rt, &mut core, entry);
-    let ended = core.complete(&7, 0, FetchTarget::from(69), Source::Outer);
+    let ended = core.complete(0, &7, 0, FetchTarget::from(69), Source::Outer);
     assert_eq!(rt; ending(&rt, &mut core, ended), (false, 0, Got::Nothing));
     assert_eq!(rt; ask(&rt, &mut core, 7, None), Asked::Hit(70));
     Ok(())
@@ -84,10 +84,10 @@ fn a_fetch_completes_with_a_phantom_or_a_piece(rt: HostRuntime) -> Done {
     let mut core = core(rt.alloc(), 4, 1)?;
     ask(&rt, &mut core, 7, None);
     let phantom = CacheProperties::default().with_phantom(true);
-    let ended = core.complete(&7, 0, FetchTarget::from((70, phantom)), Source::Outer);
+    let ended = core.complete(0, &7, 0, FetchTarget::from((70, phantom)), Source::Outer);
     let ended = ending(&rt, &mut core, ended);
     assert_eq!(rt; ended, (true, 1, Got::Value(70, Source::Outer)));
-    assert_eq!(rt; (core.contains(&7), core.entries()), (false, 0));
+    assert_eq!(rt; (core.contains(0, &7), core.entries()), (false, 0));
     let (entry, _) = put(&rt, &mut core, 8, 80);
     let piece = entry.piece().expect(&rt, "a piece");
     release(&rt, &mut core, entry);
@@ -96,6 +96,7 @@ fn a_fetch_completes_with_a_phantom_or_a_piece(rt: HostRuntime) -> Done {
         ask(&rt, &mut core, key, None);
         let fetch = key - 6;
         let ended = core.complete(
+            0,
             &key,
             fetch,
             FetchTarget::from(piece.clone()?),

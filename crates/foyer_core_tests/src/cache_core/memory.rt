@@ -45,8 +45,8 @@ fn many(rt: &impl Abort, alloc: Global) -> Core {
 fn clear_of_many_is_refused(rt: HostRuntime) -> Done {
     let many = || many(&rt, rt.alloc());
     assert_eq!(rt; many().clear().expect(&rt, "a clear").len(), 2000);
-    assert_eq!(rt; many().evict_all().expect(&rt, "an eviction").len(), 2000);
-    assert_eq!(rt; many().resize(500).expect(&rt, "a resize").len(), 1500);
+    assert_eq!(rt; many().evict_all(0).expect(&rt, "an eviction").len(), 2000);
+    assert_eq!(rt; many().resize(0, 500).expect(&rt, "a resize").len(), 1500);
     let half = many().flush_if(&|key, _| *key % 2 == 0);
     assert_eq!(rt; half.expect(&rt, "a flush").len(), 1000);
     Ok(())

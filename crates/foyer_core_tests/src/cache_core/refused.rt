@@ -3,6 +3,7 @@
 
 use super::*;
 use crate::refusing::{RefusingIndex, RefusingPolicy};
+use crate::testing::assert_evicted;
 use foyer_core::{HashTableIndexer, Indexed};
 
 mod keys;
@@ -45,7 +46,7 @@ fn put_weight<const AT: u64, I: Finder<u64>>(
     key: u64,
     weight: u64,
 ) -> (Option<u64>, Leaves) {
-    match core.insert(key, weight) {
+    match core.insert(0, key, weight) {
         Ok(made) => {
             let (entry, leaves) = taken(rt, core, made);
             let id = entry.id();
@@ -56,14 +57,6 @@ fn put_weight<const AT: u64, I: Finder<u64>>(
             assert_eq!(rt; refused.error.number(), 7);
             (None, refused.leaves)
         }
-    }
-}
-
-// Evictions of these keys, in order, and of no other.
-fn assert_evicted(rt: &impl Abort, leaves: &Leaves, keys: &[u64]) {
-    assert_eq!(rt; leaves.len(), keys.len());
-    for ((event, left), key) in leaves.iter().zip(keys) {
-        assert_eq!(rt; (*event, *left.key()), (Event::Evict, *key));
     }
 }
 
@@ -79,7 +72,7 @@ fn insert_is_refused<const AT: u64, I: Finder<u64>>(
         assert!(rt; put_weight(rt, &mut core, key, 1).0.is_some());
     }
     let (id, leaves) = put_weight(rt, &mut core, 4, 3);
-    assert!(rt; id.is_none() && !core.contains(&4));
+    assert!(rt; id.is_none() && !core.contains(0, &4));
     assert_evicted(rt, &leaves, &keys[..gone]);
     assert_eq!(rt; core.usage(), 3 - gone as u128);
     let (id, leaves) = put_weight(rt, &mut core, 4, 3);
@@ -108,11 +101,11 @@ fn a_refused_eviction_of_all_has_a_beginning(rt: HostRuntime) -> Done {
     for key in keys {
         assert!(rt; put_weight(&rt, &mut core, key, 1).0.is_some());
     }
-    let Err(refused) = core.evict_all() else {
+    let Err(refused) = core.evict_all(0) else {
         panic!(&rt; "the eviction is not refused");
     };
     assert_eq!(rt; (refused.error.number(), core.usage()), (7, 3));
     assert_evicted(&rt, &refused.leaves, &keys[..3]);
-    assert_evicted(&rt, &core.evict_all()?, &keys[3..]);
+    assert_evicted(&rt, &core.evict_all(0)?, &keys[3..]);
     Ok(())
 }

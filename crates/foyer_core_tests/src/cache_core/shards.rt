@@ -24,6 +24,6 @@ fn a_core_stands_over_another_index(rt: HostRuntime) -> Done {
         release(&rt, &mut core, entry);
         assert_eq!(rt; leaves.len(), usize::from(key == 8));
     }
-    assert!(rt; !core.contains(&0) && core.contains(&8) && core.entries() == 8);
+    assert!(rt; !core.contains(0, &0) && core.contains(0, &8) && core.entries() == 8);
     Ok(())
 }

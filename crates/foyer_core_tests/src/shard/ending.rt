@@ -28,7 +28,7 @@ fn all_that_is_in_is_told_in_order(rt: HostRuntime) -> Done {
     for key in 1..5 {
         put(&rt, rt.alloc(), &mut shard, key, 1);
     }
-    assert!(rt; shard.touch(1, &1)?);
+    assert!(rt; shard.touch(0, 1, &1)?);
     take_out(&rt, &mut shard, 3);
     let told = ending(rt.alloc(), shard)?;
     assert_eq!(rt; told.as_slice(), [(2, 20), (4, 40), (1, 10)].as_slice());
@@ -46,7 +46,7 @@ fn end_of_three<const AT: u64>(
     for key in 1..4 {
         put(rt, alloc, &mut shard, key, 1);
     }
-    shard.touch(1, &1)?;
+    shard.touch(0, 1, &1)?;
     ending(alloc, shard)
 }
 

@@ -8,7 +8,7 @@ type End = Ended<u64, u64, CacheProperties, u64>;
 
 // A key that is not in is fetched.
 fn lead(rt: &impl Abort, shard: &mut Over<Lru>, key: u64) -> u64 {
-    let answer = shard.get_or_enqueue(key, &key, None, 0);
+    let answer = shard.get_or_enqueue(0, key, &key, None, 0);
     match answer.expect(rt, "a look-up") {
         Lookup::Lead {
             fetch,
@@ -70,9 +70,9 @@ fn a_fetch_ends_in_each_way(rt: HostRuntime) -> Done {
     let mut shard = three(&rt, alloc)?;
     let fetch = lead(&rt, &mut shard, 7);
     assert!(rt; shard.is_open(7, &7, fetch));
-    let ended = shard.complete(alloc, fetch, data(7, 0), Source::Outer);
+    let ended = shard.complete(alloc, 0, fetch, data(7, 0), Source::Outer);
     assert_eq!(rt; answered(&rt, &mut shard, ended), 1);
-    assert!(rt; shard.contains(7, &7) && !shard.is_open(7, &7, fetch));
+    assert!(rt; shard.contains(0, 7, &7) && !shard.is_open(7, &7, fetch));
     let fetch = lead(&rt, &mut shard, 8);
     let ended = shard.end(alloc, 8, &8, fetch, Error::new(Reason::TaskCancelled));
     assert_eq!(rt; refused(&rt, ended), 15);
@@ -97,20 +97,20 @@ fn a_piece_brings_its_record(rt: HostRuntime) -> Done {
     let piece = taken_piece(&rt, &mut shard, 2);
     assert!(rt; shard.knows(2, &piece) && !other.knows(2, &piece));
     let mut leaves = Vec::new(alloc);
-    let made = other.emplace_piece(alloc, piece.clone()?, 2, 3, &mut leaves);
+    let made = other.emplace_piece(alloc, 0, piece.clone()?, 2, 3, &mut leaves);
     settle(&rt, &mut other, made.expect(&rt, "a new record"));
-    let made = shard.emplace_piece(alloc, piece.clone()?, 2, 0, &mut leaves);
+    let made = shard.emplace_piece(alloc, 0, piece.clone()?, 2, 0, &mut leaves);
     settle(&rt, &mut shard, made.expect(&rt, "a record"));
-    assert!(rt; shard.contains(2, &2) && other.contains(2, &2) && leaves.is_empty());
+    assert!(rt; shard.contains(0, 2, &2) && other.contains(0, 2, &2) && leaves.is_empty());
     take_out(&rt, &mut shard, 2);
     take_out(&rt, &mut other, 2);
     let fetch = lead(&rt, &mut other, 2);
-    let ended = other.complete_piece(alloc, 2, &2, fetch, piece.clone()?, 2, true, 3);
+    let ended = other.complete_piece(alloc, 0, 2, &2, fetch, piece.clone()?, 2, true, 3);
     assert_eq!(rt; answered(&rt, &mut other, ended), 1);
     let fetch = lead(&rt, &mut shard, 2);
-    let ended = shard.complete_piece(alloc, 2, &2, fetch, piece, 2, true, 0);
+    let ended = shard.complete_piece(alloc, 0, 2, &2, fetch, piece, 2, true, 0);
     assert_eq!(rt; answered(&rt, &mut shard, ended), 1);
-    assert!(rt; shard.contains(2, &2) && other.contains(2, &2));
+    assert!(rt; shard.contains(0, 2, &2) && other.contains(0, 2, &2));
     Ok(())
 }
 
@@ -122,11 +122,11 @@ fn a_piece_of_another_key_ends_a_fetch(rt: HostRuntime) -> Done {
     let mut other: Over<Lru> = empty(alloc, Limits::default(), &LruConfig::default())?;
     let piece = taken_piece(&rt, &mut shard, 2);
     let fetch = lead(&rt, &mut shard, 8);
-    let ended = shard.complete_piece(alloc, 8, &8, fetch, piece.clone()?, 2, true, 3);
+    let ended = shard.complete_piece(alloc, 0, 8, &8, fetch, piece.clone()?, 2, true, 3);
     assert_eq!(rt; refused(&rt, ended), 12);
     let fetch = lead(&rt, &mut other, 2);
-    let ended = other.complete_piece(alloc, 2, &2, fetch, piece, 2, false, 3);
+    let ended = other.complete_piece(alloc, 0, 2, &2, fetch, piece, 2, false, 3);
     assert_eq!(rt; refused(&rt, ended), 12);
-    assert!(rt; !shard.contains(8, &8) && !other.contains(2, &2));
+    assert!(rt; !shard.contains(0, 8, &8) && !other.contains(0, 2, &2));
     Ok(())
 }

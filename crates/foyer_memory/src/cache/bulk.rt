@@ -33,17 +33,18 @@ where
         self.cache.clear()
     }
 
-    /// Evicts all that is not pinned, shard by shard, in the order in which the policy gives it. Refused for want of memory
-    /// alone (F7); then the shards before are done and some of the next one's records may have left, and what left is told.
-    pub fn evict_all(&self) -> Result<()> {
-        self.cache.evict_all()
+    /// Evicts all that is not pinned, shard by shard: what is expired at a moment first, and then the rest in the order in
+    /// which the policy gives it. Refused for want of memory alone (F7); then the shards before are done and some of the
+    /// next one's records may have left, and what left is told.
+    pub fn evict_all(&self, now: u64) -> Result<()> {
+        self.cache.evict_all(now)
     }
 
     /// Sets the weight that the records may have together, of which each shard gets its part, and then evicts from each shard
-    /// what is over. Resizes take turns. Refused for want of memory alone (F7); then the capacities are set all the same, the
-    /// shards before are done, and what left is told.
-    pub fn resize(&self, capacity: usize) -> Result<()> {
-        self.cache.resize(capacity)
+    /// what is over, what is expired at a moment first. Resizes take turns. Refused for want of memory alone (F7); then the
+    /// capacities are set all the same, the shards before are done, and what left is told.
+    pub fn resize(&self, now: u64, capacity: usize) -> Result<()> {
+        self.cache.resize(now, capacity)
     }
 
     /// Tells each shard's policy in turn another configuration. It counts for what the policy does from then on, with the
@@ -61,13 +62,13 @@ where
         Ok(())
     }
 
-    /// Evicts all that is not pinned, as `evict_all` does, tells the listener all of it, and hands all its pieces to the pipe,
+    /// Evicts all that is not pinned, as `evict_all` does at a moment, tells the listener all of it, and hands all its pieces to the pipe,
     /// if there is one that is enabled. All of that happens here; the future waits for the pipe. It ends with `Ok`, or where
     /// memory was missing with F7.
-    pub fn flush(&self) -> Flush<Q::Flush>
+    pub fn flush(&self, now: u64) -> Flush<Q::Flush>
         ensures { IfSome result.inner Q.Flush.can_poll }
     {
-        self.cache.flush()
+        self.cache.flush(now)
     }
 
     /// Takes the records out of which the predicate says yes, pinned or not, as `Evict`, and tells them as `flush` does. The

@@ -1,6 +1,7 @@
 //! Look-ups that fetch what is missing.
 
-ghost use Rattle.std.specs.Prelude.{◌≡◌, IfOk, IfSome, true};
+ghost use Rattle.std.specs.Prelude.{◌≡◌, IfOk, IfSome, false, true};
+ghost use Rattle.foyer_policy.specs.Moments.{is_expired};
 ghost use Rattle.foyer_memory.specs.Looks.{entry_of};
 
 use super::Cache;
@@ -24,15 +25,16 @@ where
     Q: Pipe<Key = K, Value = V, Properties = P>,
     T: FetchTypes<K, V, P>,
 {
-    /// An entry of the key's record, where a get finds one. Else a wait for the fetch of the key: for the one that is open,
+    /// An entry of the key's record, where a get finds one at a moment. Else a wait for the fetch of the key: for the one that is open,
     /// to which the required builder is lent where it has none, or for a new one, whose task the spawner gets. The required
     /// builder is asked for once where the key is missing, and the optional one once where a new fetch begins, both with no
-    /// lock held.
+    /// lock held. What the task fetches comes in at the moment that its leader gave.
     ///
     /// Room is made first (F7, also on a hit). Then it is refused on a hit as `get` is (F9, F7), and on a miss where a
     /// number is missing (F10), and then for want of memory (F7).
     pub fn get_or_fetch_inner<O, F, X>(
         &self,
+        now: u64,
         key: &K,
         fo: O,
         fr: F,
@@ -47,12 +49,13 @@ where
         requires optional { O.IsAlwaysCallable fo }
         requires required { F.IsAlwaysCallable fr }
         ensures key { IfOk result (λ look. IfSome (entry_of look.look) (λ e. K.eq key.now e.kept.key ≡ true)) }
+        ensures live { IfOk result (λ look. IfSome (entry_of look.look) (λ e. is_expired now (P.expiry_of e.kept.properties) ≡ false)) }
         ensures kind { IfOk result (λ look. look.kind ≡ self.now.kind) }
     {
         Ok(GetOrFetch {
             look: self
                 .cache
-                .get_or_fetch_inner(key, fo, fr, context, spawner)?,
+                .get_or_fetch_inner(now, key, fo, fr, context, spawner)?,
             kind: self.kind,
         })
     }
@@ -76,6 +79,7 @@ where
     /// called on a hit too; its future, which may be polled, is the required fetch.
     pub fn get_or_fetch<F, X>(
         &self,
+        now: u64,
         key: &K,
         fetch: F,
         spawner: &mut X,
@@ -87,10 +91,11 @@ where
         requires callable { F.IsAlwaysCallable fetch }
         requires futures { (r : _) → F.post fetch r → R.can_poll r }
         ensures key { IfOk result (λ look. IfSome (entry_of look.look) (λ e. K.eq key.now e.kept.key ≡ true)) }
+        ensures live { IfOk result (λ look. IfSome (entry_of look.look) (λ e. is_expired now (P.expiry_of e.kept.properties) ≡ false)) }
         ensures kind { IfOk result (λ look. look.kind ≡ self.now.kind) }
     {
         Ok(GetOrFetch {
-            look: self.cache.get_or_fetch(key, fetch, spawner)?,
+            look: self.cache.get_or_fetch(now, key, fetch, spawner)?,
             kind: self.kind,
         })
     }

@@ -40,6 +40,7 @@ where
         heard,
         left: Vec::new(alloc),
         held: Vec::new(alloc),
+        now: 0,
     };
     let mut state = 1u64;
     for number in 1..2001u64 {
@@ -47,6 +48,7 @@ where
             .wrapping_mul(6364136223846793005)
             .wrapping_add(1442695040888963407);
         let (pick, key) = (state / (1 << 61), state / (1 << 32) % 16);
+        both.now = number / 4 + state / (1 << 40) % 8;
         if !both.step(rt, pick, key as u32, number)? || !both.agree() {
             return Err(Fail::from(number));
         }

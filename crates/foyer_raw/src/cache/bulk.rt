@@ -37,23 +37,24 @@ where
         done
     }
 
-    /// Evicts all that is not pinned, shard by shard, in the order in which each policy gives it. Refused for want of memory
-    /// alone (F7); then the shards before are done and some of the next one's records may have left, and what left is told.
-    pub fn evict_all(&self) -> Result<()> {
+    /// Evicts all that is not pinned, shard by shard: what is expired at a moment first, and then the rest in the order in
+    /// which each policy gives it. Refused for want of memory alone (F7); then the shards before are done and some of the
+    /// next one's records may have left, and what left is told.
+    pub fn evict_all(&self, now: u64) -> Result<()> {
         let shards = &self.shares.shared.shards;
         let mut leaves = Vec::new(shards.alloc);
-        let done = shards.evict_all(&mut leaves);
+        let done = shards.evict_all(now, &mut leaves);
         self.shares.tell_all(leaves);
         done
     }
 
     /// Sets the weight that the records may have together, of which each shard gets its part, and then evicts from each shard
-    /// what is over. Resizes take turns. Refused for want of memory alone (F7); then the capacities are set all the same, the
-    /// shards before are done, and what left is told.
-    pub fn resize(&self, capacity: usize) -> Result<()> {
+    /// what is over, what is expired at a moment first. Resizes take turns. Refused for want of memory alone (F7); then the
+    /// capacities are set all the same, the shards before are done, and what left is told.
+    pub fn resize(&self, now: u64, capacity: usize) -> Result<()> {
         let shards = &self.shares.shared.shards;
         let mut leaves = Vec::new(shards.alloc);
-        let done = shards.resize(capacity, &mut leaves);
+        let done = shards.resize(now, capacity, &mut leaves);
         self.shares.tell_all(leaves);
         done
     }
@@ -84,16 +85,16 @@ where
         self.shares.shared.shards.configure(config);
     }
 
-    /// Evicts all that is not pinned, as `evict_all` does, tells the listener all of it, and hands all its pieces to the pipe,
+    /// Evicts all that is not pinned, as `evict_all` does at a moment, tells the listener all of it, and hands all its pieces to the pipe,
     /// if there is one that is enabled. All of that happens here; the future waits for the pipe. It ends with `Ok`, or where
     /// memory was missing with F7.
-    pub fn flush(&self) -> Flush<Q::Flush>
+    pub fn flush(&self, now: u64) -> Flush<Q::Flush>
         ensures { IfSome result.inner Q.Flush.can_poll }
     {
         let shards = &self.shares.shared.shards;
         let mut leaves = Vec::new(shards.alloc);
         let mut pieces = Vec::new(shards.alloc);
-        let done = shards.flush(&mut leaves, &mut pieces);
+        let done = shards.flush(now, &mut leaves, &mut pieces);
         self.shares.flush(leaves, pieces, done)
     }
 

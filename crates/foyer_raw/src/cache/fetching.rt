@@ -1,6 +1,7 @@
 //! Look-ups that fetch what is missing.
 
-ghost use Rattle.std.specs.Prelude.{◌≡◌, ◌<◌, IfOk, IfSome, IsSome, true};
+ghost use Rattle.std.specs.Prelude.{◌≡◌, ◌<◌, IfOk, IfSome, IsSome, false, true};
+ghost use Rattle.foyer_policy.specs.Moments.{is_expired};
 
 use super::RawCache;
 use crate::fetch::{
@@ -44,15 +45,16 @@ where
 {
     ghost use Rattle.foyer_raw.specs.declared.fetch.wait.RawGetOrFetch.TheVariants.{Hit, Miss};
 
-    /// An entry of the key's record, where a get finds one. Else a wait for the fetch of the key: for the one that is open,
+    /// An entry of the key's record, where a get finds one at a moment. Else a wait for the fetch of the key: for the one that is open,
     /// to which the required builder is lent where it has none, or for a new one, whose task the spawner gets. The required
     /// builder is asked for once where the key is missing, and the optional one once where a new fetch begins, both with no
-    /// lock held.
+    /// lock held. What the task fetches comes in at the moment that its leader gave.
     ///
     /// Room is made first (F7, also on a hit). Then it is refused on a hit as `get` is (F9, F7), and on a miss where a
     /// number is missing (F10), and then for want of memory (F7).
     pub fn get_or_fetch_inner<O, F, X>(
         &self,
+        now: u64,
         key: &K,
         fo: O,
         fr: F,
@@ -66,15 +68,16 @@ where
         requires clones { (k c : K) → K.is_clone k c → K.eq c k ≡ true }
         requires optional { O.IsAlwaysCallable fo }
         requires required { F.IsAlwaysCallable fr }
-        ensures { IfOk result (elim [ Hit entry ↦ IfSome entry (λ e. K.eq key.now e.kept.key ≡ true) | Miss _ ↦ Unit {0} ]) }
+        ensures key { IfOk result (elim [ Hit entry ↦ IfSome entry (λ e. K.eq key.now e.kept.key ≡ true) | Miss _ ↦ Unit {0} ]) }
+        ensures live { IfOk result (elim [ Hit entry ↦ IfSome entry (λ e. is_expired now (P.expiry_of e.kept.properties) ≡ false) | Miss _ ↦ Unit {0} ]) }
     {
         spawner.reserve()?;
         let asking = self.asking(key)?;
-        if let Some(core) = self.shares.shared.shards.get(asking.hash, key)? {
+        if let Some(core) = self.shares.shared.shards.get(now, asking.hash, key)? {
             let Asking { shares, .. } = asking;
             return Ok(RawGetOrFetch::Hit(Some(shares.entry(core))));
         }
-        self.ask(key, asking, fr(), fo, context, spawner)
+        self.ask(now, key, asking, fr(), fo, context, spawner)
     }
 
     // What a look-up of a key takes along. Only memory can be missing (F7).
@@ -96,6 +99,7 @@ where
     // An entry of the key's record, or a wait, by one look-up under one lock. There is room for a task.
     fn ask<O, X>(
         &self,
+        now: u64,
         key: &K,
         asking: Asking<Shares<H, E, K, V, S, P, W, A, L, Q, T::Required, I>, K, V, P>,
         required: Option<T::Required>,
@@ -109,7 +113,8 @@ where
         requires clones { (k c : K) → K.is_clone k c → K.eq c k ≡ true }
         requires optional { O.IsAlwaysCallable fo }
         requires room { 0 < X.room spawner.old }
-        ensures { IfOk result (elim [ Hit entry ↦ IfSome entry (λ e. K.eq key.now e.kept.key ≡ true) | Miss _ ↦ Unit {0} ]) }
+        ensures key { IfOk result (elim [ Hit entry ↦ IfSome entry (λ e. K.eq key.now e.kept.key ≡ true) | Miss _ ↦ Unit {0} ]) }
+        ensures live { IfOk result (elim [ Hit entry ↦ IfSome entry (λ e. is_expired now (P.expiry_of e.kept.properties) ≡ false) | Miss _ ↦ Unit {0} ]) }
     {
         let Asking {
             shares,
@@ -123,7 +128,7 @@ where
             .shares
             .shared
             .shards
-            .get_or_enqueue(hash, key, required, notifier)?
+            .get_or_enqueue(now, hash, key, required, notifier)?
         {
             Lookup::Hit(core) => Ok(RawGetOrFetch::Hit(Some(shares.entry(core)))),
             Lookup::Lead {
@@ -133,6 +138,7 @@ where
             } => {
                 let begin = Begin {
                     id: fetch,
+                    moment: now,
                     hash,
                     key: own,
                     context,
@@ -181,6 +187,7 @@ where
     /// called on a hit too; its future, which may be polled, is the required fetch.
     pub fn get_or_fetch<F, X>(
         &self,
+        now: u64,
         key: &K,
         fetch: F,
         spawner: &mut X,
@@ -191,13 +198,22 @@ where
         requires clones { (k c : K) → K.is_clone k c → K.eq c k ≡ true }
         requires callable { F.IsAlwaysCallable fetch }
         requires futures { (r : _) → F.post fetch r → R.can_poll r }
-        ensures { IfOk result (elim [ Hit entry ↦ IfSome entry (λ e. K.eq key.now e.kept.key ≡ true) | Miss _ ↦ Unit {0} ]) }
+        ensures key { IfOk result (elim [ Hit entry ↦ IfSome entry (λ e. K.eq key.now e.kept.key ≡ true) | Miss _ ↦ Unit {0} ]) }
+        ensures live { IfOk result (elim [ Hit entry ↦ IfSome entry (λ e. is_expired now (P.expiry_of e.kept.properties) ≡ false) | Miss _ ↦ Unit {0} ]) }
     {
         let given = Given {
             fetch: Pollable::new(fetch()),
         };
         spawner.reserve()?;
         let asking = self.asking(key)?;
-        self.ask(key, asking, Some(given), || None::<NoFetch>, (), spawner)
+        self.ask(
+            now,
+            key,
+            asking,
+            Some(given),
+            || None::<NoFetch>,
+            (),
+            spawner,
+        )
     }
 }

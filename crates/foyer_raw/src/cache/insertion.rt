@@ -32,23 +32,26 @@ where
     /// Puts a value in under a key, with default properties, as `insert_with_properties` does.
     pub fn insert(
         &self,
+        now: u64,
         key: K,
         value: V,
     ) -> Result<RawCacheEntry<H, E, K, V, S, P, W, A, L, Q, T::Required, I>>
         requires clones { (k c : K) → K.is_clone k c → K.eq c k ≡ true }
         ensures { IfOk result (λ e. (e.kept.key ≡ key) × (e.kept.value ≡ value)) }
     {
-        self.insert_with_properties(key, value, P::default())
+        self.insert_with_properties(now, key, value, P::default())
     }
 
-    /// Puts a record in, and answers an entry of it. The weighter is asked, and then the filter, before the lock. Those who
-    /// wait for the key are answered, and then what left is told. A clone of the key must equal it.
+    /// Puts a record in, and answers an entry of it. The weighter is asked, and then the filter, before the lock. What is
+    /// expired at a moment makes room first. Those who wait for the key are answered, and then what left is told. A clone of
+    /// the key must equal it.
     ///
     /// Refused, in this order, where no id is left (F10), the handles would pass the limit (F9), the weight of a plain
     /// record and the pinned weight of other keys pass a `usize` (F8), or for want of memory (F7); what left by then is
     /// told all the same.
     pub fn insert_with_properties(
         &self,
+        now: u64,
         key: K,
         value: V,
         properties: P,
@@ -68,16 +71,17 @@ where
         };
         let shards = &self.shares.shared.shards;
         let mut leaves = Vec::new(shards.alloc);
-        match shards.emplace(kept, Source::Outer, &mut leaves) {
+        match shards.emplace(now, kept, Source::Outer, &mut leaves) {
             Ok(made) => Ok(self.came_in(shares, made, leaves)),
             Err(error) => Err(self.refused(error, leaves)),
         }
     }
 
-    /// Puts a piece's record in, and answers an entry of it, with the source `Memory`. A piece of this cache stands for its
+    /// Puts a piece's record in at a moment, and answers an entry of it, with the source `Memory`. A piece of this cache stands for its
     /// record; any other makes a new one, of the weight that the weighter gives it. Refused as an insert is.
     pub fn insert_piece(
         &self,
+        now: u64,
         piece: Piece<K, V, P>,
     ) -> Result<RawCacheEntry<H, E, K, V, S, P, W, A, L, Q, T::Required, I>>
         requires clones { (k c : K) → K.is_clone k c → K.eq c k ≡ true }
@@ -96,7 +100,7 @@ where
         let mut leaves = Vec::new(shared.shards.alloc);
         match shared
             .shards
-            .emplace_piece(piece, hash, weight, &mut leaves)
+            .emplace_piece(now, piece, hash, weight, &mut leaves)
         {
             Ok(made) => Ok(self.came_in(shares, made, leaves)),
             Err(error) => Err(self.refused(error, leaves)),

@@ -1,11 +1,13 @@
 //! Look-ups by a key.
 
-ghost use Rattle.std.specs.Prelude.{◌≡◌, IfOk, IfSome, true};
+ghost use Rattle.std.specs.Prelude.{◌≡◌, IfOk, IfSome, false, true};
+ghost use Rattle.foyer_policy.specs.Moments.{is_expired};
 
 use super::RawCache;
 use crate::entry::RawCacheEntry;
 use crate::fetch::FetchTypes;
 use crate::pipe::Pipe;
+use crate::shards::FIRST;
 use crate::shares::Shares;
 use foyer_core::Finder;
 use foyer_policy::{
@@ -33,24 +35,26 @@ where
         self.shares.shared.hash_builder.hash_one(key)
     }
 
-    /// An entry of the key's record, where a get finds one, which counts as a handle and as a use. Refused at the limit
-    /// of handles (F9), or where something can't be shared (F7). It allocates nothing.
+    /// An entry of the key's record, where one is in that is not expired at a moment, which counts as a handle and as a
+    /// use. Refused at the limit of handles (F9), or where something can't be shared (F7). It allocates nothing.
     pub fn get(
         &self,
+        now: u64,
         key: &K,
     ) -> Result<Option<RawCacheEntry<H, E, K, V, S, P, W, A, L, Q, T::Required, I>>>
-        ensures { IfOk result (λ found. IfSome found (λ e. K.eq key.now e.kept.key ≡ true)) }
+        ensures key { IfOk result (λ found. IfSome found (λ e. K.eq key.now e.kept.key ≡ true)) }
+        ensures live { IfOk result (λ found. IfSome found (λ e. is_expired now (P.expiry_of e.kept.properties) ≡ false)) }
     {
         let hash = self.hash(key);
-        let shares = self.shares_for(hash, key)?;
-        match self.shares.shared.shards.get(hash, key)? {
+        let shares = self.shares_for(now, hash, key)?;
+        match self.shares.shared.shards.get(now, hash, key)? {
             Some(core) => Ok(Some(shares.entry(core))),
             None => Ok(None),
         }
     }
 
-    /// Takes the key's record out, where a get finds one, and answers an entry of it. It is told as `Remove`. Refused as
-    /// `get` is.
+    /// Takes the key's record out, where one is in, expired or not, and answers an entry of it. It is told as `Remove`.
+    /// Refused as `get` is.
     pub fn remove(
         &self,
         key: &K,
@@ -58,7 +62,7 @@ where
         ensures { IfOk result (λ found. IfSome found (λ e. K.eq key.now e.kept.key ≡ true)) }
     {
         let hash = self.hash(key);
-        let shares = self.shares_for(hash, key)?;
+        let shares = self.shares_for(FIRST, hash, key)?;
         match self.shares.shared.shards.remove(hash, key)? {
             Some((core, left)) => {
                 self.shares.tell((Event::Remove, left));
@@ -68,9 +72,11 @@ where
         }
     }
 
-    // Shares for an entry of the key's record. Where they can't be had (F7), F9 goes first, which the shard is asked for.
+    // Shares for an entry of what a get of the key finds at a moment. Where they can't be had (F7), F9 goes first, which the
+    // shard is asked for.
     fn shares_for(
         &self,
+        now: u64,
         hash: u64,
         key: &K,
     ) -> Result<Shares<H, E, K, V, S, P, W, A, L, Q, T::Required, I>> {
@@ -78,22 +84,22 @@ where
             Ok(shares) => return Ok(shares),
             Err(refused) => refused,
         };
-        match self.shares.shared.shards.refuses_get(hash, key) {
+        match self.shares.shared.shards.refuses_get(now, hash, key) {
             Some(reason) => Err(Error::new(reason)),
             None => Err(refused),
         }
     }
 
-    /// Whether a get finds the key; where it does, that counts as a use. Refused at the limit of handles alone (F9). It
-    /// takes no memory.
-    pub fn touch(&self, key: &K) -> Result<bool> {
+    /// Whether a get finds the key at a moment; where it does, that counts as a use. Refused at the limit of handles alone
+    /// (F9). It takes no memory.
+    pub fn touch(&self, now: u64, key: &K) -> Result<bool> {
         let hash = self.hash(key);
-        self.shares.shared.shards.touch(hash, key)
+        self.shares.shared.shards.touch(now, hash, key)
     }
 
-    /// Whether a get finds the key. It takes no memory.
-    pub fn contains(&self, key: &K) -> bool {
+    /// Whether a get finds the key at a moment. It takes no memory.
+    pub fn contains(&self, now: u64, key: &K) -> bool {
         let hash = self.hash(key);
-        self.shares.shared.shards.contains(hash, key)
+        self.shares.shared.shards.contains(now, hash, key)
     }
 }

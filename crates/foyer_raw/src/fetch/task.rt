@@ -38,6 +38,8 @@ where
 {
     state: RawFetchState,
     id: u64,
+    // When its leader asked: what is fetched comes in at this moment.
+    moment: u64,
     hash: u64,
     // Until the key comes in.
     key: Option<K>,
@@ -58,6 +60,8 @@ where
 pub(crate) struct Begin<K, C, O, F> {
     /// The fetch.
     pub(crate) id: u64,
+    /// The moment at which its leader asked.
+    pub(crate) moment: u64,
     /// The key's hash.
     pub(crate) hash: u64,
     /// The key.
@@ -93,9 +97,11 @@ where
         requires clones { (k c : K) → K.is_clone k c → K.eq c k ≡ true }
         ensures state { result.state ≡ RawFetchState.Init }
         ensures idle { IsNone result.optional_fetch × IsNone result.required_fetch }
+        ensures moment { result.moment ≡ begin.moment }
     {
         let Begin {
             id,
+            moment,
             hash,
             key,
             context,
@@ -105,6 +111,7 @@ where
         RawFetch {
             state: RawFetchState::Init,
             id,
+            moment,
             hash,
             key: Some(key),
             shares,
@@ -160,6 +167,7 @@ where
         let RawFetch {
             state,
             id,
+            moment: _,
             hash,
             key,
             shares,

@@ -22,7 +22,7 @@ where
         *self.capacity.lock(&self.rt)
     }
 
-    // The sum of the weights of the records that a get finds.
+    // The sum of the weights of the records that are in, expired or not.
     pub(crate) fn usage(&self) -> u128 {
         let mut sum = 0u128;
         for shard in self.all.as_slice() {
@@ -32,7 +32,7 @@ where
         sum
     }
 
-    // How many records a get finds.
+    // How many records are in, expired or not.
     pub(crate) fn entries(&self) -> u128 {
         let mut sum = 0u128;
         for shard in self.all.as_slice() {
@@ -50,20 +50,25 @@ where
         Ok(())
     }
 
-    // Evicts all that is not pinned.
-    pub(crate) fn evict_all(&self, leaves: &mut Vec<Leave<K, V, P>>) -> Result<()> {
+    // Evicts, at a moment, all that is not pinned.
+    pub(crate) fn evict_all(&self, now: u64, leaves: &mut Vec<Leave<K, V, P>>) -> Result<()> {
         for shard in self.all.as_slice() {
-            shard.lock(&self.rt).evict_unpinned(leaves)?;
+            shard.lock(&self.rt).evict_unpinned(now, leaves)?;
         }
         Ok(())
     }
 
-    // Gives each shard its part of a capacity, and then evicts from each what is over. Resizes take turns.
-    pub(crate) fn resize(&self, capacity: usize, leaves: &mut Vec<Leave<K, V, P>>) -> Result<()> {
+    // Gives each shard its part of a capacity, and then evicts from each, at a moment, what is over. Resizes take turns.
+    pub(crate) fn resize(
+        &self,
+        now: u64,
+        capacity: usize,
+        leaves: &mut Vec<Leave<K, V, P>>,
+    ) -> Result<()> {
         let mut resizing = self.capacity.lock(&self.rt);
         *resizing = capacity;
         self.share_out(capacity);
-        let done = self.evict_to_capacity(leaves);
+        let done = self.evict_to_capacity(now, leaves);
         drop(resizing);
         done
     }
@@ -77,10 +82,10 @@ where
         }
     }
 
-    // Evicts from each shard what is over its capacity.
-    fn evict_to_capacity(&self, leaves: &mut Vec<Leave<K, V, P>>) -> Result<()> {
+    // Evicts from each shard, at a moment, what is over its capacity.
+    fn evict_to_capacity(&self, now: u64, leaves: &mut Vec<Leave<K, V, P>>) -> Result<()> {
         for shard in self.all.as_slice() {
-            shard.lock(&self.rt).evict_to_capacity(leaves)?;
+            shard.lock(&self.rt).evict_to_capacity(now, leaves)?;
         }
         Ok(())
     }
@@ -111,9 +116,10 @@ where
         drop(resizing);
     }
 
-    // Evicts all that is not pinned, of each shard once there is room for its pieces.
+    // Evicts, at a moment, all that is not pinned, of each shard once there is room for its pieces.
     pub(crate) fn flush(
         &self,
+        now: u64,
         leaves: &mut Vec<Leave<K, V, P>>,
         pieces: &mut Vec<Piece<K, V, P>>,
     ) -> Result<()> {
@@ -121,7 +127,7 @@ where
             let mut shard = shard.lock(&self.rt);
             let room = leaves.len().saturating_add(shard.entries() as usize);
             pieces.reserve(room)?;
-            shard.evict_unpinned(leaves)?;
+            shard.evict_unpinned(now, leaves)?;
         }
         Ok(())
     }

@@ -1,6 +1,7 @@
 //! Steps of one shard that begin and end fetches, each under its lock.
 
-ghost use Rattle.std.specs.Prelude.{◌≡◌, IfOk, true};
+ghost use Rattle.std.specs.Prelude.{◌≡◌, IfOk, false, true};
+ghost use Rattle.foyer_policy.specs.Moments.{is_expired};
 ghost use Rattle.foyer_core.specs.declared.outcome.Lookup.TheVariants.{Hit, Lead, Wait as Waits};
 
 use super::Shards;
@@ -25,18 +26,21 @@ where
     R: Drop,
     I: Finder<K>,
 {
-    // A handle of the key's record, or a token: for a new fetch, or for the one that is open.
+    // A handle of what a get finds at a moment, or a token: for a new fetch, or for the one that is open.
     pub(crate) fn get_or_enqueue(
         &self,
+        now: u64,
         hash: u64,
         key: &K,
         required: Option<R>,
         waiter: Notifier<Answer<K, V, P>>,
     ) -> Result<Lookup<K, V, P, R>>
         requires clones { (k c : K) → K.is_clone k c → K.eq c k ≡ true }
-        ensures { IfOk result (elim [ Hit e ↦ K.eq key.now e.kept.key ≡ true | Lead _ _ _ ↦ Unit {0} | Waits _ ↦ Unit {0} ]) }
+        ensures key { IfOk result (elim [ Hit e ↦ K.eq key.now e.kept.key ≡ true | Lead _ _ _ ↦ Unit {0} | Waits _ ↦ Unit {0} ]) }
+        ensures live { IfOk result (elim [ Hit e ↦ is_expired now (P.expiry_of e.kept.properties) ≡ false | Lead _ _ _ ↦ Unit {0} | Waits _ ↦ Unit {0} ]) }
     {
-        self.lock(hash).get_or_enqueue(hash, key, required, waiter)
+        self.lock(hash)
+            .get_or_enqueue(now, hash, key, required, waiter)
     }
 
     // Whether a fetch of a key is open.
@@ -59,9 +63,10 @@ where
         self.lock(hash).fetch_or_take(hash, key, fetch)
     }
 
-    // Ends an open fetch with a record of its key.
+    // Ends an open fetch, at a moment, with a record of its key.
     pub(crate) fn complete(
         &self,
+        now: u64,
         fetch: u64,
         kept: Data<K, V, P>,
         source: Source,
@@ -69,6 +74,7 @@ where
         requires clones { (k c : K) → K.is_clone k c → K.eq c k ≡ true }
     {
         let hash = kept.hash;
-        self.lock(hash).complete(self.alloc, fetch, kept, source)
+        self.lock(hash)
+            .complete(self.alloc, now, fetch, kept, source)
     }
 }

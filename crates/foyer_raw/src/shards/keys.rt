@@ -1,8 +1,9 @@
 //! Steps of one shard under its lock. Each locks, makes one step, and unlocks.
 
-ghost use Rattle.std.specs.Prelude.{◌≡◌, IfOk, IfSome, true};
+ghost use Rattle.std.specs.Prelude.{◌≡◌, IfOk, IfSome, false, true};
+ghost use Rattle.foyer_policy.specs.Moments.{is_expired};
 
-use super::Shards;
+use super::{FIRST, Shards};
 use crate::ticket::{Answer, Notifier};
 use foyer_core::{CoreEntry, Data, Finder, InsertedOnto, Leave, Left, Piece};
 use foyer_policy::{Error, Eviction, Key, Properties, Reason, Result, Source, Value};
@@ -21,10 +22,11 @@ where
     R: Drop,
     I: Finder<K>,
 {
-    pub(crate) fn get(&self, hash: u64, key: &K) -> Result<Option<CoreEntry<K, V, P>>>
-        ensures { IfOk result (λ found. IfSome found (λ e. K.eq key.now e.kept.key ≡ true)) }
+    pub(crate) fn get(&self, now: u64, hash: u64, key: &K) -> Result<Option<CoreEntry<K, V, P>>>
+        ensures key { IfOk result (λ found. IfSome found (λ e. K.eq key.now e.kept.key ≡ true)) }
+        ensures live { IfOk result (λ found. IfSome found (λ e. is_expired now (P.expiry_of e.kept.properties) ≡ false)) }
     {
-        self.lock(hash).get(hash, key)
+        self.lock(hash).get(now, hash, key)
     }
 
     pub(crate) fn remove(
@@ -37,17 +39,18 @@ where
         self.lock(hash).remove(hash, key)
     }
 
-    pub(crate) fn touch(&self, hash: u64, key: &K) -> Result<bool> {
-        self.lock(hash).touch(hash, key)
+    pub(crate) fn touch(&self, now: u64, hash: u64, key: &K) -> Result<bool> {
+        self.lock(hash).touch(now, hash, key)
     }
 
-    pub(crate) fn contains(&self, hash: u64, key: &K) -> bool {
-        self.lock(hash).contains(hash, key)
+    pub(crate) fn contains(&self, now: u64, hash: u64, key: &K) -> bool {
+        self.lock(hash).contains(now, hash, key)
     }
 
-    // Takes a record in, and appends what leaves.
+    // Takes a record in at a moment, and appends what leaves.
     pub(crate) fn emplace(
         &self,
+        now: u64,
         kept: Data<K, V, P>,
         source: Source,
         leaves: &mut Vec<Leave<K, V, P>>,
@@ -56,12 +59,14 @@ where
         ensures { IfOk result (λ made. made.entry.kept ≡ kept) }
     {
         let hash = kept.hash;
-        self.lock(hash).emplace(self.alloc, kept, source, leaves)
+        self.lock(hash)
+            .emplace(self.alloc, now, kept, source, leaves)
     }
 
     // The same of a piece's record, whose key has this hash, and which has this weight if its shard does not know it.
     pub(crate) fn emplace_piece(
         &self,
+        now: u64,
         piece: Piece<K, V, P>,
         hash: u64,
         weight: usize,
@@ -70,12 +75,12 @@ where
         requires clones { (k c : K) → K.is_clone k c → K.eq c k ≡ true }
     {
         let mut shard = self.lock(hash);
-        shard.emplace_piece(self.alloc, piece, hash, weight, leaves)
+        shard.emplace_piece(self.alloc, now, piece, hash, weight, leaves)
     }
 
-    // Why a handle of the key's record would be refused now, whatever memory there is.
-    pub(crate) fn refuses_get(&self, hash: u64, key: &K) -> Option<Reason> {
-        self.lock(hash).refuses_get(hash, key)
+    // Why a handle of what a get finds at a moment would be refused, whatever memory there is.
+    pub(crate) fn refuses_get(&self, now: u64, hash: u64, key: &K) -> Option<Reason> {
+        self.lock(hash).refuses_get(now, hash, key)
     }
 
     // Why this record would be refused now, whatever memory there is.
@@ -94,7 +99,7 @@ where
     ) -> Option<Reason> {
         let shard = self.lock(hash);
         if shard.knows(hash, piece) {
-            return shard.refuses_get(hash, piece.key());
+            return shard.refuses_get(FIRST, hash, piece.key());
         }
         shard.refuses_insert(hash, piece.key(), piece.properties(), weight)
     }

@@ -58,7 +58,7 @@ fn a_fault_is_shared(rt: HostRuntime) -> Outcome {
 
 // A required builder whose fetch gives a piece of a record of this key that was in.
 fn must_give_piece<H: Wait + Drop>(cache: &Cache<H>, key: u32, value: u64) -> Result<Builders> {
-    let piece = cache.insert(key, value)?.piece()?;
+    let piece = cache.insert(0, key, value)?.piece()?;
     drop(cache.remove(&key)?);
     Ok((None, must(0, Ok(FetchTarget::Piece(piece)))))
 }
@@ -72,7 +72,7 @@ fn a_piece_of_another_key(rt: HostRuntime) -> Outcome {
         (refused(&rt, first)?, refused(&rt, second)?),
         (Some(12), Some(12))
     );
-    assert!(rt; !cache.contains(&7) && !cache.contains(&8));
+    assert!(rt; !cache.contains(0, &7) && !cache.contains(0, &8));
     Ok(())
 }
 
@@ -111,7 +111,7 @@ fn a_piece_of_the_key_comes_at_the_limit(rt: HostRuntime) -> Outcome {
         (70, Source::Memory, 2)
     );
     assert_eq!(rt; (*second, second.refs()), (70, 2));
-    assert_eq!(rt; number(cache.get(&7)), Some(9));
+    assert_eq!(rt; number(cache.get(0, &7)), Some(9));
     Ok(())
 }
 
@@ -165,7 +165,7 @@ fn a_task_is_dropped(rt: HostRuntime) -> Outcome {
 fn a_fetch_evicts(rt: HostRuntime) -> Outcome {
     let (cache, notes) = piped(rt, fifo(4, 1))?;
     for key in 0..4u32 {
-        drop(cache.insert(key, u64::from(key))?);
+        drop(cache.insert(0, key, u64::from(key))?);
     }
     let wait = ended(&rt, &cache, (None, must(0, Ok(value(5)))))?;
     assert!(rt; notes.are(&[Evict(0, 0), Piece(0, 0)]));
@@ -192,11 +192,11 @@ fn an_answer_comes_back_before_the_leaves(rt: HostRuntime) -> Outcome {
 #[test]
 fn a_piece_of_another_shard(rt: HostRuntime) -> Outcome {
     let (cache, _notes) = piped(rt, fifo(4, 2))?;
-    let held = cache.insert(7, 70)?;
+    let held = cache.insert(0, 7, 70)?;
     drop(cache.remove(&7)?);
-    let piece = cache.insert(8, 80)?.piece()?;
+    let piece = cache.insert(0, 8, 80)?.piece()?;
     let wait = ended(&rt, &cache, (None, must(0, Ok(FetchTarget::Piece(piece)))))?;
     assert_eq!(rt; refused(&rt, wait)?, Some(12));
-    assert!(rt; held.is_outdated() && !cache.contains(&7));
+    assert!(rt; held.is_outdated() && !cache.contains(0, &7));
     Ok(())
 }

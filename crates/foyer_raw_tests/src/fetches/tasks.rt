@@ -58,7 +58,7 @@ fn led<H: Wait + Drop>(
     turns: u64,
 ) -> Result<(Look<H>, Polled<Task<H>>)> {
     let mut keeper = Keeper { task: None };
-    let look = cache.get_or_fetch_inner(&7, || optional, || required, (), &mut keeper)?;
+    let look = cache.get_or_fetch_inner(0, &7, || optional, || required, (), &mut keeper)?;
     let Keeper { task } = keeper;
     Ok((look, Polled { task, turns }))
 }
@@ -79,7 +79,7 @@ fn a_task_is_cancelled(rt: HostRuntime) -> Outcome {
         task.cancel();
         assert_eq!(rt; refused(&rt, wait)?, Some(15));
     }
-    assert!(rt; notes.are(&[]) && !cache.contains(&7));
+    assert!(rt; notes.are(&[]) && !cache.contains(0, &7));
     Ok(())
 }
 
@@ -97,7 +97,7 @@ fn a_task_that_has_ended_is_dropped(rt: HostRuntime) -> Outcome {
     let last = block_on(&rt, task)?.ok_or("no task")?;
     assert_eq!(rt; *got(&rt, wait)?, 6);
     drop(last);
-    assert!(rt; cache.contains(&7));
+    assert!(rt; cache.contains(0, &7));
     Ok(())
 }
 
@@ -116,7 +116,7 @@ fn what_is_overtaken_is_polled_no_more(rt: HostRuntime) -> Outcome {
         let (wait, task) = led(&cache, builders, 2)?;
         let task = block_on(&rt, task)?;
         assert_eq!(rt; polls.swap(0, Ordering::SeqCst), 2);
-        drop(cache.insert(7, 70)?);
+        drop(cache.insert(0, 7, 70)?);
         let task = block_on(&rt, Polled { task, turns: 1 })?.ok_or("no task")?;
         assert_eq!(rt;
             (task.state(), polls.load(Ordering::SeqCst)),

@@ -19,17 +19,17 @@ fn fetching<H: Wait + Alloc<A = Global> + Copy + Drop>(rt: H) -> Outcome<Fetchin
 fn a_fetch_is_overtaken(rt: HostRuntime) -> Outcome {
     let cache = fetching(rt)?;
     let mut spawner = ListSpawner::new(rt.alloc());
-    let first = cache.get_or_fetch(&7, || after_polls(0, Ok(value(69))), &mut spawner)?;
-    let second = cache.get_or_fetch(&7, || after_polls(0, Ok(value(68))), &mut spawner)?;
+    let first = cache.get_or_fetch(0, &7, || after_polls(0, Ok(value(69))), &mut spawner)?;
+    let second = cache.get_or_fetch(0, &7, || after_polls(0, Ok(value(68))), &mut spawner)?;
     assert!(rt; first.need_await() && second.need_await());
-    let held = cache.insert(7, 70)?;
+    let held = cache.insert(0, 7, 70)?;
     assert_eq!(rt; held.refs(), 3);
     finish(&rt, spawner)?;
     let (first, second) = (got(&rt, first)?, got(&rt, second)?);
     assert_eq!(rt; (*first, first.source()), (70, Source::Outer));
     assert_eq!(rt; (*second, second.source()), (70, Source::Outer));
     assert_eq!(rt; held.refs(), 3);
-    assert_eq!(rt; *cache.get(&7)?.ok_or("none")?, 70);
+    assert_eq!(rt; *cache.get(0, &7)?.ok_or("none")?, 70);
     Ok(())
 }
 
@@ -37,8 +37,8 @@ fn a_fetch_is_overtaken(rt: HostRuntime) -> Outcome {
 fn a_fetch_answers_two(rt: HostRuntime) -> Outcome {
     let cache = fetching(rt)?;
     let mut spawner = ListSpawner::new(rt.alloc());
-    let first = cache.get_or_fetch(&7, || after_polls(3, Ok(value(69))), &mut spawner)?;
-    let second = cache.get_or_fetch(&7, || after_polls(0, Ok(value(68))), &mut spawner)?;
+    let first = cache.get_or_fetch(0, &7, || after_polls(3, Ok(value(69))), &mut spawner)?;
+    let second = cache.get_or_fetch(0, &7, || after_polls(0, Ok(value(68))), &mut spawner)?;
     finish(&rt, spawner)?;
     let first = got(&rt, first)?;
     assert_eq!(rt;
@@ -48,7 +48,7 @@ fn a_fetch_answers_two(rt: HostRuntime) -> Outcome {
     drop(second);
     assert_eq!(rt; first.refs(), 1);
     let mut spawner = ListSpawner::new(rt.alloc());
-    let hit = cache.get_or_fetch(&7, || after_polls(0, Ok(value(1))), &mut spawner)?;
+    let hit = cache.get_or_fetch(0, &7, || after_polls(0, Ok(value(1))), &mut spawner)?;
     let hit = hit.try_unwrap().ok().ok_or("a miss")??;
     assert_eq!(rt; (*hit, hit.source()), (69, Source::Memory));
     Ok(())
@@ -106,7 +106,7 @@ fn an_answer_is_given_once(rt: HostRuntime) -> Outcome {
 #[test]
 fn builders_are_asked_for_where_they_are_needed(rt: HostRuntime) -> Outcome {
     let (cache, _notes) = heard(rt, fifo(4, 1))?;
-    let held = cache.insert(7, 70)?;
+    let held = cache.insert(0, 7, 70)?;
     let asked = AtomicU64::new(0);
     let optional = || {
         asked.fetch_add(1, Ordering::SeqCst);
@@ -118,7 +118,7 @@ fn builders_are_asked_for_where_they_are_needed(rt: HostRuntime) -> Outcome {
     };
     let mut spawner = ListSpawner::new(rt.alloc());
     for (key, all) in [(7u32, 0u64), (8, 11), (8, 21)] {
-        drop(cache.get_or_fetch_inner(&key, &optional, &required, (), &mut spawner)?);
+        drop(cache.get_or_fetch_inner(0, &key, &optional, &required, (), &mut spawner)?);
         assert_eq!(rt; asked.load(Ordering::SeqCst), all);
     }
     drop(held);
@@ -129,7 +129,7 @@ fn builders_are_asked_for_where_they_are_needed(rt: HostRuntime) -> Outcome {
 fn no_builder_at_all(rt: HostRuntime) -> Outcome {
     let (cache, _notes) = heard(rt, fifo(4, 1))?;
     let wait = ended(&rt, &cache, NONE)?;
-    assert!(rt; at_once(&rt, wait)??.is_none() && cache.get(&7)?.is_none());
+    assert!(rt; at_once(&rt, wait)??.is_none() && cache.get(0, &7)?.is_none());
     Ok(())
 }
 
@@ -178,13 +178,13 @@ fn a_wait_ends_a_pin(rt: HostRuntime) -> Outcome {
         Ear(Notes::new(alloc)?),
     )?;
     let mut spawner = ListSpawner::new(alloc);
-    let wait = cache.get_or_fetch(&7, || after_polls(0, Ok(value(70))), &mut spawner)?;
+    let wait = cache.get_or_fetch(0, &7, || after_polls(0, Ok(value(70))), &mut spawner)?;
     finish(&rt, spawner)?;
-    drop(cache.get(&7)?);
-    drop(cache.insert(8, 80)?);
-    assert!(rt; cache.contains(&7) && cache.contains(&8));
+    drop(cache.get(0, &7)?);
+    drop(cache.insert(0, 8, 80)?);
+    assert!(rt; cache.contains(0, &7) && cache.contains(0, &8));
     drop(wait);
-    drop(cache.insert(9, 90)?);
-    assert!(rt; !cache.contains(&7) && !cache.contains(&8) && cache.contains(&9));
+    drop(cache.insert(0, 9, 90)?);
+    assert!(rt; !cache.contains(0, &7) && !cache.contains(0, &8) && cache.contains(0, &9));
     Ok(())
 }

@@ -130,7 +130,7 @@ pub fn look<H: Runtime>(cache: &Shared<H>) -> Look {
         cache.usage(),
         cache.entries(),
         cache.capacity(),
-        &|key| cache.contains(key),
+        &|key| cache.contains(0, key),
     )
 }
 
@@ -142,13 +142,13 @@ pub fn prepared<H: Runtime>(rt: H, policy: &str, filled: Filled, call: Call) -> 
     let kept = if filled.shards == 1 { 5 } else { 11 };
     let mut held = None;
     for key in 0..filled.records {
-        let entry = cache.insert(key, weighing(1))?;
+        let entry = cache.insert(0, key, weighing(1))?;
         if key == kept {
             held = Some(entry);
         }
     }
     if filled.shards == 1 {
-        let _ = cache.touch(&5)?;
+        let _ = cache.touch(0, &5)?;
     }
     let mut locked = Locked {
         rt,
@@ -194,7 +194,7 @@ impl<H: Runtime> Locked<H> {
             }),
         };
         let Locked { cache, tasks, .. } = self;
-        cache.get_or_fetch(key, || ready(fetched), tasks)
+        cache.get_or_fetch(0, key, || ready(fetched), tasks)
     }
 
     // A piece of a record that is in, of one that left, or of another cache's, as the key is below 10, below 20, or
@@ -202,17 +202,17 @@ impl<H: Runtime> Locked<H> {
     fn piece_of(&self, policy: &str, filled: Filled, key: u64) -> Result<Option<Kept>> {
         if key >= 20 {
             let other = empty(self.rt, policy, filled, 1, &self.notes)?;
-            let piece = other.insert(key, weighing(1))?.piece()?;
+            let piece = other.insert(0, key, weighing(1))?.piece()?;
             other.clear()?;
             return Ok(Some(piece));
         }
         let found = if key < 10 {
-            self.cache.get(&key)?
+            self.cache.get(0, &key)?
         } else {
             self.cache.remove(&key)?
         };
         if key >= 10 && filled.capacity == 12 {
-            self.cache.resize(11)?;
+            self.cache.resize(0, 11)?;
         }
         match found {
             Some(entry) => Ok(Some(entry.piece()?)),
@@ -230,7 +230,7 @@ impl<H: Runtime> Locked<H> {
 
     /// Whether no handle is counted of any record that is in.
     pub fn is_free(&self) -> bool {
-        (0..64u64).all(|key| match self.cache.get(&key) {
+        (0..64u64).all(|key| match self.cache.get(0, &key) {
             Ok(Some(entry)) => entry.refs() == 1,
             Ok(None) => true,
             Err(_) => false,

@@ -65,10 +65,10 @@ pub fn make<H: Runtime>(
 ) -> Result<Answer<H>> {
     let cache = &locked.cache;
     match call {
-        Call::Resize(capacity) => cache.resize(capacity)?,
-        Call::EvictAll => cache.evict_all()?,
+        Call::Resize(capacity) => cache.resize(0, capacity)?,
+        Call::EvictAll => cache.evict_all(0)?,
         Call::Clear => cache.clear()?,
-        Call::Flush => return flushed(cache.flush().poll(cx)),
+        Call::Flush => return flushed(cache.flush(0).poll(cx)),
         Call::FlushIf => return flushed(cache.flush_if(|key, _| *key % 2 == 0).poll(cx)),
         Call::Reconfigure => match locked.config.take() {
             Some(config) => cache.reconfigure(config)?,
@@ -103,12 +103,12 @@ fn inserted<H: Runtime>(
 ) -> Result<Answer<H>> {
     let cache = &locked.cache;
     let made = match (call, &locked.piece) {
-        (Call::Insert(key, weight), _) => cache.insert(key, weighing(weight))?,
+        (Call::Insert(key, weight), _) => cache.insert(0, key, weighing(weight))?,
         (Call::Phantom(key), _) => {
             let properties = CacheProperties::default().with_phantom(true);
-            cache.insert_with_properties(key, weighing(1), properties)?
+            cache.insert_with_properties(0, key, weighing(1), properties)?
         }
-        (_, Some(piece)) => cache.insert_piece(piece.clone()?)?,
+        (_, Some(piece)) => cache.insert_piece(0, piece.clone()?)?,
         _ => return Ok(Answer::Odd),
     };
     let Some((mut one, mut other)) = locked.waits.take() else {
@@ -125,10 +125,10 @@ fn inserted<H: Runtime>(
 // Looks a key up.
 fn found<H: Runtime>(locked: &mut Locked<H>, call: Call) -> Result<Answer<H>> {
     let entry = match call {
-        Call::Get(key) => locked.cache.get(&key)?,
+        Call::Get(key) => locked.cache.get(0, &key)?,
         Call::Remove(key) => locked.cache.remove(&key)?,
-        Call::Touch(key) => return Ok(yes(locked.cache.touch(&key)?)),
-        Call::Contains(key) => return Ok(yes(locked.cache.contains(&key))),
+        Call::Touch(key) => return Ok(yes(locked.cache.touch(0, &key)?)),
+        Call::Contains(key) => return Ok(yes(locked.cache.contains(0, &key))),
         Call::Fetch(key) => match locked.ask(&key, call)?.try_unwrap() {
             Ok(hit) => Some(hit?),
             Err(search) => return Ok(Answer::Search(search)),

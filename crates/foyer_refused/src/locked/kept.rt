@@ -249,7 +249,7 @@ fn emptied<H: Runtime>(
         Shown::Done => {}
         shown => return shown,
     }
-    let evicted = locked.cache.evict_all().is_ok();
+    let evicted = locked.cache.evict_all(0).is_ok();
     if evicted && locked.cache.entries() == 0 && locked.cache.usage() == 0 {
         return Shown::Kept;
     }

@@ -56,14 +56,14 @@ fn resized<H: Runtime>(rt: H, policy: &str) -> Shown {
     let Ok(locked) = prepared(rt, policy, SHARDED, Call::Resize(4)) else {
         return Shown::Early;
     };
-    match locked.cache.resize(4) {
+    match locked.cache.resize(0, 4) {
         Ok(()) => return Shown::Done.or_behind(rt.alloc()),
         Err(error) if error.number() != 7 => return Shown::Wrong("another refusal"),
         Err(_) => {}
     }
     let before = look(&locked.cache);
     let left = locked.notes.len();
-    let Ok(made) = locked.cache.insert(51, weighing(1)) else {
+    let Ok(made) = locked.cache.insert(0, 51, weighing(1)) else {
         return Shown::Wrong("the insert behind a resize");
     };
     let mut wanted = before.with(51, 1);

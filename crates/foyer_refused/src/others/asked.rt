@@ -18,7 +18,7 @@ where
     let Ok(mut core) = waited::<E>(alloc) else {
         return Shown::Early;
     };
-    let Ok(Some(entry)) = core.get(&5) else {
+    let Ok(Some(entry)) = core.get(0, &5) else {
         return Shown::Wrong("a look-up");
     };
     let before = Look::of(&core);

@@ -20,6 +20,7 @@ impl<
 > Session<E, K, V, P, S, W, A, I> {
     ghost use Rattle.foyer_session.specs.Sessions.{session_of, taken, terms_of};
     ghost use Rattle.foyer_session.specs.Step.{ClearStep, EvictAllStep, FlushIfStep, ResizeStep, ReconfigureStep};
+    ghost use Rattle.foyer_session.specs.Terms.{terms_at};
 
     pub(super) fn clear(&mut self) -> Reply<K, V, P>
         ensures step { ClearStep (terms_of self.old) (session_of self.old) result.answer result.leaves (session_of self.new) }
@@ -33,13 +34,13 @@ impl<
         }
     }
 
-    pub(super) fn evict_all(&mut self) -> Reply<K, V, P>
-        ensures step { EvictAllStep (terms_of self.old) (session_of self.old) result.answer result.leaves (session_of self.new) }
+    pub(super) fn evict_all(&mut self, now: u64) -> Reply<K, V, P>
+        ensures step { EvictAllStep (terms_at now (terms_of self.old)) (session_of self.old) result.answer result.leaves (session_of self.new) }
         ensures taken { taken self.new ≡ taken self.old }
         ensures capacity { vec_capacity self.new.handles ≡ vec_capacity self.old.handles }
         ensures pieces { self.new.pieces ≡ self.old.pieces }
     {
-        match self.core.evict_all() {
+        match self.core.evict_all(now) {
             Ok(leaves) => Reply::new(Answer::Done, leaves),
             Err(refused) => {
                 let Refused { error, leaves } = refused;
@@ -63,13 +64,13 @@ impl<
         }
     }
 
-    pub(super) fn resize(&mut self, capacity: usize) -> Reply<K, V, P>
-        ensures step { ResizeStep (terms_of self.old) (session_of self.old) capacity result.answer result.leaves (session_of self.new) }
+    pub(super) fn resize(&mut self, now: u64, capacity: usize) -> Reply<K, V, P>
+        ensures step { ResizeStep (terms_of self.old) now (session_of self.old) capacity result.answer result.leaves (session_of self.new) }
         ensures taken { taken self.new ≡ taken self.old }
         ensures capacity { vec_capacity self.new.handles ≡ vec_capacity self.old.handles }
         ensures pieces { self.new.pieces ≡ self.old.pieces }
     {
-        match self.core.resize(capacity) {
+        match self.core.resize(now, capacity) {
             Ok(leaves) => Reply::new(Answer::Done, leaves),
             Err(refused) => {
                 let Refused { error, leaves } = refused;

@@ -5,7 +5,7 @@ ghost use Rattle.foyer_policy.specs.declared.error.Reason.TheVariants.{Fetch};
 ghost use Rattle.foyer_core.specs.CoreFetches.{Completed, EndsAt, open_in};
 ghost use Rattle.foyer_core.specs.Cores.{core_of, fetches_of, hashes_of, meaning_of_core};
 ghost use Rattle.foyer_core.specs.Inflight.{asked};
-ghost use Rattle.foyer_core.specs.State.{coming_in};
+ghost use Rattle.foyer_core.specs.State.{at_moment, coming_in};
 ghost use Rattle.foyer_core.specs.Waited.{ending_of};
 ghost use Rattle.foyer_session.specs.Answering.{Answering};
 ghost use Rattle.foyer_session.specs.Step.{ended_by, entries_by, nothing_by};
@@ -32,17 +32,18 @@ impl<
 > Session<E, K, V, P, S, W, A, I> {
     ghost use Rattle.foyer_session.specs.Sessions.{session_of, taken, terms_of};
     ghost use Rattle.foyer_session.specs.Step.{CompleteStep, CompletesPiece, CompletesWith, EndStep, FetchOrTakeStep, GetOrFetchStep, IsOpenStep};
+    ghost use Rattle.foyer_session.specs.Terms.{terms_at};
 
     // A handle of the key's record, or a token to wait with for its fetch.
-    pub(super) fn get_or_fetch(&mut self, key: &K, later: Option<u64>) -> Reply<K, V, P>
+    pub(super) fn get_or_fetch(&mut self, now: u64, key: &K, later: Option<u64>) -> Reply<K, V, P>
         requires clones { (k c : K) → K.is_clone k c → K.eq c k ≡ true }
         requires room { taken self.old < vec_capacity self.old.handles }
-        ensures step { GetOrFetchStep (terms_of self.old) (session_of self.old) key.now later result.answer result.leaves (session_of self.new) }
+        ensures step { GetOrFetchStep (terms_of self.old) now (session_of self.old) key.now later result.answer result.leaves (session_of self.new) }
         ensures taken { taken self.new ≤ taken self.old + 1 }
         ensures capacity { vec_capacity self.new.handles ≡ vec_capacity self.old.handles }
         ensures pieces { self.new.pieces ≡ self.old.pieces }
     {
-        let looked = match self.core.get_or_enqueue(key, later, ()) {
+        let looked = match self.core.get_or_enqueue(now, key, later, ()) {
             Ok(looked) => looked,
             Err(error) => return Reply::new(Answer::Refused(error), Vec::new(self.alloc)),
         };
@@ -67,9 +68,15 @@ impl<
     }
 
     // Ends a fetch of the key with a record of it.
-    pub(super) fn complete(&mut self, key: &K, fetch: u64, end: End<V, P>) -> Reply<K, V, P>
+    pub(super) fn complete(
+        &mut self,
+        now: u64,
+        key: &K,
+        fetch: u64,
+        end: End<V, P>,
+    ) -> Reply<K, V, P>
         requires clones { (k c : K) → K.is_clone k c → K.eq c k ≡ true }
-        ensures step { CompleteStep (terms_of self.old) (session_of self.old) key.now fetch end result.answer result.leaves (session_of self.new) }
+        ensures step { CompleteStep (terms_at now (terms_of self.old)) (session_of self.old) key.now fetch end result.answer result.leaves (session_of self.new) }
         ensures taken { taken self.new ≤ taken self.old }
         ensures capacity { vec_capacity self.new.handles ≡ vec_capacity self.old.handles }
         ensures pieces { self.new.pieces ≡ self.old.pieces }
@@ -77,16 +84,16 @@ impl<
         match end {
             End::Value(value, properties, source) => {
                 let target = FetchTarget::Entry { value, properties };
-                self.complete_with(key, fetch, target, source)
+                self.complete_with(now, key, fetch, target, source)
             }
-            End::PieceNo(number) => self.complete_piece(key, fetch, number),
+            End::PieceNo(number) => self.complete_piece(now, key, fetch, number),
         }
     }
 
     // With a clone of the piece of a number, which stays held.
-    fn complete_piece(&mut self, key: &K, fetch: u64, number: u64) -> Reply<K, V, P>
+    fn complete_piece(&mut self, now: u64, key: &K, fetch: u64, number: u64) -> Reply<K, V, P>
         requires clones { (k c : K) → K.is_clone k c → K.eq c k ≡ true }
-        ensures step { CompletesPiece (terms_of self.old) (session_of self.old) key.now fetch
+        ensures step { CompletesPiece (terms_at now (terms_of self.old)) (session_of self.old) key.now fetch
             (slice_get (session_of self.old).pieces number) result.answer result.leaves (session_of self.new) }
         ensures taken { taken self.new ≤ taken self.old }
         ensures capacity { vec_capacity self.new.handles ≡ vec_capacity self.old.handles }
@@ -99,23 +106,24 @@ impl<
             let error = Error::new(Reason::NoMemory);
             return Reply::new(Answer::Refused(error), Vec::new(self.alloc));
         };
-        self.complete_with(key, fetch, FetchTarget::Piece(piece), Source::Memory)
+        self.complete_with(now, key, fetch, FetchTarget::Piece(piece), Source::Memory)
     }
 
     fn complete_with(
         &mut self,
+        now: u64,
         key: &K,
         fetch: u64,
         target: FetchTarget<K, V, P>,
         source: Source,
     ) -> Reply<K, V, P>
         requires clones { (k c : K) → K.is_clone k c → K.eq c k ≡ true }
-        ensures step { CompletesWith (terms_of self.old) (session_of self.old) key.now fetch source target result.answer result.leaves (session_of self.new) }
+        ensures step { CompletesWith (terms_at now (terms_of self.old)) (session_of self.old) key.now fetch source target result.answer result.leaves (session_of self.new) }
         ensures taken { taken self.new ≤ taken self.old }
         ensures capacity { vec_capacity self.new.handles ≡ vec_capacity self.old.handles }
         ensures pieces { self.new.pieces ≡ self.old.pieces }
     {
-        let ended = complete_in(&mut self.core, key, fetch, target, source);
+        let ended = complete_in(&mut self.core, now, key, fetch, target, source);
         tell_ended(&mut self.handles, &mut self.waiting, ended)
     }
 
@@ -187,6 +195,7 @@ fn complete_in<
     I: Finder<K>,
 >(
     core: &mut CacheCore<E, K, V, P, S, W, A, (), u64, I>,
+    now: u64,
     key: &K,
     fetch: u64,
     target: FetchTarget<K, V, P>,
@@ -194,7 +203,7 @@ fn complete_in<
 ) -> Ended<K, V, P, ()>
     requires clones { (k c : K) → K.is_clone k c → K.eq c k ≡ true }
     ensures completed { let k : ℕ × K = (hashes_of core.old key.now, key.now) in
-        Completed (meaning_of_core core.old) (record {
+        Completed (at_moment now (meaning_of_core core.old)) (record {
           hash = hashes_of core.old;
           weighs = W.weighs (core_of core.old).weighter;
           admits = A.admits (core_of core.old).filter;
@@ -204,7 +213,7 @@ fn complete_in<
     ensures answering { let k : ℕ × K = (hashes_of core.old key.now, key.now) in
         Answering K.eq k (asked (Some fetch) (open_in (fetches_of core.old) k)) (fetches_of core.old) (fetches_of core.new) (ending_of result) }
 {
-    core.complete(key, fetch, target, source)
+    core.complete(now, key, fetch, target, source)
 }
 
 // Ends a fetch of the key with the fault, or as one whose task was dropped. Nobody gets an entry.

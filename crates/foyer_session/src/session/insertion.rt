@@ -25,26 +25,30 @@ impl<
 > Session<E, K, V, P, S, W, A, I> {
     ghost use Rattle.foyer_session.specs.Sessions.{session_of, taken, terms_of};
     ghost use Rattle.foyer_session.specs.Step.{InsertPieceStep, InsertStep};
+    ghost use Rattle.foyer_session.specs.Terms.{terms_at};
 
-    pub(super) fn insert(&mut self, key: K, value: V, properties: P) -> Reply<K, V, P>
+    pub(super) fn insert(&mut self, now: u64, key: K, value: V, properties: P) -> Reply<K, V, P>
         requires clones { (k c : K) → K.is_clone k c → K.eq c k ≡ true }
         requires room { taken self.old < vec_capacity self.old.handles }
-        ensures step { InsertStep (terms_of self.old) (session_of self.old) key value properties result.answer result.leaves (session_of self.new) }
+        ensures step { InsertStep (terms_at now (terms_of self.old)) (session_of self.old) key value properties result.answer result.leaves (session_of self.new) }
         ensures taken { taken self.new ≤ taken self.old + 1 }
         ensures capacity { vec_capacity self.new.handles ≡ vec_capacity self.old.handles }
         ensures pieces { self.new.pieces ≡ self.old.pieces }
     {
-        match self.core.insert_with_properties(key, value, properties) {
+        match self
+            .core
+            .insert_with_properties(now, key, value, properties)
+        {
             Ok(inserted) => tell_inserted(&mut self.handles, &mut self.waiting, inserted),
             Err(refused) => tell_refused(refused),
         }
     }
 
     // Inserts a clone of the piece of a number, which stays held.
-    pub(super) fn insert_piece(&mut self, number: u64) -> Reply<K, V, P>
+    pub(super) fn insert_piece(&mut self, now: u64, number: u64) -> Reply<K, V, P>
         requires clones { (k c : K) → K.is_clone k c → K.eq c k ≡ true }
         requires room { taken self.old < vec_capacity self.old.handles }
-        ensures step { InsertPieceStep (terms_of self.old) (session_of self.old) number result.answer result.leaves (session_of self.new) }
+        ensures step { InsertPieceStep (terms_at now (terms_of self.old)) (session_of self.old) number result.answer result.leaves (session_of self.new) }
         ensures taken { taken self.new ≤ taken self.old + 1 }
         ensures capacity { vec_capacity self.new.handles ≡ vec_capacity self.old.handles }
         ensures pieces { self.new.pieces ≡ self.old.pieces }
@@ -56,7 +60,7 @@ impl<
             let error = Error::new(Reason::NoMemory);
             return Reply::new(Answer::Refused(error), Vec::new(self.alloc));
         };
-        match self.core.insert_piece(piece) {
+        match self.core.insert_piece(now, piece) {
             Ok(inserted) => tell_inserted(&mut self.handles, &mut self.waiting, inserted),
             Err(refused) => tell_refused(refused),
         }

@@ -21,14 +21,14 @@ impl<
     ghost use Rattle.foyer_session.specs.Sessions.{session_of, taken, terms_of};
     ghost use Rattle.foyer_session.specs.Step.{GetStep, ContainsStep, TouchStep, RemoveStep};
 
-    pub(super) fn get(&mut self, key: &K) -> Reply<K, V, P>
+    pub(super) fn get(&mut self, now: u64, key: &K) -> Reply<K, V, P>
         requires room { taken self.old < vec_capacity self.old.handles }
-        ensures step { GetStep (terms_of self.old) (session_of self.old) key.now result.answer result.leaves (session_of self.new) }
+        ensures step { GetStep (terms_of self.old) now (session_of self.old) key.now result.answer result.leaves (session_of self.new) }
         ensures taken { taken self.new ≤ taken self.old + 1 }
         ensures capacity { vec_capacity self.new.handles ≡ vec_capacity self.old.handles }
         ensures pieces { self.new.pieces ≡ self.old.pieces }
     {
-        match self.core.get(key) {
+        match self.core.get(now, key) {
             Ok(Some(entry)) => {
                 let (handle, record) = handle::hand_out(&mut self.handles, entry);
                 Reply::new(Answer::Found { handle, record }, Vec::new(self.alloc))
@@ -38,10 +38,10 @@ impl<
         }
     }
 
-    pub(super) fn contains(&self, key: &K) -> Reply<K, V, P>
-        ensures { ContainsStep (terms_of self.now) (session_of self.now) key.now result.answer result.leaves (session_of self.now) }
+    pub(super) fn contains(&self, now: u64, key: &K) -> Reply<K, V, P>
+        ensures { ContainsStep (terms_of self.now) now (session_of self.now) key.now result.answer result.leaves (session_of self.now) }
     {
-        let answer = if self.core.contains(key) {
+        let answer = if self.core.contains(now, key) {
             Answer::Yes
         } else {
             Answer::No
@@ -49,13 +49,13 @@ impl<
         Reply::new(answer, Vec::new(self.alloc))
     }
 
-    pub(super) fn touch(&mut self, key: &K) -> Reply<K, V, P>
-        ensures step { TouchStep (terms_of self.old) (session_of self.old) key.now result.answer result.leaves (session_of self.new) }
+    pub(super) fn touch(&mut self, now: u64, key: &K) -> Reply<K, V, P>
+        ensures step { TouchStep (terms_of self.old) now (session_of self.old) key.now result.answer result.leaves (session_of self.new) }
         ensures taken { taken self.new ≡ taken self.old }
         ensures capacity { vec_capacity self.new.handles ≡ vec_capacity self.old.handles }
         ensures pieces { self.new.pieces ≡ self.old.pieces }
     {
-        match self.core.touch(key) {
+        match self.core.touch(now, key) {
             Ok(true) => Reply::new(Answer::Yes, Vec::new(self.alloc)),
             Ok(false) => Reply::new(Answer::No, Vec::new(self.alloc)),
             Err(error) => Reply::new(Answer::Refused(error), Vec::new(self.alloc)),

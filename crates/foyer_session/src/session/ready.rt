@@ -47,25 +47,25 @@ fn room_for<K: Drop, V: Drop, P: Drop, Q: Drop, C: Drop>(
             Ok(leaves) => Ok(leaves),
             Err(_) => Err(Error::new(Reason::NoMemory)),
         },
-        Command::Insert(_, _, _)
-        | Command::Get(_)
-        | Command::Contains(_)
-        | Command::Touch(_)
+        Command::Insert(_, _, _, _)
+        | Command::Get(_, _)
+        | Command::Contains(_, _)
+        | Command::Touch(_, _)
         | Command::Clone(_)
         | Command::TakePiece(_)
-        | Command::InsertPiece(_)
+        | Command::InsertPiece(_, _)
         | Command::Refs(_)
         | Command::Outdated(_)
-        | Command::GetOrFetch(_, _)
-        | Command::Complete(_, _, _)
+        | Command::GetOrFetch(_, _, _)
+        | Command::Complete(_, _, _, _)
         | Command::Fail(_, _, _)
         | Command::Cancel(_, _)
         | Command::FetchOrTake(_, _, _)
         | Command::IsOpen(_, _)
         | Command::Clear
-        | Command::EvictAll
+        | Command::EvictAll(_)
         | Command::FlushIf(_)
-        | Command::Resize(_)
+        | Command::Resize(_, _)
         | Command::Reconfigure(_)
         | Command::Capacity
         | Command::Usage

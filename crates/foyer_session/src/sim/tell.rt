@@ -1,6 +1,6 @@
 //! What is printed for a line.
 
-ghost use Rattle.std.specs.Prelude.{◌≡◌, ℕ, List, [], ◌++◌, codes};
+ghost use Rattle.std.specs.Prelude.{◌≡◌, ℕ, List, None, [], ◌++◌};
 ghost use Rattle.std.specs.Hash.{u64 as u64_input};
 ghost use Rattle.foyer_policy.specs.Errors.{number_of};
 ghost use Rattle.foyer_session.specs.Print.{WritesText};
@@ -33,65 +33,82 @@ pub enum Asked {
     Nothing,
     /// Nothing that there is.
     NoLine,
+    /// That the lines after it have this moment.
+    Moment(u64),
     /// That a command be carried out.
     Carry(SimCommand),
 }
 
-/// Carries out a line, and writes what is printed for it.
+/// Carries out a line at the moment, which it may set, and writes what is printed for it.
 pub fn tell<W: Write, S: HashBuilder, I: Finder<u64>>(
     writer: &mut W,
     session: &mut SimSession<S, I>,
+    now: &mut u64,
     line: Line,
 ) -> io::Result<()>
     ensures { (text : List ℕ)
         × LineTold (meaning_of_session session.old) (λ builder key. S.hash_of builder (u64_input key))
-        (session_of session.old) line text (session_of session.new)
+        (record { now = now.old; session = session_of session.old }) line text
+        (record { now = now.new; session = session_of session.new })
         × WritesText (W.contents writer.old) (W.contents writer.new) result text }
 {
-    match asked_by(line) {
+    match asked_by(*now, line) {
         Asked::Nothing => Ok(()),
-        Asked::NoLine => tell_bad(writer, session),
+        Asked::NoLine => tell_words(writer, session, b"bad line"),
+        Asked::Moment(moment) => {
+            *now = moment;
+            tell_words(writer, session, b"ok")
+        }
         Asked::Carry(command) => tell_command(writer, session, command),
     }
 }
 
-// What a line asks for.
-fn asked_by(line: Line) -> Asked
-    ensures { result ≡ asked_by line }
+// What a line asks for at a moment.
+fn asked_by(now: u64, line: Line) -> Asked
+    ensures { result ≡ asked_by now line }
 {
     match line {
         Line::Blank => Asked::Nothing,
         Line::Bad => Asked::NoLine,
-        Line::Insert { key, value, weight } => Asked::Carry(plain_insert(key, value, weight)),
-        Line::Phantom { key, value, weight } => Asked::Carry(phantom_insert(key, value, weight)),
-        Line::Get(key) => Asked::Carry(Command::Get(key)),
-        Line::Contains(key) => Asked::Carry(Command::Contains(key)),
-        Line::Touch(key) => Asked::Carry(Command::Touch(key)),
+        Line::Insert {
+            key,
+            value,
+            weight,
+            expires,
+        } => Asked::Carry(plain_insert(now, key, value, weight, expires)),
+        Line::Phantom { key, value, weight } => {
+            Asked::Carry(phantom_insert(now, key, value, weight))
+        }
+        Line::Get(key) => Asked::Carry(Command::Get(now, key)),
+        Line::Contains(key) => Asked::Carry(Command::Contains(now, key)),
+        Line::Touch(key) => Asked::Carry(Command::Touch(now, key)),
         Line::Remove(key) => Asked::Carry(Command::Remove(key)),
         Line::Drop(number) => Asked::Carry(Command::Drop(number)),
         Line::Clear => Asked::Carry(Command::Clear),
-        Line::Evict => Asked::Carry(Command::EvictAll),
-        Line::Resize(capacity) => Asked::Carry(Command::Resize(capacity)),
+        Line::Evict => Asked::Carry(Command::EvictAll(now)),
+        Line::Resize(capacity) => Asked::Carry(Command::Resize(now, capacity)),
         Line::High(ratio) => Asked::Carry(reconfiguration(ratio)),
-        Line::Fetch(key) => Asked::Carry(Command::GetOrFetch(key, None)),
-        Line::Done { key, fetch, value } => Asked::Carry(completion(key, fetch, value)),
+        Line::Fetch(key) => Asked::Carry(Command::GetOrFetch(now, key, None)),
+        Line::At(moment) => Asked::Moment(moment),
+        Line::Done { key, fetch, value } => Asked::Carry(completion(now, key, fetch, value)),
         Line::Cancel { key, fetch } => Asked::Carry(Command::Cancel(key, fetch)),
     }
 }
 
-// The insert of a plain record.
-fn plain_insert(key: u64, value: u64, weight: usize) -> SimCommand
-    ensures { result ≡ Insert key (record { value = value; weight = weight }) plain }
+// The insert of a plain record, which may expire.
+fn plain_insert(now: u64, key: u64, value: u64, weight: usize, expires: Option<u64>) -> SimCommand
+    ensures { result ≡ Insert now key (record { value = value; weight = weight }) (plain expires) }
 {
-    Command::Insert(key, SimValue { value, weight }, CacheProperties::default())
+    let properties = CacheProperties::default().with_expiry(expires);
+    Command::Insert(now, key, SimValue { value, weight }, properties)
 }
 
 // The insert of a phantom record.
-fn phantom_insert(key: u64, value: u64, weight: usize) -> SimCommand
-    ensures { result ≡ Insert key (record { value = value; weight = weight }) phantom }
+fn phantom_insert(now: u64, key: u64, value: u64, weight: usize) -> SimCommand
+    ensures { result ≡ Insert now key (record { value = value; weight = weight }) phantom }
 {
     let properties = CacheProperties::default().with_phantom(true);
-    Command::Insert(key, SimValue { value, weight }, properties)
+    Command::Insert(now, key, SimValue { value, weight }, properties)
 }
 
 // The configuration of LRU whose pool of high priority has this share.
@@ -105,11 +122,12 @@ fn reconfiguration(ratio: Ratio) -> SimCommand
 }
 
 // The end of a fetch with a plain record of the weight 1, which comes from outside.
-fn completion(key: u64, fetch: u64, value: u64) -> SimCommand
-    ensures { result ≡ Complete key fetch (Value (record { value = value; weight = 1 }) plain Outer) }
+fn completion(now: u64, key: u64, fetch: u64, value: u64) -> SimCommand
+    ensures { result ≡ Complete now key fetch (Value (record { value = value; weight = 1 }) (plain None) Outer) }
 {
     let value = SimValue { value, weight: 1 };
     Command::Complete(
+        now,
         key,
         fetch,
         End::Value(value, CacheProperties::default(), Source::Outer),
@@ -163,14 +181,15 @@ fn tell_refusal<W: Write>(
     write_rest::<W, CacheProperties>(writer, &[], usage, entries)
 }
 
-// Says that a line is none.
-fn tell_bad<W: Write, S: HashBuilder, I: Finder<u64>>(
+// Writes words that are no answer, with the usage and the entries after them.
+fn tell_words<W: Write, S: HashBuilder, I: Finder<u64>>(
     writer: &mut W,
     session: &SimSession<S, I>,
+    words: &[u8],
 ) -> io::Result<()>
     ensures { WritesText (W.contents writer.old) (W.contents writer.new) result
-        (line_text (meaning_of_session session.now) (codes "bad line") [] (session_of session.now)) }
+        (line_text (meaning_of_session session.now) words.now [] (session_of session.now)) }
 {
-    write_out(writer, b"bad line")?;
+    write_out(writer, words)?;
     write_rest::<W, CacheProperties>(writer, &[], session.usage(), session.entries())
 }

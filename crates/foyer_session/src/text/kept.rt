@@ -9,8 +9,8 @@ use super::parse::line_of;
 use std::marker::Model;
 
 // A line of this many bytes in which no space follows a space, and none comes first, is bad whatever
-// follows: it has a fifth word or a word of more than 20 bytes.
-const MOST: usize = 85;
+// follows: it has a sixth word or a word of more than 20 bytes.
+const MOST: usize = 106;
 
 /// What is needed of the beginning of a line: its bytes without the spaces that part no words, and of
 /// those as many as can matter.

@@ -1,7 +1,7 @@
 //! A line as a command.
 
 ghost use Rattle.std.specs.Prelude.{◌≡◌, ◌≢◌, ◌<◌, ◌≤◌, ◌∷◌, [], All, IfSome, IfNone, bytes_eq, length, slice_index, take};
-ghost use Rattle.foyer_session.specs.Text.{words, line_of, line_with_none, line_with_one, line_with_two, line_with_three, high_line, insert_line};
+ghost use Rattle.foyer_session.specs.Text.{words, line_of, line_with_none, line_with_one, line_with_two, line_with_three, line_with_four, high_line, insert_line};
 
 use super::Line;
 use super::number::number_of;
@@ -32,8 +32,14 @@ pub fn line_of(line: &[u8]) -> Line
     let Some(third) = number_of(word) else {
         return Line::Bad;
     };
+    let Some((word, rest)) = next_word(rest) else {
+        return with_three(verb, first, second, third);
+    };
+    let Some(fourth) = number_of(word) else {
+        return Line::Bad;
+    };
     match next_word(rest) {
-        None => with_three(verb, first, second, third),
+        None => with_four(verb, first, second, third, fourth),
         Some(_) => Line::Bad,
     }
 }
@@ -71,6 +77,8 @@ fn with_one(verb: &[u8], number: u64) -> Line
         Line::Resize(number as usize)
     } else if is_word(verb, b"fetch") {
         Line::Fetch(number)
+    } else if is_word(verb, b"at") {
+        Line::At(number)
     } else {
         Line::Bad
     }
@@ -119,13 +127,35 @@ fn with_three(verb: &[u8], first: u64, second: u64, third: u64) -> Line
     }
 }
 
+// The line of a first word and four numbers, of which the last one is when a record expires.
+#[tactic(auto, unfolding(crate::specs::Text::line_with_four))]
+fn with_four(verb: &[u8], key: u64, value: u64, weight: u64, expires: u64) -> Line
+    ensures { result ≡ line_with_four verb.now key value weight expires }
+{
+    if is_word(verb, b"insert") {
+        Line::Insert {
+            key,
+            value,
+            weight: weight as usize,
+            expires: Some(expires),
+        }
+    } else {
+        Line::Bad
+    }
+}
+
 // The line of a record that is to come in.
 #[tactic(auto, unfolding(crate::specs::Text::insert_line))]
 fn insert(verb: &[u8], key: u64, value: u64, weight: usize) -> Line
     ensures { result ≡ insert_line verb.now key value weight }
 {
     if is_word(verb, b"insert") {
-        Line::Insert { key, value, weight }
+        Line::Insert {
+            key,
+            value,
+            weight,
+            expires: None,
+        }
     } else if is_word(verb, b"phantom") {
         Line::Phantom { key, value, weight }
     } else {

@@ -34,11 +34,11 @@ fn a_record_that_left_comes_in_by_its_piece(rt: HostRuntime) -> Result<(), Fail>
     answer(&mut session, Plain::Drop(1))?;
     assert_eq!(rt; session.entries(), 0);
     assert_eq!(rt;
-        handed_out(&answer(&mut session, Plain::InsertPiece(0))?),
+        handed_out(&answer(&mut session, Plain::InsertPiece(0, 0))?),
         Some((2, 10))
     );
     assert_eq!(rt; session.entries(), 1);
-    assert!(rt; answer(&mut session, Plain::InsertPiece(1))? == Answer::NotHeld);
+    assert!(rt; answer(&mut session, Plain::InsertPiece(0, 1))? == Answer::NotHeld);
     Ok(())
 }
 
@@ -59,7 +59,7 @@ fn a_predicate_takes_held_records_out(rt: HostRuntime) -> Result<(), Fail> {
 #[test]
 fn the_sums_are_told(rt: HostRuntime) -> Result<(), Fail> {
     let mut session = filled(rt.alloc(), 3)?;
-    answer(&mut session, Plain::Resize(2))?;
+    answer(&mut session, Plain::Resize(0, 2))?;
     assert!(rt; answer(&mut session, Plain::Capacity)? == Answer::Number(2));
     assert!(rt; answer(&mut session, Plain::Usage)? == Answer::Number(2));
     assert!(rt; answer(&mut session, Plain::Entries)? == Answer::Number(2));

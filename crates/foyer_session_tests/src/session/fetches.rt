@@ -7,9 +7,9 @@ use std::sync::Arc;
 
 // Two ask for the key 7, of whom the second brings a builder.
 fn two_wait(rt: &impl Abort, session: &mut SessionOf<Fifo>) -> Result<(), Fail> {
-    let lead = answer(session, Plain::GetOrFetch(7, None))?;
+    let lead = answer(session, Plain::GetOrFetch(0, 7, None))?;
     assert!(rt; lead == Answer::Lead { fetch: 0, token: 0 });
-    let wait = answer(session, Plain::GetOrFetch(7, Some(30)))?;
+    let wait = answer(session, Plain::GetOrFetch(0, 7, Some(30)))?;
     assert!(rt; wait == Answer::Wait { token: 1 });
     assert!(rt; answer(session, Plain::IsOpen(7, 0))? == Answer::Yes);
     Ok(())
@@ -35,7 +35,7 @@ fn a_value_answers_all(rt: HostRuntime) -> Result<(), Fail> {
     let mut session = session::<Fifo>(rt.alloc(), 4)?;
     two_wait(&rt, &mut session)?;
     let end = End::Value(70, CacheProperties::default(), Source::Outer);
-    let reply = session.step(Plain::Complete(7, 0, end))?;
+    let reply = session.step(Plain::Complete(0, 7, 0, end))?;
     let Answer::Answered { answers, record } = &reply.answer else {
         panic!(rt; "nobody is answered");
     };
@@ -53,9 +53,9 @@ fn a_piece_answers_all(rt: HostRuntime) -> Result<(), Fail> {
     answer(&mut session, Plain::TakePiece(0))?;
     answer(&mut session, Plain::Remove(7))?;
     two_wait(&rt, &mut session)?;
-    let unknown = answer(&mut session, Plain::Complete(7, 0, End::PieceNo(1)))?;
+    let unknown = answer(&mut session, Plain::Complete(0, 7, 0, End::PieceNo(1)))?;
     assert!(rt; unknown == Answer::NotHeld);
-    let answered = answer(&mut session, Plain::Complete(7, 0, End::PieceNo(0)))?;
+    let answered = answer(&mut session, Plain::Complete(0, 7, 0, End::PieceNo(0)))?;
     let Answer::Answered { answers, .. } = &answered else {
         panic!(rt; "nobody is answered");
     };

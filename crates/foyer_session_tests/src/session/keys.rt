@@ -28,8 +28,8 @@ fn a_key_that_is_not_cloned_is_refused(rt: HostRuntime) -> Result<(), Fail> {
     let mut session: Session<Fifo, Picky, u64, CacheProperties, ModHasher, UnitWeighter, AdmitAll> =
         Session::new(rt.alloc(), CacheCore::new(rt.alloc(), config)?);
     for command in [
-        OfKeys::Insert(Picky(7), 70, CacheProperties::default()),
-        OfKeys::GetOrFetch(Picky(7), None),
+        OfKeys::Insert(0, Picky(7), 70, CacheProperties::default()),
+        OfKeys::GetOrFetch(0, Picky(7), None),
     ] {
         let Answer::Refused(error) = session.step(command)?.answer else {
             panic!(rt; "it is not refused");
@@ -37,7 +37,7 @@ fn a_key_that_is_not_cloned_is_refused(rt: HostRuntime) -> Result<(), Fail> {
         assert_eq!(rt; error.number(), 7);
     }
     assert_eq!(rt; session.entries(), 0);
-    let reply = session.step(OfKeys::GetOrFetch(Picky(8), None))?;
+    let reply = session.step(OfKeys::GetOrFetch(0, Picky(8), None))?;
     assert!(rt; matches!(reply.answer, Answer::Lead { fetch: 0, token: 0 }));
     Ok(())
 }

@@ -10,7 +10,7 @@ fn commands<C: Drop>(alloc: Global) -> Result<Vec<CommandOf<C>>, Fail> {
         insert(1, 10),
         insert(2, 20),
         insert(3, 30),
-        Command::Get(1),
+        Command::Get(0, 1),
         insert(4, 40),
     ]?)
 }

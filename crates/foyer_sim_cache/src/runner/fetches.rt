@@ -16,7 +16,7 @@ impl<H: Wait + Drop> Runner<H> {
         let promise = Promise::new(self.rt.alloc())?;
         let later = promise.share()?;
         let mut led = Led { task: None };
-        let look = match self.cache.get_or_fetch(&key, || later, &mut led) {
+        let look = match self.cache.get_or_fetch(self.now, &key, || later, &mut led) {
             Ok(look) => look,
             Err(error) => return Ok(Told::refused(error)),
         };

@@ -2,7 +2,7 @@ use Rattle.std.proofs.Common.{◌≡◌, Some, None, true, refl}
 use Rattle.foyer_core.specs.CoreFetches.{open_in}
 use Rattle.foyer_core.specs.Cores.{core_of, fetches_of, hashes_of, meaning_of_core}
 use Rattle.foyer_core.specs.Inflight.{asked}
-use Rattle.foyer_core.specs.State.{coming_in}
+use Rattle.foyer_core.specs.State.{at_moment, coming_in}
 use Rattle.foyer_core.specs.Waited.{ending_of}
 use Rattle.examples_callers.proofs.Served.{served}
 use Rattle.examples_callers.proofs.cache.complete.Goals as goal
@@ -12,7 +12,7 @@ returns-clause-same g c =
     let numbers = c.args.numbers.now in
     let key = c.args.key in
     let after = c.complete-answers.new.self in
-    served (meaning_of_core numbers)
+    served (at_moment c.args.now (meaning_of_core numbers))
     record {
       hash = hashes_of numbers;
       weighs = λ _ number weight. weight ≡ number;

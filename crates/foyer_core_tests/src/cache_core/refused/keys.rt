@@ -25,7 +25,7 @@ fn keyed(rt: &impl Abort, alloc: Global) -> std::result::Result<(Keyed, Grants),
     let grants = Arc::new(alloc, AtomicU64::new(2))?;
     let mut core = CacheCore::new(alloc, config(2, 1))?;
     for number in 1..3 {
-        let made = core.insert(RefusingKey::new(number, &grants)?, 0);
+        let made = core.insert(0, RefusingKey::new(number, &grants)?, 0);
         assert_eq!(rt; came_in(rt, &mut core, made), (true, 0));
     }
     assert_eq!(rt; grants.load(Ordering::SeqCst), 0);
@@ -64,15 +64,15 @@ fn came_in(
 fn an_insert_needs_a_clone_of_the_key(rt: HostRuntime) -> Done {
     let (mut core, grants) = keyed(&rt, rt.alloc())?;
     let phantom = CacheProperties::default().with_phantom(true);
-    let made = core.insert_with_properties(RefusingKey::new(3, &grants)?, 0, phantom);
+    let made = core.insert_with_properties(0, RefusingKey::new(3, &grants)?, 0, phantom);
     assert_eq!(rt; came_in(&rt, &mut core, made), (true, 1));
-    let made = core.insert(RefusingKey::new(3, &grants)?, 0);
+    let made = core.insert(0, RefusingKey::new(3, &grants)?, 0);
     assert_eq!(rt; came_in(&rt, &mut core, made), (false, 0));
     assert_eq!(rt; (core.usage(), core.entries()), (2, 2));
     grants.store(1, Ordering::SeqCst);
-    let made = core.insert(RefusingKey::new(3, &grants)?, 0);
+    let made = core.insert(0, RefusingKey::new(3, &grants)?, 0);
     assert_eq!(rt; came_in(&rt, &mut core, made), (true, 1));
-    assert!(rt; core.contains(&RefusingKey::new(3, &grants)?));
+    assert!(rt; core.contains(0, &RefusingKey::new(3, &grants)?));
     Ok(())
 }
 
@@ -81,25 +81,28 @@ fn an_insert_needs_a_clone_of_the_key(rt: HostRuntime) -> Done {
 fn a_piece_that_comes_back_needs_a_clone_of_the_key(rt: HostRuntime) -> Done {
     let (mut core, grants) = keyed(&rt, rt.alloc())?;
     let one = RefusingKey::new(1, &grants)?;
-    let entry = core.get(&one).expect(&rt, "a get").expect(&rt, "an entry");
+    let entry = core
+        .get(0, &one)
+        .expect(&rt, "a get")
+        .expect(&rt, "an entry");
     let piece = entry.piece().expect(&rt, "a piece");
     drop(core.drop_entry(entry));
-    let made = core.insert_piece(piece.clone()?);
+    let made = core.insert_piece(0, piece.clone()?);
     assert_eq!(rt; came_in(&rt, &mut core, made), (true, 0));
     core.clear()?;
-    let made = core.insert_piece(piece.clone()?);
+    let made = core.insert_piece(0, piece.clone()?);
     assert_eq!(rt; came_in(&rt, &mut core, made), (false, 0));
-    assert_eq!(rt; (core.contains(&one), core.usage()), (false, 0));
+    assert_eq!(rt; (core.contains(0, &one), core.usage()), (false, 0));
     grants.store(1, Ordering::SeqCst);
-    let made = core.insert_piece(piece);
+    let made = core.insert_piece(0, piece);
     assert_eq!(rt; came_in(&rt, &mut core, made), (true, 0));
-    assert_eq!(rt; (core.contains(&one), core.usage()), (true, 1));
+    assert_eq!(rt; (core.contains(0, &one), core.usage()), (true, 1));
     Ok(())
 }
 
 // A key that is looked up: the fetch that is led, or none where memory is refused.
 fn lead(rt: &impl Abort, core: &mut Keyed, key: &RefusingKey) -> Option<u64> {
-    match core.get_or_enqueue(key, None, 5) {
+    match core.get_or_enqueue(0, key, None, 5) {
         Ok(
             Lookup::Lead {
                 fetch,
@@ -132,13 +135,13 @@ fn a_fetch_needs_a_clone_of_the_key(rt: HostRuntime) -> Done {
         found,
         answers,
         leaves,
-    } = core.complete(&three, 0, FetchTarget::from(30), Source::Outer);
+    } = core.complete(0, &three, 0, FetchTarget::from(30), Source::Outer);
     assert!(rt; found && leaves.is_empty() && answers.waiters.len() == 1);
     match &answers.outcome {
         Outcome::Fault(error) => assert_eq!(rt; error.number(), 7),
         _ => panic!(rt; "the completion is not refused"),
     }
     core.drop_answers(answers);
-    assert!(rt; !core.is_open(&three, 0) && !core.contains(&three) && core.usage() == 2);
+    assert!(rt; !core.is_open(&three, 0) && !core.contains(0, &three) && core.usage() == 2);
     Ok(())
 }

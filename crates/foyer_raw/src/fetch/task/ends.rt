@@ -36,7 +36,7 @@ where
         }
     }
 
-    // Ends the fetch with what was fetched, and answers those who wait. Where the fetch is not open, nothing happens, and
+    // Ends the fetch, at its leader's moment, with what was fetched, and answers those who wait. Where the fetch is not open, nothing happens, and
     // neither the weighter nor the filter is asked.
     pub(super) fn complete(&self, key: Option<K>, target: FetchTarget<K, V, P>, source: Source) {
         let Some(key) = key else {
@@ -56,7 +56,11 @@ where
     // Ends the fetch with a value.
     fn complete_value(&self, key: K, value: V, properties: P, source: Source) {
         let kept = self.shares.shared.data(self.hash, key, value, properties);
-        let ended = self.shares.shared.shards.complete(self.id, kept, source);
+        let ended = self
+            .shares
+            .shared
+            .shards
+            .complete(self.moment, self.id, kept, source);
         self.shares.ended(ended);
     }
 
@@ -65,7 +69,7 @@ where
         let ended = self
             .shares
             .shared
-            .complete_piece(self.hash, key, self.id, piece);
+            .complete_piece(self.moment, self.hash, key, self.id, piece);
         self.shares.ended(ended);
     }
 

@@ -8,5 +8,6 @@ use Rattle.foyer_session.proofs.sim.simulate.Given as goal
 abbrev pub invariant-loop-turn : goal.invariant-loop-turn
 invariant-loop-turn g l = SoFar
     (LineTold (meaning_of_session l.fn.session) (λ builder key. g.S.HashBuilder.hash_of builder (u64_input key)))
-    (session_of l.fn.session) (session_of l.session) (g.R.Read.remaining l.fn.reader) (g.R.Read.remaining l.reader)
+    (record { now = 0; session = session_of l.fn.session }) (record { now = l.moment; session = session_of l.session })
+    (g.R.Read.remaining l.fn.reader) (g.R.Read.remaining l.reader)
     (g.W.Write.contents l.fn.writer) (g.W.Write.contents l.writer)

@@ -5,11 +5,13 @@ use Rattle.foyer_core.specs.CoreFetches.{Completed, open_in}
 use Rattle.foyer_core.specs.Cores.{core_of, fetches_of, hashes_of, meaning_of_core}
 use Rattle.foyer_core.specs.Inflight.{OpenFetch, asked}
 use Rattle.foyer_core.specs.Shards.{opens_of}
-use Rattle.foyer_core.specs.State.{coming_in}
+use Rattle.foyer_core.specs.State.{at_moment, coming_in}
 use Rattle.foyer_core.specs.Waited.{ending_of}
 use Rattle.foyer_core.proofs.Arriving.{asked_open, place_waited}
 use Rattle.foyer_core.proofs.EndLaws.{end_bounded, end_found, end_stays, end_told, same_stays}
-use Rattle.foyer_core.proofs.Sound.{core_sound}
+use Rattle.foyer_core.proofs.Sound.{core_sound_at}
+use Rattle.foyer_core.proofs.Moments.{timed_lawful}
+use Rattle.foyer_core.proofs.MomentLaws.{bounds_target_at, finds_target_at}
 use Rattle.foyer_core.proofs.cache_core.CacheCore.complete.Goals as goal
 
 pub returns-then-not-is_open-clause-stay : goal.returns-then-not-is_open-clause-stay
@@ -19,7 +21,7 @@ pub returns-in-Entry : goal.returns-in-Entry
 returns-in-Entry g c =
     let s = c.args.self.now in
     let t = c.complete_value.new.self in
-    let m = meaning_of_core s in
+    let m = at_moment c.args.now (meaning_of_core s) in
     let key = c.args.key.now in
     let k : ℕ × g.row.K.Denot = (hashes_of s key, key) in
     let ended = ending_of c.complete_value.result in
@@ -28,10 +30,10 @@ returns-in-Entry g c =
     let properties = λ (p : g.row.P.Denot) (admitted : Bool).
     coming_in g.P.Properties.location_of g.P.Properties.with_phantom_of admitted p in
     let laws = g.met.K.Eq.laws in
-    let good = g.met.E.Eviction.lawful in
+    let good = timed_lawful c.args.now g.E.Eviction.model g.met.E.Eviction.lawful in
     let equal : (a b : g.row.K.Denot) → g.K.PartialEq.eq a b ≡ true → hashes_of s a ≡ hashes_of s b =
     λ a b same. ap (g.S.HashBuilder.hash_of s.hash_builder) (g.met.K.Hash.respects_eq a b same) in
-    let sound = core_sound s laws good equal in
+    let sound = core_sound_at c.args.now s laws g.met.E.Eviction.lawful equal in
     let found = asked_open c.args.fetch (open_in (fetches_of s) k)
     (c.is_open.ensures.is_open.0 c.if-not-is_open.false) in
     let opened = asked (Some c.args.fetch) (open_in (fetches_of s) k) in
@@ -51,12 +53,16 @@ returns-in-Entry g c =
     let hashes = λ (b : g.row.S.Denot) (q : g.row.K.Denot). g.S.HashBuilder.hash_of b (g.K.Hash.hash_input q) in
     record {
       completed = completed;
-      found = end_found m laws good hashes (core_of s) (core_of t) equal sound (fetches_of s) (fetches_of t) c.args.source key
+      found = finds_target_at (meaning_of_core s) c.args.now (hashes_of t) g.P.Properties.location_of admits
+          c.args.target key ended.outcome (core_of t)
+          (end_found m laws good hashes (core_of s) (core_of t) equal sound (fetches_of s) (fetches_of t) c.args.source key
           ended weighs admits g.P.Properties.location_of g.P.Properties.with_phantom_of c.args.target opened waited
-          completed;
-      bounded = end_bounded m laws good hashes (core_of s) (core_of t) equal sound (fetches_of s) (fetches_of t) c.args.source key
+          completed);
+      bounded = bounds_target_at (meaning_of_core s) c.args.now g.P.Properties.location_of admits c.args.target
+          (hashes_of s key) key ended.outcome (core_of s) (core_of t)
+          (end_bounded m laws good hashes (core_of s) (core_of t) equal sound (fetches_of s) (fetches_of t) c.args.source key
           ended weighs admits g.P.Properties.location_of g.P.Properties.with_phantom_of c.args.target opened waited
-          completed;
+          completed);
       stay = end_stays m laws good hashes (core_of s) (core_of t) equal sound (fetches_of s) (fetches_of t) c.args.source key
           ended weighs admits properties c.args.target opened waited completed;
       told = end_told m laws good hashes (core_of s) (core_of t) equal sound (fetches_of s) (fetches_of t) c.args.source key
@@ -67,7 +73,7 @@ pub returns-in-Piece : goal.returns-in-Piece
 returns-in-Piece g c =
     let s = c.args.self.now in
     let t = c.complete_piece.new.self in
-    let m = meaning_of_core s in
+    let m = at_moment c.args.now (meaning_of_core s) in
     let key = c.args.key.now in
     let k : ℕ × g.row.K.Denot = (hashes_of s key, key) in
     let ended = ending_of c.complete_piece.result in
@@ -76,10 +82,10 @@ returns-in-Piece g c =
     let properties = λ (p : g.row.P.Denot) (admitted : Bool).
     coming_in g.P.Properties.location_of g.P.Properties.with_phantom_of admitted p in
     let laws = g.met.K.Eq.laws in
-    let good = g.met.E.Eviction.lawful in
+    let good = timed_lawful c.args.now g.E.Eviction.model g.met.E.Eviction.lawful in
     let equal : (a b : g.row.K.Denot) → g.K.PartialEq.eq a b ≡ true → hashes_of s a ≡ hashes_of s b =
     λ a b same. ap (g.S.HashBuilder.hash_of s.hash_builder) (g.met.K.Hash.respects_eq a b same) in
-    let sound = core_sound s laws good equal in
+    let sound = core_sound_at c.args.now s laws g.met.E.Eviction.lawful equal in
     let found = asked_open c.args.fetch (open_in (fetches_of s) k)
     (c.is_open.ensures.is_open.0 c.if-not-is_open.false) in
     let opened = asked (Some c.args.fetch) (open_in (fetches_of s) k) in
@@ -99,12 +105,16 @@ returns-in-Piece g c =
     let hashes = λ (b : g.row.S.Denot) (q : g.row.K.Denot). g.S.HashBuilder.hash_of b (g.K.Hash.hash_input q) in
     record {
       completed = completed;
-      found = end_found m laws good hashes (core_of s) (core_of t) equal sound (fetches_of s) (fetches_of t) c.args.source key
+      found = finds_target_at (meaning_of_core s) c.args.now (hashes_of t) g.P.Properties.location_of admits
+          c.args.target key ended.outcome (core_of t)
+          (end_found m laws good hashes (core_of s) (core_of t) equal sound (fetches_of s) (fetches_of t) c.args.source key
           ended weighs admits g.P.Properties.location_of g.P.Properties.with_phantom_of c.args.target opened waited
-          completed;
-      bounded = end_bounded m laws good hashes (core_of s) (core_of t) equal sound (fetches_of s) (fetches_of t) c.args.source key
+          completed);
+      bounded = bounds_target_at (meaning_of_core s) c.args.now g.P.Properties.location_of admits c.args.target
+          (hashes_of s key) key ended.outcome (core_of s) (core_of t)
+          (end_bounded m laws good hashes (core_of s) (core_of t) equal sound (fetches_of s) (fetches_of t) c.args.source key
           ended weighs admits g.P.Properties.location_of g.P.Properties.with_phantom_of c.args.target opened waited
-          completed;
+          completed);
       stay = end_stays m laws good hashes (core_of s) (core_of t) equal sound (fetches_of s) (fetches_of t) c.args.source key
           ended weighs admits properties c.args.target opened waited completed;
       told = end_told m laws good hashes (core_of s) (core_of t) equal sound (fetches_of s) (fetches_of t) c.args.source key

@@ -3,6 +3,7 @@ use Rattle.std.proofs.lemmas.List.{length-map}
 use Rattle.std.proofs.lemmas.Bool.{eqb-true}
 use Rattle.std.specs.Prelude.{◌==◌, slice_set}
 use Rattle.foyer_core.specs.Core.{shard_of}
+use Rattle.foyer_core.specs.State.{at_moment}
 use Rattle.foyer_core.specs.Cores.{core_of, fetches_of, hashes_of, meaning_of_core}
 use Rattle.foyer_core.specs.Indexer.{same_key}
 use Rattle.foyer_core.specs.Inflight.{asked}
@@ -19,6 +20,7 @@ use Rattle.foyer_core.proofs.Hashing.{IsHashed, hashed_over, records_over}
 use Rattle.foyer_core.proofs.Loads.{sums_set, usage_fits, entries_fit}
 use Rattle.foyer_core.proofs.Origins.{placed_over}
 use Rattle.foyer_core.proofs.PieceTold.{returning_at, under_at}
+use Rattle.foyer_core.proofs.Moments.{timed_lawful}
 use Rattle.foyer_core.proofs.cache_core.CacheCore.complete_piece.Goals as goal
 
 pub invariant_of-self-clause-whole : goal.invariant_of-self-clause-whole
@@ -26,7 +28,7 @@ invariant_of-self-clause-whole g c =
     let s = c.args.self.now in
     let x = c.index_mut.result.now in
     let y = c.complete_piece-ended.new.self in
-    let m = meaning_of_core s in
+    let m = at_moment c.args.now (meaning_of_core s) in
     let n = vec_len s.shards in
     let place = c.shard_index-place.result in
     let piece = c.args.piece in
@@ -39,7 +41,7 @@ invariant_of-self-clause-whole g c =
     let equal : (a b : g.row.K.Denot) → g.K.PartialEq.eq a b ≡ true → hashes_of s a ≡ hashes_of s b =
     λ a b same. ap (g.S.HashBuilder.hash_of s.hash_builder) (g.met.K.Hash.respects_eq a b same) in
     let laws = g.met.K.Eq.laws in
-    let good = g.met.E.Eviction.lawful in
+    let good = timed_lawful c.args.now g.E.Eviction.model g.met.E.Eviction.lawful in
     let recs = records_over (hashes_of s) state_of s.shards.items n place x s.shards.ok.0
     c.shard_index-place.ensures.within c.index_mut.ensures.value s.whole.belong s.whole.hashed in
     let home = c.shard_index.result == place in
@@ -105,7 +107,7 @@ returns g c =
     let s = c.args.self.now in
     let x = c.index_mut.result.now in
     let y = c.complete_piece-ended.new.self in
-    let m = meaning_of_core s in
+    let m = at_moment c.args.now (meaning_of_core s) in
     let n = vec_len s.shards in
     let place = c.shard_index-place.result in
     let piece = c.args.piece in
@@ -118,7 +120,7 @@ returns g c =
     let equal : (a b : g.row.K.Denot) → g.K.PartialEq.eq a b ≡ true → hashes_of s a ≡ hashes_of s b =
     λ a b same. ap (g.S.HashBuilder.hash_of s.hash_builder) (g.met.K.Hash.respects_eq a b same) in
     let laws = g.met.K.Eq.laws in
-    let good = g.met.E.Eviction.lawful in
+    let good = timed_lawful c.args.now g.E.Eviction.model g.met.E.Eviction.lawful in
     let recs = records_over (hashes_of s) state_of s.shards.items n place x s.shards.ok.0
     c.shard_index-place.ensures.within c.index_mut.ensures.value s.whole.belong s.whole.hashed in
     let home = c.shard_index.result == place in

@@ -7,7 +7,7 @@ use Rattle.foyer_core.specs.Cores.{core_of, fetches_of, hashes_of, meaning_of_co
 use Rattle.foyer_core.specs.Fetching.{CompletesBy}
 use Rattle.foyer_core.specs.Inflight.{asked}
 use Rattle.foyer_core.specs.Shards.{meaning_of, opens_of, state_of}
-use Rattle.foyer_core.specs.State.{coming_in, key_of}
+use Rattle.foyer_core.specs.State.{at_moment, coming_in, key_of}
 use Rattle.foyer_core.specs.Waited.{ending_of}
 use Rattle.foyer_core.proofs.Arriving.{arrives_at, place_alike}
 use Rattle.foyer_core.proofs.Completed.{completes_from}
@@ -39,13 +39,13 @@ invariant_of-self-clause-whole g c =
     record {
       belong = belongs_over state_of s.shards.items d.hash (vec_len s.shards) c.shard_index-place.result x s.shards.ok.0
           c.shard_index-place.ensures.within c.shard_index-place.ensures.index c.index_mut.ensures.value
-          y (completes_from (λ e. e.hash ≡ d.hash) (meaning_of x) (state_of x) (opens_of x) (key_of d)
+          y (completes_from (λ e. e.hash ≡ d.hash) (at_moment c.args.now (meaning_of x)) (state_of x) (opens_of x) (key_of d)
           (ending_of c.complete-ended.result) (state_of y) (opens_of y)
           (asked (Some c.args.fetch) ((opens_of x).by_key (key_of d))) c.args.source d
           c.complete-ended.ensures.completed refl) s.whole.belong;
       hashed = hashed_over (hashes_of s) state_of s.shards.items (vec_len s.shards) c.shard_index-place.result x s.shards.ok.0
           c.shard_index-place.ensures.within c.index_mut.ensures.value
-          y (completes_from (IsHashed (hashes_of s)) (meaning_of x) (state_of x) (opens_of x) (key_of d)
+          y (completes_from (IsHashed (hashes_of s)) (at_moment c.args.now (meaning_of x)) (state_of x) (opens_of x) (key_of d)
           (ending_of c.complete-ended.result) (state_of y) (opens_of y)
           (asked (Some c.args.fetch) ((opens_of x).by_key (key_of d))) c.args.source d
           c.complete-ended.ensures.completed
@@ -89,7 +89,7 @@ returns-in_default g c = record {
   completed = λ o opened.
       let s = c.args.self.now in
       let t = c.refuse_value.new.self in
-      let m = meaning_of_core s in
+      let m = at_moment c.args.now (meaning_of_core s) in
       let key = c.args.key.now in
       let hash = hashes_of s key in
       let judged = c.judge-weight.ensures in
@@ -105,7 +105,7 @@ returns-in_default g c = record {
       let many : length (fetches_of s) ≡ length (core_of s).shards = length-map s.shards.items opens_of
       ∙ sym (length-map s.shards.items state_of) in
       let did = rw (c.hash-hash.ensures.hash, judged.marked_is) at
-      (c.refuse_value.ensures.completed c.args.source c.args.value) in
+      (c.refuse_value.ensures.completed c.args.now c.args.source c.args.value) in
       record {
         own = key;
         equal = g.met.K.Eq.laws.refl key;
@@ -125,7 +125,7 @@ returns g c = record {
       let s = c.args.self.now in
       let x = c.index_mut.result.now in
       let y = c.complete-ended.new.self in
-      let m = meaning_of_core s in
+      let m = at_moment c.args.now (meaning_of_core s) in
       let key = c.args.key.now in
       let own = c.in-Ok.own in
       let hash = hashes_of s key in

@@ -1,6 +1,7 @@
 use Rattle.std.proofs.Common.{map, refl, ◌≡◌, ap, true}
 use Rattle.foyer_core.specs.Bulk.{EvictsUnpinned, EvictingUnpinned}
 use Rattle.foyer_core.specs.CoreBulk.{InTurn, InTurnUntil}
+use Rattle.foyer_core.specs.State.{at_moment}
 use Rattle.foyer_core.specs.Cores.{core_of, hashes_of, meaning_of_core}
 use Rattle.foyer_core.specs.Shards.{state_of}
 use Rattle.foyer_core.proofs.CallsTold.{unpinned_core, unpinned_until_core}
@@ -10,13 +11,14 @@ use Rattle.foyer_core.proofs.TurnEnds.{all_evicted}
 use Rattle.foyer_core.proofs.TurnLaws.{all_unpinned_stay, all_unpinned_until_stay}
 use Rattle.foyer_core.proofs.Hashing.{all_unpinned_hashed, all_unpinned_until_hashed, told_hashed}
 use Rattle.foyer_core.proofs.Origins.{all_unpinned_belong, all_unpinned_until_belong, told_belong}
-use Rattle.foyer_core.proofs.Sound.{core_sound}
+use Rattle.foyer_core.proofs.Sound.{core_sound_at}
+use Rattle.foyer_core.proofs.Moments.{timed_lawful}
 use Rattle.foyer_core.proofs.cache_core.CacheCore.evict_all.Goals as goal
 
 pub invariant_of-self-clause-whole : goal.invariant_of-self-clause-whole
 invariant_of-self-clause-whole g c =
     let s = c.args.self.now in
-    let m = meaning_of_core s in
+    let m = at_moment c.args.now (meaning_of_core s) in
     let ss = map state_of s.shards.items in
     let ts = map state_of c.evict_each-done.new.shards.items in
     let hash = λ (k : g.row.K.Denot). g.S.HashBuilder.hash_of s.hash_builder (g.K.Hash.hash_input k) in
@@ -35,12 +37,12 @@ invariant_of-self-clause-whole g c =
 pub returns-in-Ok : goal.returns-in-Ok
 returns-in-Ok g c =
     let s = c.args.self.now in
-    let m = meaning_of_core s in
+    let m = at_moment c.args.now (meaning_of_core s) in
     let laws = g.met.K.Eq.laws in
-    let good = g.met.E.Eviction.lawful in
+    let good = timed_lawful c.args.now g.E.Eviction.model g.met.E.Eviction.lawful in
     let equal : (a b : g.row.K.Denot) → g.K.PartialEq.eq a b ≡ true → hashes_of s a ≡ hashes_of s b =
     λ a b same. ap (g.S.HashBuilder.hash_of s.hash_builder) (g.met.K.Hash.respects_eq a b same) in
-    let sound = core_sound s laws good equal in
+    let sound = core_sound_at c.args.now s laws g.met.E.Eviction.lawful equal in
     let new = c.evict_each-done.new.shards in
     let ls = c.evict_each-done.new.leaves.items in
     let now = core_over state_of s.capacity s.hash_builder s.rules.weighter s.rules.filter new.items in
@@ -59,12 +61,12 @@ returns-in-Ok g c =
 pub returns-in-Err : goal.returns-in-Err
 returns-in-Err g c =
     let s = c.args.self.now in
-    let m = meaning_of_core s in
+    let m = at_moment c.args.now (meaning_of_core s) in
     let laws = g.met.K.Eq.laws in
-    let good = g.met.E.Eviction.lawful in
+    let good = timed_lawful c.args.now g.E.Eviction.model g.met.E.Eviction.lawful in
     let equal : (a b : g.row.K.Denot) → g.K.PartialEq.eq a b ≡ true → hashes_of s a ≡ hashes_of s b =
     λ a b same. ap (g.S.HashBuilder.hash_of s.hash_builder) (g.met.K.Hash.respects_eq a b same) in
-    let sound = core_sound s laws good equal in
+    let sound = core_sound_at c.args.now s laws g.met.E.Eviction.lawful equal in
     let new = c.evict_each-done.new.shards in
     let ls = c.evict_each-done.new.leaves.items in
     let now = core_over state_of s.capacity s.hash_builder s.rules.weighter s.rules.filter new.items in

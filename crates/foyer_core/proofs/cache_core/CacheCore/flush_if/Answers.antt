@@ -1,4 +1,4 @@
-use Rattle.std.proofs.Common.{◌≡◌, List, map, refl, ap, true, []}
+use Rattle.std.proofs.Common.{◌≡◌, List, map, refl, ap, true}
 use Rattle.foyer_core.specs.Bulk.{EvictsIf, Says}
 use Rattle.foyer_core.specs.CoreBulk.{InTurn}
 use Rattle.foyer_core.specs.Cores.{core_of, hashes_of, meaning_of_core}

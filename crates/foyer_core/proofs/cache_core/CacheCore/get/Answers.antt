@@ -22,15 +22,15 @@ invariant_of-self-clause-whole g c =
     record {
       belong = belongs_over state_of s.shards.items c.hash-hash.result (vec_len s.shards) c.shard_index-place.result x s.shards.ok.0
           c.shard_index-place.ensures.within c.shard_index-place.ensures.index c.index_mut.ensures.value
-          y (gets_from (λ d. d.hash ≡ c.hash-hash.result) (meaning_of x) (state_of x) (c.hash-hash.result, c.args.key.now)
-          c.get.result (state_of y) c.get.ensures.gets) s.whole.belong;
+          y (gets_from (λ d. d.hash ≡ c.hash-hash.result) (meaning_of x) c.args.now (state_of x)
+          (c.hash-hash.result, c.args.key.now) c.get.result (state_of y) c.get.ensures.gets) s.whole.belong;
       hashed = hashed_over (λ k. g.S.HashBuilder.hash_of s.hash_builder (g.K.Hash.hash_input k)) state_of s.shards.items
           (vec_len s.shards) c.shard_index-place.result x s.shards.ok.0 c.shard_index-place.ensures.within c.index_mut.ensures.value
-          y (gets_from (IsHashed (λ k. g.S.HashBuilder.hash_of s.hash_builder (g.K.Hash.hash_input k))) (meaning_of x)
+          y (gets_from (IsHashed (λ k. g.S.HashBuilder.hash_of s.hash_builder (g.K.Hash.hash_input k))) (meaning_of x) c.args.now
           (state_of x) (c.hash-hash.result, c.args.key.now) c.get.result (state_of y) c.get.ensures.gets) s.whole.hashed;
       summed = sums_same (meaning_of_core s) state_of s.shards.items (vec_len s.shards) c.shard_index-place.result x s.load.usage
           s.load.entries s.shards.ok.0 c.shard_index-place.ensures.within c.index_mut.ensures.value s.whole.summed
-          y (gets_load (meaning_of x) g.met.E.Eviction.lawful (state_of x) (state_of y) (c.hash-hash.result, c.args.key.now)
+          y (gets_load (meaning_of x) g.met.E.Eviction.lawful c.args.now (state_of x) (state_of y) (c.hash-hash.result, c.args.key.now)
           c.get.result x.store.sound c.get.ensures.gets);
     }
 
@@ -50,7 +50,7 @@ returns g c =
     let equal : (a b : g.row.K.Denot) → g.K.PartialEq.eq a b ≡ true → hashes_of s a ≡ hashes_of s b =
     λ a b same. ap (g.S.HashBuilder.hash_of s.hash_builder) (g.met.K.Hash.respects_eq a b same) in
     let sound = core_sound s g.met.K.Eq.laws g.met.E.Eviction.lawful equal in
-    let step = over (λ a b. Gets (meaning_of x) a (hash, c.args.key.now) c.get.result b) y did in
+    let step = over (λ a b. Gets (meaning_of x) c.args.now a (hash, c.args.key.now) c.get.result b) y did in
     let new = core_over state_of s.capacity s.hash_builder s.rules.weighter s.rules.filter
     (slice_set s.shards.items c.shard_index-place.result y) in
     record {
@@ -60,8 +60,8 @@ returns g c =
       laws = record {
         stay = stays_at (core_of s) _ hash
             (over (RecordsStay nothing) y
-            (gets_stay (meaning_of x) (state_of x) (hash, c.args.key.now) c.get.result (state_of y) did));
+            (gets_stay (meaning_of x) c.args.now (state_of x) (hash, c.args.key.now) c.get.result (state_of y) did));
         told = get_told m g.met.K.Eq.laws g.met.E.Eviction.lawful (hashes_of s) equal (core_of s) new sound
-            (hash, c.args.key.now) hash c.get.result step;
+            (hash, c.args.key.now) hash c.args.now c.get.result step;
       };
     }

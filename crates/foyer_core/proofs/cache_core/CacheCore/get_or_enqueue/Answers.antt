@@ -24,17 +24,17 @@ invariant_of-self-clause-whole g c =
     record {
       belong = belongs_over state_of s.shards.items c.hash-hash.result (vec_len s.shards) c.shard_index-place.result x s.shards.ok.0
           c.shard_index-place.ensures.within c.shard_index-place.ensures.index c.index_mut.ensures.value
-          y (looks_from (meaning_of x) (state_of x) (opens_of x) (c.hash-hash.result, c.args.key.now) c.args.waiter
+          y (looks_from (meaning_of x) c.args.now (state_of x) (opens_of x) (c.hash-hash.result, c.args.key.now) c.args.waiter
           c.args.required (state_of y) (opens_of y) c.get_or_enqueue.result c.get_or_enqueue.ensures.looked_up
           (λ d. d.hash ≡ c.hash-hash.result)) s.whole.belong;
       hashed = hashed_over (hashes_of s) state_of s.shards.items (vec_len s.shards) c.shard_index-place.result x s.shards.ok.0
           c.shard_index-place.ensures.within c.index_mut.ensures.value
-          y (looks_from (meaning_of x) (state_of x) (opens_of x) (c.hash-hash.result, c.args.key.now) c.args.waiter
+          y (looks_from (meaning_of x) c.args.now (state_of x) (opens_of x) (c.hash-hash.result, c.args.key.now) c.args.waiter
           c.args.required (state_of y) (opens_of y) c.get_or_enqueue.result c.get_or_enqueue.ensures.looked_up
           (IsHashed (hashes_of s))) s.whole.hashed;
       summed = sums_same (meaning_of_core s) state_of s.shards.items (vec_len s.shards) c.shard_index-place.result x s.load.usage
           s.load.entries s.shards.ok.0 c.shard_index-place.ensures.within c.index_mut.ensures.value s.whole.summed
-          y (looks_load (meaning_of x) (state_of x) (opens_of x) (c.hash-hash.result, c.args.key.now) c.args.waiter
+          y (looks_load (meaning_of x) c.args.now (state_of x) (opens_of x) (c.hash-hash.result, c.args.key.now) c.args.waiter
           c.args.required (state_of y) (opens_of y) c.get_or_enqueue.result c.get_or_enqueue.ensures.looked_up
           g.met.E.Eviction.lawful x.store.sound);
     }
@@ -56,18 +56,18 @@ returns g c =
     let new = core_over state_of s.capacity s.hash_builder s.rules.weighter s.rules.filter
     (slice_set s.shards.items c.shard_index-place.result y) in
     let index = over (λ s t. SameIndex s t) y
-    (looks_index (meaning_of x) (state_of x) (opens_of x) (c.hash-hash.result, c.args.key.now) c.args.waiter
+    (looks_index (meaning_of x) c.args.now (state_of x) (opens_of x) (c.hash-hash.result, c.args.key.now) c.args.waiter
     c.args.required (state_of y) (opens_of y) c.get_or_enqueue.result c.get_or_enqueue.ensures.looked_up) in
     record {
       looked_up = open_over state_of opens_of s.capacity s.hash_builder s.rules.weighter s.rules.filter s.shards.items hash
           (vec_len s.shards) c.shard_index-place.result x s.shards.ok.0 c.shard_index-place.ensures.within at
           c.index_mut.ensures.value y
-          (λ s f t g. LooksUp m s f (hash, c.args.key.now) c.args.waiter c.args.required c.get_or_enqueue.result t g)
+          (λ s f t g. LooksUp m c.args.now s f (hash, c.args.key.now) c.args.waiter c.args.required c.get_or_enqueue.result t g)
           did;
       laws = record {
         stay = stays_at (core_of s) _ hash
             (over (RecordsStay nothing) y
-            (looks_stay (meaning_of x) (state_of x) (opens_of x) (c.hash-hash.result, c.args.key.now) c.args.waiter
+            (looks_stay (meaning_of x) c.args.now (state_of x) (opens_of x) (c.hash-hash.result, c.args.key.now) c.args.waiter
             c.args.required (state_of y) (opens_of y) c.get_or_enqueue.result
             c.get_or_enqueue.ensures.looked_up));
         told = stays_so m g.met.K.Eq.laws g.met.E.Eviction.lawful (hashes_of s) equal (core_of s) new sound

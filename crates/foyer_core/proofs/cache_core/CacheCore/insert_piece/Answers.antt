@@ -1,6 +1,7 @@
 use Rattle.std.proofs.Common.{◌+◌, length, Ok, Err}
 use Rattle.foyer_core.specs.Core.{AtShard}
 use Rattle.foyer_core.specs.CoreFetches.{open_in}
+use Rattle.foyer_core.specs.State.{at_moment}
 use Rattle.foyer_core.specs.Cores.{core_of, fetches_of, hashes_of, meaning_of_core}
 use Rattle.foyer_core.specs.Inflight.{waiters_of}
 use Rattle.foyer_core.specs.CallLaws.{InsertLaws}
@@ -15,7 +16,7 @@ returns-in-Ok-clause-inserted g c =
     let hash = hashes_of s piece.kept.key in
     goes_all c.insert_piece_onto.new.leaves.items
     (λ ls. AtShard
-    (λ a b. InsertsPiece (meaning_of_core s) (g.W.Weighter.weighs (core_of s).weighter piece.kept.key piece.kept.value)
+    (λ a b. InsertsPiece (at_moment c.args.now (meaning_of_core s)) (g.W.Weighter.weighs (core_of s).weighter piece.kept.key piece.kept.value)
     hash piece (1 + length (waiters_of (open_in (fetches_of s) (coming_under a hash piece))))
     (Ok record { entry = c.in-Ok.made.entry; leaves = ls }) a b) hash (core_of s)
     (core_of c.insert_piece_onto.new.self))
@@ -37,7 +38,7 @@ returns-in-Err-clause-inserted g c =
     let hash = hashes_of s piece.kept.key in
     goes_all c.insert_piece_onto.new.leaves.items
     (λ ls. AtShard
-    (λ a b. InsertsPiece (meaning_of_core s) (g.W.Weighter.weighs (core_of s).weighter piece.kept.key piece.kept.value)
+    (λ a b. InsertsPiece (at_moment c.args.now (meaning_of_core s)) (g.W.Weighter.weighs (core_of s).weighter piece.kept.key piece.kept.value)
     hash piece (1 + length (waiters_of (open_in (fetches_of s) (coming_under a hash piece))))
     (Err record { reason = c.in-Err.error; leaves = ls }) a b) hash (core_of s)
     (core_of c.insert_piece_onto.new.self))

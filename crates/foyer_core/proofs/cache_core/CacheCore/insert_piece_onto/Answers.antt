@@ -1,12 +1,12 @@
 use Rattle.std.proofs.Common.{◌≡◌, ℕ, ◌+◌, ◌%◌, Option, true, false, length, refl, sym, ◌∙◌, ap, subst, vec_len, arith}
 use Rattle.std.specs.Prelude.{slice_set}
 use Rattle.foyer_core.specs.CoreFetches.{open_in}
+use Rattle.foyer_core.specs.State.{at_moment}
 use Rattle.foyer_core.specs.Cores.{core_of, fetches_of, hashes_of, meaning_of_core}
 use Rattle.foyer_core.specs.Inflight.{OpenFetch, waiters_of}
 use Rattle.foyer_core.specs.Onto.{insertion_onto}
 use Rattle.foyer_core.specs.Pieces.{InsertsPiece, coming_under, is_known}
 use Rattle.foyer_core.specs.Shards.{opens_of, state_of}
-use Rattle.foyer_core.specs.Values.{Held}
 use Rattle.foyer_core.specs.Waited.{waiting_for}
 use Rattle.foyer_core.proofs.Answered.{answers_over, of_onto}
 use Rattle.foyer_core.proofs.ArrivingPieces.{insert_weighed}
@@ -18,7 +18,9 @@ use Rattle.foyer_core.proofs.Loads.{sums_set, usage_fits, entries_fit}
 use Rattle.foyer_core.proofs.Origins.{placed_over}
 use Rattle.foyer_core.proofs.PieceCalls.{piece_laws}
 use Rattle.foyer_core.proofs.PieceTold.{piece_here, returning_at, under_at}
-use Rattle.foyer_core.proofs.Sound.{core_sound}
+use Rattle.foyer_core.proofs.Sound.{core_sound_at}
+use Rattle.foyer_core.proofs.Moments.{timed_lawful}
+use Rattle.foyer_core.proofs.MomentLaws.{laws_at}
 use Rattle.foyer_core.proofs.cache_core.CacheCore.insert_piece_onto.Goals as goal
 
 pub invariant_of-self-clause-whole : goal.invariant_of-self-clause-whole
@@ -26,7 +28,7 @@ invariant_of-self-clause-whole g c =
     let s = c.args.self.now in
     let x = c.index_mut.result.now in
     let y = c.emplace_piece-made.new.self in
-    let m = meaning_of_core s in
+    let m = at_moment c.args.now (meaning_of_core s) in
     let n = vec_len s.shards in
     let place = c.shard_index-place.result in
     let piece = c.args.piece in
@@ -36,7 +38,7 @@ invariant_of-self-clause-whole g c =
     let equal : (a b : g.row.K.Denot) → g.K.PartialEq.eq a b ≡ true → hashes_of s a ≡ hashes_of s b =
     λ a b same. ap (g.S.HashBuilder.hash_of s.hash_builder) (g.met.K.Hash.respects_eq a b same) in
     let laws = g.met.K.Eq.laws in
-    let good = g.met.E.Eviction.lawful in
+    let good = timed_lawful c.args.now g.E.Eviction.model g.met.E.Eviction.lawful in
     let recs = records_over (hashes_of s) state_of s.shards.items n place x s.shards.ok.0
     c.shard_index-place.ensures.within c.index_mut.ensures.value s.whole.belong s.whole.hashed in
     let went = rw is at c.emplace_piece-made.ensures.inserted in
@@ -94,7 +96,7 @@ returns g c =
     let s = c.args.self.now in
     let x = c.index_mut.result.now in
     let y = c.emplace_piece-made.new.self in
-    let m = meaning_of_core s in
+    let m = at_moment c.args.now (meaning_of_core s) in
     let n = vec_len s.shards in
     let place = c.shard_index-place.result in
     let piece = c.args.piece in
@@ -104,7 +106,7 @@ returns g c =
     let equal : (a b : g.row.K.Denot) → g.K.PartialEq.eq a b ≡ true → hashes_of s a ≡ hashes_of s b =
     λ a b same. ap (g.S.HashBuilder.hash_of s.hash_builder) (g.met.K.Hash.respects_eq a b same) in
     let laws = g.met.K.Eq.laws in
-    let good = g.met.E.Eviction.lawful in
+    let good = timed_lawful c.args.now g.E.Eviction.model g.met.E.Eviction.lawful in
     let recs = records_over (hashes_of s) state_of s.shards.items n place x s.shards.ok.0
     c.shard_index-place.ensures.within c.index_mut.ensures.value s.whole.belong s.whole.hashed in
     let went = rw is at c.emplace_piece-made.ensures.inserted in
@@ -113,7 +115,7 @@ returns g c =
     let more = 1 + waiting_for (opens_of x) (coming_under (state_of x) hash piece) in
     let new = core_over state_of s.capacity s.hash_builder s.rules.weighter s.rules.filter
     (slice_set s.shards.items place y) in
-    let sound = core_sound s laws good equal in
+    let sound = core_sound_at c.args.now s laws g.met.E.Eviction.lawful equal in
     let weighs = g.W.Weighter.weighs s.rules.weighter piece.kept.key piece.kept.value in
     let there = shard_over state_of s.capacity s.hash_builder s.rules.weighter s.rules.filter s.shards.items hash n
     place x s.shards.ok.0 c.shard_index-place.ensures.within at c.index_mut.ensures.value in
@@ -145,7 +147,8 @@ returns g c =
       laws = record {
         more = went.more;
         told = went.told;
-        so = piece_laws m laws good (λ b k. g.S.HashBuilder.hash_of b (g.K.Hash.hash_input k)) (core_of s) new equal
-            sound weighs piece (λ a. waits (coming_under a hash piece)) answer step;
+        so = laws_at (meaning_of_core s) c.args.now (hashes_of s) (hashes_of s) hash (core_of s) answer new
+            (piece_laws m laws good (λ b k. g.S.HashBuilder.hash_of b (g.K.Hash.hash_input k)) (core_of s) new equal
+            sound weighs piece (λ a. waits (coming_under a hash piece)) answer step);
       };
     }

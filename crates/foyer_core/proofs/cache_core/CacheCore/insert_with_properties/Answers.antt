@@ -5,7 +5,7 @@ use Rattle.foyer_core.specs.CoreFetches.{open_in}
 use Rattle.foyer_core.specs.Cores.{core_of, fetches_of, hashes_of, meaning_of_core}
 use Rattle.foyer_core.specs.Inflight.{waiters_of}
 use Rattle.foyer_core.specs.CallLaws.{InsertLaws}
-use Rattle.foyer_core.specs.State.{coming_in}
+use Rattle.foyer_core.specs.State.{at_moment, coming_in}
 use Rattle.foyer_core.proofs.Told.{goes_all}
 use Rattle.foyer_core.proofs.cache_core.CacheCore.insert_with_properties.Goals as goal
 
@@ -13,7 +13,7 @@ pub returns-in-Ok-clause-inserted : goal.returns-in-Ok-clause-inserted
 returns-in-Ok-clause-inserted g c =
     let s = c.args.self.now in
     goes_all c.insert_with_properties_onto.new.leaves.items
-    (λ ls. InsertsWeighed (meaning_of_core s) Outer
+    (λ ls. InsertsWeighed (at_moment c.args.now (meaning_of_core s)) Outer
     (g.W.Weighter.weighs (core_of s).weighter c.args.key c.args.value)
     (g.A.Filter.admits (core_of s).filter c.args.key c.args.value)
     (hashes_of s c.args.key) c.args.key c.args.value
@@ -36,7 +36,7 @@ pub returns-in-Err-clause-inserted : goal.returns-in-Err-clause-inserted
 returns-in-Err-clause-inserted g c =
     let s = c.args.self.now in
     goes_all c.insert_with_properties_onto.new.leaves.items
-    (λ ls. InsertsWeighed (meaning_of_core s) Outer
+    (λ ls. InsertsWeighed (at_moment c.args.now (meaning_of_core s)) Outer
     (g.W.Weighter.weighs (core_of s).weighter c.args.key c.args.value)
     (g.A.Filter.admits (core_of s).filter c.args.key c.args.value)
     (hashes_of s c.args.key) c.args.key c.args.value

@@ -1,4 +1,4 @@
-use Rattle.std.proofs.Common.{[], refl, ap, sym, ◌∙◌, ℕ, ◌+◌, ◌%◌, vec_len, ◌≡◌, true, false, arith, length, subst}
+use Rattle.std.proofs.Common.{refl, ap, sym, ◌∙◌, ℕ, ◌+◌, ◌%◌, vec_len, ◌≡◌, true, false, arith, length, subst}
 use Rattle.std.specs.Prelude.{slice_set}
 use Rattle.foyer_policy.specs.Properties.{is_phantom}
 use Rattle.foyer_policy.specs.declared.types.Source.TheVariants.{Outer}
@@ -9,17 +9,18 @@ use Rattle.foyer_core.specs.Cores.{core_of, fetches_of, hashes_of, meaning_of_co
 use Rattle.foyer_core.specs.Inflight.{waiters_of}
 use Rattle.foyer_core.specs.CallLaws.{IsNewEntry}
 use Rattle.foyer_core.specs.Onto.{insertion_onto}
-use Rattle.foyer_core.specs.Shards.{meaning_of, opens_of, state_of}
-use Rattle.foyer_core.specs.State.{coming_in, key_of}
+use Rattle.foyer_core.specs.Shards.{opens_of, state_of}
+use Rattle.foyer_core.specs.State.{at_moment, coming_in, key_of}
 use Rattle.foyer_core.specs.Steps.{newcomer}
-use Rattle.foyer_core.specs.Values.{Held}
 use Rattle.foyer_core.specs.Waited.{waiting_for}
 use Rattle.foyer_core.proofs.Answered.{answers_over, comes_laws, comes_new, comes_over, comes_plain, given_here, of_onto}
 use Rattle.foyer_core.proofs.CoreLemmas.{core_over}
 use Rattle.foyer_core.proofs.Hashing.{IsHashed, hashed_over}
 use Rattle.foyer_core.proofs.Loads.{sums_set, usage_fits, entries_fit}
 use Rattle.foyer_core.proofs.Origins.{belongs_over, emplaced_from}
-use Rattle.foyer_core.proofs.Sound.{core_sound}
+use Rattle.foyer_core.proofs.Sound.{core_sound_at}
+use Rattle.foyer_core.proofs.Moments.{timed_lawful}
+use Rattle.foyer_core.proofs.MomentLaws.{laws_at}
 use Rattle.foyer_core.proofs.cache_core.CacheCore.insert_with_properties_onto.Goals as goal
 
 pub invariant_of-self-clause-whole : goal.invariant_of-self-clause-whole
@@ -28,19 +29,20 @@ invariant_of-self-clause-whole g c =
     let x = c.index_mut.result.now in
     let y = c.emplace-emplaced.new.self in
     let d = c.data-kept.result in
+    let m = at_moment c.args.now (meaning_of_core s) in
     let went = c.emplace-emplaced.ensures.inserted in
     let before = c.of-before in
     let after = c.of-after in
     record {
       belong = belongs_over state_of s.shards.items c.hash-hash.result (vec_len s.shards) c.shard_index-place.result x s.shards.ok.0
           c.shard_index-place.ensures.within c.shard_index-place.ensures.index c.index_mut.ensures.value
-          y (emplaced_from (λ e. e.hash ≡ c.hash-hash.result) (meaning_of x) c.emplace-emplaced.result (λ made. went.more)
+          y (emplaced_from (λ e. e.hash ≡ c.hash-hash.result) m c.emplace-emplaced.result (λ made. went.more)
           (λ made. made.entry) (λ reason. reason) (λ reason. went.more)
           Outer (state_of x) d (1 + waiting_for (opens_of x) (key_of d)) (state_of y) went.so c.data-kept.ensures.hash)
           s.whole.belong;
       hashed = hashed_over (hashes_of s) state_of s.shards.items
           (vec_len s.shards) c.shard_index-place.result x s.shards.ok.0 c.shard_index-place.ensures.within c.index_mut.ensures.value
-          y (emplaced_from (IsHashed (hashes_of s)) (meaning_of x) c.emplace-emplaced.result (λ made. went.more)
+          y (emplaced_from (IsHashed (hashes_of s)) m c.emplace-emplaced.result (λ made. went.more)
           (λ made. made.entry) (λ reason. reason) (λ reason. went.more)
           Outer (state_of x) d (1 + waiting_for (opens_of x) (key_of d)) (state_of y) went.so
           (c.data-kept.ensures.hash ∙ c.hash-hash.ensures.hash ∙ ap (hashes_of s) (sym c.data-kept.ensures.key))) s.whole.hashed;
@@ -82,7 +84,7 @@ returns g c =
     let s = c.args.self.now in
     let x = c.index_mut.result.now in
     let y = c.emplace-emplaced.new.self in
-    let m = meaning_of_core s in
+    let m = at_moment c.args.now (meaning_of_core s) in
     let n = vec_len s.shards in
     let place = c.shard_index-place.result in
     let given = c.data-kept.result in
@@ -113,8 +115,8 @@ returns g c =
     let equal : (a b : g.row.K.Denot) → g.K.PartialEq.eq a b ≡ true → hashes_of s a ≡ hashes_of s b =
     λ a b same. ap (g.S.HashBuilder.hash_of s.hash_builder) (g.met.K.Hash.respects_eq a b same) in
     let laws = g.met.K.Eq.laws in
-    let good = g.met.E.Eviction.lawful in
-    let sound = core_sound s laws good equal in
+    let good = timed_lawful c.args.now g.E.Eviction.model g.met.E.Eviction.lawful in
+    let sound = core_sound_at c.args.now s laws g.met.E.Eviction.lawful equal in
     let handles = 1 + length (waiters_of (open_in (fetches_of s) (hash, c.args.key))) in
     let step : AtShard (λ a b. InsertsAnswering m Outer a (newcomer a d handles) answer b) hash (core_of s) new =
     subst
@@ -153,6 +155,7 @@ returns g c =
       laws = record {
         more = went.more;
         told = went.told;
-        so = comes_laws m laws good (hashes_of s) equal (core_of s) new sound Outer d refl handles answer step;
+        so = laws_at (meaning_of_core s) c.args.now (hashes_of s) (hashes_of s) hash (core_of s) answer new
+            (comes_laws m laws good (hashes_of s) equal (core_of s) new sound Outer d refl handles answer step);
       };
     }

@@ -1,4 +1,5 @@
 use Rattle.std.proofs.Common.{vec_len}
+use Rattle.foyer_core.specs.State.{at_moment}
 use Rattle.foyer_core.specs.Cores.{meaning_of_core}
 use Rattle.foyer_core.specs.declared.record.Data.{Data}
 use Rattle.foyer_core.specs.Fetching.{CompletesBy}
@@ -20,7 +21,7 @@ invariant_of-self-clause-whole g c =
 
 pub returns : goal.returns
 returns g c = record {
-  completed = λ source value.
+  completed = λ now source value.
       let s = c.args.self.now in
       let x = c.index_mut.result.now in
       let y = c.refuse_value.new.self in
@@ -36,6 +37,6 @@ returns g c = record {
       open_over state_of opens_of s.capacity s.hash_builder s.rules.weighter s.rules.filter s.shards.items c.args.hash
       (vec_len s.shards) c.shard_index-place.result x s.shards.ok.0 c.shard_index-place.ensures.within
       c.shard_index-place.ensures.index c.index_mut.ensures.value y
-      (λ a f b h. CompletesBy (meaning_of_core s) (asked (Some c.args.fetch) (f.by_key k)) source a f k d
-      (ending_of c.refuse_value.result) b h) (c.refuse_value.ensures.completed source value);
+      (λ a f b h. CompletesBy (at_moment now (meaning_of_core s)) (asked (Some c.args.fetch) (f.by_key k)) source a f k d
+      (ending_of c.refuse_value.result) b h) (c.refuse_value.ensures.completed now source value);
 }

@@ -3,6 +3,7 @@ use Rattle.std.specs.Prelude.{OnErr, map, slice_set}
 use Rattle.foyer_core.specs.Bulk.{GoesOn}
 use Rattle.foyer_core.specs.CoreBulk.{InTurn, InTurnUntil, EvictsToCapacity, EvictingToCapacity}
 use Rattle.foyer_core.specs.Shards.{opens_of, state_of}
+use Rattle.foyer_core.specs.State.{at_moment}
 use Rattle.foyer_core.specs.Stored.{meaning}
 use Rattle.foyer_core.proofs.InTurn.{InFirst, over-more, over-until, over-all}
 use Rattle.foyer_core.proofs.StoredLemmas.{err_is}
@@ -12,7 +13,8 @@ use Rattle.foyer_core.proofs.cache_core.in_turn.evict_each_to_capacity.Goals as 
 
 pub returns-in_err-evict_to_capacity-clause-refused : goal.returns-in_err-evict_to_capacity-clause-refused
 returns-in_err-evict_to_capacity-clause-refused g c =
-    let m = meaning g.K.PartialEq.eq g.E.Eviction.model g.P.Properties.hint_of g.P.Properties.phantom_of g.P.Properties.expiry_of in
+    let m = at_moment c.args.now
+    (meaning g.K.PartialEq.eq g.E.Eviction.model g.P.Properties.hint_of g.P.Properties.phantom_of g.P.Properties.expiry_of) in
     let ss = map state_of c.args.shards.now.items in
     let now = c.loop-place.shards in
     let n = c.loop-place.place in
@@ -41,7 +43,8 @@ returns-in_err-evict_to_capacity-clause-opens g c =
 
 pub loop-place-preserved : goal.loop-place-preserved
 loop-place-preserved g c =
-    let m = meaning g.K.PartialEq.eq g.E.Eviction.model g.P.Properties.hint_of g.P.Properties.phantom_of g.P.Properties.expiry_of in
+    let m = at_moment c.args.now
+    (meaning g.K.PartialEq.eq g.E.Eviction.model g.P.Properties.hint_of g.P.Properties.phantom_of g.P.Properties.expiry_of) in
     let ss = map state_of c.args.shards.now.items in
     let now = c.loop-place.shards in
     let n = c.loop-place.place in
@@ -63,7 +66,8 @@ loop-place-preserved g c =
 
 pub returns-clause-done : goal.returns-clause-done
 returns-clause-done g c =
-    let m = meaning g.K.PartialEq.eq g.E.Eviction.model g.P.Properties.hint_of g.P.Properties.phantom_of g.P.Properties.expiry_of in
+    let m = at_moment c.args.now
+    (meaning g.K.PartialEq.eq g.E.Eviction.model g.P.Properties.hint_of g.P.Properties.phantom_of g.P.Properties.expiry_of) in
     let old = c.args.shards.now in
     let ss = map state_of c.loop-place.shards.items in
     goes_so c.args.leaves.now.items c.loop-place.leaves.items

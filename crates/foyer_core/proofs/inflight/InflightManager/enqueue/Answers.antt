@@ -73,13 +73,13 @@ returns-clause-opens g c =
     same_opens
     (opens_by (numbers_in s.index) (get (with_value s.inflights n c.join.new.self)) s.next_fetch
     (s.next_token + 1))
-    (after_enqueue g.K.PartialEq.eq (opens_of s) k c.args.waiter c.args.required_fetch_builder)
+    (after_enqueue g.K.PartialEq.eq c.args.now (opens_of s) k c.args.waiter c.args.required_fetch_builder)
     (λ q. write_places g.met.K.Eq.laws (numbers_in s.index) (numbers_in s.index) (get s.inflights)
     (get (with_value s.inflights n c.join.new.self)) k n s.linked there respects c.join.new.self write q
     ∙ ap (λ (o : OpenFetch g.row.N.Denot g.row.R.Denot). update (same_key g.K.PartialEq.eq) (opens_of s).by_key k (Some o)
     q)
     (c.in_ok-join.ensures.joined ∙
-    ap (λ (o : Option (OpenFetch g.row.N.Denot g.row.R.Denot)). joined o s.next_fetch w c.args.required_fetch_builder)
+    ap (λ (o : Option (OpenFetch g.row.N.Denot g.row.R.Denot)). joined o c.args.now s.next_fetch w c.args.required_fetch_builder)
     (sym open_there)))
     (ap (λ (o : Option (OpenFetch g.row.N.Denot g.row.R.Denot)). if is_some o then s.next_fetch else s.next_fetch + 1)
     (sym open_there)) refl

@@ -12,7 +12,7 @@ unreachable-requires g c =
     let k : ℕ × g.row.K.Denot = (c.args.hash, c.args.key.now) in
     let here = open_asked c.args.id (f.by_key k) (c.is_open.ensures.is_open.0 c.if-not-is_open.false) in
     let rest : OpenFetch g.row.N.Denot g.row.R.Denot =
-    record { fetch = here.0.fetch; tokens = here.0.tokens; later = None } in
+    record { fetch = here.0.fetch; opened = here.0.opened; tokens = here.0.tokens; later = None } in
     let there = written_there g.K.PartialEq.eq g.met.K.Eq.laws f (opens_of c.take_later.new.self) k rest
     (λ q. ap (λ (x : Opens g.row.K.Denot g.row.N.Denot g.row.R.Denot). x.by_key q)
     (c.take_later.ensures.opens here.0 here.1)) in
@@ -25,7 +25,7 @@ returns-clause-answer g c =
     let k : ℕ × g.row.K.Denot = (c.args.hash, c.args.key.now) in
     let here = open_asked c.args.id (f.by_key k) (c.is_open.ensures.is_open.0 c.if-not-is_open.false) in
     let rest : OpenFetch g.row.N.Denot g.row.R.Denot =
-    record { fetch = here.0.fetch; tokens = here.0.tokens; later = None } in
+    record { fetch = here.0.fetch; opened = here.0.opened; tokens = here.0.tokens; later = None } in
     let there = written_there g.K.PartialEq.eq g.met.K.Eq.laws f (opens_of c.take_later.new.self) k rest
     (λ q. ap (λ (x : Opens g.row.K.Denot g.row.N.Denot g.row.R.Denot). x.by_key q)
     (c.take_later.ensures.opens here.0 here.1)) in

@@ -51,7 +51,8 @@ invariant_of-self-2 g c =
     let k : ℕ × g.row.K.Denot = (c.args.hash, c.args.key) in
     let n = c.next_slot-number.result in
     let w : Waiting g.row.N.Denot = record { token = s.next_token; waiter = c.args.waiter } in
-    let new : OpenFetch g.row.N.Denot g.row.R.Denot = record { fetch = s.next_fetch; tokens = w ∷ []; later = None } in
+    let new : OpenFetch g.row.N.Denot g.row.R.Denot =
+    record { fetch = s.next_fetch; opened = c.args.now; tokens = w ∷ []; later = None } in
     let slots : (n : ℕ) → get c.reserve.new.self n ≡ get s.inflights n = λ n. ap
     (λ (x : Slots (OpenFetch g.row.N.Denot g.row.R.Denot)). get x n) c.reserve.ensures.rest_kept in
     let free : get s.inflights n ≡ None = sym (slots n) ∙ c.next_slot-number.ensures.free in
@@ -62,7 +63,7 @@ invariant_of-self-2 g c =
       linked = lead_linked laws (numbers_in s.index) (numbers_in c.insert.new.self) (get s.inflights)
           (get c.insert-2.new.self) k n s.linked new free c.in_default-insert.ensures.view write;
       sound = lead_open laws (numbers_in s.index) (numbers_in c.insert.new.self) (get s.inflights)
-          (get c.insert-2.new.self) k n s.linked new free c.in_default-insert.ensures.view write s.next_fetch
+          (get c.insert-2.new.self) k n s.linked new free c.in_default-insert.ensures.view write c.args.now s.next_fetch
           s.next_token w refl refl s.sound;
     }
 
@@ -72,7 +73,8 @@ returns-clause-opens g c =
     let n = c.next_slot-number.result in
     let k : ℕ × g.row.K.Denot = (c.args.hash, c.args.key) in
     let w : Waiting g.row.N.Denot = record { token = s.next_token; waiter = c.args.waiter } in
-    let new : OpenFetch g.row.N.Denot g.row.R.Denot = record { fetch = s.next_fetch; tokens = w ∷ []; later = None } in
+    let new : OpenFetch g.row.N.Denot g.row.R.Denot =
+    record { fetch = s.next_fetch; opened = c.args.now; tokens = w ∷ []; later = None } in
     let slots : (n : ℕ) → get c.reserve.new.self n ≡ get s.inflights n = λ n. ap
     (λ (x : Slots (OpenFetch g.row.N.Denot g.row.R.Denot)). get x n) c.reserve.ensures.rest_kept in
     let write = put_in_room s.inflights c.reserve.new.self c.insert-2.new.self n c.insert-2.result
@@ -80,11 +82,11 @@ returns-clause-opens g c =
     c.in_ok-inflight.ensures.made c.insert-2.ensures.slots in
     let absent : (opens_of s).by_key k ≡ None = ap (option_and_then (get s.inflights)) c.requires in
     same_opens (opens_by (numbers_in c.insert.new.self) (get c.insert-2.new.self) (s.next_fetch + 1)
-    (s.next_token + 1)) (after_enqueue g.K.PartialEq.eq (opens_of s) k c.args.waiter c.args.required_fetch_builder)
+    (s.next_token + 1)) (after_enqueue g.K.PartialEq.eq c.args.now (opens_of s) k c.args.waiter c.args.required_fetch_builder)
     (λ q. lead_places g.met.K.Eq.laws (numbers_in s.index) (numbers_in c.insert.new.self) (get s.inflights)
     (get c.insert-2.new.self) k n s.linked new (sym (slots n) ∙ c.next_slot-number.ensures.free)
     c.in_default-insert.ensures.view write q
     ∙ ap (λ (o : Option (OpenFetch g.row.N.Denot g.row.R.Denot)). update (same_key g.K.PartialEq.eq) (opens_of s).by_key k
-    (Some (joined o s.next_fetch w c.args.required_fetch_builder)) q) (sym absent))
+    (Some (joined o c.args.now s.next_fetch w c.args.required_fetch_builder)) q) (sym absent))
     (ap (λ (o : Option (OpenFetch g.row.N.Denot g.row.R.Denot)). if is_some o then s.next_fetch else s.next_fetch + 1)
     (sym absent)) refl

@@ -45,10 +45,10 @@ returns-clause-opens g c o was =
     let same : old ≡ o = one old o (sym (ap (option_and_then (get s.inflights)) there ∙ here) ∙ was) in
     same_opens
     (opens_by (numbers_in s.index) (get (with_value s.inflights n c.take_later.new.self)) s.next_fetch s.next_token)
-    (with_open g.K.PartialEq.eq (opens_of s) k (Some (record { fetch = o.fetch; tokens = o.tokens; later = None })))
+    (with_open g.K.PartialEq.eq (opens_of s) k (Some (record { fetch = o.fetch; opened = o.opened; tokens = o.tokens; later = None })))
     (λ q. write_places g.met.K.Eq.laws (numbers_in s.index) (numbers_in s.index) (get s.inflights)
     (get (with_value s.inflights n c.take_later.new.self)) k n s.linked there respects c.take_later.new.self write q
     ∙ ap (λ (x : OpenFetch g.row.N.Denot g.row.R.Denot). update (same_key g.K.PartialEq.eq) (opens_of s).by_key k (Some x)
     q) c.take_later.ensures.taken
     ∙ ap (λ (x : OpenFetch g.row.N.Denot g.row.R.Denot). update (same_key g.K.PartialEq.eq) (opens_of s).by_key k
-    (Some (record { fetch = x.fetch; tokens = x.tokens; later = None })) q) same) refl refl
+    (Some (record { fetch = x.fetch; opened = x.opened; tokens = x.tokens; later = None })) q) same) refl refl

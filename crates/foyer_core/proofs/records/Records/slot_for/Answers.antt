@@ -1,4 +1,4 @@
-use Rattle.std.proofs.Common.{◌≡◌, sym, ◌∙◌, ap, arith}
+use Rattle.std.proofs.Common.{sym, ◌∙◌, ap, arith}
 use Rattle.std.specs.Prelude.{option_and_then, option_map}
 use Rattle.foyer_core.specs.Records.{slot_in}
 use Rattle.foyer_core.specs.Table.{rec_of}

@@ -1,16 +1,19 @@
-use Rattle.std.proofs.Common.{◌≡◌, ℕ, ◌+◌, ◌-◌, [], Bool, true, false, Some, Err, length, refl, sym, ◌∙◌, ap, subst, arith}
-use Rattle.std.specs.Prelude.{◌&&◌}
+use Rattle.std.proofs.Common.{◌≡◌, ℕ, ◌+◌, ◌-◌, [], Bool, true, false, Some, Err, length, refl, sym, ◌∙◌, subst, arith}
+use Rattle.std.proofs.Math.Logic.{∥∥₁_map}
 use Rattle.foyer_policy.specs.declared.error.Reason.TheVariants.{WrongKey}
 use Rattle.foyer_core.specs.Indexer.{same_key}
-use Rattle.foyer_core.specs.Inflight.{Apart, Opens, asked, closed}
+use Rattle.foyer_core.specs.Fetching.{Apart}
+use Rattle.foyer_core.specs.Inflight.{Opens, asked, closed}
 use Rattle.foyer_core.specs.Inflights.{opens_of}
 use Rattle.foyer_core.specs.Onto.{handles_onto, shared_out}
 use Rattle.foyer_core.specs.PieceEnds.{PieceComes, comes_under}
 use Rattle.foyer_core.specs.Pieces.{InsertsPiece, coming_under}
+use Rattle.foyer_core.specs.State.{at_moment}
 use Rattle.foyer_core.specs.Stores.{meaning_of, state_of}
 use Rattle.foyer_core.specs.Waited.{ending_of}
 use Rattle.foyer_core.proofs.ApartLemmas.{closed_apart, step_apart}
 use Rattle.foyer_core.proofs.ArrivingPieces.{and_right}
+use Rattle.foyer_core.proofs.Moments.{kept_at}
 use Rattle.foyer_core.proofs.PieceComing.{ended_apart, piece_arrives, piece_ends}
 use Rattle.foyer_core.proofs.Told.{goes_all}
 use Rattle.foyer_core.proofs.shard.Shard.complete_piece.Goals as goal
@@ -19,18 +22,18 @@ pub invariant_of-self : goal.invariant_of-self
 invariant_of-self g c =
     let s = c.args.self.now in
     let f = opens_of s.inflights in
-    let index = (state_of s.store).index in
     let k : ℕ × g.row.K.Denot = (c.args.hash, c.args.key.now) in
     let shut = closed g.K.PartialEq.eq f k in
     record {
-      apart = step_apart index f (opens_of c.take.new.self) shut c.take.result c.take.ensures.opens
-          c.take.ensures.same s.apart (closed_apart g.K.PartialEq.eq index f k s.apart);
+      apart = step_apart g.P.Properties.expiry_of (state_of s.store) f (opens_of c.take.new.self) shut c.take.result c.take.ensures.opens
+          c.take.ensures.same s.apart
+          (closed_apart g.P.Properties.expiry_of (state_of s.store) f g.K.PartialEq.eq k s.apart);
     }
 
 pub invariant_of-self-2 : goal.invariant_of-self-2
 invariant_of-self-2 g c =
     let s = c.args.self.now in
-    let m = meaning_of s.store in
+    let m = at_moment c.args.now (meaning_of s.store) in
     let f = opens_of s.inflights in
     let old = state_of s.store in
     let new = state_of c.emplace_piece-came.new.self in
@@ -39,9 +42,10 @@ invariant_of-self-2 g c =
     let comes : comes_under m old c.args.own c.args.piece c.args.is_home k ≡ true =
     sym c.is_under.ensures ∙ c.if-not-is_under.false in
     record {
-      apart = subst (λ (x : Opens g.row.K.Denot g.row.N.Denot g.row.R.Denot). Apart new.index x)
+      apart = subst (λ (x : Opens g.row.K.Denot g.row.N.Denot g.row.R.Denot). Apart m.expires new x)
           (sym c.in-Some.ensures.opens)
-          (ended_apart m old new c.args.own c.args.piece (1 + (c.len.result - 1)) (λ w. w ≡ c.args.weight) f s.apart
+          (ended_apart m old new c.args.own c.args.piece (1 + (c.len.result - 1)) (λ w. w ≡ c.args.weight)
+          (∥∥₁_map s.store.sound (kept_at (meaning_of s.store) c.args.now old)) f s.apart
           g.met.K.Eq.laws k
           (and_right c.args.is_home (same_key m.same k (coming_under old c.args.own c.args.piece)) comes)
           (handles_onto c.emplace_piece-came.result went.more) went.so);
@@ -50,7 +54,7 @@ invariant_of-self-2 g c =
 pub returns-then-not-is_under : goal.returns-then-not-is_under
 returns-then-not-is_under g c =
     let s = c.args.self.now in
-    let m = meaning_of s.store in
+    let m = at_moment c.args.now (meaning_of s.store) in
     let f = opens_of s.inflights in
     let old = state_of s.store in
     let k : ℕ × g.row.K.Denot = (c.args.hash, c.args.key.now) in
@@ -70,7 +74,7 @@ returns-then-not-is_under g c =
 pub returns : goal.returns
 returns g c =
     let s = c.args.self.now in
-    let m = meaning_of s.store in
+    let m = at_moment c.args.now (meaning_of s.store) in
     let f = opens_of s.inflights in
     let old = state_of s.store in
     let new = state_of c.emplace_piece-came.new.self in

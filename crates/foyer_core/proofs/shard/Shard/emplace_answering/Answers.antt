@@ -1,23 +1,28 @@
 use Rattle.std.proofs.Common.{◌≡◌, ◌∙◌, ℕ, ◌+◌, Some, length, replicate, refl, sym, ap}
+use Rattle.std.proofs.Math.Logic.{∥∥₁_map}
 use Rattle.foyer_core.specs.Inflight.{waiters_of}
 use Rattle.foyer_core.specs.Inflights.{opens_of}
-use Rattle.foyer_core.specs.State.{key_of}
+use Rattle.foyer_core.specs.State.{at_moment, key_of}
 use Rattle.foyer_core.specs.Steps.{newcomer}
 use Rattle.foyer_core.specs.Stores.{meaning_of, state_of}
 use Rattle.foyer_core.specs.Values.{Held}
 use Rattle.foyer_core.specs.declared.record.Data.{Data}
-use Rattle.foyer_core.proofs.ApartLemmas.{arrived_apart, refuses_apart}
+use Rattle.foyer_core.proofs.ApartLemmas.{arrived_apart, new_apart, refuses_apart}
+use Rattle.foyer_core.proofs.Moments.{kept_at}
 use Rattle.foyer_core.proofs.Returning.{inserted_entry}
 use Rattle.foyer_core.proofs.shard.Shard.emplace_answering.Goals as goal
 
 pub invariant_of-self : goal.invariant_of-self
 invariant_of-self g c =
     let s = c.args.self.now in
+    let m = at_moment c.args.now (meaning_of s.store) in
     let old = state_of s.store in
     let i = newcomer old c.args.kept (1 + c.further-further.result.count) in
     let went = c.in-Ok.ensures.inserted in
     record {
-      apart = arrived_apart (meaning_of s.store) (opens_of s.inflights) c.args.source old i went.more c.in-Ok.made.entry
+      apart = arrived_apart m (opens_of s.inflights) old (∥∥₁_map s.store.sound (kept_at (meaning_of s.store) c.args.now old)) i
+          (new_apart m (opens_of s.inflights) old c.args.kept (1 + c.further-further.result.count)) c.args.source
+          went.more c.in-Ok.made.entry
           (state_of c.emplace.new.self) went.so
           c.in-Ok.made.entry.kept.hash c.in-Ok.made.entry.kept.key refl refl (opens_of c.answers-answers.new.self)
           c.answers-answers.ensures.closed s.apart;
@@ -30,7 +35,7 @@ invariant_of-self-in-Err-1 g c =
     let i = newcomer old c.args.kept (1 + c.further-further.result.count) in
     let went = c.in-Err.ensures.inserted in
     record {
-      apart = refuses_apart (meaning_of s.store) (opens_of s.inflights) old i c.in-Err.error went.more
+      apart = refuses_apart (at_moment c.args.now (meaning_of s.store)) (opens_of s.inflights) old i c.in-Err.error went.more
           (state_of c.emplace.new.self) went.so s.apart;
     }
 
@@ -40,7 +45,7 @@ returns-in-Ok-clause-given g c =
     let old = state_of s.store in
     let went = c.in-Ok.ensures.inserted in
     ap (λ (e : Held g.row.K.Denot g.row.V.Denot g.row.P.Denot). e.kept)
-    (inserted_entry (meaning_of s.store) c.args.source old
+    (inserted_entry (at_moment c.args.now (meaning_of s.store)) c.args.source old
     (newcomer old c.args.kept (1 + c.further-further.result.count)) went.more c.in-Ok.made.entry
     (state_of c.emplace.new.self) went.so)
 

@@ -9,10 +9,10 @@ pub invariant_of-self : goal.invariant_of-self
 invariant_of-self g c =
     let s = c.args.self.now in
     let f = opens_of s.inflights in
-    let index = (state_of s.store).index in
     let k : ℕ × g.row.K.Denot = (c.args.hash, c.args.key.now) in
     let shut = closed g.K.PartialEq.eq f k in
     record {
-      apart = step_apart index f (opens_of c.take.new.self) shut c.take.result c.take.ensures.opens
-          c.take.ensures.same s.apart (closed_apart g.K.PartialEq.eq index f k s.apart);
+      apart = step_apart g.P.Properties.expiry_of (state_of s.store) f (opens_of c.take.new.self) shut c.take.result c.take.ensures.opens
+          c.take.ensures.same s.apart
+          (closed_apart g.P.Properties.expiry_of (state_of s.store) f g.K.PartialEq.eq k s.apart);
     }

@@ -1,4 +1,5 @@
 use Rattle.foyer_core.specs.Inflights.{opens_of}
+use Rattle.foyer_core.specs.State.{at_moment}
 use Rattle.foyer_core.specs.Stores.{meaning_of, state_of}
 use Rattle.foyer_core.proofs.ApartLemmas.{goes_apart, leave_apart}
 use Rattle.foyer_core.proofs.shard.Shard.evict_onto.Goals as goal
@@ -10,8 +11,8 @@ invariant_of-self g c =
     let old = state_of s.store in
     let new = state_of c.evict_onto.new.self in
     record {
-      apart = goes_apart f old new c.args.leaves.now.items c.evict_onto.new.leaves.items c.evict_onto.result
+      apart = goes_apart (meaning_of s.store).expires f old new c.args.leaves.now.items c.evict_onto.new.leaves.items c.evict_onto.result
           c.evict_onto.ensures.done c.evict_onto.ensures.refused
-          (λ ls h. leave_apart (meaning_of s.store) f _ _ old ls _ new h s.apart)
-          (λ ls h. leave_apart (meaning_of s.store) f _ _ old ls _ new h.leave s.apart);
+          (λ ls h. leave_apart (at_moment c.args.now (meaning_of s.store)) f _ _ old ls _ new h s.apart)
+          (λ ls h. leave_apart (at_moment c.args.now (meaning_of s.store)) f _ _ old ls _ new h.leave s.apart);
     }

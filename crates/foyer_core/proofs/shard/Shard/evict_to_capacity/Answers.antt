@@ -1,4 +1,5 @@
 use Rattle.foyer_core.specs.Inflights.{opens_of}
+use Rattle.foyer_core.specs.State.{at_moment}
 use Rattle.foyer_core.specs.Stores.{meaning_of, state_of}
 use Rattle.foyer_core.proofs.ApartLemmas.{goes_apart, leave_apart}
 use Rattle.foyer_core.proofs.shard.Shard.evict_to_capacity.Goals as goal
@@ -10,8 +11,8 @@ invariant_of-self g c =
     let old = state_of s.store in
     let new = state_of c.evict_to_capacity.new.self in
     record {
-      apart = goes_apart f old new c.args.leaves.now.items c.evict_to_capacity.new.leaves.items
+      apart = goes_apart (meaning_of s.store).expires f old new c.args.leaves.now.items c.evict_to_capacity.new.leaves.items
           c.evict_to_capacity.result c.evict_to_capacity.ensures.done c.evict_to_capacity.ensures.refused
-          (λ ls h. leave_apart (meaning_of s.store) f _ _ old ls _ new h s.apart)
-          (λ ls h. leave_apart (meaning_of s.store) f _ _ old ls _ new h.leave s.apart);
+          (λ ls h. leave_apart (at_moment c.args.now (meaning_of s.store)) f _ _ old ls _ new h s.apart)
+          (λ ls h. leave_apart (at_moment c.args.now (meaning_of s.store)) f _ _ old ls _ new h.leave s.apart);
     }

@@ -10,12 +10,13 @@ pub invariant_of-self : goal.invariant_of-self
 invariant_of-self g c =
     let s = c.args.self.now in
     let f = opens_of s.inflights in
-    let index = (state_of s.store).index in
+    let old = state_of s.store in
+    let expires = g.P.Properties.expiry_of in
     let k : ℕ × g.row.K.Denot = (c.args.hash, c.args.key.now) in
     let to = after_nothing g.K.PartialEq.eq f k in
     record {
-      apart = step_apart index f (opens_of c.fetch_or_take.new.self) to c.fetch_or_take.result
+      apart = step_apart expires old f (opens_of c.fetch_or_take.new.self) to c.fetch_or_take.result
           c.fetch_or_take.ensures.opens c.fetch_or_take.ensures.same s.apart
-          (nothing_apart g.K.PartialEq.eq index f k (λ q same. opens_alike g.met.K.Eq.laws s.inflights k q same)
+          (nothing_apart expires old f g.K.PartialEq.eq k (λ q same. opens_alike g.met.K.Eq.laws s.inflights k q same)
           s.apart);
     }

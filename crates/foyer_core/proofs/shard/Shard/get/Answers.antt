@@ -1,6 +1,7 @@
 use Rattle.foyer_core.specs.Inflights.{opens_of}
 use Rattle.foyer_core.specs.Stores.{meaning_of, state_of}
 use Rattle.foyer_core.proofs.ApartLemmas.{within_apart, within_same}
+use Rattle.foyer_core.proofs.Origins.{gets_from, nothing_new}
 use Rattle.foyer_core.proofs.ShardTold.{gets_index}
 use Rattle.foyer_core.proofs.Asked.{got_key}
 use Rattle.foyer_core.proofs.shard.Shard.get.Goals as goal
@@ -12,14 +13,16 @@ invariant_of-self g c =
     let old = state_of s.store in
     let new = state_of c.get.new.self in
     record {
-      apart = within_apart f old new
+      apart = within_apart (meaning_of s.store).expires f old new
           (within_same old new
-          (gets_index (meaning_of s.store) old (c.args.hash, c.args.key.now) c.get.result new c.get.ensures.gets))
-          s.apart;
+          (gets_index (meaning_of s.store) c.args.now old (c.args.hash, c.args.key.now) c.get.result new
+          c.get.ensures.gets)
+          (gets_from nothing_new (meaning_of s.store) c.args.now old (c.args.hash, c.args.key.now) c.get.result new
+          c.get.ensures.gets)) s.apart;
     }
 
 pub returns-clause-asked : goal.returns-clause-asked
 returns-clause-asked g c =
     let s = c.args.self.now in
     got_key (meaning_of s.store) (state_of s.store) s.store.sound (c.args.hash, c.args.key.now)
-    (state_of c.get.new.self) c.get.result c.get.ensures.gets
+    (state_of c.get.new.self) c.args.now c.get.result c.get.ensures.gets

@@ -1,6 +1,7 @@
 use Rattle.foyer_core.specs.Inflights.{opens_of}
 use Rattle.foyer_core.specs.Stores.{meaning_of, state_of}
 use Rattle.foyer_core.proofs.ApartLemmas.{answer_apart, within_equal, within_same}
+use Rattle.foyer_core.proofs.Origins.{gives_back_from, nothing_new}
 use Rattle.foyer_core.proofs.ShardTold.{back_index}
 use Rattle.foyer_core.proofs.shard.Shard.give_back.Goals as goal
 
@@ -11,7 +12,8 @@ invariant_of-self g c =
     let old = state_of s.store in
     let new = state_of c.give_back.new.self in
     record {
-      apart = answer_apart f old new c.give_back.result c.give_back.ensures.taken c.give_back.ensures.err
-          (λ leave h. within_same old new (back_index (meaning_of s.store) old c.args.entry.id leave new h.1))
+      apart = answer_apart (meaning_of s.store).expires f old new c.give_back.result c.give_back.ensures.taken c.give_back.ensures.err
+          (λ leave h. within_same old new (back_index (meaning_of s.store) old c.args.entry.id leave new h.1)
+          (gives_back_from nothing_new (meaning_of s.store) old c.args.entry.id leave new h.1))
           (λ h. within_equal old new h) s.apart;
     }

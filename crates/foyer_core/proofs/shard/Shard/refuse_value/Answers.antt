@@ -5,29 +5,31 @@ use Rattle.foyer_policy.specs.declared.error.Reason.TheVariants.{NoMemory}
 use Rattle.foyer_core.specs.declared.record.Data.{Data}
 use Rattle.foyer_core.specs.Inflight.{asked, closed}
 use Rattle.foyer_core.specs.Inflights.{opens_of}
+use Rattle.foyer_core.specs.State.{at_moment}
 use Rattle.foyer_core.specs.Steps.{newcomer}
 use Rattle.foyer_core.specs.Stores.{meaning_of, state_of}
 use Rattle.foyer_core.specs.Waited.{Ending, ending_of}
 use Rattle.foyer_core.proofs.ApartLemmas.{closed_apart, step_apart}
 use Rattle.foyer_core.proofs.Completing.{refusal_is, refused_ends}
+use Rattle.foyer_core.proofs.Moments.{refuses_at}
 use Rattle.foyer_core.proofs.shard.Shard.refuse_value.Goals as goal
 
 pub invariant_of-self : goal.invariant_of-self
 invariant_of-self g c =
     let s = c.args.self.now in
     let f = opens_of s.inflights in
-    let index = (state_of s.store).index in
     let k : ℕ × g.row.K.Denot = (c.args.hash, c.args.key.now) in
     let shut = closed g.K.PartialEq.eq f k in
     record {
-      apart = step_apart index f (opens_of c.take.new.self) shut c.take.result c.take.ensures.opens
-          c.take.ensures.same s.apart (closed_apart g.K.PartialEq.eq index f k s.apart);
+      apart = step_apart g.P.Properties.expiry_of (state_of s.store) f (opens_of c.take.new.self) shut c.take.result c.take.ensures.opens
+          c.take.ensures.same s.apart
+          (closed_apart g.P.Properties.expiry_of (state_of s.store) f g.K.PartialEq.eq k s.apart);
     }
 
 pub returns-clause-completed : goal.returns-clause-completed
-returns-clause-completed g c source value =
+returns-clause-completed g c now source value =
     let s = c.args.self.now in
-    let m = meaning_of s.store in
+    let m = at_moment now (meaning_of s.store) in
     let f = opens_of s.inflights in
     let old = state_of s.store in
     let k : ℕ × g.row.K.Denot = (c.args.hash, c.args.key.now) in
@@ -59,5 +61,6 @@ returns-clause-completed g c source value =
     refused_ends m source old old f (opens_of c.take.new.self) k (of value) c.in-Some.ensures.opens
     (asked (Some c.args.fetch) (f.by_key k)) c.in-Some.waiters.items c.in-Some.ensures.taken
     (1 + count) many reason [] (ending_of c.found.result) is
-    (refusal_is m old (λ v. newcomer old (of v) (1 + count)) c.new_refusal-refusal.result
-    c.new_refusal-refusal.ensures.some c.new_refusal-refusal.ensures.none value)
+    (refuses_at (meaning_of s.store) now old (newcomer old (of value) (1 + count)) reason
+    (refusal_is (meaning_of s.store) old (λ v. newcomer old (of v) (1 + count)) c.new_refusal-refusal.result
+    c.new_refusal-refusal.ensures.some c.new_refusal-refusal.ensures.none value))

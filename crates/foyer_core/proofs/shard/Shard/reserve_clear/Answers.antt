@@ -9,4 +9,4 @@ invariant_of-self g c =
     let f = opens_of s.inflights in
     let old = state_of s.store in
     let new = state_of c.reserve_clear.new.self in
-    record { apart = within_apart f old new (within_equal old new c.reserve_clear.ensures.same) s.apart }
+    record { apart = within_apart g.P.Properties.expiry_of f old new (within_equal old new c.reserve_clear.ensures.same) s.apart }

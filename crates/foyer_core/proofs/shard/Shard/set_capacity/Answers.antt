@@ -1,8 +1,8 @@
-use Rattle.std.proofs.Common.{sym, ap, ◌∙◌}
+use Rattle.std.proofs.Common.{sym, subst}
 use Rattle.foyer_core.specs.Inflights.{opens_of}
 use Rattle.foyer_core.specs.Stores.{state_of}
 use Rattle.foyer_core.specs.State.{State}
-use Rattle.foyer_core.proofs.ApartLemmas.{within_apart}
+use Rattle.foyer_core.specs.Fetching.{Apart}
 use Rattle.foyer_core.proofs.shard.Shard.set_capacity.Goals as goal
 
 pub invariant_of-self : goal.invariant_of-self
@@ -12,8 +12,6 @@ invariant_of-self g c =
     let old = state_of s.store in
     let new = state_of c.set_capacity.new.self in
     record {
-      apart = within_apart f old new
-          (λ q id is.
-          sym (ap (λ (x : State g.row.K.Denot g.row.V.Denot g.row.P.Denot g.E.Eviction.View). x.index q)
-          c.set_capacity.ensures) ∙ is) s.apart;
+      apart = subst (λ (x : State g.row.K.Denot g.row.V.Denot g.row.P.Denot g.E.Eviction.View).
+          Apart g.P.Properties.expiry_of x f) (sym c.set_capacity.ensures) s.apart;
     }

@@ -1,6 +1,7 @@
 use Rattle.foyer_core.specs.Inflights.{opens_of}
 use Rattle.foyer_core.specs.Stores.{meaning_of, state_of}
 use Rattle.foyer_core.proofs.ApartLemmas.{within_apart, within_same}
+use Rattle.foyer_core.proofs.Origins.{nothing_new, touches_from}
 use Rattle.foyer_core.proofs.ShardTold.{touches_index}
 use Rattle.foyer_core.proofs.shard.Shard.touch.Goals as goal
 
@@ -11,8 +12,10 @@ invariant_of-self g c =
     let old = state_of s.store in
     let new = state_of c.touch.new.self in
     record {
-      apart = within_apart f old new
+      apart = within_apart (meaning_of s.store).expires f old new
           (within_same old new
-          (touches_index (meaning_of s.store) old (c.args.hash, c.args.key.now) c.touch.result new
-          c.touch.ensures.touches)) s.apart;
+          (touches_index (meaning_of s.store) c.args.now old (c.args.hash, c.args.key.now) c.touch.result new
+          c.touch.ensures.touches)
+          (touches_from nothing_new (meaning_of s.store) c.args.now old (c.args.hash, c.args.key.now) c.touch.result
+          new c.touch.ensures.touches)) s.apart;
     }

@@ -1,6 +1,5 @@
-use Rattle.std.proofs.Common.{◌≡◌, ℕ, Option, Some, None, arith, refl, sym, subst, ap, ◌∙◌}
+use Rattle.std.proofs.Common.{Some, arith, refl, sym, ap, ◌∙◌}
 use Rattle.foyer_core.specs.declared.slots.Cell.TheVariants.{Taken}
-use Rattle.foyer_core.specs.Cells.{AreCells}
 use Rattle.foyer_core.proofs.CellLemmas.{first_free, first_within, first_read, some_vacant, none_vacant, next_free}
 use Rattle.foyer_core.proofs.CellLemmas.{seen-set, seen-push, AreCells-push, AreCells-fill}
 use Rattle.foyer_core.proofs.slots.Slots.insert.Goals as goal

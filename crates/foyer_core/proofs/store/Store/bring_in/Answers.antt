@@ -1,16 +1,17 @@
-use Rattle.std.proofs.Common.{◌≡◌, ◌-◌, ℕ, ◌++◌, Some, None, true, refl, sym, ◌∙◌, ap, subst, arith, append-nil}
+use Rattle.std.proofs.Common.{◌≡◌, ◌-◌, ℕ, ◌++◌, Some, true, refl, sym, ◌∙◌, ap, subst, arith, append-nil}
 use Rattle.std.proofs.Math.Logic.{∥∥₁_elim}
 use Rattle.std.proofs.Props.{props}
 use Rattle.foyer_policy.specs.declared.error.Reason.TheVariants.{NoMemory}
 use Rattle.foyer_policy.specs.declared.types.Source.{Source}
 use Rattle.foyer_core.specs.declared.record.Data.{Data}
 use Rattle.foyer_core.specs.Values.{Kept, Incoming, incoming_of}
-use Rattle.foyer_core.specs.State.{key_of}
+use Rattle.foyer_core.specs.State.{at_moment, key_of}
 use Rattle.foyer_core.specs.Bulk.{GoesOn}
 use Rattle.foyer_core.specs.Steps.{entry_of, replaced_leaves, Evicting, Evicts, GivesWay, InsertsPlain, RefusesPlain}
 use Rattle.foyer_core.specs.Stores.{meaning_of, state_of}
 use Rattle.foyer_core.proofs.InsertLemmas.{fits_after}
 use Rattle.foyer_core.proofs.Emplaced.{evicts_rests, evicts_out, evicts_begin, emplaced, wants_memory, wants_memory_first}
+use Rattle.foyer_core.proofs.Moments.{admits_at, kept_at, timed_lawful, way_at}
 use Rattle.foyer_core.proofs.Told.{goes_start, goes_so, goes_on}
 use Rattle.foyer_core.proofs.store.Store.bring_in.Goals as goal
 use Rattle.foyer_core.proofs.store.Store.bring_in.Goals.{in-Some, in_default-replaced}
@@ -18,7 +19,7 @@ use Rattle.foyer_core.proofs.store.Store.bring_in.Goals.{in-Some, in_default-rep
 pub returns-in_default : goal.returns-in_default
 returns-in_default g c =
     let s = c.args.self.now in
-    let m = meaning_of s in
+    let m = at_moment c.args.now (meaning_of s) in
     let inc : Incoming g.row.K.Denot g.row.V.Denot g.row.P.Denot = incoming_of c.args.slot in
     record {
       inserted = λ _. rw (c.new.ensures, c.in_default.ensures.leaves, c.in_default.ensures.same)
@@ -29,7 +30,7 @@ returns-in_default g c =
 pub returns-in_default-evict_onto : goal.returns-in_default-evict_onto
 returns-in_default-evict_onto g c =
     let s = c.args.self.now in
-    let m = meaning_of s in
+    let m = at_moment c.args.now (meaning_of s) in
     let inc : Incoming g.row.K.Denot g.row.V.Denot g.row.P.Denot = incoming_of c.args.slot in
     let went : GoesOn c.prepare.new.leaves.items c.evict_onto.new.leaves.items
     (λ ls. Evicting m (s.capacity - inc.kept.weight) (state_of s) ls (state_of c.evict_onto.new.self)) =
@@ -50,7 +51,7 @@ returns-in_default-evict_onto g c =
 pub admit-requires-clause-plain : goal.admit-requires-clause-plain
 admit-requires-clause-plain g c κs within =
     let s = c.args.self.now in
-    let m = meaning_of s in
+    let m = at_moment c.args.now (meaning_of s) in
     let inc : Incoming g.row.K.Denot g.row.V.Denot g.row.P.Denot = incoming_of c.args.slot in
     let kept : c.prepare.new.slot.kept ≡ inc.kept =
     ap (λ (x : Kept g.row.K.Denot g.row.V.Denot g.row.P.Denot). x.kept) c.in-Ok.ensures.slot in
@@ -66,7 +67,7 @@ admit-requires-clause-coming g c κs within = c.in-Ok.ensures.slot
 pub admit-requires-clause-out : goal.admit-requires-clause-out
 admit-requires-clause-out g c κs within r there =
     let s = c.args.self.now in
-    let m = meaning_of s in
+    let m = at_moment c.args.now (meaning_of s) in
     let inc : Incoming g.row.K.Denot g.row.V.Denot g.row.P.Denot = incoming_of c.args.slot in
     let went : GoesOn c.prepare.new.leaves.items c.evict_onto.new.leaves.items
     (λ ls. Evicts m c.saturating_sub-target.result (state_of s) ls (state_of c.evict_onto.new.self)) =
@@ -81,7 +82,7 @@ admit-requires-clause-out g c κs within r there =
 pub admit-requires-clause-number : goal.admit-requires-clause-number
 admit-requires-clause-number g c κs within =
     let s = c.args.self.now in
-    let m = meaning_of s in
+    let m = at_moment c.args.now (meaning_of s) in
     let inc : Incoming g.row.K.Denot g.row.V.Denot g.row.P.Denot = incoming_of c.args.slot in
     let went : GoesOn c.prepare.new.leaves.items c.evict_onto.new.leaves.items
     (λ ls. Evicts m c.saturating_sub-target.result (state_of s) ls (state_of c.evict_onto.new.self)) =
@@ -97,7 +98,7 @@ admit-requires-clause-number g c κs within =
 pub admit-requires-clause-held : goal.admit-requires-clause-held
 admit-requires-clause-held g c κs within =
     let s = c.args.self.now in
-    let m = meaning_of s in
+    let m = at_moment c.args.now (meaning_of s) in
     let inc : Incoming g.row.K.Denot g.row.V.Denot g.row.P.Denot = incoming_of c.args.slot in
     let handles : c.prepare.new.slot.handles ≡ inc.handles =
     ap (λ (x : Kept g.row.K.Denot g.row.V.Denot g.row.P.Denot). x.handles) c.in-Ok.ensures.slot in
@@ -106,7 +107,7 @@ admit-requires-clause-held g c κs within =
 pub admit-requires-clause-handles : goal.admit-requires-clause-handles
 admit-requires-clause-handles g c κs within =
     let s = c.args.self.now in
-    let m = meaning_of s in
+    let m = at_moment c.args.now (meaning_of s) in
     let inc : Incoming g.row.K.Denot g.row.V.Denot g.row.P.Denot = incoming_of c.args.slot in
     let went : GoesOn c.prepare.new.leaves.items c.evict_onto.new.leaves.items
     (λ ls. Evicts m c.saturating_sub-target.result (state_of s) ls (state_of c.evict_onto.new.self)) =
@@ -122,7 +123,7 @@ admit-requires-clause-handles g c κs within =
 pub admit-requires-clause-fits : goal.admit-requires-clause-fits
 admit-requires-clause-fits g c κs within b last h =
     let s = c.args.self.now in
-    let m = meaning_of s in
+    let m = at_moment c.args.now (meaning_of s) in
     let inc : Incoming g.row.K.Denot g.row.V.Denot g.row.P.Denot = incoming_of c.args.slot in
     let went : GoesOn c.prepare.new.leaves.items c.evict_onto.new.leaves.items
     (λ ls. Evicts m (s.capacity - inc.kept.weight) (state_of s) ls (state_of c.evict_onto.new.self)) =
@@ -134,18 +135,20 @@ admit-requires-clause-fits g c κs within b last h =
     c.in-Ok-evict_onto.ensures.done) in
     let kept : c.prepare.new.slot.kept ≡ inc.kept =
     ap (λ (x : Kept g.row.K.Denot g.row.V.Denot g.row.P.Denot). x.kept) c.in-Ok.ensures.slot in
-    let way : GivesWay m ((state_of c.evict_onto.new.self).index (key_of inc.kept)) (state_of c.evict_onto.new.self) b
+    let way : GivesWay (meaning_of s) ((state_of c.evict_onto.new.self).index (key_of inc.kept)) (state_of c.evict_onto.new.self) b
     last = subst
-    (λ (d : Data g.row.K.Denot g.row.V.Denot g.row.P.Denot). GivesWay m
+    (λ (d : Data g.row.K.Denot g.row.V.Denot g.row.P.Denot). GivesWay (meaning_of s)
     ((state_of c.evict_onto.new.self).index (key_of d)) (state_of c.evict_onto.new.self) b last) kept h in
     rw kept (∥∥₁_elim s.sound (hlevel props)
-    (λ k. fits_after m g.met.K.Eq.laws g.met.E.Eviction.lawful (state_of s) k inc.kept went.more
-    (state_of c.evict_onto.new.self) went.so b last way c.requires.may.2 (omega arith) (omega arith)))
+    (λ k. fits_after m g.met.K.Eq.laws (timed_lawful c.args.now g.E.Eviction.model g.met.E.Eviction.lawful) (state_of s)
+    (kept_at (meaning_of s) c.args.now (state_of s) k) inc.kept went.more (state_of c.evict_onto.new.self) went.so b last
+    (way_at (meaning_of s) c.args.now ((state_of c.evict_onto.new.self).index (key_of inc.kept))
+    (state_of c.evict_onto.new.self) b last way) c.requires.may.2 (omega arith) (omega arith)))
 
 pub returns-in-Ok-admit : goal.returns-in-Ok-admit
 returns-in-Ok-admit g c =
     let s = c.args.self.now in
-    let m = meaning_of s in
+    let m = at_moment c.args.now (meaning_of s) in
     let inc : Incoming g.row.K.Denot g.row.V.Denot g.row.P.Denot = incoming_of c.args.slot in
     let mid = c.evict_onto.new.leaves.items in
     let gone = replaced_leaves c.in-Ok-admit.replaced in
@@ -170,14 +173,16 @@ returns-in-Ok-admit g c =
     (state_of c.admit.new.self))
     (λ ls more evicts is. rw is
     (emplaced m (state_of s) inc c.requires.may source ls (state_of c.evict_onto.new.self) evicts
-    c.in-Ok-admit.replaced (state_of c.admit.new.self) (rw came at c.in-Ok-admit.ensures.admitted)))
+    c.in-Ok-admit.replaced (state_of c.admit.new.self)
+    (admits_at (meaning_of s) c.args.now (state_of c.evict_onto.new.self) inc c.in-Ok-admit.replaced
+    (state_of c.admit.new.self) (rw came at c.in-Ok-admit.ensures.admitted))))
     went (record { more = gone; told = leaves; so = refl }) in
     record { inserted = λ source. rw (sym c.in-Ok.ensures.leaves) (done source) }
 
 pub returns : goal.returns
 returns g c =
     let s = c.args.self.now in
-    let m = meaning_of s in
+    let m = at_moment c.args.now (meaning_of s) in
     let inc : Incoming g.row.K.Denot g.row.V.Denot g.row.P.Denot = incoming_of c.args.slot in
     let went : GoesOn c.prepare.new.leaves.items c.evict_onto.new.leaves.items
     (λ ls. Evicts m (s.capacity - inc.kept.weight) (state_of s) ls (state_of c.evict_onto.new.self)) =

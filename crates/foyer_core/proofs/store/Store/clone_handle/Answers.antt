@@ -59,6 +59,7 @@ invariant_of-self g c =
       weighed = s.weighed;
       counted = s.counted;
       numbered = s.numbered;
+      soon = s.soon;
     }
 
 pub returns : goal.returns

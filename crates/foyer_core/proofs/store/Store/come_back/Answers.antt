@@ -3,6 +3,7 @@ use Rattle.foyer_policy.specs.declared.types.Source.TheVariants.{Memory}
 use Rattle.std.specs.Prelude.{MatchResult}
 use Rattle.foyer_core.specs.Pieces.{RefusesReturn, Returns}
 use Rattle.foyer_core.specs.Values.{Kept, Incoming}
+use Rattle.foyer_core.specs.State.{at_moment}
 use Rattle.foyer_core.specs.Stores.{meaning_of, state_of}
 use Rattle.foyer_core.specs.Steps.{Inserts, RefusesInsert}
 use Rattle.foyer_core.specs.Table.{rec_of}
@@ -16,7 +17,7 @@ use Rattle.foyer_core.proofs.store.Store.come_back.Goals as goal
 pub returns-then-is_resident-clause-returned : goal.returns-then-is_resident-clause-returned
 returns-then-is_resident-clause-returned g c y is piece named =
     let s = c.args.self.now in
-    let m = meaning_of s in
+    let m = at_moment c.args.now (meaning_of s) in
     let x = c.in-Some.found.now in
     let there : slot_in s.records c.args.slot ≡ Some x = sym (rw c.in-Some.is at c.get.ensures) in
     let rec : (state_of s).records x.id ≡ Some (rec_of x) = slot_record m (g.E.Eviction.at s.eviction)
@@ -38,7 +39,7 @@ returns-then-is_resident-clause-returned g c y is piece named =
 pub returns-clause-returned : goal.returns-clause-returned
 returns-clause-returned g c y is piece named =
     let s = c.args.self.now in
-    let m = meaning_of s in
+    let m = at_moment c.args.now (meaning_of s) in
     let x = c.in-Some.found.now in
     let there : slot_in s.records c.args.slot ≡ Some x = sym (rw c.in-Some.is at c.get.ensures) in
     let rec : (state_of s).records x.id ≡ Some (rec_of x) = slot_record m (g.E.Eviction.at s.eviction)

@@ -2,9 +2,11 @@ use Rattle.std.proofs.Common.{◌≡◌, ap, arith}
 use Rattle.foyer_policy.specs.declared.error.Reason.TheVariants.{NoMemory}
 use Rattle.foyer_core.specs.Values.{Kept}
 use Rattle.foyer_core.specs.Steps.{RefusesInsert, newcomer}
+use Rattle.foyer_core.specs.State.{at_moment, is_phantom_record}
 use Rattle.foyer_core.specs.Stores.{meaning_of, state_of}
 use Rattle.foyer_core.proofs.AdmitLemmas.{new_out}
 use Rattle.foyer_core.proofs.Holdings.{holding}
+use Rattle.foyer_core.proofs.Moments.{may_at, refuses_at}
 use Rattle.foyer_core.proofs.Returning.{memory_refuses}
 use Rattle.foyer_core.proofs.Told.{goes_start}
 use Rattle.foyer_core.proofs.store.Store.emplace_one.Goals as goal
@@ -15,8 +17,10 @@ returns-in-Some g c =
     record {
       inserted = rw c.new.ensures
           (goes_start c.args.leaves.now.items
-          (λ ls. RefusesInsert (meaning_of s) (state_of s) (newcomer (state_of s) c.args.kept 1) c.in-Some.reason
-          ls (state_of s)) c.in-Some.ensures.some);
+          (λ ls. RefusesInsert (at_moment c.args.now (meaning_of s)) (state_of s) (newcomer (state_of s) c.args.kept 1) c.in-Some.reason
+          ls (state_of s))
+          (refuses_at (meaning_of s) c.args.now (state_of s) (newcomer (state_of s) c.args.kept 1) c.in-Some.reason
+          c.in-Some.ensures.some));
     }
 
 pub returns-in_default-new : goal.returns-in_default-new
@@ -26,8 +30,9 @@ returns-in_default-new g c =
     record {
       inserted = rw c.new-in_default-new.ensures
           (goes_start c.args.leaves.now.items
-          (λ ls. RefusesInsert (meaning_of s) (state_of s) i NoMemory ls (state_of s))
-          (memory_refuses (meaning_of s) (state_of s) i c.in_default.ensures.none));
+          (λ ls. RefusesInsert (at_moment c.args.now (meaning_of s)) (state_of s) i NoMemory ls (state_of s))
+          (memory_refuses (at_moment c.args.now (meaning_of s)) (state_of s) i
+          (may_at (meaning_of s) c.args.now (is_phantom_record (meaning_of s) i.kept) (state_of s) i c.in_default.ensures.none)));
     }
 
 pub arrive-requires-clause-out : goal.arrive-requires-clause-out

@@ -5,6 +5,7 @@ use Rattle.foyer_core.specs.Onto.{handles_onto}
 use Rattle.foyer_core.specs.Pieces.{InsertsPiece, RefusesReturn, Returns, is_known}
 use Rattle.foyer_core.specs.Records.{slot_in, number_of}
 use Rattle.foyer_core.specs.Steps.{Inserts, RefusesInsert, newcomer}
+use Rattle.foyer_core.specs.State.{at_moment}
 use Rattle.foyer_core.specs.Stores.{meaning_of, state_of}
 use Rattle.foyer_core.specs.Table.{rec_of}
 use Rattle.foyer_core.specs.Values.{Kept}
@@ -37,7 +38,7 @@ come_back-requires-clause-there g c κs within =
 pub returns-then-not-knows-clause-inserted : goal.returns-then-not-knows-clause-inserted
 returns-then-not-knows-clause-inserted g c =
     let s = c.args.self.now in
-    let m = meaning_of s in
+    let m = at_moment c.args.now (meaning_of s) in
     let old = state_of s in
     let call = c.come_in in
     let new = state_of call.new.self in
@@ -56,7 +57,7 @@ returns-then-not-knows-clause-inserted g c =
 pub returns-in-Some-clause-inserted : goal.returns-in-Some-clause-inserted
 returns-in-Some-clause-inserted g c =
     let s = c.args.self.now in
-    let m = meaning_of s in
+    let m = at_moment c.args.now (meaning_of s) in
     let old = state_of s in
     let t = s.records in
     let new = state_of c.come_back.new.self in
@@ -77,7 +78,7 @@ returns-in-Some-clause-inserted g c =
 pub returns-in-None-clause-inserted : goal.returns-in-None-clause-inserted
 returns-in-None-clause-inserted g c =
     let s = c.args.self.now in
-    let m = meaning_of s in
+    let m = at_moment c.args.now (meaning_of s) in
     let old = state_of s in
     let t = s.records in
     let call = c.come_in-in-None in

@@ -5,7 +5,8 @@ use Rattle.foyer_core.specs.Table.{rec_of}
 use Rattle.foyer_core.specs.Records.{slot_in}
 use Rattle.foyer_core.proofs.StoredLemmas.{none_not, err_is, count_stored}
 use Rattle.foyer_core.proofs.Holdings.{holding}
-use Rattle.foyer_core.proofs.ShardLemmas.{hits, found, resident, placed, got_after, got_kept, got_counted, got_entries}
+use Rattle.foyer_core.proofs.ShardLemmas.{slot_id, found, placed, got_after, got_kept, got_counted, got_entries}
+use Rattle.foyer_core.proofs.SoonSteps.{holds_acquired}
 use Rattle.foyer_core.proofs.store.Store.get.Goals as goal
 
 pub unreachable-requires : goal.unreachable-requires
@@ -13,20 +14,20 @@ unreachable-requires g c =
     let s = c.args.self.now in
     let none : slot_in s.records c.in-Some.slot ≡ None = sym (rw c.in_default-get.is at c.get.ensures) in
     none_not (slot_in s.records c.in-Some.slot)
-    (s.stored.led (c.args.hash, c.args.key.now) c.in-Some.slot (sym c.slot_under.ensures ∙ c.in-Some.is)) none
+    (s.stored.led (c.args.hash, c.args.key.now) c.in-Some.slot c.in-Some.ensures.led) none
 
 pub returns-then-handles-self : goal.returns-then-handles-self
 returns-then-handles-self g c =
     let s = c.args.self.now in
     let x = c.in-Some-get.found.now in
     let there : slot_in s.records c.in-Some.slot ≡ Some x = sym (rw c.in-Some-get.is at c.get.ensures) in
-    let led = sym c.slot_under.ensures ∙ c.in-Some.is in
+    let led = c.in-Some.ensures.led in
+    let live = c.in-Some.ensures.hits ∙ slot_id s.records c.in-Some.slot x there in
     rw c.new.ensures record {
       gets = (
         x.id,
         rec_of x,
-        hits (meaning_of s) g.met.K.Eq.laws g.met.E.Eviction.lawful (holding s) (c.args.hash, c.args.key.now)
-            c.in-Some.slot led x there,
+        live,
         found (meaning_of s) g.met.K.Eq.laws g.met.E.Eviction.lawful (holding s) (c.args.hash, c.args.key.now)
             c.in-Some.slot led x there,
         omega (arith, c.handles.ensures, c.if-handles-self.true),
@@ -41,14 +42,15 @@ returns-in_err-entry g c =
     let laws = g.met.K.Eq.laws in
     let x = c.in-Some-get.found.now in
     let there : slot_in s.records c.in-Some.slot ≡ Some x = sym (rw c.in-Some-get.is at c.get.ensures) in
-    let led = sym c.slot_under.ensures ∙ c.in-Some.is in
+    let led = c.in-Some.ensures.led in
+    let live = c.in-Some.ensures.hits ∙ slot_id s.records c.in-Some.slot x there in
     record {
       gets = err_is c.from_residual.result c.in_err-entry.field-0.0
-          (λ r. Gets (meaning_of s) (state_of s) (c.args.hash, c.args.key.now) r (state_of s)) c.from_residual.ensures.1
+          (λ r. Gets (meaning_of s) c.args.now (state_of s) (c.args.hash, c.args.key.now) r (state_of s)) c.from_residual.ensures.1
           (rw c.in_err-entry.ensures.refused (
             x.id,
             rec_of x,
-            hits (meaning_of s) laws lawful (holding s) (c.args.hash, c.args.key.now) c.in-Some.slot led x there,
+            live,
             found (meaning_of s) laws lawful (holding s) (c.args.hash, c.args.key.now) c.in-Some.slot led x there,
             omega (arith, c.handles.ensures, c.if-handles-self.false),
             refl,
@@ -62,7 +64,7 @@ look_ahead-requires g c =
     let there : slot_in s.records c.in-Some.slot ≡ Some x = sym (rw c.in-Some-get.is at c.get.ensures) in
     let at = ap (g.E.Eviction.at s.eviction) c.at-place.ensures
     ∙ placed (meaning_of s) g.met.K.Eq.laws g.met.E.Eviction.lawful (holding s) (c.args.hash, c.args.key.now)
-    c.in-Some.slot (sym c.slot_under.ensures ∙ c.in-Some.is) x there in
+    c.in-Some.slot c.in-Some.ensures.led x there in
     rw at (search rules)
 
 pub acquire-requires : goal.acquire-requires
@@ -72,7 +74,7 @@ acquire-requires g c =
     let there : slot_in s.records c.in-Some.slot ≡ Some x = sym (rw c.in-Some-get.is at c.get.ensures) in
     let at = ap (g.E.Eviction.at s.eviction) c.at-place.ensures
     ∙ placed (meaning_of s) g.met.K.Eq.laws g.met.E.Eviction.lawful (holding s) (c.args.hash, c.args.key.now)
-    c.in-Some.slot (sym c.slot_under.ensures ∙ c.in-Some.is) x there in
+    c.in-Some.slot c.in-Some.ensures.led x there in
     rw at (search rules)
 
 pub invariant_of-self-2 : goal.invariant_of-self-2
@@ -83,7 +85,7 @@ invariant_of-self-2 g c =
     let m = meaning_of s in
     let x = c.in-Some-get.found.now in
     let there : slot_in s.records c.in-Some.slot ≡ Some x = sym (rw c.in-Some-get.is at c.get.ensures) in
-    let led = sym c.slot_under.ensures ∙ c.in-Some.is in
+    let led = c.in-Some.ensures.led in
     let at = ap (g.E.Eviction.at s.eviction) c.at-place.ensures
     ∙ placed m laws lawful (holding s) (c.args.hash, c.args.key.now) c.in-Some.slot led x there in
     let viewed : g.E.Eviction.view c.acquire.new.self ≡ m.policy.acquire (g.E.Eviction.view s.eviction) x.id =
@@ -103,6 +105,8 @@ invariant_of-self-2 g c =
           c.add_handle.new.self (g.E.Eviction.view c.acquire.new.self) viewed write c.add_handle.ensures.ids s.entries
           s.counted;
       numbered = s.numbered;
+      soon = holds_acquired m laws lawful (holding s) s.soonest s.soon (g.E.Eviction.view c.acquire.new.self) x.id
+          viewed;
     }
 
 pub returns : goal.returns
@@ -113,7 +117,8 @@ returns g c =
     let m = meaning_of s in
     let x = c.in-Some-get.found.now in
     let there : slot_in s.records c.in-Some.slot ≡ Some x = sym (rw c.in-Some-get.is at c.get.ensures) in
-    let led = sym c.slot_under.ensures ∙ c.in-Some.is in
+    let led = c.in-Some.ensures.led in
+    let live = c.in-Some.ensures.hits ∙ slot_id s.records c.in-Some.slot x there in
     let at = ap (g.E.Eviction.at s.eviction) c.at-place.ensures
     ∙ placed m laws lawful (holding s) (c.args.hash, c.args.key.now) c.in-Some.slot led x there in
     let viewed : g.E.Eviction.view c.acquire.new.self ≡ m.policy.acquire (g.E.Eviction.view s.eviction) x.id =
@@ -122,7 +127,7 @@ returns g c =
     rw c.in_ok-entry.ensures.entry record {
       gets = (
         rec_of x,
-        hits m laws lawful (holding s) (c.args.hash, c.args.key.now) c.in-Some.slot led x there,
+        live,
         found m laws lawful (holding s) (c.args.hash, c.args.key.now) c.in-Some.slot led x there,
         omega (arith, c.handles.ensures, c.if-handles-self.false),
         refl,

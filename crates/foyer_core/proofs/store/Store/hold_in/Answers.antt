@@ -2,10 +2,11 @@ use Rattle.std.proofs.Common.{◌≡◌, ◌∷◌, [], ◌++◌, refl, sym, sub
 use Rattle.foyer_policy.specs.declared.error.Reason.TheVariants.{NoMemory}
 use Rattle.foyer_policy.specs.declared.types.Event.TheVariants.{Remove}
 use Rattle.foyer_core.specs.Values.{Incoming, incoming_of}
-use Rattle.foyer_core.specs.State.{key_of}
+use Rattle.foyer_core.specs.State.{at_moment, key_of}
 use Rattle.foyer_core.specs.Steps.{replaced_leaves, GivesWay, RefusesPhantom}
 use Rattle.foyer_core.specs.Stores.{meaning_of, state_of}
 use Rattle.foyer_core.proofs.LeaveLemmas.{way-out}
+use Rattle.foyer_core.proofs.Moments.{way_at}
 use Rattle.foyer_core.proofs.Phantoms.{way_rests, phantom_came}
 use Rattle.foyer_core.proofs.Told.{goes_start}
 use Rattle.foyer_core.proofs.store.Store.hold_in.Goals as goal
@@ -62,13 +63,14 @@ returns g c =
     (append_assoc old (replaced_leaves c.make_way.result)
     ((Remove, record { number = s.number; id = inc.id; kept = inc.kept }) ∷ [])) in
     record {
-      inserted = λ source. rw c.hold.ensures
+      inserted = λ now source. rw c.hold.ensures
           (record {
             more = more;
             told = leaves;
             so =
-                phantom_came m (state_of s) inc c.make_way.result (state_of c.make_way.new.self) way source
-                c.requires.may more refl;
+                phantom_came (at_moment now m) (state_of s) inc c.make_way.result (state_of c.make_way.new.self)
+                (way_at m now ((state_of s).index (key_of inc.kept)) (state_of s) (replaced_leaves c.make_way.result)
+                (state_of c.make_way.new.self) way) source c.requires.may more refl;
           });
     }
 
@@ -78,7 +80,7 @@ returns-in_default g c =
     let m = meaning_of s in
     let inc : Incoming g.row.K.Denot g.row.V.Denot g.row.P.Denot = incoming_of c.args.slot in
     record {
-      inserted = λ _. rw (c.new.ensures, c.in_default.ensures.leaves, c.in_default.ensures.same)
-          (goes_start c.args.leaves.now.items (λ ls. RefusesPhantom m (state_of s) inc NoMemory ls (state_of s))
+      inserted = λ now _. rw (c.new.ensures, c.in_default.ensures.leaves, c.in_default.ensures.same)
+          (goes_start c.args.leaves.now.items (λ ls. RefusesPhantom (at_moment now m) (state_of s) inc NoMemory ls (state_of s))
           (c.requires.may, refl, refl));
     }

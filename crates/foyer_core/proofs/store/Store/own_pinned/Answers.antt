@@ -3,7 +3,7 @@ use Rattle.foyer_core.specs.Stores.{meaning_of}
 use Rattle.foyer_core.specs.Records.{slot_in}
 use Rattle.foyer_core.proofs.StoredLemmas.{none_not}
 use Rattle.foyer_core.proofs.Holdings.{holding}
-use Rattle.foyer_core.proofs.ShardLemmas.{resident, placed}
+use Rattle.foyer_core.proofs.ShardLemmas.{placed}
 use Rattle.foyer_core.proofs.PinLemmas.{own_pinned_weight, own_free_weight}
 use Rattle.foyer_core.proofs.store.Store.own_pinned.Goals as goal
 

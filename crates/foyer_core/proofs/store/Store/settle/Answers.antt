@@ -3,7 +3,7 @@ use Rattle.std.specs.Prelude.{MatchResult}
 use Rattle.foyer_policy.specs.Properties.{is_phantom}
 use Rattle.foyer_core.specs.Bulk.{GoesOn}
 use Rattle.foyer_core.specs.Values.{Incoming, incoming_of}
-use Rattle.foyer_core.specs.State.{is_phantom_record}
+use Rattle.foyer_core.specs.State.{at_moment, is_phantom_record}
 use Rattle.foyer_core.specs.Steps.{InsertsBy, RefusesBy, entry_of}
 use Rattle.foyer_core.specs.Stores.{meaning_of, state_of}
 use Rattle.foyer_core.proofs.store.Store.settle.Goals as goal
@@ -11,7 +11,7 @@ use Rattle.foyer_core.proofs.store.Store.settle.Goals as goal
 pub returns-then-unwrap_or : goal.returns-then-unwrap_or
 returns-then-unwrap_or g c =
     let s = c.args.self.now in
-    let m = meaning_of s in
+    let m = at_moment c.args.now (meaning_of s) in
     let inc : Incoming g.row.K.Denot g.row.V.Denot g.row.P.Denot = incoming_of c.args.slot in
     let phantom : is_phantom_record m inc.kept ≡ true =
     sym (c.unwrap_or.ensures ∙ ap is_phantom (c.phantom.ensures ∙ ap m.phantom c.properties.ensures))
@@ -22,13 +22,13 @@ returns-then-unwrap_or g c =
           (λ _. InsertsBy m b source (state_of s) inc ls (entry_of (state_of s) inc.id inc.kept source)
           (state_of c.hold_in.new.self))
           (λ error. RefusesBy m b (state_of s) inc error ls (state_of c.hold_in.new.self)))) (sym phantom)
-          (c.hold_in.ensures.inserted source);
+          (c.hold_in.ensures.inserted c.args.now source);
     }
 
 pub returns : goal.returns
 returns g c =
     let s = c.args.self.now in
-    let m = meaning_of s in
+    let m = at_moment c.args.now (meaning_of s) in
     let inc : Incoming g.row.K.Denot g.row.V.Denot g.row.P.Denot = incoming_of c.args.slot in
     let plain : is_phantom_record m inc.kept ≡ false =
     sym (c.unwrap_or.ensures ∙ ap is_phantom (c.phantom.ensures ∙ ap m.phantom c.properties.ensures))

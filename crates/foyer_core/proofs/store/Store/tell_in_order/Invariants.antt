@@ -1,4 +1,4 @@
-use Rattle.std.proofs.Common.{◌≡◌, ℕ, ◌+◌, ◌<◌, ◌≤◌, Some, drop, take}
+use Rattle.std.proofs.Common.{◌≡◌, ℕ, ◌<◌, ◌≤◌, Some, drop, take}
 use Rattle.foyer_policy.specs.Items.{count_of}
 use Rattle.foyer_core.specs.Questions.{IsTold}
 use Rattle.foyer_core.specs.Stores.{state_of}

@@ -1,4 +1,4 @@
-use Rattle.std.proofs.Common.{◌≡◌, ap, sym, ◌∙◌, subst}
+use Rattle.std.proofs.Common.{ap, ◌∙◌, subst}
 use Rattle.foyer_core.specs.Questions.{IsTold}
 use Rattle.foyer_core.specs.Stores.{meaning_of}
 use Rattle.foyer_core.specs.Values.{Rec}

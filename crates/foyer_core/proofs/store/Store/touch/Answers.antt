@@ -4,8 +4,9 @@ use Rattle.foyer_core.specs.Table.{rec_of}
 use Rattle.foyer_core.specs.Records.{slot_in}
 use Rattle.foyer_core.proofs.StoredLemmas.{none_not}
 use Rattle.foyer_core.proofs.Holdings.{holding}
-use Rattle.foyer_core.proofs.ShardLemmas.{hits, found, resident, placed}
+use Rattle.foyer_core.proofs.ShardLemmas.{slot_id, found, resident, placed}
 use Rattle.foyer_core.proofs.Touched.{used, used_held, used_last, touched, touched_kept, touched_stored, touched_weight, touched_entries}
+use Rattle.foyer_core.proofs.SoonSteps.{holds_acquired, holds_used}
 use Rattle.foyer_core.proofs.store.Store.touch.Goals as goal
 
 pub unreachable-requires : goal.unreachable-requires
@@ -13,20 +14,20 @@ unreachable-requires g c =
     let s = c.args.self.now in
     let none : slot_in s.records c.in-Some.slot ≡ None = sym (rw c.in_default-get.is at c.get.ensures) in
     none_not (slot_in s.records c.in-Some.slot)
-    (s.stored.led (c.args.hash, c.args.key.now) c.in-Some.slot (sym c.slot_under.ensures ∙ c.in-Some.is)) none
+    (s.stored.led (c.args.hash, c.args.key.now) c.in-Some.slot c.in-Some.ensures.led) none
 
 pub returns-then-handles-self : goal.returns-then-handles-self
 returns-then-handles-self g c =
     let s = c.args.self.now in
     let x = c.in-Some-get.found.now in
     let there : slot_in s.records c.in-Some.slot ≡ Some x = sym (rw c.in-Some-get.is at c.get.ensures) in
-    let led = sym c.slot_under.ensures ∙ c.in-Some.is in
+    let led = c.in-Some.ensures.led in
+    let live = c.in-Some.ensures.hits ∙ slot_id s.records c.in-Some.slot x there in
     rw c.new.ensures record {
       touches = (
         x.id,
         rec_of x,
-        hits (meaning_of s) g.met.K.Eq.laws g.met.E.Eviction.lawful (holding s) (c.args.hash, c.args.key.now)
-            c.in-Some.slot led x there,
+        live,
         found (meaning_of s) g.met.K.Eq.laws g.met.E.Eviction.lawful (holding s) (c.args.hash, c.args.key.now)
             c.in-Some.slot led x there,
         omega (arith, c.handles-handles.ensures, c.if-handles-self.true),
@@ -41,7 +42,7 @@ acquire-requires g c =
     let there : slot_in s.records c.in-Some.slot ≡ Some x = sym (rw c.in-Some-get.is at c.get.ensures) in
     let at = ap (g.E.Eviction.at s.eviction) c.at-place.ensures
     ∙ placed (meaning_of s) g.met.K.Eq.laws g.met.E.Eviction.lawful (holding s) (c.args.hash, c.args.key.now)
-    c.in-Some.slot (sym c.slot_under.ensures ∙ c.in-Some.is) x there in
+    c.in-Some.slot c.in-Some.ensures.led x there in
     rw at (search rules)
 
 pub invariant_of-self : goal.invariant_of-self
@@ -53,7 +54,8 @@ invariant_of-self g c =
     let k : ℕ × g.row.K.Denot = (c.args.hash, c.args.key.now) in
     let x = c.in-Some-get.found.now in
     let there : slot_in s.records c.in-Some.slot ≡ Some x = sym (rw c.in-Some-get.is at c.get.ensures) in
-    let led = sym c.slot_under.ensures ∙ c.in-Some.is in
+    let led = c.in-Some.ensures.led in
+    let live = c.in-Some.ensures.hits ∙ slot_id s.records c.in-Some.slot x there in
     let at = ap (g.E.Eviction.at s.eviction) c.at-place.ensures
     ∙ placed m laws lawful (holding s) k c.in-Some.slot led x there in
     let view = g.E.Eviction.view c.acquire.new.self in
@@ -62,12 +64,13 @@ invariant_of-self g c =
     x.handles (omega (arith, c.handles-handles.ensures, c.if-handles-gt0.true)) in
     let room : x.handles < s.limits.handles = omega (arith, c.handles-handles.ensures, c.if-handles-self.false) in
     record {
-      sound = touched_kept m laws lawful (holding s) k c.in-Some.slot led x there room view is;
-      stored = touched_stored m laws lawful (holding s) k c.in-Some.slot led x there room view is
+      sound = touched_kept m laws lawful (holding s) k c.in-Some.slot led x there c.args.now live room view is;
+      stored = touched_stored m laws lawful (holding s) k c.in-Some.slot led x there c.args.now live room view is
           (g.E.Eviction.at c.acquire.new.self) c.acquire.ensures.places;
-      weighed = touched_weight m laws lawful (holding s) k c.in-Some.slot led x there room view is s.usage s.weighed;
-      counted = touched_entries m laws lawful (holding s) k c.in-Some.slot led x there room view is s.entries s.counted;
+      weighed = touched_weight m laws lawful (holding s) k c.in-Some.slot led x there c.args.now live room view is s.usage s.weighed;
+      counted = touched_entries m laws lawful (holding s) k c.in-Some.slot led x there c.args.now live room view is s.entries s.counted;
       numbered = s.numbered;
+      soon = holds_acquired m laws lawful (holding s) s.soonest s.soon view x.id viewed;
     }
 
 pub returns-then-handles-gt0 : goal.returns-then-handles-gt0
@@ -79,7 +82,8 @@ returns-then-handles-gt0 g c =
     let k : ℕ × g.row.K.Denot = (c.args.hash, c.args.key.now) in
     let x = c.in-Some-get.found.now in
     let there : slot_in s.records c.in-Some.slot ≡ Some x = sym (rw c.in-Some-get.is at c.get.ensures) in
-    let led = sym c.slot_under.ensures ∙ c.in-Some.is in
+    let led = c.in-Some.ensures.led in
+    let live = c.in-Some.ensures.hits ∙ slot_id s.records c.in-Some.slot x there in
     let at = ap (g.E.Eviction.at s.eviction) c.at-place.ensures
     ∙ placed m laws lawful (holding s) k c.in-Some.slot led x there in
     let view = g.E.Eviction.view c.acquire.new.self in
@@ -87,7 +91,7 @@ returns-then-handles-gt0 g c =
     let is : view ≡ used m laws lawful (holding s) x.id x.handles = viewed ∙ used_held m laws lawful (holding s) x.id
     x.handles (omega (arith, c.handles-handles.ensures, c.if-handles-gt0.true)) in
     let room : x.handles < s.limits.handles = omega (arith, c.handles-handles.ensures, c.if-handles-self.false) in
-    record { touches = touched m laws lawful (holding s) k c.in-Some.slot led x there room view is }
+    record { touches = touched m laws lawful (holding s) k c.in-Some.slot led x there c.args.now live room view is }
 
 pub release-requires : goal.release-requires
 release-requires g c =
@@ -96,7 +100,7 @@ release-requires g c =
     let there : slot_in s.records c.in-Some.slot ≡ Some x = sym (rw c.in-Some-get.is at c.get.ensures) in
     let at = ap (g.E.Eviction.at s.eviction) c.at-place.ensures
     ∙ placed (meaning_of s) g.met.K.Eq.laws g.met.E.Eviction.lawful (holding s) (c.args.hash, c.args.key.now)
-    c.in-Some.slot (sym c.slot_under.ensures ∙ c.in-Some.is) x there in
+    c.in-Some.slot c.in-Some.ensures.led x there in
     rw (c.acquire.ensures.places c.at-place.result, at) (search rules)
 
 pub invariant_of-self-2 : goal.invariant_of-self-2
@@ -108,7 +112,8 @@ invariant_of-self-2 g c =
     let k : ℕ × g.row.K.Denot = (c.args.hash, c.args.key.now) in
     let x = c.in-Some-get.found.now in
     let there : slot_in s.records c.in-Some.slot ≡ Some x = sym (rw c.in-Some-get.is at c.get.ensures) in
-    let led = sym c.slot_under.ensures ∙ c.in-Some.is in
+    let led = c.in-Some.ensures.led in
+    let live = c.in-Some.ensures.hits ∙ slot_id s.records c.in-Some.slot x there in
     let at = ap (g.E.Eviction.at s.eviction) c.at-place.ensures
     ∙ placed m laws lawful (holding s) k c.in-Some.slot led x there in
     let at2 = c.acquire.ensures.places c.at-place.result ∙ at in
@@ -122,12 +127,16 @@ invariant_of-self-2 g c =
     x.id x.handles (omega (arith, c.handles-handles.ensures, c.if-handles-gt0.false)) in
     let room : x.handles < s.limits.handles = omega (arith, c.handles-handles.ensures, c.if-handles-self.false) in
     record {
-      sound = touched_kept m laws lawful (holding s) k c.in-Some.slot led x there room view is;
-      stored = touched_stored m laws lawful (holding s) k c.in-Some.slot led x there room view is
+      sound = touched_kept m laws lawful (holding s) k c.in-Some.slot led x there c.args.now live room view is;
+      stored = touched_stored m laws lawful (holding s) k c.in-Some.slot led x there c.args.now live room view is
           (g.E.Eviction.at c.release.new.self) (λ p. c.release.ensures.places p ∙ c.acquire.ensures.places p);
-      weighed = touched_weight m laws lawful (holding s) k c.in-Some.slot led x there room view is s.usage s.weighed;
-      counted = touched_entries m laws lawful (holding s) k c.in-Some.slot led x there room view is s.entries s.counted;
+      weighed = touched_weight m laws lawful (holding s) k c.in-Some.slot led x there c.args.now live room view is s.usage s.weighed;
+      counted = touched_entries m laws lawful (holding s) k c.in-Some.slot led x there c.args.now live room view is s.entries s.counted;
       numbered = s.numbered;
+      soon = rw (c.sooner-self.ensures, c.expiry-expires.ensures, c.properties.ensures)
+          (holds_used m laws lawful (holding s) s.soonest s.soon c.in-Some.slot x there
+          (resident m laws lawful (holding s) k c.in-Some.slot led x there) (g.E.Eviction.view c.acquire.new.self) view
+          viewed released);
     }
 
 pub returns : goal.returns
@@ -139,7 +148,8 @@ returns g c =
     let k : ℕ × g.row.K.Denot = (c.args.hash, c.args.key.now) in
     let x = c.in-Some-get.found.now in
     let there : slot_in s.records c.in-Some.slot ≡ Some x = sym (rw c.in-Some-get.is at c.get.ensures) in
-    let led = sym c.slot_under.ensures ∙ c.in-Some.is in
+    let led = c.in-Some.ensures.led in
+    let live = c.in-Some.ensures.hits ∙ slot_id s.records c.in-Some.slot x there in
     let at = ap (g.E.Eviction.at s.eviction) c.at-place.ensures
     ∙ placed m laws lawful (holding s) k c.in-Some.slot led x there in
     let at2 = c.acquire.ensures.places c.at-place.result ∙ at in
@@ -152,4 +162,4 @@ returns g c =
     released ∙ ap (λ (v : g.E.Eviction.View). m.policy.release v x.id) viewed ∙ used_last m laws lawful (holding s)
     x.id x.handles (omega (arith, c.handles-handles.ensures, c.if-handles-gt0.false)) in
     let room : x.handles < s.limits.handles = omega (arith, c.handles-handles.ensures, c.if-handles-self.false) in
-    record { touches = touched m laws lawful (holding s) k c.in-Some.slot led x there room view is }
+    record { touches = touched m laws lawful (holding s) k c.in-Some.slot led x there c.args.now live room view is }

@@ -5,7 +5,7 @@ use Rattle.foyer_core.specs.CoreFetches.{open_in}
 use Rattle.foyer_core.specs.Core.{shard_of}
 use Rattle.foyer_core.specs.Cores.{core_of, fetches_of, hashes_of}
 use Rattle.foyer_core.specs.Inflight.{asked}
-use Rattle.foyer_core.specs.State.{coming_in}
+use Rattle.foyer_core.specs.State.{coming_in, at_moment}
 use Rattle.foyer_core.specs.Waited.{ending_of}
 use Rattle.foyer_session.specs.Sessions.{session_of, meaning_of_session}
 use Rattle.foyer_session.proofs.CoreLemmas.{alike_at, kept_at, open_at}
@@ -43,14 +43,14 @@ tell_ended-requires-clause-alike g c = c.complete_in-ended.ensures.answering.ali
 pub invariant_of-self-clause-owns : goal.invariant_of-self-clause-owns
 invariant_of-self-clause-owns g c =
     let s = c.args.self.now in
-    let m = meaning_of_session s in
+    let m = at_moment c.args.now (meaning_of_session s) in
     let t = c.complete_in-ended.new.core in
     let k : ℕ × g.row.K.Denot = (hashes_of s.core c.args.key.now, c.args.key.now) in
     rw c.tell_ended.ensures.handles (∥∥₁_map s.owns (λ o.
     completed_owns m (core_of s.core) (fetches_of s.core) (core_of t) (fetches_of t) k
     (ending_of c.complete_in-ended.result) s.handles.items o
     (λ x there. s.core.whole.belong (shard_of (core_of s.core) k.0) x there)
-    (λ x there. ∥∥₁_elim (kept_at s.core k.0 x there) (hlevel props) (λ kept. next_unused m x kept))
+    (λ x there. ∥∥₁_elim (kept_at s.core k.0 x there) (hlevel props) (λ kept. next_unused (meaning_of_session s) x kept))
     record {
       hash = hashes_of s.core;
       weighs = g.W.Weighter.weighs s.core.rules.weighter;

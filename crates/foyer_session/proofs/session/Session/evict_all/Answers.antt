@@ -5,6 +5,7 @@ use Rattle.foyer_session.specs.Sessions.{meaning_of_session}
 use Rattle.foyer_session.proofs.BulkLemmas.{evicted_owns, some_evicted_owns, of_match}
 use Rattle.foyer_session.proofs.WaitsLemmas.{still_waiting}
 use Rattle.foyer_session.proofs.session.Session.evict_all.Goals as goal
+use Rattle.foyer_core.specs.State.{at_moment}
 
 pub invariant_of-self-clause-owns : goal.invariant_of-self-clause-owns
 invariant_of-self-clause-owns g c =
@@ -12,9 +13,9 @@ invariant_of-self-clause-owns g c =
     let new = core_of c.evict_all.new.self in
     of_match c.evict_all.result c.evict_all.ensures.evicts
     (λ leaves done. ∥∥₁_map s.owns
-    (λ o. evicted_owns (meaning_of_session s) (core_of s.core) leaves.items new s.handles.items done o))
+    (λ o. evicted_owns (at_moment c.args.now (meaning_of_session s)) (core_of s.core) leaves.items new s.handles.items done o))
     (λ refused some. ∥∥₁_map s.owns
-    (λ o. some_evicted_owns (meaning_of_session s) (core_of s.core) refused.leaves.items new s.handles.items
+    (λ o. some_evicted_owns (at_moment c.args.now (meaning_of_session s)) (core_of s.core) refused.leaves.items new s.handles.items
     some.1 o))
 
 pub invariant_of-self-clause-waits : goal.invariant_of-self-clause-waits

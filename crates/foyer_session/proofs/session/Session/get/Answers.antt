@@ -17,8 +17,8 @@ invariant_of-self-clause-owns g c =
     let at = rw c.in-Ok-Some.field-0-is at c.in-Ok-Some.ensures.gets in
     rw c.hand_out-handle.ensures.handles
     (∥∥₁_elim (kept_at s.core hash at.before at.there) (hlevel props) (λ k. ∥∥₁_map s.owns (λ o.
-    got_owns m (core_of s.core) (core_of c.get.new.self) s.handles.items o (hash, c.args.key.now) c.in-Ok-Some.entry at
-    (found_hash m at.before k (hash, c.args.key.now) c.in-Ok-Some.entry at.after at.stepped))))
+    got_owns m (core_of s.core) (core_of c.get.new.self) s.handles.items o c.args.now (hash, c.args.key.now) c.in-Ok-Some.entry at
+    (found_hash m at.before k c.args.now (hash, c.args.key.now) c.in-Ok-Some.entry at.after at.stepped))))
 
 pub invariant_of-self-clause-waits : goal.invariant_of-self-clause-waits
 invariant_of-self-clause-waits g c =
@@ -45,7 +45,7 @@ pub invariant_of-self-in-Ok-None : goal.invariant_of-self-in-Ok-None
 invariant_of-self-in-Ok-None g c =
     let s = c.args.self.now in
     let hash = g.S.HashBuilder.hash_of s.core.hash_builder (g.K.Hash.hash_input c.args.key.now) in
-    let gone = get_missing (meaning_of_session s) (core_of s.core) (core_of c.get.new.self) (hash, c.args.key.now)
+    let gone = get_missing (meaning_of_session s) c.args.now (core_of s.core) (core_of c.get.new.self) (hash, c.args.key.now)
     (rw c.in-Ok-None.field-0-is at c.in-Ok-None.ensures.gets) in
     record {
       owns = owns_still (core_of s.core) (core_of c.get.new.self) s.handles.items gone.1 s.owns;
@@ -58,7 +58,7 @@ pub invariant_of-self-in-Err-1 : goal.invariant_of-self-in-Err-1
 invariant_of-self-in-Err-1 g c =
     let s = c.args.self.now in
     let hash = g.S.HashBuilder.hash_of s.core.hash_builder (g.K.Hash.hash_input c.args.key.now) in
-    let same = get_refused (meaning_of_session s) (core_of s.core) (core_of c.get.new.self) (hash, c.args.key.now)
+    let same = get_refused (meaning_of_session s) c.args.now (core_of s.core) (core_of c.get.new.self) (hash, c.args.key.now)
     c.in-Err.error c.in-Err.ensures.gets in
     record {
       owns = owns_still (core_of s.core) (core_of c.get.new.self) s.handles.items same s.owns;
@@ -71,7 +71,7 @@ pub returns-in-Ok-None-clause-step : goal.returns-in-Ok-None-clause-step
 returns-in-Ok-None-clause-step g c =
     let s = c.args.self.now in
     let hash = g.S.HashBuilder.hash_of s.core.hash_builder (g.K.Hash.hash_input c.args.key.now) in
-    let gone = get_missing (meaning_of_session s) (core_of s.core) (core_of c.get.new.self) (hash, c.args.key.now)
+    let gone = get_missing (meaning_of_session s) c.args.now (core_of s.core) (core_of c.get.new.self) (hash, c.args.key.now)
     (rw c.in-Ok-None.field-0-is at c.in-Ok-None.ensures.gets) in
     rw (c.new-in-Ok-None-2.ensures.answer, c.new-in-Ok-None-2.ensures.leaves) (
       gone.0,
@@ -84,7 +84,7 @@ pub returns-in-Err-clause-step : goal.returns-in-Err-clause-step
 returns-in-Err-clause-step g c =
     let s = c.args.self.now in
     let hash = g.S.HashBuilder.hash_of s.core.hash_builder (g.K.Hash.hash_input c.args.key.now) in
-    let same = get_refused (meaning_of_session s) (core_of s.core) (core_of c.get.new.self) (hash, c.args.key.now)
+    let same = get_refused (meaning_of_session s) c.args.now (core_of s.core) (core_of c.get.new.self) (hash, c.args.key.now)
     c.in-Err.error c.in-Err.ensures.gets in
     rw (c.new-in-Err-2.ensures.answer, c.new-in-Err-2.ensures.leaves) (
       c.in-Err.ensures.gets,

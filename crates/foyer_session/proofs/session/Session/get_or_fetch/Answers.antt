@@ -17,7 +17,7 @@ invariant_of-self g c =
     let s = c.args.self.now in
     let k : ℕ × g.row.K.Denot = (hashes_of s.core c.args.key.now, c.args.key.now) in
     let t = c.get_or_enqueue.new.self in
-    let same = looked_refused (meaning_of_session s) (core_of s.core) (fetches_of s.core) (core_of t) (fetches_of t) k
+    let same = looked_refused (meaning_of_session s) c.args.now (core_of s.core) (fetches_of s.core) (core_of t) (fetches_of t) k
     c.args.later c.in-Err.error c.in-Err.ensures.looked_up in
     record {
       owns = owns_still (core_of s.core) (core_of t) s.handles.items same.0 s.owns;
@@ -30,7 +30,7 @@ returns-in-Err-clause-step g c =
     let s = c.args.self.now in
     let k : ℕ × g.row.K.Denot = (hashes_of s.core c.args.key.now, c.args.key.now) in
     let t = c.get_or_enqueue.new.self in
-    let same = looked_refused (meaning_of_session s) (core_of s.core) (fetches_of s.core) (core_of t) (fetches_of t) k
+    let same = looked_refused (meaning_of_session s) c.args.now (core_of s.core) (fetches_of s.core) (core_of t) (fetches_of t) k
     c.args.later c.in-Err.error c.in-Err.ensures.looked_up in
     rw (c.new-in-Err.ensures.answer, c.new-in-Err.ensures.leaves) (
       c.in-Err.ensures.looked_up,
@@ -44,14 +44,14 @@ invariant_of-self-in-Hit g c =
     let m = meaning_of_session s in
     let k : ℕ × g.row.K.Denot = (hashes_of s.core c.args.key.now, c.args.key.now) in
     let t = c.get_or_enqueue.new.self in
-    let looked = looked_hit m (core_of s.core) (fetches_of s.core) (core_of t) (fetches_of t) k c.args.later
+    let looked = looked_hit m c.args.now (core_of s.core) (fetches_of s.core) (core_of t) (fetches_of t) k c.args.later
     c.in-Hit.entry (rw c.in-Hit.is at c.in-Ok.ensures.looked_up) in
     let at = looked.0 in
     record {
       owns = rw c.hand_out-handle.ensures.handles
           (∥∥₁_elim (kept_at s.core k.0 at.before at.there) (hlevel props) (λ kept. ∥∥₁_map s.owns (λ o.
-          got_owns m (core_of s.core) (core_of t) s.handles.items o k c.in-Hit.entry at
-          (found_hash m at.before kept k c.in-Hit.entry at.after at.stepped))));
+          got_owns m (core_of s.core) (core_of t) s.handles.items o c.args.now k c.in-Hit.entry at
+          (found_hash m at.before kept c.args.now k c.in-Hit.entry at.after at.stepped))));
       waits = still_waiting (fetches_of s.core) (fetches_of t) s.waiting looked.1 s.waits;
       room = omega (
         arith,
@@ -70,7 +70,7 @@ returns-in-Hit-clause-step g c =
     let k : ℕ × g.row.K.Denot = (hashes_of s.core c.args.key.now, c.args.key.now) in
     let t = c.get_or_enqueue.new.self in
     let at = rw c.in-Hit.is at c.in-Ok.ensures.looked_up in
-    let looked = looked_hit (meaning_of_session s) (core_of s.core) (fetches_of s.core) (core_of t) (fetches_of t) k
+    let looked = looked_hit (meaning_of_session s) c.args.now (core_of s.core) (fetches_of s.core) (core_of t) (fetches_of t) k
     c.args.later c.in-Hit.entry at in
     rw (c.new-in-Hit-2.ensures.answer, c.new-in-Hit-2.ensures.leaves) (
       c.in-Hit.entry,
@@ -95,9 +95,9 @@ invariant_of-self-in-Lead g c =
     let at = rw lead.is at c.in-Ok.ensures.looked_up in
     record {
       owns = owns_still (core_of s.core) (core_of t) s.handles.items
-          (led_core m (core_of s.core) (fetches_of s.core) (core_of t) (fetches_of t) k c.args.later lead.fetch
+          (led_core m c.args.now (core_of s.core) (fetches_of s.core) (core_of t) (fetches_of t) k c.args.later lead.fetch
           lead.token _ at) s.owns;
-      waits = led_waits m (core_of s.core) (fetches_of s.core) (core_of t) (fetches_of t) k c.args.later
+      waits = led_waits m c.args.now (core_of s.core) (fetches_of s.core) (core_of t) (fetches_of t) k c.args.later
           g.met.K.Eq.laws (open_at s.core) (alike_at g.met.K.Eq.laws s.core) (fetches_long s.core) s.waiting s.waits
           lead.fetch lead.token _ at;
       room = omega (arith, c.requires.room);
@@ -118,9 +118,9 @@ invariant_of-self-in-Wait g c =
     let at = rw wait.is at c.in-Ok.ensures.looked_up in
     record {
       owns = owns_still (core_of s.core) (core_of t) s.handles.items
-          (waited_core m (core_of s.core) (fetches_of s.core) (core_of t) (fetches_of t) k c.args.later wait.token at)
+          (waited_core m c.args.now (core_of s.core) (fetches_of s.core) (core_of t) (fetches_of t) k c.args.later wait.token at)
           s.owns;
-      waits = waited_waits m (core_of s.core) (fetches_of s.core) (core_of t) (fetches_of t) k c.args.later
+      waits = waited_waits m c.args.now (core_of s.core) (fetches_of s.core) (core_of t) (fetches_of t) k c.args.later
           g.met.K.Eq.laws (open_at s.core) (alike_at g.met.K.Eq.laws s.core) (fetches_long s.core) s.waiting s.waits
           wait.token at;
       room = omega (arith, c.requires.room);

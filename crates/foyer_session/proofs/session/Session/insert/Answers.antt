@@ -19,6 +19,7 @@ use Rattle.foyer_session.proofs.PieceLemmas.{inserts_gives}
 use Rattle.foyer_session.proofs.StepLemmas.{given_owns, stayed_owns}
 use Rattle.foyer_session.proofs.WaitsLemmas.{closed_waiting, still_waiting, waiting_counted}
 use Rattle.foyer_session.proofs.session.Session.insert.Goals as goal
+use Rattle.foyer_core.specs.State.{at_moment}
 
 pub tell_inserted-requires-clause-counted : goal.tell_inserted-requires-clause-counted
 tell_inserted-requires-clause-counted g c =
@@ -44,7 +45,7 @@ tell_inserted-requires-clause-each g c = (let each = new_answers g.K.PartialEq.e
 pub invariant_of-self-clause-owns : goal.invariant_of-self-clause-owns
 invariant_of-self-clause-owns g c =
     let s = c.args.self.now in
-    let m = meaning_of_session s in
+    let m = at_moment c.args.now (meaning_of_session s) in
     let made = c.in-Ok.inserted in
     let new = core_of c.insert_with_properties.new.self in
     let told = c.tell_inserted.ensures in
@@ -60,7 +61,7 @@ invariant_of-self-clause-owns g c =
     (inserts_gives m (length (core_of s.core).shards) (shard_of (core_of s.core) hash) did.inserts.before
     did.inserts.after (s.core.whole.belong (shard_of (core_of s.core) hash) did.inserts.before did.inserts.there)
     Outer (newcomer did.inserts.before d n) made.leaves.items made.entry n did.inserts.stepped
-    (let none = next_unused m did.inserts.before k in omega (arith, none)) refl))))
+    (let none = next_unused (meaning_of_session s) did.inserts.before k in omega (arith, none)) refl))))
 
 pub invariant_of-self-clause-waits : goal.invariant_of-self-clause-waits
 invariant_of-self-clause-waits g c =
@@ -79,7 +80,7 @@ invariant_of-self-clause-waits g c =
 pub invariant_of-self-in-Err-1 : goal.invariant_of-self-in-Err-1
 invariant_of-self-in-Err-1 g c =
     let s = c.args.self.now in
-    let m = meaning_of_session s in
+    let m = at_moment c.args.now (meaning_of_session s) in
     let refused = c.in-Err.refused in
     let new = core_of c.insert_with_properties.new.self in
     let did = c.in-Err.ensures.inserted in

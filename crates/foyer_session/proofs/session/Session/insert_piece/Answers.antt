@@ -7,7 +7,7 @@ use Rattle.foyer_core.specs.CoreFetches.{open_in}
 use Rattle.foyer_core.specs.Cores.{core_of, fetches_of, hashes_of}
 use Rattle.foyer_core.specs.Inflight.{waiters_of}
 use Rattle.foyer_core.specs.Pieces.{InsertsPiece, coming_under}
-use Rattle.foyer_core.specs.State.{key_of}
+use Rattle.foyer_core.specs.State.{key_of, at_moment}
 use Rattle.foyer_core.specs.Waited.{denied_of, made_of}
 use Rattle.foyer_session.specs.Sessions.{meaning_of_session}
 use Rattle.foyer_session.specs.Step.{given}
@@ -27,7 +27,7 @@ tell_inserted-requires-clause-counted g c =
     let hash = hashes_of s.core c.in-Ok.piece.kept.key in
     let few = waiting_counted g.K.PartialEq.eq (fetches_of s.core) (open_at s.core)
     (alike_at g.met.K.Eq.laws s.core) (key_of made.entry.kept) hash
-    (came_home s.core _ c.in-Ok.piece (made_of made) _ _ c.in-Ok-insert_piece.ensures.inserted) s.waiting s.waits in
+    (came_home s.core c.args.now _ c.in-Ok.piece (made_of made) _ _ c.in-Ok-insert_piece.ensures.inserted) s.waiting s.waits in
     omega (arith, few, ap length c.in-Ok-insert_piece.ensures.fetches.each.0, made.answers.waiters.ok.0)
 
 pub tell_inserted-requires-clause-room : goal.tell_inserted-requires-clause-room
@@ -37,7 +37,7 @@ tell_inserted-requires-clause-room g c =
     let hash = hashes_of s.core c.in-Ok.piece.kept.key in
     let few = waiting_counted g.K.PartialEq.eq (fetches_of s.core) (open_at s.core)
     (alike_at g.met.K.Eq.laws s.core) (key_of made.entry.kept) hash
-    (came_home s.core _ c.in-Ok.piece (made_of made) _ _ c.in-Ok-insert_piece.ensures.inserted) s.waiting s.waits in
+    (came_home s.core c.args.now _ c.in-Ok.piece (made_of made) _ _ c.in-Ok-insert_piece.ensures.inserted) s.waiting s.waits in
     omega (arith, few, ap length c.in-Ok-insert_piece.ensures.fetches.each.0, made.answers.waiters.ok.0, c.requires.room)
 
 pub tell_inserted-requires-clause-each : goal.tell_inserted-requires-clause-each
@@ -46,7 +46,7 @@ tell_inserted-requires-clause-each g c = (let each = c.in-Ok-insert_piece.ensure
 pub invariant_of-self-clause-owns : goal.invariant_of-self-clause-owns
 invariant_of-self-clause-owns g c =
     let s = c.args.self.now in
-    let m = meaning_of_session s in
+    let m = at_moment c.args.now (meaning_of_session s) in
     let piece = c.in-Ok.piece in
     let made = c.in-Ok-insert_piece.inserted in
     let new = core_of c.insert_piece.new.self in
@@ -66,7 +66,7 @@ invariant_of-self-clause-owns g c =
     (1 + length (waiters_of (open_in (fetches_of s.core) (coming_under a hash piece)))) (Ok (made_of made)) a
     b) hash at made.entry n
     (piece_gives m (length (core_of s.core).shards) place at.before at.after (s.core.whole.belong place at.before at.there)
-    weighs hash piece (made_of made) n at.stepped refl (next_unused m at.before k)))))
+    weighs hash piece (made_of made) n at.stepped refl (next_unused (meaning_of_session s) at.before k)))))
 
 pub invariant_of-self-clause-waits : goal.invariant_of-self-clause-waits
 invariant_of-self-clause-waits g c =
@@ -75,7 +75,7 @@ invariant_of-self-clause-waits g c =
     let hash = hashes_of s.core c.in-Ok.piece.kept.key in
     closed_waiting g.K.PartialEq.eq (fetches_of s.core) (open_at s.core)
     (alike_at g.met.K.Eq.laws s.core) (key_of made.entry.kept) hash
-    (came_home s.core _ c.in-Ok.piece (made_of made) _ _ c.in-Ok-insert_piece.ensures.inserted) s.waiting
+    (came_home s.core c.args.now _ c.in-Ok.piece (made_of made) _ _ c.in-Ok-insert_piece.ensures.inserted) s.waiting
     (fetches_of c.insert_piece.new.self) c.tell_inserted.new.waiting c.in-Ok-insert_piece.ensures.fetches.closes
     (omega (
       arith,
@@ -87,7 +87,7 @@ invariant_of-self-clause-waits g c =
 pub invariant_of-self-in-Err-insert_piece : goal.invariant_of-self-in-Err-insert_piece
 invariant_of-self-in-Err-insert_piece g c =
     let s = c.args.self.now in
-    let m = meaning_of_session s in
+    let m = at_moment c.args.now (meaning_of_session s) in
     let piece = c.in-Ok.piece in
     let new = core_of c.insert_piece.new.self in
     let hash = hashes_of s.core piece.kept.key in

@@ -11,7 +11,7 @@ invariant_of-self-clause-owns g c =
     let s = c.args.self.now in
     let hash = g.S.HashBuilder.hash_of s.core.hash_builder (g.K.Hash.hash_input c.args.key.now) in
     ∥∥₁_map s.owns
-    (λ o. touched_owns (meaning_of_session s) (core_of s.core) (core_of c.touch.new.self) s.handles.items o
+    (λ o. touched_owns (meaning_of_session s) (core_of s.core) (core_of c.touch.new.self) s.handles.items o c.args.now
     (hash, c.args.key.now) c.touch.result c.touch.ensures.touches)
 
 pub invariant_of-self-clause-waits : goal.invariant_of-self-clause-waits
@@ -31,7 +31,7 @@ pub returns-in-Ok-false-clause-step : goal.returns-in-Ok-false-clause-step
 returns-in-Ok-false-clause-step g c =
     let s = c.args.self.now in
     let hash = g.S.HashBuilder.hash_of s.core.hash_builder (g.K.Hash.hash_input c.args.key.now) in
-    let gone = touch_missing (meaning_of_session s) (core_of s.core) (core_of c.touch.new.self) (hash, c.args.key.now)
+    let gone = touch_missing (meaning_of_session s) c.args.now (core_of s.core) (core_of c.touch.new.self) (hash, c.args.key.now)
     (rw c.in-Ok-false.field-0-test at c.in-Ok-false.ensures.touches) in
     rw (c.new-in-Ok-false-2.ensures.answer, c.new-in-Ok-false-2.ensures.leaves) (
       gone.0,
@@ -44,7 +44,7 @@ pub returns-in-Err-clause-step : goal.returns-in-Err-clause-step
 returns-in-Err-clause-step g c =
     let s = c.args.self.now in
     let hash = g.S.HashBuilder.hash_of s.core.hash_builder (g.K.Hash.hash_input c.args.key.now) in
-    let same = touch_refused (meaning_of_session s) (core_of s.core) (core_of c.touch.new.self) (hash, c.args.key.now)
+    let same = touch_refused (meaning_of_session s) c.args.now (core_of s.core) (core_of c.touch.new.self) (hash, c.args.key.now)
     c.in-Err.error c.in-Err.ensures.touches in
     rw (c.new-in-Err-2.ensures.answer, c.new-in-Err-2.ensures.leaves) (
       c.in-Err.ensures.touches,

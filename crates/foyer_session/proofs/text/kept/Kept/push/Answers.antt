@@ -30,5 +30,5 @@ pub returns-else-self-lt-MOST : goal.returns-else-self-lt-MOST
 returns-else-self-lt-MOST c =
     let kept = c.args.self.now in
     let all = length-take-le c.self.inside.len c.self.inside.bytes (omega (arith, c.self.told, c.self.invariant.0)) in
-    let long : 84 < length kept = omega (arith, ap length c.self.view_is, all, c.if-self-lt-MOST.false) in
+    let long : 105 < length kept = omega (arith, ap length c.self.view_is, all, c.if-self-lt-MOST.false) in
     StandsFor-full kept c.args.byte (ap (is_tight_after 32) (sym c.self.view_is) ∙ c.self.invariant.2) long
