@@ -29,13 +29,12 @@ impl<E: Eviction, K: Key, V: Value, P: Properties, I: Finder<K>> Store<E, K, V, 
         ensures room { HasRoom self.old.records → HasRoom self.new.records }
         ensures places { HasPlaces self.old → HasPlaces self.new }
     {
-        if now < self.soonest {
-            return self.pop_one();
+        if now >= self.soonest {
+            if let Some(left) = self.evict_due(now) {
+                return Ok(Some(left));
+            }
         }
-        match self.evict_due(now) {
-            Some(left) => Ok(Some(left)),
-            None => self.pop_one(),
-        }
+        self.pop_one()
     }
 
     // What is due first at a moment leaves, where something is. Else it is noted from when on something may be.
