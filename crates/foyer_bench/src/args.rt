@@ -1,5 +1,7 @@
 //! The arguments of the benchmark.
 
+use crate::moment::Life;
+
 /// The policy of a cache, in its default configuration.
 #[derive(Clone, Copy, Debug, PartialEq, Eq)]
 pub enum Policy {
@@ -54,8 +56,8 @@ pub struct BenchArgs {
     pub hasher: Hasher,
     /// How often the trace is run, each time over a new cache.
     pub reps: u64,
-    /// How many operations a record lives. Where it is `None`, it never expires.
-    pub ttl: Option<u64>,
+    /// How long records live.
+    pub life: Life,
     /// Whether the hits alone are printed.
     pub hits_alone: bool,
 }
@@ -104,7 +106,7 @@ fn args_of(threads: Option<u64>, words: &[String]) -> Option<BenchArgs> {
         seed: number_of(seed.as_str())?,
         hasher: Hasher::Default,
         reps: 1,
-        ttl: None,
+        life: Life::Ever,
         hits_alone: false,
     };
     with_options(args, options)
@@ -120,11 +122,10 @@ fn with_options(mut args: BenchArgs, words: &[String]) -> Option<BenchArgs> {
         option = "";
         match (asked, word) {
             ("", "--hits") => args.hits_alone = true,
-            ("", "--reps" | "--hasher" | "--ttl") => option = word,
+            ("", _) => option = word,
             ("--reps", _) => args.reps = some_of(word)?,
-            ("--ttl", _) => args.ttl = Some(number_of(word)?),
             ("--hasher", _) => args.hasher = hasher_of(word)?,
-            _ => return None,
+            _ => args.life = life_of(asked, word)?,
         }
     }
     if option.is_empty() { Some(args) } else { None }
@@ -145,6 +146,18 @@ fn hasher_of(name: &str) -> Option<Hasher> {
     match name {
         "mod" => Some(Hasher::Mod),
         "default" => Some(Hasher::Default),
+        _ => None,
+    }
+}
+
+// How long records live by an option and the word behind it.
+fn life_of(option: &str, word: &str) -> Option<Life> {
+    let length = number_of(word)?;
+    match option {
+        "--ttl" => Some(Life::For(length)),
+        "--ttl-few" => Some(Life::Few(length)),
+        "--ttl-spread" => Some(Life::Spread(length)),
+        "--ttl-batch" => Some(Life::Batch(length)),
         _ => None,
     }
 }

@@ -36,7 +36,7 @@ use trace::traces_of;
 
 // How the program is called.
 const WORDS: &str =
-    "POLICY CAPACITY SHARDS OPS KEYSPACE SKEW SEED [--hasher mod|default] [--reps N] [--ttl T] [--hits]";
+    "POLICY CAPACITY SHARDS OPS KEYSPACE SKEW SEED [--hasher mod|default] [--reps N] [--ttl[-few|-spread|-batch] T] [--hits]";
 
 fn main(rt: HostRuntime) -> ExitCode {
     let is_terminal = rt.stderr().is_terminal();
@@ -113,7 +113,7 @@ fn run_once<R: AllocGlobal + Clock + Eprint + Threads + Wait + Sync>(
     traces: &[Vec<u64>],
     progress: &mut Progress,
 ) -> Result<Report, Failure> {
-    let first = Moment::first(args.ttl);
+    let first = Moment::first(args.life);
     macro_rules! over {
         ($policy:ty) => {
             match (args.threads, args.hasher) {
@@ -157,7 +157,7 @@ where
         ..RawCacheConfig::new(args.capacity as usize)
     };
     let mut core = Core::<E, S>::new(rt.alloc(), config)?;
-    let first = Moment::first(args.ttl);
+    let first = Moment::first(args.life);
     run_core(rt, rt.alloc(), &mut core, keys.as_slice(), first, progress)
 }
 

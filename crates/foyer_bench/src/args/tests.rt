@@ -24,7 +24,7 @@ fn all_arguments(rt: HostRuntime) -> Result<(), Fail> {
         seed: 7,
         hasher: Hasher::Mod,
         reps: 3,
-        ttl: Some(20),
+        life: Life::For(20),
         hits_alone: true,
     };
     let text = "s3fifo 10 2 100 50 0.9 7 --hasher mod --hits --ttl 20 --reps 3";
@@ -33,12 +33,29 @@ fn all_arguments(rt: HostRuntime) -> Result<(), Fail> {
         threads: Some(4),
         hasher: Hasher::Default,
         reps: 1,
-        ttl: None,
+        life: Life::Ever,
         hits_alone: false,
         ..core
     };
     let text = "--locked 4 s3fifo 10 2 100 50 0.9 7";
     assert_eq!(rt; asked(rt.alloc(), text)?, Some(plain));
+    Ok(())
+}
+
+#[test]
+fn lives(rt: HostRuntime) -> Result<(), Fail> {
+    for (option, life) in [
+        ("", Life::Ever),
+        ("--ttl 5", Life::For(5)),
+        ("--ttl-few 5", Life::Few(5)),
+        ("--ttl-spread 5", Life::Spread(5)),
+        ("--ttl-batch 5", Life::Batch(5)),
+        ("--ttl 5 --ttl-batch 7", Life::Batch(7)),
+    ] {
+        let text = format!(in rt.alloc(); "fifo 10 1 100 50 0.9 1 {option}")?;
+        let args = asked(rt.alloc(), text.as_str())?;
+        assert_eq!(rt; args.map(|args| args.life), Some(life), "{option}");
+    }
     Ok(())
 }
 
@@ -60,7 +77,10 @@ fn bad_arguments(rt: HostRuntime) -> Result<(), Fail> {
         "fifo 10 1 100 50 0.9 1 --ttl -1",
         "fifo 10 1 100 50 0.9 1 --ttl 18446744073709551616",
         "fifo 10 1 100 50 0.9 1 --hasher sip",
+        "fifo 10 1 100 50 0.9 1 --ttl-few",
+        "fifo 10 1 100 50 0.9 1 --ttl-few x",
         "fifo 10 1 100 50 0.9 1 --fast 1",
+        "fifo 10 1 100 50 0.9 1 --fast",
         "--locked",
         "--locked 0 fifo 10 1 100 50 0.9 1",
         "--locked fifo 10 1 100 50 0.9 1",

@@ -1,5 +1,6 @@
 use super::*;
 use crate::args::Skew;
+use crate::moment::Life;
 use crate::trace::{Ranks, keys_of};
 use foyer_core::RawCacheConfig;
 use foyer_policy::{Fifo, Lfu, Lru, ModHasher, S3Fifo, Sieve};
@@ -11,7 +12,7 @@ fn hits<H: Wait + Drop, E: Eviction>(
     rt: H,
     alloc: Global,
     shards: usize,
-    life: Option<u64>,
+    life: Life,
 ) -> std::result::Result<usize, Fail>
 where
     E::Config: Default,
@@ -37,11 +38,11 @@ where
 #[test]
 fn one_thread(rt: HostRuntime) -> std::result::Result<(), Fail> {
     let alloc = rt.alloc();
-    assert_eq!(rt; hits::<_, Fifo>(&rt, alloc, 1, None)?, 721);
-    assert_eq!(rt; hits::<_, Lru>(&rt, alloc, 1, None)?, 807);
-    assert_eq!(rt; hits::<_, Lfu>(&rt, alloc, 3, None)?, 946);
-    assert_eq!(rt; hits::<_, S3Fifo>(&rt, alloc, 3, None)?, 981);
-    assert_eq!(rt; hits::<_, Sieve>(&rt, alloc, 3, None)?, 963);
+    assert_eq!(rt; hits::<_, Fifo>(&rt, alloc, 1, Life::Ever)?, 721);
+    assert_eq!(rt; hits::<_, Lru>(&rt, alloc, 1, Life::Ever)?, 807);
+    assert_eq!(rt; hits::<_, Lfu>(&rt, alloc, 3, Life::Ever)?, 946);
+    assert_eq!(rt; hits::<_, S3Fifo>(&rt, alloc, 3, Life::Ever)?, 981);
+    assert_eq!(rt; hits::<_, Sieve>(&rt, alloc, 3, Life::Ever)?, 963);
     Ok(())
 }
 
@@ -49,9 +50,9 @@ fn one_thread(rt: HostRuntime) -> std::result::Result<(), Fail> {
 #[test]
 fn where_records_expire(rt: HostRuntime) -> std::result::Result<(), Fail> {
     let alloc = rt.alloc();
-    assert_eq!(rt; hits::<_, Lru>(&rt, alloc, 1, Some(100))?, 793);
-    assert_eq!(rt; hits::<_, Lfu>(&rt, alloc, 1, Some(100))?, 861);
-    assert_eq!(rt; hits::<_, S3Fifo>(&rt, alloc, 1, Some(30))?, 687);
-    assert_eq!(rt; hits::<_, Sieve>(&rt, alloc, 3, Some(30))?, 665);
+    assert_eq!(rt; hits::<_, Lru>(&rt, alloc, 1, Life::For(100))?, 793);
+    assert_eq!(rt; hits::<_, Lfu>(&rt, alloc, 1, Life::For(100))?, 861);
+    assert_eq!(rt; hits::<_, S3Fifo>(&rt, alloc, 1, Life::For(30))?, 687);
+    assert_eq!(rt; hits::<_, Sieve>(&rt, alloc, 3, Life::For(30))?, 665);
     Ok(())
 }
