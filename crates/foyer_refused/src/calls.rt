@@ -23,6 +23,8 @@ fn row(name: &str) -> Option<Row> {
         "insert_grows_4" => (holding(4), Op::Insert(FETCHED, 1), 0),
         "insert_grows_8" => (holding(8), Op::Insert(FETCHED, 1), 0),
         "replace" => (ROOMY, Op::Insert(5, 1), 0),
+        "insert_beside_expiring" => (expiring(1), Op::Insert(FETCHED, 1), 0),
+        "insert_beside_many_expiring" => (expiring(12), Op::Insert(FETCHED, 1), 0),
         "insert_evicts_1" => (FULL, Op::Insert(FETCHED, 1), 1),
         "insert_evicts_10" => (FULL, Op::Insert(FETCHED, 10), 10),
         "phantom" => (ROOMY, Op::Phantom(5), 0),
@@ -40,6 +42,8 @@ fn row(name: &str) -> Option<Row> {
         "get" => (ROOMY, Op::Get(5), 0),
         "remove" => (ROOMY, Op::Remove(5), 0),
         "touch" => (ROOMY, Op::Touch(5), 0),
+        "touch_expiring" => (expiring(12), Op::Touch(5), 0),
+        "remove_expiring" => (expiring(12), Op::Remove(5), 0),
         "found_by_a_fetch" => (ROOMY, Op::Ask(5), 0),
         "reconfigure" => (ROOMY, Op::Reconfigure, 0),
         _ => return None,
@@ -50,6 +54,14 @@ fn row(name: &str) -> Option<Row> {
 /// Room, and so many records.
 pub fn holding(records: u64) -> Filled {
     Filled { records, ..ROOMY }
+}
+
+// Room, and so many records that expire later.
+fn expiring(records: u64) -> Filled {
+    Filled {
+        expires: Some(100),
+        ..holding(records)
+    }
 }
 
 /// In what order records of four shards leave.

@@ -45,10 +45,11 @@ where
     CacheCore::new(alloc, config)
 }
 
-/// Puts records of the keys below `end` in, each of weight 1, and lets their entries go.
-pub fn fill<E: Eviction>(core: &mut Core<E>, end: u64) -> Result<()> {
+/// Puts records of the keys below `end` in, each of weight 1, which expire then, and lets their entries go.
+pub fn fill<E: Eviction>(core: &mut Core<E>, end: u64, expires: Option<u64>) -> Result<()> {
     for key in 0..end {
-        let made = core.insert(0, key, weighing(1))?;
+        let properties = CacheProperties::default().with_expiry(expires);
+        let made = core.insert_with_properties(0, key, weighing(1), properties)?;
         drop(ended(core, made));
     }
     Ok(())

@@ -7,13 +7,14 @@ use foyer_core::Lookup;
 use foyer_policy::{Event, Eviction, Result};
 use std::alloc::Global;
 
-/// What a core holds before a call: so many records, from the key 0 on, and where `waits` is set one who waits for
-/// `FETCHED`.
+/// What a core holds before a call: so many records, from the key 0 on, which may say when they expire, and where `waits`
+/// is set one who waits for `FETCHED`.
 #[derive(Clone, Copy)]
 pub struct Filled {
     pub shards: usize,
     pub capacity: usize,
     pub records: u64,
+    pub expires: Option<u64>,
     pub waits: bool,
 }
 
@@ -22,6 +23,7 @@ pub const ROOMY: Filled = Filled {
     shards: 1,
     capacity: 64,
     records: 12,
+    expires: None,
     waits: false,
 };
 
@@ -89,7 +91,7 @@ where
     E::Config: Default,
 {
     let mut core = empty::<E>(alloc, filled.capacity, filled.shards, 0)?;
-    fill(&mut core, filled.records)?;
+    fill(&mut core, filled.records, filled.expires)?;
     if filled.shards == 1 {
         let _ = core.touch(0, &5)?;
     }
