@@ -10,11 +10,12 @@ use std::marker::Model;
 /// Whether a record is a phantom, its hint, and when it expires. Of location and age nothing is kept.
 #[derive(Clone, Debug, Drop, PartialEq, Eq)]
 pub struct CacheProperties {
+    // What is small stands side by side, so that the whole takes two words.
     phantom: Option<bool>,
     hint: Hint,
+    expires: bool,
     // 0 where the record does not expire
     moment: u64,
-    expires: bool,
 }
 
 impl Model for CacheProperties {
