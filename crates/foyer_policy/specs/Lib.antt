@@ -6,6 +6,9 @@ pub mod Arena
 pub mod Block
 pub mod BlockLends
 pub mod Chain
+pub mod DateSlots
+pub mod DatedLists
+pub mod Dates
 pub mod Dues
 pub mod Errors
 pub mod Fifo
@@ -29,6 +32,7 @@ pub mod Looks
 pub mod Lru
 pub mod LruLaws
 pub mod LruLists
+pub mod MinTree
 pub mod Moments
 pub mod Nodes
 pub mod PartLaws

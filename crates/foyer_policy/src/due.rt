@@ -6,6 +6,7 @@ ghost use Rattle.foyer_policy.specs.Dues.{first_item, first_lists};
 ghost use Rattle.foyer_policy.specs.Lists.{find, list_at};
 ghost use Rattle.foyer_policy.specs.Moments.{is_due};
 
+use crate::dated_lists::DatedLists;
 use crate::lists::{Lists, Place};
 use crate::queued::HasItem;
 use crate::types::Item;
@@ -21,8 +22,8 @@ fn due_at(item: Item, now: u64) -> bool
     }
 }
 
-/// The place of the first item of a list that is due at a moment, or `None` where none is.
-fn first_of_list<T: HasItem, const N: usize>(
+/// The place of the first item of a list that is due at a moment, or `None` where none is. It walks along the list.
+pub(crate) fn first_of_list<T: HasItem, const N: usize>(
     lists: &Lists<T, N>,
     list: usize,
     now: u64,
@@ -42,9 +43,11 @@ fn first_of_list<T: HasItem, const N: usize>(
     None
 }
 
-/// The place of the first item that is due at a moment in the first lists, `count` of them, or `None` where none is.
-pub(crate) fn first_of_lists<T: HasItem, const N: usize>(
-    lists: &Lists<T, N>,
+// As `first_of_lists`, where some item may expire.
+#[cold]
+#[inline(never)]
+fn first_of_each<T: HasItem, const N: usize>(
+    lists: &DatedLists<T, N>,
     count: usize,
     now: u64,
 ) -> Option<Place>
@@ -54,10 +57,28 @@ pub(crate) fn first_of_lists<T: HasItem, const N: usize>(
         ≡ first_item (filter (is_due now) (first_lists T.item_of lists.now.lists count)) }
 {
     for list in 0..count {
-        let found = first_of_list(lists, list, now);
+        let found = lists.first_due(list, now);
         if found.is_some() {
             return found;
         }
     }
     None
+}
+
+/// The place of the first item that is due at a moment in the first lists, `count` of them, or `None` where none is.
+#[inline(always)]
+pub(crate) fn first_of_lists<T: HasItem, const N: usize>(
+    lists: &DatedLists<T, N>,
+    count: usize,
+    now: u64,
+) -> Option<Place>
+    requires { count ≤ N }
+    ensures there { IfSome result (λ p. IsSome (find p lists.now.lists)) }
+    ensures first { option_and_then (λ p. option_map T.item_of (find p lists.now.lists)) result
+        ≡ first_item (filter (is_due now) (first_lists T.item_of lists.now.lists count)) }
+{
+    if lists.is_plain() {
+        return None;
+    }
+    first_of_each(lists, count, now)
 }

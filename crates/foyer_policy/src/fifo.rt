@@ -2,11 +2,12 @@
 
 ghost use Rattle.std.specs.Prelude.{◌≡◌, [], ◌∷◌, map};
 
+use crate::dated_lists::DatedLists;
 use crate::due::first_of_lists;
 use crate::error::{Error, Reason, Result};
 use crate::eviction::Eviction;
 use crate::kept::Kept;
-use crate::lists::{Lists, Place};
+use crate::lists::Place;
 use crate::queued::{append_items, whole_found};
 use crate::types::Item;
 use serde::{Deserialize, Serialize};
@@ -24,7 +25,7 @@ pub struct FifoState {}
 /// First in, first out: the record that came in first leaves first, used or not.
 #[derive(Drop)]
 pub struct Fifo {
-    queue: Lists<Kept, 1>,
+    queue: DatedLists<Kept, 1>,
     alloc: Global,
 }
 
@@ -80,7 +81,7 @@ impl Eviction for Fifo {
     fn new(alloc: Global, _capacity: usize, config: &FifoConfig) -> Result<Self> {
         Self::check(config)?;
         Ok(Fifo {
-            queue: Lists::new(alloc),
+            queue: DatedLists::new(alloc),
             alloc,
         })
     }

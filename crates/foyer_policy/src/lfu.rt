@@ -6,12 +6,13 @@ ghost use Rattle.foyer_policy.specs.Limit.{ok_unless};
 
 mod segments;
 
+use crate::dated_lists::DatedLists;
 use crate::due::first_of_lists;
 use crate::error::{Error, Field, Reason, Result};
 use crate::eviction::Eviction;
 use crate::kept::Kept;
 use crate::limit::{Range, check_ratio, limit_of};
-use crate::lists::{Lists, Place};
+use crate::lists::Place;
 use crate::queued::append_items;
 use crate::sketch::Sketch;
 use crate::types::{Item, Ratio};
@@ -86,7 +87,7 @@ pub struct LfuState {}
 /// back to probation.
 #[derive(Drop)]
 pub struct Lfu {
-    lists: Lists<Kept, 3>,
+    lists: DatedLists<Kept, 3>,
     sketch: Sketch,
     window_weight: usize,
     protected_weight: usize,
@@ -177,7 +178,7 @@ impl Eviction for Lfu {
         let window_ratio = config.window_capacity_ratio;
         let protected_ratio = config.protected_capacity_ratio;
         Ok(Lfu {
-            lists: Lists::new(alloc),
+            lists: DatedLists::new(alloc),
             sketch,
             window_weight: 0,
             protected_weight: 0,

@@ -3,6 +3,8 @@
 
 pub mod any;
 pub mod config;
+pub(crate) mod dated_lists;
+pub(crate) mod dates;
 pub(crate) mod due;
 pub mod error;
 pub mod eviction;
@@ -17,6 +19,7 @@ pub mod link;
 pub mod lists;
 pub mod looks;
 pub mod lru;
+pub(crate) mod min_tree;
 pub mod moments;
 pub mod past;
 pub mod properties;

@@ -294,8 +294,9 @@ impl<T, const N: usize> Lists<T, N> {
         self.nodes.nodes.get_mut(base, place.node)
     }
 
-    // The number of lists.
-    fn count(&self) -> usize
+    /// The number of lists.
+    #[inline(always)]
+    pub(crate) fn count(&self) -> usize
         ensures count { result ≡ N }
         ensures apart { AreLists N self.now.lists }
     {

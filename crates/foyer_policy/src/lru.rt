@@ -8,12 +8,13 @@ ghost use Rattle.foyer_policy.specs.Policy.{Pops, without};
 
 mod pools;
 
+use crate::dated_lists::DatedLists;
 use crate::due::first_of_lists;
 use crate::error::{Error, Field, Reason, Result};
 use crate::eviction::Eviction;
 use crate::kept::Kept;
 use crate::limit::{Range, check_ratio, limit_of};
-use crate::lists::{Lists, Place};
+use crate::lists::Place;
 use crate::queued::{Queued, append_items};
 use crate::types::{Hint, Item, Ratio};
 use pools::{HIGH, LOW, Node, PIN, drain, relist, settle};
@@ -59,7 +60,7 @@ pub struct LruState {
 /// what came in or was released longest ago, of low priority first.
 #[derive(Drop)]
 pub struct Lru {
-    lists: Lists<Node, 3>,
+    lists: DatedLists<Node, 3>,
     high_weight: usize,
     pinned_weight: usize,
     limit: usize,
@@ -131,7 +132,7 @@ impl Eviction for Lru {
         Self::check(config)?;
         let ratio = config.high_priority_pool_ratio;
         Ok(Lru {
-            lists: Lists::new(alloc),
+            lists: DatedLists::new(alloc),
             high_weight: 0,
             pinned_weight: 0,
             limit: limit_of(capacity, ratio),

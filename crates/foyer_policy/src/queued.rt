@@ -5,9 +5,10 @@ ghost use Rattle.foyer_policy.specs.Lists.{list_at};
 ghost use Rattle.foyer_policy.specs.declared.types.Item.{Item};
 ghost use Rattle.foyer_policy.specs.declared.error.Reason.TheVariants.{NoMemory};
 
+use crate::dated_lists::DatedLists;
 use crate::error::{Error, Reason, Result};
 use crate::kept::Kept;
-use crate::lists::{Lists, Place};
+use crate::lists::Place;
 use crate::types::Item;
 
 /// A value of a list that holds an item.
@@ -22,6 +23,7 @@ pub(crate) trait HasItem {
 impl HasItem for Kept {
     ghost item_of = { λ i. i };
 
+    #[inline(always)]
     fn item(&self) -> Item {
         self.whole()
     }
@@ -37,6 +39,7 @@ pub(crate) struct Queued<S> {
 impl<S> HasItem for Queued<S> {
     ghost item_of = { λ h. h.item };
 
+    #[inline(always)]
     fn item(&self) -> Item {
         self.item.whole()
     }
@@ -64,7 +67,7 @@ pub(crate) fn item_found(found: Option<(Place, Item)>) -> Option<Item>
 
 /// Appends the items of a list, first to last. Only memory can be missing (F7).
 pub(crate) fn append_items<T: HasItem, const N: usize>(
-    lists: &Lists<T, N>,
+    lists: &DatedLists<T, N>,
     list: usize,
     items: &mut Vec<Item>,
 ) -> Result<()>

@@ -9,13 +9,14 @@ ghost use Rattle.foyer_policy.specs.S3FifoQueues.{S3Queues, IsSound, item_at, vi
 
 mod queues;
 
+use crate::dated_lists::DatedLists;
 use crate::due::first_of_lists;
 use crate::error::{Error, Field, Reason, Result};
 use crate::eviction::Eviction;
 use crate::ghost_queue::GhostQueue;
 use crate::kept::Kept;
 use crate::limit::{Range, check_ratio, limit_of};
-use crate::lists::{Lists, Place};
+use crate::lists::Place;
 use crate::queued::{Queued, append_items};
 use crate::types::{Item, Ratio};
 pub use queues::S3FifoState;
@@ -65,7 +66,7 @@ impl Default for S3FifoConfig {
 /// putting it at the back. A record whose hash the ghost queue remembers comes in at the main queue.
 #[derive(Drop)]
 pub struct S3Fifo {
-    queues: Lists<Node, 2>,
+    queues: DatedLists<Node, 2>,
     ghost_queue: GhostQueue,
     small_weight: usize,
     limit: usize,
@@ -168,7 +169,7 @@ impl Eviction for S3Fifo {
         let small_ratio = config.small_queue_capacity_ratio;
         let ghost_ratio = config.ghost_queue_capacity_ratio;
         Ok(S3Fifo {
-            queues: Lists::new(alloc),
+            queues: DatedLists::new(alloc),
             ghost_queue: GhostQueue::new(alloc, limit_of(capacity, ghost_ratio)),
             small_weight: 0,
             limit: limit_of(capacity, small_ratio),
@@ -279,8 +280,12 @@ impl Eviction for S3Fifo {
 
     #[inline(always)]
     fn acquire(&mut self, place: Place) {
-        let node = self.queues.get_mut(place);
-        node.state.frequency = node.state.frequency.saturating_add(1).min(MOST);
+        let state = self.queues.get(place).state;
+        let used = S3FifoState {
+            frequency: state.frequency.saturating_add(1).min(MOST),
+            ..state
+        };
+        self.queues.set_state(place, used);
     }
 
     #[inline(always)]

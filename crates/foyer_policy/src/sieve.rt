@@ -8,11 +8,12 @@ ghost use Rattle.foyer_policy.specs.Sieve.{hand_without, rotation, sieve, unvisi
 ghost use Rattle.foyer_policy.specs.declared.sieve.SieveConfig.{SieveConfig};
 ghost use Rattle.foyer_policy.specs.SieveQueue.{view_of, entry, entries, entry_items, item_at, IsTurn};
 
+use crate::dated_lists::DatedLists;
 use crate::due::first_of_lists;
 use crate::error::{Error, Reason, Result};
 use crate::eviction::Eviction;
 use crate::kept::Kept;
-use crate::lists::{Lists, Place};
+use crate::lists::Place;
 use crate::queued::{Queued, append_items};
 use crate::types::Item;
 use serde::{Deserialize, Serialize};
@@ -48,7 +49,7 @@ struct Victim {
 /// to the record behind it, or to none behind the last.
 #[derive(Drop)]
 pub struct Sieve {
-    queue: Lists<Node, 1>,
+    queue: DatedLists<Node, 1>,
     hand: Option<Place>,
     looks: u128,
     alloc: Global,
@@ -68,7 +69,7 @@ impl Model for Sieve {
 
 // Reads the visited bit of the node at a place, and takes it off. This is the only reading of a bit that
 // a pop makes, and it counts as one look.
-fn take_bit(queue: &mut Lists<Node, 1>, place: Place, looks: &mut u128) -> bool
+fn take_bit(queue: &mut DatedLists<Node, 1>, place: Place, looks: &mut u128) -> bool
     requires there { IsSome (find place queue.old.lists) }
     requires few { looks.old < 2 ^ 64 }
     ensures bit { IfSome (find place queue.old.lists) (λ n. result ≡ n.state.visited) }
@@ -78,15 +79,14 @@ fn take_bit(queue: &mut Lists<Node, 1>, place: Place, looks: &mut u128) -> bool
     ensures span { queue.new.span ≡ queue.old.span }
     ensures counted { looks.new ≡ looks.old + 1 }
 {
-    let node = queue.get_mut(place);
+    let visited = queue.get(place).state.visited;
     *looks += 1;
-    let visited = node.state.visited;
-    node.state.visited = false;
+    queue.set_state(place, SieveState { visited: false });
     visited
 }
 
 // The place behind this one in the queue; behind the last, the first.
-fn next_round(queue: &Lists<Node, 1>, place: Place) -> Place
+fn next_round(queue: &DatedLists<Node, 1>, place: Place) -> Place
     requires { IsSome (find place queue.now.lists) }
     ensures place { (xs ys : _) (n : _) → list_at queue.now.lists 0 ≡ xs ++ (place, n) ∷ ys
         → Some result ≡ first_or ys (first_or (xs ++ (place, n) ∷ ys) None) }
@@ -101,7 +101,7 @@ fn next_round(queue: &Lists<Node, 1>, place: Place) -> Place
 }
 
 // Takes the victim out, looking from a place on.
-fn take_victim(queue: &mut Lists<Node, 1>, start: Place) -> Victim
+fn take_victim(queue: &mut DatedLists<Node, 1>, start: Place) -> Victim
     requires there { IsSome (find start queue.old.lists) }
     requires once { HasIdsOnce (entry_items (list_at queue.old.lists 0)) }
     requires small { sum_by length queue.old.lists < 2 ^ 64 }
@@ -174,7 +174,7 @@ impl Eviction for Sieve {
     fn new(alloc: Global, _capacity: usize, config: &SieveConfig) -> Result<Self> {
         Self::check(config)?;
         Ok(Sieve {
-            queue: Lists::new(alloc),
+            queue: DatedLists::new(alloc),
             hand: None,
             looks: 0,
             alloc,
@@ -279,7 +279,7 @@ impl Eviction for Sieve {
 
     #[inline(always)]
     fn acquire(&mut self, place: Place) {
-        self.queue.get_mut(place).state.visited = true;
+        self.queue.set_state(place, SieveState { visited: true });
     }
 
     #[inline(always)]

@@ -5,8 +5,8 @@ ghost use Rattle.foyer_policy.specs.Items.{fit, over, weight_of};
 ghost use Rattle.foyer_policy.specs.LfuLists.{items_in, victim_list};
 ghost use Rattle.foyer_policy.specs.Lists.{find, first_value, list_at};
 
+use crate::dated_lists::DatedLists;
 use crate::kept::Kept;
-use crate::lists::Lists;
 use crate::sketch::Sketch;
 
 /// The list of what came in lately.
@@ -28,7 +28,7 @@ pub(super) fn weight_if(counts: bool, weight: usize) -> usize
 
 /// Moves the first item of a list to the end of probation, and answers its weight. The list is not
 /// probation, and must not be empty.
-fn demote(lists: &mut Lists<Kept, 3>, from: usize) -> usize
+fn demote(lists: &mut DatedLists<Kept, 3>, from: usize) -> usize
     requires list { from < 3 }
     requires other { from ≢ 1 }
     requires some { 0 < length (list_at lists.old.lists from) }
@@ -53,7 +53,7 @@ fn demote(lists: &mut Lists<Kept, 3>, from: usize) -> usize
 
 /// Moves the first items of a list, which weighs `weight`, to the end of probation until the rest is
 /// within a limit, and answers the weight of the rest. The list is not probation.
-pub(super) fn settle(lists: &mut Lists<Kept, 3>, from: usize, weight: usize, limit: usize) -> usize
+pub(super) fn settle(lists: &mut DatedLists<Kept, 3>, from: usize, weight: usize, limit: usize) -> usize
     requires list { from < 3 }
     requires other { from ≢ 1 }
     requires weight { weight ≡ weight_of (items_in lists.old.lists from) }
@@ -74,7 +74,7 @@ pub(super) fn settle(lists: &mut Lists<Kept, 3>, from: usize, weight: usize, lim
 }
 
 // The hash of the first item of a list.
-fn first_hash(lists: &Lists<Kept, 3>, list: usize) -> Option<u64>
+fn first_hash(lists: &DatedLists<Kept, 3>, list: usize) -> Option<u64>
     requires { list < 3 }
     ensures { result ≡ option_map (λ i. i.hash) (first_value (list_at lists.now.lists list)) }
 {
@@ -83,7 +83,7 @@ fn first_hash(lists: &Lists<Kept, 3>, list: usize) -> Option<u64>
 }
 
 /// The list whose first item leaves next, where there is one.
-pub(super) fn next_list(lists: &Lists<Kept, 3>, sketch: &Sketch) -> usize
+pub(super) fn next_list(lists: &DatedLists<Kept, 3>, sketch: &Sketch) -> usize
     ensures list { result ≡ victim_list sketch.now (items_in lists.now.lists 0) (items_in lists.now.lists 1) }
     ensures within { result < 3 }
 {
@@ -102,7 +102,7 @@ pub(super) fn next_list(lists: &Lists<Kept, 3>, sketch: &Sketch) -> usize
 }
 
 /// Takes every item of a list out.
-pub(super) fn drain(lists: &mut Lists<Kept, 3>, list: usize)
+pub(super) fn drain(lists: &mut DatedLists<Kept, 3>, list: usize)
     requires { list < 3 }
     ensures lists { lists.new.lists ≡ slice_set lists.old.lists list [] }
     ensures count { length lists.new.lists ≡ 3 }

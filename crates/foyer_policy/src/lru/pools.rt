@@ -7,7 +7,8 @@ ghost use Rattle.foyer_policy.specs.Lists.{AreLists, find, list_at, moved, with_
 ghost use Rattle.foyer_policy.specs.LruLists.{low_entry, weight_at};
 
 use super::LruState;
-use crate::lists::{Lists, Place};
+use crate::dated_lists::DatedLists;
+use crate::lists::Place;
 use crate::queued::Queued;
 
 /// The list of what leaves first.
@@ -24,7 +25,7 @@ pub(super) type Node = Queued<LruState>;
 /// Moves the first node of the pool to the end of the low list, without its high bit, and answers its
 /// weight. The pool must not be empty.
 #[inline(always)]
-fn lower(lists: &mut Lists<Node, 3>) -> usize
+fn lower(lists: &mut DatedLists<Node, 3>) -> usize
     requires { 0 < length (list_at lists.old.lists 1) }
     ensures weight { (e : _) (es : _) → list_at lists.old.lists 1 ≡ e ∷ es → result ≡ weight_at e }
     ensures lists { (e : _) (es : _) → list_at lists.old.lists 1 ≡ e ∷ es
@@ -35,11 +36,14 @@ fn lower(lists: &mut Lists<Node, 3>) -> usize
 {
     match lists.front(HIGH) {
         Some(place) => {
-            let node = lists.get_mut(place);
-            node.state.high = false;
-            let weight = node.item.whole().weight;
+            let Queued { item, state } = *lists.get(place);
+            let low = LruState {
+                high: false,
+                ..state
+            };
+            lists.set_state(place, low);
             lists.move_back(place, LOW);
-            weight
+            item.whole().weight
         }
         None => unreachable!(),
     }
@@ -47,7 +51,7 @@ fn lower(lists: &mut Lists<Node, 3>) -> usize
 
 /// Lowers nodes of the pool, which weighs `weight`, until it is within a limit, and answers its weight.
 #[inline(always)]
-pub(super) fn settle(lists: &mut Lists<Node, 3>, weight: usize, limit: usize) -> usize
+pub(super) fn settle(lists: &mut DatedLists<Node, 3>, weight: usize, limit: usize) -> usize
     requires { weight ≡ sum_by weight_at (list_at lists.old.lists 1) }
     ensures low { list_at lists.new.lists 0
         ≡ list_at lists.old.lists 0 ++ map low_entry (over weight_at limit (list_at lists.old.lists 1)) }
@@ -67,7 +71,7 @@ pub(super) fn settle(lists: &mut Lists<Node, 3>, weight: usize, limit: usize) ->
 
 /// Gives a node another state, and moves it to the end of a list. The place must hold a node.
 #[inline(always)]
-pub(super) fn relist(lists: &mut Lists<Node, 3>, place: Place, state: LruState, list: usize)
+pub(super) fn relist(lists: &mut DatedLists<Node, 3>, place: Place, state: LruState, list: usize)
     requires list { list < 3 }
     requires there { IsSome (find place lists.old.lists) }
     ensures lists { (n : _) → find place lists.old.lists ≡ Some n
@@ -77,12 +81,12 @@ pub(super) fn relist(lists: &mut Lists<Node, 3>, place: Place, state: LruState, 
     ensures span { lists.new.span ≡ lists.old.span }
     ensures apart { AreLists 3 lists.old.lists }
 {
-    lists.get_mut(place).state = state;
+    lists.set_state(place, state);
     lists.move_back(place, list);
 }
 
 /// Takes every node of a list out.
-pub(super) fn drain(lists: &mut Lists<Node, 3>, list: usize)
+pub(super) fn drain(lists: &mut DatedLists<Node, 3>, list: usize)
     requires { list < 3 }
     ensures lists { lists.new.lists ≡ slice_set lists.old.lists list [] }
     ensures count { length lists.new.lists ≡ 3 }

@@ -8,9 +8,10 @@ ghost use Rattle.foyer_policy.specs.GhostQueue.{Ghost, ghost_of};
 ghost use Rattle.foyer_policy.specs.S3Fifo.{Setting, items, main_looks, from_main, s3fifo_pop, s3fifo_looks};
 ghost use Rattle.foyer_policy.specs.S3FifoQueues.{item_at, small_of, main_of, view_with, Gives, AreQueues, PlacesAfter, TakesSmall, TakesMain};
 
+use crate::dated_lists::DatedLists;
 use crate::ghost_queue::GhostQueue;
 use crate::kept::Kept;
-use crate::lists::{Lists, Place};
+use crate::lists::Place;
 use crate::queued::Queued;
 
 // The numbers of the two lists.
@@ -42,7 +43,7 @@ pub(super) struct Victim {
 // Takes the first record below a threshold out of the small queue; those before it, or all where there is
 // none, go to the end of the main queue. `weight` is the small queue's.
 pub(super) fn take_small(
-    queues: &mut Lists<Node, 2>,
+    queues: &mut DatedLists<Node, 2>,
     weight: &mut usize,
     threshold: u8,
 ) -> Option<Victim>
@@ -68,7 +69,11 @@ pub(super) fn take_small(
                 looks: 0,
             });
         }
-        queues.get_mut(front).state.is_main = true;
+        let main = S3FifoState {
+            is_main: true,
+            ..state
+        };
+        queues.set_state(front, main);
         queues.move_back(front, MAIN);
     }
     None
@@ -76,7 +81,7 @@ pub(super) fn take_small(
 
 // Reads the frequency of the node at a place, lowers it by one where it is above 0, and says whether it
 // was. This is the only reading of a frequency in the main queue, and it counts as one look.
-fn lower(queues: &mut Lists<Node, 2>, place: Place, looks: &mut u128) -> bool
+fn lower(queues: &mut DatedLists<Node, 2>, place: Place, looks: &mut u128) -> bool
     requires there { IsSome (find place queues.old.lists) }
     requires few { looks.old < 2 ^ 127 }
     ensures above { IfSome (find place queues.old.lists) (λ n. result ≡ nat_lt 0 n.state.frequency) }
@@ -86,16 +91,19 @@ fn lower(queues: &mut Lists<Node, 2>, place: Place, looks: &mut u128) -> bool
     ensures span { queues.new.span ≡ queues.old.span }
     ensures counted { looks.new ≡ looks.old + 1 }
 {
-    let node = queues.get_mut(place);
+    let state = queues.get(place).state;
     *looks += 1;
-    let is_above = node.state.frequency > 0;
-    node.state.frequency = node.state.frequency.saturating_sub(1);
-    is_above
+    let lowered = S3FifoState {
+        frequency: state.frequency.saturating_sub(1),
+        ..state
+    };
+    queues.set_state(place, lowered);
+    state.frequency > 0
 }
 
 // Takes the victim of the main queue out: each record at the front goes to the back, its frequency
 // lowered by one, until the first of frequency 0 leaves.
-pub(super) fn take_main(queues: &mut Lists<Node, 2>) -> Option<Victim>
+pub(super) fn take_main(queues: &mut DatedLists<Node, 2>) -> Option<Victim>
     requires queues { AreQueues queues.old.lists }
     ensures takes { TakesMain queues.old.lists (option_map (λ v. (v.item, v.looks)) result) queues.new.lists }
     ensures stood { IfSome result (λ v. item_at queues.old.lists v.at ≡ Some v.item) }
@@ -121,7 +129,7 @@ pub(super) fn take_main(queues: &mut Lists<Node, 2>) -> Option<Victim>
 
 // Takes the victim of the main queue, or else the first record of the small one. `weight` is the small
 // queue's.
-fn pop_main(queues: &mut Lists<Node, 2>, weight: &mut usize) -> Option<Victim>
+fn pop_main(queues: &mut DatedLists<Node, 2>, weight: &mut usize) -> Option<Victim>
     requires queues { AreQueues queues.old.lists }
     requires weight { weight.old ≡ weight_of (items (small_of queues.old.lists)) }
     ensures gives { (g : Ghost) (l : ℕ) (s : Setting) → Gives (from_main (view_with queues.old.lists g l s))
@@ -151,7 +159,7 @@ fn pop_main(queues: &mut Lists<Node, 2>, weight: &mut usize) -> Option<Victim>
 // Takes the victim out, and tells the ghost queue of one that leaves from the small queue. There must be
 // room for that in the ghost queue. `weight` is the small queue's.
 pub(super) fn pop_victim(
-    queues: &mut Lists<Node, 2>,
+    queues: &mut DatedLists<Node, 2>,
     weight: &mut usize,
     ghost_queue: &mut GhostQueue,
     limit: usize,
@@ -191,7 +199,7 @@ pub(super) fn pop_victim(
 }
 
 // How many records a queue holds.
-pub(super) fn count(queues: &Lists<Node, 2>, list: usize) -> usize
+pub(super) fn count(queues: &DatedLists<Node, 2>, list: usize) -> usize
     requires { list < 2 }
     ensures count { result ≡ length (list_at queues.now.lists list) }
     ensures small { sum_by length queues.now.lists < 2 ^ 64 }

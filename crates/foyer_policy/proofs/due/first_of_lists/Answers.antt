@@ -1,11 +1,9 @@
-use Rattle.std.proofs.Common.{sym, ◌∙◌}
-use Rattle.foyer_policy.specs.Moments.{is_due}
-use Rattle.foyer_policy.proofs.DueLemmas.{lists-found}
+use Rattle.std.proofs.Common.{ap, sym}
+use Rattle.foyer_policy.specs.Dues.{first_item}
+use Rattle.foyer_policy.proofs.DatedLists.Changes.{due-plain}
 use Rattle.foyer_policy.proofs.due.first_of_lists.Goals as goal
 
-pub returns-then-is_some-clause-first : goal.returns-then-is_some-clause-first
-returns-then-is_some-clause-first g c =
-    let found = c.first_of_list-found in
-    lists-found (is_due c.args.now) g.T.HasItem.item_of c.args.lists.now.lists c.loop-list.list c.args.count
-    found.result c.loop-list-test.true (sym c.is_some.ensures ∙ c.if-is_some.true) found.ensures.there
-    c.loop-list.invariant found.ensures.first
+pub returns-then-is_plain-clause-first : goal.returns-then-is_plain-clause-first
+returns-then-is_plain-clause-first g c =
+    sym (ap first_item (due-plain g.T.HasItem.item_of g.row.N c.args.lists.now.lists
+    (c.is_plain.ensures c.if-is_plain.true) c.args.now c.args.count c.requires))

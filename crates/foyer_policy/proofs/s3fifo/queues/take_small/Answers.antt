@@ -80,17 +80,17 @@ loop-front-preserved c =
     let sound = c.get.ensures.apart in
     let f = front ls sound 0 p v c.in-Some.ensures.place c.get.ensures.value in
     let t = c.args.threshold in
-    let same : c.get_mut.result.now ≡ v = (let e = sym c.get_mut.ensures.value ∙ c.get.ensures.value in cc) in
     let w : Node =
     record {
-      item = c.get_mut.result.now.item;
+      item = v.item;
       state =
-          record { frequency = c.get_mut.result.now.state.frequency; is_main = true };
+          record { frequency = v.state.frequency; is_main = true };
     } in
-    let item : w.item ≡ v.item = ap (λ n. n.item) same in
-    let frequency : w.state.frequency ≡ v.state.frequency = ap (λ n. n.state.frequency) same in
+    let item : w.item ≡ v.item = refl in
+    let frequency : w.state.frequency ≡ v.state.frequency = refl in
     let now = c.move_back.new.self.lists in
-    let is : now ≡ moved p 1 (map (with_value p w) ls) = c.move_back.ensures.lists in
+    let is : now ≡ moved p 1 (map (with_value p w) ls) =
+    c.move_back.ensures.lists ∙ ap (moved p 1) (c.set_state.ensures.lists v c.get.ensures.value) in
     let head = small-head ls sound i.queues p v c.get.ensures.value f in
     let small = ap (λ l. small_of l) is ∙ promote-small ls sound i.queues p v c.get.ensures.value f w item
     frequency refl in
@@ -108,6 +108,7 @@ loop-front-preserved c =
           ∙ ap (λ l. main_of ls ++ l) (sym head) ∙ i.whole;
       queues = rw is (promote-queues ls sound i.queues p v c.get.ensures.value f w item frequency refl);
       placed = λ q. ap (option_map item_of) (c.move_back.ensures.places q)
+          ∙ ap (λ l. item_at l q) (c.set_state.ensures.lists v c.get.ensures.value)
           ∙ write-places ls sound i.queues p v c.get.ensures.value w item q ∙ i.placed q;
       weight = rw c.whole.ensures
           (omega (
@@ -116,6 +117,6 @@ loop-front-preserved c =
             weight-head (small_of ls) (entry (p, v)) (entries f.back) head,
             ap (λ l. weight_of (items l)) small,
           ));
-      room = c.move_back.ensures.room ∙ i.room;
-      span = c.move_back.ensures.span ∙ i.span;
+      room = c.move_back.ensures.room ∙ c.set_state.ensures.room ∙ i.room;
+      span = c.move_back.ensures.span ∙ c.set_state.ensures.span ∙ i.span;
     }

@@ -1,0 +1,12 @@
+use Rattle.std.proofs.Common.{◌≡◌, ◌≤◌, ◌<◌, ◌/◌, ℕ, Some, length, slice_index}
+use Rattle.std.specs.Prelude.{slice_get}
+use Rattle.foyer_policy.specs.declared.dates.slots.Slot.{Slot}
+use Rattle.foyer_policy.proofs.dates.slots.refresh_all.Given as goal
+
+-- the leaves of the blocks so far are not above their dates
+abbrev pub invariant-loop-block : goal.invariant-loop-block
+invariant-loop-block l = record {
+  length : length l.tree ≡ length l.fn.tree;
+  above : (j : ℕ) (s : Slot) → slice_get l.slots j ≡ Some s → s.list ≡ l.list → j / 8 < l.block
+      → slice_index l.tree (j / 8) ≤ s.date;
+}

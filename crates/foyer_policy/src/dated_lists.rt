@@ -1,0 +1,198 @@
+//! Linked lists of items, with the dates of those that expire.
+
+ghost use Rattle.std.specs.Prelude.{◌≡◌, ◌≢◌, ℕ, ◌+◌, ◌^◌, ◌<◌, ◌≤◌, ◌∷◌, ◌++◌, [], Some, None, OnOk, IfErr, IfSome, IsSome, length, map, sum_by, slice_set, if◌then◌else◌, replicate, is_some};
+ghost use Rattle.foyer_policy.specs.Lists.{list_at, first_entry, first_or, find, find_in, first_value, rest, drop_place, moved, AreLists};
+ghost use Rattle.foyer_policy.specs.declared.error.Reason.TheVariants.{NoMemory};
+
+mod building;
+mod following;
+mod reading;
+mod states;
+mod tracking;
+
+use crate::error::Result;
+use crate::lists::{Lists, Place};
+use crate::queued::HasItem;
+use following::{follow_move, follow_pop, follow_push, follow_remove, follow_span};
+use std::alloc::Global;
+use std::marker::Model;
+use tracking::Tracking;
+
+/// `N` lists of items, numbered from 0, as [`Lists`] are. The first item of a list that is due at a moment is found in
+/// steps that grow with the logarithm of how many items expire, and at once where none does.
+///
+/// The dates are kept from the first call of `reserve` or `reserve_to` on that meets an item that expires. Until then,
+/// and while memory for them is missing, a search walks along the list. A value that is in keeps its item.
+#[derive(Drop)]
+pub(crate) struct DatedLists<T: HasItem, const N: usize> {
+    lists: Lists<T, N>,
+    dates: Tracking,
+    alloc: Global,
+}
+
+impl<T: HasItem, const N: usize> Model for DatedLists<T, N> {
+    ghost use Rattle.foyer_policy.specs.Lists.{Lists as State};
+
+    ghost Value = { State T };
+
+    ghost use Rattle.foyer_policy.specs.DatedLists.{Knows, dates_at};
+
+    ghost view = { λ d. d.lists };
+
+    ghost invariant = { λ d. Knows N d.lists.span (dates_at T.item_of d.lists.lists) d.dates };
+}
+
+impl<T: HasItem, const N: usize> DatedLists<T, N> {
+    /// Empty lists with no room, which take no memory.
+    pub(crate) fn new(alloc: Global) -> Self
+        ensures lists { result.lists ≡ replicate N [] }
+        ensures room { result.room ≡ 0 }
+        ensures span { result.span ≡ 0 }
+    {
+        DatedLists {
+            lists: Lists::new(alloc),
+            dates: Tracking::Plain,
+            alloc,
+        }
+    }
+
+    /// Makes room for `more` values beside those that are in, and for the date of one. Only memory can be missing (F7);
+    /// the lists are as they were, and neither the room nor the span is less.
+    #[inline(always)]
+    pub(crate) fn reserve(&mut self, more: usize) -> Result<()>
+        ensures room { OnOk result (more ≤ self.new.room) }
+        ensures lists { self.new.lists ≡ self.old.lists }
+        ensures kept { self.old.room ≤ self.new.room }
+        ensures span { self.old.span ≤ self.new.span }
+        ensures refused { IfErr result (λ e. e ≡ NoMemory) }
+        ensures small { sum_by length self.old.lists < 2 ^ 64 }
+        ensures apart { AreLists N self.old.lists }
+    {
+        let reserved = self.lists.reserve(more);
+        follow_span(&mut self.dates, &self.lists, self.alloc)?;
+        reserved
+    }
+
+    /// Makes nodes until there are so many, and so a place for each number below `wanted`. Only memory can be missing
+    /// (F7); the lists are as they were, and neither the room nor the span is less.
+    #[inline(always)]
+    pub(crate) fn reserve_to(&mut self, wanted: usize) -> Result<()>
+        ensures enough { OnOk result (wanted ≤ self.new.span) }
+        ensures lists { self.new.lists ≡ self.old.lists }
+        ensures kept { self.old.room ≤ self.new.room }
+        ensures span { self.old.span ≤ self.new.span }
+        ensures refused { IfErr result (λ e. e ≡ NoMemory) }
+        ensures small { sum_by length self.old.lists < 2 ^ 64 }
+        ensures apart { AreLists N self.old.lists }
+    {
+        let reserved = self.lists.reserve_to(wanted);
+        follow_span(&mut self.dates, &self.lists, self.alloc)?;
+        reserved
+    }
+
+    /// The place that `Lists::next_place` answers. A room must be reserved.
+    #[inline(always)]
+    pub(crate) fn next_place(&self) -> Place
+        requires { 0 < self.now.room }
+        ensures free { find result self.now.lists ≡ None }
+        ensures within { result < self.now.span }
+        ensures apart { AreLists N self.now.lists }
+    {
+        self.lists.next_place()
+    }
+
+    /// Puts a value at the end of a list, at a place that the caller chooses: one below the span, where
+    /// nothing stands. `list` is below `N`.
+    #[inline(always)]
+    pub(crate) fn push_back_at(&mut self, list: usize, place: Place, value: T)
+        requires list { list < N }
+        requires within { place < self.old.span }
+        requires free { find place self.old.lists ≡ None }
+        ensures lists { self.new.lists
+            ≡ slice_set self.old.lists list (list_at self.old.lists list ++ (place, value) ∷ []) }
+        ensures room { self.new.room + 1 ≡ self.old.room }
+        ensures span { self.new.span ≡ self.old.span }
+        ensures here { find place self.new.lists ≡ Some value }
+        ensures others { (q : ℕ) → q ≢ place → find q self.new.lists ≡ find q self.old.lists }
+        ensures small { sum_by length self.new.lists < 2 ^ 64 }
+        ensures apart { AreLists N self.old.lists }
+    {
+        follow_push(&mut self.dates, &self.lists, list, place, &value);
+        self.lists.push_back_at(list, place, value);
+    }
+
+    /// Takes the first value of a list out, where there is one, and gives its room back. `list` is
+    /// below `N`.
+    #[inline(always)]
+    pub(crate) fn pop_front(&mut self, list: usize) -> Option<T>
+        requires { list < N }
+        ensures value { result ≡ first_value (list_at self.old.lists list) }
+        ensures lists { self.new.lists
+            ≡ slice_set self.old.lists list (rest (list_at self.old.lists list)) }
+        ensures room { self.new.room ≡ self.old.room + (if is_some result then 1 else 0) }
+        ensures span { self.new.span ≡ self.old.span }
+        ensures others { (q : ℕ) → first_or (list_at self.old.lists list) None ≢ Some q
+            → find q self.new.lists ≡ find q self.old.lists }
+        ensures small { sum_by length self.old.lists < 2 ^ 64 }
+        ensures apart { AreLists N self.old.lists }
+    {
+        follow_pop(&mut self.dates, &self.lists, list);
+        self.lists.pop_front(list)
+    }
+
+    /// Takes the first value of a list out, where there is one, and answers it with the place that it
+    /// had. `list` is below `N`.
+    #[inline(always)]
+    pub(crate) fn pop_front_at(&mut self, list: usize) -> Option<(Place, T)>
+        requires { list < N }
+        ensures entry { result ≡ first_entry (list_at self.old.lists list) }
+        ensures there { IfSome result (λ e. find e.0 self.old.lists ≡ Some e.1) }
+        ensures gone { IfSome result (λ e. find e.0 self.new.lists ≡ None) }
+        ensures lists { self.new.lists
+            ≡ slice_set self.old.lists list (rest (list_at self.old.lists list)) }
+        ensures room { self.new.room ≡ self.old.room + (if is_some result then 1 else 0) }
+        ensures span { self.new.span ≡ self.old.span }
+        ensures others { (q : ℕ) → first_or (list_at self.old.lists list) None ≢ Some q
+            → find q self.new.lists ≡ find q self.old.lists }
+        ensures small { sum_by length self.old.lists < 2 ^ 64 }
+        ensures apart { AreLists N self.old.lists }
+    {
+        follow_pop(&mut self.dates, &self.lists, list);
+        self.lists.pop_front_at(list)
+    }
+
+    /// Takes the value at a place out of its list, and gives its room back. The place must hold a
+    /// value.
+    #[inline(always)]
+    pub(crate) fn remove(&mut self, place: Place) -> T
+        requires { IsSome (find place self.old.lists) }
+        ensures value { find place self.old.lists ≡ Some result }
+        ensures lists { self.new.lists ≡ map (drop_place place) self.old.lists }
+        ensures room { self.new.room ≡ self.old.room + 1 }
+        ensures span { self.new.span ≡ self.old.span }
+        ensures gone { find place self.new.lists ≡ None }
+        ensures others { (q : ℕ) → q ≢ place → find q self.new.lists ≡ find q self.old.lists }
+        ensures small { sum_by length self.old.lists < 2 ^ 64 }
+        ensures apart { AreLists N self.old.lists }
+    {
+        follow_remove(&mut self.dates, &self.lists, place);
+        self.lists.remove(place)
+    }
+
+    /// Moves the value at a place to the end of a list, which may be its own. It keeps its place.
+    /// The place must hold a value, and `list` is below `N`.
+    #[inline(always)]
+    pub(crate) fn move_back(&mut self, place: Place, list: usize)
+        requires list { list < N }
+        requires there { IsSome (find place self.old.lists) }
+        ensures lists { self.new.lists ≡ moved place list self.old.lists }
+        ensures room { self.new.room ≡ self.old.room }
+        ensures span { self.new.span ≡ self.old.span }
+        ensures places { (q : ℕ) → find q self.new.lists ≡ find q self.old.lists }
+        ensures small { sum_by length self.old.lists < 2 ^ 64 }
+        ensures apart { AreLists N self.old.lists }
+    {
+        follow_move(&mut self.dates, &self.lists, place, list);
+        self.lists.move_back(place, list);
+    }
+}

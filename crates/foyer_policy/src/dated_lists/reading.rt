@@ -1,0 +1,119 @@
+//! What is in lists of items, and where, and which is due first.
+
+ghost use Rattle.std.specs.Prelude.{◌≡◌, ℕ, ◌^◌, ◌<◌, ◌∷◌, ◌++◌, [], Some, None, IfSome, IsSome, IsTrue, length, map, option_and_then, option_map, sum_by};
+ghost use Rattle.std.specs.List.{filter};
+ghost use Rattle.foyer_policy.specs.DatedLists.{dates_at};
+ghost use Rattle.foyer_policy.specs.Dues.{first_item};
+ghost use Rattle.foyer_policy.specs.Lists.{list_at, first_or, find, find_in, AreLists};
+ghost use Rattle.foyer_policy.specs.Moments.{is_due};
+
+use super::DatedLists;
+use super::tracking::Tracking;
+use crate::due::first_of_list;
+use crate::lists::Place;
+use crate::queued::HasItem;
+
+impl<T: HasItem, const N: usize> DatedLists<T, N> {
+    /// The place of a list's first value, or `None` where the list is empty. `list` is below `N`.
+    #[inline(always)]
+    pub(crate) fn front(&self, list: usize) -> Option<Place>
+        requires { list < N }
+        ensures place { result ≡ first_or (list_at self.now.lists list) None }
+        ensures there { IfSome result (λ p. IsSome (find p self.now.lists)) }
+        ensures small { sum_by length self.now.lists < 2 ^ 64 }
+        ensures apart { AreLists N self.now.lists }
+    {
+        self.lists.front(list)
+    }
+
+    /// The place of the value behind the one at `place` in its list, or `None` at the list's end.
+    /// The place must hold a value.
+    #[inline(always)]
+    pub(crate) fn next(&self, place: Place) -> Option<Place>
+        requires { IsSome (find place self.now.lists) }
+        ensures place { (k : ℕ) (xs ys : _) (v : _)
+            → list_at self.now.lists k ≡ xs ++ (place, v) ∷ ys → result ≡ first_or ys None }
+        ensures there { IfSome result (λ p. IsSome (find p self.now.lists)) }
+        ensures small { sum_by length self.now.lists < 2 ^ 64 }
+        ensures apart { AreLists N self.now.lists }
+    {
+        self.lists.next(place)
+    }
+
+    /// The number of the list in which the value at a place stands. The place must hold a value.
+    #[inline(always)]
+    pub(crate) fn list_of(&self, place: Place) -> usize
+        requires { IsSome (find place self.now.lists) }
+        ensures within { result < N }
+        ensures stands { find_in place (list_at self.now.lists result) ≡ find place self.now.lists }
+        ensures apart { AreLists N self.now.lists }
+    {
+        self.lists.list_of(place)
+    }
+
+    /// The value at a place, which must hold one.
+    #[inline(always)]
+    pub(crate) fn get(&self, place: Place) -> &T
+        requires { IsSome (find place self.now.lists) }
+        ensures value { find place self.now.lists ≡ Some result.now }
+        ensures small { sum_by length self.now.lists < 2 ^ 64 }
+        ensures apart { AreLists N self.now.lists }
+    {
+        self.lists.get(place)
+    }
+
+    /// How many nodes there are, with values or free. Each place is below it.
+    #[inline(always)]
+    pub(crate) fn span(&self) -> usize
+        ensures span { result ≡ self.now.span }
+        ensures within { (q : ℕ) → IsSome (find q self.now.lists) → q < self.now.span }
+    {
+        self.lists.span()
+    }
+
+    /// Whether the value at a place has neighbors in its list where it is linked to some, which is so. To ask
+    /// reads what `move_back` and `remove` are to write. The place must hold a value.
+    #[inline(always)]
+    pub(crate) fn has_neighbors(&self, place: Place) -> bool
+        requires { IsSome (find place self.now.lists) }
+        ensures { IsTrue result }
+    {
+        self.lists.has_neighbors(place)
+    }
+
+    /// The places of the first value of a list and of the one behind it, where there are some. `list` is below
+    /// `N`.
+    #[inline(always)]
+    pub(crate) fn first_two(&self, list: usize) -> (Option<Place>, Option<Place>)
+        requires { list < N }
+        ensures first { IfSome result.0 (λ p. IsSome (find p self.now.lists)) }
+        ensures second { IfSome result.1 (λ p. IsSome (find p self.now.lists)) }
+    {
+        self.lists.first_two(list)
+    }
+
+    /// Whether it's known that no item expires, without a look at them.
+    #[inline(always)]
+    pub(crate) fn is_plain(&self) -> bool
+        ensures { IsTrue result → (k : ℕ) → k < N → dates_at T.item_of self.now.lists k ≡ [] }
+    {
+        matches!(self.dates, Tracking::Plain)
+    }
+
+    /// The place of the first item of a list that is due at a moment, or `None` where none is. `list` is below `N`.
+    pub(crate) fn first_due(&self, list: usize, now: u64) -> Option<Place>
+        requires { list < N }
+        ensures there { IfSome result (λ p. IsSome (find p self.now.lists)) }
+        ensures first { option_and_then (λ p. option_map T.item_of (find p self.now.lists)) result
+            ≡ first_item (filter (is_due now) (map (λ e. T.item_of e.1) (list_at self.now.lists list))) }
+    {
+        match &self.dates {
+            Tracking::Plain => None,
+            Tracking::Untracked => first_of_list(&self.lists, list, now),
+            Tracking::Tracked(dates) => {
+                self.lists.front(list)?;
+                dates.first(list, now)
+            }
+        }
+    }
+}

@@ -1,0 +1,24 @@
+//! What policies keep beside the items of lists.
+
+ghost use Rattle.std.specs.Prelude.{◌≡◌, ℕ, ◌^◌, ◌<◌, Some, IsSome, length, map, sum_by};
+ghost use Rattle.foyer_policy.specs.Lists.{find, with_value, AreLists};
+
+use super::DatedLists;
+use crate::lists::Place;
+use crate::queued::Queued;
+
+impl<S: Copy, const N: usize> DatedLists<Queued<S>, N> {
+    /// Gives the value at a place another state; its item stays. The place must hold a value.
+    #[inline(always)]
+    pub(crate) fn set_state(&mut self, place: Place, state: S)
+        requires { IsSome (find place self.old.lists) }
+        ensures lists { (n : _) → find place self.old.lists ≡ Some n
+            → self.new.lists ≡ map (with_value place (record { item = n.item; state = state })) self.old.lists }
+        ensures room { self.new.room ≡ self.old.room }
+        ensures span { self.new.span ≡ self.old.span }
+        ensures small { sum_by length self.old.lists < 2 ^ 64 }
+        ensures apart { AreLists N self.old.lists }
+    {
+        self.lists.get_mut(place).state = state;
+    }
+}
