@@ -1,5 +1,5 @@
 -- A record that leaves its slot's place in the index and the policy: what the fields stand for then.
-use Rattle.std.proofs.Common.{◌≡◌, ◌≢◌, ℕ, ◌-◌, ◌≤◌, Option, Some, None, Bool, true, false, cond, length, nat_eq, refl, sym, ◌∙◌, ap, subst, inl, inr, arith}
+use Rattle.std.proofs.Common.{◌≡◌, ◌≢◌, ℕ, ◌-◌, ◌<◌, ◌≤◌, Option, Some, None, Bool, true, false, cond, length, nat_eq, refl, sym, ◌∙◌, ap, subst, inl, inr, arith}
 use Rattle.std.proofs.Math.Logic.{∥∥₁_elim, ∥∥₁_map}
 use Rattle.std.proofs.Props.{props}
 use Rattle.std.specs.Prelude.{option_and_then, option_map, is_some, ◌==◌}
@@ -7,7 +7,7 @@ use Rattle.std.specs.Cmp.{IsEquivalence}
 use Rattle.std.specs.Map.{update}
 use Rattle.std.proofs.lemmas.Bool.Decides.{eqb_tells}
 use Rattle.std.proofs.lemmas.Map.{update_apart}
-use Rattle.foyer_policy.specs.Items.{weight_of}
+use Rattle.foyer_policy.specs.Items.{count_of, find_id, weight_of}
 use Rattle.foyer_policy.specs.Policy.{IsPolicy, without}
 use Rattle.foyer_policy.specs.declared.types.Item.{Item}
 use Rattle.foyer_core.specs.declared.records.Records.{Records}
@@ -18,7 +18,8 @@ use Rattle.foyer_core.specs.Records.{slot_in, number_of, record_in, id_in}
 use Rattle.foyer_core.specs.State.{Meaning, State, IsKept, key_of, item_of}
 use Rattle.foyer_core.specs.Steps.{after_out, outside}
 use Rattle.foyer_core.specs.Stored.{IsStored, item_in, state}
-use Rattle.foyer_core.proofs.Keeps.{popped_there, popped_keeps, popped_weight, indexed_there}
+use Rattle.foyer_core.proofs.Found.{found-counted}
+use Rattle.foyer_core.proofs.Keeps.{resident_in, popped_there, popped_keeps, popped_weight, indexed_there}
 use Rattle.foyer_core.proofs.Keys.{same_key_laws}
 use Rattle.foyer_core.proofs.Evictions.{popped_shorter}
 use Rattle.foyer_core.proofs.States.{same_state}
@@ -154,6 +155,24 @@ module _ {K V P View C : Type 0} (m : Meaning K P View C) (laws : IsEquivalence 
     pub stood_known : number_of t i.id ≡ Some n
     stood_known = t.agree.known n i.id
         (id_by-some (slot_in t) n stood_slot.0 stood_slot.1 ∙ ap (λ (a : ℕ). Some a) stood_slot.2)
+
+    -- it is in the policy's order
+    pub stood_counted : 0 < count_of i.id (m.policy.order view)
+    stood_counted = ∥∥₁_elim sound (hlevel props) (λ k. found-counted i.id i (m.policy.order view) (found_by k)) where
+      own : IsKept m now → (x : Kept K V P) → slot_in t n ≡ Some x → (b : Bool) → x.resident ≡ b →
+          cond b (Some (item_of m x.id x.kept)) None ≡ Some i → find_id i.id (m.policy.order view) ≡ Some i
+      own k x is true res h =
+          let e : item_of m x.id x.kept ≡ i = cc in
+          subst (λ (j : Item). find_id j.id (m.policy.order view) ≡ Some j) e
+          (resident_in m laws good now k x.id (rec_of x) (slot_record m at keys t n x is) res)
+      own k x is false res h = absurd cc
+
+      found_by : IsKept m now → find_id i.id (m.policy.order view) ≡ Some i
+      found_by k = go (slot_in t n) refl (sym (stored.placed n) ∙ stood) where
+        go : (w : Option (Kept K V P)) → slot_in t n ≡ w → item_in m w ≡ Some i →
+            find_id i.id (m.policy.order view) ≡ Some i
+        go None is h = absurd cc
+        go (Some x) is h = own k x is x.resident refl h
 
   -- the victim of a pop
   module _ (i : Item) (v : View) (popped : m.policy.pop view ≡ Some (i, v)) where

@@ -81,8 +81,6 @@ pub mod ShardTold
 pub mod Sharing
 pub mod SharingOut
 pub mod SlotLemmas
-pub mod SoonSteps
-pub mod Soonest
 pub mod Sound
 pub mod States
 pub mod Staying

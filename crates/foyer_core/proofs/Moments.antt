@@ -1,6 +1,6 @@
 -- A shard at a moment: what is so of it in any case, and its evictions.
-use Rattle.std.proofs.Common.{◌≡◌, ℕ, ◌-◌, List, [], ◌∷◌, Option, Some, None, Bool, true, false, refl, ◌∙◌, ap}
-use Rattle.std.specs.Prelude.{Result, Ok, Err, IfNone, IfOk, IfSome}
+use Rattle.std.proofs.Common.{◌≡◌, ℕ, ◌-◌, List, [], ◌∷◌, Option, Some, None, Bool, true, false, refl, sym, ◌∙◌, ap}
+use Rattle.std.specs.Prelude.{Result, Ok, Err, IfNone, IfOk, IfSome, IsSome}
 use Rattle.foyer_policy.specs.Moments.{due_or_pop, first_due, is_due, timed}
 use Rattle.foyer_policy.specs.Policy.{Policy, IsPolicy, evicted}
 use Rattle.foyer_policy.specs.declared.types.Item.{Item}
@@ -108,6 +108,13 @@ module _ {K V P View C : Type 0} (m : Meaning K P View C) (now : ℕ) where
     gone_is = t.gone_is;
     after = t.after;
   }
+
+  -- so it does where a policy says where it stands
+  pub due_leaves : (s : State K V P View) (o : Option Item) → IsSome o → o ≡ first_due (is_due now) m.policy s.view →
+      (gone : Gone K V P) (new : State K V P View) → ((i : Item) → o ≡ Some i → TakesRecordOut m s i.id gone new) →
+      EvictsOne (at_moment now m) s gone new
+  due_leaves s None there due gone new taken = absurd cc
+  due_leaves s (Some i) there due gone new taken = due_at s i (sym due) gone new (taken i refl)
 
 module _ {K V P View C E : Type 0} (m : Meaning K P View C) (now : ℕ) (s : State K V P View)
     (none : first_due (is_due now) m.policy s.view ≡ None) (r : Result (Option (Gone K V P)) E)

@@ -27,7 +27,6 @@ pub mod Shards
 pub mod Stores
 pub mod Steps
 pub mod Settled
-pub mod Soonest
 pub mod CacheProperties
 pub mod Laws
 pub mod Observed

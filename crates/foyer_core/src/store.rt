@@ -1,10 +1,9 @@
 //! What a shard holds: a policy, an index and records.
 
-ghost use Rattle.std.specs.Prelude.{◌≡◌, ℕ, ◌≤◌, None, Some, OnOk, IfOk, IfErr, IfSome, is_some, length, option_and_then, Err};
+ghost use Rattle.std.specs.Prelude.{◌≡◌, ℕ, ◌≤◌, None, Some, OnOk, IfOk, IfErr, IfSome, is_some, length, option_map, Err};
 ghost use Rattle.foyer_policy.specs.declared.error.Reason.TheVariants.{NoMemory};
 ghost use Rattle.foyer_policy.specs.Items.{weight_of};
-ghost use Rattle.foyer_core.specs.Records.{id_in};
-ghost use Rattle.foyer_core.specs.Soonest.{NoneDueBefore, sooner};
+ghost use Rattle.foyer_core.specs.Records.{slot_in};
 ghost use Rattle.foyer_core.specs.State.{IsKept};
 ghost use Rattle.foyer_core.specs.Stored.{meaning, state, IsStored};
 
@@ -12,6 +11,7 @@ use crate::finder::Finder;
 use crate::properties::is_expired;
 use crate::record::Limits;
 use crate::records::Records;
+use crate::slot::Slot;
 use foyer_policy::{Eviction, Key, Properties, Result, Value};
 use std::alloc::Global;
 
@@ -43,14 +43,11 @@ pub struct Store<E: Eviction, K: Key, V: Value, P: Properties, I: Finder<K>> {
     number: u64,
     next: u64,
     limits: Limits,
-    // Before this moment nothing is due that is not pinned.
-    soonest: u64,
     ghost sound: { ∥ IsKept (meaning K.eq E.model P.hint_of P.phantom_of P.expiry_of) (state number capacity limits (E.view eviction) (I.view index) records next) ∥₁ },
     ghost stored: { IsStored (meaning K.eq E.model P.hint_of P.phantom_of P.expiry_of) (E.at eviction) (I.view index) records },
     ghost weighed: { usage ≡ weight_of (E.model.order (E.view eviction)) },
     ghost counted: { entries ≡ length (E.model.order (E.view eviction)) },
     ghost numbered: { entries ≤ next },
-    ghost soon: { NoneDueBefore E.model (E.view eviction) soonest },
 }
 
 impl<E: Eviction, K: Key, V: Value, P: Properties, I: Finder<K>> Store<E, K, V, P, I> {
@@ -90,7 +87,6 @@ impl<E: Eviction, K: Key, V: Value, P: Properties, I: Finder<K>> Store<E, K, V, 
             number,
             next: 0,
             limits,
-            soonest: u64::MAX,
         })
     }
 
@@ -117,11 +113,12 @@ impl<E: Eviction, K: Key, V: Value, P: Properties, I: Finder<K>> Store<E, K, V, 
         self.live_under(now, hash, key).is_some()
     }
 
-    // The slot of the record that a key hits at a moment.
+    // The record that a key hits at a moment, and the slot where it stands. The slot is read once.
     #[inline(always)]
-    fn live_under(&self, now: u64, hash: u64, key: &K) -> Option<usize>
-        ensures led { IfSome result (λ n. I.view self.now.index (hash, key.now) ≡ Some n) }
-        ensures hits { hit (meaning_of self.now) now (state_of self.now) (hash, key.now) ≡ option_and_then (id_in self.now.records) result }
+    fn live_under(&self, now: u64, hash: u64, key: &K) -> Option<(usize, &Slot<K, V, P>)>
+        ensures led { IfSome result (λ live. I.view self.now.index (hash, key.now) ≡ Some live.0) }
+        ensures there { IfSome result (λ live. slot_in self.now.records live.0 ≡ Some live.1.now) }
+        ensures hits { hit (meaning_of self.now) now (state_of self.now) (hash, key.now) ≡ option_map (λ live. live.1.now.id) result }
     {
         let slot = self.slot_under(hash, key)?;
         let Some(found) = self.records.get(slot) else {
@@ -130,7 +127,7 @@ impl<E: Eviction, K: Key, V: Value, P: Properties, I: Finder<K>> Store<E, K, V, 
         if is_expired(found.properties().expiry(), now) {
             return None;
         }
-        Some(slot)
+        Some((slot, found))
     }
 
     // The slot to which a key leads.
@@ -147,16 +144,5 @@ impl<E: Eviction, K: Key, V: Value, P: Properties, I: Finder<K>> Store<E, K, V, 
         ensures { result ≡ (state_of self.now).limits.ids }
     {
         self.limits.ids
-    }
-}
-
-// The sooner of a moment and of another, where there is one.
-#[inline(always)]
-fn sooner(soonest: u64, expires: Option<u64>) -> u64
-    ensures { result ≡ sooner soonest expires }
-{
-    match expires {
-        Some(moment) => soonest.min(moment),
-        None => soonest,
     }
 }

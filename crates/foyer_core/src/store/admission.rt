@@ -11,7 +11,7 @@ ghost use Rattle.foyer_core.specs.Steps.{outside};
 ghost use Rattle.foyer_core.specs.Table.{rec_of, slot_outside};
 ghost use Rattle.foyer_core.specs.Records.{slot_in, record_in, number_of, HasRoom};
 
-use super::{Store, sooner};
+use super::Store;
 use crate::entry::Left;
 use crate::finder::Finder;
 use crate::records::Records;
@@ -70,7 +70,6 @@ impl<E: Eviction, K: Key, V: Value, P: Properties, I: Finder<K>> Store<E, K, V, 
         self.usage += weight;
         self.entries += 1;
         self.next = above(self.next, id);
-        self.soonest = sooner(self.soonest, expires);
         Ok((number, replaced))
     }
 

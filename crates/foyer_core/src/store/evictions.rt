@@ -1,22 +1,20 @@
 //! Evictions of a shard's records.
 
-ghost use Rattle.std.specs.Prelude.{◌≡◌, ℕ, ◌<◌, ◌≤◌, Some, None, OnOk, OnErr, IfOk, IfErr, IfSome, IfNone, vec_len, vec_capacity};
-ghost use Rattle.foyer_policy.specs.Moments.{first_due, is_due};
+ghost use Rattle.std.specs.Prelude.{◌≡◌, ◌<◌, Some, None, OnOk, OnErr, IfOk, IfErr, IfSome, IfNone, IsSome, vec_len, vec_capacity};
 ghost use Rattle.foyer_policy.specs.declared.error.Reason.TheVariants.{NoMemory};
-ghost use Rattle.foyer_core.specs.Records.{HasRoom, slot_in};
-ghost use Rattle.foyer_core.specs.Values.{Kept};
+ghost use Rattle.foyer_policy.specs.declared.types.Item.{Item};
+ghost use Rattle.foyer_core.specs.Records.{HasRoom};
 
-use super::{Store, sooner};
+use super::Store;
 use crate::entry::{Leave, Left};
 use crate::finder::Finder;
-use crate::properties::is_expired;
-use foyer_policy::{Error, Event, Eviction, Key, Properties, Reason, Result, Value};
+use foyer_policy::{Error, Event, Eviction, Key, Place, Properties, Reason, Result, Value};
 
 impl<E: Eviction, K: Key, V: Value, P: Properties, I: Finder<K>> Store<E, K, V, P, I> {
     ghost use Rattle.foyer_core.specs.Stores.{state_of, meaning_of, HasPlaces};
     ghost use Rattle.foyer_core.specs.State.{at_moment};
     ghost use Rattle.foyer_core.specs.Steps.{Evicts, Evicting, EvictsOne};
-    ghost use Rattle.foyer_core.specs.Bulk.{GoesOn};
+    ghost use Rattle.foyer_core.specs.Bulk.{GoesOn, TakesRecordOut};
 
     // One eviction at a moment: what is due first leaves, and where nothing is, what the policy pops.
     #[inline(always)]
@@ -29,46 +27,24 @@ impl<E: Eviction, K: Key, V: Value, P: Properties, I: Finder<K>> Store<E, K, V, 
         ensures room { HasRoom self.old.records → HasRoom self.new.records }
         ensures places { HasPlaces self.old → HasPlaces self.new }
     {
-        if now >= self.soonest {
-            if let Some(left) = self.evict_due(now) {
-                return Ok(Some(left));
-            }
+        if let Some(place) = self.eviction.expired(now) {
+            return Ok(Some(self.leave_due(place)));
         }
         self.pop_one()
     }
 
-    // What is due first at a moment leaves, where something is. Else it is noted from when on something may be.
+    // What stands at this place in the policy leaves.
     #[cold]
     #[inline(never)]
-    fn evict_due(&mut self, now: u64) -> Option<Left<K, V, P>>
-        ensures some { IfSome result (λ left.
-            EvictsOne (at_moment now (meaning_of self.old)) (state_of self.old) left (state_of self.new)) }
-        ensures none { IfNone result (first_due (is_due now) E.model (E.view self.new.eviction) ≡ None) }
-        ensures same { IfNone result (state_of self.new ≡ state_of self.old) }
+    fn leave_due(&mut self, place: Place) -> Left<K, V, P>
+        requires { IsSome (E.at self.old.eviction place) }
+        ensures taken { (i : Item) → E.at self.old.eviction place ≡ Some i
+            → TakesRecordOut (meaning_of self.old) (state_of self.old) i.id result (state_of self.new) }
         ensures room { HasRoom self.old.records → HasRoom self.new.records }
         ensures places { HasPlaces self.old → HasPlaces self.new }
     {
-        let Some(place) = self.eviction.expired(now) else {
-            self.soonest = self.soonest_after(now);
-            return None;
-        };
         let item = self.eviction.item(place);
-        Some(self.take_out(item.id))
-    }
-
-    // A moment after this one before which no record expires that is not expired now.
-    fn soonest_after(&self, now: u64) -> u64
-        ensures { (n : ℕ) (x : Kept K V P) → slot_in self.now.records n ≡ Some x → (e : ℕ) → P.expiry_of x.kept.properties ≡ Some e
-            → now < e → result ≤ e }
-    {
-        let mut soonest = u64::MAX;
-        for (_, slot) in self.records.iter() {
-            let expires = slot.properties().expiry();
-            if !is_expired(expires, now) {
-                soonest = sooner(soonest, expires);
-            }
-        }
-        soonest
+        self.take_out(item.id)
     }
 
     // What the policy pops leaves.

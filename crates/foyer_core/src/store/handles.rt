@@ -5,7 +5,7 @@ ghost use Rattle.foyer_core.specs.Values.{Kept};
 ghost use Rattle.foyer_core.specs.Records.{slot_in};
 ghost use Rattle.foyer_core.specs.Table.{rec_of};
 
-use super::{Store, sooner};
+use super::Store;
 use crate::entry::{CoreEntry, Leave};
 use crate::finder::Finder;
 use crate::slot::Slot;
@@ -23,11 +23,8 @@ impl<E: Eviction, K: Key, V: Value, P: Properties, I: Finder<K>> Store<E, K, V, 
     pub fn get(&mut self, now: u64, hash: u64, key: &K) -> Result<Option<CoreEntry<K, V, P>>>
         ensures gets { Gets (meaning_of self.old) now (state_of self.old) (hash, key.now) result (state_of self.new) }
     {
-        let Some(slot) = self.live_under(now, hash, key) else {
+        let Some((slot, found)) = self.live_under(now, hash, key) else {
             return Ok(None);
-        };
-        let Some(found) = self.records.get(slot) else {
-            unreachable!();
         };
         if found.handles() >= self.limits.handles {
             return Err(Error::new(Reason::Handles));
@@ -80,10 +77,8 @@ impl<E: Eviction, K: Key, V: Value, P: Properties, I: Finder<K>> Store<E, K, V, 
         if !found.is_resident() {
             return Ok(self.forget(slot));
         }
-        let expires = found.properties().expiry();
         self.records.take_handle(slot);
         self.eviction.release(Place::at(slot));
-        self.soonest = sooner(self.soonest, expires);
         Ok(None)
     }
 

@@ -2,7 +2,7 @@
 
 ghost use Rattle.std.specs.Prelude.{◌≡◌};
 
-use super::{Store, sooner};
+use super::Store;
 use crate::entry::{CoreEntry, Left};
 use crate::finder::Finder;
 use foyer_policy::{Error, Eviction, Key, Place, Properties, Reason, Result, Source, Value};
@@ -17,24 +17,19 @@ impl<E: Eviction, K: Key, V: Value, P: Properties, I: Finder<K>> Store<E, K, V, 
     pub fn touch(&mut self, now: u64, hash: u64, key: &K) -> Result<bool>
         ensures touches { Touches (meaning_of self.old) now (state_of self.old) (hash, key.now) result (state_of self.new) }
     {
-        let Some(slot) = self.live_under(now, hash, key) else {
+        let Some((slot, found)) = self.live_under(now, hash, key) else {
             return Ok(false);
-        };
-        let Some(found) = self.records.get(slot) else {
-            unreachable!();
         };
         let handles = found.handles();
         if handles >= self.limits.handles {
             return Err(Error::new(Reason::Handles));
         }
-        let expires = found.properties().expiry();
         let place = Place::at(slot);
         self.eviction.acquire(place);
         if handles > 0 {
             return Ok(true);
         }
         self.eviction.release(place);
-        self.soonest = sooner(self.soonest, expires);
         Ok(true)
     }
 

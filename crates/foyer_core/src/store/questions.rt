@@ -18,12 +18,7 @@ impl<E: Eviction, K: Key, V: Value, P: Properties, I: Finder<K>> Store<E, K, V, 
             × Gets (meaning_of self.now) now (state_of self.now) (hash, key.now) (Err Handles) (state_of self.now)) }
         ensures none { IfNone result (MayGet (meaning_of self.now) now (state_of self.now) (hash, key.now)) }
     {
-        let Some(slot) = self.live_under(now, hash, key) else {
-            return None;
-        };
-        let Some(found) = self.records.get(slot) else {
-            unreachable!();
-        };
+        let (_slot, found) = self.live_under(now, hash, key)?;
         if found.handles() >= self.limits.handles {
             return Some(Reason::Handles);
         }

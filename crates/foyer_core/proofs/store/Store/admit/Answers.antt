@@ -1,4 +1,4 @@
-use Rattle.std.proofs.Common.{◌≡◌, ◌+◌, ◌-◌, ℕ, Some, cond, max, inl, inr, nat_eq, refl, sym, ◌∙◌, ap, subst, arith, rules}
+use Rattle.std.proofs.Common.{◌≡◌, ◌+◌, ◌-◌, ℕ, Some, cond, max, nat_eq, refl, sym, ◌∙◌, ap, subst, arith, rules}
 use Rattle.std.proofs.Math.Logic.{∥∥₁_elim}
 use Rattle.std.proofs.Props.{props}
 use Rattle.std.proofs.lemmas.Result.{err_from_is_err_and}
@@ -14,7 +14,6 @@ use Rattle.foyer_core.specs.Table.{rec_of}
 use Rattle.foyer_core.specs.Records.{slot_in, number_of, record_in}
 use Rattle.foyer_core.proofs.Counting.{entries_below}
 use Rattle.foyer_core.proofs.Holdings.{holding}
-use Rattle.foyer_core.proofs.SoonSteps.{holds_pushed}
 use Rattle.foyer_core.proofs.Keys.{update_alike, same_key_laws}
 use Rattle.foyer_core.proofs.AdmitLemmas.{Admitted, coming_rec, led_not, no_item, reindexed}
 use Rattle.foyer_core.proofs.GaveLemmas.{Gave, byte_is, alike_key, may_give_way, gave, gave_free, gave_push, gave_lighter, gave_fits, gave_admitted}
@@ -40,7 +39,6 @@ invariant_of-self g c =
       weighed = s.weighed;
       counted = s.counted;
       numbered = s.numbered;
-      soon = s.soon;
     }
 
 pub returns-in_err-put-clause-err : goal.returns-in_err-put-clause-err
@@ -430,16 +428,6 @@ invariant_of-self-2 g c =
       weighed = rw c.weight-weight.ensures done.weighed3;
       counted = rw (c.is_some.ensures, byte_is) done.counted3;
       numbered = rw (c.is_some.ensures, byte_is) (omega (arith, done.counted3, few));
-      soon = rw (c.sooner-self.ensures, c.expiry-expires.ensures, c.properties-2.ensures)
-          (holds_pushed m laws lawful (holding s) s.soonest s.soon
-          (g.E.Eviction.view c.give_way-gone.new.eviction) (g.E.Eviction.view c.push_at.new.self) inc
-          (elim gv [ inl h ↦ inl h.viewed | inr h ↦ inr (h.y.id, h.viewed) ])
-          (gave_push m laws lawful (holding s) inc n unled c.requires.out c.put-2.new.self c.args.slot
-          slots1 c.give_way-gone.result.0 c.give_way-gone.result.1 c.give_way-gone.new.records
-          (g.E.Eviction.at c.give_way-gone.new.eviction) (g.E.Eviction.view c.give_way-gone.new.eviction) gv
-          c.requires.fits).new
-          (c.push_at.ensures.view ∙ ap
-          (g.E.Eviction.model.push (g.E.Eviction.view c.give_way-gone.new.eviction)) item));
     }
 
 pub returns-clause-admitted : goal.returns-clause-admitted

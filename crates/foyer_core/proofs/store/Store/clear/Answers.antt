@@ -5,7 +5,6 @@ use Rattle.foyer_core.specs.Bulk.{Clears, Passes}
 use Rattle.foyer_core.proofs.Holdings.{holding}
 use Rattle.foyer_core.proofs.Told.{goes_so}
 use Rattle.foyer_core.proofs.Clearing.{line, clears, cleared_kept, cleared_stored, cleared_weight, cleared_length}
-use Rattle.foyer_core.proofs.SoonSteps.{holds_cleared}
 use Rattle.foyer_core.proofs.store.Store.clear.Goals as goal
 
 pub invariant_of-self : goal.invariant_of-self
@@ -29,8 +28,6 @@ invariant_of-self g c =
       counted = cleared_length m g.met.K.Eq.laws g.met.E.Eviction.lawful (holding s) c.args.items.now all keys t view
           c.clear.ensures.view;
       numbered = omega arith;
-      soon = holds_cleared m g.met.K.Eq.laws g.met.E.Eviction.lawful (holding s) s.soonest s.soon view
-          c.clear.ensures.view;
     }
 
 pub returns-clause-told : goal.returns-clause-told

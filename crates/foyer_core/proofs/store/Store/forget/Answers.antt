@@ -21,7 +21,6 @@ invariant_of-self g c =
       weighed = s.weighed;
       counted = s.counted;
       numbered = s.numbered;
-      soon = s.soon;
     }
 
 pub returns-then-unwrap_or : goal.returns-then-unwrap_or

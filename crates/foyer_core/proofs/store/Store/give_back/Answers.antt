@@ -15,7 +15,6 @@ use Rattle.foyer_core.proofs.GivingBack.{
   released_weight,
   released_entries,
 }
-use Rattle.foyer_core.proofs.SoonSteps.{holds_released}
 use Rattle.foyer_core.proofs.store.Store.give_back.Goals as goal
 
 pub unreachable-requires : goal.unreachable-requires
@@ -43,7 +42,6 @@ invariant_of-self g c =
       weighed = s.weighed;
       counted = s.counted;
       numbered = s.numbered;
-      soon = s.soon;
     }
 
 pub returns-then-handles-gt1-clause-taken : goal.returns-then-handles-gt1-clause-taken
@@ -110,8 +108,6 @@ invariant_of-self-2 g c =
       counted = released_entries m laws lawful (holding s) c.in-Some.slot x there t write c.take_handle-2.ensures.ids
           one res view viewed s.entries s.counted;
       numbered = s.numbered;
-      soon = rw (c.sooner-self.ensures, c.expiry-expires.ensures, c.properties.ensures)
-          (holds_released m laws lawful (holding s) s.soonest s.soon c.in-Some.slot x there res view viewed);
     }
 
 pub returns-clause-taken : goal.returns-clause-taken

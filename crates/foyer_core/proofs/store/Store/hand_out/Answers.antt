@@ -29,7 +29,6 @@ invariant_of-self g c =
       weighed = s.weighed;
       counted = s.counted;
       numbered = s.numbered;
-      soon = s.soon;
     }
 
 pub returns-then-passes_limit-clause-handed : goal.returns-then-passes_limit-clause-handed

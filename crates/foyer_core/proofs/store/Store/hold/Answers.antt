@@ -30,7 +30,6 @@ invariant_of-self g c =
       weighed = s.weighed;
       counted = s.counted;
       numbered = rw next (omega (arith, s.numbered));
-      soon = s.soon;
     }
 
 pub returns : goal.returns

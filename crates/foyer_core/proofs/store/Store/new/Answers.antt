@@ -1,7 +1,6 @@
-use Rattle.std.proofs.Common.{◌-◌, ◌^◌, arith}
+use Rattle.std.proofs.Common.{arith}
 use Rattle.foyer_core.specs.Stored.{meaning}
 use Rattle.foyer_core.proofs.Opening.{opened_kept, opened_stored, opened_weight, opened_entries}
-use Rattle.foyer_core.proofs.SoonSteps.{opened_soon}
 use Rattle.foyer_core.proofs.store.Store.new.Goals as goal
 
 pub invariant_of-result : goal.invariant_of-result
@@ -24,6 +23,4 @@ invariant_of-result g c =
           g.met.E.Eviction.lawful c.args.capacity c.args.config.now (g.E.Eviction.view s) sound
           c.in_ok-eviction.ensures.view;
       numbered = omega arith;
-      soon = opened_soon m g.met.E.Eviction.lawful c.args.capacity c.args.config.now (g.E.Eviction.view s) sound
-          c.in_ok-eviction.ensures.view (2 ^ 64 - 1);
     }

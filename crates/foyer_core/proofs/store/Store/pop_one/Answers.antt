@@ -25,7 +25,6 @@ use Rattle.foyer_core.proofs.LeftLemmas.{
   still_weighed,
   still_counted,
 }
-use Rattle.foyer_core.proofs.SoonSteps.{holds_popped, holds_same}
 use Rattle.foyer_core.proofs.store.Store.pop_one.Goals as goal
 
 pub invariant_of-self : goal.invariant_of-self
@@ -43,8 +42,6 @@ invariant_of-self g c =
       counted = still_counted (meaning_of s) laws lawful (holding s) (g.E.Eviction.view c.pop_at.new.self)
           c.in_err-victim.ensures.err_view s.entries s.counted;
       numbered = s.numbered;
-      soon = holds_same (meaning_of s) laws lawful (holding s) s.soonest s.soon (g.E.Eviction.view c.pop_at.new.self)
-          c.in_err-victim.ensures.err_view;
     }
 
 pub invariant_of-self-in_default : goal.invariant_of-self-in_default
@@ -64,7 +61,6 @@ invariant_of-self-in_default g c =
       counted = still_counted (meaning_of s) laws lawful (holding s) (g.E.Eviction.view c.pop_at.new.self) p.1 s.entries
           s.counted;
       numbered = s.numbered;
-      soon = holds_same (meaning_of s) laws lawful (holding s) s.soonest s.soon (g.E.Eviction.view c.pop_at.new.self) p.1;
     }
 
 pub unreachable-requires : goal.unreachable-requires
@@ -155,7 +151,6 @@ invariant_of-self-2 g c =
       weighed = victim_weight (meaning_of s) laws lawful (holding s) c.in-Some.victim.1 v p s.usage s.weighed;
       counted = fewer.1;
       numbered = omega (arith, s.numbered, fewer.0);
-      soon = holds_popped (meaning_of s) laws lawful (holding s) s.soonest s.soon v c.in-Some.victim.1 p;
     }
 
 pub returns-clause-some : goal.returns-clause-some

@@ -16,7 +16,6 @@ invariant_of-self g c =
       weighed = s.weighed;
       counted = s.counted;
       numbered = s.numbered;
-      soon = s.soon;
     }
 
 pub invariant_of-self-in_default : goal.invariant_of-self-in_default
@@ -31,7 +30,6 @@ invariant_of-self-in_default g c =
       weighed = s.weighed;
       counted = s.counted;
       numbered = s.numbered;
-      soon = s.soon;
     }
 
 pub invariant_of-self-2 : goal.invariant_of-self-2
@@ -47,7 +45,6 @@ invariant_of-self-2 g c =
       weighed = rw c.reserve_to.ensures.view s.weighed;
       counted = rw c.reserve_to.ensures.view s.counted;
       numbered = s.numbered;
-      soon = rw c.reserve_to.ensures.view s.soon;
     }
 
 pub returns-in_err-come_in-clause-same : goal.returns-in_err-come_in-clause-same

@@ -16,7 +16,6 @@ invariant_of-self g c =
       weighed = s.weighed;
       counted = s.counted;
       numbered = s.numbered;
-      soon = s.soon;
     }
 
 pub returns-clause-same : goal.returns-clause-same

@@ -11,7 +11,6 @@ use Rattle.foyer_core.proofs.StoredLemmas.{none_not, err_is}
 use Rattle.foyer_core.proofs.Holdings.{holding}
 use Rattle.foyer_core.proofs.ShardLemmas.{hits, found, resident, placed}
 use Rattle.foyer_core.proofs.Removed.{some_item, more_there, removed_lighter, removed_usage, removed_entries, removed_kept, removed_stored, removes}
-use Rattle.foyer_core.proofs.SoonSteps.{holds_removed}
 use Rattle.foyer_core.proofs.store.Store.remove.Goals as goal
 
 pub unreachable-requires : goal.unreachable-requires
@@ -139,7 +138,6 @@ invariant_of-self g c =
           (removed_usage m laws lawful (holding s) k c.in-Some.slot led x there s.usage s.weighed);
       counted = rw viewed (removed_entries m laws lawful (holding s) k c.in-Some.slot led x there s.entries s.counted);
       numbered = omega (arith, s.numbered);
-      soon = holds_removed m laws lawful (holding s) s.soonest s.soon view x.id viewed;
     }
 
 pub returns : goal.returns

@@ -1,7 +1,6 @@
 use Rattle.foyer_core.specs.Stores.{meaning_of}
 use Rattle.foyer_core.proofs.Holdings.{holding}
 use Rattle.foyer_core.proofs.LeftLemmas.{still_kept, still_stored, still_weighed, still_counted}
-use Rattle.foyer_core.proofs.SoonSteps.{holds_same}
 use Rattle.foyer_core.proofs.store.Store.reserve_clear.Goals as goal
 
 pub invariant_of-self : goal.invariant_of-self
@@ -17,5 +16,4 @@ invariant_of-self g c =
       weighed = still_weighed m g.met.K.Eq.laws g.met.E.Eviction.lawful (holding s) view same s.usage s.weighed;
       counted = still_counted m g.met.K.Eq.laws g.met.E.Eviction.lawful (holding s) view same s.entries s.counted;
       numbered = s.numbered;
-      soon = holds_same m g.met.K.Eq.laws g.met.E.Eviction.lawful (holding s) s.soonest s.soon view same;
     }

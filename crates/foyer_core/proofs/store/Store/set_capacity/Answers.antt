@@ -3,7 +3,6 @@ use Rattle.foyer_core.specs.Stores.{meaning_of}
 use Rattle.foyer_core.proofs.Holdings.{holding}
 use Rattle.foyer_core.proofs.LeftLemmas.{still_stored}
 use Rattle.foyer_core.proofs.Views.{update_kept, update_weighed, update_counted}
-use Rattle.foyer_core.proofs.SoonSteps.{holds_updated}
 use Rattle.foyer_core.proofs.store.Store.set_capacity.Goals as goal
 
 pub invariant_of-self : goal.invariant_of-self
@@ -21,6 +20,4 @@ invariant_of-self g c =
       counted = update_counted m g.met.K.Eq.laws g.met.E.Eviction.lawful (holding s) c.args.capacity None v same
           s.entries s.counted;
       numbered = s.numbered;
-      soon = holds_updated m g.met.K.Eq.laws g.met.E.Eviction.lawful (holding s) s.soonest s.soon v c.args.capacity None
-          same;
     }

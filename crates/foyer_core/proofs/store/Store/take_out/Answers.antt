@@ -12,7 +12,6 @@ use Rattle.foyer_core.proofs.Holdings.{holding}
 use Rattle.foyer_core.proofs.ShardLemmas.{resident, placed}
 use Rattle.foyer_core.proofs.Removed.{some_item, removed_lighter, removed_usage, removed_entries}
 use Rattle.foyer_core.proofs.Outgoing.{out_known, out_there, out_id, out_led, out_record, out_after, out_kept, out_stored}
-use Rattle.foyer_core.proofs.SoonSteps.{holds_removed}
 use Rattle.foyer_core.proofs.store.Store.take_out.Goals as goal
 
 pub unreachable-requires : goal.unreachable-requires
@@ -109,7 +108,6 @@ invariant_of-self g c =
       counted = rw viewed
           (removed_entries m laws lawful (holding s) (key_of x.kept) c.in-Some.slot led x there s.entries s.counted);
       numbered = omega (arith, s.numbered);
-      soon = holds_removed m laws lawful (holding s) s.soonest s.soon view x.id viewed;
     }
 
 pub returns-clause-taken : goal.returns-clause-taken

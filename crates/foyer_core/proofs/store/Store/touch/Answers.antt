@@ -1,28 +1,19 @@
-use Rattle.std.proofs.Common.{◌≡◌, ◌<◌, ℕ, Some, None, refl, sym, ◌∙◌, ap, arith, rules}
+use Rattle.std.proofs.Common.{◌≡◌, ◌<◌, ℕ, Some, refl, ◌∙◌, ap, arith, rules}
 use Rattle.foyer_core.specs.Stores.{meaning_of}
 use Rattle.foyer_core.specs.Table.{rec_of}
 use Rattle.foyer_core.specs.Records.{slot_in}
-use Rattle.foyer_core.proofs.StoredLemmas.{none_not}
 use Rattle.foyer_core.proofs.Holdings.{holding}
-use Rattle.foyer_core.proofs.ShardLemmas.{slot_id, found, resident, placed}
+use Rattle.foyer_core.proofs.ShardLemmas.{found, placed}
 use Rattle.foyer_core.proofs.Touched.{used, used_held, used_last, touched, touched_kept, touched_stored, touched_weight, touched_entries}
-use Rattle.foyer_core.proofs.SoonSteps.{holds_acquired, holds_used}
 use Rattle.foyer_core.proofs.store.Store.touch.Goals as goal
-
-pub unreachable-requires : goal.unreachable-requires
-unreachable-requires g c =
-    let s = c.args.self.now in
-    let none : slot_in s.records c.in-Some.slot ≡ None = sym (rw c.in_default-get.is at c.get.ensures) in
-    none_not (slot_in s.records c.in-Some.slot)
-    (s.stored.led (c.args.hash, c.args.key.now) c.in-Some.slot c.in-Some.ensures.led) none
 
 pub returns-then-handles-self : goal.returns-then-handles-self
 returns-then-handles-self g c =
     let s = c.args.self.now in
-    let x = c.in-Some-get.found.now in
-    let there : slot_in s.records c.in-Some.slot ≡ Some x = sym (rw c.in-Some-get.is at c.get.ensures) in
+    let x = c.in-Some.found.now in
+    let there : slot_in s.records c.in-Some.slot ≡ Some x = c.in-Some.ensures.there in
     let led = c.in-Some.ensures.led in
-    let live = c.in-Some.ensures.hits ∙ slot_id s.records c.in-Some.slot x there in
+    let live = c.in-Some.ensures.hits in
     rw c.new.ensures record {
       touches = (
         x.id,
@@ -38,8 +29,8 @@ returns-then-handles-self g c =
 pub acquire-requires : goal.acquire-requires
 acquire-requires g c =
     let s = c.args.self.now in
-    let x = c.in-Some-get.found.now in
-    let there : slot_in s.records c.in-Some.slot ≡ Some x = sym (rw c.in-Some-get.is at c.get.ensures) in
+    let x = c.in-Some.found.now in
+    let there : slot_in s.records c.in-Some.slot ≡ Some x = c.in-Some.ensures.there in
     let at = ap (g.E.Eviction.at s.eviction) c.at-place.ensures
     ∙ placed (meaning_of s) g.met.K.Eq.laws g.met.E.Eviction.lawful (holding s) (c.args.hash, c.args.key.now)
     c.in-Some.slot c.in-Some.ensures.led x there in
@@ -52,10 +43,10 @@ invariant_of-self g c =
     let laws = g.met.K.Eq.laws in
     let m = meaning_of s in
     let k : ℕ × g.row.K.Denot = (c.args.hash, c.args.key.now) in
-    let x = c.in-Some-get.found.now in
-    let there : slot_in s.records c.in-Some.slot ≡ Some x = sym (rw c.in-Some-get.is at c.get.ensures) in
+    let x = c.in-Some.found.now in
+    let there : slot_in s.records c.in-Some.slot ≡ Some x = c.in-Some.ensures.there in
     let led = c.in-Some.ensures.led in
-    let live = c.in-Some.ensures.hits ∙ slot_id s.records c.in-Some.slot x there in
+    let live = c.in-Some.ensures.hits in
     let at = ap (g.E.Eviction.at s.eviction) c.at-place.ensures
     ∙ placed m laws lawful (holding s) k c.in-Some.slot led x there in
     let view = g.E.Eviction.view c.acquire.new.self in
@@ -70,7 +61,6 @@ invariant_of-self g c =
       weighed = touched_weight m laws lawful (holding s) k c.in-Some.slot led x there c.args.now live room view is s.usage s.weighed;
       counted = touched_entries m laws lawful (holding s) k c.in-Some.slot led x there c.args.now live room view is s.entries s.counted;
       numbered = s.numbered;
-      soon = holds_acquired m laws lawful (holding s) s.soonest s.soon view x.id viewed;
     }
 
 pub returns-then-handles-gt0 : goal.returns-then-handles-gt0
@@ -80,10 +70,10 @@ returns-then-handles-gt0 g c =
     let laws = g.met.K.Eq.laws in
     let m = meaning_of s in
     let k : ℕ × g.row.K.Denot = (c.args.hash, c.args.key.now) in
-    let x = c.in-Some-get.found.now in
-    let there : slot_in s.records c.in-Some.slot ≡ Some x = sym (rw c.in-Some-get.is at c.get.ensures) in
+    let x = c.in-Some.found.now in
+    let there : slot_in s.records c.in-Some.slot ≡ Some x = c.in-Some.ensures.there in
     let led = c.in-Some.ensures.led in
-    let live = c.in-Some.ensures.hits ∙ slot_id s.records c.in-Some.slot x there in
+    let live = c.in-Some.ensures.hits in
     let at = ap (g.E.Eviction.at s.eviction) c.at-place.ensures
     ∙ placed m laws lawful (holding s) k c.in-Some.slot led x there in
     let view = g.E.Eviction.view c.acquire.new.self in
@@ -96,8 +86,8 @@ returns-then-handles-gt0 g c =
 pub release-requires : goal.release-requires
 release-requires g c =
     let s = c.args.self.now in
-    let x = c.in-Some-get.found.now in
-    let there : slot_in s.records c.in-Some.slot ≡ Some x = sym (rw c.in-Some-get.is at c.get.ensures) in
+    let x = c.in-Some.found.now in
+    let there : slot_in s.records c.in-Some.slot ≡ Some x = c.in-Some.ensures.there in
     let at = ap (g.E.Eviction.at s.eviction) c.at-place.ensures
     ∙ placed (meaning_of s) g.met.K.Eq.laws g.met.E.Eviction.lawful (holding s) (c.args.hash, c.args.key.now)
     c.in-Some.slot c.in-Some.ensures.led x there in
@@ -110,10 +100,10 @@ invariant_of-self-2 g c =
     let laws = g.met.K.Eq.laws in
     let m = meaning_of s in
     let k : ℕ × g.row.K.Denot = (c.args.hash, c.args.key.now) in
-    let x = c.in-Some-get.found.now in
-    let there : slot_in s.records c.in-Some.slot ≡ Some x = sym (rw c.in-Some-get.is at c.get.ensures) in
+    let x = c.in-Some.found.now in
+    let there : slot_in s.records c.in-Some.slot ≡ Some x = c.in-Some.ensures.there in
     let led = c.in-Some.ensures.led in
-    let live = c.in-Some.ensures.hits ∙ slot_id s.records c.in-Some.slot x there in
+    let live = c.in-Some.ensures.hits in
     let at = ap (g.E.Eviction.at s.eviction) c.at-place.ensures
     ∙ placed m laws lawful (holding s) k c.in-Some.slot led x there in
     let at2 = c.acquire.ensures.places c.at-place.result ∙ at in
@@ -133,10 +123,6 @@ invariant_of-self-2 g c =
       weighed = touched_weight m laws lawful (holding s) k c.in-Some.slot led x there c.args.now live room view is s.usage s.weighed;
       counted = touched_entries m laws lawful (holding s) k c.in-Some.slot led x there c.args.now live room view is s.entries s.counted;
       numbered = s.numbered;
-      soon = rw (c.sooner-self.ensures, c.expiry-expires.ensures, c.properties.ensures)
-          (holds_used m laws lawful (holding s) s.soonest s.soon c.in-Some.slot x there
-          (resident m laws lawful (holding s) k c.in-Some.slot led x there) (g.E.Eviction.view c.acquire.new.self) view
-          viewed released);
     }
 
 pub returns : goal.returns
@@ -146,10 +132,10 @@ returns g c =
     let laws = g.met.K.Eq.laws in
     let m = meaning_of s in
     let k : ℕ × g.row.K.Denot = (c.args.hash, c.args.key.now) in
-    let x = c.in-Some-get.found.now in
-    let there : slot_in s.records c.in-Some.slot ≡ Some x = sym (rw c.in-Some-get.is at c.get.ensures) in
+    let x = c.in-Some.found.now in
+    let there : slot_in s.records c.in-Some.slot ≡ Some x = c.in-Some.ensures.there in
     let led = c.in-Some.ensures.led in
-    let live = c.in-Some.ensures.hits ∙ slot_id s.records c.in-Some.slot x there in
+    let live = c.in-Some.ensures.hits in
     let at = ap (g.E.Eviction.at s.eviction) c.at-place.ensures
     ∙ placed m laws lawful (holding s) k c.in-Some.slot led x there in
     let at2 = c.acquire.ensures.places c.at-place.result ∙ at in
