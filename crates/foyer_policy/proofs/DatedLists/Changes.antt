@@ -52,7 +52,7 @@ CanPush-free n s are list p (Tracked d) h lt within free = record {
   within = omega (arith, h.within);
   free =
       λ k less. let lk : k < n = omega (arith, h.lists) in
-        rw (h.same k lk) (find_in-free p (are k) (free k lk));
+      rw (h.same k lk) (find_in-free p (are k) (free k lk));
 }
 
 module _ {T : Type 0} (item : T → Item) where

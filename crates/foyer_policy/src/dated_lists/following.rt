@@ -38,11 +38,7 @@ pub(super) fn follow_push<T: HasItem, const N: usize>(
 // Takes the date of the item at a place away, where it has one.
 #[cold]
 #[inline(never)]
-fn remove_date<T: HasItem, const N: usize>(
-    dates: &mut Tracking,
-    lists: &Lists<T, N>,
-    place: Place,
-)
+fn remove_date<T: HasItem, const N: usize>(dates: &mut Tracking, lists: &Lists<T, N>, place: Place)
     requires known { Knows N lists.now.span (dates_at T.item_of lists.now.lists) dates.old }
     requires there { IsSome (find place lists.now.lists) }
     ensures { Knows N lists.now.span (dates_at T.item_of (map (drop_place place) lists.now.lists)) dates.new }

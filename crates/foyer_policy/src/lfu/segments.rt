@@ -53,7 +53,12 @@ fn demote(lists: &mut DatedLists<Kept, 3>, from: usize) -> usize
 
 /// Moves the first items of a list, which weighs `weight`, to the end of probation until the rest is
 /// within a limit, and answers the weight of the rest. The list is not probation.
-pub(super) fn settle(lists: &mut DatedLists<Kept, 3>, from: usize, weight: usize, limit: usize) -> usize
+pub(super) fn settle(
+    lists: &mut DatedLists<Kept, 3>,
+    from: usize,
+    weight: usize,
+    limit: usize,
+) -> usize
     requires list { from < 3 }
     requires other { from ≢ 1 }
     requires weight { weight ≡ weight_of (items_in lists.old.lists from) }
