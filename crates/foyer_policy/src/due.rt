@@ -13,7 +13,7 @@ use crate::types::Item;
 
 /// Whether an item is due at a moment.
 #[inline(always)]
-fn due_at(item: Item, now: u64) -> bool
+pub(crate) fn due_at(item: Item, now: u64) -> bool
     ensures { result ≡ is_due now item }
 {
     match item.expires {

@@ -251,7 +251,8 @@ pub trait Eviction: Drop {
     }
 
     /// The place of the item that is to leave first at a moment: the first of the policy's order that is expired then
-    /// and not pinned, or none where none is. It takes no memory, and in this form it reads items up to that one.
+    /// and not pinned, or none where none is. It takes no memory. The policies of this crate find it in steps that grow
+    /// with the logarithm of how many items expire, and at once where none does.
     fn expired(&self, now: u64) -> Option<Place>
         ensures there { IfSome result (λ p. IsSome (at self.now p)) }
         ensures first { option_and_then (λ p. at self.now p) result ≡ first_due (is_due now) model (view self.now) };

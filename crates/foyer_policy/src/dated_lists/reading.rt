@@ -9,7 +9,7 @@ ghost use Rattle.foyer_policy.specs.Moments.{is_due};
 
 use super::DatedLists;
 use super::tracking::Tracking;
-use crate::due::first_of_list;
+use crate::due::{due_at, first_of_list};
 use crate::lists::Place;
 use crate::queued::HasItem;
 
@@ -111,7 +111,11 @@ impl<T: HasItem, const N: usize> DatedLists<T, N> {
             Tracking::Plain => None,
             Tracking::Untracked => first_of_list(&self.lists, list, now),
             Tracking::Tracked(dates) => {
-                self.lists.front(list)?;
+                let front = self.lists.front(list)?;
+                // Where all live equally long, the front is often the first that is due.
+                if due_at(self.lists.get(front).item(), now) {
+                    return Some(front);
+                }
                 dates.first(list, now)
             }
         }
