@@ -21,13 +21,19 @@ pub enum Life {
 #[derive(Clone, Copy, Debug, PartialEq, Eq)]
 pub struct Moment {
     now: u64,
+    // By how much the moments of two operations differ: 1, or 0 where records live for ever.
+    step: u64,
     life: Life,
 }
 
 impl Moment {
     /// That of the first operation of a run in which records live so long.
     pub fn first(life: Life) -> Self {
-        Moment { now: 0, life }
+        Moment {
+            now: 0,
+            step: u64::from(life != Life::Ever),
+            life,
+        }
     }
 
     /// The moment as a cache takes it: the operation's number, from 0, or always 0 where records live for ever.
@@ -41,14 +47,13 @@ impl Moment {
     pub fn expiry(self) -> Option<u64> {
         match self.life {
             Life::Ever => None,
-            Life::For(life) => Some(self.now.saturating_add(life)),
-            _ => self.rare_expiry(),
+            _ => self.some_expiry(),
         }
     }
 
-    // The same where not all live equally long.
+    // The same where some expire.
     #[inline(never)]
-    fn rare_expiry(self) -> Option<u64> {
+    fn some_expiry(self) -> Option<u64> {
         match self.life {
             Life::Ever => None,
             Life::For(life) => Some(self.now.saturating_add(life)),
@@ -63,8 +68,8 @@ impl Moment {
     #[inline(always)]
     pub fn next(self) -> Self {
         Moment {
-            now: self.now.wrapping_add(u64::from(self.life != Life::Ever)),
-            life: self.life,
+            now: self.now.wrapping_add(self.step),
+            ..self
         }
     }
 }

@@ -2,7 +2,6 @@
 use Rattle.std.proofs.Common.{◌≡◌, ℕ, ◌+◌, ◌<◌, Option, Some, true, length, nat_eq, refl, sym, ◌∙◌, ap, subst}
 use Rattle.std.proofs.Math.Logic.{∥∥₁_elim, ∥∥₁_map}
 use Rattle.std.proofs.Props.{props}
-use Rattle.std.specs.Prelude.{option_and_then, option_map}
 use Rattle.std.specs.Cmp.{IsEquivalence}
 use Rattle.std.specs.Map.{update}
 use Rattle.std.proofs.lemmas.List.Sorted.{sum_by-IsPermutation, length_permutation}
@@ -13,7 +12,7 @@ use Rattle.foyer_core.specs.declared.record.Limits.{Limits}
 use Rattle.foyer_core.specs.declared.records.Records.{Records}
 use Rattle.foyer_core.specs.Values.{Kept, Rec}
 use Rattle.foyer_core.specs.Table.{rec_of}
-use Rattle.foyer_core.specs.Records.{slot_in, number_of, id_in}
+use Rattle.foyer_core.specs.Records.{slot_in, number_of}
 use Rattle.foyer_core.specs.State.{Meaning, State, IsKept, item_of}
 use Rattle.foyer_core.specs.Stored.{IsStored, state}
 use Rattle.foyer_core.specs.Steps.{after_get}
@@ -38,11 +37,6 @@ pub record Holding {K P View C : Type 0} (V : Type 0) (m : Meaning K P View C) :
 -- the state that they stand for
 abbrev pub now_of : {K V P View C : Type 0} {m : Meaning K P View C} → Holding V m → State K V P View
 now_of o = state o.number o.capacity o.limits o.view o.keys o.t o.next
-
--- a slot has the id of its record
-pub slot_id : {K V P : Type 0} (t : Records K V P) (n : ℕ) (x : Kept K V P) → slot_in t n ≡ Some x →
-    option_and_then (id_in t) (Some n) ≡ Some x.id
-slot_id {K} {V} {P} t n x there = ap (option_map (λ (y : Kept K V P). y.id)) there
 
 module _ {K V P View C : Type 0} (m : Meaning K P View C) (laws : IsEquivalence m.same) (good : IsPolicy m.policy)
     (o : Holding V m) where

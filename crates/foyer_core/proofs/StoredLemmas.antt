@@ -1,6 +1,6 @@
 -- How a shard's fields go on standing for its state.
 use Rattle.std.proofs.Common.{◌≡◌, ◌≢◌, ℕ, Option, Some, None, Bool, true, false, cond, nat_eq, refl, sym, ◌∙◌, ap, subst, inl, inr}
-use Rattle.std.specs.Prelude.{option_and_then, is_some, IfSome, Result, Ok, Err, IsErrAnd}
+use Rattle.std.specs.Prelude.{option_and_then, is_some, Result, Ok, Err, IsErrAnd}
 use Rattle.std.specs.Map.{update}
 use Rattle.std.proofs.lemmas.Map.{update_here, update_apart}
 use Rattle.std.proofs.lemmas.Bool.Decides.{eqb_tells}
@@ -78,11 +78,3 @@ module _ {K V P View C : Type 0} (m : Meaning K P View C) (at : ℕ → Option I
       placed = items_write m (slot_in t) (slot_in t') n (Some (with_handles s h)) write at at' stored.placed
           (same n ∙ stored.placed n ∙ ap (item_in m) there) (λ p apart. same p);
     }
-
-  -- what a key leads to holds a record
-  pub led_some : IsStored m at keys t → (q : ℕ × K) (o : Option ℕ) → IfSome o (λ n. keys q ≡ Some n) →
-      is_some (option_and_then (id_in t) o) ≡ is_some o
-  led_some stored q None led = refl
-  led_some stored q (Some n) led =
-      let s = some_of (slot_in t n) (stored.led q n led) in
-      ap is_some (id_by-some (slot_in t) n s.0 s.1)
