@@ -257,6 +257,7 @@ impl Eviction for AnyEviction {
         }
     }
 
+    #[inline(always)]
     fn expired(&self, now: u64) -> Option<Place> {
         match self {
             AnyEviction::Fifo(policy) => policy.expired(now),

@@ -152,6 +152,7 @@ impl Eviction for Fifo {
         self.queue.first_two(0)
     }
 
+    #[inline(always)]
     fn expired(&self, now: u64) -> Option<Place> {
         first_of_lists(&self.queue, 1, now)
     }

@@ -287,6 +287,7 @@ impl Eviction for Lfu {
         self.lists.first_two(PROBATION)
     }
 
+    #[inline(always)]
     fn expired(&self, now: u64) -> Option<Place> {
         first_of_lists(&self.lists, 3, now)
     }

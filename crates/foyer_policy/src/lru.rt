@@ -309,6 +309,7 @@ impl Eviction for Lru {
     }
 
     // The lists in front of the pinned one: what is pinned is not looked through.
+    #[inline(always)]
     fn expired(&self, now: u64) -> Option<Place> {
         first_of_lists(&self.lists, PIN, now)
     }

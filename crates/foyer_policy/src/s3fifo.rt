@@ -307,6 +307,7 @@ impl Eviction for S3Fifo {
         self.queues.first_two(queue)
     }
 
+    #[inline(always)]
     fn expired(&self, now: u64) -> Option<Place> {
         first_of_lists(&self.queues, 2, now)
     }

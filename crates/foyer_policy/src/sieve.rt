@@ -299,6 +299,7 @@ impl Eviction for Sieve {
         }
     }
 
+    #[inline(always)]
     fn expired(&self, now: u64) -> Option<Place> {
         first_of_lists(&self.queue, 1, now)
     }
