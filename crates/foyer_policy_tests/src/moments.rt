@@ -83,3 +83,22 @@ fn the_first_and_the_last_moment_are_moments(rt: HostRuntime) -> Result<(), Fail
     }
     Ok(())
 }
+
+// A walk to the last item, as often as here, would take more steps than a test may.
+#[test]
+fn what_is_expired_is_found_without_a_walk(rt: HostRuntime) -> Result<(), Fail> {
+    for config in &defaults() {
+        let mut policy = AnyEviction::new(rt.alloc(), 4_000, config)?;
+        for id in 0..2_000u64 {
+            push(&mut policy, expiring(id, None))?;
+        }
+        let last = push(&mut policy, expiring(2_000, Some(5)))?;
+        // What expires is looked up once more room is made.
+        policy.reserve()?;
+        for _look in 0..2_000 {
+            assert_eq!(rt; policy.expired(5), Some(last));
+            assert_eq!(rt; policy.expired(4), None);
+        }
+    }
+    Ok(())
+}
