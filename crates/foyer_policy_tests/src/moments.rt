@@ -84,21 +84,31 @@ fn the_first_and_the_last_moment_are_moments(rt: HostRuntime) -> Result<(), Fail
     Ok(())
 }
 
-// A walk to the last item, as often as here, would take more steps than a test may.
-#[test]
-fn what_is_expired_is_found_without_a_walk(rt: HostRuntime) -> Result<(), Fail> {
+// Looks often for the last of many items, of which the others expire later, or never. A walk to it would take more steps
+// than a test may.
+fn look_at_the_far_end(rt: &(impl Abort + AllocGlobal), others: Option<u64>) -> Result<(), Fail> {
     for config in &defaults() {
-        let mut policy = AnyEviction::new(rt.alloc(), 4_000, config)?;
-        for id in 0..2_000u64 {
-            push(&mut policy, expiring(id, None))?;
+        let mut policy = AnyEviction::new(rt.alloc(), 16_000, config)?;
+        for id in 0..8_000u64 {
+            push(&mut policy, expiring(id, others))?;
         }
-        let last = push(&mut policy, expiring(2_000, Some(5)))?;
+        let last = push(&mut policy, expiring(8_000, Some(5)))?;
         // What expires is looked up once more room is made.
         policy.reserve()?;
-        for _look in 0..2_000 {
+        for _look in 0..8_000 {
             assert_eq!(rt; policy.expired(5), Some(last));
             assert_eq!(rt; policy.expired(4), None);
         }
     }
     Ok(())
+}
+
+#[test]
+fn what_is_expired_is_found_without_a_walk(rt: HostRuntime) -> Result<(), Fail> {
+    look_at_the_far_end(&rt, None)
+}
+
+#[test]
+fn what_is_expired_is_found_among_what_expires_later(rt: HostRuntime) -> Result<(), Fail> {
+    look_at_the_far_end(&rt, Some(100))
 }
