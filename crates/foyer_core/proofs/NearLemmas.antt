@@ -4,12 +4,14 @@ use Rattle.std.specs.Prelude.{◌==◌, if◌then◌else◌, IsSome, nat_eq, sli
 use Rattle.std.specs.Map.{update}
 use Rattle.std.proofs.lemmas.Bool.Decides.{eqb_tells, leb_tells}
 use Rattle.std.proofs.lemmas.Map.{update_here, update_apart}
+use Rattle.std.proofs.lemmas.Option.{none-some}
 use Rattle.std.proofs.lemmas.Nat.{pow_pos}
 use Rattle.std.proofs.Math.Nat.{mod-lt}
 use Rattle.std.proofs.Math.Pow.{mod-mod-pow}
 use Rattle.foyer_core.specs.Near.{slot_named, slot_near, or_slot, AreApart}
 use Rattle.foyer_core.specs.declared.records.ids.Named.{Named}
 use Rattle.foyer_core.proofs.CoreLemmas.{set_here, set_apart}
+use Rattle.foyer_core.proofs.StoredLemmas.{none_not}
 
 -- a place that names no slot
 pub named-free : (n : Named) (id : ℕ) → n.slot ≡ None → slot_named (Some n) id ≡ None
@@ -97,6 +99,15 @@ named-here n slot to = elim (eqb_tells n.id n.id) [
   | inr e ↦ absurd (e.1 refl)
 ]
 
+-- none of both is none of the second, and of the first
+not_far : (o other : Option ℕ) → or_slot o other ≡ None → other ≡ None
+not_far None other is = is
+not_far (Some n) other is = absurd (none-some n (sym is))
+
+not_some : (o other : Option ℕ) (n : ℕ) → o ≡ Some n → or_slot o other ≡ None → ⊥
+not_some None other n e is = none-some n e
+not_some (Some m) other n e is = none-some m (sym is)
+
 -- an id is named at its place, where another one stood
 module _ (near : List Named) (far : ℕ → Option ℕ) (bits place slot : ℕ) (n older : Named)
     (at : place ≡ n.id % 2 ^ bits) (stood : slice_get near place ≡ Some older) (to : n.slot ≡ Some slot) where
@@ -158,3 +169,33 @@ module _ (near : List Named) (far : ℕ → Option ℕ) (bits place slot : ℕ) 
             ∙ sym (ap (λ (o : Option ℕ). or_slot o (far q)) (named-apart older q (λ x. e.1 (sym x)))))
       ])
       (λ q p. goes q ∙ update_apart far older.id (Some stands) q (λ x. p (ap (λ (m : ℕ). m % 2 ^ bits) x ∙ here)))
+
+  -- no id has a slot by both, where the one that is named had none, and of those at its place none has one far by now
+  pub named-apart-far : (far' : ℕ → Option ℕ) → AreApart (slot_near bits near) far → had n.id ≡ None
+      → ((q : ℕ) → q % 2 ^ bits ≢ place → far' q ≡ far q) → far' n.id ≡ None
+      → AreApart (slot_near bits (slice_set near place n)) far'
+  named-apart-far far' apart new elsewhere none q is = elim (eqb_tells q n.id) [
+    | inl e ↦ (ap far' e.1 ∙ none)
+    | inr e ↦ elim (eqb_tells (q % 2 ^ bits) place) [
+      | inl p ↦ absurd (none_not (slot_near bits (slice_set near place n) q) is
+          (ap (λ (m : ℕ). slot_named (slice_get (slice_set near place n) m) q) p.1
+          ∙ ap (λ (o : Option Named). slot_named o q) (set_here near place older n stood)
+          ∙ named-apart n q (λ x. e.1 (sym x))))
+      | inr p ↦ (elsewhere q p.1 ∙ apart q (subst (λ (o : Option ℕ). IsSome o)
+          (ap (λ (o : Option Named). slot_named o q) (set_apart near place (q % 2 ^ bits) n p.1)) is))
+    ]
+  ]
+
+  -- an id that had no slot has none far
+  pub none-far : had n.id ≡ None → far n.id ≡ None
+  none-far new = not_far (slot_near bits near n.id) (far n.id) new
+
+  -- nor once another one went there
+  pub none-far-before : (far' : ℕ → Option ℕ) (stands : ℕ) → had n.id ≡ None → older.slot ≡ Some stands
+      → ((q : ℕ) → far' q ≡ update nat_eq far older.id (Some stands) q) → far' n.id ≡ None
+  none-far-before far' stands new is goes = elim (eqb_tells n.id older.id) [
+    | inl e ↦ absurd (not_some (slot_near bits near n.id) (far n.id) stands
+        (ap (λ (m : ℕ). slot_named (slice_get near m) n.id) (sym at) ∙ ap (λ (o : Option Named). slot_named o n.id) stood
+        ∙ ap (slot_named (Some older)) e.1 ∙ named-here older stands is) new)
+    | inr e ↦ (goes n.id ∙ update_apart far older.id (Some stands) n.id e.1 ∙ none-far new)
+  ]

@@ -19,7 +19,7 @@ HaveLeaves-set limit trees k tree within long h i less = go (same_or_not i k) wh
   below : i < length trees
   below = omega (arith, less, length-set trees k tree)
 
-  go : (i ≡ k) ⊎ (i ≢ k) → limit / 8 < length (get_or (set trees k tree) i [])
+  go : (i ≡ k) ⊎ (i ≢ k) → limit / 32 < length (get_or (set trees k tree) i [])
   go (inl e) = rw (e, get_or-set_same trees k tree [] within) (omega (arith, h k within))
   go (inr ne) = rw (get_or-set_other trees k i tree [] ne) (h i below)
 

@@ -93,7 +93,7 @@ module _ (s : Slots) (d : AreDates s) (t : Slot) (room : length s.slots.items < 
         rw (on_of-other k t [] (λ e. ne (sym e)), b) (append-nil (on_of k old))
 
   pub AreDates-taken : (v : Vec Slot Global) (tree : List ℕ) → v.items ≡ more → vec_capacity v ≡ vec_capacity s.slots →
-      length tree ≡ length (get_or s.trees.items t.list []) → slice_index tree (length old / 8) ≤ t.date →
+      length tree ≡ length (get_or s.trees.items t.list []) → slice_index tree (length old / 32) ≤ t.date →
       ((b : ℕ) → slice_index tree b ≤ slice_index (get_or s.trees.items t.list []) b) → AreDates (record {
         slots = v;
         limit = s.limit;
@@ -124,12 +124,12 @@ module _ (s : Slots) (d : AreDates s) (t : Slot) (room : length s.slots.items < 
             ∙ d.placed.indexed i u h lt
 
         above : (i : ℕ) (u : Slot) → u.list ≡ t.list → ((i ≡ length old) × (t ≡ u)) ⊎ (slice_get old i ≡ Some u) →
-            slice_index tree (i / 8) ≤ u.date
+            slice_index tree (i / 32) ≤ u.date
         above i u e (inl h) = rw (← h.1, h.0) here
-        above i u e (inr h) = omega (arith, less (i / 8), d.bounded t.list list i u h e)
+        above i u e (inr h) = omega (arith, less (i / 32), d.bounded t.list list i u h e)
 
         beside : (k : ℕ) → k < length s.trees.items → k ≢ t.list → (i : ℕ) (u : Slot) → u.list ≡ k →
             ((i ≡ length old) × (t ≡ u)) ⊎ (slice_get old i ≡ Some u) →
-            slice_index (get_or s.trees.items k []) (i / 8) ≤ u.date
+            slice_index (get_or s.trees.items k []) (i / 32) ≤ u.date
         beside k lt ne i u e (inl h) = absurd (ne (sym e ∙ ap (λ (v : Slot). v.list) (sym h.1)))
         beside k lt ne i u e (inr h) = d.bounded k lt i u h e

@@ -20,10 +20,10 @@ abbrev pub AreIndexed : ℕ → List Slot → List ℕ → Type 0
 AreIndexed lists slots slot_of =
     (j : ℕ) (s : Slot) → slice_get slots j ≡ Some s → s.list < lists → slice_get slot_of s.place ≡ Some j
 
--- the dates of list k are not below the leaves of their blocks, which have 8 slots each
+-- the dates of list k are not below the leaves of their blocks, which have 32 slots each
 abbrev pub AreAbove : ℕ → List Slot → List ℕ → Type 0
 AreAbove k slots tree =
-    (j : ℕ) (s : Slot) → slice_get slots j ≡ Some s → s.list ≡ k → slice_index tree (j / 8) ≤ s.date
+    (j : ℕ) (s : Slot) → slice_get slots j ≡ Some s → s.list ≡ k → slice_index tree (j / 32) ≤ s.date
 
 -- the dates of each list are not below the leaves of its tree
 abbrev pub AreBounded : List Slot → List (List ℕ) → Type 0
@@ -31,7 +31,7 @@ AreBounded slots trees = (k : ℕ) → k < length trees → AreAbove k slots (sl
 
 -- each tree has a leaf for every block, where there may be so many slots
 abbrev pub HaveLeaves : ℕ → List (List ℕ) → Type 0
-HaveLeaves limit trees = (k : ℕ) → k < length trees → limit / 8 < length (slice_index_or trees k [])
+HaveLeaves limit trees = (k : ℕ) → k < length trees → limit / 32 < length (slice_index_or trees k [])
 
 -- no slot from this one on is taken
 abbrev pub AreEmptyFrom : ℕ → ℕ → List Slot → Type 0

@@ -101,6 +101,7 @@ where
     I: Finder<K>,
 {
     // The place of the shard in which the keys of a hash live.
+    #[inline(always)]
     pub(crate) fn index_of(&self, hash: u64) -> usize
         ensures { result < vec_len self.now.all }
     {
@@ -108,6 +109,7 @@ where
     }
 
     // The shard of a hash, locked. A lock that is free is had without waiting, which is cheaper.
+    #[inline(always)]
     pub(crate) fn lock(&self, hash: u64) -> MutexGuard<'_, RawShard<E, K, V, P, R, I>> {
         let place = self.index_of(hash);
         match self.all[place].try_lock() {

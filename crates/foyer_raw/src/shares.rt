@@ -50,6 +50,7 @@ where
     R: Drop,
 {
     // The same shares again.
+    #[inline(always)]
     pub(crate) fn try_clone(&self) -> Result<Self> {
         let pipe = match &self.pipe {
             Some(pipe) => Some(Arc::try_clone(pipe)?),
@@ -76,6 +77,7 @@ where
     R: Drop,
 {
     // The entry of a handle.
+    #[inline(always)]
     pub(crate) fn entry(
         self,
         core: CoreEntry<K, V, P>,
@@ -99,6 +101,7 @@ where
     }
 
     // Takes a handle back under its shard's lock, and then tells what left with it.
+    #[inline(always)]
     pub(crate) fn give_back(&self, core: CoreEntry<K, V, P>) {
         if let Some(leave) = self.shared.shards.give_back(core) {
             self.tell(leave);

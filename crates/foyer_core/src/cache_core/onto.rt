@@ -36,6 +36,7 @@ impl<
 
     /// Puts a record in as `insert_with_properties` does, and appends what leaves, in order. Where it is refused, what
     /// had left by then stands in the list.
+    #[inline(always)]
     pub fn insert_with_properties_onto(
         &mut self,
         now: u64,

@@ -4,7 +4,7 @@
 //! close together, and each of them mostly has a place of its own by its low bits.
 
 ghost use Rattle.std.specs.Prelude.{◌≡◌, ℕ, ◌%◌, ◌^◌, ◌<◌, ◌≤◌, Some, None, IfOk, OnOk, slice_get, nat_eq};
-ghost use Rattle.std.specs.HashMap.{get as get_key};
+ghost use Rattle.std.specs.HashMap.{get as get_key, spare};
 ghost use Rattle.std.specs.Map.{update};
 ghost use Rattle.foyer_core.specs.Near.{AreApart, slot_named, slot_near};
 
@@ -99,7 +99,7 @@ impl Ids {
     {
         match find_near(&self.near, self.bits, id) {
             Some(slot) => Some(slot),
-            None => self.far.get(&id).copied(),
+            None => far_slot(&self.far, id),
         }
     }
 
@@ -112,12 +112,12 @@ impl Ids {
     {
         // The greatest number is no link, so a slot of that number goes into the map.
         if slot == usize::MAX {
-            let _ = self.far.insert(id, slot);
+            name_far(&mut self.far, id, slot);
             return;
         }
         let place = place_of(id, self.bits);
         let Some(named) = self.near.get_mut(place) else {
-            let _ = self.far.insert(id, slot);
+            name_far(&mut self.far, id, slot);
             return;
         };
         let older = *named;
@@ -128,7 +128,7 @@ impl Ids {
         // An id that was there has outstayed as many as there are places, which few do: it goes into the map.
         if let Some(stands) = older.slot.place() {
             if place_of(older.id, self.bits) == place {
-                let _ = self.far.insert(older.id, stands);
+                name_far(&mut self.far, older.id, stands);
             }
         }
     }
@@ -145,8 +145,37 @@ impl Ids {
                 return;
             }
         }
-        let _ = self.far.remove(&id);
+        forget_far(&mut self.far, id);
     }
+}
+
+// The slot of an id by the map.
+#[cold]
+#[inline(never)]
+fn far_slot(far: &HashMap<u64, usize>, id: u64) -> Option<usize>
+    ensures { result ≡ get_key nat_eq far.now id }
+{
+    far.get(&id).copied()
+}
+
+// Names an id's slot in the map, which has room for it.
+#[cold]
+#[inline(never)]
+fn name_far(far: &mut HashMap<u64, usize>, id: u64, slot: usize)
+    requires { 0 < spare far.old }
+    ensures { (q : ℕ) → get_key nat_eq far.new q ≡ update nat_eq (get_key nat_eq far.old) id (Some slot) q }
+{
+    let _ = far.insert(id, slot);
+}
+
+// Takes an id out of the map.
+#[cold]
+#[inline(never)]
+fn forget_far(far: &mut HashMap<u64, usize>, id: u64)
+    ensures ids { (q : ℕ) → get_key nat_eq far.new q ≡ update nat_eq (get_key nat_eq far.old) id None q }
+    ensures room { spare far.old ≤ spare far.new }
+{
+    let _ = far.remove(&id);
 }
 
 // How many places there are for numbers of so many bits.

@@ -40,6 +40,7 @@ impl<E: Eviction, K: Key, V: Value, P: Properties, N: Drop, R: Drop, I: Finder<K
     /// Refused, in this order, where no id is left (F10), the handles would pass the limit (F9), the weight of a
     /// plain record and the pinned weight of other keys pass a `usize` (F8), and then nothing has changed; or
     /// for want of memory (F7): then some beginning of the evictions has left. Who waits for the key still waits.
+    #[inline(always)]
     pub fn emplace(
         &mut self,
         alloc: Global,

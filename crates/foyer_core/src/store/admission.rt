@@ -126,6 +126,32 @@ fn give_way<E: Eviction, K: Drop, V: Drop, P: Drop>(
     let Some(slot) = was else {
         return (0, None);
     };
+    let (weight, left) = leave_way(eviction, records, number, slot);
+    (weight, Some(left))
+}
+
+// The record in a slot gives way: the weight that is gone, and what leaves, in the core of this number.
+#[cold]
+#[inline(never)]
+fn leave_way<E: Eviction, K: Drop, V: Drop, P: Drop>(
+    eviction: &mut E,
+    records: &mut Records<K, V, P>,
+    number: u64,
+    slot: usize,
+) -> (usize, Left<K, V, P>)
+    requires resident { IsSomeAnd (slot_in records.old slot) (λ s. s.resident ≡ true) }
+    requires there { IsSome (E.at eviction.old slot) }
+    ensures gone { (s : Kept K V P) (i : Item) → slot_in records.old slot ≡ Some s → E.at eviction.old slot ≡ Some i
+        → (result ≡ (i.weight, record { number = number; id = s.id; kept = s.kept }))
+        × (E.view eviction.new ≡ E.model.remove (E.view eviction.old) i.id) }
+    ensures slots { (s : Kept K V P) → slot_in records.old slot ≡ Some s → (q : ℕ)
+        → slot_in records.new q ≡ update nat_eq (slot_in records.old) slot (slot_outside s) q }
+    ensures records { (s : Kept K V P) → slot_in records.old slot ≡ Some s → (id : ℕ)
+        → record_in records.new id ≡ update nat_eq (record_in records.old) s.id (outside (rec_of s)) id }
+    ensures places { (i : Item) → E.at eviction.old slot ≡ Some i → (p : ℕ)
+        → E.at eviction.new p ≡ without i.id (E.at eviction.old p) }
+    ensures span { E.span eviction.new ≡ E.span eviction.old }
+{
     let item = eviction.remove(Place::at(slot));
-    (item.weight, Some(records.leave(slot, number)))
+    (item.weight, records.leave(slot, number))
 }

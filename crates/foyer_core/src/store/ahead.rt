@@ -42,7 +42,7 @@ impl<E: Eviction, K: Key, V: Value, P: Properties, I: Finder<K>> Store<E, K, V, 
 
     // Whether the data of the record at a place in the policy have the hint that the policy has.
     #[inline(always)]
-    fn agrees_at(&self, place: Place) -> bool
+    pub(super) fn agrees_at(&self, place: Place) -> bool
         requires { IsSome (E.at self.now.eviction place) }
         ensures { IsTrue result }
     {

@@ -83,6 +83,7 @@ impl<E: Eviction, K: Key, V: Value, P: Properties, I: Finder<K>> Store<E, K, V, 
 }
 
 // The record in a slot, to which its key leads, leaves the index and its slot, in the core of this number.
+#[inline(always)]
 pub(super) fn leave_slot<K: Key, V: Drop, P: Drop, I: Finder<K>>(
     index: &mut I,
     records: &mut Records<K, V, P>,

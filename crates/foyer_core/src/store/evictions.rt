@@ -28,6 +28,10 @@ impl<E: Eviction, K: Key, V: Value, P: Properties, I: Finder<K>> Store<E, K, V, 
         ensures places { HasPlaces self.old → HasPlaces self.new }
     {
         if let Some(place) = self.eviction.expired(now) {
+            // The answer is always yes, as below.
+            if !self.agrees_at(place) {
+                return Err(Error::new(Reason::NoMemory));
+            }
             return Ok(Some(self.leave_due(place)));
         }
         self.pop_one()
@@ -44,7 +48,7 @@ impl<E: Eviction, K: Key, V: Value, P: Properties, I: Finder<K>> Store<E, K, V, 
         ensures places { HasPlaces self.old → HasPlaces self.new }
     {
         let item = self.eviction.item(place);
-        self.take_out(item.id)
+        self.take_out(item.id, place.number())
     }
 
     // What the policy pops leaves.

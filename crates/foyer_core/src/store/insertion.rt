@@ -187,7 +187,7 @@ impl<E: Eviction, K: Key, V: Value, P: Properties, I: Finder<K>> Store<E, K, V, 
 
     // Brings a plain record in, which is not refused but for want of memory: one with a new id, or one that
     // comes back under its own.
-    #[inline(always)]
+    #[inline(never)]
     fn bring_in(
         &mut self,
         now: u64,

@@ -77,7 +77,7 @@ impl<E: Eviction, K: Key, V: Value, P: Properties, I: Finder<K>> Store<E, K, V, 
             unreachable!();
         };
         let id = found.id();
-        Some(self.take_out(id))
+        Some(self.take_out(id, slot))
     }
 
     // Holds a record that is not to be indexed, in place of what is held under its id, and answers its slot. It

@@ -64,19 +64,20 @@ impl<E: Eviction, K: Key, V: Value, P: Properties, I: Finder<K>> Store<E, K, V, 
         ensures capacity { vec_capacity leaves.new ≡ vec_capacity leaves.old }
     {
         for item in picked {
-            let left = self.take_out(item.id);
+            let left = self.take_out(item.id, 0);
             leaves.push_reserved((Event::Evict, left));
         }
     }
 
-    // The record of an id leaves.
-    pub(super) fn take_out(&mut self, id: u64) -> Left<K, V, P>
+    // The record of an id leaves, which may stand in the slot that is hinted.
+    #[inline(always)]
+    pub(super) fn take_out(&mut self, id: u64, hint: usize) -> Left<K, V, P>
         requires { 0 < count_of id (E.model.order (E.view self.old.eviction)) }
         ensures taken { TakesRecordOut (meaning_of self.old) (state_of self.old) id result (state_of self.new) }
         ensures room { HasRoom self.old.records → HasRoom self.new.records }
         ensures places { HasPlaces self.old → HasPlaces self.new }
     {
-        let Some(slot) = self.records.find(id, 0) else {
+        let Some(slot) = self.records.find(id, hint) else {
             unreachable!();
         };
         let item = self.eviction.remove(Place::at(slot));

@@ -12,7 +12,7 @@ use crate::min_tree::MinTree;
 use std::alloc::Global;
 
 // How many slots have one leaf of a tree.
-const BLOCK: usize = 8;
+const BLOCK: usize = 32;
 
 // What an empty slot has in place of the number of a list.
 const NO_LIST: usize = usize::MAX;
@@ -55,7 +55,7 @@ fn new_trees(alloc: Global, lists: usize, limit: usize) -> Result<Vec<MinTree>>
 
 // The least date of a list in a block, or the greatest number where it has none there.
 fn least_date(slots: &[Slot], block: usize, list: usize) -> u64
-    ensures { (j : ℕ) (s : Slot) → slice_get slots.now j ≡ Some s → s.list ≡ list → j / 8 ≡ block
+    ensures { (j : ℕ) (s : Slot) → slice_get slots.now j ≡ Some s → s.list ≡ list → j / 32 ≡ block
         → result ≤ s.date }
 {
     let start = block.saturating_mul(BLOCK);
@@ -74,7 +74,7 @@ fn least_date(slots: &[Slot], block: usize, list: usize) -> u64
 fn refresh(tree: &mut MinTree, slots: &[Slot], block: usize, list: usize)
     requires { block < length tree.old }
     ensures length { length tree.new ≡ length tree.old }
-    ensures here { (j : ℕ) (s : Slot) → slice_get slots.now j ≡ Some s → s.list ≡ list → j / 8 ≡ block
+    ensures here { (j : ℕ) (s : Slot) → slice_get slots.now j ≡ Some s → s.list ≡ list → j / 32 ≡ block
         → slice_index tree.new block ≤ s.date }
     ensures others { (b : ℕ) → b ≢ block → slice_index tree.new b ≡ slice_index tree.old b }
 {
@@ -83,7 +83,7 @@ fn refresh(tree: &mut MinTree, slots: &[Slot], block: usize, list: usize)
 
 // Sets the leaves of a tree for so many slots.
 fn refresh_all(tree: &mut MinTree, slots: &[Slot], limit: usize, list: usize)
-    requires leaves { limit / 8 < length tree.old }
+    requires leaves { limit / 32 < length tree.old }
     requires within { length slots.now ≤ limit }
     ensures length { length tree.new ≡ length tree.old }
     ensures above { AreAbove list slots.now tree.new }

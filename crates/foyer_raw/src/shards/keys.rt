@@ -22,6 +22,7 @@ where
     R: Drop,
     I: Finder<K>,
 {
+    #[inline(always)]
     pub(crate) fn get(&self, now: u64, hash: u64, key: &K) -> Result<Option<CoreEntry<K, V, P>>>
         ensures key { IfOk result (λ found. IfSome found (λ e. K.eq key.now e.kept.key ≡ true)) }
         ensures live { IfOk result (λ found. IfSome found (λ e. is_expired now (P.expiry_of e.kept.properties) ≡ false)) }
@@ -48,6 +49,7 @@ where
     }
 
     // Takes a record in at a moment, and appends what leaves.
+    #[inline(always)]
     pub(crate) fn emplace(
         &self,
         now: u64,
@@ -105,6 +107,7 @@ where
     }
 
     // Takes a handle back, and answers what leaves with it. A handle that the shard does not know is discarded.
+    #[inline(always)]
     pub(crate) fn give_back(&self, core: CoreEntry<K, V, P>) -> Option<Leave<K, V, P>> {
         let hash = core.hash();
         let answer = self.lock(hash).give_back(core);

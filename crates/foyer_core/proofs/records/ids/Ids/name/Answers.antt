@@ -1,10 +1,10 @@
 -- An id is named at its place, whatever stood there.
-use Rattle.std.proofs.Common.{refl, sym, ◌∙◌, vec_len}
+use Rattle.std.proofs.Common.{ℕ, ◌%◌, ◌^◌, Some, refl, sym, ap, ◌∙◌, vec_len}
+use Rattle.std.proofs.lemmas.Map.{update_apart}
 use Rattle.std.specs.Prelude.{nat_eq}
 use Rattle.std.specs.HashMap.{get as get_key}
 use Rattle.std.proofs.lemmas.Option.{slice_get_read}
-use Rattle.foyer_policy.proofs.GhostLemmas.{on_ok}
-use Rattle.foyer_core.proofs.NearLemmas.{named-first, named-past, named-before}
+use Rattle.foyer_core.proofs.NearLemmas.{named-first, named-past, named-before, named-apart-far, none-far, none-far-before}
 use Rattle.foyer_core.proofs.records.ids.Ids.name.Goals as goal
 
 pub returns-in_default-place : goal.returns-in_default-place
@@ -29,6 +29,50 @@ returns-then-place_of-place c = let old = c.args.self.now in
     (record { id = c.args.id; slot = c.to.result }) c.in-Some.named.now c.place_of-place.ensures
     (slice_get_read old.near.items (vec_len old.near) c.place_of-place.result c.in-Some.named.now old.near.ok.0
     (c.in-Some.ensures.variant.0 refl) c.in-Some.ensures.value)
-    c.to.ensures (get_key nat_eq c.insert-then-place_of-place.new.self) c.in-Some-place.stands
+    c.to.ensures (get_key nat_eq c.name_far-then-place_of-place.new.far) c.in-Some-place.stands
     (sym c.place_of.ensures ∙ c.if-place_of-place.true) (sym c.place.ensures ∙ c.in-Some-place.is)
-    (on_ok _ _ (c.insert-then-place_of-place.ensures.succeeds c.requires.room) c.insert-then-place_of-place.ensures.updates).0
+    c.name_far-then-place_of-place.ensures
+
+pub invariant_of-self-in_default-place-clause-apart : goal.invariant_of-self-in_default-place-clause-apart
+invariant_of-self-in_default-place-clause-apart c = let old = c.args.self.now in
+    named-apart-far old.near.items (get_key nat_eq old.far) old.bits c.place_of-place.result c.args.slot
+    (record { id = c.args.id; slot = c.to.result }) c.in-Some.named.now c.place_of-place.ensures
+    (slice_get_read old.near.items (vec_len old.near) c.place_of-place.result c.in-Some.named.now old.near.ok.0
+    (c.in-Some.ensures.variant.0 refl) c.in-Some.ensures.value)
+    c.to.ensures (get_key nat_eq old.far) old.apart c.requires.new (λ q p. refl)
+    (none-far old.near.items (get_key nat_eq old.far) old.bits c.place_of-place.result c.args.slot
+    (record { id = c.args.id; slot = c.to.result }) c.in-Some.named.now c.place_of-place.ensures
+    (slice_get_read old.near.items (vec_len old.near) c.place_of-place.result c.in-Some.named.now old.near.ok.0
+    (c.in-Some.ensures.variant.0 refl) c.in-Some.ensures.value)
+    c.to.ensures c.requires.new)
+
+pub invariant_of-self-else-place_of-place-clause-apart : goal.invariant_of-self-else-place_of-place-clause-apart
+invariant_of-self-else-place_of-place-clause-apart c = let old = c.args.self.now in
+    named-apart-far old.near.items (get_key nat_eq old.far) old.bits c.place_of-place.result c.args.slot
+    (record { id = c.args.id; slot = c.to.result }) c.in-Some.named.now c.place_of-place.ensures
+    (slice_get_read old.near.items (vec_len old.near) c.place_of-place.result c.in-Some.named.now old.near.ok.0
+    (c.in-Some.ensures.variant.0 refl) c.in-Some.ensures.value)
+    c.to.ensures (get_key nat_eq old.far) old.apart c.requires.new (λ q p. refl)
+    (none-far old.near.items (get_key nat_eq old.far) old.bits c.place_of-place.result c.args.slot
+    (record { id = c.args.id; slot = c.to.result }) c.in-Some.named.now c.place_of-place.ensures
+    (slice_get_read old.near.items (vec_len old.near) c.place_of-place.result c.in-Some.named.now old.near.ok.0
+    (c.in-Some.ensures.variant.0 refl) c.in-Some.ensures.value)
+    c.to.ensures c.requires.new)
+
+pub invariant_of-self-then-place_of-place-clause-apart : goal.invariant_of-self-then-place_of-place-clause-apart
+invariant_of-self-then-place_of-place-clause-apart c = let old = c.args.self.now in
+    let goes = c.name_far-then-place_of-place.ensures in
+    let here = sym c.place_of.ensures ∙ c.if-place_of-place.true in
+    named-apart-far old.near.items (get_key nat_eq old.far) old.bits c.place_of-place.result c.args.slot
+    (record { id = c.args.id; slot = c.to.result }) c.in-Some.named.now c.place_of-place.ensures
+    (slice_get_read old.near.items (vec_len old.near) c.place_of-place.result c.in-Some.named.now old.near.ok.0
+    (c.in-Some.ensures.variant.0 refl) c.in-Some.ensures.value)
+    c.to.ensures (get_key nat_eq c.name_far-then-place_of-place.new.far) old.apart c.requires.new
+    (λ q p. goes q ∙ update_apart (get_key nat_eq old.far) c.in-Some.named.now.id (Some c.in-Some-place.stands) q
+    (λ x. p (ap (λ (m : ℕ). m % 2 ^ old.bits) x ∙ here)))
+    (none-far-before old.near.items (get_key nat_eq old.far) old.bits c.place_of-place.result c.args.slot
+    (record { id = c.args.id; slot = c.to.result }) c.in-Some.named.now c.place_of-place.ensures
+    (slice_get_read old.near.items (vec_len old.near) c.place_of-place.result c.in-Some.named.now old.near.ok.0
+    (c.in-Some.ensures.variant.0 refl) c.in-Some.ensures.value)
+    c.to.ensures (get_key nat_eq c.name_far-then-place_of-place.new.far) c.in-Some-place.stands
+    c.requires.new (sym c.place.ensures ∙ c.in-Some-place.is) goes)

@@ -21,7 +21,7 @@ returns c =
     let d = c.requires.dates in
     let tree = get_or_read s.trees.items _ _ c.requires.list c.index.ensures [] in
     let none = rw tree at c.in_ok-block.ensures.first in
-    let low : c.saturating_mul.result ≤ 8 * c.in_ok-block.block = omega (arith, c.saturating_mul.ensures) in
+    let low : c.saturating_mul.result ≤ 32 * c.in_ok-block.block = omega (arith, c.saturating_mul.ensures) in
     c.first_from.ensures
     ∙ rw c.deref.ensures.value
     (sym (first_by-drop c.args.now c.args.list c.saturating_mul.result s.slots.items
