@@ -56,7 +56,7 @@ module _ (s : Slots) (h : ArePlaced s) (slots : List Slot) (slot_of : List ℕ) 
       ∙ same k less
 
   pub ArePlaced-closed : (w : Vec ℕ Global) → w.items ≡ slot_of → vec_capacity v ≡ vec_capacity s.slots →
-      ArePlaced (record { slots = v; limit = s.limit; taken = s.taken; slot_of = w; trees = s.trees })
+      ArePlaced (record { slots = v; limit = s.limit; taken = s.taken; slot_of = w; trees = s.trees; searched = s.searched })
   ArePlaced-closed w found capacity = record {
     room = omega (arith, capacity, h.room);
     within = omega (

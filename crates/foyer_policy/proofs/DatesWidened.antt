@@ -16,7 +16,7 @@ slice_get-append (y ∷ xs) ys (suc j) x is = slice_get-append xs ys j x is
 
 pub AreDates-widened : (s : Slots) (v : Vec ℕ Global) (n : ℕ) (more : List ℕ) → AreDates s →
     length s.slot_of.items ≤ n → v.items ≡ take n s.slot_of.items ++ more →
-    AreDates (record { slots = s.slots; limit = s.limit; taken = s.taken; slot_of = v; trees = s.trees })
+    AreDates (record { slots = s.slots; limit = s.limit; taken = s.taken; slot_of = v; trees = s.trees; searched = s.searched })
 AreDates-widened s v n more d less items = record {
   placed = record {
     room = d.placed.room;

@@ -46,6 +46,7 @@ module _ (s : Slots) (d : AreDates s) (p j : ℕ) (g t : Slot) (h : Held s p j g
         taken = s.taken - 1;
         slot_of = s.slot_of;
         trees = with_item s.trees g.list tree;
+        searched = s.searched;
       })
   AreDates-emptied tree long above =
       let same : length (set s.trees.items g.list tree) ≡ lists = length-set s.trees.items g.list tree in
@@ -100,6 +101,7 @@ module _ (s : Slots) (d : AreDates s) (t : Slot) (room : length s.slots.items < 
         taken = s.taken + 1;
         slot_of = with_item s.slot_of t.place (length old);
         trees = with_item s.trees t.list tree;
+        searched = s.searched;
       })
   AreDates-taken v tree items capacity long here less =
       let same : length (set s.trees.items t.list tree) ≡ length s.trees.items = length-set s.trees.items t.list tree in

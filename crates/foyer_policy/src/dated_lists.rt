@@ -27,6 +27,8 @@ use tracking::Tracking;
 pub(crate) struct DatedLists<T: HasItem, const N: usize> {
     lists: Lists<T, N>,
     dates: Tracking,
+    // How many of the lists, the first ones, are searched for what is due.
+    searched: usize,
     alloc: Global,
 }
 
@@ -43,8 +45,9 @@ impl<T: HasItem, const N: usize> Model for DatedLists<T, N> {
 }
 
 impl<T: HasItem, const N: usize> DatedLists<T, N> {
-    /// Empty lists with no room, which take no memory.
-    pub(crate) fn new(alloc: Global) -> Self
+    /// Empty lists with no room, which take no memory. The first ones, `searched` of them, are those in which `first_due` is
+    /// quick.
+    pub(crate) fn new(alloc: Global, searched: usize) -> Self
         ensures lists { result.lists ≡ replicate N [] }
         ensures room { result.room ≡ 0 }
         ensures span { result.span ≡ 0 }
@@ -52,6 +55,7 @@ impl<T: HasItem, const N: usize> DatedLists<T, N> {
         DatedLists {
             lists: Lists::new(alloc),
             dates: Tracking::Plain,
+            searched,
             alloc,
         }
     }
@@ -69,7 +73,7 @@ impl<T: HasItem, const N: usize> DatedLists<T, N> {
         ensures apart { AreLists N self.old.lists }
     {
         let reserved = self.lists.reserve(more);
-        follow_span(&mut self.dates, &self.lists, self.alloc)?;
+        follow_span(&mut self.dates, &self.lists, self.searched, self.alloc)?;
         reserved
     }
 
@@ -86,7 +90,7 @@ impl<T: HasItem, const N: usize> DatedLists<T, N> {
         ensures apart { AreLists N self.old.lists }
     {
         let reserved = self.lists.reserve_to(wanted);
-        follow_span(&mut self.dates, &self.lists, self.alloc)?;
+        follow_span(&mut self.dates, &self.lists, self.searched, self.alloc)?;
         reserved
     }
 

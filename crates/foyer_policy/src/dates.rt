@@ -38,15 +38,21 @@ impl Model for Dates {
 }
 
 impl Dates {
-    /// No dates, of so many lists, for places below `span` and with room for so many dates. Only memory can be missing
-    /// (F7).
-    pub(crate) fn new(alloc: Global, lists: usize, span: usize, count: usize) -> Result<Self>
+    /// No dates, of so many lists, for places below `span` and with room for so many dates. The first lists, `searched` of
+    /// them, are those in which `first` is quick. Only memory can be missing (F7).
+    pub(crate) fn new(
+        alloc: Global,
+        lists: usize,
+        searched: usize,
+        span: usize,
+        count: usize,
+    ) -> Result<Self>
         ensures none { IfOk result (λ d. (k : ℕ) → k < lists → on d k ≡ []) }
         ensures lists { IfOk result (λ d. d.lists ≡ lists) }
         ensures span { IfOk result (λ d. span ≤ d.span) }
         ensures refused { IfErr result (λ e. e ≡ NoMemory) }
     {
-        let slots = Slots::new(alloc, lists, span, count)?;
+        let slots = Slots::new(alloc, lists, searched, span, count)?;
         Ok(Dates { slots, alloc })
     }
 

@@ -81,7 +81,7 @@ impl Eviction for Fifo {
     fn new(alloc: Global, _capacity: usize, config: &FifoConfig) -> Result<Self> {
         Self::check(config)?;
         Ok(Fifo {
-            queue: DatedLists::new(alloc),
+            queue: DatedLists::new(alloc, 1),
             alloc,
         })
     }

@@ -178,7 +178,7 @@ impl Eviction for Lfu {
         let window_ratio = config.window_capacity_ratio;
         let protected_ratio = config.protected_capacity_ratio;
         Ok(Lfu {
-            lists: DatedLists::new(alloc),
+            lists: DatedLists::new(alloc, 3),
             sketch,
             window_weight: 0,
             protected_weight: 0,

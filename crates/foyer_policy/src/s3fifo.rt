@@ -169,7 +169,7 @@ impl Eviction for S3Fifo {
         let small_ratio = config.small_queue_capacity_ratio;
         let ghost_ratio = config.ghost_queue_capacity_ratio;
         Ok(S3Fifo {
-            queues: DatedLists::new(alloc),
+            queues: DatedLists::new(alloc, 2),
             ghost_queue: GhostQueue::new(alloc, limit_of(capacity, ghost_ratio)),
             small_weight: 0,
             limit: limit_of(capacity, small_ratio),

@@ -174,7 +174,7 @@ impl Eviction for Sieve {
     fn new(alloc: Global, _capacity: usize, config: &SieveConfig) -> Result<Self> {
         Self::check(config)?;
         Ok(Sieve {
-            queue: DatedLists::new(alloc),
+            queue: DatedLists::new(alloc, 1),
             hand: None,
             looks: 0,
             alloc,

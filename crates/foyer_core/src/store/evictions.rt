@@ -28,7 +28,7 @@ impl<E: Eviction, K: Key, V: Value, P: Properties, I: Finder<K>> Store<E, K, V, 
         ensures places { HasPlaces self.old → HasPlaces self.new }
     {
         if let Some(place) = self.eviction.expired(now) {
-            // The answer is always yes, as below.
+            // The answer is always yes, as in `pop_one`.
             if !self.agrees_at(place) {
                 return Err(Error::new(Reason::NoMemory));
             }

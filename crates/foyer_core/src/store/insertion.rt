@@ -187,6 +187,8 @@ impl<E: Eviction, K: Key, V: Value, P: Properties, I: Finder<K>> Store<E, K, V, 
 
     // Brings a plain record in, which is not refused but for want of memory: one with a new id, or one that
     // comes back under its own.
+    //
+    // A call by intent, where little is handed over: in line with all that stands around it, it would be too large to be.
     #[inline(never)]
     fn bring_in(
         &mut self,

@@ -65,12 +65,14 @@ fn push_dates<T: HasItem, const N: usize>(
     true
 }
 
-/// What is known once all dates are looked up. Only memory can be missing (F7).
+/// What is known once all dates are looked up, where the first lists are searched, `searched` of them. Only memory can be
+/// missing (F7).
 #[cold]
 #[inline(never)]
 pub(super) fn built<T: HasItem, const N: usize>(
     alloc: Global,
     lists: &Lists<T, N>,
+    searched: usize,
 ) -> Result<Tracking>
     ensures known { IfOk result (λ t. Knows N lists.now.span (dates_at T.item_of lists.now.lists) t) }
     ensures refused { IfErr result (λ e. e ≡ NoMemory) }
@@ -81,7 +83,7 @@ pub(super) fn built<T: HasItem, const N: usize>(
     }
     // room for half as many more, and one
     let room = count.saturating_add(count / 2).saturating_add(1);
-    let mut dates = Dates::new(alloc, lists.count(), lists.span(), room)?;
+    let mut dates = Dates::new(alloc, lists.count(), searched, lists.span(), room)?;
     for list in 0..lists.count() {
         if !push_dates(&mut dates, lists, list) {
             return Ok(Tracking::Untracked);

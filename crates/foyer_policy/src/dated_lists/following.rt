@@ -149,6 +149,7 @@ pub(super) fn follow_move<T: HasItem, const N: usize>(
 fn reserve_dates<T: HasItem, const N: usize>(
     dates: &mut Tracking,
     lists: &Lists<T, N>,
+    searched: usize,
     alloc: Global,
 ) -> Result<()>
     requires { Knows N 0 (dates_at T.item_of lists.now.lists) dates.old }
@@ -158,7 +159,7 @@ fn reserve_dates<T: HasItem, const N: usize>(
     match dates {
         Tracking::Plain => Ok(()),
         Tracking::Untracked => {
-            *dates = built(alloc, lists)?;
+            *dates = built(alloc, lists, searched)?;
             Ok(())
         }
         Tracking::Tracked(index) => {
@@ -176,6 +177,7 @@ fn reserve_dates<T: HasItem, const N: usize>(
 pub(super) fn follow_span<T: HasItem, const N: usize>(
     dates: &mut Tracking,
     lists: &Lists<T, N>,
+    searched: usize,
     alloc: Global,
 ) -> Result<()>
     requires { Knows N 0 (dates_at T.item_of lists.now.lists) dates.old }
@@ -184,6 +186,6 @@ pub(super) fn follow_span<T: HasItem, const N: usize>(
 {
     match dates {
         Tracking::Plain => Ok(()),
-        _ => reserve_dates(dates, lists, alloc),
+        _ => reserve_dates(dates, lists, searched, alloc),
     }
 }

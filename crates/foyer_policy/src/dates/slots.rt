@@ -37,6 +37,9 @@ pub(super) struct Slots {
     slot_of: Vec<usize>,
     // Of each list, for every few slots, a number that no date of it in these is below.
     trees: Vec<MinTree>,
+    // How many of the lists, the first ones, are searched. Of the others these numbers are 0 once the slots close up, and
+    // then their dates come and go without a step in a tree.
+    searched: usize,
 }
 
 // A tree for each list, with a leaf for every block of so many slots.
@@ -81,15 +84,27 @@ fn refresh(tree: &mut MinTree, slots: &[Slot], block: usize, list: usize)
     tree.set(block, least_date(slots, block, list));
 }
 
+// A number that no date of a list in a block is below: the least one there, or 0, which no look at the slots wants.
+fn bound_of(slots: &[Slot], block: usize, list: usize, is_searched: bool) -> u64
+    ensures { (j : ℕ) (s : Slot) → slice_get slots.now j ≡ Some s → s.list ≡ list → j / 32 ≡ block
+        → result ≤ s.date }
+{
+    if is_searched {
+        least_date(slots, block, list)
+    } else {
+        0
+    }
+}
+
 // Sets the leaves of a tree for so many slots.
-fn refresh_all(tree: &mut MinTree, slots: &[Slot], limit: usize, list: usize)
+fn refresh_all(tree: &mut MinTree, slots: &[Slot], limit: usize, list: usize, is_searched: bool)
     requires leaves { limit / 32 < length tree.old }
     requires within { length slots.now ≤ limit }
     ensures length { length tree.new ≡ length tree.old }
     ensures above { AreAbove list slots.now tree.new }
 {
     for block in 0..limit / BLOCK + 1 {
-        refresh(tree, slots, block, list);
+        tree.set(block, bound_of(slots, block, list, is_searched));
     }
 }
 
@@ -157,9 +172,15 @@ fn first_from(slots: &[Slot], start: usize, list: usize, now: u64) -> Option<Pla
 }
 
 impl Slots {
-    /// No slots, of so many lists, for places below `span`, and with room for so many. Only memory can be missing
-    /// (F7).
-    pub(super) fn new(alloc: Global, lists: usize, span: usize, limit: usize) -> Result<Self>
+    /// No slots, of so many lists, of which the first ones are searched, for places below `span`, and with room for so
+    /// many. Only memory can be missing (F7).
+    pub(super) fn new(
+        alloc: Global,
+        lists: usize,
+        searched: usize,
+        span: usize,
+        limit: usize,
+    ) -> Result<Self>
         ensures dates { IfOk result AreDates }
         ensures none { IfOk result (λ s. s.slots.items ≡ []) }
         ensures lists { IfOk result (λ s. length s.trees.items ≡ lists) }
@@ -176,6 +197,7 @@ impl Slots {
             taken: 0,
             slot_of,
             trees,
+            searched,
         })
     }
 
@@ -252,7 +274,14 @@ impl Slots {
         let taken = gather(&mut self.slots, &mut self.slot_of, lists);
         self.slots.truncate(taken);
         for list in 0..lists {
-            refresh_all(&mut self.trees[list], &self.slots, self.limit, list);
+            let is_searched = list < self.searched;
+            refresh_all(
+                &mut self.trees[list],
+                &self.slots,
+                self.limit,
+                list,
+                is_searched,
+            );
         }
     }
 
