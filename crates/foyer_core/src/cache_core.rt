@@ -39,7 +39,7 @@ mod onto;
 mod pieces;
 mod shards;
 
-pub use shards::shard_capacity;
+pub use shards::{shard_capacity, shard_of};
 
 /// The records of a cache, found by their keys, in one thread's hands. `N` is what waits for an answer, `R` what
 /// builds a fetch, and `I` the index of each shard. Contracts see a `Core`: its shards, what gives its keys their

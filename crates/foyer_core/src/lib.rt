@@ -22,7 +22,7 @@ mod store;
 pub mod tags;
 pub mod weighter;
 
-pub use cache_core::{CacheCore, shard_capacity};
+pub use cache_core::{CacheCore, shard_capacity, shard_of};
 pub use config::RawCacheConfig;
 pub use entry::{CoreEntry, Leave, Left};
 pub use filter::{AdmitAll, Filter};

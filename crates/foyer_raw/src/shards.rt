@@ -4,7 +4,7 @@ ghost use Rattle.std.specs.Prelude.{◌≡◌, ◌<◌, IfErr, IfOk, vec_len};
 ghost use Rattle.foyer_policy.specs.declared.error.Reason.TheVariants.{NoMemory};
 
 use crate::ticket::{Answer, Notifier};
-use foyer_core::{Finder, Shard};
+use foyer_core::{Finder, Shard, shard_of};
 use foyer_policy::{Event, EventListener, Eviction, Key, Properties, Result, Value};
 use std::alloc::Global;
 use std::sync::{Mutex, MutexGuard, Wait};
@@ -105,7 +105,7 @@ where
     pub(crate) fn index_of(&self, hash: u64) -> usize
         ensures { result < vec_len self.now.all }
     {
-        (hash % self.all.len() as u64) as usize
+        shard_of(hash, self.all.len())
     }
 
     // The shard of a hash, locked. A lock that is free is had without waiting, which is cheaper.

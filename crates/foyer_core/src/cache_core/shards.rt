@@ -37,6 +37,16 @@ fn part_of(hash: u64, shards: u64) -> u64
     }
 }
 
+/// The number of the shard, of so many, in which the keys of a hash live: the hash modulo the number of shards.
+#[inline(always)]
+pub fn shard_of(hash: u64, shards: usize) -> usize
+    requires { 0 < shards }
+    ensures within { result < shards }
+    ensures number { result ≡ hash % shards }
+{
+    part_of(hash, shards as u64) as usize
+}
+
 impl<
     E: Eviction,
     K: Key,
@@ -88,6 +98,6 @@ impl<
         ensures within { result < vec_len self.now.shards }
         ensures index { result ≡ hash % vec_len self.now.shards }
     {
-        part_of(hash, self.shards.len() as u64) as usize
+        shard_of(hash, self.shards.len())
     }
 }
