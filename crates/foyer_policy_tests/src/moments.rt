@@ -92,10 +92,16 @@ fn look_at_the_far_end(rt: &(impl Abort + AllocGlobal), others: Option<u64>) -> 
         for id in 0..8_000u64 {
             push(&mut policy, expiring(id, others))?;
         }
+        // All leave and come back twice, so that what is kept of their expiries closes up.
+        for _turn in 0..16_000 {
+            if let Some(item) = policy.pop()? {
+                push(&mut policy, item)?;
+            }
+        }
         let last = push(&mut policy, expiring(8_000, Some(5)))?;
         // What expires is looked up once more room is made.
         policy.reserve()?;
-        for _look in 0..8_000 {
+        for _look in 0..100_000 {
             assert_eq!(rt; policy.expired(5), Some(last));
             assert_eq!(rt; policy.expired(4), None);
         }
