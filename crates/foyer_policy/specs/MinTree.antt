@@ -1,5 +1,5 @@
 -- A segment tree of least numbers, whose nodes stand in one list.
-use Rattle.std.specs.Prelude.{◌≡◌, ℕ, ◌+◌, ◌*◌, ◌^◌, ◌<◌, min, List, length, slice_index}
+use Rattle.std.specs.Prelude.{◌≡◌, ℕ, ◌+◌, ◌*◌, ◌^◌, ◌<◌, ◌≤◌, min, List, length, slice_index}
 
 -- a node has the lesser number of its two children
 abbrev pub IsLeast : List ℕ → ℕ → Type 0
@@ -11,3 +11,8 @@ pub record IsTree (leaves : ℕ) (nodes : List ℕ) : Type 0 where
   pub power : leaves ≡ 2 ^ height
   pub size : length nodes ≡ 2 * leaves
   pub least : (i : ℕ) → 0 < i → i < leaves → IsLeast nodes i
+
+-- the leaves below a node that stands so high above them are those from node * 2 ^ height to (node + 1) * 2 ^ height
+pub record HasHeight (leaves node height : ℕ) : Type 0 where
+  pub from : leaves ≤ node * 2 ^ height
+  pub to : (node + 1) * 2 ^ height ≤ 2 * leaves

@@ -4,6 +4,7 @@ use Rattle.foyer_policy.proofs.min_tree.MinTree.set.Given as goal
 
 abbrev pub invariant-loop-node : goal.invariant-loop-node
 invariant-loop-node l = (l.self-inside.leaves ≡ l.initial.self-inside.leaves)
+    × (l.self-inside.marked ≡ l.initial.self-inside.marked)
     × Up l.self-inside.leaves (slice_set l.fn.self l.index l.number) l.self-inside.nodes.items l.node
 
 abbrev pub decreases-loop-node : goal.decreases-loop-node

@@ -1,9 +1,9 @@
 use Rattle.std.proofs.Common.{◌-◌, ◌*◌}
 use Rattle.foyer_policy.proofs.MinTreeLemmas.{Down}
-use Rattle.foyer_policy.proofs.min_tree.MinTree.first.Given as goal
+use Rattle.foyer_policy.proofs.min_tree.first_below.Given as goal
 
 abbrev pub invariant-loop-node : goal.invariant-loop-node
-invariant-loop-node l = Down l.self-inside.leaves l.self-inside.nodes.items l.limit l.node
+invariant-loop-node l = Down l.leaves l.nodes l.limit l.top l.node
 
 abbrev pub decreases-loop-node : goal.decreases-loop-node
-decreases-loop-node l = 2 * l.self-inside.leaves - l.node
+decreases-loop-node l = 2 * l.leaves - l.node
