@@ -78,15 +78,15 @@ pub record Held (s : Slots) (p j : ℕ) (g : Slot) : Type 0 where
   pub place : g.place ≡ p
   pub list : g.list < length s.trees.items
 
-module _ (s : Slots) (d : AreDates s) (p : ℕ)
-    (there : (k : ℕ) × (k < length s.trees.items) × IsSome (find_in p (on_of k s.slots.items))) where
-  slot_there : Stands there.0 p s.slots.items
-  slot_there = stands there.0 p s.slots.items there.2
+module _ (s : Slots) (d : AreDates s) (k p : ℕ) (below : k < length s.trees.items)
+    (there : IsSome (find_in p (on_of k s.slots.items))) where
+  slot_there : Stands k p s.slots.items
+  slot_there = stands k p s.slots.items there
 
   indexed : slice_get s.slot_of.items p ≡ Some slot_there.index
   indexed =
       let w = slot_there in
-      let less : w.slot.list < length s.trees.items = omega (arith, w.list, there.1) in
+      let less : w.slot.list < length s.trees.items = omega (arith, w.list, below) in
       let h = d.placed.indexed w.index w.slot w.is less in
       rw w.place at h
 
@@ -119,7 +119,7 @@ module _ (s : Slots) (d : AreDates s) (p : ℕ)
             is = rw same there';
             within = omega (arith, index_within, s.slots.ok.0);
             place = ap (λ (u : Slot). u.place) same ∙ w.place;
-            list = (let e : g.list ≡ w.slot.list = ap (λ (u : Slot). u.list) same in omega (arith, e, w.list, there.1));
+            list = (let e : g.list ≡ w.slot.list = ap (λ (u : Slot). u.list) same in omega (arith, e, w.list, below));
           }
 
 -- a slot is emptied

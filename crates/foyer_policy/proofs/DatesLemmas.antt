@@ -185,6 +185,34 @@ first_by-drop now k (suc n) (x ∷ ss) h = go (same_or_not x.list k)
           rw (on_of-same k x ss e, b) refl
       go (inr ne) = rw (on_of-other k x ss ne) refl
 
+-- the first entry that is due is that of the first such slot
+pub first_by-at : (now k start j : ℕ) (ss : List Slot) (s : Slot) → start ≤ j → slice_get ss j ≡ Some s → s.list ≡ k →
+    s.date ≤ now →
+    ((i : ℕ) (u : Slot) → slice_get ss i ≡ Some u → start ≤ i → i < j → u.list ≡ k → now < u.date) →
+    first_by now (on_of k (drop start ss)) ≡ Some s.place
+first_by-at now k start j [] s le is list due before = absurd cc
+first_by-at now k zero zero (x ∷ ss) s le is list due before =
+    let same : x ≡ s = cc in
+    let e : x.list ≡ k = ap (λ (u : Slot). u.list) same ∙ list in
+    let date : x.date ≡ s.date = ap (λ (u : Slot). u.date) same in
+    let by : x.date ≤ now = omega (arith, date, due) in
+    let b : nat_le x.date now ≡ true = grind (arith, nat_tests) in
+    rw (on_of-same k x ss e, b) (ap (λ (u : Slot). Some u.place) same)
+first_by-at now k zero (suc j) (x ∷ ss) s le is list due before =
+    go (same_or_not x.list k)
+    ∙ first_by-at now k zero j ss s (omega arith) is list due
+    (λ i u there low high. before (suc i) u there (omega arith) (omega (arith, high))) where
+      go : (x.list ≡ k) ⊎ (x.list ≢ k) → first_by now (on_of k (x ∷ ss)) ≡ first_by now (on_of k ss)
+      go (inl e) =
+          let late : now < x.date = before 0 x refl (omega arith) (omega arith) e in
+          let b : nat_le x.date now ≡ false = grind (arith, nat_tests) in
+          rw (on_of-same k x ss e, b) refl
+      go (inr ne) = rw (on_of-other k x ss ne) refl
+first_by-at now k (suc start) zero (x ∷ ss) s le is list due before = absurd (omega (arith, le))
+first_by-at now k (suc start) (suc j) (x ∷ ss) s le is list due before =
+    first_by-at now k start j ss s (omega (arith, le)) is list due
+    (λ i u there low high. before (suc i) u there (omega (arith, low)) (omega (arith, high)))
+
 -- none is due
 pub first_by-none : (now k : ℕ) (ss : List Slot) →
     ((j : ℕ) (s : Slot) → slice_get ss j ≡ Some s → s.list ≡ k → now < s.date) → first_by now (on_of k ss) ≡ None

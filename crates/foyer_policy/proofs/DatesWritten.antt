@@ -39,20 +39,20 @@ module _ (s : Slots) (d : AreDates s) (p j : ℕ) (g t : Slot) (h : Held s p j g
       let both : Some i ≡ Some j = sym a ∙ b in
       let same : i ≡ j = cc in same)
 
-  pub AreDates-emptied : (tree : List ℕ) → length tree ≡ length (get_or s.trees.items g.list []) →
-      AreAbove g.list left tree → AreDates (record {
+  pub AreDates-emptied : (k : ℕ) → k < lists → (tree : List ℕ) → length tree ≡ length (get_or s.trees.items k []) →
+      AreAbove k left tree → AreDates (record {
         slots = with_item s.slots j t;
         limit = s.limit;
         taken = s.taken - 1;
         slot_of = s.slot_of;
-        trees = with_item s.trees g.list tree;
-        searched = s.searched;
+        trees = with_item s.trees k tree;
       })
-  AreDates-emptied tree long above =
-      let same : length (set s.trees.items g.list tree) ≡ lists = length-set s.trees.items g.list tree in
+  AreDates-emptied k below tree long above =
+      let same : length (set s.trees.items k tree) ≡ lists = length-set s.trees.items k tree in
       record {
         placed = record {
           room = d.placed.room;
+          few = (d.placed.few.0, d.placed.few.1, omega (arith, same, d.placed.few.2));
           within = omega (arith, length-set s.slots.items j t, d.placed.within);
           count = rw same (omega (
             arith,
@@ -62,9 +62,9 @@ module _ (s : Slots) (d : AreDates s) (p j : ℕ) (g t : Slot) (h : Held s p j g
           ));
           indexed = rw same
               (AreIndexed-emptied lists s.slots.items j t h.within past s.slot_of.items d.placed.indexed);
-          leaves = HaveLeaves-set s.limit s.trees.items g.list tree h.list long d.placed.leaves;
+          leaves = HaveLeaves-set s.limit s.trees.items k tree below long d.placed.leaves;
         };
-        bounded = AreBounded-set left s.trees.items g.list tree h.list above (λ i less ne. dates_above i less);
+        bounded = AreBounded-set left s.trees.items k tree below above (λ i less ne. dates_above i less);
       }
 
 -- a slot is taken
@@ -101,13 +101,17 @@ module _ (s : Slots) (d : AreDates s) (t : Slot) (room : length s.slots.items < 
         taken = s.taken + 1;
         slot_of = with_item s.slot_of t.place (length old);
         trees = with_item s.trees t.list tree;
-        searched = s.searched;
       })
   AreDates-taken v tree items capacity long here less =
       let same : length (set s.trees.items t.list tree) ≡ length s.trees.items = length-set s.trees.items t.list tree in
       record {
         placed = record {
           room = omega (arith, capacity, d.placed.room);
+          few = (
+            d.placed.few.0,
+            omega (arith, length-set s.slot_of.items t.place (length old), d.placed.few.1),
+            omega (arith, same, d.placed.few.2),
+          );
           within = rw items (omega (arith, length_push old t, room));
           count = rw (same, items) (omega (arith, d.placed.count, taken_of-push (length s.trees.items) old t list));
           indexed = rw (same, items) (λ i u is lt. index i u lt (pushed old t i u is));

@@ -1,5 +1,5 @@
 -- How the dates of lists stand in slots.
-use Rattle.std.specs.Prelude.{◌≡◌, ◌==◌, ℕ, ◌/◌, ◌<◌, ◌≤◌, List, [], ◌∷◌, Some, length, map, nat_lt, count_by, slice_get, slice_index, slice_index_or, if◌then◌else◌}
+use Rattle.std.specs.Prelude.{◌≡◌, ◌==◌, ℕ, ◌/◌, ◌^◌, ◌<◌, ◌≤◌, List, [], ◌∷◌, Some, length, map, nat_lt, count_by, slice_get, slice_index, slice_index_or, if◌then◌else◌}
 use Rattle.std.specs.List.{range_with_len}
 use Rattle.std.specs.Vec.{vec_capacity}
 use Rattle.foyer_policy.specs.Dates.{Dates}
@@ -40,6 +40,7 @@ AreEmptyFrom lists from slots = (j : ℕ) (s : Slot) → slice_get slots j ≡ S
 -- what is true of all slots, whatever the leaves are
 pub record ArePlaced (s : Slots) : Type 0 where
   pub room : s.limit ≤ vec_capacity s.slots
+  pub few : (s.limit < 2 ^ 32) × (length s.slot_of.items < 2 ^ 32) × (length s.trees.items < 2 ^ 32)
   pub within : length s.slots.items ≤ s.limit
   pub count : s.taken ≡ taken_of (length s.trees.items) s.slots.items
   pub indexed : AreIndexed (length s.trees.items) s.slots.items s.slot_of.items

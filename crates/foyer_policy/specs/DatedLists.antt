@@ -1,16 +1,16 @@
 -- What is known of when the items of lists expire.
 use Rattle.std.specs.Prelude.{◌≡◌, ℕ, ◌<◌, ◌≤◌, List, [], None}
-use Rattle.foyer_policy.specs.Dates.{Dates, IsDated, dates_of, on}
+use Rattle.foyer_policy.specs.Dates.{Dates, StandsIn, dates_of, on}
 use Rattle.foyer_policy.specs.Lists.{find_in, list_at}
 use Rattle.foyer_policy.specs.declared.types.Item.{Item}
 use Rattle.foyer_policy.specs.declared.dated_lists.tracking.Tracking.{Tracking}
 use Rattle.foyer_policy.specs.declared.dated_lists.tracking.Tracking.TheVariants.{Plain, Untracked, Tracked}
 
--- these are the dates of n lists, `are k` of list k, for all places below a span
+-- these are the dates of some of n lists, the first ones, `are k` of list k, for all places below a span
 pub record KeepsDates (n : ℕ) (span : ℕ) (are : ℕ → List (ℕ × ℕ)) (d : Dates) : Type 0 where
-  pub lists : d.lists ≡ n
+  pub lists : d.lists ≤ n
   pub within : span ≤ d.span
-  pub same : (k : ℕ) → k < n → on d k ≡ are k
+  pub same : (k : ℕ) → k < d.lists → on d k ≡ are k
 
 -- what is known agrees with the dates of n lists, `are k` of list k, for all places below a span
 abbrev pub Knows : ℕ → ℕ → (ℕ → List (ℕ × ℕ)) → Tracking → Type 0
@@ -18,32 +18,31 @@ Knows n span are Plain = (k : ℕ) → k < n → are k ≡ []
 Knows n span are Untracked = Unit {0}
 Knows n span are (Tracked d) = KeepsDates n span are d
 
--- a place without a date, which may come to this list
-pub record IsFreeFor (list : ℕ) (p : ℕ) (d : Dates) : Type 0 where
-  pub below : list < d.lists
+-- a place without a date
+pub record HasNone (p : ℕ) (d : Dates) : Type 0 where
   pub within : p < d.span
   pub free : (k : ℕ) → k < d.lists → find_in p (on d k) ≡ None
 
--- a date may come to the end of this list, at this place
-abbrev pub CanPush : ℕ → ℕ → Tracking → Type 0
-CanPush list p Plain = Unit {0}
-CanPush list p Untracked = Unit {0}
-CanPush list p (Tracked d) = IsFreeFor list p d
+-- a date may come at this place
+abbrev pub CanPush : ℕ → Tracking → Type 0
+CanPush p Plain = Unit {0}
+CanPush p Untracked = Unit {0}
+CanPush p (Tracked d) = HasNone p d
 
--- a date may go from this place
-abbrev pub CanRemove : ℕ → Tracking → Type 0
-CanRemove p Plain = Unit {0}
-CanRemove p Untracked = Unit {0}
-CanRemove p (Tracked d) = IsDated p d
+-- a date may go from this list, and this place
+abbrev pub CanRemove : ℕ → ℕ → Tracking → Type 0
+CanRemove list p Plain = Unit {0}
+CanRemove list p Untracked = Unit {0}
+CanRemove list p (Tracked d) = StandsIn list p d
 
 module _ {T : Type 0} (item : T → Item) where
   -- when the items of list k expire, of some lists
   abbrev pub dates_at : List (List (ℕ × T)) → ℕ → List (ℕ × ℕ)
   dates_at ls k = dates_of item (list_at ls k)
 
-  -- the dates of the lists before this one, while those of the others are still to come
-  pub record Builds (n : ℕ) (span : ℕ) (ls : List (List (ℕ × T))) (list : ℕ) (d : Dates) : Type 0 where
-    pub lists : d.lists ≡ n
+  -- the dates of the lists before this one, of so many, while those of the others are still to come
+  pub record Builds (count : ℕ) (span : ℕ) (ls : List (List (ℕ × T))) (list : ℕ) (d : Dates) : Type 0 where
+    pub lists : d.lists ≡ count
     pub within : span ≤ d.span
     pub done : (k : ℕ) → k < list → on d k ≡ dates_at ls k
-    pub todo : (k : ℕ) → list ≤ k → k < n → on d k ≡ []
+    pub todo : (k : ℕ) → list ≤ k → k < count → on d k ≡ []

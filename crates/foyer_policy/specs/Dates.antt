@@ -1,6 +1,6 @@
 -- Which items of lists expire, and when.
-use Rattle.std.specs.Prelude.{◌==◌, ℕ, ◌<◌, IsSome, List, [], ◌∷◌, ◌++◌, Option, Some, None, nat_le, if◌then◌else◌}
-use Rattle.foyer_policy.specs.Lists.{find_in, list_at}
+use Rattle.std.specs.Prelude.{◌==◌, ◌≢◌, ℕ, ◌<◌, IsSome, List, [], ◌∷◌, ◌++◌, Option, Some, None, nat_le, if◌then◌else◌}
+use Rattle.foyer_policy.specs.Lists.{find_in, list_at, IsFree}
 use Rattle.foyer_policy.specs.declared.types.Item.{Item}
 
 -- the places of each list that have a date, with that, in order; how many lists there are; and what all places are
@@ -14,9 +14,10 @@ pub record Dates : Type 0 where
 abbrev pub on : Dates → ℕ → List (ℕ × ℕ)
 on d k = list_at d.dated k
 
--- some list has a date at this place
-abbrev pub IsDated : ℕ → Dates → Type 0
-IsDated p d = (k : ℕ) × (k < d.lists) × IsSome (find_in p (on d k))
+-- a place has a date in this list, where that is kept, and in no other
+pub record StandsIn (list : ℕ) (p : ℕ) (d : Dates) : Type 0 where
+  pub there : list < d.lists → IsSome (find_in p (on d list))
+  pub others : (k : ℕ) → k < d.lists → k ≢ list → IsFree p (on d k)
 
 -- the dates of list k, once a place with a date came to the end of a list
 abbrev pub with_last : ℕ → ℕ → ℕ → (ℕ → List (ℕ × ℕ)) → ℕ → List (ℕ × ℕ)

@@ -22,13 +22,14 @@ use tracking::Tracking;
 /// steps that grow with the logarithm of how many items expire, and at once where none does.
 ///
 /// The dates are kept from the first call of `reserve` or `reserve_to` on that meets an item that expires. Until then,
-/// and while memory for them is missing, a search walks along the list. A value that is in keeps its item.
+/// while memory for them is missing, and beyond 2^32 - 1 nodes, a search walks along the list. A value that is in keeps
+/// its item.
 #[derive(Drop)]
 pub(crate) struct DatedLists<T: HasItem, const N: usize> {
     lists: Lists<T, N>,
     dates: Tracking,
     // How many of the lists, the first ones, are searched for what is due.
-    searched: usize,
+    searched: u8,
     alloc: Global,
 }
 
@@ -46,8 +47,8 @@ impl<T: HasItem, const N: usize> Model for DatedLists<T, N> {
 
 impl<T: HasItem, const N: usize> DatedLists<T, N> {
     /// Empty lists with no room, which take no memory. The first ones, `searched` of them, are those in which `first_due` is
-    /// quick.
-    pub(crate) fn new(alloc: Global, searched: usize) -> Self
+    /// quick: of the others no dates are kept.
+    pub(crate) fn new(alloc: Global, searched: u8) -> Self
         ensures lists { result.lists ≡ replicate N [] }
         ensures room { result.room ≡ 0 }
         ensures span { result.span ≡ 0 }

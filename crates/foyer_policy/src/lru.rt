@@ -132,7 +132,7 @@ impl Eviction for Lru {
         Self::check(config)?;
         let ratio = config.high_priority_pool_ratio;
         Ok(Lru {
-            lists: DatedLists::new(alloc, PIN),
+            lists: DatedLists::new(alloc, 2),
             high_weight: 0,
             pinned_weight: 0,
             limit: limit_of(capacity, ratio),

@@ -118,3 +118,45 @@ fn what_is_expired_is_found_without_a_walk(rt: HostRuntime) -> Result<(), Fail> 
 fn what_is_expired_is_found_among_what_expires_later(rt: HostRuntime) -> Result<(), Fail> {
     look_at_the_far_end(&rt, Some(100))
 }
+
+#[test]
+fn what_is_expired_is_found_behind_what_left_from_the_front(rt: HostRuntime) -> Result<(), Fail> {
+    for config in &defaults() {
+        let mut policy = AnyEviction::new(rt.alloc(), 16_000, config)?;
+        for id in 0..8_000u64 {
+            push(&mut policy, expiring(id, Some(id)))?;
+        }
+        for moment in 0..7_000u64 {
+            let Some(place) = policy.expired(moment) else {
+                panic!(rt; "{moment} is expired")
+            };
+            assert_eq!(rt; policy.remove(place).id, moment);
+        }
+        let last = push(&mut policy, expiring(8_000, Some(5)))?;
+        for _look in 0..100_000 {
+            assert_eq!(rt; policy.expired(6_999), Some(last));
+        }
+    }
+    Ok(())
+}
+
+#[test]
+fn what_is_expired_is_found_once_it_is_not_pinned(rt: HostRuntime) -> Result<(), Fail> {
+    let mut lru = Lru::new(rt.alloc(), 16_000, &LruConfig::default())?;
+    let mut places = Vec::new(rt.alloc());
+    for id in 0..8_000u64 {
+        let expires = if id < 7_999 { 100 } else { 5 };
+        let place = push(&mut lru, expiring(id, Some(expires)))?;
+        lru.acquire(place);
+        places.push(place)?;
+    }
+    assert_eq!(rt; lru.expired(100), None);
+    // All come back with no room made for that.
+    for place in places.iter() {
+        lru.release(*place);
+    }
+    for _look in 0..100_000 {
+        assert_eq!(rt; lru.expired(5), places.last().copied());
+    }
+    Ok(())
+}

@@ -1,13 +1,13 @@
 -- What is known of dates, and what a change of lists makes of that.
-use Rattle.std.proofs.Common.{◌≡◌, ◌≢◌, ℕ, zero, suc, ◌<◌, ◌≤◌, true, false, cond, List, [], ◌∷◌, ◌++◌, Option, Some, None, length, map, set, refl, sym, ◌∙◌, ap, subst, arith, ◌⊎◌, inl, inr, IsSome, rules}
-use Rattle.std.specs.Prelude.{◌==◌, IfSome, is_some, option_and_then, option_map}
+use Rattle.std.proofs.Common.{◌≡◌, ◌≢◌, ℕ, zero, suc, ◌<◌, ◌≤◌, cond, List, [], ◌∷◌, ◌++◌, Option, Some, None, length, map, set, refl, sym, ◌∙◌, ap, subst, arith, ◌⊎◌, inl, inr, IsSome, rules}
+use Rattle.std.specs.Prelude.{◌==◌, IfSome, option_and_then, option_map}
 use Rattle.std.specs.List.{filter}
 use Rattle.std.proofs.lemmas.List.{get_or-set_same, get_or-set_other}
 use Rattle.std.proofs.Math.ListN.{get_or-map, length-map}
 use Rattle.foyer_policy.specs.Dates.{dates_of, with_last}
 use Rattle.foyer_policy.specs.DatedLists.{CanPush, CanRemove, Knows, dates_at}
 use Rattle.foyer_policy.specs.Dues.{first_item, first_lists}
-use Rattle.foyer_policy.specs.Lists.{list_at, find, rest, drop_place, moved, with_value, IsFree, AreLists}
+use Rattle.foyer_policy.specs.Lists.{list_at, find, find_in, rest, drop_place, moved, with_value, IsFree, AreLists}
 use Rattle.foyer_policy.specs.Moments.{is_due}
 use Rattle.foyer_policy.specs.declared.dated_lists.tracking.Tracking.{Tracking}
 use Rattle.foyer_policy.specs.declared.dated_lists.tracking.Tracking.TheVariants.{Plain, Untracked, Tracked}
@@ -25,34 +25,22 @@ Knows-same n s are be Untracked same h = tt
 Knows-same n s are be (Tracked d) same h = record {
   lists = h.lists;
   within = h.within;
-  same = λ k lt. h.same k lt ∙ sym (same k lt);
+  same = λ k lt. h.same k lt ∙ sym (same k (omega (arith, h.lists)));
 }
 
 -- whether there is a date
-pub some_date : (o : Option ℕ) → is_some o ≡ true → (date : ℕ) × (o ≡ Some date)
-some_date None h = absurd cc
-some_date (Some date) h = (date, refl)
-
-pub no_date : (o : Option ℕ) → is_some o ≡ false → o ≡ None
-no_date None h = refl
-no_date (Some date) h = absurd cc
-
 pub not_some : (o : Option ℕ) → ((date : ℕ) → o ≡ Some date → ⊥) → o ≡ None
 not_some None h = refl
 not_some (Some date) h = absurd (h date refl)
 
 -- a date may come where none is
-pub CanPush-free : (n s : ℕ) (are : ℕ → List (ℕ × ℕ)) (list p : ℕ) (t : Tracking) → Knows n s are t → list < n →
-    p < s
-    → ((k : ℕ) → k < n → IsFree p (are k)) → CanPush list p t
-CanPush-free n s are list p Plain h lt within free = tt
-CanPush-free n s are list p Untracked h lt within free = tt
-CanPush-free n s are list p (Tracked d) h lt within free = record {
-  below = omega (arith, h.lists);
+pub CanPush-free : (n s : ℕ) (are : ℕ → List (ℕ × ℕ)) (p : ℕ) (t : Tracking) → Knows n s are t → p < s
+    → ((k : ℕ) → k < n → IsFree p (are k)) → CanPush p t
+CanPush-free n s are p Plain h within free = tt
+CanPush-free n s are p Untracked h within free = tt
+CanPush-free n s are p (Tracked d) h within free = record {
   within = omega (arith, h.within);
-  free =
-      λ k less. let lk : k < n = omega (arith, h.lists) in
-      rw (h.same k lk) (find_in-free p (are k) (free k lk));
+  free = λ k less. rw (h.same k less) (find_in-free p (are k) (free k (omega (arith, h.lists))));
 }
 
 module _ {T : Type 0} (item : T → Item) where
@@ -115,17 +103,16 @@ module _ {T : Type 0} (item : T → Item) where
           ≡ dates_at item ls k
       dropped-none is k lt = dropped-dates p k lt ∙ drop_place-free p (dates_at item ls k) (free-none is k lt)
 
-      pub CanRemove-found : (s date : ℕ) (t : Tracking) → Knows n s (dates_at item ls) t →
-          (item v).expires ≡ Some date → CanRemove p t
-      CanRemove-found s date Plain h is = tt
-      CanRemove-found s date Untracked h is = tt
-      CanRemove-found s date (Tracked d) h is =
-          let m : Member p v ls = member p v ls found in
-          let lt : m.list < n = omega (arith, m.within, sound.count) in (
-            m.list,
-            omega (arith, h.lists),
-            rw (h.same m.list lt, dates-found item p date v (list_at ls m.list) m.there is) (search rules),
-          )
+      pub CanRemove-found : (s date list : ℕ) (t : Tracking) → Knows n s (dates_at item ls) t →
+          (item v).expires ≡ Some date → list < n → find_in p (list_at ls list) ≡ find p ls → CanRemove list p t
+      CanRemove-found s date list Plain h is lt at = tt
+      CanRemove-found s date list Untracked h is lt at = tt
+      CanRemove-found s date list (Tracked d) h is lt at = record {
+        there = λ less. rw (h.same list less, dates-found item p date v (list_at ls list) (at ∙ found) is) (search rules);
+        others = λ k less ne. rw (h.same k less) (dates-free item p (list_at ls k)
+            (sound.between list k p v (omega (arith, sound.count)) (omega (arith, h.lists, sound.count)) (λ e. ne (sym e))
+            (at ∙ found)));
+      }
 
       -- a value that moves to the end of a list
       moved-is : (list : ℕ) → moved p list ls

@@ -9,16 +9,16 @@ use Rattle.foyer_policy.proofs.DatedLists.Entries.{dates-free}
 use Rattle.foyer_policy.proofs.ListsLemmas.{below_or_past, same_or_not}
 use Rattle.foyer_policy.proofs.PlaceLemmas.{find_in-free, other_place, same_place}
 
-module _ {T : Type 0} (item : T → Item) (n span : ℕ) (ls : List (List (ℕ × T))) (list : ℕ) where
+module _ {T : Type 0} (item : T → Item) (count span : ℕ) (ls : List (List (ℕ × T))) (list : ℕ) where
   -- the dates of the lists before this one, and those of its own that a walk has met
   pub record Collects (next : Option ℕ) (d : Dates) : Type 0 where
-    pub lists : d.lists ≡ n
+    pub lists : d.lists ≡ count
     pub within : span ≤ d.span
     pub done : (k : ℕ) → k < list → on d k ≡ dates_at item ls k
     pub met : Met item (list_at ls list) next (on d list)
-    pub todo : (k : ℕ) → list < k → k < n → on d k ≡ []
+    pub todo : (k : ℕ) → list < k → k < count → on d k ≡ []
 
-  pub collects-start : list < n → (d : Dates) → Builds item n span ls list d → Collects (first_or (list_at ls list) None) d
+  pub collects-start : list < count → (d : Dates) → Builds item count span ls list d → Collects (first_or (list_at ls list) None) d
   collects-start lt d b = record {
     lists = b.lists;
     within = b.within;
@@ -27,7 +27,7 @@ module _ {T : Type 0} (item : T → Item) (n span : ℕ) (ls : List (List (ℕ �
     todo = λ k above less. b.todo k (omega arith) less;
   }
 
-  pub collects-end : (d : Dates) → Collects None d → Builds item n span ls (list + 1) d
+  pub collects-end : (d : Dates) → Collects None d → Builds item count span ls (list + 1) d
   collects-end d c = record {
     lists = c.lists;
     within = c.within;
@@ -38,9 +38,10 @@ module _ {T : Type 0} (item : T → Item) (n span : ℕ) (ls : List (List (ℕ �
     go k less (inl e) = rw e (met-end item (list_at ls list) (on d list) c.met)
     go k less (inr ne) = c.done k (omega arith)
 
-  module _ (sound : AreLists n ls) (lt : list < n) (p : ℕ) (d : Dates) (c : Collects (Some p) d) where
+  module _ (n : ℕ) (sound : AreLists n ls) (few : count ≤ n) (lt : list < count) (p : ℕ) (d : Dates)
+      (c : Collects (Some p) d) where
     within : list < length ls
-    within = omega (arith, sound.count)
+    within = omega (arith, sound.count, few)
 
     pub collects-found : (v : T) × (find_in p (list_at ls list) ≡ Some v)
     collects-found =
@@ -55,7 +56,7 @@ module _ {T : Type 0} (item : T → Item) (n span : ℕ) (ls : List (List (ℕ �
       go : (k ≡ list) ⊎ (k ≢ list) → (k < list) ⊎ (list ≤ k) → find_in p (on d k) ≡ None
       go (inl e) side = rw e (find_in-free p (on d list) s.free)
       go (inr ne) (inl below) = rw (c.done k below) (find_in-free p (dates_at item ls k)
-          (dates-free item p (list_at ls k) (sound.between list k p s.value within (omega (arith, sound.count)) (λ e. ne (sym e)) s.found)))
+          (dates-free item p (list_at ls k) (sound.between list k p s.value within (omega (arith, sound.count, few)) (λ e. ne (sym e)) s.found)))
       go (inr ne) (inr past) = rw (c.todo k (omega arith) (omega (arith, c.lists))) refl
 
     module _ (v : T) (next : Option ℕ) (found : find_in p (list_at ls list) ≡ Some v)

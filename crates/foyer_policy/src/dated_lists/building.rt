@@ -7,7 +7,7 @@ ghost use Rattle.foyer_policy.specs.Lists.{list_at};
 ghost use Rattle.foyer_policy.specs.declared.error.Reason.TheVariants.{NoMemory};
 
 use super::tracking::Tracking;
-use crate::dates::Dates;
+use crate::dates::{Dates, MOST};
 use crate::error::Result;
 use crate::lists::{Lists, Place};
 use crate::queued::HasItem;
@@ -45,9 +45,10 @@ fn push_dates<T: HasItem, const N: usize>(
     lists: &Lists<T, N>,
     list: usize,
 ) -> bool
-    requires list { list < N }
-    requires before { Builds T.item_of N lists.now.span lists.now.lists list dates.old }
-    ensures { IsTrue result → Builds T.item_of N lists.now.span lists.now.lists (list + 1) dates.new }
+    requires list { list < dates.old.lists }
+    requires within { dates.old.lists ≤ N }
+    requires before { Builds T.item_of dates.old.lists lists.now.span lists.now.lists list dates.old }
+    ensures { IsTrue result → Builds T.item_of dates.old.lists lists.now.span lists.now.lists (list + 1) dates.new }
 {
     // Each place is below the span.
     let _ = lists.span();
@@ -72,7 +73,7 @@ fn push_dates<T: HasItem, const N: usize>(
 pub(super) fn built<T: HasItem, const N: usize>(
     alloc: Global,
     lists: &Lists<T, N>,
-    searched: usize,
+    searched: u8,
 ) -> Result<Tracking>
     ensures known { IfOk result (λ t. Knows N lists.now.span (dates_at T.item_of lists.now.lists) t) }
     ensures refused { IfErr result (λ e. e ≡ NoMemory) }
@@ -81,10 +82,13 @@ pub(super) fn built<T: HasItem, const N: usize>(
     if count == 0 {
         return Ok(Tracking::Plain);
     }
+    if usize::from(searched) > lists.count() || lists.span() > MOST {
+        return Ok(Tracking::Untracked);
+    }
     // room for half as many more, and one
     let room = count.saturating_add(count / 2).saturating_add(1);
-    let mut dates = Dates::new(alloc, lists.count(), searched, lists.span(), room)?;
-    for list in 0..lists.count() {
+    let mut dates = Dates::new(alloc, searched, lists.span(), room)?;
+    for list in 0..usize::from(searched) {
         if !push_dates(&mut dates, lists, list) {
             return Ok(Tracking::Untracked);
         }

@@ -7,6 +7,7 @@ ghost use Rattle.foyer_policy.specs.declared.error.Reason.TheVariants.{NoMemory}
 
 use super::building::built;
 use super::tracking::Tracking;
+use crate::dates::MOST;
 use crate::error::Result;
 use crate::lists::{Lists, Place};
 use crate::queued::HasItem;
@@ -43,8 +44,9 @@ fn remove_date<T: HasItem, const N: usize>(dates: &mut Tracking, lists: &Lists<T
     requires there { IsSome (find place lists.now.lists) }
     ensures { Knows N lists.now.span (dates_at T.item_of (map (drop_place place) lists.now.lists)) dates.new }
 {
-    if lists.get(place).item().expires.is_some() {
-        dates.remove(place);
+    if let Some(date) = lists.get(place).item().expires {
+        let from = lists.list_of(place);
+        dates.remove(from, place, date, lists.front(from) == Some(place));
     }
 }
 
@@ -116,7 +118,8 @@ fn move_date<T: HasItem, const N: usize>(
     // The place is below the span, and so below that of the dates.
     let _ = lists.span();
     if let Some(date) = lists.get(place).item().expires {
-        dates.remove(place);
+        let from = lists.list_of(place);
+        dates.remove(from, place, date, lists.front(from) == Some(place));
         dates.push(list, place, date);
     }
 }
@@ -146,10 +149,10 @@ pub(super) fn follow_move<T: HasItem, const N: usize>(
 // from now on. Only memory can be missing (F7).
 #[cold]
 #[inline(never)]
-fn reserve_dates<T: HasItem, const N: usize>(
+fn make_room<T: HasItem, const N: usize>(
     dates: &mut Tracking,
     lists: &Lists<T, N>,
-    searched: usize,
+    searched: u8,
     alloc: Global,
 ) -> Result<()>
     requires { Knows N 0 (dates_at T.item_of lists.now.lists) dates.old }
@@ -163,7 +166,12 @@ fn reserve_dates<T: HasItem, const N: usize>(
             Ok(())
         }
         Tracking::Tracked(index) => {
-            let reserved = index.reserve(lists.span());
+            let span = lists.span();
+            if span > MOST {
+                *dates = Tracking::Untracked;
+                return Ok(());
+            }
+            let reserved = index.reserve(span);
             if reserved.is_err() {
                 *dates = Tracking::Untracked;
             }
@@ -172,12 +180,33 @@ fn reserve_dates<T: HasItem, const N: usize>(
     }
 }
 
+// The same, where there often is such room.
+#[cold]
+#[inline(never)]
+fn reserve_dates<T: HasItem, const N: usize>(
+    dates: &mut Tracking,
+    lists: &Lists<T, N>,
+    searched: u8,
+    alloc: Global,
+) -> Result<()>
+    requires { Knows N 0 (dates_at T.item_of lists.now.lists) dates.old }
+    ensures known { Knows N lists.now.span (dates_at T.item_of lists.now.lists) dates.new }
+    ensures refused { IfErr result (λ e. e ≡ NoMemory) }
+{
+    if let Tracking::Tracked(index) = dates {
+        if index.has_room(lists.span()) {
+            return Ok(());
+        }
+    }
+    make_room(dates, lists, searched, alloc)
+}
+
 /// Follows a span that has grown, and makes room for the date of one more item. Only memory can be missing (F7).
 #[inline(always)]
 pub(super) fn follow_span<T: HasItem, const N: usize>(
     dates: &mut Tracking,
     lists: &Lists<T, N>,
-    searched: usize,
+    searched: u8,
     alloc: Global,
 ) -> Result<()>
     requires { Knows N 0 (dates_at T.item_of lists.now.lists) dates.old }

@@ -116,7 +116,11 @@ impl<T: HasItem, const N: usize> DatedLists<T, N> {
                 if due_at(self.lists.get(front).item(), now) {
                     return Some(front);
                 }
-                dates.first(list, now)
+                if list < dates.lists() {
+                    dates.first(list, now)
+                } else {
+                    first_of_list(&self.lists, list, now)
+                }
             }
         }
     }

@@ -24,7 +24,7 @@ impl Tracking {
     #[cold]
     #[inline(never)]
     pub(super) fn push(&mut self, list: usize, place: Place, date: u64)
-        requires { CanPush list place self.old }
+        requires { CanPush place self.old }
         ensures { (n span : ℕ) (are : ℕ → List _) → list < n → Knows n span are self.old
             → Knows n span (with_last list place date are) self.new }
     {
@@ -37,16 +37,17 @@ impl Tracking {
         }
     }
 
-    /// Takes account of an item that expires and goes. It takes no memory.
+    /// Takes account of an item that expires and goes from a list; `was_first` tells whether it was the first there. It
+    /// takes no memory.
     #[cold]
     #[inline(never)]
-    pub(super) fn remove(&mut self, place: Place)
-        requires { CanRemove place self.old }
+    pub(super) fn remove(&mut self, list: usize, place: Place, date: u64, was_first: bool)
+        requires { CanRemove list place self.old }
         ensures { (n span : ℕ) (are : ℕ → List _) → Knows n span are self.old
             → Knows n span (λ k. drop_place place (are k)) self.new }
     {
         if let Tracking::Tracked(dates) = self {
-            dates.remove(place);
+            dates.remove(list, place, date, was_first);
         }
     }
 }

@@ -1,12 +1,13 @@
 //! Slots for the dates of lists.
 
-ghost use Rattle.std.specs.Prelude.{◌≡◌, ◌≢◌, ℕ, ◌+◌, ◌/◌, ◌<◌, ◌≤◌, [], None, Some, IfErr, IfOk, IsSome, IsTrue, OnOk, drop, length, slice_get, slice_index, vec_len};
+ghost use Rattle.std.specs.Prelude.{◌≡◌, ◌≢◌, ℕ, ◌+◌, ◌/◌, ◌^◌, ◌<◌, ◌≤◌, [], None, Some, IfErr, IfNone, IfOk, IfSome, IsSome, IsTrue, OnOk, drop, length, slice_get, slice_index, vec_len};
 ghost use Rattle.foyer_policy.specs.Dates.{first_by, with_last};
 ghost use Rattle.foyer_policy.specs.DateSlots.{on_of, taken_of, AreAbove, AreBounded, AreDates, AreEmptyFrom, AreIndexed, ArePlaced, HaveLeaves, SameDates};
 ghost use Rattle.foyer_policy.specs.Lists.{drop_place, find_in};
 ghost use Rattle.foyer_policy.specs.declared.error.Reason.TheVariants.{NoMemory};
 
-use crate::error::{Error, Reason, Result};
+use super::MOST;
+use crate::error::Result;
 use crate::lists::Place;
 use crate::min_tree::MinTree;
 use std::alloc::Global;
@@ -15,14 +16,14 @@ use std::alloc::Global;
 const BLOCK: usize = 32;
 
 // What an empty slot has in place of the number of a list.
-const NO_LIST: usize = usize::MAX;
+const NO_LIST: u32 = u32::MAX;
 
-// A place with its date and the number of its list. A slot whose number is no list's is empty.
+// The number of a place with its date and the number of its list. A slot whose number is no list's is empty.
 #[derive(Clone, Copy)]
 struct Slot {
-    place: Place,
     date: u64,
-    list: usize,
+    place: u32,
+    list: u32,
 }
 
 /// Slots in the order in which their dates came, with what finds a place or a date among them.
@@ -34,12 +35,10 @@ pub(super) struct Slots {
     // How many slots are not empty.
     taken: usize,
     // The slot of each place that has a date, and of others any number.
-    slot_of: Vec<usize>,
-    // Of each list, for every few slots, a number that no date of it in these is below.
+    slot_of: Vec<u32>,
+    // Of each list, for every few slots, a number that no date of it in these is below: the least, but for the slots that
+    // are marked, where it may be less.
     trees: Vec<MinTree>,
-    // How many of the lists, the first ones, are searched. Of the others these numbers are 0 once the slots close up, and
-    // then their dates come and go without a step in a tree.
-    searched: usize,
 }
 
 // A tree for each list, with a leaf for every block of so many slots.
@@ -66,7 +65,7 @@ fn least_date(slots: &[Slot], block: usize, list: usize) -> u64
     let mut least = u64::MAX;
     for index in start..end {
         let slot = slots[index];
-        if slot.list == list && slot.date < least {
+        if slot.list as usize == list && slot.date < least {
             least = slot.date;
         }
     }
@@ -84,39 +83,37 @@ fn refresh(tree: &mut MinTree, slots: &[Slot], block: usize, list: usize)
     tree.set(block, least_date(slots, block, list));
 }
 
-// A number that no date of a list in a block is below: the least one there, or 0, which no look at the slots wants.
-fn bound_of(slots: &[Slot], block: usize, list: usize, is_searched: bool) -> u64
-    ensures { (j : ℕ) (s : Slot) → slice_get slots.now j ≡ Some s → s.list ≡ list → j / 32 ≡ block
-        → result ≤ s.date }
-{
-    if is_searched {
-        least_date(slots, block, list)
-    } else {
-        0
-    }
-}
-
 // Sets the leaves of a tree for so many slots.
-fn refresh_all(tree: &mut MinTree, slots: &[Slot], limit: usize, list: usize, is_searched: bool)
+fn refresh_all(tree: &mut MinTree, slots: &[Slot], limit: usize, list: usize)
     requires leaves { limit / 32 < length tree.old }
     requires within { length slots.now ≤ limit }
     ensures length { length tree.new ≡ length tree.old }
     ensures above { AreAbove list slots.now tree.new }
 {
     for block in 0..limit / BLOCK + 1 {
-        tree.set(block, bound_of(slots, block, list, is_searched));
+        refresh(tree, slots, block, list);
     }
 }
 
-// Sets the leaf of a block anew, where a date that went may have been the least.
-fn raise(tree: &mut MinTree, slots: &[Slot], block: usize, gone: &Slot)
+// Sets the leaf of a block anew, where a date that went may have been the least. Where nothing of its list was before
+// that, the next to go is often beside it: then the block is marked, and its leaf set once another is.
+fn raise(tree: &mut MinTree, slots: &[Slot], block: usize, list: usize, gone: Gone)
     requires leaf { block < length tree.old }
-    requires above { AreAbove gone.now.list slots.now tree.old }
+    requires above { AreAbove list slots.now tree.old }
     ensures length { length tree.new ≡ length tree.old }
-    ensures above { AreAbove gone.now.list slots.now tree.new }
+    ensures above { AreAbove list slots.now tree.new }
 {
-    if gone.date <= tree.get(block) {
-        refresh(tree, slots, block, gone.list);
+    if gone.date > tree.get(block) {
+        return;
+    }
+    if !gone.was_first {
+        refresh(tree, slots, block, list);
+        return;
+    }
+    let marked = tree.marked();
+    if marked != block {
+        refresh(tree, slots, marked, list);
+        tree.mark(block);
     }
 }
 
@@ -133,8 +130,9 @@ fn lower(tree: &mut MinTree, block: usize, date: u64)
 }
 
 // Moves the slots that are taken to the front, in order, and answers how many these are.
-fn gather(slots: &mut [Slot], slot_of: &mut [usize], lists: usize) -> usize
-    requires { AreIndexed lists slots.old slot_of.old }
+fn gather(slots: &mut [Slot], slot_of: &mut [u32], lists: usize) -> usize
+    requires indexed { AreIndexed lists slots.old slot_of.old }
+    requires few { (length slots.old < 2 ^ 32) × (lists < 2 ^ 32) }
     ensures indexed { AreIndexed lists slots.new slot_of.new }
     ensures same { (k : ℕ) → k < lists → on_of k slots.new ≡ on_of k slots.old }
     ensures count { taken_of lists slots.new ≡ taken_of lists slots.old }
@@ -144,50 +142,56 @@ fn gather(slots: &mut [Slot], slot_of: &mut [usize], lists: usize) -> usize
     let mut to = 0;
     for from in 0..slots.len() {
         let slot = slots[from];
-        if slot.list < lists {
-            let place = slot.place.number();
+        if (slot.list as usize) < lists {
+            let place = slot.place as usize;
             slots[from] = Slot {
                 list: NO_LIST,
                 ..slot
             };
             slots[to] = slot;
-            slot_of[place] = to;
+            slot_of[place] = to as u32;
             to += 1;
         }
     }
     to
 }
 
-// The place of the first slot of a list, from a slot on, whose date is not behind a moment.
-fn first_from(slots: &[Slot], start: usize, list: usize, now: u64) -> Option<Place>
-    ensures { result ≡ first_by now (on_of list (drop start slots.now)) }
+// The place of the first slot of a list, from a slot on and before another, whose date is not behind a moment.
+fn first_between(slots: &[Slot], start: usize, end: usize, list: usize, now: u64) -> Option<Place>
+    ensures some { IfSome result (λ p. first_by now (on_of list (drop start slots.now)) ≡ Some p) }
+    ensures none { IfNone result ((j : ℕ) (s : Slot) → slice_get slots.now j ≡ Some s → start ≤ j → j < end
+        → s.list ≡ list → now < s.date) }
 {
-    for index in start..slots.len() {
+    for index in start..end.min(slots.len()) {
         let slot = slots[index];
-        if slot.list == list && slot.date <= now {
-            return Some(slot.place);
+        if slot.list as usize == list && slot.date <= now {
+            return Some(Place::at(slot.place as usize));
         }
     }
     None
 }
 
+/// What is known of a date that goes.
+#[derive(Clone, Copy)]
+pub(super) struct Gone {
+    pub(super) date: u64,
+    /// Whether its place was the first of its list.
+    pub(super) was_first: bool,
+}
+
 impl Slots {
-    /// No slots, of so many lists, of which the first ones are searched, for places below `span`, and with room for so
-    /// many. Only memory can be missing (F7).
-    pub(super) fn new(
-        alloc: Global,
-        lists: usize,
-        searched: usize,
-        span: usize,
-        limit: usize,
-    ) -> Result<Self>
+    /// No slots, of so many lists, for places below `span`, and with room for so many or for 2^32 - 1. Only memory can be
+    /// missing (F7).
+    pub(super) fn new(alloc: Global, lists: u8, span: usize, limit: usize) -> Result<Self>
+        requires { span < 2 ^ 32 }
         ensures dates { IfOk result AreDates }
         ensures none { IfOk result (λ s. s.slots.items ≡ []) }
         ensures lists { IfOk result (λ s. length s.trees.items ≡ lists) }
         ensures span { IfOk result (λ s. length s.slot_of.items ≡ span) }
         ensures refused { IfErr result (λ e. e ≡ NoMemory) }
     {
-        let trees = new_trees(alloc, lists, limit)?;
+        let limit = limit.min(MOST);
+        let trees = new_trees(alloc, usize::from(lists), limit)?;
         let slots = Vec::with_capacity(alloc, limit)?;
         let mut slot_of = Vec::new(alloc);
         slot_of.resize(span, 0)?;
@@ -197,13 +201,13 @@ impl Slots {
             taken: 0,
             slot_of,
             trees,
-            searched,
         })
     }
 
     /// Has a place for each number below `span`. Only memory can be missing (F7); nothing else changes.
     pub(super) fn widen(&mut self, span: usize) -> Result<()>
-        requires { AreDates self.old }
+        requires dates { AreDates self.old }
+        requires few { span < 2 ^ 32 }
         ensures dates { AreDates self.new }
         ensures same { SameDates self.old self.new }
         ensures span { OnOk result (span ≤ length self.new.slot_of.items) }
@@ -216,26 +220,32 @@ impl Slots {
         Ok(())
     }
 
-    /// Makes room until more than half as many slots as are taken are not. Only memory can be missing (F7); nothing
-    /// else changes.
-    pub(super) fn grow(&mut self, alloc: Global) -> Result<()>
+    /// Whether there is a place for each number below `span`, and more than half as many slots as are taken are not,
+    /// where `more` are to be taken besides.
+    #[inline(always)]
+    pub(super) fn has_room(&self, span: usize, more: usize) -> bool
+        ensures { IsTrue result → span ≤ length self.now.slot_of.items }
+    {
+        let count = self.taken.saturating_add(more);
+        span <= self.slot_of.len() && count / 2 < self.limit.saturating_sub(count)
+    }
+
+    /// Makes room until more than half as many slots as are taken are not, where `more` are to be taken besides, or there
+    /// are 2^32 - 1. Only memory can be missing (F7); nothing else changes.
+    pub(super) fn grow(&mut self, alloc: Global, more: usize) -> Result<()>
         requires { AreDates self.old }
         ensures dates { AreDates self.new }
         ensures same { SameDates self.old self.new }
         ensures span { length self.new.slot_of.items ≡ length self.old.slot_of.items }
         ensures refused { IfErr result (λ e. e ≡ NoMemory) }
     {
-        if self.taken / 2 < self.limit - self.taken {
+        let count = self.taken.saturating_add(more);
+        if count / 2 < self.limit.saturating_sub(count) || self.limit == MOST {
             return Ok(());
         }
-        let Some(twice) = self.taken.checked_mul(2) else {
-            return Err(Error::new(Reason::NoMemory));
-        };
-        let Some(wanted) = twice.checked_add(BLOCK) else {
-            return Err(Error::new(Reason::NoMemory));
-        };
-        self.slots.reserve(wanted - self.slots.len())?;
-        let limit = self.slots.capacity();
+        let wanted = count.saturating_mul(2).saturating_add(BLOCK).min(MOST);
+        self.slots.reserve(wanted.saturating_sub(self.slots.len()))?;
+        let limit = self.slots.capacity().min(MOST);
         let trees = new_trees(alloc, self.trees.len(), limit)?;
         self.limit = limit;
         self.trees = trees;
@@ -274,14 +284,7 @@ impl Slots {
         let taken = gather(&mut self.slots, &mut self.slot_of, lists);
         self.slots.truncate(taken);
         for list in 0..lists {
-            let is_searched = list < self.searched;
-            refresh_all(
-                &mut self.trees[list],
-                &self.slots,
-                self.limit,
-                list,
-                is_searched,
-            );
+            refresh_all(&mut self.trees[list], &self.slots, self.limit, list);
         }
     }
 
@@ -302,36 +305,44 @@ impl Slots {
         let index = self.slots.len();
         let number = place.number();
         self.taken += 1;
-        self.slots.push_reserved(Slot { place, date, list });
-        self.slot_of[number] = index;
+        self.slots.push_reserved(Slot {
+            date,
+            place: number as u32,
+            list: list as u32,
+        });
+        self.slot_of[number] = index as u32;
         lower(&mut self.trees[list], index / BLOCK, date);
     }
 
-    /// Empties the slot of a place, which must have a date. It takes no memory.
-    pub(super) fn take_out(&mut self, place: Place)
+    /// Empties the slot of a place, which must have a date in this list. It takes no memory.
+    pub(super) fn take_out(&mut self, list: usize, place: Place, gone: Gone)
         requires dates { AreDates self.old }
-        requires there { (k : ℕ) × (k < length self.old.trees.items)
-            × IsSome (find_in place (on_of k self.old.slots.items)) }
+        requires list { list < length self.old.trees.items }
+        requires there { IsSome (find_in place (on_of list self.old.slots.items)) }
         ensures dates { AreDates self.new }
         ensures gone { (k : ℕ) → k < length self.old.trees.items
             → on_of k self.new.slots.items ≡ drop_place place (on_of k self.old.slots.items) }
         ensures lists { length self.new.trees.items ≡ length self.old.trees.items }
         ensures span { length self.new.slot_of.items ≡ length self.old.slot_of.items }
     {
-        let place = place.number();
-        let index = self.slot_of[place];
-        let gone = self.slots[index];
-        self.slots[index] = Slot {
-            list: NO_LIST,
-            ..gone
-        };
+        let index = self.slot_of[place.number()] as usize;
+        self.slots[index].list = NO_LIST;
         self.taken -= 1;
         raise(
-            &mut self.trees[gone.list],
+            &mut self.trees[list],
             &self.slots,
             index / BLOCK,
-            &gone,
+            list,
+            gone,
         );
+    }
+
+    /// How many lists there are.
+    #[inline(always)]
+    pub(super) fn lists(&self) -> usize
+        ensures { result ≡ length self.now.trees.items }
+    {
+        self.trees.len()
     }
 
     /// The first place of a list whose date is not behind a moment.
@@ -340,7 +351,17 @@ impl Slots {
         requires list { list < length self.now.trees.items }
         ensures { result ≡ first_by now (on_of list self.now.slots.items) }
     {
-        let block = self.trees[list].first(now)?;
-        first_from(&self.slots, block.saturating_mul(BLOCK), list, now)
+        let tree = &self.trees[list];
+        let block = tree.first(now)?;
+        let start = block.saturating_mul(BLOCK);
+        let end = start.saturating_add(BLOCK);
+        let found = first_between(&self.slots, start, end, list, now);
+        if found.is_some() {
+            return found;
+        }
+        // It is the marked one.
+        let block = tree.first_after(block, now)?;
+        let start = block.saturating_mul(BLOCK);
+        first_between(&self.slots, start, self.slots.len(), list, now)
     }
 }

@@ -21,8 +21,8 @@ returns-in-Plain-clause-first g c =
     (sym (ap first_item (none-due item c.args.now (list_at i.lists.lists c.args.list)
     (known c.args.list c.requires))))
 
-pub returns-else-due_at-clause-there : goal.returns-else-due_at-clause-there
-returns-else-due_at-clause-there g c =
+pub returns-then-list-lists-clause-there : goal.returns-then-list-lists-clause-there
+returns-then-list-lists-clause-there g c =
     let item = g.T.HasItem.item_of in
     let i = c.self.inside in
     let known : Knows g.row.N i.lists.span (dates_at item i.lists.lists) (Tracked c.in-Tracked.dates) =
@@ -32,12 +32,13 @@ returns-else-due_at-clause-there g c =
     let due : FirstDue item c.args.now (first_by c.args.now (dates_at item i.lists.lists c.args.list))
     (list_at i.lists.lists c.args.list) =
     first-due item c.args.now (list_at i.lists.lists c.args.list) (apart.within c.args.list lt) in
-    rw (← c.self.view_is, c.first.ensures, known.same c.args.list c.requires)
+    let less : c.args.list < c.in-Tracked.dates.lists = omega arith in
+    rw (← c.self.view_is, c.first.ensures, known.same c.args.list less)
     (due-there item g.row.N i.lists.lists apart c.args.now c.args.list
     (first_by c.args.now (dates_at item i.lists.lists c.args.list)) c.requires due)
 
-pub returns-else-due_at-clause-first : goal.returns-else-due_at-clause-first
-returns-else-due_at-clause-first g c =
+pub returns-then-list-lists-clause-first : goal.returns-then-list-lists-clause-first
+returns-then-list-lists-clause-first g c =
     let item = g.T.HasItem.item_of in
     let i = c.self.inside in
     let known : Knows g.row.N i.lists.span (dates_at item i.lists.lists) (Tracked c.in-Tracked.dates) =
@@ -47,7 +48,8 @@ returns-else-due_at-clause-first g c =
     let due : FirstDue item c.args.now (first_by c.args.now (dates_at item i.lists.lists c.args.list))
     (list_at i.lists.lists c.args.list) =
     first-due item c.args.now (list_at i.lists.lists c.args.list) (apart.within c.args.list lt) in
-    rw (← c.self.view_is, c.first.ensures, known.same c.args.list c.requires)
+    let less : c.args.list < c.in-Tracked.dates.lists = omega arith in
+    rw (← c.self.view_is, c.first.ensures, known.same c.args.list less)
     (due-first item g.row.N i.lists.lists apart c.args.now c.args.list
     (first_by c.args.now (dates_at item i.lists.lists c.args.list)) c.requires due)
 

@@ -5,7 +5,7 @@ use Rattle.foyer_policy.proofs.dated_lists.building.push_dates.Given as goal
 
 -- of this list, those dates that were met
 abbrev pub invariant-loop-next : goal.invariant-loop-next
-invariant-loop-next g l = Collects g.T.HasItem.item_of g.row.N l.lists.span l.lists.lists l.list l.next l.dates
+invariant-loop-next g l = Collects g.T.HasItem.item_of l.fn.dates.lists l.lists.span l.lists.lists l.list l.next l.dates
 
 abbrev pub decreases-loop-next : goal.decreases-loop-next
 decreases-loop-next g l = left l.next (list_at l.lists.lists l.list)

@@ -10,8 +10,8 @@ pub push-requires : goal.push-requires
 push-requires g c =
     let item = g.T.HasItem.item_of in
     let ls = c.args.lists.now.lists in
-    CanPush-free g.row.N c.args.lists.now.span (dates_at item ls) c.args.list c.args.place c.args.dates.now
-    c.requires.known c.requires.list c.requires.within
+    CanPush-free g.row.N c.args.lists.now.span (dates_at item ls) c.args.place c.args.dates.now
+    c.requires.known c.requires.within
     (λ k lt. dates-free item c.args.place (list_at ls k) (free_at c.args.place ls k c.requires.free))
 
 pub returns-in-Some : goal.returns-in-Some

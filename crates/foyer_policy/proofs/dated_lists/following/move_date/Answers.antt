@@ -10,15 +10,16 @@ remove-requires g c =
     let is : (item c.get.result.now).expires ≡ Some c.in-Some.date =
     ap (λ i. i.expires) (sym c.item.ensures) ∙ c.in-Some.is in
     CanRemove-found item g.row.N c.args.lists.now.lists c.get.ensures.apart c.args.place c.get.result.now
-    c.get.ensures.value c.args.lists.now.span c.in-Some.date c.args.dates.now c.requires.known is
+    c.get.ensures.value c.args.lists.now.span c.in-Some.date c.list_of-from.result c.args.dates.now c.requires.known is
+    c.list_of-from.ensures.within c.list_of-from.ensures.stands
 
 pub push-requires : goal.push-requires
 push-requires g c =
     let item = g.T.HasItem.item_of in
     let ls = c.args.lists.now.lists in
     let p = c.args.place in
-    CanPush-free g.row.N c.args.lists.now.span (λ k. drop_place p (dates_at item ls k)) c.args.list p c.remove.new.self
-    (c.remove.ensures g.row.N c.args.lists.now.span (dates_at item ls) c.requires.known) c.requires.list
+    CanPush-free g.row.N c.args.lists.now.span (λ k. drop_place p (dates_at item ls k)) p c.remove.new.self
+    (c.remove.ensures g.row.N c.args.lists.now.span (dates_at item ls) c.requires.known)
     (c.span.ensures.within p c.requires.there)
     (λ k lt. dropped-free item g.row.N ls c.get.ensures.apart p k lt)
 

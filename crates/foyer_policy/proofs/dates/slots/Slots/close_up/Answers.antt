@@ -33,7 +33,7 @@ loop-list-init c =
       placed = ArePlaced-closed s c.requires c.gather-taken.new.slots c.gather-taken.new.slot_of c.gather-taken.result
           (rw l at g.indexed) (rw (l, v) at g.same) (rw (l, v) at g.count) (rw (l, v) at g.taken) (rw l at g.rest)
           c.truncate.new.self (items c) (with_items s.slot_of c.gather-taken.new.slot_of) (found c)
-          c.truncate.ensures.capacity;
+          (omega arith) c.truncate.ensures.capacity;
       slots = refl;
       lists = refl;
       span = refl;

@@ -13,7 +13,8 @@ returns-clause-dates c =
     let tree = get_or_read s.trees.items _ _ q.list c.index_mut-2.ensures.value [] in
     rw (c.number-number.ensures, index)
     (AreDates-taken s q.dates t q.room q.list q.within q.free c.push_reserved.new.self c.lower.new.tree
-    c.push_reserved.ensures.items c.push_reserved.ensures.capacity (c.lower.ensures.length ∙ ap length tree)
+    (rw c.number-number.ensures at c.push_reserved.ensures.items)
+    c.push_reserved.ensures.capacity (c.lower.ensures.length ∙ ap length tree)
     (rw index at c.lower.ensures.here) (rw tree at c.lower.ensures.less))
 
 pub returns-clause-on : goal.returns-clause-on
@@ -21,4 +22,4 @@ returns-clause-on c =
     let s = c.args.self.now in
     let q = c.requires in
     let t : Slot = record { place = c.args.place; date = c.args.date; list = c.args.list } in
-    λ k less. rw c.push_reserved.ensures.items (entry_last s q.dates t q.room q.list q.within q.free k)
+    λ k less. rw (c.push_reserved.ensures.items, c.number-number.ensures) (entry_last s q.dates t q.room q.list q.within q.free k)

@@ -14,6 +14,7 @@ returns-clause-dates c =
         s.slot_of.ok.0,
       ) in
           rw w.self-is
-          (AreDates-widened s w.resize.new.self c.args.span _ c.requires less w.in_ok-resize.ensures.items))
-      | else-len-span w ↦ rw w.self-is c.requires
+          (AreDates-widened s w.resize.new.self c.args.span _ c.requires.dates less w.in_ok-resize.ensures.items
+          (omega (arith, c.requires.few, w.in_ok-resize.ensures, less))))
+      | else-len-span w ↦ rw w.self-is c.requires.dates
     ]
