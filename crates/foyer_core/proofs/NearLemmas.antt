@@ -1,62 +1,282 @@
--- Slots that are named at the places of ids: what stays once there are more places.
-use Rattle.std.proofs.Common.{◌≡◌, ◌≢◌, ℕ, zero, suc, ◌+◌, ◌-◌, ◌%◌, ◌^◌, ◌<◌, ◌≤◌, List, [], ◌∷◌, ◌++◌, Option, Some, None, Bool, true, false, length, refl, sym, ◌∙◌, ap, subst, inl, inr, arith}
-use Rattle.std.specs.Prelude.{◌==◌, if◌then◌else◌, IsSome, nat_eq, slice_get, slice_set}
+-- Slots of ids: what naming one and taking one away make of them, and what stays once there are more places.
+use Rattle.std.proofs.Common.{◌≡◌, ◌≢◌, ℕ, zero, suc, ◌+◌, ◌-◌, ◌*◌, ◌/◌, ◌%◌, ◌^◌, ◌<◌, ◌≤◌, ◌⊎◌, List, [], ◌∷◌, ◌++◌, Option, Some, None, true, false, length, refl, sym, ◌∙◌, ap, subst, inl, inr, arith}
+use Rattle.std.specs.Prelude.{IsSome, slice_index_or, nat_eq, slice_get, slice_set}
 use Rattle.std.specs.Map.{update}
 use Rattle.std.proofs.lemmas.Bool.Decides.{eqb_tells, leb_tells}
+use Rattle.std.proofs.lemmas.List.{length-set}
 use Rattle.std.proofs.lemmas.Map.{update_here, update_apart}
-use Rattle.std.proofs.lemmas.Option.{none-some}
-use Rattle.std.proofs.lemmas.Nat.{pow_pos}
-use Rattle.std.proofs.Math.Nat.{mod-lt}
+use Rattle.std.proofs.Math.Bool.{true≢false}
+use Rattle.std.proofs.Math.Nat.{pow-zero, pow-suc}
 use Rattle.std.proofs.Math.Pow.{mod-mod-pow}
-use Rattle.foyer_core.specs.Near.{slot_named, slot_near, or_slot, AreApart}
-use Rattle.foyer_core.specs.declared.records.ids.Named.{Named}
+use Rattle.std.proofs.lemmas.Option.{none-some, slice_get-get_or}
+use Rattle.std.proofs.lemmas.Nat.{div-add-mod', mod-mul-add, mod_below, pow_pos}
+use Rattle.foyer_core.specs.Near.{slot_at, slot_near, or_slot, is_recent, AreApart}
+use Rattle.foyer_core.specs.declared.records.ids.Standing.{Standing}
 use Rattle.foyer_core.proofs.CoreLemmas.{set_here, set_apart}
 use Rattle.foyer_core.proofs.StoredLemmas.{none_not}
 
--- a place that names no slot
-pub named-free : (n : Named) (id : ℕ) → n.slot ≡ None → slot_named (Some n) id ≡ None
-named-free n id free = go (n.id == id) where
-  go : (b : Bool) → (if b then n.slot else None) ≡ None
-  go true = free
-  go false = refl
+-- numbers that are less than so many apart, and not equal, have other rests
+pub rests_apart : (m a b : ℕ) → a < b → b < a + m → a % m ≢ b % m
+rests_apart m a b less near e =
+    let whole : a / m * m + a % m ≡ a = div-add-mod' a m in
+    let low : a % m < m = mod_below a m (omega (arith, less, near)) in
+    elim (leb_tells m (a % m + (b - a))) [
+      | inl over ↦
+          (let is : b ≡ (a / m + 1) * m + (a % m + (b - a) - m) = omega (arith, whole, less, over.1) in
+          let rest : b % m ≡ a % m + (b - a) - m =
+          ap (λ (n : ℕ). n % m) is ∙ mod-mul-add (a / m + 1) m (a % m + (b - a) - m) (omega (arith, low, near, over.1)) in
+          omega (arith, e, rest, less, near, over.1))
+      | inr under ↦
+          (let is : b ≡ a / m * m + (a % m + (b - a)) = omega (arith, whole, less) in
+          let rest : b % m ≡ a % m + (b - a) = ap (λ (n : ℕ). n % m) is ∙ mod-mul-add (a / m) m (a % m + (b - a)) under.1 in
+          omega (arith, e, rest, less))
+    ]
 
--- a place that names another id
-named-apart : (n : Named) (id : ℕ) → n.id ≢ id → slot_named (Some n) id ≡ None
-named-apart n id apart = elim (eqb_tells n.id id) [
-  | inl e ↦ absurd (apart e.1)
-  | inr e ↦ ap (λ (b : Bool). if b then n.slot else None) e.0
+-- whether an id is one of the last
+pub recent_tells : (many end id : ℕ) → ((is_recent many end id ≡ true) × ((id < end) × (end ≤ id + many)))
+    ⊎ ((is_recent many end id ≡ false) × (id < end → id + many < end))
+recent_tells many end id = elim (leb_tells (suc id) end) [
+  | inl before ↦ elim (leb_tells (end - id) many) [
+    | inl few ↦ inl (rw (before.0, few.0) refl, (before.1, omega (arith, before.1, few.1)))
+    | inr more ↦ inr (rw (before.0, more.0) refl, λ _. omega (arith, before.1, more.1))
+  ]
+  | inr behind ↦ inr (rw behind.0 refl, λ less. absurd (omega (arith, less, behind.1)))
 ]
 
--- the low bits of an id are those of its place by more bits
-low_bits : (id fewer bits place : ℕ) → fewer ≤ bits → id % 2 ^ bits ≡ place → id % 2 ^ fewer ≡ place % 2 ^ fewer
-low_bits id fewer bits place more at =
-    let sum : (bits - fewer) + fewer ≡ bits = omega arith in
-    sym (mod-mod-pow id (bits - fewer) fewer) ∙ ap (λ (n : ℕ). id % 2 ^ n % 2 ^ fewer) sum
-    ∙ ap (λ (n : ℕ). n % 2 ^ fewer) at
+-- what the places have for an id that is one of the last
+pub near_recent : (near : List Standing) (end id many : ℕ) → length near ≡ many → is_recent many end id ≡ true →
+    slot_near end near id ≡ slot_at (slice_get near (id % many))
+near_recent near end id many long is = rw long (rw is refl)
 
-module _ (near : List Named) (fewer bits place from : ℕ) (more : fewer ≤ bits) (low : from ≡ place % 2 ^ fewer) where
-  -- what an id's place by fewer bits names
-  from_there : (o : Option Named) → slice_get near from ≡ o → (id : ℕ) → id % 2 ^ bits ≡ place →
-      slot_near fewer near id ≡ slot_named o id
-  from_there o there id at = ap (λ (p : ℕ). slot_named (slice_get near p) id)
-      (low_bits id fewer bits place more at ∙ sym low) ∙ ap (λ (o : Option Named). slot_named o id) there
+-- and for another
+pub near_past : (near : List Standing) (end id many : ℕ) → length near ≡ many → is_recent many end id ≡ false →
+    slot_near end near id ≡ None
+near_past near end id many long is = rw long (rw is refl)
 
-  -- it stays
-  pub stays-here : (n : Named) → slice_get near from ≡ Some n → (id : ℕ) → id % 2 ^ bits ≡ place →
-      slot_named (Some n) id ≡ slot_near fewer near id
-  stays-here n there id at = sym (from_there (Some n) there id at)
+-- an id that has a slot by the places is one of the last
+pub recent_some : (near : List Standing) (end id : ℕ) → IsSome (slot_near end near id)
+    → is_recent (length near) end id ≡ true
+recent_some near end id is = elim (recent_tells (length near) end id) [
+  | inl r ↦ r.0
+  | inr r ↦ absurd (none_not (slot_near end near id) is (near_past near end id (length near) refl r.0))
+]
 
-  -- it stands elsewhere
-  pub stays-apart : (n free : Named) → slice_get near from ≡ Some n → n.id % 2 ^ bits ≢ place → free.slot ≡ None
-      → (id : ℕ) → id % 2 ^ bits ≡ place → slot_named (Some free) id ≡ slot_near fewer near id
-  stays-apart n free there apart none id at =
-      named-free free id none ∙ sym (named-apart n id (λ e. apart (ap (λ (q : ℕ). q % 2 ^ bits) e ∙ at)))
-      ∙ sym (from_there (Some n) there id at)
+-- of which there are some
+pub some_recent : (many end id : ℕ) → is_recent many end id ≡ true → 0 < many
+some_recent many end id is = elim (recent_tells many end id) [
+  | inl r ↦ omega (arith, r.1)
+  | inr r ↦ absurd (true≢false (sym is ∙ r.0))
+]
 
-  -- there is nothing
-  pub stays-none : (free : Named) → slice_get near from ≡ None → free.slot ≡ None
-      → (id : ℕ) → id % 2 ^ bits ≡ place → slot_named (Some free) id ≡ slot_near fewer near id
-  stays-none free there none id at = named-free free id none ∙ sym (from_there None there id at)
+-- none of both is none of the second
+pub not_far : (o other : Option ℕ) → or_slot o other ≡ None → other ≡ None
+not_far None other is = is
+not_far (Some n) other is = absurd (none-some n (sym is))
+
+-- the rest of the number that is so many behind
+rest_next : (m a b : ℕ) → 0 < m → a + m ≡ b → a % m ≡ b % m
+rest_next m a b some is =
+    let whole : a / m * m + a % m ≡ a = div-add-mod' a m in
+    let next : b ≡ (a / m + 1) * m + a % m = omega (arith, whole, is) in
+    sym (ap (λ (n : ℕ). n % m) next ∙ mod-mul-add (a / m + 1) m (a % m) (mod_below a m some))
+
+-- the next id is named at its place, where an older one may have stood
+module _ (near : List Standing) (far : ℕ → Option ℕ) (end place slot : ℕ) (n older : Standing) (some : 0 < length near)
+    (at : place ≡ end % length near) (stood : slice_get near place ≡ Some older) (to : slot_at (Some n) ≡ Some slot)
+    where
+  abbrev many : ℕ
+  many = length near
+
+  -- the places then
+  abbrev pub places_then : List Standing
+  places_then = slice_set near place n
+
+  -- what an id had by both
+  abbrev pub had : ℕ → Option ℕ
+  had q = or_slot (slot_near end near q) (far q)
+
+  as_many : length places_then ≡ many
+  as_many = length-set near place n
+
+  -- of the last that stay, each has what it had
+  stays : (q : ℕ) → q ≢ end → is_recent many (end + 1) q ≡ true → (q < end + 1) × (end + 1 ≤ q + many) →
+      slot_near (end + 1) places_then q ≡ slot_near end near q
+  stays q apart is within =
+      let less : q < end = omega (arith, apart, within.0) in
+      let other : q % many ≢ place = λ e. rests_apart many q end less (omega (arith, within.1)) (e ∙ at) in
+      let was : is_recent many end q ≡ true = elim (recent_tells many end q) [
+        | inl r ↦ r.0
+        | inr r ↦ absurd (let x = r.1 less in omega (arith, x, within.1))
+      ] in
+      near_recent places_then (end + 1) q many as_many is ∙ ap slot_at (set_apart near place (q % many) n other)
+      ∙ sym (near_recent near end q many refl was)
+
+  -- where the older one, and no other, is far by now
+  module _ (far' : ℕ → Option ℕ) (went : (q : ℕ) → q + many ≡ end → far' q ≡ or_slot (slot_at (Some older)) (far q))
+      (rest : (q : ℕ) → q + many ≢ end → far' q ≡ far q) where
+    pub named : (q : ℕ) → or_slot (slot_near (end + 1) places_then q) (far' q) ≡ update nat_eq had end (Some slot) q
+    named q = elim (eqb_tells q end) [
+      | inl e ↦ subst (λ (x : ℕ). or_slot (slot_near (end + 1) places_then x) (far' x)
+          ≡ update nat_eq had end (Some slot) x) (sym e.1)
+          (ap (λ (o : Option ℕ). or_slot o (far' end))
+          (near_recent places_then (end + 1) end many as_many is_last
+          ∙ ap slot_at (ap (slice_get places_then) (sym at) ∙ set_here near place older n stood) ∙ to)
+          ∙ sym (update_here had end (Some slot)))
+      | inr e ↦ (elsewhere q e.1 ∙ sym (update_apart had end (Some slot) q e.1))
+    ] where
+      is_last : is_recent many (end + 1) end ≡ true
+      is_last = elim (recent_tells many (end + 1) end) [
+        | inl r ↦ r.0
+        | inr r ↦ absurd (let x = r.1 (omega arith) in omega (arith, x, some))
+      ]
+
+      elsewhere : (q : ℕ) → q ≢ end → or_slot (slot_near (end + 1) places_then q) (far' q) ≡ had q
+      elsewhere q apart = elim (recent_tells many (end + 1) q) [
+        | inl r ↦ (ap (λ (o : Option ℕ). or_slot o (far' q)) (stays q apart r.0 r.1)
+            ∙ ap (or_slot (slot_near end near q)) (rest q (λ e. omega (arith, e, r.1.1))))
+        | inr r ↦ (ap (λ (o : Option ℕ). or_slot o (far' q)) (near_past places_then (end + 1) q many as_many r.0)
+            ∙ elim (recent_tells many end q) [
+              | inl o ↦ (let is : q + many ≡ end = (let x = r.1 (omega (arith, o.1.0)) in omega (arith, x, o.1.1)) in
+                  went q is ∙ ap (λ (o : Option Standing). or_slot (slot_at o) (far q))
+                  (sym (ap (slice_get near) (rest_next many q end some is ∙ sym at) ∙ stood))
+                  ∙ ap (λ (o : Option ℕ). or_slot o (far q)) (sym (near_recent near end q many refl o.0)))
+              | inr o ↦ (rest q (λ e. (let x = o.1 (omega (arith, e, some)) in omega (arith, x, e)))
+                  ∙ ap (λ (o : Option ℕ). or_slot o (far q)) (sym (near_past near end q many refl o.0)))
+            ])
+      ]
+
+    pub apart-named : AreApart (slot_near end near) far → had end ≡ None → AreApart (slot_near (end + 1) places_then) far'
+    apart-named apart new q is = elim (eqb_tells q end) [
+      | inl e ↦ (ap far' e.1 ∙ rest end (λ x. omega (arith, x, some))
+          ∙ not_far (slot_near end near end) (far end) new)
+      | inr e ↦ elim (recent_tells many (end + 1) q) [
+        | inl r ↦ (rest q (λ x. omega (arith, x, r.1.1))
+            ∙ apart q (subst (λ (o : Option ℕ). IsSome o) (stays q e.1 r.0 r.1) is))
+        | inr r ↦ absurd (none_not (slot_near (end + 1) places_then q) is
+            (near_past places_then (end + 1) q many as_many r.0))
+      ]
+    ]
+
+-- another slot, or none, at the place of an id that is one of the last
+module _ (near : List Standing) (far : ℕ → Option ℕ) (end id place : ℕ) (s n : Standing)
+    (at : place ≡ id % length near) (there : slice_get near place ≡ Some s)
+    (recent : is_recent (length near) end id ≡ true) where
+  abbrev had_by : ℕ → Option ℕ
+  had_by q = or_slot (slot_near end near q) (far q)
+
+  as_long : length (slice_set near place n) ≡ length near
+  as_long = length-set near place n
+
+  within : (id < end) × (end ≤ id + length near)
+  within = elim (recent_tells (length near) end id) [
+    | inl r ↦ r.1
+    | inr r ↦ absurd (true≢false (sym recent ∙ r.0))
+  ]
+
+  other : (q : ℕ) → q ≢ id → slot_near end (slice_set near place n) q ≡ slot_near end near q
+  other q apart = elim (recent_tells (length near) end q) [
+    | inl r ↦ (let elsewhere : q % length near ≢ place = λ e. elim (leb_tells q id) [
+          | inl less ↦ rests_apart (length near) q id (omega (arith, less.1, apart)) (omega (arith, within, r.1)) (e ∙ at)
+          | inr more ↦ rests_apart (length near) id q more.1 (omega (arith, within, r.1)) (sym (e ∙ at))
+        ] in
+        near_recent (slice_set near place n) end q (length near) as_long r.0
+        ∙ ap slot_at (set_apart near place (q % length near) n elsewhere)
+        ∙ sym (near_recent near end q (length near) refl r.0))
+    | inr r ↦ (near_past (slice_set near place n) end q (length near) as_long r.0
+        ∙ sym (near_past near end q (length near) refl r.0))
+  ]
+
+  pub written : (q : ℕ) → or_slot (slot_near end (slice_set near place n) q) (far q)
+      ≡ update nat_eq (λ q. or_slot (slot_near end near q) (far q)) id (or_slot (slot_at (Some n)) (far id)) q
+  written q = elim (eqb_tells q id) [
+    | inl e ↦ subst (λ (x : ℕ). or_slot (slot_near end (slice_set near place n) x) (far x)
+        ≡ update nat_eq had_by id (or_slot (slot_at (Some n)) (far id)) x) (sym e.1)
+        (ap (λ (o : Option ℕ). or_slot o (far id))
+        (near_recent (slice_set near place n) end id (length near) as_long recent
+        ∙ ap slot_at (ap (slice_get (slice_set near place n)) (sym at) ∙ set_here near place s n there))
+        ∙ sym (update_here had_by id (or_slot (slot_at (Some n)) (far id))))
+    | inr e ↦ (ap (λ (o : Option ℕ). or_slot o (far q)) (other q e.1)
+        ∙ sym (update_apart had_by id (or_slot (slot_at (Some n)) (far id)) q e.1))
+  ]
+
+  pub apart-written : AreApart (slot_near end near) far → far id ≡ None
+      → AreApart (slot_near end (slice_set near place n)) far
+  apart-written apart free q is = elim (eqb_tells q id) [
+    | inl e ↦ (ap far e.1 ∙ free)
+    | inr e ↦ apart q (subst (λ (o : Option ℕ). IsSome o) (other q e.1) is)
+  ]
+
+-- how many ids there are between one of the last and the end
+pub between : (many end id : ℕ) → id < end → end ≤ id + many →
+    (end % many + (many - 1 - id % many)) % many ≡ end - 1 - id
+between many end id less near =
+    let whole : id / many * many + id % many ≡ id = div-add-mod' id many in
+    let low : id % many < many = mod_below id many (omega (arith, less, near)) in
+    elim (leb_tells many (id % many + (end - id))) [
+      | inl over ↦
+          (let is : end ≡ (id / many + 1) * many + (id % many + (end - id) - many) = omega (arith, whole, less, over.1)
+          in let rest : end % many ≡ id % many + (end - id) - many =
+          ap (λ (n : ℕ). n % many) is
+          ∙ mod-mul-add (id / many + 1) many (id % many + (end - id) - many) (omega (arith, low, near, over.1)) in
+          let sum : end % many + (many - 1 - id % many) ≡ 0 * many + (end - 1 - id) =
+          omega (arith, rest, low, less, over.1) in
+          ap (λ (n : ℕ). n % many) sum ∙ mod-mul-add 0 many (end - 1 - id) (omega (arith, less, near)))
+      | inr under ↦
+          (let is : end ≡ id / many * many + (id % many + (end - id)) = omega (arith, whole, less) in
+          let rest : end % many ≡ id % many + (end - id) =
+          ap (λ (n : ℕ). n % many) is ∙ mod-mul-add (id / many) many (id % many + (end - id)) under.1 in
+          let sum : end % many + (many - 1 - id % many) ≡ 1 * many + (end - 1 - id) =
+          omega (arith, rest, low, less, under.1) in
+          ap (λ (n : ℕ). n % many) sum ∙ mod-mul-add 1 many (end - 1 - id) (omega (arith, less, near)))
+    ]
+
+-- half of a power of two
+pub half_power : (n bits : ℕ) → 0 < n → n * 2 ≡ 2 ^ bits → (0 < bits) × (n ≡ 2 ^ (bits - 1))
+half_power n zero some is = absurd (omega (arith, is, some, pow-zero 2))
+half_power n (suc bits) some is =
+    let less : bits ≡ suc bits - 1 = omega arith in
+    (omega arith, subst (λ (b : ℕ). n ≡ 2 ^ b) less (omega (arith, is, pow-suc 2 bits)))
+
+module _ (near : List Standing) (end bits place behind : ℕ)
+    (half : 0 < length near → length near * 2 ≡ 2 ^ bits)
+    (is : behind ≡ (end % 2 ^ bits + (2 ^ bits - 1 - place)) % 2 ^ bits)
+    (id : ℕ) (at : id % 2 ^ bits ≡ place) (recent : is_recent (2 ^ bits) end id ≡ true) where
+  from_end : behind ≡ end - 1 - id
+  from_end = elim (recent_tells (2 ^ bits) end id) [
+    | inl r ↦ (is ∙ ap (λ (p : ℕ). (end % 2 ^ bits + (2 ^ bits - 1 - p)) % 2 ^ bits) (sym at)
+        ∙ between (2 ^ bits) end id r.1.0 r.1.1)
+    | inr r ↦ absurd (true≢false (sym recent ∙ r.0))
+  ]
+
+  before_end : id < end
+  before_end = elim (recent_tells (2 ^ bits) end id) [
+    | inl r ↦ r.1.0
+    | inr r ↦ absurd (true≢false (sym recent ∙ r.0))
+  ]
+
+  -- an id that is not one of the last yet has no place
+  pub stays-none : (n : Standing) → length near ≤ behind → slot_at (Some n) ≡ None
+      → slot_at (Some n) ≡ slot_near end near id
+  stays-none n far none = elim (recent_tells (length near) end id) [
+    | inl r ↦ absurd (omega (arith, r.1, far, from_end))
+    | inr r ↦ (none ∙ sym (near_past near end id (length near) refl r.0))
+  ]
+
+  -- what stands at an id's place is its own
+  pub stays-there : (from : ℕ) (d : Standing) → behind < length near
+      → from < length near → ((b : ℕ) → length near ≡ 2 ^ b → from ≡ place % length near)
+      → slot_at (Some (slice_index_or near from d)) ≡ slot_near end near id
+  stays-there from d within below low =
+      let power = half_power (length near) bits (omega (arith, within)) (half (omega (arith, within))) in
+      let here : from ≡ id % length near = low (bits - 1) power.1 ∙ ap (λ (p : ℕ). p % length near) (sym at)
+      ∙ subst (λ (n : ℕ). id % 2 ^ bits % n ≡ id % n) (sym power.1) (lower power.0) in
+      elim (recent_tells (length near) end id) [
+        | inl r ↦ (ap slot_at (sym (slice_get-get_or near from d below) ∙ ap (slice_get near) here)
+            ∙ sym (near_recent near end id (length near) refl r.0))
+        | inr r ↦ absurd (let x = r.1 before_end in omega (arith, x, within, from_end))
+      ] where
+    lower : 0 < bits → id % 2 ^ bits % 2 ^ (bits - 1) ≡ id % 2 ^ (bits - 1)
+    lower more = ap (λ (b : ℕ). id % 2 ^ b % 2 ^ (bits - 1)) (omega (arith, more)) ∙ mod-mod-pow id 1 (bits - 1)
 
 get_left : {A : Type 0} (xs ys : List A) (i : ℕ) → i < length xs → slice_get (xs ++ ys) i ≡ slice_get xs i
 get_left [] ys i within = absurd (omega arith)
@@ -67,135 +287,32 @@ get_last : {A : Type 0} (xs : List A) (x : A) → slice_get (xs ++ x ∷ []) (le
 get_last [] x = refl
 get_last (y ∷ xs) x = get_last xs x
 
--- one more place
-pub spread_more : (near wider : List Named) (fewer bits place : ℕ) (n : Named) → length wider ≡ place
-    → ((id : ℕ) → id % 2 ^ bits < place → slot_near bits wider id ≡ slot_near fewer near id)
-    → ((id : ℕ) → id % 2 ^ bits ≡ place → slot_named (Some n) id ≡ slot_near fewer near id)
-    → (id : ℕ) → id % 2 ^ bits < place + 1 → slot_near bits (wider ++ n ∷ []) id ≡ slot_near fewer near id
-spread_more near wider fewer bits place n many before here id within = elim (leb_tells place (id % 2 ^ bits)) [
-  | inl e ↦ (let at : id % 2 ^ bits ≡ place = omega (arith, e.1, within) in
-      ap (λ (p : ℕ). slot_named (slice_get (wider ++ n ∷ []) p) id) (at ∙ sym many)
-      ∙ ap (λ (o : Option Named). slot_named o id) (get_last wider n) ∙ here id at)
-  | inr e ↦ (let inside : id % 2 ^ bits < length wider = subst (λ (m : ℕ). id % 2 ^ bits < m) (sym many) e.1 in
-      ap (λ (o : Option Named). slot_named o id) (get_left wider (n ∷ []) (id % 2 ^ bits) inside) ∙ before id e.1)
-]
+-- the ids whose places are so many have what they had
+abbrev pub AreSpread : List Standing → List Standing → ℕ → ℕ → ℕ → Type 0
+AreSpread near wider end bits places = (id : ℕ) → id % 2 ^ bits < places → is_recent (2 ^ bits) end id ≡ true
+    → slot_at (slice_get wider (id % 2 ^ bits)) ≡ slot_near end near id
 
--- all places
-pub spread_all : (near wider : List Named) (fewer bits places : ℕ) → places ≡ 2 ^ bits
-    → ((id : ℕ) → id % 2 ^ bits < places → slot_near bits wider id ≡ slot_near fewer near id)
-    → (id : ℕ) → slot_near bits wider id ≡ slot_near fewer near id
-spread_all near wider fewer bits places all named id =
-    named id (subst (λ (n : ℕ). id % 2 ^ bits < n) (sym all) (mod-lt id (pow_pos bits)))
-
--- the same slots are as far apart
-pub apart_same : (near near' far : ℕ → Option ℕ) → ((id : ℕ) → near' id ≡ near id) → AreApart near far →
-    AreApart near' far
-apart_same near near' far same apart id is = apart id (subst (λ (o : Option ℕ). IsSome o) (same id) is)
-
--- a place that names this id
-named-here : (n : Named) (slot : ℕ) → n.slot ≡ Some slot → slot_named (Some n) n.id ≡ Some slot
-named-here n slot to = elim (eqb_tells n.id n.id) [
-  | inl e ↦ ap (λ (b : Bool). if b then n.slot else None) e.0 ∙ to
-  | inr e ↦ absurd (e.1 refl)
-]
-
--- none of both is none of the second, and of the first
-not_far : (o other : Option ℕ) → or_slot o other ≡ None → other ≡ None
-not_far None other is = is
-not_far (Some n) other is = absurd (none-some n (sym is))
-
-not_some : (o other : Option ℕ) (n : ℕ) → o ≡ Some n → or_slot o other ≡ None → ⊥
-not_some None other n e is = none-some n e
-not_some (Some m) other n e is = none-some m (sym is)
-
--- an id is named at its place, where another one stood
-module _ (near : List Named) (far : ℕ → Option ℕ) (bits place slot : ℕ) (n older : Named)
-    (at : place ≡ n.id % 2 ^ bits) (stood : slice_get near place ≡ Some older) (to : n.slot ≡ Some slot) where
-  -- what an id has by both, after these went far
-  abbrev pub has_after : (ℕ → Option ℕ) → ℕ → Option ℕ
-  has_after far' q = or_slot (slot_near bits (slice_set near place n) q) (far' q)
-
-  -- what an id had
-  abbrev pub had : ℕ → Option ℕ
-  had q = or_slot (slot_near bits near q) (far q)
-
-  named_over : (far' : ℕ → Option ℕ)
-      → ((q : ℕ) → q % 2 ^ bits ≡ place → far' q ≡ or_slot (slot_named (Some older) q) (far q))
-      → ((q : ℕ) → q % 2 ^ bits ≢ place → far' q ≡ far q)
-      → (q : ℕ) → has_after far' q ≡ update nat_eq had n.id (Some slot) q
-  named_over far' there elsewhere q = elim (eqb_tells q n.id) [
-    | inl e ↦ subst (λ (x : ℕ). has_after far' x ≡ update nat_eq had n.id (Some slot) x) (sym e.1)
-        (ap (λ (o : Option ℕ). or_slot o (far' n.id))
-        (ap (λ (p : ℕ). slot_named (slice_get (slice_set near place n) p) n.id) (sym at)
-        ∙ ap (λ (o : Option Named). slot_named o n.id) (set_here near place older n stood)
-        ∙ named-here n slot to)
-        ∙ sym (update_here had n.id (Some slot)))
-    | inr e ↦ elim (eqb_tells (q % 2 ^ bits) place) [
-      | inl p ↦ (ap (λ (o : Option ℕ). or_slot o (far' q))
-          (ap (λ (m : ℕ). slot_named (slice_get (slice_set near place n) m) q) p.1
-          ∙ ap (λ (o : Option Named). slot_named o q) (set_here near place older n stood)
-          ∙ named-apart n q (λ x. e.1 (sym x)))
-          ∙ there q p.1
-          ∙ ap (λ (o : Option ℕ). or_slot o (far q))
-          (sym (ap (λ (m : ℕ). slot_named (slice_get near m) q) p.1 ∙ ap (λ (o : Option Named). slot_named o q) stood))
-          ∙ sym (update_apart had n.id (Some slot) q e.1))
-      | inr p ↦ (ap (λ (o : Option Named). or_slot (slot_named o q) (far' q)) (set_apart near place (q % 2 ^ bits) n p.1)
-          ∙ ap (λ (o : Option ℕ). or_slot (slot_near bits near q) o) (elsewhere q p.1)
-          ∙ sym (update_apart had n.id (Some slot) q e.1))
-    ]
+module _ (near wider : List Standing) (end bits : ℕ) where
+  -- one more place
+  pub spread_more : (place : ℕ) (n : Standing) → length wider ≡ place → AreSpread near wider end bits place
+      → ((id : ℕ) → id % 2 ^ bits ≡ place → is_recent (2 ^ bits) end id ≡ true → slot_at (Some n) ≡ slot_near end near id)
+      → AreSpread near (wider ++ n ∷ []) end bits (place + 1)
+  spread_more place n many before here id within recent = elim (leb_tells place (id % 2 ^ bits)) [
+    | inl e ↦ (let at : id % 2 ^ bits ≡ place = omega (arith, e.1, within) in
+        ap (λ (p : ℕ). slot_at (slice_get (wider ++ n ∷ []) p)) (at ∙ sym many)
+        ∙ ap slot_at (get_last wider n) ∙ here id at recent)
+    | inr e ↦ (let inside : id % 2 ^ bits < length wider = omega (arith, e.1, many) in
+        ap slot_at (get_left wider (n ∷ []) (id % 2 ^ bits) inside) ∙ before id e.1 recent)
   ]
 
-  -- nothing stood there
-  pub named-first : older.slot ≡ None → (q : ℕ) → has_after far q ≡ update nat_eq had n.id (Some slot) q
-  named-first none = named_over far
-      (λ q p. sym (ap (λ (o : Option ℕ). or_slot o (far q)) (named-free older q none))) (λ q p. refl)
-
-  -- what stood there is of no id
-  pub named-past : older.id % 2 ^ bits ≢ place → (q : ℕ) → has_after far q ≡ update nat_eq had n.id (Some slot) q
-  named-past apart = named_over far
-      (λ q p. sym (ap (λ (o : Option ℕ). or_slot o (far q))
-      (named-apart older q (λ x. apart (ap (λ (m : ℕ). m % 2 ^ bits) x ∙ p))))) (λ q p. refl)
-
-  -- what stood there goes far
-  pub named-before : (far' : ℕ → Option ℕ) (stands : ℕ) → older.id % 2 ^ bits ≡ place → older.slot ≡ Some stands
-      → ((q : ℕ) → far' q ≡ update nat_eq far older.id (Some stands) q)
-      → (q : ℕ) → has_after far' q ≡ update nat_eq had n.id (Some slot) q
-  named-before far' stands here is goes = named_over far'
-      (λ q p. elim (eqb_tells q older.id) [
-        | inl e ↦ subst (λ (x : ℕ). far' x ≡ or_slot (slot_named (Some older) x) (far x)) (sym e.1)
-            (goes older.id ∙ update_here far older.id (Some stands)
-            ∙ sym (ap (λ (o : Option ℕ). or_slot o (far older.id)) (named-here older stands is)))
-        | inr e ↦ (goes q ∙ update_apart far older.id (Some stands) q e.1
-            ∙ sym (ap (λ (o : Option ℕ). or_slot o (far q)) (named-apart older q (λ x. e.1 (sym x)))))
+  -- all places
+  pub spread_all : length wider ≡ 2 ^ bits → (0 < length near → length near * 2 ≡ 2 ^ bits)
+      → AreSpread near wider end bits (2 ^ bits) → (id : ℕ) → slot_near end wider id ≡ slot_near end near id
+  spread_all many half named id = elim (recent_tells (2 ^ bits) end id) [
+    | inl r ↦ (near_recent wider end id (2 ^ bits) many r.0
+        ∙ named id (mod_below id (2 ^ bits) (pow_pos bits)) r.0)
+    | inr r ↦ (near_past wider end id (2 ^ bits) many r.0 ∙ elim (recent_tells (length near) end id) [
+        | inl o ↦ absurd (let x = r.1 o.1.0 in let y = half (omega (arith, o.1)) in omega (arith, x, y, o.1))
+        | inr o ↦ sym (near_past near end id (length near) refl o.0)
       ])
-      (λ q p. goes q ∙ update_apart far older.id (Some stands) q (λ x. p (ap (λ (m : ℕ). m % 2 ^ bits) x ∙ here)))
-
-  -- no id has a slot by both, where the one that is named had none, and of those at its place none has one far by now
-  pub named-apart-far : (far' : ℕ → Option ℕ) → AreApart (slot_near bits near) far → had n.id ≡ None
-      → ((q : ℕ) → q % 2 ^ bits ≢ place → far' q ≡ far q) → far' n.id ≡ None
-      → AreApart (slot_near bits (slice_set near place n)) far'
-  named-apart-far far' apart new elsewhere none q is = elim (eqb_tells q n.id) [
-    | inl e ↦ (ap far' e.1 ∙ none)
-    | inr e ↦ elim (eqb_tells (q % 2 ^ bits) place) [
-      | inl p ↦ absurd (none_not (slot_near bits (slice_set near place n) q) is
-          (ap (λ (m : ℕ). slot_named (slice_get (slice_set near place n) m) q) p.1
-          ∙ ap (λ (o : Option Named). slot_named o q) (set_here near place older n stood)
-          ∙ named-apart n q (λ x. e.1 (sym x))))
-      | inr p ↦ (elsewhere q p.1 ∙ apart q (subst (λ (o : Option ℕ). IsSome o)
-          (ap (λ (o : Option Named). slot_named o q) (set_apart near place (q % 2 ^ bits) n p.1)) is))
-    ]
-  ]
-
-  -- an id that had no slot has none far
-  pub none-far : had n.id ≡ None → far n.id ≡ None
-  none-far new = not_far (slot_near bits near n.id) (far n.id) new
-
-  -- nor once another one went there
-  pub none-far-before : (far' : ℕ → Option ℕ) (stands : ℕ) → had n.id ≡ None → older.slot ≡ Some stands
-      → ((q : ℕ) → far' q ≡ update nat_eq far older.id (Some stands) q) → far' n.id ≡ None
-  none-far-before far' stands new is goes = elim (eqb_tells n.id older.id) [
-    | inl e ↦ absurd (not_some (slot_near bits near n.id) (far n.id) stands
-        (ap (λ (m : ℕ). slot_named (slice_get near m) n.id) (sym at) ∙ ap (λ (o : Option Named). slot_named o n.id) stood
-        ∙ ap (slot_named (Some older)) e.1 ∙ named-here older stands is) new)
-    | inr e ↦ (goes n.id ∙ update_apart far older.id (Some stands) n.id e.1 ∙ none-far new)
   ]

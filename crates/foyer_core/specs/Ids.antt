@@ -6,7 +6,7 @@ use Rattle.foyer_core.specs.declared.records.ids.Ids.{Ids}
 
 -- the slot of an id
 abbrev pub slot_of : Ids → ℕ → Option ℕ
-slot_of t id = or_slot (slot_near t.bits t.near.items id) (get_key nat_eq t.far id)
+slot_of t id = or_slot (slot_near t.end t.near.items id) (get_key nat_eq t.far id)
 
 -- one more id fits with no allocation
 abbrev pub HasRoomForId : Ids → Type 0

@@ -1,15 +1,19 @@
--- Slots that are named near, at the place of an id's low bits, or far.
-use Rattle.std.specs.Prelude.{◌≡◌, ℕ, ◌%◌, ◌^◌, ◌==◌, List, Option, Some, None, IsSome, slice_get, if◌then◌else◌}
-use Rattle.foyer_core.specs.declared.records.ids.Named.{Named}
+-- Slots of ids: those of the last ids by their places, and those of others far.
+use Rattle.std.specs.Prelude.{◌≡◌, ℕ, ◌-◌, ◌%◌, ◌==◌, ◌&&◌, Bool, List, Option, Some, None, IsSome, length, nat_lt, nat_le, slice_get, if◌then◌else◌}
+use Rattle.foyer_core.specs.declared.records.ids.Standing.{Standing}
 
--- the slot that a place names for an id
-abbrev pub slot_named : Option Named → ℕ → Option ℕ
-slot_named None id = None
-slot_named (Some named) id = if named.id == id then named.slot else None
+-- the slot that stands at a place: the greatest number is none
+abbrev pub slot_at : Option Standing → Option ℕ
+slot_at None = None
+slot_at (Some s) = if s.slot == 4294967295 then None else Some s.slot
 
--- the slot of an id by the places of so many bits
-abbrev pub slot_near : ℕ → List Named → ℕ → Option ℕ
-slot_near bits near id = slot_named (slice_get near (id % 2 ^ bits)) id
+-- whether an id is one of so many that end before this one
+abbrev pub is_recent : ℕ → ℕ → ℕ → Bool
+is_recent many end id = nat_lt id end && nat_le (end - id) many
+
+-- the slot of an id, where it is one of the last, by their places
+abbrev pub slot_near : ℕ → List Standing → ℕ → Option ℕ
+slot_near end near id = if is_recent (length near) end id then slot_at (slice_get near (id % length near)) else None
 
 -- this slot, or else that one
 abbrev pub or_slot : Option ℕ → Option ℕ → Option ℕ

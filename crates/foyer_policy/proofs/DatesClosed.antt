@@ -55,7 +55,8 @@ module _ (s : Slots) (h : ArePlaced s) (slots : List Slot) (slot_of : List ℕ) 
       ∙ on_of-take k n slots (λ j u is le e. absurd (omega (arith, rest j u is le, e, less)))
       ∙ same k less
 
-  pub ArePlaced-closed : (w : Vec ℕ Global) → w.items ≡ slot_of → length slot_of ≡ length s.slot_of.items → vec_capacity v ≡ vec_capacity s.slots →
+  pub ArePlaced-closed : (w : Vec ℕ Global) → w.items ≡ slot_of → length slot_of ≡ length s.slot_of.items
+      → vec_capacity v ≡ vec_capacity s.slots →
       ArePlaced (record { slots = v; limit = s.limit; taken = s.taken; slot_of = w; trees = s.trees })
   ArePlaced-closed w found long capacity = record {
     room = omega (arith, capacity, h.room);

@@ -1,50 +1,70 @@
 //! Where each id's record stands.
 //!
-//! Ids are given in order and their records leave in about that order. So the ids that there are at a time lie
-//! close together, and each of them mostly has a place of its own by its low bits.
+//! Ids are given in order and their records leave in about that order. So the last ids have a place each, in a ring, and
+//! an id whose record outstays these goes into a map.
 
-ghost use Rattle.std.specs.Prelude.{◌≡◌, ℕ, ◌%◌, ◌^◌, ◌<◌, ◌≤◌, Some, None, IfOk, OnOk, slice_get, nat_eq};
+ghost use Rattle.std.specs.Prelude.{◌≡◌, ◌≢◌, ℕ, ◌+◌, ◌*◌, ◌%◌, ◌^◌, ◌<◌, ◌≤◌, Some, None, IfOk, IfSome, OnOk, length, slice_get, nat_eq, vec_len, true};
 ghost use Rattle.std.specs.HashMap.{get as get_key, spare};
 ghost use Rattle.std.specs.Map.{update};
-ghost use Rattle.foyer_core.specs.Near.{AreApart, slot_named, slot_near};
+ghost use Rattle.foyer_core.specs.Near.{AreApart, is_recent as is_recent_by, or_slot, slot_at, slot_near};
 
-use foyer_policy::Link;
 use std::alloc::{AllocError, Global};
 use std::collections::HashMap;
 
 // Twice as many places come with each bit from here on.
-const FIRST_BITS: u32 = 2;
+const FIRST_BITS: u32 = 3;
 
-/// An id with the slot of its record, or with none.
+/// The slot that stands at a place, or none.
 #[derive(Clone, Copy)]
-struct Named {
-    id: u64,
-    slot: Link,
+struct Standing {
+    // the greatest number for none
+    slot: u32,
 }
 
-impl Named {
-    // A place that names no slot.
-    fn free() -> Self
-        ensures { result.slot ≡ None }
+impl Standing {
+    // No slot.
+    #[inline(always)]
+    fn none() -> Self
+        ensures { slot_at (Some result) ≡ None }
     {
-        Named {
-            id: 0,
-            slot: Link::end(),
+        Standing { slot: u32::MAX }
+    }
+
+    // A slot whose number is small enough.
+    #[inline(always)]
+    fn of(slot: usize) -> Option<Self>
+        ensures { IfSome result (λ s. slot_at (Some s) ≡ Some slot) }
+    {
+        if slot >= u32::MAX as usize {
+            return None;
         }
+        Some(Standing { slot: slot as u32 })
+    }
+
+    #[inline(always)]
+    fn slot(self) -> Option<usize>
+        ensures { result ≡ slot_at (Some self) }
+    {
+        if self.slot == u32::MAX {
+            return None;
+        }
+        Some(self.slot as usize)
     }
 }
 
-/// Where each id's record stands. An id is named at the place of its low bits, and in a map once a later one has
-/// that place.
+/// Where each id's record stands. The last ids before `end` have a place each, by their low bits. One that still has a
+/// slot when the next with its low bits comes goes into a map.
 #[derive(Drop)]
 pub(crate) struct Ids {
     // none, or a place for each number of so many bits
-    near: Vec<Named>,
+    near: Vec<Standing>,
     bits: u32,
+    end: u64,
     far: HashMap<u64, usize>,
     alloc: Global,
     ghost few: { bits < 64 },
-    ghost apart: { AreApart (slot_near bits near.items) (get_key nat_eq far) },
+    ghost sized: { 0 < vec_len near → vec_len near ≡ 2 ^ bits },
+    ghost apart: { AreApart (slot_near end near.items) (get_key nat_eq far) },
 }
 
 impl Ids {
@@ -57,6 +77,7 @@ impl Ids {
         Ids {
             near: Vec::new(alloc),
             bits: FIRST_BITS,
+            end: 0,
             far: HashMap::new(alloc),
             alloc,
         }
@@ -71,7 +92,8 @@ impl Ids {
         if self.far.capacity() == self.far.len() {
             self.far.reserve(1)?;
         }
-        if self.near.len() <= records && self.bits < 63 {
+        // There are twice as many places, so that few outstay them.
+        if self.near.len() / 2 <= records && self.bits < 63 {
             return self.widen();
         }
         Ok(())
@@ -86,7 +108,7 @@ impl Ids {
         ensures ids { (id : ℕ) → slot_of self.new id ≡ slot_of self.old id }
     {
         let bits = self.bits + 1;
-        let wider = spread(self.alloc, &self.near, self.bits, bits)?;
+        let wider = spread(self.alloc, &self.near, self.end, bits)?;
         self.near = wider;
         self.bits = bits;
         Ok(())
@@ -97,7 +119,7 @@ impl Ids {
     pub(crate) fn get(&self, id: u64) -> Option<usize>
         ensures { result ≡ slot_of self.now id }
     {
-        match find_near(&self.near, self.bits, id) {
+        match self.find_near(id) {
             Some(slot) => Some(slot),
             None => far_slot(&self.far, id),
         }
@@ -110,27 +132,38 @@ impl Ids {
         requires new { slot_of self.old id ≡ None }
         ensures { (q : ℕ) → slot_of self.new q ≡ update nat_eq (slot_of self.old) id (Some slot) q }
     {
-        // The greatest number is no link, so a slot of that number goes into the map.
-        if slot == usize::MAX {
-            name_far(&mut self.far, id, slot);
+        let places = self.near.len();
+        if id != self.end || id == u64::MAX || places == 0 {
+            self.name_again(id, slot);
             return;
         }
-        let place = place_of(id, self.bits);
-        let Some(named) = self.near.get_mut(place) else {
-            name_far(&mut self.far, id, slot);
+        let Some(standing) = Standing::of(slot) else {
+            self.name_again(id, slot);
             return;
         };
-        let older = *named;
-        *named = Named {
-            id,
-            slot: Link::to(slot),
-        };
-        // An id that was there has outstayed as many as there are places, which few do: it goes into the map.
-        if let Some(stands) = older.slot.place() {
-            if place_of(older.id, self.bits) == place {
-                name_far(&mut self.far, older.id, stands);
+        let place = place_of(id, places);
+        let older = self.near[place];
+        self.near[place] = standing;
+        self.end = id + 1;
+        outstay(&mut self.far, older, id, places);
+    }
+
+    // The same of an id that is not the next, as one that was given before.
+    #[cold]
+    #[inline(never)]
+    fn name_again(&mut self, id: u64, slot: usize)
+        requires room { HasRoomForId self.old }
+        requires new { slot_of self.old id ≡ None }
+        ensures { (q : ℕ) → slot_of self.new q ≡ update nat_eq (slot_of self.old) id (Some slot) q }
+    {
+        let places = self.near.len();
+        if is_recent(places, self.end, id) {
+            if let Some(standing) = Standing::of(slot) {
+                self.near[place_of(id, places)] = standing;
+                return;
             }
         }
+        name_far(&mut self.far, id, slot);
     }
 
     /// An id has no slot any more.
@@ -139,13 +172,24 @@ impl Ids {
         ensures room { HasRoomForId self.old → HasRoomForId self.new }
         ensures ids { (q : ℕ) → slot_of self.new q ≡ update nat_eq (slot_of self.old) id None q }
     {
-        if let Some(named) = self.near.get_mut(place_of(id, self.bits)) {
-            if named.id == id && named.slot.place().is_some() {
-                named.slot = Link::end();
-                return;
-            }
+        if self.find_near(id).is_none() {
+            forget_far(&mut self.far, id);
+            return;
         }
-        forget_far(&mut self.far, id);
+        let place = place_of(id, self.near.len());
+        self.near[place] = Standing::none();
+    }
+
+    // The slot of an id, where it is one of the last.
+    #[inline(always)]
+    fn find_near(&self, id: u64) -> Option<usize>
+        ensures { result ≡ slot_near self.now.end self.now.near.items id }
+    {
+        let places = self.near.len();
+        if !is_recent(places, self.end, id) {
+            return None;
+        }
+        self.near[place_of(id, places)].slot()
     }
 }
 
@@ -168,6 +212,22 @@ fn name_far(far: &mut HashMap<u64, usize>, id: u64, slot: usize)
     let _ = far.insert(id, slot);
 }
 
+// What stood at the place of an id among so many goes into the map, which has room for it.
+#[inline(always)]
+fn outstay(far: &mut HashMap<u64, usize>, older: Standing, id: u64, places: usize)
+    requires { 0 < spare far.old }
+    ensures older { (q : ℕ) → q + places ≡ id
+        → get_key nat_eq far.new q ≡ or_slot (slot_at (Some older)) (get_key nat_eq far.old q) }
+    ensures others { (q : ℕ) → q + places ≢ id → get_key nat_eq far.new q ≡ get_key nat_eq far.old q }
+{
+    let Some(slot) = older.slot() else {
+        return;
+    };
+    if let Some(outstays) = id.checked_sub(places as u64) {
+        name_far(far, outstays, slot);
+    }
+}
+
 // Takes an id out of the map.
 #[cold]
 #[inline(never)]
@@ -178,7 +238,7 @@ fn forget_far(far: &mut HashMap<u64, usize>, id: u64)
     let _ = far.remove(&id);
 }
 
-// How many places there are for numbers of so many bits.
+// How many numbers of so many bits there are.
 #[inline(always)]
 fn places_of(bits: u32) -> usize
     requires { bits < 64 }
@@ -188,61 +248,58 @@ fn places_of(bits: u32) -> usize
     1 << bits
 }
 
-// The place of an id: its low bits.
+// The place of an id among so many, a power of two: its low bits.
 #[inline(always)]
-fn place_of(id: u64, bits: u32) -> usize
-    requires { bits < 64 }
-    ensures { result ≡ id % 2 ^ bits }
+fn place_of(id: u64, places: usize) -> usize
+    requires { 0 < places }
+    ensures within { result < places }
+    ensures low { (bits : ℕ) → places ≡ 2 ^ bits → result ≡ id % places }
 {
-    id as usize & (places_of(bits) - 1)
+    id as usize & (places - 1)
 }
 
-// What a place names.
+// Whether an id is one of so many that end before this one.
 #[inline(always)]
-fn named_at(near: &[Named], place: usize) -> Option<Named>
-    ensures { result ≡ slice_get near.now place }
+fn is_recent(many: usize, end: u64, id: u64) -> bool
+    ensures { result ≡ is_recent_by many end id }
 {
-    near.get(place).copied()
+    id < end && end - id <= many as u64
 }
 
-// The slot that an id's place names for it.
-#[inline(always)]
-fn find_near(near: &[Named], bits: u32, id: u64) -> Option<usize>
-    requires { bits < 64 }
-    ensures { result ≡ slot_near bits near.now id }
-{
-    let named = named_at(near, place_of(id, bits))?;
-    if named.id == id {
-        named.slot.place()
-    } else {
-        None
-    }
-}
-
-// What stands at a place once there are more: what was at the place of fewer bits, if it belongs here.
-fn stays_at(near: &[Named], old_bits: u32, bits: u32, place: usize) -> Named
+// What stands at a place once there is one for each number of so many bits: what stands at the place of the same id now,
+// if that is one of the last.
+fn stays_at(near: &[Standing], end: u64, bits: u32, place: usize) -> Standing
     requires bits { bits < 64 }
-    requires more { old_bits ≤ bits }
-    ensures { (id : ℕ) → id % 2 ^ bits ≡ place → slot_named (Some result) id ≡ slot_near old_bits near.now id }
+    requires within { place < 2 ^ bits }
+    requires half { 0 < length near.now → length near.now * 2 ≡ 2 ^ bits }
+    ensures { (id : ℕ) → id % 2 ^ bits ≡ place → is_recent_by (2 ^ bits) end id ≡ true
+        → slot_at (Some result) ≡ slot_near end near.now id }
 {
-    if let Some(named) = named_at(near, place_of(place as u64, old_bits)) {
-        if place_of(named.id, bits) == place {
-            return named;
-        }
+    let places = places_of(bits);
+    // How many ids there are between that of the place and the end.
+    let behind = place_of(end, places) + (places - 1 - place);
+    if place_of(behind as u64, places) >= near.len() {
+        return Standing::none();
     }
-    Named::free()
+    near[place_of(place as u64, near.len())]
 }
 
-// The places of more bits, which name what those of fewer do.
-fn spread(alloc: Global, near: &[Named], old_bits: u32, bits: u32) -> Result<Vec<Named>, AllocError>
+// So many places, twice as many as there were, if there were any.
+fn spread(
+    alloc: Global,
+    near: &[Standing],
+    end: u64,
+    bits: u32,
+) -> Result<Vec<Standing>, AllocError>
     requires bits { bits < 64 }
-    requires more { old_bits ≤ bits }
-    ensures { IfOk result (λ wider. (id : ℕ) → slot_near bits wider.items id ≡ slot_near old_bits near.now id) }
+    requires half { 0 < length near.now → length near.now * 2 ≡ 2 ^ bits }
+    ensures places { IfOk result (λ wider. vec_len wider ≡ 2 ^ bits) }
+    ensures same { IfOk result (λ wider. (id : ℕ) → slot_near end wider.items id ≡ slot_near end near.now id) }
 {
     let places = places_of(bits);
     let mut wider = Vec::with_capacity(alloc, places)?;
     for place in 0..places {
-        wider.push_reserved(stays_at(near, old_bits, bits, place));
+        wider.push_reserved(stays_at(near, end, bits, place));
     }
     Ok(wider)
 }

@@ -1,20 +1,22 @@
-use Rattle.std.proofs.Common.{◌≡◌, None, sym, ◌∙◌}
-use Rattle.std.specs.Prelude.{slice_get}
-use Rattle.foyer_core.proofs.NearLemmas.{stays-here, stays-apart, stays-none}
+use Rattle.std.proofs.Common.{◌≡◌, ◌+◌, ◌-◌, ◌%◌, ◌^◌, ◌∙◌, refl, arith}
+use Rattle.foyer_core.proofs.NearLemmas.{stays-none, stays-there}
 use Rattle.foyer_core.proofs.records.ids.stays_at.Goals as goal
-use Rattle.foyer_core.proofs.records.ids.stays_at.Goals.{in-Some+else-place_of-place, in_default}
 
-pub returns-then-place_of-place : goal.returns-then-place_of-place
-returns-then-place_of-place c = stays-here c.args.near.now c.args.old_bits c.args.bits c.args.place c.place_of.result
-    c.requires.more c.place_of.ensures c.in-Some.named (sym c.named_at.ensures ∙ c.in-Some.is)
+pub returns-then-place_of-near : goal.returns-then-place_of-near
+returns-then-place_of-near c id at recent =
+    let many = c.places_of-places.ensures.value in
+    let is : c.place_of-2.result ≡ (c.args.end % 2 ^ c.args.bits + (2 ^ c.args.bits - 1 - c.args.place)) % 2 ^ c.args.bits =
+    c.place_of-2.ensures.low c.args.bits many
+    ∙ rw (c.place_of.ensures.low c.args.bits many) (rw many refl) in
+    stays-none c.args.near.now c.args.end c.args.bits c.args.place c.place_of-2.result c.requires.half is id at recent
+    c.none.result c.if-place_of-near.true c.none.ensures
 
 pub returns : goal.returns
-returns c = elim c.match-named_at.branch [
-  | in-Some+else-place_of-place w ↦ stays-apart c.args.near.now c.args.old_bits c.args.bits c.args.place
-      c.place_of.result c.requires.more c.place_of.ensures w.in-Some.named c.free.result
-      (sym c.named_at.ensures ∙ w.in-Some.is) (λ e. w.if-place_of-place.false (w.place_of-in-Some.ensures ∙ e))
-      c.free.ensures
-  | in_default w ↦ (let none : slice_get c.args.near.now c.place_of.result ≡ None = cc in
-      stays-none c.args.near.now c.args.old_bits c.args.bits c.args.place c.place_of.result c.requires.more
-      c.place_of.ensures c.free.result none c.free.ensures)
-]
+returns c id at recent =
+    let many = c.places_of-places.ensures.value in
+    let is : c.place_of-2.result ≡ (c.args.end % 2 ^ c.args.bits + (2 ^ c.args.bits - 1 - c.args.place)) % 2 ^ c.args.bits =
+    c.place_of-2.ensures.low c.args.bits many
+    ∙ rw (c.place_of.ensures.low c.args.bits many) (rw many refl) in
+    stays-there c.args.near.now c.args.end c.args.bits c.args.place c.place_of-2.result c.requires.half is id at recent
+    c.place_of-3.result (record { slot = 0 }) (omega (arith, c.if-place_of-near.false)) c.place_of-3.ensures.within
+    c.place_of-3.ensures.low

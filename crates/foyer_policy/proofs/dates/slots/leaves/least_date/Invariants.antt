@@ -1,7 +1,7 @@
 use Rattle.std.proofs.Common.{◌≡◌, ◌≤◌, ◌<◌, ℕ, Some}
 use Rattle.std.specs.Prelude.{slice_get}
 use Rattle.foyer_policy.specs.declared.dates.slots.Slot.{Slot}
-use Rattle.foyer_policy.proofs.dates.slots.least_date.Given as goal
+use Rattle.foyer_policy.proofs.dates.slots.leaves.least_date.Given as goal
 
 -- no date so far is less
 abbrev pub invariant-loop-index : goal.invariant-loop-index

@@ -1,7 +1,7 @@
 use Rattle.std.proofs.Common.{◌≡◌, ◌≤◌, ◌<◌, ◌/◌, ℕ, Some, length, slice_index}
 use Rattle.std.specs.Prelude.{slice_get}
 use Rattle.foyer_policy.specs.declared.dates.slots.Slot.{Slot}
-use Rattle.foyer_policy.proofs.dates.slots.refresh_all.Given as goal
+use Rattle.foyer_policy.proofs.dates.slots.leaves.refresh_all.Given as goal
 
 -- the leaves of the blocks so far are not above their dates
 abbrev pub invariant-loop-block : goal.invariant-loop-block
