@@ -83,79 +83,79 @@ rest_next m a b some is =
 -- the next id is named at its place, where an older one may have stood
 module _ (near : List Standing) (far : ℕ → Option ℕ) (end place slot : ℕ) (n older : Standing) (some : 0 < length near)
     (at : place ≡ end % length near) (stood : slice_get near place ≡ Some older) (to : slot_at (Some n) ≡ Some slot)
-    where
-  abbrev many : ℕ
-  many = length near
+  where
+    abbrev many : ℕ
+    many = length near
 
-  -- the places then
-  abbrev pub places_then : List Standing
-  places_then = slice_set near place n
+    -- the places then
+    abbrev pub places_then : List Standing
+    places_then = slice_set near place n
 
-  -- what an id had by both
-  abbrev pub had : ℕ → Option ℕ
-  had q = or_slot (slot_near end near q) (far q)
+    -- what an id had by both
+    abbrev pub had : ℕ → Option ℕ
+    had q = or_slot (slot_near end near q) (far q)
 
-  as_many : length places_then ≡ many
-  as_many = length-set near place n
+    as_many : length places_then ≡ many
+    as_many = length-set near place n
 
-  -- of the last that stay, each has what it had
-  stays : (q : ℕ) → q ≢ end → is_recent many (end + 1) q ≡ true → (q < end + 1) × (end + 1 ≤ q + many) →
-      slot_near (end + 1) places_then q ≡ slot_near end near q
-  stays q apart is within =
-      let less : q < end = omega (arith, apart, within.0) in
-      let other : q % many ≢ place = λ e. rests_apart many q end less (omega (arith, within.1)) (e ∙ at) in
-      let was : is_recent many end q ≡ true = elim (recent_tells many end q) [
-        | inl r ↦ r.0
-        | inr r ↦ absurd (let x = r.1 less in omega (arith, x, within.1))
-      ] in
-      near_recent places_then (end + 1) q many as_many is ∙ ap slot_at (set_apart near place (q % many) n other)
-      ∙ sym (near_recent near end q many refl was)
+    -- of the last that stay, each has what it had
+    stays : (q : ℕ) → q ≢ end → is_recent many (end + 1) q ≡ true → (q < end + 1) × (end + 1 ≤ q + many) →
+        slot_near (end + 1) places_then q ≡ slot_near end near q
+    stays q apart is within =
+        let less : q < end = omega (arith, apart, within.0) in
+        let other : q % many ≢ place = λ e. rests_apart many q end less (omega (arith, within.1)) (e ∙ at) in
+        let was : is_recent many end q ≡ true = elim (recent_tells many end q) [
+          | inl r ↦ r.0
+          | inr r ↦ absurd (let x = r.1 less in omega (arith, x, within.1))
+        ] in
+        near_recent places_then (end + 1) q many as_many is ∙ ap slot_at (set_apart near place (q % many) n other)
+        ∙ sym (near_recent near end q many refl was)
 
-  -- where the older one, and no other, is far by now
-  module _ (far' : ℕ → Option ℕ) (went : (q : ℕ) → q + many ≡ end → far' q ≡ or_slot (slot_at (Some older)) (far q))
-      (rest : (q : ℕ) → q + many ≢ end → far' q ≡ far q) where
-    pub named : (q : ℕ) → or_slot (slot_near (end + 1) places_then q) (far' q) ≡ update nat_eq had end (Some slot) q
-    named q = elim (eqb_tells q end) [
-      | inl e ↦ subst (λ (x : ℕ). or_slot (slot_near (end + 1) places_then x) (far' x)
-          ≡ update nat_eq had end (Some slot) x) (sym e.1)
-          (ap (λ (o : Option ℕ). or_slot o (far' end))
-          (near_recent places_then (end + 1) end many as_many is_last
-          ∙ ap slot_at (ap (slice_get places_then) (sym at) ∙ set_here near place older n stood) ∙ to)
-          ∙ sym (update_here had end (Some slot)))
-      | inr e ↦ (elsewhere q e.1 ∙ sym (update_apart had end (Some slot) q e.1))
-    ] where
-      is_last : is_recent many (end + 1) end ≡ true
-      is_last = elim (recent_tells many (end + 1) end) [
-        | inl r ↦ r.0
-        | inr r ↦ absurd (let x = r.1 (omega arith) in omega (arith, x, some))
+    -- where the older one, and no other, is far by now
+    module _ (far' : ℕ → Option ℕ) (went : (q : ℕ) → q + many ≡ end → far' q ≡ or_slot (slot_at (Some older)) (far q))
+        (rest : (q : ℕ) → q + many ≢ end → far' q ≡ far q) where
+      pub named : (q : ℕ) → or_slot (slot_near (end + 1) places_then q) (far' q) ≡ update nat_eq had end (Some slot) q
+      named q = elim (eqb_tells q end) [
+        | inl e ↦ subst (λ (x : ℕ). or_slot (slot_near (end + 1) places_then x) (far' x)
+            ≡ update nat_eq had end (Some slot) x) (sym e.1)
+            (ap (λ (o : Option ℕ). or_slot o (far' end))
+            (near_recent places_then (end + 1) end many as_many is_last
+            ∙ ap slot_at (ap (slice_get places_then) (sym at) ∙ set_here near place older n stood) ∙ to)
+            ∙ sym (update_here had end (Some slot)))
+        | inr e ↦ (elsewhere q e.1 ∙ sym (update_apart had end (Some slot) q e.1))
+      ] where
+        is_last : is_recent many (end + 1) end ≡ true
+        is_last = elim (recent_tells many (end + 1) end) [
+          | inl r ↦ r.0
+          | inr r ↦ absurd (let x = r.1 (omega arith) in omega (arith, x, some))
+        ]
+
+        elsewhere : (q : ℕ) → q ≢ end → or_slot (slot_near (end + 1) places_then q) (far' q) ≡ had q
+        elsewhere q apart = elim (recent_tells many (end + 1) q) [
+          | inl r ↦ (ap (λ (o : Option ℕ). or_slot o (far' q)) (stays q apart r.0 r.1)
+              ∙ ap (or_slot (slot_near end near q)) (rest q (λ e. omega (arith, e, r.1.1))))
+          | inr r ↦ (ap (λ (o : Option ℕ). or_slot o (far' q)) (near_past places_then (end + 1) q many as_many r.0)
+              ∙ elim (recent_tells many end q) [
+                | inl o ↦ (let is : q + many ≡ end = (let x = r.1 (omega (arith, o.1.0)) in omega (arith, x, o.1.1)) in
+                    went q is ∙ ap (λ (o : Option Standing). or_slot (slot_at o) (far q))
+                    (sym (ap (slice_get near) (rest_next many q end some is ∙ sym at) ∙ stood))
+                    ∙ ap (λ (o : Option ℕ). or_slot o (far q)) (sym (near_recent near end q many refl o.0)))
+                | inr o ↦ (rest q (λ e. (let x = o.1 (omega (arith, e, some)) in omega (arith, x, e)))
+                    ∙ ap (λ (o : Option ℕ). or_slot o (far q)) (sym (near_past near end q many refl o.0)))
+              ])
+        ]
+
+      pub apart-named : AreApart (slot_near end near) far → had end ≡ None → AreApart (slot_near (end + 1) places_then) far'
+      apart-named apart new q is = elim (eqb_tells q end) [
+        | inl e ↦ (ap far' e.1 ∙ rest end (λ x. omega (arith, x, some))
+            ∙ not_far (slot_near end near end) (far end) new)
+        | inr e ↦ elim (recent_tells many (end + 1) q) [
+          | inl r ↦ (rest q (λ x. omega (arith, x, r.1.1))
+              ∙ apart q (subst (λ (o : Option ℕ). IsSome o) (stays q e.1 r.0 r.1) is))
+          | inr r ↦ absurd (none_not (slot_near (end + 1) places_then q) is
+              (near_past places_then (end + 1) q many as_many r.0))
+        ]
       ]
-
-      elsewhere : (q : ℕ) → q ≢ end → or_slot (slot_near (end + 1) places_then q) (far' q) ≡ had q
-      elsewhere q apart = elim (recent_tells many (end + 1) q) [
-        | inl r ↦ (ap (λ (o : Option ℕ). or_slot o (far' q)) (stays q apart r.0 r.1)
-            ∙ ap (or_slot (slot_near end near q)) (rest q (λ e. omega (arith, e, r.1.1))))
-        | inr r ↦ (ap (λ (o : Option ℕ). or_slot o (far' q)) (near_past places_then (end + 1) q many as_many r.0)
-            ∙ elim (recent_tells many end q) [
-              | inl o ↦ (let is : q + many ≡ end = (let x = r.1 (omega (arith, o.1.0)) in omega (arith, x, o.1.1)) in
-                  went q is ∙ ap (λ (o : Option Standing). or_slot (slot_at o) (far q))
-                  (sym (ap (slice_get near) (rest_next many q end some is ∙ sym at) ∙ stood))
-                  ∙ ap (λ (o : Option ℕ). or_slot o (far q)) (sym (near_recent near end q many refl o.0)))
-              | inr o ↦ (rest q (λ e. (let x = o.1 (omega (arith, e, some)) in omega (arith, x, e)))
-                  ∙ ap (λ (o : Option ℕ). or_slot o (far q)) (sym (near_past near end q many refl o.0)))
-            ])
-      ]
-
-    pub apart-named : AreApart (slot_near end near) far → had end ≡ None → AreApart (slot_near (end + 1) places_then) far'
-    apart-named apart new q is = elim (eqb_tells q end) [
-      | inl e ↦ (ap far' e.1 ∙ rest end (λ x. omega (arith, x, some))
-          ∙ not_far (slot_near end near end) (far end) new)
-      | inr e ↦ elim (recent_tells many (end + 1) q) [
-        | inl r ↦ (rest q (λ x. omega (arith, x, r.1.1))
-            ∙ apart q (subst (λ (o : Option ℕ). IsSome o) (stays q e.1 r.0 r.1) is))
-        | inr r ↦ absurd (none_not (slot_near (end + 1) places_then q) is
-            (near_past places_then (end + 1) q many as_many r.0))
-      ]
-    ]
 
 -- another slot, or none, at the place of an id that is one of the last
 module _ (near : List Standing) (far : ℕ → Option ℕ) (end id place : ℕ) (s n : Standing)
@@ -176,9 +176,9 @@ module _ (near : List Standing) (far : ℕ → Option ℕ) (end id place : ℕ) 
   other : (q : ℕ) → q ≢ id → slot_near end (slice_set near place n) q ≡ slot_near end near q
   other q apart = elim (recent_tells (length near) end q) [
     | inl r ↦ (let elsewhere : q % length near ≢ place = λ e. elim (leb_tells q id) [
-          | inl less ↦ rests_apart (length near) q id (omega (arith, less.1, apart)) (omega (arith, within, r.1)) (e ∙ at)
-          | inr more ↦ rests_apart (length near) id q more.1 (omega (arith, within, r.1)) (sym (e ∙ at))
-        ] in
+      | inl less ↦ rests_apart (length near) q id (omega (arith, less.1, apart)) (omega (arith, within, r.1)) (e ∙ at)
+      | inr more ↦ rests_apart (length near) id q more.1 (omega (arith, within, r.1)) (sym (e ∙ at))
+    ] in
         near_recent (slice_set near place n) end q (length near) as_long r.0
         ∙ ap slot_at (set_apart near place (q % length near) n elsewhere)
         ∙ sym (near_recent near end q (length near) refl r.0))
@@ -275,8 +275,8 @@ module _ (near : List Standing) (end bits place behind : ℕ)
             ∙ sym (near_recent near end id (length near) refl r.0))
         | inr r ↦ absurd (let x = r.1 before_end in omega (arith, x, within, from_end))
       ] where
-    lower : 0 < bits → id % 2 ^ bits % 2 ^ (bits - 1) ≡ id % 2 ^ (bits - 1)
-    lower more = ap (λ (b : ℕ). id % 2 ^ b % 2 ^ (bits - 1)) (omega (arith, more)) ∙ mod-mod-pow id 1 (bits - 1)
+        lower : 0 < bits → id % 2 ^ bits % 2 ^ (bits - 1) ≡ id % 2 ^ (bits - 1)
+        lower more = ap (λ (b : ℕ). id % 2 ^ b % 2 ^ (bits - 1)) (omega (arith, more)) ∙ mod-mod-pow id 1 (bits - 1)
 
 get_left : {A : Type 0} (xs ys : List A) (i : ℕ) → i < length xs → slice_get (xs ++ ys) i ≡ slice_get xs i
 get_left [] ys i within = absurd (omega arith)
@@ -312,7 +312,7 @@ module _ (near wider : List Standing) (end bits : ℕ) where
     | inl r ↦ (near_recent wider end id (2 ^ bits) many r.0
         ∙ named id (mod_below id (2 ^ bits) (pow_pos bits)) r.0)
     | inr r ↦ (near_past wider end id (2 ^ bits) many r.0 ∙ elim (recent_tells (length near) end id) [
-        | inl o ↦ absurd (let x = r.1 o.1.0 in let y = half (omega (arith, o.1)) in omega (arith, x, y, o.1))
-        | inr o ↦ sym (near_past near end id (length near) refl o.0)
-      ])
+      | inl o ↦ absurd (let x = r.1 o.1.0 in let y = half (omega (arith, o.1)) in omega (arith, x, y, o.1))
+      | inr o ↦ sym (near_past near end id (length near) refl o.0)
+    ])
   ]

@@ -63,7 +63,7 @@ loop-next-preserved g c =
           let kept : IsTrue b.push-is_kept.result = sym b.is_kept-is ∙ c.if-not-is_kept.false in
           rw b.dates-is
           (collects-date item c.args.dates.now.lists span ls c.args.list g.row.N apart
-    c.requires.within c.requires.list c.in-Some.place c.loop-next.dates w v
+          c.requires.within c.requires.list c.in-Some.place c.loop-next.dates w v
           c.next-next.result found (λ xs ys u h. c.next-next.ensures.place c.args.list xs ys u h)
           b.in-Some-expires.date is b.push-is_kept.new.self b.push-is_kept.ensures.lists b.push-is_kept.ensures.span
           (b.push-is_kept.ensures.pushed kept))
@@ -71,6 +71,6 @@ loop-next-preserved g c =
           let is : (item v).expires ≡ None = ap (λ i. i.expires) (sym c.item.ensures) ∙ b.in-None.is in
           rw b.dates-is
           (collects-none item c.args.dates.now.lists span ls c.args.list g.row.N apart
-    c.requires.within c.requires.list c.in-Some.place c.loop-next.dates w v
+          c.requires.within c.requires.list c.in-Some.place c.loop-next.dates w v
           c.next-next.result found (λ xs ys u h. c.next-next.ensures.place c.args.list xs ys u h) is)
     ]
