@@ -123,7 +123,7 @@ fn what_is_expired_is_found_among_what_expires_later(rt: HostRuntime) -> Result<
 fn what_is_expired_is_found_behind_what_left_from_the_front(rt: HostRuntime) -> Result<(), Fail> {
     for config in &defaults() {
         let mut policy = AnyEviction::new(rt.alloc(), 16_000, config)?;
-        for id in 0..8_000u64 {
+        for id in 0..14_000u64 {
             push(&mut policy, expiring(id, Some(id)))?;
         }
         for moment in 0..7_000u64 {
@@ -132,7 +132,7 @@ fn what_is_expired_is_found_behind_what_left_from_the_front(rt: HostRuntime) -> 
             };
             assert_eq!(rt; policy.remove(place).id, moment);
         }
-        let last = push(&mut policy, expiring(8_000, Some(5)))?;
+        let last = push(&mut policy, expiring(14_000, Some(5)))?;
         for _look in 0..100_000 {
             assert_eq!(rt; policy.expired(6_999), Some(last));
         }

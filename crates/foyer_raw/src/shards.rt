@@ -7,6 +7,7 @@ use crate::ticket::{Answer, Notifier};
 use foyer_core::{Finder, Shard, shard_of};
 use foyer_policy::{Event, EventListener, Eviction, Key, Properties, Result, Value};
 use std::alloc::Global;
+use std::hint::spin_loop;
 use std::sync::{Mutex, MutexGuard, Wait};
 
 mod bulk;
@@ -22,6 +23,9 @@ pub(crate) type RawShard<E, K, V, P, R, I> = Shard<E, K, V, P, Notifier<Answer<K
 /// The first moment. A question that knows no moment is asked at it: what has not expired from the start is not expired
 /// then.
 pub(crate) const FIRST: u64 = 0;
+
+// How often a thread looks whether a lock is free, before it sleeps.
+const LOOKS: u32 = 100;
 
 /// The shards of a cache. Each call locks one shard, makes one step, and unlocks, or does so with each in turn.
 #[derive(Drop)]
@@ -108,14 +112,31 @@ where
         shard_of(hash, self.all.len())
     }
 
-    // The shard of a hash, locked. A lock that is free is had without waiting, which is cheaper.
+    // The shard of a hash, locked. A lock that is free is had without waiting.
     #[inline(always)]
     pub(crate) fn lock(&self, hash: u64) -> MutexGuard<'_, RawShard<E, K, V, P, R, I>> {
         let place = self.index_of(hash);
         match self.all[place].try_lock() {
             Some(shard) => shard,
-            None => self.all[place].lock(&self.rt),
+            None => self.wait_for(place),
         }
+    }
+
+    // A shard whose lock was held, locked. A step of a shard is short, and mostly ends before a thread would be asleep: so
+    // the thread looks for a while first.
+    #[cold]
+    #[inline(never)]
+    fn wait_for(&self, place: usize) -> MutexGuard<'_, RawShard<E, K, V, P, R, I>>
+        requires { place < vec_len self.now.all }
+    {
+        let shard = &self.all[place];
+        for _look in 0..LOOKS {
+            spin_loop();
+            if let Some(guard) = shard.try_lock() {
+                return guard;
+            }
+        }
+        shard.lock(&self.rt)
     }
 }
 

@@ -30,7 +30,7 @@ where
     /// builder is asked for once where the key is missing, and the optional one once where a new fetch begins, both with no
     /// lock held. What the task fetches comes in at the moment that its leader gave.
     ///
-    /// Room is made first (F7, also on a hit). Then it is refused on a hit as `get` is (F9, F7), and on a miss where a
+    /// A hit takes no memory, and is refused as `get` is (F9, F7). A miss makes room first (F7), and then is refused where a
     /// number is missing (F10), and then for want of memory (F7).
     pub fn get_or_fetch_inner<O, F, X>(
         &self,
@@ -75,8 +75,8 @@ where
     Q: Pipe<Key = K, Value = V, Properties = P>,
     R: RequiredFetch<K, V, P>,
 {
-    /// An entry of the key's record, or a wait for its fetch, as `get_or_fetch_inner` answers, by one look-up. The closure is
-    /// called on a hit too; its future, which may be polled, is the required fetch.
+    /// An entry of the key's record, or a wait for its fetch, as `get_or_fetch_inner` answers. The closure is called on a
+    /// hit too; its future, which may be polled, is the required fetch.
     pub fn get_or_fetch<F, X>(
         &self,
         now: u64,

@@ -50,7 +50,7 @@ where
     /// builder is asked for once where the key is missing, and the optional one once where a new fetch begins, both with no
     /// lock held. What the task fetches comes in at the moment that its leader gave.
     ///
-    /// Room is made first (F7, also on a hit). Then it is refused on a hit as `get` is (F9, F7), and on a miss where a
+    /// A hit takes no memory, and is refused as `get` is (F9, F7). A miss makes room first (F7), and then is refused where a
     /// number is missing (F10), and then for want of memory (F7).
     pub fn get_or_fetch_inner<O, F, X>(
         &self,
@@ -71,18 +71,19 @@ where
         ensures key { IfOk result (elim [ Hit entry ↦ IfSome entry (λ e. K.eq key.now e.kept.key ≡ true) | Miss _ ↦ Unit {0} ]) }
         ensures live { IfOk result (elim [ Hit entry ↦ IfSome entry (λ e. is_expired now (P.expiry_of e.kept.properties) ≡ false) | Miss _ ↦ Unit {0} ]) }
     {
-        spawner.reserve()?;
-        let asking = self.asking(key)?;
-        if let Some(core) = self.shares.shared.shards.get(now, asking.hash, key)? {
-            let Asking { shares, .. } = asking;
-            return Ok(RawGetOrFetch::Hit(Some(shares.entry(core))));
+        let hash = self.hash(key);
+        if let Some(entry) = self.get_by(now, hash, key)? {
+            return Ok(RawGetOrFetch::Hit(Some(entry)));
         }
+        spawner.reserve()?;
+        let asking = self.asking(hash, key)?;
         self.ask(now, key, asking, fr(), fo, context, spawner)
     }
 
     // What a look-up of a key takes along. Only memory can be missing (F7).
     fn asking(
         &self,
+        hash: u64,
         key: &K,
     ) -> Result<Asking<Shares<H, E, K, V, S, P, W, A, L, Q, T::Required, I>, K, V, P>> {
         let (notifier, waiter) = oneshot::channel(self.shares.shared.shards.alloc)?;
@@ -90,7 +91,7 @@ where
             own: key.clone()?,
             task: self.shares.try_clone()?,
             shares: self.shares.try_clone()?,
-            hash: self.hash(key),
+            hash,
             notifier,
             waiter,
         })
@@ -183,8 +184,8 @@ where
 {
     ghost use Rattle.foyer_raw.specs.declared.fetch.wait.RawGetOrFetch.TheVariants.{Hit, Miss};
 
-    /// An entry of the key's record, or a wait for its fetch, as `get_or_fetch_inner` answers, by one look-up. The closure is
-    /// called on a hit too; its future, which may be polled, is the required fetch.
+    /// An entry of the key's record, or a wait for its fetch, as `get_or_fetch_inner` answers. The closure is called on a
+    /// hit too; its future, which may be polled, is the required fetch.
     pub fn get_or_fetch<F, X>(
         &self,
         now: u64,
@@ -204,8 +205,12 @@ where
         let given = Given {
             fetch: Pollable::new(fetch()),
         };
+        let hash = self.hash(key);
+        if let Some(entry) = self.get_by(now, hash, key)? {
+            return Ok(RawGetOrFetch::Hit(Some(entry)));
+        }
         spawner.reserve()?;
-        let asking = self.asking(key)?;
+        let asking = self.asking(hash, key)?;
         self.ask(
             now,
             key,
