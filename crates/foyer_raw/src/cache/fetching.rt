@@ -71,19 +71,17 @@ where
         ensures key { IfOk result (elim [ Hit entry ↦ IfSome entry (λ e. K.eq key.now e.kept.key ≡ true) | Miss _ ↦ Unit {0} ]) }
         ensures live { IfOk result (elim [ Hit entry ↦ IfSome entry (λ e. is_expired now (P.expiry_of e.kept.properties) ≡ false) | Miss _ ↦ Unit {0} ]) }
     {
-        let hash = self.hash(key);
-        if let Some(entry) = self.get_by(now, hash, key)? {
+        if let Some(entry) = self.get(now, key)? {
             return Ok(RawGetOrFetch::Hit(Some(entry)));
         }
         spawner.reserve()?;
-        let asking = self.asking(hash, key)?;
+        let asking = self.asking(key)?;
         self.ask(now, key, asking, fr(), fo, context, spawner)
     }
 
     // What a look-up of a key takes along. Only memory can be missing (F7).
     fn asking(
         &self,
-        hash: u64,
         key: &K,
     ) -> Result<Asking<Shares<H, E, K, V, S, P, W, A, L, Q, T::Required, I>, K, V, P>> {
         let (notifier, waiter) = oneshot::channel(self.shares.shared.shards.alloc)?;
@@ -91,7 +89,7 @@ where
             own: key.clone()?,
             task: self.shares.try_clone()?,
             shares: self.shares.try_clone()?,
-            hash,
+            hash: self.hash(key),
             notifier,
             waiter,
         })
@@ -205,12 +203,11 @@ where
         let given = Given {
             fetch: Pollable::new(fetch()),
         };
-        let hash = self.hash(key);
-        if let Some(entry) = self.get_by(now, hash, key)? {
+        if let Some(entry) = self.get(now, key)? {
             return Ok(RawGetOrFetch::Hit(Some(entry)));
         }
         spawner.reserve()?;
-        let asking = self.asking(hash, key)?;
+        let asking = self.asking(key)?;
         self.ask(
             now,
             key,

@@ -45,20 +45,7 @@ where
         ensures key { IfOk result (λ found. IfSome found (λ e. K.eq key.now e.kept.key ≡ true)) }
         ensures live { IfOk result (λ found. IfSome found (λ e. is_expired now (P.expiry_of e.kept.properties) ≡ false)) }
     {
-        self.get_by(now, self.hash(key), key)
-    }
-
-    // The same of a key that has this hash.
-    #[inline(always)]
-    pub(super) fn get_by(
-        &self,
-        now: u64,
-        hash: u64,
-        key: &K,
-    ) -> Result<Option<RawCacheEntry<H, E, K, V, S, P, W, A, L, Q, T::Required, I>>>
-        ensures key { IfOk result (λ found. IfSome found (λ e. K.eq key.now e.kept.key ≡ true)) }
-        ensures live { IfOk result (λ found. IfSome found (λ e. is_expired now (P.expiry_of e.kept.properties) ≡ false)) }
-    {
+        let hash = self.hash(key);
         let shares = self.shares_for(now, hash, key)?;
         match self.shares.shared.shards.get(now, hash, key)? {
             Some(core) => Ok(Some(shares.entry(core))),
