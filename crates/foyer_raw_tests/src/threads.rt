@@ -105,6 +105,32 @@ fn each_shard_has_a_lock_of_its_own(rt: HostRuntime) -> Outcome {
     Ok(())
 }
 
+// While a predicate runs under the lock of the second shard, another thread looks for a key there, and finds it once the
+// lock is free.
+#[test]
+fn a_shard_whose_lock_is_held_is_waited_for(rt: HostRuntime) -> Outcome {
+    let cache: Cache<HostRuntime> = RawCache::new(rt, rt.alloc(), fifo(64, 2), NoListener::new())?;
+    drop(cache.insert(0, 1, 11)?);
+    let flags = Flags::new();
+    thread::join(
+        &rt,
+        || {
+            drop(cache.flush_if(|_, _| {
+                flags.inside.store(1, Ordering::SeqCst);
+                thread::sleep(&rt, Duration::from_millis(200));
+                false
+            }));
+        },
+        || {
+            if is_up(&rt, &flags.inside) && cache.contains(0, &1) {
+                flags.looked.store(1, Ordering::SeqCst);
+            }
+        },
+    );
+    assert_eq!(rt; flags.looked.load(Ordering::SeqCst), 1);
+    Ok(())
+}
+
 /// A listener that waits, each time that it is told a leave, until the other thread has looked.
 #[derive(Drop)]
 struct Patient<C: Clock + Drop> {
