@@ -9,6 +9,7 @@ use crate::pipe::{NoopPipe, Pipe};
 use crate::shards::Shards;
 use crate::shared::Shared;
 use crate::shares::Shares;
+use crate::stripes::Stripes;
 use crate::ticket::{Answer, Notifier};
 use foyer_core::{
     AdmitAll, CacheCore, CacheProperties, Filter, Finder, RawCacheConfig, Rules, TagFinder,
@@ -58,6 +59,7 @@ where
     T: FetchTypes<K, V, P>,
 {
     shares: Shares<H, E, K, V, S, P, W, A, L, Q, T::Required, I>,
+    stripes: Arc<Stripes<H, E, K, V, S, P, W, A, L, T::Required, I>>,
 }
 
 impl<H, E, K, V, S, P, W, A, L, Q, T, I> RawCache<H, E, K, V, S, P, W, A, L, Q, T, I>
@@ -113,9 +115,13 @@ where
             },
             listener,
         };
-        let shared = Arc::new(alloc, shared)?;
+        let stripes = Stripes::new(alloc, shared, config.shards)?;
         Ok(RawCache {
-            shares: Shares { shared, pipe: None },
+            shares: Shares {
+                shared: stripes.share(0)?,
+                pipe: None,
+            },
+            stripes: Arc::new(alloc, stripes)?,
         })
     }
 }
@@ -137,20 +143,23 @@ where
 {
     /// The same cache again, with the same pipe. Refused where something can't be shared (F7).
     pub fn try_clone(&self) -> Result<Self> {
-        let shares = self.shares.try_clone()?;
-        Ok(RawCache { shares })
+        Ok(RawCache {
+            shares: self.shares.try_clone()?,
+            stripes: Arc::try_clone(&self.stripes)?,
+        })
     }
 
     /// The same cache with this pipe, which its entries, clones and tasks have from then on. Those that were made before
     /// keep what they had.
     pub fn with_pipe(self, pipe: Arc<Q>) -> Self {
-        let RawCache { shares } = self;
+        let RawCache { shares, stripes } = self;
         let Shares { shared, pipe: _ } = shares;
         RawCache {
             shares: Shares {
                 shared,
                 pipe: Some(pipe),
             },
+            stripes,
         }
     }
 
@@ -177,5 +186,13 @@ where
     /// What gives the keys their hashes.
     pub fn hash_builder(&self) -> &Arc<S> {
         &self.shares.shared.hash_builder
+    }
+
+    // Shares for an entry, a wait or a task of a key with this hash. Only memory can be missing (F7).
+    #[inline(always)]
+    fn shares_of(&self, hash: u64) -> Result<Shares<H, E, K, V, S, P, W, A, L, Q, T::Required, I>> {
+        let pipe = self.shares.pipe_again()?;
+        let shared = self.stripes.share(hash)?;
+        Ok(Shares { shared, pipe })
     }
 }

@@ -11,6 +11,7 @@ pub mod pipe;
 mod shards;
 mod shared;
 mod shares;
+mod stripes;
 pub mod ticket;
 
 pub use cache::RawCache;

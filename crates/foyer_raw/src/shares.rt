@@ -7,7 +7,7 @@ use crate::flush::Flush;
 use crate::listener::tell;
 use crate::pipe::Pipe;
 use crate::shards::RawEnded;
-use crate::shared::Shared;
+use crate::stripes::Stripe;
 use crate::ticket::{Answer, Notifier, Ticket, Waiters, refuse};
 use foyer_core::{Answers, CoreEntry, Ended, Finder, Leave, Left, Piece};
 use foyer_policy::{EventListener, Eviction, Key, Properties, Result, Value};
@@ -30,7 +30,7 @@ where
     Q: Drop,
     R: Drop,
 {
-    pub(crate) shared: Arc<Shared<H, E, K, V, S, P, W, A, L, R, I>>,
+    pub(crate) shared: Arc<Stripe<H, E, K, V, S, P, W, A, L, R, I>>,
     pub(crate) pipe: Option<Arc<Q>>,
 }
 
@@ -50,14 +50,19 @@ where
     R: Drop,
 {
     // The same shares again.
-    #[inline(always)]
     pub(crate) fn try_clone(&self) -> Result<Self> {
-        let pipe = match &self.pipe {
-            Some(pipe) => Some(Arc::try_clone(pipe)?),
-            None => None,
-        };
+        let pipe = self.pipe_again()?;
         let shared = Arc::try_clone(&self.shared)?;
         Ok(Shares { shared, pipe })
+    }
+
+    // The same pipe again, where there is one.
+    #[inline(always)]
+    pub(crate) fn pipe_again(&self) -> Result<Option<Arc<Q>>> {
+        match &self.pipe {
+            Some(pipe) => Ok(Some(Arc::try_clone(pipe)?)),
+            None => Ok(None),
+        }
     }
 }
 

@@ -46,10 +46,11 @@ fn the_last_owner_clears(rt: HostRuntime) -> Outcome {
     let (cache, notes) = heard(rt, fifo(4, 2))?;
     let held = cache.insert(0, 1, 10)?;
     drop(cache.insert(0, 3, 30)?);
-    drop(cache.insert(0, 2, 20)?);
+    let of_the_other_shard = cache.insert(0, 2, 20)?;
     drop(cache);
-    assert!(rt; notes.are(&[]));
     drop(held);
+    assert!(rt; notes.are(&[]));
+    drop(of_the_other_shard);
     assert!(rt; notes.are(&[Clear(2, 20), Clear(1, 10), Clear(3, 30)]));
     Ok(())
 }

@@ -85,11 +85,12 @@ where
         key: &K,
     ) -> Result<Asking<Shares<H, E, K, V, S, P, W, A, L, Q, T::Required, I>, K, V, P>> {
         let (notifier, waiter) = oneshot::channel(self.shares.shared.shards.alloc)?;
+        let hash = self.hash(key);
         Ok(Asking {
             own: key.clone()?,
-            task: self.shares.try_clone()?,
-            shares: self.shares.try_clone()?,
-            hash: self.hash(key),
+            task: self.shares_of(hash)?,
+            shares: self.shares_of(hash)?,
+            hash,
             notifier,
             waiter,
         })

@@ -59,8 +59,8 @@ where
         requires clones { (k c : K) → K.is_clone k c → K.eq c k ≡ true }
         ensures { IfOk result (λ e. (e.kept.key ≡ key) × (e.kept.value ≡ value)) }
     {
-        let shares = self.shares.try_clone();
         let hash = self.hash(&key);
+        let shares = self.shares_of(hash);
         let kept = self.shares.shared.data(hash, key, value, properties);
         let shares = match shares {
             Ok(shares) => shares,
@@ -86,8 +86,8 @@ where
     ) -> Result<RawCacheEntry<H, E, K, V, S, P, W, A, L, Q, T::Required, I>>
         requires clones { (k c : K) → K.is_clone k c → K.eq c k ≡ true }
     {
-        let shares = self.shares.try_clone();
         let hash = self.hash(piece.key());
+        let shares = self.shares_of(hash);
         let shared = &self.shares.shared;
         let weight = shared.weight_of(hash, &piece);
         let shares = match shares {

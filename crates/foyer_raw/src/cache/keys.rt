@@ -80,7 +80,7 @@ where
         hash: u64,
         key: &K,
     ) -> Result<Shares<H, E, K, V, S, P, W, A, L, Q, T::Required, I>> {
-        let refused = match self.shares.try_clone() {
+        let refused = match self.shares_of(hash) {
             Ok(shares) => return Ok(shares),
             Err(refused) => refused,
         };
