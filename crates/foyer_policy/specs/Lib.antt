@@ -40,6 +40,7 @@ pub mod Policy
 pub mod PopTimes
 pub mod Properties
 pub mod Queued
+pub mod Rows
 pub mod S3Fifo
 pub mod S3FifoLaws
 pub mod S3FifoQueues

@@ -13,6 +13,7 @@ use crate::min_tree::MinTree;
 use std::alloc::Global;
 
 mod leaves;
+mod row;
 
 use leaves::{lower, raise, refresh_all};
 
