@@ -1,12 +1,10 @@
 -- The slots close up.
 use Rattle.std.proofs.Common.{◌≡◌, ℕ, zero, suc, ◌+◌, ◌<◌, ◌≤◌, List, [], ◌∷◌, length, take, refl, sym, ◌∙◌, ap, arith}
 use Rattle.std.specs.Prelude.{nat_lt}
-use Rattle.std.specs.Vec.{vec_capacity}
-use Rattle.std.specs.declared.vec.Vec.{Vec}
-use Rattle.std.specs.declared.alloc.Global.{Global}
 use Rattle.std.proofs.lemmas.List.{length-take-le}
 use Rattle.std.proofs.lemmas.List.Sums.{sum_by-cons, count_by-le-length}
-use Rattle.foyer_policy.specs.DateSlots.{on_of, taken_of, AreIndexed, AreEmptyFrom, ArePlaced}
+use Rattle.foyer_policy.specs.DateSlots.{on_of, taken_of, AreApart, AreEmptyFrom, ArePlaced}
+use Rattle.foyer_policy.specs.Rows.{Row}
 use Rattle.foyer_policy.specs.declared.dates.slots.Slot.{Slot}
 use Rattle.foyer_policy.specs.declared.dates.slots.Slots.{Slots}
 use Rattle.foyer_policy.proofs.DatesLemmas.{fronted, on_of-take}
@@ -34,41 +32,40 @@ taken_of-take lists (suc n) (s ∷ ss) h =
     ∙ sym (sum_by-cons (weight_of lists) s ss)
 
 -- the slots that were gathered, with the empty ones dropped
-module _ (s : Slots) (h : ArePlaced s) (slots : List Slot) (slot_of : List ℕ) (n : ℕ)
-    (indexed : AreIndexed (length s.trees.items) slots slot_of)
-    (same : (k : ℕ) → k < length s.trees.items → on_of k slots ≡ on_of k s.slots.items)
-    (count : taken_of (length s.trees.items) slots ≡ taken_of (length s.trees.items) s.slots.items)
-    (taken : n ≡ taken_of (length s.trees.items) s.slots.items) (rest : AreEmptyFrom (length s.trees.items) n slots)
-    (v : Vec Slot Global) (items : v.items ≡ take n slots) where
+module _ (s : Slots) (h : ArePlaced s) (slots : List Slot) (n : ℕ)
+    (apart : AreApart (length s.trees.items) slots)
+    (same : (k : ℕ) → k < length s.trees.items → on_of k slots ≡ on_of k s.row.slots)
+    (count : taken_of (length s.trees.items) slots ≡ taken_of (length s.trees.items) s.row.slots)
+    (taken : n ≡ taken_of (length s.trees.items) s.row.slots) (rest : AreEmptyFrom (length s.trees.items) n slots)
+    (w : Row) (items : w.slots ≡ take n slots) where
   abbrev lists : ℕ
   lists = length s.trees.items
 
-  pub length_closed : length v.items ≡ s.taken
+  pub length_closed : length w.slots ≡ s.taken
   length_closed =
       let few = count_by-le-length (λ (u : Slot). nat_lt u.list lists) slots in
       let most : n ≤ length slots = omega (arith, taken, count, few) in
       ap length items ∙ length-take-le n slots most ∙ taken ∙ sym h.count
 
-  pub on_closed : (k : ℕ) → k < lists → on_of k v.items ≡ on_of k s.slots.items
+  pub on_closed : (k : ℕ) → k < lists → on_of k w.slots ≡ on_of k s.row.slots
   on_closed k less =
       ap (on_of k) items
       ∙ on_of-take k n slots (λ j u is le e. absurd (omega (arith, rest j u is le, e, less)))
       ∙ same k less
 
-  pub ArePlaced-closed : (w : Vec ℕ Global) → w.items ≡ slot_of → length slot_of ≡ length s.slot_of.items
-      → vec_capacity v ≡ vec_capacity s.slots →
-      ArePlaced (record { slots = v; limit = s.limit; taken = s.taken; slot_of = w; trees = s.trees })
-  ArePlaced-closed w found long capacity = record {
+  pub ArePlaced-closed : w.capacity ≡ s.row.capacity →
+      ArePlaced (record { row = w; limit = s.limit; taken = s.taken; trees = s.trees })
+  ArePlaced-closed capacity = record {
     room = omega (arith, capacity, h.room);
-    few = (h.few.0, omega (arith, ap length found, long, h.few.1), h.few.2);
+    few = h.few;
     within = omega (
       arith,
       length_closed,
       h.count,
-      count_by-le-length (λ (u : Slot). nat_lt u.list lists) s.slots.items,
+      count_by-le-length (λ (u : Slot). nat_lt u.list lists) s.row.slots,
       h.within,
     );
     count = rw items (h.count ∙ sym count ∙ sym (taken_of-take lists n slots rest));
-    indexed = rw (items, found) (λ j u is less. indexed j u (fronted n slots j u is).1 less);
+    apart = rw items (λ i j u v is at. apart i j u v (fronted n slots i u is).1 (fronted n slots j v at).1);
     leaves = h.leaves;
   }

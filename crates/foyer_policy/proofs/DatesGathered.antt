@@ -4,34 +4,33 @@ use Rattle.std.specs.Prelude.{slice_get}
 use Rattle.std.proofs.lemmas.List.{drop-set-lt}
 use Rattle.std.proofs.lemmas.List.Sums.{sum_by-drop_more}
 use Rattle.std.proofs.lemmas.Option.{slice_get_within, slice_get-get_or, get_or_from_slice_get}
-use Rattle.foyer_policy.specs.DateSlots.{on_of, taken_of, AreIndexed}
+use Rattle.foyer_policy.specs.DateSlots.{on_of, taken_of, AreApart}
 use Rattle.foyer_policy.specs.declared.dates.slots.Slot.{Slot}
 use Rattle.foyer_policy.proofs.DatesLemmas.{written, slice_get-set_same, slice_get-set_other, on_of-moved}
 use Rattle.foyer_policy.proofs.DatesKept.{weight_of, weighs_one, weighs_none, taken_of-set}
 use Rattle.foyer_policy.proofs.ListsLemmas.{same_or_not}
 
 -- what is true while slots move: `to` of them did, and the next to look at is `from`
-pub record AreGathered (lists : ℕ) (old slots : List Slot) (slot_of : List ℕ) (to from : ℕ) : Type 0 where
+pub record AreGathered (lists : ℕ) (old slots : List Slot) (to from : ℕ) : Type 0 where
   pub behind : to ≤ from
-  pub indexed : AreIndexed lists slots slot_of
+  pub apart : AreApart lists slots
   pub same : (k : ℕ) → k < lists → on_of k slots ≡ on_of k old
   pub count : taken_of lists slots ≡ taken_of lists old
   pub taken : to + taken_of lists (drop from slots) ≡ taken_of lists old
   pub rest : (j : ℕ) (s : Slot) → slice_get slots j ≡ Some s → to ≤ j → j < from → lists ≤ s.list
 
-pub AreGathered-init : (lists : ℕ) (old : List Slot) (slot_of : List ℕ) → AreIndexed lists old slot_of →
-    AreGathered lists old old slot_of 0 0
-AreGathered-init lists old slot_of h = record {
+pub AreGathered-init : (lists : ℕ) (old : List Slot) → AreApart lists old → AreGathered lists old old 0 0
+AreGathered-init lists old h = record {
   behind = omega arith;
-  indexed = h;
+  apart = h;
   same = λ k less. refl;
   count = refl;
   taken = omega arith;
   rest = λ j s is low high. absurd (omega (arith, high));
 }
 
-module _ (lists : ℕ) (old slots : List Slot) (slot_of : List ℕ) (to from : ℕ) (s : Slot)
-    (h : AreGathered lists old slots slot_of to from) (is : slice_get slots from ≡ Some s) where
+module _ (lists : ℕ) (old slots : List Slot) (to from : ℕ) (s : Slot) (h : AreGathered lists old slots to from)
+    (is : slice_get slots from ≡ Some s) where
   within : from < length slots
   within = slice_get_within slots from s is
 
@@ -43,10 +42,10 @@ module _ (lists : ℕ) (old slots : List Slot) (slot_of : List ℕ) (to from : �
       rw was at sums
 
   -- an empty slot is passed over
-  pub passed : lists ≤ s.list → AreGathered lists old slots slot_of to (from + 1)
+  pub passed : lists ≤ s.list → AreGathered lists old slots to (from + 1)
   passed past = record {
     behind = omega (arith, h.behind);
-    indexed = h.indexed;
+    apart = h.apart;
     same = h.same;
     count = h.count;
     taken = omega (arith, h.taken, left, weighs_none lists s past);
@@ -71,9 +70,6 @@ module _ (lists : ℕ) (old slots : List Slot) (slot_of : List ℕ) (to from : �
 
     long : length emptied ≡ length slots
     long = length-set slots from t
-
-    pub place_of : s.place < length slot_of
-    place_of = slice_get_within slot_of s.place from (h.indexed from s is less)
 
     -- a slot that is taken then is the one that moved, or stood elsewhere
     slots_are : (j : ℕ) (u : Slot) → slice_get moved j ≡ Some u →
@@ -107,10 +103,10 @@ module _ (lists : ℕ) (old slots : List Slot) (slot_of : List ℕ) (to from : �
           second (get_or slots to s) (slice_get-set_other slots from to t ne ∙ at)
           (h.rest to (get_or slots to s) at (omega arith) low) ∙ first
 
-    pub moved_on : AreGathered lists old moved (set slot_of s.place to) (to + 1) (from + 1)
+    pub moved_on : AreGathered lists old moved (to + 1) (from + 1)
     moved_on = record {
       behind = omega (arith, h.behind);
-      indexed = λ j u there lt. index j u lt (slots_are j u there);
+      apart = λ i j u v here there lt less same. apart i j u v lt less same (slots_are i u here) (slots_are j v there);
       same = λ k below. on_of-moved k to from slots s t is (λ e. absurd (omega (arith, e, below, past))) h.behind
           (λ i u there low high e. absurd (omega (arith, e, below, h.rest i u there low high))) ∙ h.same k below;
       count = count_same ∙ h.count;
@@ -120,18 +116,34 @@ module _ (lists : ℕ) (old slots : List Slot) (slot_of : List ℕ) (to from : �
           rw (a, b) (omega (arith, h.taken, left, weighs_one lists s less)));
       rest = λ j u there low high. empty j u low high (slots_are j u there);
     } where
-      index : (j : ℕ) (u : Slot) → u.list < lists →
+      -- a slot that is taken then moved, or is what it was
+      stays : (j : ℕ) (u : Slot) → u.list < lists →
           ((j ≡ to) × (s ≡ u)) ⊎ ((j ≢ to) × (((j ≡ from) × (t ≡ u)) ⊎ ((j ≢ from) × (slice_get slots j ≡ Some u)))) →
-          slice_get (set slot_of s.place to) u.place ≡ Some j
-      index j u lt (inl w) = rw (← w.1, w.0) (slice_get-set_same slot_of s.place to place_of)
-      index j u lt (inr (ne, inl w)) =
+          ((j ≡ to) × (s ≡ u)) ⊎ ((j ≢ from) × (slice_get slots j ≡ Some u))
+      stays j u lt (inl w) = inl w
+      stays j u lt (inr (ne, inl w)) =
           let list : t.list ≡ u.list = ap (λ (v : Slot). v.list) w.1 in absurd (omega (arith, list, lt, past))
-      index j u lt (inr (ne, inr w)) =
-          let at = h.indexed j u w.1 lt in
-          let off : u.place ≢ s.place = λ e. (let a = rw e at at in
-          let both : Some j ≡ Some from = sym a ∙ h.indexed from s is less in
-          let same : j ≡ from = cc in w.0 same) in
-          slice_get-set_other slot_of s.place u.place to off ∙ at
+      stays j u lt (inr (ne, inr w)) = inr w
+
+      -- a slot that stays has another place than the one that moved
+      off : (j : ℕ) (u : Slot) → u.list < lists → j ≢ from → slice_get slots j ≡ Some u → s.place ≢ u.place
+      off j u lt ne at same = ne (sym (h.apart from j s u is at less lt same))
+
+      meet : (i j : ℕ) (u v : Slot) → u.list < lists → v.list < lists → u.place ≡ v.place →
+          ((i ≡ to) × (s ≡ u)) ⊎ ((i ≢ from) × (slice_get slots i ≡ Some u)) →
+          ((j ≡ to) × (s ≡ v)) ⊎ ((j ≢ from) × (slice_get slots j ≡ Some v)) → i ≡ j
+      meet i j u v lt lt' same (inl a) (inl b) = a.0 ∙ sym b.0
+      meet i j u v lt lt' same (inl a) (inr b) =
+          absurd (off j v lt' b.0 b.1 (ap (λ (w : Slot). w.place) a.1 ∙ same))
+      meet i j u v lt lt' same (inr a) (inl b) =
+          absurd (off i u lt a.0 a.1 (ap (λ (w : Slot). w.place) b.1 ∙ sym same))
+      meet i j u v lt lt' same (inr a) (inr b) = h.apart i j u v a.1 b.1 lt lt' same
+
+      apart : (i j : ℕ) (u v : Slot) → u.list < lists → v.list < lists → u.place ≡ v.place →
+          ((i ≡ to) × (s ≡ u)) ⊎ ((i ≢ to) × (((i ≡ from) × (t ≡ u)) ⊎ ((i ≢ from) × (slice_get slots i ≡ Some u)))) →
+          ((j ≡ to) × (s ≡ v)) ⊎ ((j ≢ to) × (((j ≡ from) × (t ≡ v)) ⊎ ((j ≢ from) × (slice_get slots j ≡ Some v)))) →
+          i ≡ j
+      apart i j u v lt lt' same a b = meet i j u v lt lt' same (stays i u lt a) (stays j v lt' b)
 
       empty : (j : ℕ) (u : Slot) → to + 1 ≤ j → j < from + 1 →
           ((j ≡ to) × (s ≡ u)) ⊎ ((j ≢ to) × (((j ≡ from) × (t ≡ u)) ⊎ ((j ≢ from) × (slice_get slots j ≡ Some u)))) →

@@ -3,7 +3,7 @@ use Rattle.std.proofs.Common.{◌≡◌, ◌≢◌, ℕ, zero, suc, ◌<◌, ◌
 use Rattle.std.specs.Prelude.{slice_get, nat_eq, nat_le}
 use Rattle.std.proofs.lemmas.Bool.Decides.{nat_tests}
 use Rattle.foyer_policy.specs.Dates.{first_by}
-use Rattle.foyer_policy.specs.DateSlots.{on_of}
+use Rattle.foyer_policy.specs.DateSlots.{on_of, IsAt}
 use Rattle.foyer_policy.specs.Lists.{find_in, drop_place, IsFree}
 use Rattle.foyer_policy.specs.declared.dates.slots.Slot.{Slot}
 use Rattle.foyer_policy.proofs.ListsLemmas.{same_or_not}
@@ -47,6 +47,11 @@ module _ {X : Type 0} where
   fronted (suc n) (y ∷ xs) zero x is = (omega arith, is)
   fronted (suc n) (y ∷ xs) (suc j) x is = let h = fronted n xs j x is in (omega (arith, h.0), h.1)
 
+-- one slot stands at an index
+pub same_slot : (slots : List Slot) (i j : ℕ) (s t : Slot) → j ≡ i → slice_get slots i ≡ Some s → slice_get slots j ≡ Some t
+    → s ≡ t
+same_slot slots i j s t e is at = let here = rw e at at in cc
+
 -- a slot of a list stands with its entry in front
 pub on_of-same : (k : ℕ) (s : Slot) (ss : List Slot) → s.list ≡ k → on_of k (s ∷ ss) ≡ (s.place, s.date) ∷ on_of k ss
 on_of-same k s ss e = let t : nat_eq s.list k ≡ true = rw e (same_place k) in rw t refl
@@ -83,22 +88,18 @@ on_of-take k (suc n) (s ∷ ss) h = on_of-cons k s (take n ss) ss
     (on_of-take k n ss (λ j t is le. h (suc j) t is (omega (arith, le))))
 
 -- the slot of a place in a list
-pub record Stands (k p : ℕ) (ss : List Slot) : Type 0 where
-  pub index : ℕ
-  pub slot : Slot
-  pub is : slice_get ss index ≡ Some slot
-  pub list : slot.list ≡ k
-  pub place : slot.place ≡ p
+abbrev pub Stands : (k p : ℕ) (ss : List Slot) → Type 0
+Stands k p ss = (j : ℕ) × IsAt k p ss j
 
 pub stands : (k p : ℕ) (ss : List Slot) → IsSome (find_in p (on_of k ss)) → Stands k p ss
 stands k p [] h = absurd (search rules)
 stands k p (s ∷ ss) h = go (nat_eq s.list k) refl h (stands k p ss) where
   later : Stands k p ss → Stands k p (s ∷ ss)
-  later w = record { index = suc w.index; slot = w.slot; is = w.is; list = w.list; place = w.place }
+  later w = (suc w.0, record { slot = w.1.slot; is = w.1.is; list = w.1.list; place = w.1.place })
 
   here : (b : Bool) → nat_eq s.place p ≡ b → s.list ≡ k → IsSome (cond b (Some s.date) (find_in p (on_of k ss))) →
       (IsSome (find_in p (on_of k ss)) → Stands k p ss) → Stands k p (s ∷ ss)
-  here true q e h rec = record { index = 0; slot = s; is = refl; list = e; place = place_is s.place p q }
+  here true q e h rec = (0, record { slot = s; is = refl; list = e; place = place_is s.place p q })
   here false q e h rec = later (rec h)
 
   go : (b : Bool) → nat_eq s.list k ≡ b → IsSome (find_in p (cond b ((s.place, s.date) ∷ on_of k ss) (on_of k ss))) →

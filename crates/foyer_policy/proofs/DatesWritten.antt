@@ -1,81 +1,88 @@
 -- Slots stay sound where one is emptied, and where one is taken.
 use Rattle.std.proofs.Common.{◌≡◌, ◌≢◌, ℕ, ◌+◌, ◌-◌, ◌/◌, ◌<◌, ◌≤◌, List, [], ◌∷◌, ◌++◌, true, false, Some, None, length, set, get_or, refl, sym, ◌∙◌, ap, arith, ◌⊎◌, inl, inr, length-set}
 use Rattle.std.specs.Prelude.{slice_get, slice_index, nat_eq}
-use Rattle.std.specs.Vec.{with_item, vec_capacity}
-use Rattle.std.specs.declared.vec.Vec.{Vec}
-use Rattle.std.specs.declared.alloc.Global.{Global}
+use Rattle.std.specs.Vec.{with_item}
 use Rattle.std.proofs.lemmas.List.{append-nil, length_push}
-use Rattle.foyer_policy.specs.DateSlots.{on_of, AreAbove, AreDates}
+use Rattle.std.proofs.lemmas.Option.{slice_get_within}
+use Rattle.foyer_policy.specs.DateSlots.{on_of, AreAbove, AreDates, IsAt}
 use Rattle.foyer_policy.specs.Lists.{find_in, drop_place}
+use Rattle.foyer_policy.specs.Rows.{Row, emptied}
 use Rattle.foyer_policy.specs.declared.dates.slots.Slot.{Slot}
 use Rattle.foyer_policy.specs.declared.dates.slots.Slots.{Slots}
 use Rattle.foyer_policy.proofs.DatesLemmas.{pushed, on_of-emptied, on_of-append, on_of-same, on_of-other, not_free, slice_get-set_same, slice_get-set_other}
 use Rattle.foyer_policy.proofs.ListsLemmas.{same_or_not}
 use Rattle.foyer_policy.proofs.PlaceLemmas.{same_place, other_place, IsFree-none}
 use Rattle.foyer_policy.specs.Dates.{with_last}
-use Rattle.foyer_policy.proofs.DatesKept.{Held, HaveLeaves-set, AreBounded-set, taken_of-some, taken_of-emptied, taken_of-push, AreIndexed-emptied, AreAbove-emptied}
+use Rattle.foyer_policy.proofs.DatesKept.{HaveLeaves-set, AreBounded-set, taken_of-some, taken_of-emptied, taken_of-push, AreApart-emptied, AreAbove-emptied}
 
 -- a slot is emptied
-module _ (s : Slots) (d : AreDates s) (p j : ℕ) (g t : Slot) (h : Held s p j g)
-    (past : length s.trees.items ≤ t.list) where
+module _ (s : Slots) (d : AreDates s) (k p j : ℕ) (below : k < length s.trees.items) (h : IsAt k p s.row.slots j) where
   abbrev lists : ℕ
   lists = length s.trees.items
 
   abbrev left : List Slot
-  left = set s.slots.items j t
+  left = set s.row.slots j (emptied h.slot)
 
-  pub dates_above : (k : ℕ) → k < lists → AreAbove k left (get_or s.trees.items k [])
-  dates_above k less = AreAbove-emptied lists s.slots.items j t h.within past k (get_or s.trees.items k []) less
-      (d.bounded k less)
+  pub slot_within : j < length s.row.slots
+  slot_within = slice_get_within s.row.slots j h.slot h.is
 
-  pub entry_gone : (k : ℕ) → k < lists → on_of k left ≡ drop_place p (on_of k s.slots.items)
-  entry_gone k less =
-      on_of-emptied k p j s.slots.items g t h.is h.place (λ e. absurd (omega (arith, e, past, less)))
-      (λ i u is list place.
-      let here = d.placed.indexed i u is (omega (arith, list, less)) in
-      let there = d.placed.indexed j g h.is h.list in
-      let a = rw place at here in
-      let b = rw h.place at there in
-      let both : Some i ≡ Some j = sym a ∙ b in
-      let same : i ≡ j = cc in same)
+  slot_listed : h.slot.list < lists
+  slot_listed = omega (arith, h.list, below)
 
-  pub AreDates-emptied : (k : ℕ) → k < lists → (tree : List ℕ) → length tree ≡ length (get_or s.trees.items k []) →
-      AreAbove k left tree → AreDates (record {
-        slots = with_item s.slots j t;
+  pub some_taken : 1 ≤ s.taken
+  some_taken = omega (arith, d.placed.count, taken_of-some lists s.row.slots j h.slot h.is slot_listed)
+
+  pub block_within : (tree : List ℕ) → tree ≡ get_or s.trees.items k [] → j / 32 < length tree
+  block_within tree is = rw is (omega (arith, d.placed.leaves k below, slot_within, d.placed.within))
+
+  pub dates_above : (i : ℕ) → i < lists → AreAbove i left (get_or s.trees.items i [])
+  dates_above i less =
+      AreAbove-emptied lists s.row.slots j (emptied h.slot) slot_within d.placed.few.1 i (get_or s.trees.items i []) less
+      (d.bounded i less)
+
+  pub entry_gone : (i : ℕ) → i < lists → on_of i left ≡ drop_place p (on_of i s.row.slots)
+  entry_gone i less =
+      on_of-emptied i p j s.row.slots h.slot (emptied h.slot) h.is h.place
+      (λ e. absurd (omega (arith, e, d.placed.few.1, less)))
+      (λ m u is list place. d.placed.apart m j u h.slot is h.is (omega (arith, list, less)) slot_listed (place ∙ sym h.place))
+
+  pub AreDates-emptied : (w : Row) → w.slots ≡ left → w.capacity ≡ s.row.capacity → (tree : List ℕ) →
+      length tree ≡ length (get_or s.trees.items k []) → AreAbove k w.slots tree → AreDates (record {
+        row = w;
         limit = s.limit;
         taken = s.taken - 1;
-        slot_of = s.slot_of;
         trees = with_item s.trees k tree;
       })
-  AreDates-emptied k below tree long above =
+  AreDates-emptied w slots capacity tree long above =
       let same : length (set s.trees.items k tree) ≡ lists = length-set s.trees.items k tree in
       record {
         placed = record {
-          room = d.placed.room;
-          few = (d.placed.few.0, d.placed.few.1, omega (arith, same, d.placed.few.2));
-          within = omega (arith, length-set s.slots.items j t, d.placed.within);
-          count = rw same (omega (
+          room = omega (arith, capacity, d.placed.room);
+          few = (d.placed.few.0, omega (arith, same, d.placed.few.1));
+          within = rw slots (omega (arith, length-set s.row.slots j (emptied h.slot), d.placed.within));
+          count = rw (same, slots) (omega (
             arith,
             d.placed.count,
-            taken_of-some lists s.slots.items j g h.is h.list,
-            taken_of-emptied lists s.slots.items j g t h.is h.list past,
+            some_taken,
+            taken_of-emptied lists s.row.slots j h.slot (emptied h.slot) h.is slot_listed d.placed.few.1,
           ));
-          indexed = rw same
-              (AreIndexed-emptied lists s.slots.items j t h.within past s.slot_of.items d.placed.indexed);
+          apart = rw (same, slots)
+              (AreApart-emptied lists s.row.slots j (emptied h.slot) slot_within d.placed.few.1 d.placed.apart);
           leaves = HaveLeaves-set s.limit s.trees.items k tree below long d.placed.leaves;
         };
-        bounded = AreBounded-set left s.trees.items k tree below above (λ i less ne. dates_above i less);
+        bounded = rw slots (AreBounded-set left s.trees.items k tree below (rw slots at above)
+            (λ i less ne. dates_above i less));
       }
 
 -- a slot is taken
-module _ (s : Slots) (d : AreDates s) (t : Slot) (room : length s.slots.items < s.limit)
-    (list : t.list < length s.trees.items) (place : t.place < length s.slot_of.items)
-    (free : (k : ℕ) → k < length s.trees.items → find_in t.place (on_of k s.slots.items) ≡ None) where
+module _ (s : Slots) (d : AreDates s) (t : Slot) (room : length s.row.slots < s.limit)
+    (list : t.list < length s.trees.items)
+    (free : (k : ℕ) → k < length s.trees.items → find_in t.place (on_of k s.row.slots) ≡ None) where
   abbrev old : List Slot
-  old = s.slots.items
+  old = s.row.slots
 
   abbrev more : List Slot
-  more = s.slots.items ++ t ∷ []
+  more = s.row.slots ++ t ∷ []
 
   -- no slot had the place
   other : (i : ℕ) (u : Slot) → slice_get old i ≡ Some u → u.list < length s.trees.items → u.place ≢ t.place
@@ -93,41 +100,38 @@ module _ (s : Slots) (d : AreDates s) (t : Slot) (room : length s.slots.items < 
         let b : nat_eq k t.list ≡ false = other_place k t.list ne in
         rw (on_of-other k t [] (λ e. ne (sym e)), b) (append-nil (on_of k old))
 
-  pub AreDates-taken : (v : Vec Slot Global) (tree : List ℕ) → v.items ≡ more → vec_capacity v ≡ vec_capacity s.slots →
+  pub AreDates-taken : (w : Row) (tree : List ℕ) → w.slots ≡ more → w.capacity ≡ s.row.capacity →
       length tree ≡ length (get_or s.trees.items t.list []) → slice_index tree (length old / 32) ≤ t.date →
       ((b : ℕ) → slice_index tree b ≤ slice_index (get_or s.trees.items t.list []) b) → AreDates (record {
-        slots = v;
+        row = w;
         limit = s.limit;
         taken = s.taken + 1;
-        slot_of = with_item s.slot_of t.place (length old);
         trees = with_item s.trees t.list tree;
       })
-  AreDates-taken v tree items capacity long here less =
+  AreDates-taken w tree items capacity long here less =
       let same : length (set s.trees.items t.list tree) ≡ length s.trees.items = length-set s.trees.items t.list tree in
       record {
         placed = record {
           room = omega (arith, capacity, d.placed.room);
-          few = (
-            d.placed.few.0,
-            omega (arith, length-set s.slot_of.items t.place (length old), d.placed.few.1),
-            omega (arith, same, d.placed.few.2),
-          );
+          few = (d.placed.few.0, omega (arith, same, d.placed.few.1));
           within = rw items (omega (arith, length_push old t, room));
           count = rw (same, items) (omega (arith, d.placed.count, taken_of-push (length s.trees.items) old t list));
-          indexed = rw (same, items) (λ i u is lt. index i u lt (pushed old t i u is));
+          apart = rw (same, items) (λ i k u v is at lt less. apart i k u v lt less (pushed old t i u is) (pushed old t k v at));
           leaves = HaveLeaves-set s.limit s.trees.items t.list tree list long d.placed.leaves;
         };
         bounded = rw items (AreBounded-set more s.trees.items t.list tree list
             (λ i u is e. above i u e (pushed old t i u is))
             (λ k lt ne i u is e. beside k lt ne i u e (pushed old t i u is)));
       } where
-        index : (i : ℕ) (u : Slot) → u.list < length s.trees.items →
+        apart : (i k : ℕ) (u v : Slot) → u.list < length s.trees.items → v.list < length s.trees.items →
             ((i ≡ length old) × (t ≡ u)) ⊎ (slice_get old i ≡ Some u) →
-            slice_get (set s.slot_of.items t.place (length old)) u.place ≡ Some i
-        index i u lt (inl h) = rw (← h.1, h.0) (slice_get-set_same s.slot_of.items t.place (length old) place)
-        index i u lt (inr h) =
-            slice_get-set_other s.slot_of.items t.place u.place (length old) (other i u h lt)
-            ∙ d.placed.indexed i u h lt
+            ((k ≡ length old) × (t ≡ v)) ⊎ (slice_get old k ≡ Some v) → u.place ≡ v.place → i ≡ k
+        apart i k u v lt less (inl a) (inl b) same = a.0 ∙ sym b.0
+        apart i k u v lt less (inl a) (inr b) same =
+            absurd (other k v b less (sym same ∙ ap (λ (w : Slot). w.place) (sym a.1)))
+        apart i k u v lt less (inr a) (inl b) same =
+            absurd (other i u a lt (same ∙ ap (λ (w : Slot). w.place) (sym b.1)))
+        apart i k u v lt less (inr a) (inr b) same = d.placed.apart i k u v a b lt less same
 
         above : (i : ℕ) (u : Slot) → u.list ≡ t.list → ((i ≡ length old) × (t ≡ u)) ⊎ (slice_get old i ≡ Some u) →
             slice_index tree (i / 32) ≤ u.date

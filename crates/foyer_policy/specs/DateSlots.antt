@@ -1,7 +1,6 @@
 -- How the dates of lists stand in slots.
 use Rattle.std.specs.Prelude.{◌≡◌, ◌==◌, ℕ, ◌/◌, ◌^◌, ◌<◌, ◌≤◌, List, [], ◌∷◌, Some, length, map, nat_lt, count_by, slice_get, slice_index, slice_index_or, if◌then◌else◌}
 use Rattle.std.specs.List.{range_with_len}
-use Rattle.std.specs.Vec.{vec_capacity}
 use Rattle.foyer_policy.specs.Dates.{Dates}
 use Rattle.foyer_policy.specs.declared.dates.slots.Slot.{Slot}
 use Rattle.foyer_policy.specs.declared.dates.slots.Slots.{Slots}
@@ -15,10 +14,18 @@ on_of k (s ∷ ss) = if s.list == k then (s.place, s.date) ∷ on_of k ss else o
 abbrev pub taken_of : ℕ → List Slot → ℕ
 taken_of lists slots = count_by (λ s. nat_lt s.list lists) slots
 
--- the slot of each place that has a date
-abbrev pub AreIndexed : ℕ → List Slot → List ℕ → Type 0
-AreIndexed lists slots slot_of =
-    (j : ℕ) (s : Slot) → slice_get slots j ≡ Some s → s.list < lists → slice_get slot_of s.place ≡ Some j
+-- a slot is that of a place that has a date in list k
+pub record IsAt (k p : ℕ) (slots : List Slot) (j : ℕ) : Type 0 where
+  pub slot : Slot
+  pub is : slice_get slots j ≡ Some slot
+  pub list : slot.list ≡ k
+  pub place : slot.place ≡ p
+
+-- no two slots that are taken have the same place
+abbrev pub AreApart : ℕ → List Slot → Type 0
+AreApart lists slots =
+    (i j : ℕ) (s t : Slot) → slice_get slots i ≡ Some s → slice_get slots j ≡ Some t → s.list < lists → t.list < lists
+    → s.place ≡ t.place → i ≡ j
 
 -- the dates of list k are not below the leaves of their blocks, which have 32 slots each
 abbrev pub AreAbove : ℕ → List Slot → List ℕ → Type 0
@@ -39,28 +46,27 @@ AreEmptyFrom lists from slots = (j : ℕ) (s : Slot) → slice_get slots j ≡ S
 
 -- what is true of all slots, whatever the leaves are
 pub record ArePlaced (s : Slots) : Type 0 where
-  pub room : s.limit ≤ vec_capacity s.slots
-  pub few : (s.limit < 2 ^ 32) × (length s.slot_of.items < 2 ^ 32) × (length s.trees.items < 2 ^ 32)
-  pub within : length s.slots.items ≤ s.limit
-  pub count : s.taken ≡ taken_of (length s.trees.items) s.slots.items
-  pub indexed : AreIndexed (length s.trees.items) s.slots.items s.slot_of.items
+  pub room : s.limit ≤ s.row.capacity
+  pub few : (s.limit < 2 ^ 32) × (length s.trees.items ≤ 3)
+  pub within : length s.row.slots ≤ s.limit
+  pub count : s.taken ≡ taken_of (length s.trees.items) s.row.slots
+  pub apart : AreApart (length s.trees.items) s.row.slots
   pub leaves : HaveLeaves s.limit s.trees.items
 
 -- what is true of all slots
 pub record AreDates (s : Slots) : Type 0 where
   pub placed : ArePlaced s
-  pub bounded : AreBounded s.slots.items s.trees.items
+  pub bounded : AreBounded s.row.slots s.trees.items
 
 -- the lists have the same dates
 pub record SameDates (s t : Slots) : Type 0 where
   pub lists : length t.trees.items ≡ length s.trees.items
-  pub on : (k : ℕ) → k < length s.trees.items → on_of k t.slots.items ≡ on_of k s.slots.items
+  pub on : (k : ℕ) → k < length s.trees.items → on_of k t.row.slots ≡ on_of k s.row.slots
 
 -- what a contract sees of slots
 abbrev pub dates_in : Slots → Dates
 dates_in s =
     record {
-      dated = map (λ k. on_of k s.slots.items) (range_with_len 0 (length s.trees.items));
+      dated = map (λ k. on_of k s.row.slots) (range_with_len 0 (length s.trees.items));
       lists = length s.trees.items;
-      span = length s.slot_of.items;
     }

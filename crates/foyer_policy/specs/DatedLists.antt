@@ -6,22 +6,20 @@ use Rattle.foyer_policy.specs.declared.types.Item.{Item}
 use Rattle.foyer_policy.specs.declared.dated_lists.tracking.Tracking.{Tracking}
 use Rattle.foyer_policy.specs.declared.dated_lists.tracking.Tracking.TheVariants.{Plain, Untracked, Tracked}
 
--- these are the dates of some of n lists, the first ones, `are k` of list k, for all places below a span
-pub record KeepsDates (n : ℕ) (span : ℕ) (are : ℕ → List (ℕ × ℕ)) (d : Dates) : Type 0 where
+-- these are the dates of some of n lists, the first ones, `are k` of list k
+pub record KeepsDates (n : ℕ) (are : ℕ → List (ℕ × ℕ)) (d : Dates) : Type 0 where
   pub lists : d.lists ≤ n
-  pub within : span ≤ d.span
   pub same : (k : ℕ) → k < d.lists → on d k ≡ are k
 
--- what is known agrees with the dates of n lists, `are k` of list k, for all places below a span
-abbrev pub Knows : ℕ → ℕ → (ℕ → List (ℕ × ℕ)) → Tracking → Type 0
-Knows n span are Plain = (k : ℕ) → k < n → are k ≡ []
-Knows n span are Untracked = Unit {0}
-Knows n span are (Tracked d) = KeepsDates n span are d
+-- what is known agrees with the dates of n lists, `are k` of list k
+abbrev pub Knows : ℕ → (ℕ → List (ℕ × ℕ)) → Tracking → Type 0
+Knows n are Plain = (k : ℕ) → k < n → are k ≡ []
+Knows n are Untracked = Unit {0}
+Knows n are (Tracked d) = KeepsDates n are d
 
--- a place without a date
-pub record HasNone (p : ℕ) (d : Dates) : Type 0 where
-  pub within : p < d.span
-  pub free : (k : ℕ) → k < d.lists → find_in p (on d k) ≡ None
+-- a place has no date
+abbrev pub HasNone : ℕ → Dates → Type 0
+HasNone p d = (k : ℕ) → k < d.lists → find_in p (on d k) ≡ None
 
 -- a date may come at this place
 abbrev pub CanPush : ℕ → Tracking → Type 0
@@ -41,8 +39,7 @@ module _ {T : Type 0} (item : T → Item) where
   dates_at ls k = dates_of item (list_at ls k)
 
   -- the dates of the lists before this one, of so many, while those of the others are still to come
-  pub record Builds (count : ℕ) (span : ℕ) (ls : List (List (ℕ × T))) (list : ℕ) (d : Dates) : Type 0 where
+  pub record Builds (count : ℕ) (ls : List (List (ℕ × T))) (list : ℕ) (d : Dates) : Type 0 where
     pub lists : d.lists ≡ count
-    pub within : span ≤ d.span
     pub done : (k : ℕ) → k < list → on d k ≡ dates_at ls k
     pub todo : (k : ℕ) → list ≤ k → k < count → on d k ≡ []

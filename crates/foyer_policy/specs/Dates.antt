@@ -3,12 +3,10 @@ use Rattle.std.specs.Prelude.{◌==◌, ◌≢◌, ℕ, ◌<◌, IsSome, List, [
 use Rattle.foyer_policy.specs.Lists.{find_in, list_at, IsFree}
 use Rattle.foyer_policy.specs.declared.types.Item.{Item}
 
--- the places of each list that have a date, with that, in order; how many lists there are; and what all places are
--- below
+-- the places of each list that have a date, with that, in order; and how many lists there are
 pub record Dates : Type 0 where
   pub dated : List (List (ℕ × ℕ))
   pub lists : ℕ
-  pub span : ℕ
 
 -- of list k the places that have a date, with that, in order
 abbrev pub on : Dates → ℕ → List (ℕ × ℕ)

@@ -6,6 +6,7 @@ ghost use Rattle.foyer_policy.specs.declared.error.Reason.TheVariants.{NoMemory}
 
 mod building;
 mod following;
+pub(crate) mod noting;
 mod reading;
 mod states;
 mod tracking;
@@ -13,7 +14,7 @@ mod tracking;
 use crate::error::Result;
 use crate::lists::{Lists, Place};
 use crate::queued::HasItem;
-use following::{follow_move, follow_pop, follow_push, follow_remove, follow_span};
+use following::{follow_move, follow_pop, follow_push, follow_remove, follow_reserve};
 use std::alloc::Global;
 use std::marker::Model;
 use tracking::Tracking;
@@ -22,7 +23,7 @@ use tracking::Tracking;
 /// steps that grow with the logarithm of how many items expire, and at once where none does.
 ///
 /// The dates are kept from the first call of `reserve` or `reserve_to` on that meets an item that expires. Until then,
-/// while memory for them is missing, and beyond 2^32 - 1 nodes, a search walks along the list. A value that is in keeps
+/// while memory for them is missing, and beyond 2^30 nodes, a search walks along the list. A value that is in keeps
 /// its item.
 #[derive(Drop)]
 pub(crate) struct DatedLists<T: HasItem, const N: usize> {
@@ -42,7 +43,7 @@ impl<T: HasItem, const N: usize> Model for DatedLists<T, N> {
 
     ghost view = { λ d. d.lists };
 
-    ghost invariant = { λ d. Knows N d.lists.span (dates_at T.item_of d.lists.lists) d.dates };
+    ghost invariant = { λ d. Knows N (dates_at T.item_of d.lists.lists) d.dates };
 }
 
 impl<T: HasItem, const N: usize> DatedLists<T, N> {
@@ -74,7 +75,7 @@ impl<T: HasItem, const N: usize> DatedLists<T, N> {
         ensures apart { AreLists N self.old.lists }
     {
         let reserved = self.lists.reserve(more);
-        follow_span(&mut self.dates, &self.lists, self.searched, self.alloc)?;
+        follow_reserve(&mut self.dates, &mut self.lists, self.searched, self.alloc)?;
         reserved
     }
 
@@ -91,7 +92,7 @@ impl<T: HasItem, const N: usize> DatedLists<T, N> {
         ensures apart { AreLists N self.old.lists }
     {
         let reserved = self.lists.reserve_to(wanted);
-        follow_span(&mut self.dates, &self.lists, self.searched, self.alloc)?;
+        follow_reserve(&mut self.dates, &mut self.lists, self.searched, self.alloc)?;
         reserved
     }
 
@@ -109,7 +110,7 @@ impl<T: HasItem, const N: usize> DatedLists<T, N> {
     /// Puts a value at the end of a list, at a place that the caller chooses: one below the span, where
     /// nothing stands. `list` is below `N`.
     #[inline(always)]
-    pub(crate) fn push_back_at(&mut self, list: usize, place: Place, value: T)
+    pub(crate) fn push_back_at(&mut self, list: usize, place: Place, mut value: T)
         requires list { list < N }
         requires within { place < self.old.span }
         requires free { find place self.old.lists ≡ None }
@@ -122,7 +123,7 @@ impl<T: HasItem, const N: usize> DatedLists<T, N> {
         ensures small { sum_by length self.new.lists < 2 ^ 64 }
         ensures apart { AreLists N self.old.lists }
     {
-        follow_push(&mut self.dates, &self.lists, list, place, &value);
+        follow_push(&mut self.dates, &mut self.lists, list, place, &mut value);
         self.lists.push_back_at(list, place, value);
     }
 
@@ -197,7 +198,7 @@ impl<T: HasItem, const N: usize> DatedLists<T, N> {
         ensures small { sum_by length self.old.lists < 2 ^ 64 }
         ensures apart { AreLists N self.old.lists }
     {
-        follow_move(&mut self.dates, &self.lists, place, list);
+        follow_move(&mut self.dates, &mut self.lists, place, list);
         self.lists.move_back(place, list);
     }
 }

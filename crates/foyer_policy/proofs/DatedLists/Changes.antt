@@ -18,13 +18,12 @@ use Rattle.foyer_policy.proofs.ListsLemmas.{find-at, same_or_not, Member, member
 use Rattle.foyer_policy.proofs.PlaceLemmas.{same_place, other_place, drop_place-free, dropped_is_free, find_in-free}
 
 -- the same dates of each list, as another function
-pub Knows-same : (n s : ℕ) (are be : ℕ → List (ℕ × ℕ)) (t : Tracking) → ((k : ℕ) → k < n → be k ≡ are k) →
-    Knows n s are t → Knows n s be t
-Knows-same n s are be Plain same h = λ k lt. same k lt ∙ h k lt
-Knows-same n s are be Untracked same h = tt
-Knows-same n s are be (Tracked d) same h = record {
+pub Knows-same : (n : ℕ) (are be : ℕ → List (ℕ × ℕ)) (t : Tracking) → ((k : ℕ) → k < n → be k ≡ are k) →
+    Knows n are t → Knows n be t
+Knows-same n are be Plain same h = λ k lt. same k lt ∙ h k lt
+Knows-same n are be Untracked same h = tt
+Knows-same n are be (Tracked d) same h = record {
   lists = h.lists;
-  within = h.within;
   same = λ k lt. h.same k lt ∙ sym (same k (omega (arith, h.lists)));
 }
 
@@ -34,14 +33,12 @@ not_some None h = refl
 not_some (Some date) h = absurd (h date refl)
 
 -- a date may come where none is
-pub CanPush-free : (n s : ℕ) (are : ℕ → List (ℕ × ℕ)) (p : ℕ) (t : Tracking) → Knows n s are t → p < s
+pub CanPush-free : (n : ℕ) (are : ℕ → List (ℕ × ℕ)) (p : ℕ) (t : Tracking) → Knows n are t
     → ((k : ℕ) → k < n → IsFree p (are k)) → CanPush p t
-CanPush-free n s are p Plain h within free = tt
-CanPush-free n s are p Untracked h within free = tt
-CanPush-free n s are p (Tracked d) h within free = record {
-  within = omega (arith, h.within);
-  free = λ k less. rw (h.same k less) (find_in-free p (are k) (free k (omega (arith, h.lists))));
-}
+CanPush-free n are p Plain h free = tt
+CanPush-free n are p Untracked h free = tt
+CanPush-free n are p (Tracked d) h free =
+    λ k less. rw (h.same k less) (find_in-free p (are k) (free k (omega (arith, h.lists))))
 
 module _ {T : Type 0} (item : T → Item) where
   -- a value that comes to the end of a list
@@ -103,11 +100,11 @@ module _ {T : Type 0} (item : T → Item) where
           ≡ dates_at item ls k
       dropped-none is k lt = dropped-dates p k lt ∙ drop_place-free p (dates_at item ls k) (free-none is k lt)
 
-      pub CanRemove-found : (s date list : ℕ) (t : Tracking) → Knows n s (dates_at item ls) t →
+      pub CanRemove-found : (date list : ℕ) (t : Tracking) → Knows n (dates_at item ls) t →
           (item v).expires ≡ Some date → list < n → find_in p (list_at ls list) ≡ find p ls → CanRemove list p t
-      CanRemove-found s date list Plain h is lt at = tt
-      CanRemove-found s date list Untracked h is lt at = tt
-      CanRemove-found s date list (Tracked d) h is lt at = record {
+      CanRemove-found date list Plain h is lt at = tt
+      CanRemove-found date list Untracked h is lt at = tt
+      CanRemove-found date list (Tracked d) h is lt at = record {
         there = λ less. rw (h.same list less, dates-found item p date v (list_at ls list) (at ∙ found) is) (search rules);
         others = λ k less ne. rw (h.same k less) (dates-free item p (list_at ls k)
             (sound.between list k p v (omega (arith, sound.count)) (omega (arith, h.lists, sound.count)) (λ e. ne (sym e))

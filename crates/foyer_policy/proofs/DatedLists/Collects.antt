@@ -9,28 +9,25 @@ use Rattle.foyer_policy.proofs.DatedLists.Entries.{dates-free}
 use Rattle.foyer_policy.proofs.ListsLemmas.{below_or_past, same_or_not}
 use Rattle.foyer_policy.proofs.PlaceLemmas.{find_in-free, other_place, same_place}
 
-module _ {T : Type 0} (item : T → Item) (count span : ℕ) (ls : List (List (ℕ × T))) (list : ℕ) where
+module _ {T : Type 0} (item : T → Item) (count : ℕ) (ls : List (List (ℕ × T))) (list : ℕ) where
   -- the dates of the lists before this one, and those of its own that a walk has met
   pub record Collects (next : Option ℕ) (d : Dates) : Type 0 where
     pub lists : d.lists ≡ count
-    pub within : span ≤ d.span
     pub done : (k : ℕ) → k < list → on d k ≡ dates_at item ls k
     pub met : Met item (list_at ls list) next (on d list)
     pub todo : (k : ℕ) → list < k → k < count → on d k ≡ []
 
-  pub collects-start : list < count → (d : Dates) → Builds item count span ls list d → Collects (first_or (list_at ls list) None) d
+  pub collects-start : list < count → (d : Dates) → Builds item count ls list d → Collects (first_or (list_at ls list) None) d
   collects-start lt d b = record {
     lists = b.lists;
-    within = b.within;
     done = b.done;
     met = rw (b.todo list (omega arith) lt) (met-start item (list_at ls list));
     todo = λ k above less. b.todo k (omega arith) less;
   }
 
-  pub collects-end : (d : Dates) → Collects None d → Builds item count span ls (list + 1) d
+  pub collects-end : (d : Dates) → Collects None d → Builds item count ls (list + 1) d
   collects-end d c = record {
     lists = c.lists;
-    within = c.within;
     done = λ k less. go k less (same_or_not k list);
     todo = λ k past less. c.todo k (omega arith) less;
   } where
@@ -64,18 +61,15 @@ module _ {T : Type 0} (item : T → Item) (count span : ℕ) (ls : List (List (�
       pub collects-none : (item v).expires ≡ None → Collects next d
       collects-none is = record {
         lists = c.lists;
-        within = c.within;
-        done = c.done;
+            done = c.done;
         met = met-none item (list_at ls list) (sound.within list within) p (on d list) c.met v next found after is;
         todo = c.todo;
       }
 
       pub collects-date : (date : ℕ) → (item v).expires ≡ Some date → (new : Dates) → new.lists ≡ d.lists →
-          new.span ≡ d.span
-          → ((k : ℕ) → k < d.lists → on new k ≡ with_last list p date (on d) k) → Collects next new
-      collects-date date is new lists span_is pushed = record {
+          ((k : ℕ) → k < d.lists → on new k ≡ with_last list p date (on d) k) → Collects next new
+      collects-date date is new lists pushed = record {
         lists = lists ∙ c.lists;
-        within = omega (arith, c.within);
         done = λ k below. other k (omega (arith, c.lists)) (omega arith) ∙ c.done k below;
         met = rw here
             (met-date item (list_at ls list) (sound.within list within) p (on d list) c.met v next found after date is);

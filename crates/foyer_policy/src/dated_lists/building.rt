@@ -6,10 +6,11 @@ ghost use Rattle.foyer_policy.specs.Dates.{dates_of};
 ghost use Rattle.foyer_policy.specs.Lists.{list_at};
 ghost use Rattle.foyer_policy.specs.declared.error.Reason.TheVariants.{NoMemory};
 
+use super::noting::note_slot;
 use super::tracking::Tracking;
-use crate::dates::{Dates, MOST};
+use crate::dates::{Dates, LISTS, PLACES};
 use crate::error::Result;
-use crate::lists::{Lists, Place};
+use crate::lists::Lists;
 use crate::queued::HasItem;
 use std::alloc::Global;
 
@@ -42,24 +43,22 @@ fn count_all<T: HasItem, const N: usize>(lists: &Lists<T, N>) -> usize
 // Puts the dates of a list behind those of the lists before it, or answers no where there is no room for one.
 fn push_dates<T: HasItem, const N: usize>(
     dates: &mut Dates,
-    lists: &Lists<T, N>,
+    lists: &mut Lists<T, N>,
     list: usize,
 ) -> bool
     requires list { list < dates.old.lists }
     requires within { dates.old.lists ≤ N }
-    requires before { Builds T.item_of dates.old.lists lists.now.span lists.now.lists list dates.old }
-    ensures { IsTrue result → Builds T.item_of dates.old.lists lists.now.span lists.now.lists (list + 1) dates.new }
+    requires before { Builds T.item_of dates.old.lists lists.old.lists list dates.old }
+    ensures done { IsTrue result → Builds T.item_of dates.old.lists lists.old.lists (list + 1) dates.new }
+    ensures lists { lists.new ≡ lists.old }
 {
-    // Each place is below the span.
-    let _ = lists.span();
     let mut next = lists.front(list);
     while let Some(place) = next {
-        let is_kept = match lists.get(place).item().expires {
-            Some(date) => dates.push(list, place, date),
-            None => true,
-        };
-        if !is_kept {
-            return false;
+        if let Some(date) = lists.get(place).item().expires {
+            let Some(slot) = dates.push(lists, list, place, date) else {
+                return false;
+            };
+            note_slot(lists, place, slot);
         }
         next = lists.next(place);
     }
@@ -72,22 +71,24 @@ fn push_dates<T: HasItem, const N: usize>(
 #[inline(never)]
 pub(super) fn built<T: HasItem, const N: usize>(
     alloc: Global,
-    lists: &Lists<T, N>,
+    lists: &mut Lists<T, N>,
     searched: u8,
 ) -> Result<Tracking>
-    ensures known { IfOk result (λ t. Knows N lists.now.span (dates_at T.item_of lists.now.lists) t) }
+    ensures known { IfOk result (λ t. Knows N (dates_at T.item_of lists.old.lists) t) }
+    ensures lists { lists.new ≡ lists.old }
     ensures refused { IfErr result (λ e. e ≡ NoMemory) }
 {
     let count = count_all(lists);
     if count == 0 {
         return Ok(Tracking::Plain);
     }
-    if usize::from(searched) > lists.count() || lists.span() > MOST {
+    let is_searched = searched <= LISTS && usize::from(searched) <= lists.count();
+    if !is_searched || lists.span() > PLACES {
         return Ok(Tracking::Untracked);
     }
     // room for half as many more, and one
     let room = count.saturating_add(count / 2).saturating_add(1);
-    let mut dates = Dates::new(alloc, searched, lists.span(), room)?;
+    let mut dates = Dates::new(alloc, searched, room)?;
     for list in 0..usize::from(searched) {
         if !push_dates(&mut dates, lists, list) {
             return Ok(Tracking::Untracked);

@@ -6,8 +6,9 @@ ghost use Rattle.foyer_policy.specs.Lists.{drop_place, find, list_at, moved, res
 ghost use Rattle.foyer_policy.specs.declared.error.Reason.TheVariants.{NoMemory};
 
 use super::building::built;
+use super::noting::note_slot;
 use super::tracking::Tracking;
-use crate::dates::MOST;
+use crate::dates::Gone;
 use crate::error::Result;
 use crate::lists::{Lists, Place};
 use crate::queued::HasItem;
@@ -17,22 +18,24 @@ use std::alloc::Global;
 #[inline(always)]
 pub(super) fn follow_push<T: HasItem, const N: usize>(
     dates: &mut Tracking,
-    lists: &Lists<T, N>,
+    lists: &mut Lists<T, N>,
     list: usize,
     place: Place,
-    value: &T,
+    value: &mut T,
 )
-    requires known { Knows N lists.now.span (dates_at T.item_of lists.now.lists) dates.old }
+    requires known { Knows N (dates_at T.item_of lists.old.lists) dates.old }
     requires list { list < N }
-    requires within { place < lists.now.span }
-    requires free { find place lists.now.lists ≡ None }
-    ensures { Knows N lists.now.span (dates_at T.item_of
-        (slice_set lists.now.lists list (list_at lists.now.lists list ++ (place, value.now) ∷ []))) dates.new }
+    requires free { find place lists.old.lists ≡ None }
+    ensures known { Knows N (dates_at T.item_of
+        (slice_set lists.old.lists list (list_at lists.old.lists list ++ (place, value.old) ∷ []))) dates.new }
+    ensures lists { lists.new ≡ lists.old }
+    ensures value { value.new ≡ value.old }
 {
     // There are `N` lists.
     let _ = lists.count();
     if let Some(date) = value.item().expires {
-        dates.push(list, place, date);
+        let slot = dates.push(lists, list, place, date);
+        value.set_slot(slot);
     }
 }
 
@@ -40,13 +43,19 @@ pub(super) fn follow_push<T: HasItem, const N: usize>(
 #[cold]
 #[inline(never)]
 fn remove_date<T: HasItem, const N: usize>(dates: &mut Tracking, lists: &Lists<T, N>, place: Place)
-    requires known { Knows N lists.now.span (dates_at T.item_of lists.now.lists) dates.old }
+    requires known { Knows N (dates_at T.item_of lists.now.lists) dates.old }
     requires there { IsSome (find place lists.now.lists) }
-    ensures { Knows N lists.now.span (dates_at T.item_of (map (drop_place place) lists.now.lists)) dates.new }
+    ensures { Knows N (dates_at T.item_of (map (drop_place place) lists.now.lists)) dates.new }
 {
-    if let Some(date) = lists.get(place).item().expires {
-        let from = lists.list_of(place);
-        dates.remove(from, place, date, lists.front(from) == Some(place));
+    let value = lists.get(place);
+    if let Some(date) = value.item().expires {
+        let list = lists.list_of(place);
+        let gone = Gone {
+            date,
+            slot: value.slot(),
+            was_first: lists.front(list) == Some(place),
+        };
+        dates.remove(list, place, gone);
     }
 }
 
@@ -57,9 +66,9 @@ pub(super) fn follow_remove<T: HasItem, const N: usize>(
     lists: &Lists<T, N>,
     place: Place,
 )
-    requires known { Knows N lists.now.span (dates_at T.item_of lists.now.lists) dates.old }
+    requires known { Knows N (dates_at T.item_of lists.now.lists) dates.old }
     requires there { IsSome (find place lists.now.lists) }
-    ensures { Knows N lists.now.span (dates_at T.item_of (map (drop_place place) lists.now.lists)) dates.new }
+    ensures { Knows N (dates_at T.item_of (map (drop_place place) lists.now.lists)) dates.new }
 {
     match dates {
         Tracking::Plain => {}
@@ -71,9 +80,9 @@ pub(super) fn follow_remove<T: HasItem, const N: usize>(
 #[cold]
 #[inline(never)]
 fn pop_date<T: HasItem, const N: usize>(dates: &mut Tracking, lists: &Lists<T, N>, list: usize)
-    requires known { Knows N lists.now.span (dates_at T.item_of lists.now.lists) dates.old }
+    requires known { Knows N (dates_at T.item_of lists.now.lists) dates.old }
     requires list { list < N }
-    ensures { Knows N lists.now.span (dates_at T.item_of
+    ensures { Knows N (dates_at T.item_of
         (slice_set lists.now.lists list (rest (list_at lists.now.lists list)))) dates.new }
 {
     if let Some(place) = lists.front(list) {
@@ -88,9 +97,9 @@ pub(super) fn follow_pop<T: HasItem, const N: usize>(
     lists: &Lists<T, N>,
     list: usize,
 )
-    requires known { Knows N lists.now.span (dates_at T.item_of lists.now.lists) dates.old }
+    requires known { Knows N (dates_at T.item_of lists.now.lists) dates.old }
     requires list { list < N }
-    ensures { Knows N lists.now.span (dates_at T.item_of
+    ensures { Knows N (dates_at T.item_of
         (slice_set lists.now.lists list (rest (list_at lists.now.lists list)))) dates.new }
 {
     // There are `N` lists.
@@ -106,21 +115,27 @@ pub(super) fn follow_pop<T: HasItem, const N: usize>(
 #[inline(never)]
 fn move_date<T: HasItem, const N: usize>(
     dates: &mut Tracking,
-    lists: &Lists<T, N>,
+    lists: &mut Lists<T, N>,
     place: Place,
     list: usize,
 )
-    requires known { Knows N lists.now.span (dates_at T.item_of lists.now.lists) dates.old }
-    requires there { IsSome (find place lists.now.lists) }
+    requires known { Knows N (dates_at T.item_of lists.old.lists) dates.old }
+    requires there { IsSome (find place lists.old.lists) }
     requires list { list < N }
-    ensures { Knows N lists.now.span (dates_at T.item_of (moved place list lists.now.lists)) dates.new }
+    ensures known { Knows N (dates_at T.item_of (moved place list lists.old.lists)) dates.new }
+    ensures lists { lists.new ≡ lists.old }
 {
-    // The place is below the span, and so below that of the dates.
-    let _ = lists.span();
-    if let Some(date) = lists.get(place).item().expires {
+    let value = lists.get(place);
+    if let Some(date) = value.item().expires {
         let from = lists.list_of(place);
-        dates.remove(from, place, date, lists.front(from) == Some(place));
-        dates.push(list, place, date);
+        let gone = Gone {
+            date,
+            slot: value.slot(),
+            was_first: lists.front(from) == Some(place),
+        };
+        dates.remove(from, place, gone);
+        let slot = dates.push(lists, list, place, date);
+        note_slot(lists, place, slot);
     }
 }
 
@@ -128,14 +143,15 @@ fn move_date<T: HasItem, const N: usize>(
 #[inline(always)]
 pub(super) fn follow_move<T: HasItem, const N: usize>(
     dates: &mut Tracking,
-    lists: &Lists<T, N>,
+    lists: &mut Lists<T, N>,
     place: Place,
     list: usize,
 )
-    requires known { Knows N lists.now.span (dates_at T.item_of lists.now.lists) dates.old }
-    requires there { IsSome (find place lists.now.lists) }
+    requires known { Knows N (dates_at T.item_of lists.old.lists) dates.old }
+    requires there { IsSome (find place lists.old.lists) }
     requires list { list < N }
-    ensures { Knows N lists.now.span (dates_at T.item_of (moved place list lists.now.lists)) dates.new }
+    ensures known { Knows N (dates_at T.item_of (moved place list lists.old.lists)) dates.new }
+    ensures lists { lists.new ≡ lists.old }
 {
     // There are `N` lists.
     let _ = lists.count();
@@ -145,18 +161,19 @@ pub(super) fn follow_move<T: HasItem, const N: usize>(
     }
 }
 
-// Makes room for the date of one more item at any place below the span. Where it was not known when items expire, it is
-// from now on. Only memory can be missing (F7).
+// Makes room for the date of one more item. Where it was not known when items expire, it is from now on. Only memory can
+// be missing (F7).
 #[cold]
 #[inline(never)]
 fn make_room<T: HasItem, const N: usize>(
     dates: &mut Tracking,
-    lists: &Lists<T, N>,
+    lists: &mut Lists<T, N>,
     searched: u8,
     alloc: Global,
 ) -> Result<()>
-    requires { Knows N 0 (dates_at T.item_of lists.now.lists) dates.old }
-    ensures known { Knows N lists.now.span (dates_at T.item_of lists.now.lists) dates.new }
+    requires { Knows N (dates_at T.item_of lists.old.lists) dates.old }
+    ensures known { Knows N (dates_at T.item_of lists.old.lists) dates.new }
+    ensures lists { lists.new ≡ lists.old }
     ensures refused { IfErr result (λ e. e ≡ NoMemory) }
 {
     match dates {
@@ -166,12 +183,7 @@ fn make_room<T: HasItem, const N: usize>(
             Ok(())
         }
         Tracking::Tracked(index) => {
-            let span = lists.span();
-            if span > MOST {
-                *dates = Tracking::Untracked;
-                return Ok(());
-            }
-            let reserved = index.reserve(span);
+            let reserved = index.reserve(lists);
             if reserved.is_err() {
                 *dates = Tracking::Untracked;
             }
@@ -185,32 +197,34 @@ fn make_room<T: HasItem, const N: usize>(
 #[inline(never)]
 fn reserve_dates<T: HasItem, const N: usize>(
     dates: &mut Tracking,
-    lists: &Lists<T, N>,
+    lists: &mut Lists<T, N>,
     searched: u8,
     alloc: Global,
 ) -> Result<()>
-    requires { Knows N 0 (dates_at T.item_of lists.now.lists) dates.old }
-    ensures known { Knows N lists.now.span (dates_at T.item_of lists.now.lists) dates.new }
+    requires { Knows N (dates_at T.item_of lists.old.lists) dates.old }
+    ensures known { Knows N (dates_at T.item_of lists.old.lists) dates.new }
+    ensures lists { lists.new ≡ lists.old }
     ensures refused { IfErr result (λ e. e ≡ NoMemory) }
 {
     if let Tracking::Tracked(index) = dates {
-        if index.has_room(lists.span()) {
+        if index.has_room() {
             return Ok(());
         }
     }
     make_room(dates, lists, searched, alloc)
 }
 
-/// Follows a span that has grown, and makes room for the date of one more item. Only memory can be missing (F7).
+/// Makes room for the date of one more item. Only memory can be missing (F7).
 #[inline(always)]
-pub(super) fn follow_span<T: HasItem, const N: usize>(
+pub(super) fn follow_reserve<T: HasItem, const N: usize>(
     dates: &mut Tracking,
-    lists: &Lists<T, N>,
+    lists: &mut Lists<T, N>,
     searched: u8,
     alloc: Global,
 ) -> Result<()>
-    requires { Knows N 0 (dates_at T.item_of lists.now.lists) dates.old }
-    ensures known { Knows N lists.now.span (dates_at T.item_of lists.now.lists) dates.new }
+    requires { Knows N (dates_at T.item_of lists.old.lists) dates.old }
+    ensures known { Knows N (dates_at T.item_of lists.old.lists) dates.new }
+    ensures lists { lists.new ≡ lists.old }
     ensures refused { IfErr result (λ e. e ≡ NoMemory) }
 {
     match dates {

@@ -1,12 +1,13 @@
 //! What is known of when the items of lists expire.
 
-ghost use Rattle.std.specs.Prelude.{ℕ, ◌<◌, List};
+ghost use Rattle.std.specs.Prelude.{◌≡◌, ℕ, ◌<◌, List};
 ghost use Rattle.foyer_policy.specs.Dates.{with_last};
 ghost use Rattle.foyer_policy.specs.DatedLists.{CanPush, CanRemove, Knows};
 ghost use Rattle.foyer_policy.specs.Lists.{drop_place};
 
-use crate::dates::Dates;
-use crate::lists::Place;
+use crate::dates::{Dates, Gone};
+use crate::lists::{Lists, Place};
+use crate::queued::HasItem;
 
 /// What is known of when items expire.
 #[derive(Drop)]
@@ -20,34 +21,45 @@ pub(super) enum Tracking {
 }
 
 impl Tracking {
-    /// Takes account of an item that expires and comes to the end of a list. It takes no memory.
+    /// Takes account of an item that expires and comes to the end of a list. It answers what is to be noted beside the
+    /// item, and takes no memory.
     #[cold]
     #[inline(never)]
-    pub(super) fn push(&mut self, list: usize, place: Place, date: u64)
+    pub(super) fn push<T: HasItem, const N: usize>(
+        &mut self,
+        lists: &mut Lists<T, N>,
+        list: usize,
+        place: Place,
+        date: u64,
+    ) -> usize
         requires { CanPush place self.old }
-        ensures { (n span : ℕ) (are : ℕ → List _) → list < n → Knows n span are self.old
-            → Knows n span (with_last list place date are) self.new }
+        ensures known { (n : ℕ) (are : ℕ → List _) → list < n → Knows n are self.old
+            → Knows n (with_last list place date are) self.new }
+        ensures lists { lists.new ≡ lists.old }
     {
-        let is_kept = match self {
-            Tracking::Tracked(dates) => dates.push(list, place, date),
-            _ => false,
+        let slot = match self {
+            Tracking::Tracked(dates) => dates.push(lists, list, place, date),
+            _ => None,
         };
-        if !is_kept {
-            *self = Tracking::Untracked;
+        match slot {
+            Some(slot) => slot,
+            None => {
+                *self = Tracking::Untracked;
+                0
+            }
         }
     }
 
-    /// Takes account of an item that expires and goes from a list; `was_first` tells whether it was the first there. It
-    /// takes no memory.
+    /// Takes account of an item that expires and goes from a list. It takes no memory.
     #[cold]
     #[inline(never)]
-    pub(super) fn remove(&mut self, list: usize, place: Place, date: u64, was_first: bool)
+    pub(super) fn remove(&mut self, list: usize, place: Place, gone: Gone)
         requires { CanRemove list place self.old }
-        ensures { (n span : ℕ) (are : ℕ → List _) → Knows n span are self.old
-            → Knows n span (λ k. drop_place place (are k)) self.new }
+        ensures { (n : ℕ) (are : ℕ → List _) → Knows n are self.old
+            → Knows n (λ k. drop_place place (are k)) self.new }
     {
         if let Tracking::Tracked(dates) = self {
-            dates.remove(list, place, date, was_first);
+            dates.remove(list, place, gone);
         }
     }
 }

@@ -16,7 +16,7 @@ pub returns-in-Plain-clause-first : goal.returns-in-Plain-clause-first
 returns-in-Plain-clause-first g c =
     let item = g.T.HasItem.item_of in
     let i = c.self.inside in
-    let known : Knows g.row.N i.lists.span (dates_at item i.lists.lists) Plain = rw c.in-Plain.is at c.self.invariant in
+    let known : Knows g.row.N (dates_at item i.lists.lists) Plain = rw c.in-Plain.is at c.self.invariant in
     rw (← c.self.view_is)
     (sym (ap first_item (none-due item c.args.now (list_at i.lists.lists c.args.list)
     (known c.args.list c.requires))))
@@ -25,7 +25,7 @@ pub returns-then-list-lists-clause-there : goal.returns-then-list-lists-clause-t
 returns-then-list-lists-clause-there g c =
     let item = g.T.HasItem.item_of in
     let i = c.self.inside in
-    let known : Knows g.row.N i.lists.span (dates_at item i.lists.lists) (Tracked c.in-Tracked.dates) =
+    let known : Knows g.row.N (dates_at item i.lists.lists) (Tracked c.in-Tracked.dates) =
     rw c.in-Tracked.is at c.self.invariant in
     let apart = c.front.ensures.apart in
     let lt : c.args.list < length i.lists.lists = omega (arith, apart.count, c.requires) in
@@ -41,7 +41,7 @@ pub returns-then-list-lists-clause-first : goal.returns-then-list-lists-clause-f
 returns-then-list-lists-clause-first g c =
     let item = g.T.HasItem.item_of in
     let i = c.self.inside in
-    let known : Knows g.row.N i.lists.span (dates_at item i.lists.lists) (Tracked c.in-Tracked.dates) =
+    let known : Knows g.row.N (dates_at item i.lists.lists) (Tracked c.in-Tracked.dates) =
     rw c.in-Tracked.is at c.self.invariant in
     let apart = c.front.ensures.apart in
     let lt : c.args.list < length i.lists.lists = omega (arith, apart.count, c.requires) in

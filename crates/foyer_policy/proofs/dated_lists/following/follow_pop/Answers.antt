@@ -9,5 +9,5 @@ returns-in-Plain g c =
     let item = g.T.HasItem.item_of in
     let ls = c.args.lists.now.lists in
     let lt : c.args.list < length ls = omega (arith, c.count.ensures.apart.count, c.requires.list) in
-    let known : Knows g.row.N c.args.lists.now.span (dates_at item ls) Plain = rw c.in-Plain.is at c.requires.known in
+    let known : Knows g.row.N (dates_at item ls) Plain = rw c.in-Plain.is at c.requires.known in
     rw c.in-Plain.is (λ k less. popped-plain item g.row.N ls known c.args.list k lt less)

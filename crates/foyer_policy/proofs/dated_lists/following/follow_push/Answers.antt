@@ -6,31 +6,31 @@ use Rattle.foyer_policy.proofs.ListsLemmas.{free_at}
 use Rattle.foyer_policy.proofs.DatedLists.Changes.{CanPush-free, Knows-same, not_some, pushed-date, pushed-none}
 use Rattle.foyer_policy.proofs.dated_lists.following.follow_push.Goals as goal
 
-pub push-requires : goal.push-requires
-push-requires g c =
+pub push-slot-requires : goal.push-slot-requires
+push-slot-requires g c =
     let item = g.T.HasItem.item_of in
     let ls = c.args.lists.now.lists in
-    CanPush-free g.row.N c.args.lists.now.span (dates_at item ls) c.args.place c.args.dates.now
-    c.requires.known c.requires.within
+    CanPush-free g.row.N (dates_at item ls) c.args.place c.args.dates.now
+    c.requires.known
     (λ k lt. dates-free item c.args.place (list_at ls k) (free_at c.args.place ls k c.requires.free))
 
-pub returns-in-Some : goal.returns-in-Some
-returns-in-Some g c =
+pub returns-in-Some-clause-known : goal.returns-in-Some-clause-known
+returns-in-Some-clause-known g c =
     let item = g.T.HasItem.item_of in
     let ls = c.args.lists.now.lists in
     let lt : c.args.list < length ls = omega (arith, c.count.ensures.apart.count, c.requires.list) in
     let is : (item c.args.value.now).expires ≡ Some c.in-Some.date =
     ap (λ i. i.expires) (sym c.item.ensures) ∙ c.in-Some.is in
-    Knows-same g.row.N c.args.lists.now.span _ _ c.push.new.self
+    Knows-same g.row.N _ _ c.push-slot.new.self
     (λ k less. pushed-date item ls c.args.list c.args.place c.in-Some.date c.args.value.now is lt k)
-    (c.push.ensures g.row.N c.args.lists.now.span (dates_at item ls) c.requires.list c.requires.known)
+    (c.push-slot.ensures.known g.row.N (dates_at item ls) c.requires.list c.requires.known)
 
-pub returns-in_default : goal.returns-in_default
-returns-in_default g c =
+pub returns-in_default-clause-known : goal.returns-in_default-clause-known
+returns-in_default-clause-known g c =
     let item = g.T.HasItem.item_of in
     let ls = c.args.lists.now.lists in
     let lt : c.args.list < length ls = omega (arith, c.count.ensures.apart.count, c.requires.list) in
     let is : (item c.args.value.now).expires ≡ None =
     ap (λ i. i.expires) (sym c.item.ensures) ∙ not_some c.item.result.expires c.in_default.not-Some in
-    Knows-same g.row.N c.args.lists.now.span _ _ c.args.dates.now
+    Knows-same g.row.N _ _ c.args.dates.now
     (λ k less. pushed-none item ls c.args.list c.args.place c.args.value.now is lt k) c.requires.known

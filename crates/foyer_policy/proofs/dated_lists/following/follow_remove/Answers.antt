@@ -7,5 +7,5 @@ pub returns-in-Plain : goal.returns-in-Plain
 returns-in-Plain g c =
     let item = g.T.HasItem.item_of in
     let ls = c.args.lists.now.lists in
-    let known : Knows g.row.N c.args.lists.now.span (dates_at item ls) Plain = rw c.in-Plain.is at c.requires.known in
+    let known : Knows g.row.N (dates_at item ls) Plain = rw c.in-Plain.is at c.requires.known in
     rw c.in-Plain.is (dropped-plain item g.row.N ls known c.args.place)

@@ -12,5 +12,5 @@ returns-in-Some g c =
     let first = begins c.in-Some.place (list_at ls c.args.list) (sym c.in-Some.ensures.place) in
     let popped = pop-some g.row.N ls c.front.ensures.apart c.args.list c.in-Some.place first.value first.back first.is in
     subst
-    (λ (x : List (List (ℕ × g.row.T.Denot))). Knows g.row.N c.args.lists.now.span (dates_at item x) c.remove_date.new.dates)
+    (λ (x : List (List (ℕ × g.row.T.Denot))). Knows g.row.N (dates_at item x) c.remove_date.new.dates)
     (sym popped) c.remove_date.ensures

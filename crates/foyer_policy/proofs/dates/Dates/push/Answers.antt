@@ -6,21 +6,21 @@ use Rattle.foyer_policy.proofs.DatesViews.{on_dates, with_last-same}
 use Rattle.foyer_policy.proofs.dates.Dates.push.Goals as goal
 
 pub put-requires-clause-free : goal.put-requires-clause-free
-put-requires-clause-free c =
+put-requires-clause-free g c =
     let s = c.self.inside.slots in
-    let same = c.has_slot-has_slot.ensures.same in
-    let q = rw (← c.self.view_is) at c.requires.free in
+    let same = c.has_slot.ensures.same in
+    let q = rw (← c.self.view_is) at c.requires in
     λ k less. ap (find_in c.args.place) (same.on k (omega (arith, less, same.lists))
     ∙ sym (on_dates s k (omega (arith, less, same.lists)))) ∙ q k (omega (arith, less, same.lists))
 
-pub returns-then-has_slot-clause-pushed : goal.returns-then-has_slot-clause-pushed
-returns-then-has_slot-clause-pushed c =
+pub returns-clause-pushed : goal.returns-clause-pushed
+returns-clause-pushed g c =
     let s = c.self.inside.slots in
-    let t = c.has_slot-has_slot.new.self in
+    let t = c.has_slot.new.self in
     let u = c.put.new.self in
-    let same = c.has_slot-has_slot.ensures.same in
+    let same = c.has_slot.ensures.same in
     rw (← c.self.view_is)
     (λ yes k less. on_dates u k (omega (arith, less, same.lists, c.put.ensures.lists))
     ∙ c.put.ensures.on k (omega (arith, less, same.lists))
-    ∙ with_last-same c.args.list c.args.place c.args.date k (λ i. on_of i t.slots.items) (on (dates_in s))
+    ∙ with_last-same c.args.list c.args.place c.args.date k (λ i. on_of i t.row.slots) (on (dates_in s))
     (same.on k less ∙ sym (on_dates s k less)))

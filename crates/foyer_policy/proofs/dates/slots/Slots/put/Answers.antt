@@ -9,17 +9,15 @@ returns-clause-dates c =
     let s = c.args.self.now in
     let q = c.requires in
     let t : Slot = record { place = c.args.place; date = c.args.date; list = c.args.list } in
-    let index : c.len-index.result ≡ length s.slots.items = c.len-index.ensures ∙ s.slots.ok.0 in
-    let tree = get_or_read s.trees.items _ _ q.list c.index_mut-2.ensures.value [] in
-    rw (c.number-number.ensures, index)
-    (AreDates-taken s q.dates t q.room q.list q.within q.free c.push_reserved.new.self c.lower.new.tree
-    (rw c.number-number.ensures at c.push_reserved.ensures.items)
-    c.push_reserved.ensures.capacity (c.lower.ensures.length ∙ ap length tree)
-    (rw index at c.lower.ensures.here) (rw tree at c.lower.ensures.less))
+    let tree = get_or_read s.trees.items _ _ q.list c.index_mut.ensures.value [] in
+    AreDates-taken s q.dates t q.room q.list q.free c.push_reserved.new.self c.lower.new.tree
+    (rw c.number.ensures at c.push_reserved.ensures.slots) c.push_reserved.ensures.capacity
+    (c.lower.ensures.length ∙ ap length tree)
+    (rw c.len-index.ensures at c.lower.ensures.here) (rw tree at c.lower.ensures.less)
 
 pub returns-clause-on : goal.returns-clause-on
 returns-clause-on c =
     let s = c.args.self.now in
     let q = c.requires in
     let t : Slot = record { place = c.args.place; date = c.args.date; list = c.args.list } in
-    λ k less. rw (c.push_reserved.ensures.items, c.number-number.ensures) (entry_last s q.dates t q.room q.list q.within q.free k)
+    λ k less. rw (c.push_reserved.ensures.slots, c.number.ensures) (entry_last s q.dates t q.room q.list q.free k)

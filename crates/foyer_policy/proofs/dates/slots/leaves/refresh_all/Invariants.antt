@@ -7,6 +7,6 @@ use Rattle.foyer_policy.proofs.dates.slots.leaves.refresh_all.Given as goal
 abbrev pub invariant-loop-block : goal.invariant-loop-block
 invariant-loop-block l = record {
   length : length l.tree ≡ length l.fn.tree;
-  above : (j : ℕ) (s : Slot) → slice_get l.slots j ≡ Some s → s.list ≡ l.list → j / 32 < l.block
+  above : (j : ℕ) (s : Slot) → slice_get l.row.slots j ≡ Some s → s.list ≡ l.list → j / 32 < l.block
       → slice_index l.tree (j / 32) ≤ s.date;
 }
