@@ -1,5 +1,5 @@
 -- The slots of two columns, and of columns that were written.
-use Rattle.std.proofs.Common.{◌≡◌, ℕ, zero, suc, ◌<◌, List, [], ◌∷◌, ◌++◌, Some, length, set, take, refl, ap, arith}
+use Rattle.std.proofs.Common.{◌≡◌, ℕ, zero, suc, List, [], ◌∷◌, ◌++◌, Some, length, set, take, refl, ap, arith}
 use Rattle.std.specs.Prelude.{slice_get}
 use Rattle.foyer_policy.specs.Rows.{Home, slots_of}
 use Rattle.foyer_policy.specs.declared.dates.slots.Slot.{Slot}

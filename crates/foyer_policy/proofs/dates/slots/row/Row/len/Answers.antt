@@ -1,8 +1,8 @@
-use Rattle.std.proofs.Common.{rules, ◌≡◌, ℕ, ◌+◌, ◌^◌, ◌<◌, ◌≤◌, ◌∷◌, ◌++◌, [], Some, OnOk, IfErr, IfOk, length, slice_get, slice_set, take, ◌-◌, ◌*◌, ◌/◌, ◌%◌, Bool, true, false, nat_eq, nat_lt, List, slice_index_or, bit_and, bit_or, w8, w32, w64, Bor, MutBor}
-use Rattle.foyer_policy.specs.Rows.{Fits, emptied}
-use Rattle.foyer_policy.specs.declared.error.Reason.TheVariants.{NoMemory}
+use Rattle.std.proofs.Common.{◌∙◌, sym}
+use Rattle.foyer_policy.proofs.RowLemmas.{slots_of-length}
 use Rattle.foyer_policy.proofs.dates.slots.row.Row.len.Goals as goal
 
--- src/dates/slots/row.rt:118:5
 pub returns : goal.returns
-returns c = ?
+returns c =
+    let v = c.self.inside in
+    rw (← c.self.view_is) (c.len.ensures ∙ v.dates.ok.0 ∙ sym (slots_of-length v.dates.items v.homes.items c.self.invariant))

@@ -1,16 +1,22 @@
-use Rattle.std.proofs.Common.{rules, ◌≡◌, ℕ, ◌+◌, ◌^◌, ◌<◌, ◌≤◌, ◌∷◌, ◌++◌, [], Some, OnOk, IfErr, IfOk, length, slice_get, slice_set, take, ◌-◌, ◌*◌, ◌/◌, ◌%◌, Bool, true, false, nat_eq, nat_lt, List, slice_index_or, bit_and, bit_or, w8, w32, w64, Bor, MutBor}
-use Rattle.foyer_policy.specs.Rows.{Fits, emptied}
-use Rattle.foyer_policy.specs.declared.error.Reason.TheVariants.{NoMemory}
+use Rattle.std.proofs.Common.{arith}
+use Rattle.foyer_policy.proofs.RowLemmas.{slots_of-length, slots_of-append}
 use Rattle.foyer_policy.proofs.dates.slots.row.Row.push_reserved.Goals as goal
 
--- src/dates/slots/row.rt:171:9
 pub push_reserved-requires : goal.push_reserved-requires
-push_reserved-requires c = ?
+push_reserved-requires c =
+    let v = c.self.inside in
+    let room = rw (← c.self.view_is) at c.requires.room in
+    omega (arith, room, slots_of-length v.dates.items v.homes.items c.self.invariant, v.dates.ok.0)
 
--- src/dates/slots/row.rt:172:9
 pub push_reserved-requires-2 : goal.push_reserved-requires-2
-push_reserved-requires-2 c = ?
+push_reserved-requires-2 c =
+    let v = c.self.inside in
+    let room = rw (← c.self.view_is) at c.requires.room in
+    omega (arith, room, slots_of-length v.dates.items v.homes.items c.self.invariant, c.self.invariant, v.homes.ok.0)
 
--- src/dates/slots/row.rt:164:5
 pub returns-clause-slots : goal.returns-clause-slots
-returns-clause-slots c = ?
+returns-clause-slots c =
+    let v = c.self.inside in
+    let s = c.args.slot in
+    rw (← c.self.view_is, c.push_reserved.ensures.items, c.push_reserved-2.ensures.items, ← c.of.ensures.0, ← c.of.ensures.1)
+    (slots_of-append v.dates.items v.homes.items s.date c.of.result c.self.invariant)

@@ -1,8 +1,17 @@
-use Rattle.std.proofs.Common.{rules, ◌≡◌, ℕ, ◌+◌, ◌^◌, ◌<◌, ◌≤◌, ◌∷◌, ◌++◌, [], Some, OnOk, IfErr, IfOk, length, slice_get, slice_set, take, ◌-◌, ◌*◌, ◌/◌, ◌%◌, Bool, true, false, nat_eq, nat_lt, List, slice_index_or, bit_and, bit_or, w8, w32, w64, Bor, MutBor}
-use Rattle.foyer_policy.specs.Rows.{Fits, emptied}
-use Rattle.foyer_policy.specs.declared.error.Reason.TheVariants.{NoMemory}
+use Rattle.std.proofs.Common.{arith}
+use Rattle.foyer_policy.proofs.RowLemmas.{slots_of-length}
 use Rattle.foyer_policy.proofs.dates.slots.row.Row.reserve.Goals as goal
 
--- src/dates/slots/row.rt:98:5
 pub returns-clause-room : goal.returns-clause-room
-returns-clause-room c = ?
+returns-clause-room c =
+    let v = c.self.inside in
+    rw (c.reserve.ensures.items, c.reserve-2.ensures.items)
+    (omega (
+      arith,
+      slots_of-length v.dates.items v.homes.items c.self.invariant,
+      c.self.invariant,
+      v.dates.ok.0,
+      v.homes.ok.0,
+      c.in_ok-reserve.ensures.ok,
+      c.in_ok-reserve-2.ensures.ok,
+    ))

@@ -1,8 +1,8 @@
-use Rattle.std.proofs.Common.{rules, ◌≡◌, ℕ, ◌+◌, ◌^◌, ◌<◌, ◌≤◌, ◌∷◌, ◌++◌, [], Some, OnOk, IfErr, IfOk, length, slice_get, slice_set, take, ◌-◌, ◌*◌, ◌/◌, ◌%◌, Bool, true, false, nat_eq, nat_lt, List, slice_index_or, bit_and, bit_or, w8, w32, w64, Bor, MutBor}
-use Rattle.foyer_policy.specs.Rows.{Fits, emptied}
-use Rattle.foyer_policy.specs.declared.error.Reason.TheVariants.{NoMemory}
+use Rattle.foyer_policy.proofs.RowLemmas.{slots_of-take}
 use Rattle.foyer_policy.proofs.dates.slots.row.Row.truncate.Goals as goal
 
--- src/dates/slots/row.rt:176:5
 pub returns-clause-slots : goal.returns-clause-slots
-returns-clause-slots c = ?
+returns-clause-slots c =
+    let v = c.self.inside in
+    rw (← c.self.view_is, c.truncate.ensures.items, c.truncate-2.ensures.items)
+    (slots_of-take c.args.count v.dates.items v.homes.items)
