@@ -1,6 +1,6 @@
 //! Nodes in one block, each with links and a value, or free.
 
-ghost use Rattle.std.specs.Prelude.{◌≡◌, ◌≢◌, ℕ, ◌+◌, ◌^◌, ◌<◌, ◌≤◌, Some, None, OnOk, OnErr, IsOk, IsSome, length, replicate, slice_index_or, slice_set};
+ghost use Rattle.std.specs.Prelude.{◌≡◌, ◌≢◌, ℕ, ◌+◌, ◌^◌, ◌<◌, ◌≤◌, Some, None, OnOk, OnErr, IsOk, IsSome, IsTrue, length, replicate, slice_index_or, slice_set};
 ghost use Rattle.std.specs.Option.{ForSome};
 ghost use Rattle.foyer_policy.specs.Block.{IsFilled};
 ghost use Rattle.foyer_policy.specs.Nodes.{node_with};
@@ -137,6 +137,15 @@ impl<T, const N: usize> Arena<T, N> {
         ensures { value_of (get self.now place) ≡ Some result.now }
     {
         self.nodes.get(self.base, place)
+    }
+
+    /// Whether a node has a value.
+    #[inline(always)]
+    pub(crate) fn has_value(&self, place: usize) -> bool
+        requires arena { IsArena self.now }
+        ensures { IsTrue result → IsSome (get self.now place) }
+    {
+        place < self.len && self.nodes.links(self.base, place).list < N
     }
 
     /// Makes room for `more` values beside those that are in. Where memory is refused the arena is

@@ -1,6 +1,6 @@
 //! What is in lists, and where.
 
-ghost use Rattle.std.specs.Prelude.{◌≡◌, ℕ, ◌^◌, ◌<◌, ◌∷◌, ◌++◌, Some, None, IfSome, IsSome, length, sum_by};
+ghost use Rattle.std.specs.Prelude.{◌≡◌, ℕ, ◌^◌, ◌<◌, ◌∷◌, ◌++◌, Some, None, IfSome, IsSome, IsTrue, length, sum_by};
 ghost use Rattle.foyer_policy.specs.Lists.{list_at, first_or, find, find_in, AreLists};
 
 use crate::lists::{Lists, Place};
@@ -43,6 +43,14 @@ impl<T, const N: usize> Lists<T, N> {
         ensures apart { AreLists N self.now.lists }
     {
         self.nodes.links(place.node).list
+    }
+
+    /// Whether a value stands at a place.
+    #[inline(always)]
+    pub(crate) fn holds(&self, place: Place) -> bool
+        ensures { IsTrue result → IsSome (find place self.now.lists) }
+    {
+        self.nodes.has_value(place.node)
     }
 
     /// The value at a place, which must hold one.
