@@ -6,6 +6,7 @@ ghost use Rattle.foyer_policy.specs.declared.error.Reason.TheVariants.{NoMemory}
 
 mod building;
 mod following;
+pub(crate) mod noting;
 mod reading;
 mod states;
 mod tracking;

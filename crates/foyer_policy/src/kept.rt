@@ -1,4 +1,4 @@
-//! Items as nodes keep them, in less room.
+//! Items as nodes keep them, in less room, each with a number beside it.
 
 ghost use Rattle.std.specs.Prelude.{◌≡◌};
 
@@ -6,31 +6,26 @@ use crate::types::{Hint, Item};
 use std::marker::Model;
 
 /// An item as a node keeps it, which a contract sees as the item. It takes a word less: that the record expires
-/// stands beside the hint.
-#[derive(Clone, Copy)]
+/// stands beside the hint. So does a number that no contract sees.
+#[derive(Drop)]
 pub(crate) struct Kept {
+    slot: u32,
+    hint: Hint,
+    expires: bool,
+    // 0 where the record does not expire
+    moment: u64,
     id: u64,
     hash: u64,
     weight: usize,
-    // 0 where the record does not expire
-    moment: u64,
-    hint: Hint,
-    expires: bool,
 }
 
 impl Model for Kept {
     ghost use Rattle.foyer_policy.specs.declared.types.Item.{Item};
-    ghost use Rattle.foyer_policy.specs.Kept.{IsPlain, whole, parts, parts-whole};
+    ghost use Rattle.foyer_policy.specs.Kept.{whole};
 
     ghost Value = { Item };
 
     ghost view = { whole };
-
-    ghost invariant = { IsPlain };
-
-    ghost inverse = { parts };
-
-    ghost inverse_ok = { parts-whole };
 }
 
 impl Kept {
@@ -44,19 +39,20 @@ impl Kept {
             None => (false, 0),
         };
         Kept {
+            slot: 0,
+            hint: item.hint,
+            expires,
+            moment,
             id: item.id,
             hash: item.hash,
             weight: item.weight,
-            moment,
-            hint: item.hint,
-            expires,
         }
     }
 
     /// The item that is kept.
     #[inline(always)]
-    pub(crate) fn whole(self) -> Item
-        ensures { result ≡ self }
+    pub(crate) fn whole(&self) -> Item
+        ensures { result ≡ self.now }
     {
         Item {
             id: self.id,
@@ -69,5 +65,19 @@ impl Kept {
                 None
             },
         }
+    }
+
+    /// The number that was set last, or 0. No contract sees it.
+    #[inline(always)]
+    pub(crate) fn slot(&self) -> usize {
+        self.slot as usize
+    }
+
+    /// Sets the number, of which the low 32 bits are kept. The item stays.
+    #[inline(always)]
+    pub(crate) fn set_slot(&mut self, slot: usize)
+        ensures { self.new ≡ self.old }
+    {
+        self.slot = (slot & 0xffff_ffff) as u32;
     }
 }

@@ -253,8 +253,9 @@ impl Eviction for Lru {
 
     #[inline(always)]
     fn acquire(&mut self, place: Place) {
-        let Queued { item: kept, state } = *self.lists.get(place);
-        let item = kept.whole();
+        let node = self.lists.get(place);
+        let item = node.item.whole();
+        let state = node.state;
         if state.pinned {
             return;
         }
@@ -271,8 +272,9 @@ impl Eviction for Lru {
 
     #[inline(always)]
     fn release(&mut self, place: Place) {
-        let Queued { item: kept, state } = *self.lists.get(place);
-        let item = kept.whole();
+        let node = self.lists.get(place);
+        let item = node.item.whole();
+        let state = node.state;
         if !state.pinned {
             return;
         }

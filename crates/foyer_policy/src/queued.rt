@@ -18,6 +18,12 @@ pub(crate) trait HasItem {
 
     fn item(&self) -> Item
         ensures { result ≡ item_of self.now };
+
+    // The number that was set last, or 0. No contract sees it.
+    fn slot(&self) -> usize;
+
+    fn set_slot(&mut self, slot: usize)
+        ensures { self.new ≡ self.old };
 }
 
 impl HasItem for Kept {
@@ -27,10 +33,20 @@ impl HasItem for Kept {
     fn item(&self) -> Item {
         self.whole()
     }
+
+    #[inline(always)]
+    fn slot(&self) -> usize {
+        Kept::slot(self)
+    }
+
+    #[inline(always)]
+    fn set_slot(&mut self, slot: usize) {
+        Kept::set_slot(self, slot);
+    }
 }
 
 /// An item, and what its policy keeps beside it.
-#[derive(Clone, Copy)]
+#[derive(Drop)]
 pub(crate) struct Queued<S> {
     pub(crate) item: Kept,
     pub(crate) state: S,
@@ -42,6 +58,16 @@ impl<S> HasItem for Queued<S> {
     #[inline(always)]
     fn item(&self) -> Item {
         self.item.whole()
+    }
+
+    #[inline(always)]
+    fn slot(&self) -> usize {
+        self.item.slot()
+    }
+
+    #[inline(always)]
+    fn set_slot(&mut self, slot: usize) {
+        self.item.set_slot(slot);
     }
 }
 

@@ -118,7 +118,7 @@ impl S3Fifo {
         match victim {
             Some(victim) => {
                 self.looks = victim.looks;
-                Some((victim.at, victim.item.whole()))
+                Some((victim.at, victim.item))
             }
             None => {
                 self.looks = 0;

@@ -35,7 +35,7 @@ type Node = Queued<SieveState>;
 // What a pop took out, the place that it had, where the hand goes, and how many bits it read.
 #[derive(Drop)]
 struct Victim {
-    item: Kept,
+    item: Item,
     at: Place,
     hand: Option<Place>,
     looks: u128,
@@ -121,7 +121,7 @@ fn take_victim(queue: &mut DatedLists<Node, 1>, start: Place) -> Victim
         at = next_round(queue, at);
     }
     let hand = queue.next(at);
-    let item = queue.remove(at).item;
+    let item = queue.remove(at).item.whole();
     Victim {
         item,
         at,
@@ -258,7 +258,7 @@ impl Eviction for Sieve {
         } = take_victim(&mut self.queue, start);
         self.hand = hand;
         self.looks = looks;
-        Ok(Some((at, item.whole())))
+        Ok(Some((at, item)))
     }
 
     #[inline(always)]

@@ -36,14 +36,16 @@ fn lower(lists: &mut DatedLists<Node, 3>) -> usize
 {
     match lists.front(HIGH) {
         Some(place) => {
-            let Queued { item, state } = *lists.get(place);
+            let node = lists.get(place);
+            let weight = node.item.whole().weight;
+            let state = node.state;
             let low = LruState {
                 high: false,
                 ..state
             };
             lists.set_state(place, low);
             lists.move_back(place, LOW);
-            item.whole().weight
+            weight
         }
         None => unreachable!(),
     }

@@ -10,9 +10,9 @@ ghost use Rattle.foyer_policy.specs.S3FifoQueues.{item_at, small_of, main_of, vi
 
 use crate::dated_lists::DatedLists;
 use crate::ghost_queue::GhostQueue;
-use crate::kept::Kept;
 use crate::lists::Place;
 use crate::queued::Queued;
+use crate::types::Item;
 
 // The numbers of the two lists.
 pub(super) const SMALL: usize = 0;
@@ -35,7 +35,7 @@ pub(super) type Node = Queued<S3FifoState>;
 // A victim, the place that it had, and how many frequencies of the main queue were read.
 #[derive(Clone, Copy)]
 pub(super) struct Victim {
-    pub(super) item: Kept,
+    pub(super) item: Item,
     pub(super) at: Place,
     pub(super) looks: u128,
 }
@@ -59,9 +59,11 @@ pub(super) fn take_small(
     ensures span { queues.new.span ≡ queues.old.span }
 {
     while let Some(front) = queues.front(SMALL) {
-        let Queued { item, state } = *queues.get(front);
-        *weight -= item.whole().weight;
+        let node = queues.get(front);
+        let state = node.state;
+        *weight -= node.item.whole().weight;
         if state.frequency < threshold {
+            let item = node.item.whole();
             queues.remove(front);
             return Some(Victim {
                 item,
@@ -115,7 +117,7 @@ pub(super) fn take_main(queues: &mut DatedLists<Node, 2>) -> Option<Victim>
     let mut looks: u128 = 0;
     while let Some(front) = queues.front(MAIN) {
         if !lower(queues, front, &mut looks) {
-            let item = queues.remove(front).item;
+            let item = queues.remove(front).item.whole();
             return Some(Victim {
                 item,
                 at: front,
@@ -147,8 +149,8 @@ fn pop_main(queues: &mut DatedLists<Node, 2>, weight: &mut usize) -> Option<Vict
         return Some(victim);
     }
     let found = queues.pop_front_at(SMALL)?;
-    let item = found.1.item;
-    *weight -= item.whole().weight;
+    let item = found.1.item.whole();
+    *weight -= item.weight;
     Some(Victim {
         item,
         at: found.0,
@@ -190,8 +192,7 @@ pub(super) fn pop_victim(
     }
     match take_small(queues, weight, threshold) {
         Some(victim) => {
-            let item = victim.item.whole();
-            ghost_queue.push_reserved(item.hash, item.weight);
+            ghost_queue.push_reserved(victim.item.hash, victim.item.weight);
             Some(victim)
         }
         None => pop_main(queues, weight),
