@@ -82,8 +82,8 @@ next-hand-requires c =
           c.take_bit.ensures.bit c.take_bit.ensures.cleared w.before w.node w.behind w.is,
     )
 
-pub remove-item-requires : goal.remove-item-requires
-remove-item-requires c =
+pub remove-requires : goal.remove-requires
+remove-requires c =
     let i = c.loop-queue.invariant in
     let w = somewhere c.loop-queue.queue.lists i.apart c.loop-queue.at i.there in (
       lit< tt,
@@ -107,11 +107,11 @@ returns-clause-turned c = λ xs ys n h.
     s.behind s.is in
     let found : find at ls2 ≡ Some (clear_node s.node) = find-mid 1 ls2
     then 0 at (clear_node s.node) s.before s.behind now in
-    let same : c.remove-item.result ≡ clear_node s.node = (let q = sym c.remove-item.ensures.value ∙ found in cc) in
-    record {
+    let same : c.remove.result ≡ clear_node s.node = (let q = sym c.remove.ensures.value ∙ found in cc) in
+    rw c.whole-item.ensures record {
       front = s.before;
       back = s.behind;
-      parts = ap (λ l. list_at l 0) c.remove-item.ensures.lists ∙ drop-here 1 ls2
+      parts = ap (λ l. list_at l 0) c.remove.ensures.lists ∙ drop-here 1 ls2
           then 0 at (clear_node s.node) s.before s.behind now;
       turns = rw same e.0;
       stands = c.next-hand.ensures.place 0 s.before s.behind (clear_node s.node) now;
@@ -126,10 +126,11 @@ returns-clause-stood c =
     let at = c.loop-queue.at in
     let b = c.take_bit.result in
     let w = somewhere ls i.apart at i.there in
-    sym
+    rw c.whole-item.ensures
+    (sym
     (looked-placed ls ls2 i.apart at b c.take_bit.ensures.bit c.take_bit.ensures.cleared w.before w.node w.behind w.is
     at ∙ i.placed at)
-    ∙ ap (option_map item_of) c.remove-item.ensures.value
+    ∙ ap (option_map item_of) c.remove.ensures.value)
 
 pub returns-clause-there : goal.returns-clause-there
 returns-clause-there c =
@@ -143,9 +144,9 @@ returns-clause-there c =
     w.is in
     let then = sound_then ls ls2 i.apart at b c.take_bit.ensures.bit c.take_bit.ensures.cleared w.before w.node
     w.behind w.is in
-    let out : AreLists 1 c.remove-item.new.self.lists = rw c.remove-item.ensures.lists (AreLists-drop 1 at ls2 then) in
-    first-there c.remove-item.new.self.lists out w.before w.behind
-    (ap (λ l. list_at l 0) c.remove-item.ensures.lists ∙ drop-here 1 ls2
+    let out : AreLists 1 c.remove.new.self.lists = rw c.remove.ensures.lists (AreLists-drop 1 at ls2 then) in
+    first-there c.remove.new.self.lists out w.before w.behind
+    (ap (λ l. list_at l 0) c.remove.ensures.lists ∙ drop-here 1 ls2
     then 0 at (clear_node w.node) w.before w.behind now) c.next-hand.result
     (c.next-hand.ensures.place 0 w.before w.behind (clear_node w.node) now)
 
@@ -162,16 +163,17 @@ returns-clause-places c = λ q.
     let kept = looked-items ls ls2 i.apart at b c.take_bit.ensures.bit c.take_bit.ensures.cleared w.before w.node
     w.behind w.is ∙ i.items in
     let once = once-flat ls2 then.count (rw kept c.requires.once) in
-    ap (λ l. item_at l q) c.remove-item.ensures.lists ∙ placed-out item_of 1 ls2
-    then once at c.remove-item.result c.remove-item.ensures.value q
-    ∙ ap (without c.remove-item.result.item.id)
+    rw c.whole-item.ensures
+    (ap (λ l. item_at l q) c.remove.ensures.lists ∙ placed-out item_of 1 ls2
+    then once at c.remove.result c.remove.ensures.value q
+    ∙ ap (without c.remove.result.item.id)
     (looked-placed ls ls2 i.apart at b c.take_bit.ensures.bit c.take_bit.ensures.cleared w.before w.node w.behind
-    w.is q ∙ i.placed q)
+    w.is q ∙ i.placed q))
 
 pub returns-clause-apart : goal.returns-clause-apart
 returns-clause-apart c =
     let i = c.loop-queue.invariant in
     let w = somewhere c.loop-queue.queue.lists i.apart c.loop-queue.at i.there in
-    rw c.remove-item.ensures.lists (AreLists-drop 1 c.loop-queue.at c.take_bit.new.queue.lists
+    rw c.remove.ensures.lists (AreLists-drop 1 c.loop-queue.at c.take_bit.new.queue.lists
     (sound_then c.loop-queue.queue.lists c.take_bit.new.queue.lists i.apart c.loop-queue.at c.take_bit.result
     c.take_bit.ensures.bit c.take_bit.ensures.cleared w.before w.node w.behind w.is))

@@ -36,13 +36,14 @@ returns-clause-queues c = popped-queues c.take_main.new.queues.lists c.pop_front
 
 pub returns-clause-places : goal.returns-clause-places
 returns-clause-places c = λ q.
-    popped-places c.take_main.new.queues.lists c.pop_front_at.new.self.lists c.pop_front_at.ensures.apart
+    rw c.whole-item.ensures
+    (popped-places c.take_main.new.queues.lists c.pop_front_at.new.self.lists c.pop_front_at.ensures.apart
     c.take_main.ensures.queues c.in_ok-found.found.1 (entry-value _ _ c.in_ok-found.ensures.entry) c.pop_front_at.ensures.lists q
-    ∙ ap (without c.in_ok-found.found.1.item.id) (c.in_default.ensures.places q)
+    ∙ ap (without c.in_ok-found.found.1.item.id) (c.in_default.ensures.places q))
 
 pub overflow_sub-weight : goal.overflow_sub-weight
 overflow_sub-weight c =
-    rw c.whole.ensures
+    rw c.whole-item.ensures
     (omega (
       arith,
       c.requires.weight,
@@ -53,7 +54,7 @@ overflow_sub-weight c =
 
 pub returns-clause-weight : goal.returns-clause-weight
 returns-clause-weight c =
-    rw c.whole.ensures
+    rw c.whole-item.ensures
     (omega (
       arith,
       c.requires.weight,

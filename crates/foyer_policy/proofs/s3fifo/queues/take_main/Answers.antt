@@ -48,20 +48,21 @@ returns-then-not-lower-clause-takes c =
     let done = main-done (entry (p, v)) (entries f.back) zero_frequency in
     let head = main-head ls sound i.queues p v d.found f in
     let found = look-found ls sound i.queues p v d.found f w refl refl (omega arith) in
-    let same : c.remove-item.result ≡ w =
-    (let x = c.remove-item.ensures.value in let y = rw is at x in let z = sym y ∙ found in cc) in
+    let same : c.remove.result ≡ w =
+    (let x = c.remove.ensures.value in let y = rw is at x in let z = sym y ∙ found in cc) in
     let f2 : Front (map (with_value p w) ls) 1 p w =
     record { back = f.back; is = look-main ls sound i.queues p v d.found f w refl refl (omega arith) } in
     let sound2 = look-sound ls sound i.queues p v d.found f w refl refl (omega arith) in
     let queues2 = look-queues ls sound i.queues p v d.found f w refl refl (omega arith) in
-    let left : c.remove-item.new.self.lists ≡ map (drop_place p) (map (with_value p w) ls) = c.remove-item.ensures.lists
+    let left : c.remove.new.self.lists ≡ map (drop_place p) (map (with_value p w) ls) = c.remove.ensures.lists
     ∙ ap (map (drop_place p)) is in
-    let main : main_of c.remove-item.new.self.lists ≡ entries f.back = ap (λ l. main_of l) left
+    let main : main_of c.remove.new.self.lists ≡ entries f.back = ap (λ l. main_of l) left
     ∙ ap (λ l. entries l) (drop-main (map (with_value p w) ls) sound2 queues2 p w found f2) in
-    let small : small_of c.remove-item.new.self.lists ≡ small_of ls = ap (λ l. small_of l) left
+    let small : small_of c.remove.new.self.lists ≡ small_of ls = ap (λ l. small_of l) left
     ∙ ap (λ l. entries l)
     (drop-small (map (with_value p w) ls) sound2 queues2 p w found f2
-    ∙ look-small ls sound i.queues p v d.found f w refl refl (omega arith)) in (
+    ∙ look-small ls sound i.queues p v d.found f w refl refl (omega arith)) in
+    rw c.whole-item.ensures (
       sym i.turn ∙ ap main_turn head ∙ done.0 ∙ rw (main, same) refl,
       sym i.looked ∙ omega (arith, ap main_looks head, done.1, c.lower.ensures.counted),
       small ∙ i.small,
@@ -82,7 +83,7 @@ returns-then-not-lower-clause-queues c =
     let found = look-found ls sound i.queues p v d.found f w refl refl (omega arith) in
     let f2 : Front (map (with_value p w) ls) 1 p w =
     record { back = f.back; is = look-main ls sound i.queues p v d.found f w refl refl (omega arith) } in
-    let left : c.remove-item.new.self.lists ≡ map (drop_place p) (map (with_value p w) ls) = c.remove-item.ensures.lists
+    let left : c.remove.new.self.lists ≡ map (drop_place p) (map (with_value p w) ls) = c.remove.ensures.lists
     ∙ ap (map (drop_place p)) is in
     rw left (drop-queues (map (with_value p w) ls)
     (look-sound ls sound i.queues p v d.found f w refl refl (omega arith))
@@ -101,15 +102,16 @@ returns-then-not-lower-clause-places c = λ q.
     let is : c.lower.new.queues.lists ≡ map (with_value p w) ls =
     (let x = c.lower.ensures.lowered in rw d.found at x) in
     let found = look-found ls sound i.queues p v d.found f w refl refl (omega arith) in
-    let same : c.remove-item.result ≡ w =
-    (let x = c.remove-item.ensures.value in let y = rw is at x in let z = sym y ∙ found in cc) in
-    let left : c.remove-item.new.self.lists ≡ map (drop_place p) (map (with_value p w) ls) = c.remove-item.ensures.lists
+    let same : c.remove.result ≡ w =
+    (let x = c.remove.ensures.value in let y = rw is at x in let z = sym y ∙ found in cc) in
+    let left : c.remove.new.self.lists ≡ map (drop_place p) (map (with_value p w) ls) = c.remove.ensures.lists
     ∙ ap (map (drop_place p)) is in
-    ap (λ l. item_at l q) left
+    rw c.whole-item.ensures
+    (ap (λ l. item_at l q) left
     ∙ out-places (map (with_value p w) ls) (look-sound ls sound i.queues p v d.found f w refl refl (omega arith))
     (look-queues ls sound i.queues p v d.found f w refl refl (omega arith)) p w found q
     ∙ ap (without v.item.id) (write-places ls sound i.queues p v d.found w refl q ∙ i.placed q)
-    ∙ ap (λ (n : Node). without n.item.id (item_at c.args.queues.now.lists q)) (sym same)
+    ∙ ap (λ (n : Node). without n.item.id (item_at c.args.queues.now.lists q)) (sym same))
 
 pub returns-then-not-lower-clause-stood : goal.returns-then-not-lower-clause-stood
 returns-then-not-lower-clause-stood c =
@@ -122,9 +124,10 @@ returns-then-not-lower-clause-stood c =
     let is : c.lower.new.queues.lists ≡ map (with_value p w) ls =
     (let x = c.lower.ensures.lowered in rw d.found at x) in
     let found = look-found ls sound i.queues p d.node d.found d.front w refl refl (omega arith) in
-    let same : c.remove-item.result ≡ w =
-    (let x = c.remove-item.ensures.value in let y = rw is at x in let z = sym y ∙ found in cc) in
-    sym (i.placed p) ∙ ap (option_map item_of) d.found ∙ ap (λ (n : Node). Some n.item) (sym same)
+    let same : c.remove.result ≡ w =
+    (let x = c.remove.ensures.value in let y = rw is at x in let z = sym y ∙ found in cc) in
+    rw c.whole-item.ensures
+    (sym (i.placed p) ∙ ap (option_map item_of) d.found ∙ ap (λ (n : Node). Some n.item) (sym same))
 
 -- a look is paid for by a frequency
 spent : (c : After-move_back) → frequencies (main_of c.move_back.new.self.lists) + 1

@@ -13,18 +13,19 @@ pub returns-then-state-threshold-clause-takes : goal.returns-then-state-threshol
 returns-then-state-threshold-clause-takes c =
     let i = c.loop-front.invariant in
     let ls = c.loop-front.queues.lists in
-    let v = c.get.result.now in
+    let v = c.get-node.result.now in
     let p = c.in-Some.front in
-    let f = front ls c.get.ensures.apart 0 p v c.in-Some.ensures.place c.get.ensures.value in
+    let f = front ls c.get-node.ensures.apart 0 p v c.in-Some.ensures.place c.get-node.ensures.value in
     let t = c.args.threshold in
-    let head = small-head ls c.get.ensures.apart i.queues p v c.get.ensures.value f in
+    let head = small-head ls c.get-node.ensures.apart i.queues p v c.get-node.ensures.value f in
     let out = ap (λ l. small_of l) c.remove.ensures.lists
-    ∙ out-small ls c.get.ensures.apart i.queues p v c.get.ensures.value f in
+    ∙ out-small ls c.get-node.ensures.apart i.queues p v c.get-node.ensures.value f in
     let main = ap (λ l. main_of l) c.remove.ensures.lists
-    ∙ ap (λ l. entries l) (out-main ls c.get.ensures.apart i.queues p v c.get.ensures.value f) in
+    ∙ ap (λ l. entries l) (out-main ls c.get-node.ensures.apart i.queues p v c.get-node.ensures.value f) in
     let below = c.if-state-threshold.true in
     let stops = rare-stops t (small_of ls) (entry (p, v)) (entries f.back) head below in
-    let none = front-stops t (small_of ls) (entry (p, v)) (entries f.back) head below in (
+    let none = front-stops t (small_of ls) (entry (p, v)) (entries f.back) head below in
+    rw c.whole-item.ensures (
       entry (p, v),
       sym i.rare ∙ stops ∙ ap (λ l. entry (p, v) ∷ l) (sym out),
       refl,
@@ -33,36 +34,38 @@ returns-then-state-threshold-clause-takes c =
 
 pub returns-then-state-threshold-clause-stood : goal.returns-then-state-threshold-clause-stood
 returns-then-state-threshold-clause-stood c =
-    sym (c.loop-front.invariant.placed c.in-Some.front) ∙ ap (option_map item_of) c.get.ensures.value
+    rw c.whole-item.ensures
+    (sym (c.loop-front.invariant.placed c.in-Some.front) ∙ ap (option_map item_of) c.get-node.ensures.value)
 
 pub returns-then-state-threshold-clause-queues : goal.returns-then-state-threshold-clause-queues
 returns-then-state-threshold-clause-queues c =
     let i = c.loop-front.invariant in
     let ls = c.loop-front.queues.lists in
-    let v = c.get.result.now in
+    let v = c.get-node.result.now in
     let p = c.in-Some.front in
-    let f = front ls c.get.ensures.apart 0 p v c.in-Some.ensures.place c.get.ensures.value in
-    rw c.remove.ensures.lists (out-queues ls c.get.ensures.apart i.queues p v c.get.ensures.value f)
+    let f = front ls c.get-node.ensures.apart 0 p v c.in-Some.ensures.place c.get-node.ensures.value in
+    rw c.remove.ensures.lists (out-queues ls c.get-node.ensures.apart i.queues p v c.get-node.ensures.value f)
 
 pub returns-then-state-threshold-clause-places : goal.returns-then-state-threshold-clause-places
 returns-then-state-threshold-clause-places c = λ q.
     let i = c.loop-front.invariant in
     let ls = c.loop-front.queues.lists in
-    let v = c.get.result.now in
-    ap (λ l. item_at l q) c.remove.ensures.lists
-    ∙ out-places ls c.get.ensures.apart i.queues c.in-Some.front v c.get.ensures.value q
-    ∙ ap (without v.item.id) (i.placed q)
+    let v = c.get-node.result.now in
+    rw c.whole-item.ensures
+    (ap (λ l. item_at l q) c.remove.ensures.lists
+    ∙ out-places ls c.get-node.ensures.apart i.queues c.in-Some.front v c.get-node.ensures.value q
+    ∙ ap (without v.item.id) (i.placed q))
 
 pub returns-then-state-threshold-clause-weight : goal.returns-then-state-threshold-clause-weight
 returns-then-state-threshold-clause-weight c =
     let i = c.loop-front.invariant in
     let ls = c.loop-front.queues.lists in
-    let v = c.get.result.now in
+    let v = c.get-node.result.now in
     let p = c.in-Some.front in
-    let f = front ls c.get.ensures.apart 0 p v c.in-Some.ensures.place c.get.ensures.value in
-    let head = small-head ls c.get.ensures.apart i.queues p v c.get.ensures.value f in
+    let f = front ls c.get-node.ensures.apart 0 p v c.in-Some.ensures.place c.get-node.ensures.value in
+    let head = small-head ls c.get-node.ensures.apart i.queues p v c.get-node.ensures.value f in
     let out = ap (λ l. small_of l) c.remove.ensures.lists
-    ∙ out-small ls c.get.ensures.apart i.queues p v c.get.ensures.value f in
+    ∙ out-small ls c.get-node.ensures.apart i.queues p v c.get-node.ensures.value f in
     rw c.whole.ensures
     (omega (
       arith,
@@ -75,10 +78,10 @@ pub loop-front-preserved : goal.loop-front-preserved
 loop-front-preserved c =
     let i = c.loop-front.invariant in
     let ls = c.loop-front.queues.lists in
-    let v = c.get.result.now in
+    let v = c.get-node.result.now in
     let p = c.in-Some.front in
-    let sound = c.get.ensures.apart in
-    let f = front ls sound 0 p v c.in-Some.ensures.place c.get.ensures.value in
+    let sound = c.get-node.ensures.apart in
+    let f = front ls sound 0 p v c.in-Some.ensures.place c.get-node.ensures.value in
     let t = c.args.threshold in
     let w : Node =
     record {
@@ -90,11 +93,11 @@ loop-front-preserved c =
     let frequency : w.state.frequency ≡ v.state.frequency = refl in
     let now = c.move_back.new.self.lists in
     let is : now ≡ moved p 1 (map (with_value p w) ls) =
-    c.move_back.ensures.lists ∙ ap (moved p 1) (c.set_state.ensures.lists v c.get.ensures.value) in
-    let head = small-head ls sound i.queues p v c.get.ensures.value f in
-    let small = ap (λ l. small_of l) is ∙ promote-small ls sound i.queues p v c.get.ensures.value f w item
+    c.move_back.ensures.lists ∙ ap (moved p 1) (c.set_state.ensures.lists v c.get-node.ensures.value) in
+    let head = small-head ls sound i.queues p v c.get-node.ensures.value f in
+    let small = ap (λ l. small_of l) is ∙ promote-small ls sound i.queues p v c.get-node.ensures.value f w item
     frequency refl in
-    let main = ap (λ l. main_of l) is ∙ promote-main ls sound i.queues p v c.get.ensures.value f w item
+    let main = ap (λ l. main_of l) is ∙ promote-main ls sound i.queues p v c.get-node.ensures.value f w item
     frequency refl in
     let reaches = c.if-state-threshold.false in
     record {
@@ -106,10 +109,10 @@ loop-front-preserved c =
           ∙ i.moved;
       whole = rw (main, small) (append_assoc (main_of ls) (entry (p, v) ∷ []) (entries f.back))
           ∙ ap (λ l. main_of ls ++ l) (sym head) ∙ i.whole;
-      queues = rw is (promote-queues ls sound i.queues p v c.get.ensures.value f w item frequency refl);
+      queues = rw is (promote-queues ls sound i.queues p v c.get-node.ensures.value f w item frequency refl);
       placed = λ q. ap (option_map item_of) (c.move_back.ensures.places q)
-          ∙ ap (λ l. item_at l q) (c.set_state.ensures.lists v c.get.ensures.value)
-          ∙ write-places ls sound i.queues p v c.get.ensures.value w item q ∙ i.placed q;
+          ∙ ap (λ l. item_at l q) (c.set_state.ensures.lists v c.get-node.ensures.value)
+          ∙ write-places ls sound i.queues p v c.get-node.ensures.value w item q ∙ i.placed q;
       weight = rw c.whole.ensures
           (omega (
             arith,
