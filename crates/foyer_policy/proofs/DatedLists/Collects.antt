@@ -61,7 +61,7 @@ module _ {T : Type 0} (item : T → Item) (count : ℕ) (ls : List (List (ℕ ×
       pub collects-none : (item v).expires ≡ None → Collects next d
       collects-none is = record {
         lists = c.lists;
-            done = c.done;
+        done = c.done;
         met = met-none item (list_at ls list) (sound.within list within) p (on d list) c.met v next found after is;
         todo = c.todo;
       }

@@ -59,11 +59,7 @@ fn new_trees(alloc: Global, lists: usize, limit: usize) -> Result<Vec<MinTree>>
 }
 
 // Moves the slots that are taken to the front, in order, and answers how many these are. Each is noted beside its value.
-fn gather<T: HasItem, const N: usize>(
-    row: &mut Row,
-    lists: &mut Lists<T, N>,
-    count: usize,
-) -> usize
+fn gather<T: HasItem, const N: usize>(row: &mut Row, lists: &mut Lists<T, N>, count: usize) -> usize
     requires apart { AreApart count row.old.slots }
     requires few { count ≤ 3 }
     ensures apart { AreApart count row.new.slots }
@@ -271,13 +267,7 @@ impl Slots {
         let index = self.find(list, place, gone.slot);
         self.row.empty(index);
         self.taken -= 1;
-        raise(
-            &mut self.trees[list],
-            &self.row,
-            index / BLOCK,
-            list,
-            gone,
-        );
+        raise(&mut self.trees[list], &self.row, index / BLOCK, list, gone);
     }
 
     /// How many lists there are.

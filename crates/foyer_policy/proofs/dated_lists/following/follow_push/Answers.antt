@@ -1,4 +1,4 @@
-use Rattle.std.proofs.Common.{◌≡◌, ◌<◌, Some, None, length, arith, ap, sym, ◌∙◌}
+use Rattle.std.proofs.Common.{◌≡◌, ◌<◌, Some, None, length, arith, rules, ap, sym, ◌∙◌}
 use Rattle.foyer_policy.specs.DatedLists.{dates_at}
 use Rattle.foyer_policy.specs.Lists.{list_at}
 use Rattle.foyer_policy.proofs.DatedLists.Entries.{dates-free}
@@ -9,10 +9,11 @@ use Rattle.foyer_policy.proofs.dated_lists.following.follow_push.Goals as goal
 pub push-slot-requires : goal.push-slot-requires
 push-slot-requires g c =
     let item = g.T.HasItem.item_of in
-    let ls = c.args.lists.now.lists in
-    CanPush-free g.row.N (dates_at item ls) c.args.place c.args.dates.now
-    c.requires.known
-    (λ k lt. dates-free item c.args.place (list_at ls k) (free_at c.args.place ls k c.requires.free))
+    let ls = c.args.lists.now.lists in (
+      search rules,
+      CanPush-free g.row.N (dates_at item ls) c.args.place c.args.dates.now c.requires.known
+          (λ k lt. dates-free item c.args.place (list_at ls k) (free_at c.args.place ls k c.requires.free)),
+    )
 
 pub returns-in-Some-clause-known : goal.returns-in-Some-clause-known
 returns-in-Some-clause-known g c =

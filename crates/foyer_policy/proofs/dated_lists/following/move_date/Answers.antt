@@ -1,4 +1,4 @@
-use Rattle.std.proofs.Common.{◌≡◌, Some, None, ap, sym, ◌∙◌}
+use Rattle.std.proofs.Common.{◌≡◌, Some, None, rules, ap, sym, ◌∙◌}
 use Rattle.foyer_policy.specs.DatedLists.{dates_at}
 use Rattle.foyer_policy.specs.Lists.{drop_place}
 use Rattle.foyer_policy.proofs.DatedLists.Changes.{CanPush-free, CanRemove-found, Knows-same, dropped-free, moved-date, moved-none, not_some}
@@ -17,10 +17,12 @@ pub push-slot-requires : goal.push-slot-requires
 push-slot-requires g c =
     let item = g.T.HasItem.item_of in
     let ls = c.args.lists.now.lists in
-    let p = c.args.place in
-    CanPush-free g.row.N (λ k. drop_place p (dates_at item ls k)) p c.remove.new.self
-    (c.remove.ensures g.row.N (dates_at item ls) c.requires.known)
-    (λ k lt. dropped-free item g.row.N ls c.get-value.ensures.apart p k lt)
+    let p = c.args.place in (
+      search rules,
+      CanPush-free g.row.N (λ k. drop_place p (dates_at item ls k)) p c.remove.new.self
+          (c.remove.ensures g.row.N (dates_at item ls) c.requires.known)
+          (λ k lt. dropped-free item g.row.N ls c.get-value.ensures.apart p k lt),
+    )
 
 pub returns-in-Some-clause-known : goal.returns-in-Some-clause-known
 returns-in-Some-clause-known g c =

@@ -11,8 +11,12 @@ set-requires-clause-within g c =
     let slot = c.get-slot.result in
     let slots = c.empty.ensures.slots slot c.get-slot.ensures.is in
     let h = c.loop-from.invariant.gathered in
-    rw slots (omega (arith, length-set row.slots c.loop-from.from (emptied slot), h.behind,
-    slice_get_within row.slots c.loop-from.from slot c.get-slot.ensures.is))
+    rw slots (omega (
+      arith,
+      length-set row.slots c.loop-from.from (emptied slot),
+      h.behind,
+      slice_get_within row.slots c.loop-from.from slot c.get-slot.ensures.is,
+    ))
 
 pub loop-from-preserved : goal.loop-from-preserved
 loop-from-preserved g c =
