@@ -86,8 +86,8 @@ pub(super) fn built<T: HasItem, const N: usize>(
     if !is_searched || lists.span() > PLACES {
         return Ok(Tracking::Untracked);
     }
-    // room for half as many more, and one
-    let room = count.saturating_add(count / 2).saturating_add(1);
+    // room for as many more, and one
+    let room = count.saturating_mul(2).saturating_add(1);
     let mut dates = Dates::new(alloc, searched, room)?;
     for list in 0..usize::from(searched) {
         if !push_dates(&mut dates, lists, list) {

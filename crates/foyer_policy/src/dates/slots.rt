@@ -129,15 +129,15 @@ impl Slots {
         })
     }
 
-    /// Whether more than half as many slots as are taken are not, where `more` are to be taken besides.
+    /// Whether more slots are left than are taken, where `more` are to be taken besides.
     #[inline(always)]
     pub(super) fn has_room(&self, more: usize) -> bool {
         let count = self.taken.saturating_add(more);
-        count / 2 < self.limit.saturating_sub(count)
+        count < self.limit.saturating_sub(count)
     }
 
-    /// Makes room until more than half as many slots as are taken are not, where `more` are to be taken besides, or there
-    /// are 2^32 - 1. Only memory can be missing (F7); nothing else changes.
+    /// Makes room until more slots are left than are taken, where `more` are to be taken besides, or there are 2^32 - 1.
+    /// Only memory can be missing (F7); nothing else changes.
     pub(super) fn grow<T: HasItem, const N: usize>(
         &mut self,
         alloc: Global,
@@ -154,7 +154,9 @@ impl Slots {
             return Ok(());
         }
         let count = self.taken.saturating_add(more);
-        let wanted = count.saturating_mul(2).saturating_add(BLOCK).min(MOST);
+        let wanted = (count.saturating_mul(5) / 2)
+            .saturating_add(BLOCK)
+            .min(MOST);
         self.row.reserve(wanted.saturating_sub(self.row.len()))?;
         let limit = self.row.capacity().min(MOST);
         let trees = new_trees(alloc, self.trees.len(), limit)?;
