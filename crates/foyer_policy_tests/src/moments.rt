@@ -160,3 +160,26 @@ fn what_is_expired_is_found_once_it_is_not_pinned(rt: HostRuntime) -> Result<(),
     }
     Ok(())
 }
+
+// Uses, takes out and puts back each of many items that expire, the last one first. A walk to where an item's expiry is
+// kept, in each of these steps or after what is kept closed up, would take more steps than a test may.
+#[test]
+fn what_expires_is_used_and_leaves_without_a_walk(rt: HostRuntime) -> Result<(), Fail> {
+    for config in &defaults() {
+        let mut policy = AnyEviction::new(rt.alloc(), 16_000, config)?;
+        let mut places = Vec::new(rt.alloc());
+        for id in 0..8_000u64 {
+            places.push(push(&mut policy, expiring(id, Some(100)))?)?;
+        }
+        for _turn in 0..4 {
+            for place in places.iter_mut().rev() {
+                policy.acquire(*place);
+                policy.release(*place);
+                let item = policy.remove(*place);
+                *place = push(&mut policy, item)?;
+            }
+        }
+        assert_eq!(rt; policy.expired(99), None);
+    }
+    Ok(())
+}
