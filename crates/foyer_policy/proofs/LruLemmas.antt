@@ -10,7 +10,7 @@ use Rattle.foyer_policy.specs.ItemLaws.{once-head, once-tail}
 use Rattle.foyer_policy.specs.Lists.{list_at, find, find_in, drop_place, with_value, moved, AreLists}
 use Rattle.foyer_policy.specs.Lru.{find_pin, remove_pin}
 use Rattle.foyer_policy.specs.LruLists.{pinned_of, state, EachState, StatesTell}
-use Rattle.foyer_policy.specs.declared.queued.Queued.{Queued}
+use Rattle.foyer_policy.specs.Queued.{Queued}
 use Rattle.foyer_policy.specs.declared.lru.LruState.{LruState}
 use Rattle.foyer_policy.proofs.FoundLemmas.{find-write_same}
 use Rattle.foyer_policy.proofs.QueuedLemmas.{item_of}

@@ -4,7 +4,7 @@ use Rattle.std.specs.Prelude.{◌==◌, option_map}
 use Rattle.foyer_policy.specs.Queued.{queued_at}
 use Rattle.foyer_policy.specs.Lists.{find, with_value}
 use Rattle.foyer_policy.specs.declared.types.Item.{Item}
-use Rattle.foyer_policy.specs.declared.queued.Queued.{Queued}
+use Rattle.foyer_policy.specs.Queued.{Queued}
 use Rattle.foyer_policy.proofs.PlaceLemmas.{place_is}
 use Rattle.foyer_policy.proofs.FoundLemmas.{find-write}
 

@@ -1,5 +1,5 @@
 use Rattle.std.proofs.Common.{◌≡◌, Some, sym, ◌∙◌}
-use Rattle.foyer_policy.specs.declared.queued.Queued.{Queued}
+use Rattle.foyer_policy.specs.Queued.{Queued}
 use Rattle.foyer_policy.specs.declared.types.Item.{Item}
 use Rattle.foyer_policy.proofs.DatedLists.Changes.{Knows-same, written-dates}
 use Rattle.foyer_policy.proofs.dated_lists.states.DatedLists+Queued+S+N.set_state.Goals as goal
