@@ -24,7 +24,7 @@ returns-clause-lists c = λ e es h.
     let same : n ≡ e.1 = node_is old c.front.ensures.apart c.in-Some.place n e es c.in-Some.ensures.place
     c.get-node.ensures.value h in
     c.move_back.ensures.lists
-    ∙ ap (moved c.in-Some.place 0) (c.set_state.ensures.lists n c.get-node.ensures.value)
+    ∙ ap (moved c.in-Some.place 0) (rw c.state-state.ensures at c.set_state.ensures.lists n c.get-node.ensures.value)
     ∙ lowers old c.front.ensures.apart c.in-Some.place n e es c.in-Some.ensures.place c.get-node.ensures.value h
     (record { item = n.item; state = state false n.state.pinned })
     ∙ ap (λ (x : Queued LruState).
@@ -36,6 +36,6 @@ pub returns-clause-places : goal.returns-clause-places
 returns-clause-places c = λ q.
     let n : Queued LruState = c.get-node.result.now in
     ap (option_map item_of) (c.move_back.ensures.places q)
-    ∙ ap (queued_at q) (c.set_state.ensures.lists n c.get-node.ensures.value)
+    ∙ ap (queued_at q) (rw c.state-state.ensures at c.set_state.ensures.lists n c.get-node.ensures.value)
     ∙ queued-write c.in-Some.place q n (state false n.state.pinned) c.args.lists.now.lists
     c.get-node.ensures.value
