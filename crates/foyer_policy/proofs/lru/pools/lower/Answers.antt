@@ -2,8 +2,7 @@ use Rattle.std.proofs.Common.{◌≡◌, ◌∷◌, ◌++◌, [], false, ◌∙�
 use Rattle.std.specs.Prelude.{option_map}
 use Rattle.foyer_policy.specs.Lists.{list_at, moved}
 use Rattle.foyer_policy.specs.LruLists.{state}
-use Rattle.foyer_policy.specs.Queued.{queued_at}
-use Rattle.foyer_policy.specs.Queued.{Queued}
+use Rattle.foyer_policy.specs.Queued.{Queued, queued_at}
 use Rattle.foyer_policy.specs.declared.types.Item.{Item}
 use Rattle.foyer_policy.specs.declared.lru.LruState.{LruState}
 use Rattle.foyer_policy.proofs.QueuedLemmas.{item_of, queued-write}
