@@ -4,13 +4,12 @@ use Rattle.std.specs.Prelude.{◌==◌, option_map}
 use Rattle.std.proofs.lemmas.Bool.Decides.{nat_tests}
 use Rattle.std.proofs.lemmas.List.{get_or-set_same, get_or-set_other}
 use Rattle.std.proofs.Math.ListN.{get_or-map, length-map}
-use Rattle.foyer_policy.specs.Queued.{items_of}
+use Rattle.foyer_policy.specs.Queued.{Queued, items_of}
 use Rattle.foyer_policy.specs.Items.{HasIdsOnce, remove_id, find_id}
 use Rattle.foyer_policy.specs.ItemLaws.{once-head, once-tail}
 use Rattle.foyer_policy.specs.Lists.{list_at, find, find_in, drop_place, with_value, moved, AreLists}
 use Rattle.foyer_policy.specs.Lru.{find_pin, remove_pin}
 use Rattle.foyer_policy.specs.LruLists.{pinned_of, state, EachState, StatesTell}
-use Rattle.foyer_policy.specs.declared.queued.Queued.{Queued}
 use Rattle.foyer_policy.specs.declared.lru.LruState.{LruState}
 use Rattle.foyer_policy.proofs.FoundLemmas.{find-write_same}
 use Rattle.foyer_policy.proofs.QueuedLemmas.{item_of}

@@ -1,10 +1,9 @@
 -- Items under places, each with a state: what a write of a state leaves.
 use Rattle.std.proofs.Common.{◌≡◌, ℕ, Bool, true, false, cond, List, Some, map, refl, ◌∙◌, ap}
 use Rattle.std.specs.Prelude.{◌==◌, option_map}
-use Rattle.foyer_policy.specs.Queued.{queued_at}
+use Rattle.foyer_policy.specs.Queued.{Queued, queued_at}
 use Rattle.foyer_policy.specs.Lists.{find, with_value}
 use Rattle.foyer_policy.specs.declared.types.Item.{Item}
-use Rattle.foyer_policy.specs.declared.queued.Queued.{Queued}
 use Rattle.foyer_policy.proofs.PlaceLemmas.{place_is}
 use Rattle.foyer_policy.proofs.FoundLemmas.{find-write}
 

@@ -20,7 +20,6 @@ pub mod GhostQueue
 pub mod Hash
 pub mod ItemLaws
 pub mod Items
-pub mod Kept
 pub mod Lends
 pub mod Lfu
 pub mod LfuLaws

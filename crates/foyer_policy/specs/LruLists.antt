@@ -1,11 +1,10 @@
 -- Least recently used over lists of nodes: which view the lists stand for.
 use Rattle.std.specs.Prelude.{◌≡◌, ℕ, ◌<◌, ◌^◌, Bool, true, false, List, [], ◌∷◌, map}
-use Rattle.foyer_policy.specs.Queued.{items_of}
+use Rattle.foyer_policy.specs.Queued.{Queued, items_of}
 use Rattle.foyer_policy.specs.Items.{weight_of, HasIdsOnce}
 use Rattle.foyer_policy.specs.Lists.{list_at}
 use Rattle.foyer_policy.specs.Lru.{Pinned, LruView, IsWithinLimit, lru}
 use Rattle.foyer_policy.specs.declared.types.Ratio.{Ratio}
-use Rattle.foyer_policy.specs.declared.queued.Queued.{Queued}
 use Rattle.foyer_policy.specs.declared.lru.LruState.{LruState}
 
 -- what a contract sees of an `Lru`: the lists `low`, `high` and `pin`, the room, the span, the limit and the ratio in use

@@ -8,7 +8,7 @@ use Rattle.foyer_policy.specs.GhostQueue.{Ghost, GhostState, ghost_of}
 use Rattle.foyer_policy.specs.S3Fifo.{Entry, Setting, S3FifoView, items, frequent_front, from_rare, main_turn, main_looks}
 use Rattle.foyer_policy.specs.declared.types.Item.{Item}
 use Rattle.foyer_policy.specs.declared.types.Ratio.{Ratio}
-use Rattle.foyer_policy.specs.declared.queued.Queued.{Queued}
+use Rattle.foyer_policy.specs.Queued.{Queued}
 use Rattle.foyer_policy.specs.declared.s3fifo.queues.S3FifoState.{S3FifoState}
 
 -- a node of one of the queues

@@ -5,7 +5,7 @@ use Rattle.foyer_policy.specs.Lists.{Lists, list_at, find, first_or}
 use Rattle.foyer_policy.specs.Items.{HasIdsOnce}
 use Rattle.foyer_policy.specs.Sieve.{Entry, SieveView, items, turn, looks_at}
 use Rattle.foyer_policy.specs.declared.types.Item.{Item}
-use Rattle.foyer_policy.specs.declared.queued.Queued.{Queued}
+use Rattle.foyer_policy.specs.Queued.{Queued}
 use Rattle.foyer_policy.specs.declared.sieve.SieveState.{SieveState}
 
 -- a node of the queue

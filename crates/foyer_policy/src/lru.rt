@@ -12,7 +12,6 @@ use crate::dated_lists::DatedLists;
 use crate::due::first_of_lists;
 use crate::error::{Error, Field, Reason, Result};
 use crate::eviction::Eviction;
-use crate::kept::Kept;
 use crate::limit::{Range, check_ratio, limit_of};
 use crate::lists::Place;
 use crate::queued::{Queued, append_items};
@@ -178,20 +177,18 @@ impl Eviction for Lru {
     fn push_at(&mut self, place: Place, item: Item) {
         // A push pins nothing.
         let pinned = false;
-        let kept = Kept::of(item);
         match item.hint {
             Hint::Low => {
                 let state = LruState {
                     high: false,
                     pinned,
                 };
-                self.lists
-                    .push_back_at(LOW, place, Queued { item: kept, state });
+                self.lists.push_back_at(LOW, place, Queued::of(item, state));
             }
             Hint::Normal => {
                 let state = LruState { high: true, pinned };
                 self.lists
-                    .push_back_at(HIGH, place, Queued { item: kept, state });
+                    .push_back_at(HIGH, place, Queued::of(item, state));
                 let weight = self.high_weight + item.weight;
                 self.high_weight = settle(&mut self.lists, weight, self.limit);
             }
@@ -217,20 +214,21 @@ impl Eviction for Lru {
         ensures span { self.new.span ≡ self.old.span }
     {
         if let Some(found) = self.lists.pop_front_at(LOW) {
-            return Ok(Some((found.0, found.1.item.whole())));
+            return Ok(Some((found.0, found.1.whole())));
         }
         let Some(found) = self.lists.pop_front_at(HIGH) else {
             return Ok(None);
         };
-        let item = found.1.item.whole();
+        let item = found.1.whole();
         self.high_weight -= item.weight;
         Ok(Some((found.0, item)))
     }
 
     #[inline(always)]
     fn remove(&mut self, place: Place) -> Item {
-        let Queued { item: kept, state } = self.lists.remove(place);
-        let item = kept.whole();
+        let node = self.lists.remove(place);
+        let item = node.whole();
+        let state = node.state();
         if state.pinned {
             self.pinned_weight -= item.weight;
         } else if state.high {
@@ -254,8 +252,8 @@ impl Eviction for Lru {
     #[inline(always)]
     fn acquire(&mut self, place: Place) {
         let node = self.lists.get(place);
-        let item = node.item.whole();
-        let state = node.state;
+        let item = node.whole();
+        let state = node.state();
         if state.pinned {
             return;
         }
@@ -273,8 +271,8 @@ impl Eviction for Lru {
     #[inline(always)]
     fn release(&mut self, place: Place) {
         let node = self.lists.get(place);
-        let item = node.item.whole();
-        let state = node.state;
+        let item = node.whole();
+        let state = node.state();
         if !state.pinned {
             return;
         }
@@ -323,7 +321,7 @@ impl Eviction for Lru {
 
     #[inline(always)]
     fn item(&self, place: Place) -> Item {
-        self.lists.get(place).item.whole()
+        self.lists.get(place).whole()
     }
 
     fn order(&self) -> Result<Vec<Item>> {
@@ -341,7 +339,7 @@ impl Eviction for Lru {
 
     #[inline(always)]
     fn is_pinned(&self, place: Place) -> bool {
-        self.lists.get(place).state.pinned
+        self.lists.get(place).state().pinned
     }
 
     fn looks(&self) -> u128 {

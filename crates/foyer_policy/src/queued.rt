@@ -9,7 +9,8 @@ use crate::dated_lists::DatedLists;
 use crate::error::{Error, Reason, Result};
 use crate::kept::Kept;
 use crate::lists::Place;
-use crate::types::Item;
+use crate::types::{Hint, Item};
+use std::marker::Model;
 
 /// A value of a list that holds an item.
 pub(crate) trait HasItem {
@@ -45,11 +46,100 @@ impl HasItem for Kept {
     }
 }
 
-/// An item, and what its policy keeps beside it.
+/// An item, and what its policy keeps beside it, in no more bytes than the item alone takes. That the record expires
+/// stands beside the hint, as does the state, which is small, and a number that no contract sees.
 #[derive(Drop)]
 pub(crate) struct Queued<S> {
-    pub(crate) item: Kept,
-    pub(crate) state: S,
+    slot: u32,
+    hint: Hint,
+    expires: bool,
+    state: S,
+    // 0 where the record does not expire
+    moment: u64,
+    id: u64,
+    hash: u64,
+    weight: usize,
+}
+
+impl<S> Model for Queued<S> {
+    ghost use Rattle.foyer_policy.specs.Queued.{Queued as State, queued};
+
+    ghost Value = { State S };
+
+    ghost view = { queued };
+}
+
+impl<S> Queued<S> {
+    /// Keeps an item with a state.
+    #[inline(always)]
+    pub(crate) fn of(item: Item, state: S) -> Self
+        ensures { result ≡ record { item = item; state = state } }
+    {
+        let (expires, moment) = match item.expires {
+            Some(moment) => (true, moment),
+            None => (false, 0),
+        };
+        Queued {
+            slot: 0,
+            hint: item.hint,
+            expires,
+            state,
+            moment,
+            id: item.id,
+            hash: item.hash,
+            weight: item.weight,
+        }
+    }
+
+    /// The item that is kept.
+    #[inline(always)]
+    pub(crate) fn whole(&self) -> Item
+        ensures { result ≡ self.now.item }
+    {
+        Item {
+            id: self.id,
+            hash: self.hash,
+            weight: self.weight,
+            hint: self.hint,
+            expires: if self.expires {
+                Some(self.moment)
+            } else {
+                None
+            },
+        }
+    }
+
+    /// The number that was set last, or 0. No contract sees it.
+    #[inline(always)]
+    pub(crate) fn slot(&self) -> usize {
+        self.slot as usize
+    }
+
+    /// Sets the number, of which the low 32 bits are kept. The item and the state stay.
+    #[inline(always)]
+    pub(crate) fn set_slot(&mut self, slot: usize)
+        ensures { self.new ≡ self.old }
+    {
+        self.slot = (slot & 0xffff_ffff) as u32;
+    }
+}
+
+impl<S: Copy> Queued<S> {
+    /// What the policy keeps beside the item.
+    #[inline(always)]
+    pub(crate) fn state(&self) -> S
+        ensures { result ≡ self.now.state }
+    {
+        self.state
+    }
+
+    /// Sets what the policy keeps. The item stays.
+    #[inline(always)]
+    pub(crate) fn set_state(&mut self, state: S)
+        ensures { self.new ≡ record { item = self.old.item; state = state } }
+    {
+        self.state = state;
+    }
 }
 
 impl<S> HasItem for Queued<S> {
@@ -57,17 +147,17 @@ impl<S> HasItem for Queued<S> {
 
     #[inline(always)]
     fn item(&self) -> Item {
-        self.item.whole()
+        self.whole()
     }
 
     #[inline(always)]
     fn slot(&self) -> usize {
-        self.item.slot()
+        Queued::slot(self)
     }
 
     #[inline(always)]
     fn set_slot(&mut self, slot: usize) {
-        self.item.set_slot(slot);
+        Queued::set_slot(self, slot);
     }
 }
 

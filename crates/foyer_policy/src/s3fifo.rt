@@ -14,7 +14,6 @@ use crate::due::first_of_lists;
 use crate::error::{Error, Field, Reason, Result};
 use crate::eviction::Eviction;
 use crate::ghost_queue::GhostQueue;
-use crate::kept::Kept;
 use crate::limit::{Range, check_ratio, limit_of};
 use crate::lists::Place;
 use crate::queued::{Queued, append_items};
@@ -215,7 +214,6 @@ impl Eviction for S3Fifo {
 
     #[inline(always)]
     fn push_at(&mut self, place: Place, item: Item) {
-        let kept = Kept::of(item);
         let is_main = self.ghost_queue.contains(item.hash);
         let state = S3FifoState {
             is_main,
@@ -223,12 +221,12 @@ impl Eviction for S3Fifo {
         };
         if is_main {
             self.queues
-                .push_back_at(MAIN, place, Queued { item: kept, state });
+                .push_back_at(MAIN, place, Queued::of(item, state));
             return;
         }
         self.small_weight += item.weight;
         self.queues
-            .push_back_at(SMALL, place, Queued { item: kept, state });
+            .push_back_at(SMALL, place, Queued::of(item, state));
     }
 
     fn pop_at(&mut self) -> Result<Option<(Place, Item)>>
@@ -257,8 +255,9 @@ impl Eviction for S3Fifo {
 
     #[inline(always)]
     fn remove(&mut self, place: Place) -> Item {
-        let Queued { item: kept, state } = self.queues.remove(place);
-        let item = kept.whole();
+        let node = self.queues.remove(place);
+        let item = node.whole();
+        let state = node.state();
         if !state.is_main {
             self.small_weight -= item.weight;
         }
@@ -280,7 +279,7 @@ impl Eviction for S3Fifo {
 
     #[inline(always)]
     fn acquire(&mut self, place: Place) {
-        let state = self.queues.get(place).state;
+        let state = self.queues.get(place).state();
         let used = S3FifoState {
             frequency: state.frequency.saturating_add(1).min(MOST),
             ..state
@@ -319,7 +318,7 @@ impl Eviction for S3Fifo {
 
     #[inline(always)]
     fn item(&self, place: Place) -> Item {
-        self.queues.get(place).item.whole()
+        self.queues.get(place).whole()
     }
 
     fn order(&self) -> Result<Vec<Item>> {

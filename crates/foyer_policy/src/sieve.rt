@@ -12,7 +12,6 @@ use crate::dated_lists::DatedLists;
 use crate::due::first_of_lists;
 use crate::error::{Error, Reason, Result};
 use crate::eviction::Eviction;
-use crate::kept::Kept;
 use crate::lists::Place;
 use crate::queued::{Queued, append_items};
 use crate::types::Item;
@@ -79,7 +78,7 @@ fn take_bit(queue: &mut DatedLists<Node, 1>, place: Place, looks: &mut u128) -> 
     ensures span { queue.new.span ≡ queue.old.span }
     ensures counted { looks.new ≡ looks.old + 1 }
 {
-    let visited = queue.get(place).state.visited;
+    let visited = queue.get(place).state().visited;
     *looks += 1;
     queue.set_state(place, SieveState { visited: false });
     visited
@@ -121,7 +120,7 @@ fn take_victim(queue: &mut DatedLists<Node, 1>, start: Place) -> Victim
         at = next_round(queue, at);
     }
     let hand = queue.next(at);
-    let item = queue.remove(at).item.whole();
+    let item = queue.remove(at).whole();
     Victim {
         item,
         at,
@@ -215,14 +214,8 @@ impl Eviction for Sieve {
 
     #[inline(always)]
     fn push_at(&mut self, place: Place, item: Item) {
-        self.queue.push_back_at(
-            0,
-            place,
-            Node {
-                item: Kept::of(item),
-                state: SieveState::default(),
-            },
-        );
+        let state = SieveState::default();
+        self.queue.push_back_at(0, place, Queued::of(item, state));
     }
 
     /// Takes the first unvisited record of the rotation from the hand out, or else the first of the
@@ -264,7 +257,7 @@ impl Eviction for Sieve {
     #[inline(always)]
     fn remove(&mut self, place: Place) -> Item {
         self.hand = hand_beside(self.hand, place);
-        self.queue.remove(place).item.whole()
+        self.queue.remove(place).whole()
     }
 
     fn reserve_clear(&mut self) -> Result<()> {
@@ -311,7 +304,7 @@ impl Eviction for Sieve {
 
     #[inline(always)]
     fn item(&self, place: Place) -> Item {
-        self.queue.get(place).item.whole()
+        self.queue.get(place).whole()
     }
 
     fn order(&self) -> Result<Vec<Item>> {

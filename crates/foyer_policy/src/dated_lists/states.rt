@@ -19,6 +19,6 @@ impl<S: Copy, const N: usize> DatedLists<Queued<S>, N> {
         ensures small { sum_by length self.old.lists < 2 ^ 64 }
         ensures apart { AreLists N self.old.lists }
     {
-        self.lists.get_mut(place).state = state;
+        self.lists.get_mut(place).set_state(state);
     }
 }

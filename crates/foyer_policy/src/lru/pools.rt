@@ -37,8 +37,8 @@ fn lower(lists: &mut DatedLists<Node, 3>) -> usize
     match lists.front(HIGH) {
         Some(place) => {
             let node = lists.get(place);
-            let weight = node.item.whole().weight;
-            let state = node.state;
+            let weight = node.whole().weight;
+            let state = node.state();
             let low = LruState {
                 high: false,
                 ..state

@@ -60,10 +60,10 @@ pub(super) fn take_small(
 {
     while let Some(front) = queues.front(SMALL) {
         let node = queues.get(front);
-        let state = node.state;
-        *weight -= node.item.whole().weight;
+        let state = node.state();
+        *weight -= node.whole().weight;
         if state.frequency < threshold {
-            let item = node.item.whole();
+            let item = node.whole();
             queues.remove(front);
             return Some(Victim {
                 item,
@@ -93,7 +93,7 @@ fn lower(queues: &mut DatedLists<Node, 2>, place: Place, looks: &mut u128) -> bo
     ensures span { queues.new.span ≡ queues.old.span }
     ensures counted { looks.new ≡ looks.old + 1 }
 {
-    let state = queues.get(place).state;
+    let state = queues.get(place).state();
     *looks += 1;
     let lowered = S3FifoState {
         frequency: state.frequency.saturating_sub(1),
@@ -117,7 +117,7 @@ pub(super) fn take_main(queues: &mut DatedLists<Node, 2>) -> Option<Victim>
     let mut looks: u128 = 0;
     while let Some(front) = queues.front(MAIN) {
         if !lower(queues, front, &mut looks) {
-            let item = queues.remove(front).item.whole();
+            let item = queues.remove(front).whole();
             return Some(Victim {
                 item,
                 at: front,
@@ -149,7 +149,7 @@ fn pop_main(queues: &mut DatedLists<Node, 2>, weight: &mut usize) -> Option<Vict
         return Some(victim);
     }
     let found = queues.pop_front_at(SMALL)?;
-    let item = found.1.item.whole();
+    let item = found.1.whole();
     *weight -= item.weight;
     Some(Victim {
         item,

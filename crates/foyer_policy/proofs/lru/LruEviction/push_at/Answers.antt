@@ -10,7 +10,7 @@ invariant_of-self c =
     let i = c.self.inside in
     pushed_low_is i.lists.lists i.limit i.ratio i.high_weight i.pinned_weight c.self.invariant
     c.push_back_at.ensures.apart c.args.place c.args.item (rw (← c.self.view_is) at c.requires.fits)
-    c.push_back_at.new.self.lists (rw c.of-kept.ensures at c.push_back_at.ensures.lists)
+    c.push_back_at.new.self.lists (rw c.of.ensures at c.push_back_at.ensures.lists)
     (rw (← c.self.view_is) at c.requires.new_id)
 
 pub returns-in-Low-clause-view : goal.returns-in-Low-clause-view
@@ -19,7 +19,7 @@ returns-in-Low-clause-view c =
     rw (← c.self.view_is)
     (pushed_low i.lists.lists i.limit i.ratio i.high_weight i.pinned_weight c.self.invariant
     c.push_back_at.ensures.apart c.args.place c.args.item (rw (← c.self.view_is) at c.requires.fits)
-    c.push_back_at.new.self.lists (rw c.of-kept.ensures at c.push_back_at.ensures.lists)
+    c.push_back_at.new.self.lists (rw c.of.ensures at c.push_back_at.ensures.lists)
     ∙ ap (λ (h : Hint). settle (put (view_of i.lists.lists i.limit i.ratio) c.args.item (is_high_hint h)))
     (sym c.in-Low.is))
 
@@ -38,7 +38,7 @@ settle-self-inside-requires c =
     pushed_weight i.lists.lists i.limit i.ratio i.high_weight i.pinned_weight c.self.invariant
     c.push_back_at-in-Normal.ensures.apart c.args.place c.args.item
     (rw (← c.self.view_is) at c.requires.fits) c.push_back_at-in-Normal.new.self.lists
-    (rw c.of-kept.ensures at c.push_back_at-in-Normal.ensures.lists)
+    (rw c.of-in-Normal.ensures at c.push_back_at-in-Normal.ensures.lists)
 
 pub invariant_of-self-in-Normal : goal.invariant_of-self-in-Normal
 invariant_of-self-in-Normal c =
@@ -46,7 +46,7 @@ invariant_of-self-in-Normal c =
     pushed_high_is i.lists.lists i.limit i.ratio i.high_weight i.pinned_weight c.self.invariant
     c.push_back_at-in-Normal.ensures.apart c.args.place c.args.item
     (rw (← c.self.view_is) at c.requires.fits) c.push_back_at-in-Normal.new.self.lists
-    (rw c.of-kept.ensures at c.push_back_at-in-Normal.ensures.lists)
+    (rw c.of-in-Normal.ensures at c.push_back_at-in-Normal.ensures.lists)
     c.settle-self-inside.new.lists.lists c.settle-self-inside.ensures.low
     c.settle-self-inside.ensures.high c.settle-self-inside.ensures.pin
     (rw (← c.self.view_is) at c.requires.new_id) c.settle-self-inside.result c.settle-self-inside.ensures.weight
@@ -58,7 +58,7 @@ returns-in-Normal-clause-view c =
     (pushed_high i.lists.lists i.limit i.ratio i.high_weight i.pinned_weight c.self.invariant
     c.push_back_at-in-Normal.ensures.apart c.args.place c.args.item
     (rw (← c.self.view_is) at c.requires.fits) c.push_back_at-in-Normal.new.self.lists
-    (rw c.of-kept.ensures at c.push_back_at-in-Normal.ensures.lists)
+    (rw c.of-in-Normal.ensures at c.push_back_at-in-Normal.ensures.lists)
     c.settle-self-inside.new.lists.lists c.settle-self-inside.ensures.low
     c.settle-self-inside.ensures.high c.settle-self-inside.ensures.pin
     ∙ ap (λ (h : Hint). settle (put (view_of i.lists.lists i.limit i.ratio) c.args.item (is_high_hint h)))

@@ -19,7 +19,7 @@ returns-then-not-state-clause-view c =
     let n : Node = c.get-node.result.now in
     rw (← c.self.view_is, c.get-node.ensures.value)
     (released_again i.lists.lists i.limit i.ratio i.high_weight i.pinned_weight c.self.invariant
-    c.get-node.ensures.apart c.args.place n c.get-node.ensures.value (is_off n.state.pinned c.if-not-state.true))
+    c.get-node.ensures.apart c.args.place n c.get-node.ensures.value (is_off n.state.pinned (rw c.state-state.ensures at c.if-not-state.true)))
 
 pub overflow_sub-self : goal.overflow_sub-self
 overflow_sub-self c =
@@ -27,20 +27,20 @@ overflow_sub-self c =
     let n : Node = c.get-node.result.now in
     rw c.whole-item.ensures
     (pinned_weighs i.lists.lists i.limit i.ratio i.high_weight i.pinned_weight c.self.invariant
-    c.get-node.ensures.apart c.args.place n c.get-node.ensures.value (is_on n.state.pinned c.if-not-state.false))
+    c.get-node.ensures.apart c.args.place n c.get-node.ensures.value (is_on n.state.pinned (rw c.state-state.ensures at c.if-not-state.false)))
 
 pub invariant_of-self : goal.invariant_of-self
 invariant_of-self c =
     let i = c.self.inside in
     let n : Node = c.get-node.result.now in
     let w = pinned_weighs i.lists.lists i.limit i.ratio i.high_weight i.pinned_weight c.self.invariant
-    c.get-node.ensures.apart c.args.place n c.get-node.ensures.value (is_on n.state.pinned c.if-not-state.false) in
+    c.get-node.ensures.apart c.args.place n c.get-node.ensures.value (is_on n.state.pinned (rw c.state-state.ensures at c.if-not-state.false)) in
     let less : i.pinned_weight - n.item.weight + n.item.weight ≡ i.pinned_weight = omega arith in
     rw c.whole-item.ensures
     (released_to_low_is i.lists.lists i.limit i.ratio i.high_weight i.pinned_weight c.self.invariant
-    c.get-node.ensures.apart c.args.place n c.get-node.ensures.value (is_on n.state.pinned c.if-not-state.false)
-    (is_off n.state.high c.if-not-state-2.true)
-    c.relist.new.lists.lists (c.relist.ensures.lists n c.get-node.ensures.value)
+    c.get-node.ensures.apart c.args.place n c.get-node.ensures.value (is_on n.state.pinned (rw c.state-state.ensures at c.if-not-state.false))
+    (is_off n.state.high (rw c.state-state.ensures at c.if-not-state-2.true))
+    c.relist.new.lists.lists (rw c.state-state.ensures at c.relist.ensures.lists n c.get-node.ensures.value)
     (i.pinned_weight - n.item.weight) less)
 
 pub returns-then-not-state-2-clause-view : goal.returns-then-not-state-2-clause-view
@@ -49,16 +49,16 @@ returns-then-not-state-2-clause-view c =
     let n : Node = c.get-node.result.now in
     rw (← c.self.view_is, c.get-node.ensures.value)
     (released_to_low i.lists.lists i.limit i.ratio i.high_weight i.pinned_weight c.self.invariant
-    c.get-node.ensures.apart c.args.place n c.get-node.ensures.value (is_on n.state.pinned c.if-not-state.false)
-    (is_off n.state.high c.if-not-state-2.true)
-    c.relist.new.lists.lists (c.relist.ensures.lists n c.get-node.ensures.value))
+    c.get-node.ensures.apart c.args.place n c.get-node.ensures.value (is_on n.state.pinned (rw c.state-state.ensures at c.if-not-state.false))
+    (is_off n.state.high (rw c.state-state.ensures at c.if-not-state-2.true))
+    c.relist.new.lists.lists (rw c.state-state.ensures at c.relist.ensures.lists n c.get-node.ensures.value))
 
 pub overflow_add-weight : goal.overflow_add-weight
 overflow_add-weight c =
     let i = c.self.inside in
     let n : Node = c.get-node.result.now in
     let w = pinned_weighs i.lists.lists i.limit i.ratio i.high_weight i.pinned_weight c.self.invariant
-    c.get-node.ensures.apart c.args.place n c.get-node.ensures.value (is_on n.state.pinned c.if-not-state.false) in
+    c.get-node.ensures.apart c.args.place n c.get-node.ensures.value (is_on n.state.pinned (rw c.state-state.ensures at c.if-not-state.false)) in
     let all = weights i.lists.lists i.limit i.ratio i.high_weight i.pinned_weight c.self.invariant
     c.get-node.ensures.apart c.args.place n c.get-node.ensures.value in
     let fits : i.high_weight + n.item.weight < 2 ^ 64 = omega arith in
@@ -71,22 +71,22 @@ settle-self-inside-requires c =
     let n : Node = c.get-node.result.now in
     rw c.whole-item.ensures
     (released_weight i.lists.lists i.limit i.ratio i.high_weight i.pinned_weight c.self.invariant
-    c.get-node.ensures.apart c.args.place n c.get-node.ensures.value (is_on n.state.pinned c.if-not-state.false)
-    (is_on n.state.high c.if-not-state-2.false)
-    c.relist-2.new.lists.lists (c.relist-2.ensures.lists n c.get-node.ensures.value))
+    c.get-node.ensures.apart c.args.place n c.get-node.ensures.value (is_on n.state.pinned (rw c.state-state.ensures at c.if-not-state.false))
+    (is_on n.state.high (rw c.state-state.ensures at c.if-not-state-2.false))
+    c.relist-2.new.lists.lists (rw c.state-state.ensures at c.relist-2.ensures.lists n c.get-node.ensures.value))
 
 pub invariant_of-self-2 : goal.invariant_of-self-2
 invariant_of-self-2 c =
     let i = c.self.inside in
     let n : Node = c.get-node.result.now in
     let w = pinned_weighs i.lists.lists i.limit i.ratio i.high_weight i.pinned_weight c.self.invariant
-    c.get-node.ensures.apart c.args.place n c.get-node.ensures.value (is_on n.state.pinned c.if-not-state.false) in
+    c.get-node.ensures.apart c.args.place n c.get-node.ensures.value (is_on n.state.pinned (rw c.state-state.ensures at c.if-not-state.false)) in
     let less : i.pinned_weight - n.item.weight + n.item.weight ≡ i.pinned_weight = omega arith in
     rw c.whole-item.ensures
     (released_to_high_is i.lists.lists i.limit i.ratio i.high_weight i.pinned_weight c.self.invariant
-    c.get-node.ensures.apart c.args.place n c.get-node.ensures.value (is_on n.state.pinned c.if-not-state.false)
-    (is_on n.state.high c.if-not-state-2.false)
-    c.relist-2.new.lists.lists (c.relist-2.ensures.lists n c.get-node.ensures.value) c.settle-self-inside.new.lists.lists c.settle-self-inside.ensures.low c.settle-self-inside.ensures.high
+    c.get-node.ensures.apart c.args.place n c.get-node.ensures.value (is_on n.state.pinned (rw c.state-state.ensures at c.if-not-state.false))
+    (is_on n.state.high (rw c.state-state.ensures at c.if-not-state-2.false))
+    c.relist-2.new.lists.lists (rw c.state-state.ensures at c.relist-2.ensures.lists n c.get-node.ensures.value) c.settle-self-inside.new.lists.lists c.settle-self-inside.ensures.low c.settle-self-inside.ensures.high
     c.settle-self-inside.ensures.pin
     c.settle-self-inside.result (i.pinned_weight - n.item.weight) c.settle-self-inside.ensures.weight less)
 
@@ -96,7 +96,7 @@ returns-clause-view c =
     let n : Node = c.get-node.result.now in
     rw (← c.self.view_is, c.get-node.ensures.value)
     (released_to_high i.lists.lists i.limit i.ratio i.high_weight i.pinned_weight c.self.invariant
-    c.get-node.ensures.apart c.args.place n c.get-node.ensures.value (is_on n.state.pinned c.if-not-state.false)
-    (is_on n.state.high c.if-not-state-2.false)
-    c.relist-2.new.lists.lists (c.relist-2.ensures.lists n c.get-node.ensures.value) c.settle-self-inside.new.lists.lists c.settle-self-inside.ensures.low c.settle-self-inside.ensures.high
+    c.get-node.ensures.apart c.args.place n c.get-node.ensures.value (is_on n.state.pinned (rw c.state-state.ensures at c.if-not-state.false))
+    (is_on n.state.high (rw c.state-state.ensures at c.if-not-state-2.false))
+    c.relist-2.new.lists.lists (rw c.state-state.ensures at c.relist-2.ensures.lists n c.get-node.ensures.value) c.settle-self-inside.new.lists.lists c.settle-self-inside.ensures.low c.settle-self-inside.ensures.high
     c.settle-self-inside.ensures.pin)

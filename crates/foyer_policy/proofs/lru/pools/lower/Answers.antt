@@ -2,8 +2,7 @@ use Rattle.std.proofs.Common.{◌≡◌, ◌∷◌, ◌++◌, [], false, ◌∙�
 use Rattle.std.specs.Prelude.{option_map}
 use Rattle.foyer_policy.specs.Lists.{list_at, moved}
 use Rattle.foyer_policy.specs.LruLists.{state}
-use Rattle.foyer_policy.specs.Queued.{queued_at}
-use Rattle.foyer_policy.specs.declared.queued.Queued.{Queued}
+use Rattle.foyer_policy.specs.Queued.{Queued, queued_at}
 use Rattle.foyer_policy.specs.declared.types.Item.{Item}
 use Rattle.foyer_policy.specs.declared.lru.LruState.{LruState}
 use Rattle.foyer_policy.proofs.QueuedLemmas.{item_of, queued-write}
@@ -24,7 +23,7 @@ returns-clause-lists c = λ e es h.
     let same : n ≡ e.1 = node_is old c.front.ensures.apart c.in-Some.place n e es c.in-Some.ensures.place
     c.get-node.ensures.value h in
     c.move_back.ensures.lists
-    ∙ ap (moved c.in-Some.place 0) (c.set_state.ensures.lists n c.get-node.ensures.value)
+    ∙ ap (moved c.in-Some.place 0) (rw c.state-state.ensures at c.set_state.ensures.lists n c.get-node.ensures.value)
     ∙ lowers old c.front.ensures.apart c.in-Some.place n e es c.in-Some.ensures.place c.get-node.ensures.value h
     (record { item = n.item; state = state false n.state.pinned })
     ∙ ap (λ (x : Queued LruState).
@@ -36,6 +35,6 @@ pub returns-clause-places : goal.returns-clause-places
 returns-clause-places c = λ q.
     let n : Queued LruState = c.get-node.result.now in
     ap (option_map item_of) (c.move_back.ensures.places q)
-    ∙ ap (queued_at q) (c.set_state.ensures.lists n c.get-node.ensures.value)
+    ∙ ap (queued_at q) (rw c.state-state.ensures at c.set_state.ensures.lists n c.get-node.ensures.value)
     ∙ queued-write c.in-Some.place q n (state false n.state.pinned) c.args.lists.now.lists
     c.get-node.ensures.value

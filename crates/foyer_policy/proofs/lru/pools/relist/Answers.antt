@@ -1,8 +1,7 @@
 use Rattle.std.proofs.Common.{lit<, ◌∙◌, ap}
 use Rattle.std.specs.Prelude.{option_map}
 use Rattle.foyer_policy.specs.Lists.{moved}
-use Rattle.foyer_policy.specs.Queued.{queued_at}
-use Rattle.foyer_policy.specs.declared.queued.Queued.{Queued}
+use Rattle.foyer_policy.specs.Queued.{Queued, queued_at}
 use Rattle.foyer_policy.specs.declared.lru.LruState.{LruState}
 use Rattle.foyer_policy.proofs.FoundLemmas.{write_found}
 use Rattle.foyer_policy.proofs.ListsLemmas.{is_in}

@@ -27,7 +27,7 @@ used_node c =
     }
 
 more : (c : After-min) → c.min.result ≡ min (c.get.result.now.state.frequency + 1) 3
-more c = omega (arith, c.min.ensures, c.saturating_add.ensures)
+more c = omega (arith, c.min.ensures, rw c.state-state.ensures at c.saturating_add.ensures)
 
 pub invariant_of-self : goal.invariant_of-self
 invariant_of-self c =
@@ -35,7 +35,7 @@ invariant_of-self c =
     let i = c.self.invariant in
     let ls = c.self.inside.queues.lists in
     let v = c.get.result.now in
-    rw (c.set_state.ensures.lists v c.get.ensures.value) (record {
+    rw (rw c.state-state.ensures at c.set_state.ensures.lists v c.get.ensures.value) (record {
       queues = used-queues ls c.get.ensures.apart i.queues c.args.place v c.get.ensures.value
           (ghost_of c.self.inside.ghost_queue) (setting k) (used_node k) refl (more k) refl;
       weight = i.weight ∙
@@ -51,7 +51,7 @@ returns-clause-view c =
     let ls = c.self.inside.queues.lists in
     let v = c.get.result.now in
     let at : item_at ls c.args.place ≡ Some v.item = ap (option_map item_of) c.get.ensures.value in
-    rw (← c.self.view_is, at, c.set_state.ensures.lists v c.get.ensures.value)
+    rw (← c.self.view_is, at, rw c.state-state.ensures at c.set_state.ensures.lists v c.get.ensures.value)
     (use-view ls c.get.ensures.apart c.self.invariant.queues c.args.place v c.get.ensures.value
     (ghost_of c.self.inside.ghost_queue) c.self.inside.limit (setting k) (used_node k) refl (more k))
 
@@ -60,6 +60,6 @@ returns-clause-places c =
     let k = (goal.at.returns-clause-places c).After-min in
     let ls = c.self.inside.queues.lists in
     let v = c.get.result.now in
-    rw (← c.self.view_is, c.set_state.ensures.lists v c.get.ensures.value)
+    rw (← c.self.view_is, rw c.state-state.ensures at c.set_state.ensures.lists v c.get.ensures.value)
     (write-places ls c.get.ensures.apart c.self.invariant.queues c.args.place v
     c.get.ensures.value (used_node k) refl)

@@ -21,11 +21,11 @@ invariant_of-self c =
     rw (← c.self.view_is) at c.requires.new_id in
     let young : c.default.result.frequency ≡ 0 = search rules in
     record {
-      queues = pushed-main ls left sound i.queues c.args.place w young new (rw c.of-kept.ensures at c.push_back_at.ensures.lists)
+      queues = pushed-main ls left sound i.queues c.args.place w young new (rw c.of.ensures at c.push_back_at.ensures.lists)
           c.if-is_main.true;
       weight = i.weight ∙
           sym (ap (λ l. weight_of (items l))
-          (pushed-same ls left sound i.queues c.args.place w young new (rw c.of-kept.ensures at c.push_back_at.ensures.lists)
+          (pushed-same ls left sound i.queues c.args.place w young new (rw c.of.ensures at c.push_back_at.ensures.lists)
           c.if-is_main.true));
       small_denominator = i.small_denominator;
       ghost_denominator = i.ghost_denominator;
@@ -47,13 +47,13 @@ invariant_of-self-2 c =
     rw (← c.self.view_is) at c.requires.new_id in
     let young : c.default.result.frequency ≡ 0 = search rules in
     record {
-      queues = pushed-small ls left sound i.queues c.args.place w young new (rw c.of-kept.ensures at c.push_back_at-2.ensures.lists)
+      queues = pushed-small ls left sound i.queues c.args.place w young new (rw c.of-2.ensures at c.push_back_at-2.ensures.lists)
           c.if-is_main.false;
       weight = omega (
         arith,
         i.weight,
         pushed-weight ls left sound i.queues c.args.place w young new
-            (rw c.of-kept.ensures at c.push_back_at-2.ensures.lists) c.if-is_main.false,
+            (rw c.of-2.ensures at c.push_back_at-2.ensures.lists) c.if-is_main.false,
       );
       small_denominator = i.small_denominator;
       ghost_denominator = i.ghost_denominator;

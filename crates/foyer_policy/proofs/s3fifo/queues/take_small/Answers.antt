@@ -22,7 +22,7 @@ returns-then-state-threshold-clause-takes c =
     ∙ out-small ls c.get-node.ensures.apart i.queues p v c.get-node.ensures.value f in
     let main = ap (λ l. main_of l) c.remove.ensures.lists
     ∙ ap (λ l. entries l) (out-main ls c.get-node.ensures.apart i.queues p v c.get-node.ensures.value f) in
-    let below = c.if-state-threshold.true in
+    let below = rw c.state-state.ensures at c.if-state-threshold.true in
     let stops = rare-stops t (small_of ls) (entry (p, v)) (entries f.back) head below in
     let none = front-stops t (small_of ls) (entry (p, v)) (entries f.back) head below in
     rw c.whole-item.ensures (
@@ -93,13 +93,13 @@ loop-front-preserved c =
     let frequency : w.state.frequency ≡ v.state.frequency = refl in
     let now = c.move_back.new.self.lists in
     let is : now ≡ moved p 1 (map (with_value p w) ls) =
-    c.move_back.ensures.lists ∙ ap (moved p 1) (c.set_state.ensures.lists v c.get-node.ensures.value) in
+    c.move_back.ensures.lists ∙ ap (moved p 1) (rw c.state-state.ensures at c.set_state.ensures.lists v c.get-node.ensures.value) in
     let head = small-head ls sound i.queues p v c.get-node.ensures.value f in
     let small = ap (λ l. small_of l) is ∙ promote-small ls sound i.queues p v c.get-node.ensures.value f w item
     frequency refl in
     let main = ap (λ l. main_of l) is ∙ promote-main ls sound i.queues p v c.get-node.ensures.value f w item
     frequency refl in
-    let reaches = c.if-state-threshold.false in
+    let reaches = rw c.state-state.ensures at c.if-state-threshold.false in
     record {
       rare = ap (from_rare t) small ∙ sym (rare-goes t (small_of ls) (entry (p, v)) (entries f.back) head reaches)
           ∙ i.rare;
@@ -111,7 +111,7 @@ loop-front-preserved c =
           ∙ ap (λ l. main_of ls ++ l) (sym head) ∙ i.whole;
       queues = rw is (promote-queues ls sound i.queues p v c.get-node.ensures.value f w item frequency refl);
       placed = λ q. ap (option_map item_of) (c.move_back.ensures.places q)
-          ∙ ap (λ l. item_at l q) (c.set_state.ensures.lists v c.get-node.ensures.value)
+          ∙ ap (λ l. item_at l q) (rw c.state-state.ensures at c.set_state.ensures.lists v c.get-node.ensures.value)
           ∙ write-places ls sound i.queues p v c.get-node.ensures.value w item q ∙ i.placed q;
       weight = rw c.whole.ensures
           (omega (
