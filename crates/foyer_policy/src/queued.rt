@@ -54,11 +54,11 @@ pub(crate) struct Queued<S> {
     hint: Hint,
     expires: bool,
     state: S,
-    // 0 where the record does not expire
-    moment: u64,
-    id: u64,
     hash: u64,
     weight: usize,
+    id: u64,
+    // 0 where the record does not expire
+    moment: u64,
 }
 
 impl<S> Model for Queued<S> {
@@ -84,10 +84,10 @@ impl<S> Queued<S> {
             hint: item.hint,
             expires,
             state,
-            moment,
-            id: item.id,
             hash: item.hash,
             weight: item.weight,
+            id: item.id,
+            moment,
         }
     }
 
