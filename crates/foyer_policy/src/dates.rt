@@ -1,6 +1,6 @@
 //! When items of lists expire, in the order of the lists.
 
-ghost use Rattle.std.specs.Prelude.{◌≡◌, ℕ, ◌<◌, ◌≤◌, [], None, IfOk, IfErr, IsSome};
+ghost use Rattle.std.specs.Prelude.{◌≡◌, ℕ, ◌<◌, [], None, IfOk, IfErr, IsSome};
 ghost use Rattle.foyer_policy.specs.Dates.{on, StandsIn, first_by, with_last};
 ghost use Rattle.foyer_policy.specs.Lists.{drop_place, find_in};
 ghost use Rattle.foyer_policy.specs.declared.error.Reason.TheVariants.{NoMemory};
@@ -16,52 +16,60 @@ mod slots;
 
 pub(crate) use slots::Gone;
 
-/// How many dates are kept at most.
-const MOST: usize = u32::MAX as usize;
+/// How many dates of a list are kept at most. The numbers of places that have a date are below it.
+pub(crate) const MOST: usize = u32::MAX as usize;
 
-/// How many lists there are at most.
-pub(crate) const LISTS: u8 = 3;
-
-/// What the numbers of places are below that can have a date. So a place and a list fit into one word of four bytes.
-pub(crate) const PLACES: usize = 1 << 30;
+// How many slots more than are wanted there is room for at least.
+const FEW: usize = 32;
 
 /// Places of some lists with their dates, in the order of each list, so that the first with a date that is not behind a
 /// moment is found in steps that grow with the logarithm of their number. A date goes to the end of a list alone, as a
 /// value does, and the number of its slot is noted beside that. Only `new` and `reserve` take memory.
 ///
-/// The dates of all lists stand in slots, each behind those that came before it, and for each list a tree has the least
-/// date of every few slots. A date that goes leaves its slot empty; where the last slot is taken, the others close up.
+/// The dates of a list stand in slots, each behind those that came before it, and a tree has the least date of every few
+/// slots. A date that goes leaves its slot empty; where there are as many slots as may be, of all lists together, they
+/// close up.
 #[derive(Drop)]
 pub(crate) struct Dates {
-    slots: Slots,
+    // Of each list the slots.
+    rows: Vec<Slots>,
+    // How many slots there may be, of all lists together.
+    limit: usize,
+    // How many slots there are.
+    used: usize,
+    // How many slots are not empty.
+    taken: usize,
     // How many dates are in lists that are not kept.
     beside: usize,
     alloc: Global,
 }
 
 impl Model for Dates {
+    ghost use Rattle.std.specs.Prelude.{length};
     ghost use Rattle.foyer_policy.specs.Dates.{Dates as State};
 
     ghost Value = { State };
 
-    ghost use Rattle.foyer_policy.specs.DateSlots.{AreDates, dates_in};
-
-    ghost view = { λ d. dates_in d.slots };
-
-    ghost invariant = { λ d. AreDates d.slots };
+    ghost view = { λ d. record { dated = d.rows.items; lists = length d.rows.items } };
 }
 
 impl Dates {
     /// No dates, of so many lists, and with room for so many dates. Only memory can be missing (F7).
     pub(crate) fn new(alloc: Global, lists: u8, count: usize) -> Result<Self>
-        requires { lists ≤ 3 }
         ensures none { IfOk result (λ d. (k : ℕ) → k < lists → on d k ≡ []) }
         ensures lists { IfOk result (λ d. d.lists ≡ lists) }
         ensures refused { IfErr result (λ e. e ≡ NoMemory) }
     {
-        let slots = Slots::new(alloc, lists, count)?;
+        let mut rows = Vec::new(alloc);
+        for _list in 0..lists {
+            let row = Slots::new(alloc, count)?;
+            rows.push(row)?;
+        }
         Ok(Dates {
-            slots,
+            rows,
+            limit: count.min(MOST),
+            used: 0,
+            taken: 0,
             beside: 0,
             alloc,
         })
@@ -72,13 +80,14 @@ impl Dates {
     pub(crate) fn lists(&self) -> usize
         ensures { result ≡ self.now.lists }
     {
-        self.slots.lists()
+        self.rows.len()
     }
 
-    /// Whether there is room for one more date.
+    /// Whether more slots are left than are taken.
     #[inline(always)]
     pub(crate) fn has_room(&self) -> bool {
-        self.slots.has_room(self.beside)
+        let count = self.taken.saturating_add(self.beside);
+        count < self.limit.saturating_sub(count)
     }
 
     /// Makes room for one more date. Only memory can be missing (F7); nothing else changes.
@@ -91,7 +100,33 @@ impl Dates {
         ensures lists { lists.new ≡ lists.old }
         ensures refused { IfErr result (λ e. e ≡ NoMemory) }
     {
-        self.slots.grow(self.alloc, lists, self.beside)
+        if self.has_room() || self.limit >= MOST {
+            return Ok(());
+        }
+        let count = self.taken.saturating_add(self.beside);
+        let wanted = (count.saturating_mul(5) / 2).saturating_add(FEW).min(MOST);
+        let mut limit = MOST;
+        for list in 0..self.rows.len() {
+            let row = &mut self.rows[list];
+            row.grow(self.alloc, lists, wanted)?;
+            limit = limit.min(row.limit());
+        }
+        self.limit = limit;
+        self.used = self.taken;
+        Ok(())
+    }
+
+    // Drops the empty slots of all lists. It takes no memory.
+    #[cold]
+    #[inline(never)]
+    fn close_up<T: HasItem, const N: usize>(&mut self, lists: &mut Lists<T, N>)
+        ensures same { self.new ≡ self.old }
+        ensures lists { lists.new ≡ lists.old }
+    {
+        for list in 0..self.rows.len() {
+            self.rows[list].close_up(lists);
+        }
+        self.used = self.taken;
     }
 
     /// Puts a place with its date to the end of a list, and answers the number of its slot, or nothing where there is no
@@ -110,14 +145,17 @@ impl Dates {
         ensures count { self.new.lists ≡ self.old.lists }
         ensures lists { lists.new ≡ lists.old }
     {
-        if list >= self.slots.lists() {
+        if list >= self.rows.len() {
             self.beside = self.beside.saturating_add(1);
             return Some(0);
         }
-        if place.number() >= PLACES || !self.slots.has_slot(lists) {
-            return None;
+        if self.used >= self.limit {
+            self.close_up(lists);
         }
-        Some(self.slots.put(list, place, date))
+        let slot = self.rows[list].push(lists, place, date)?;
+        self.used = self.used.saturating_add(1);
+        self.taken = self.taken.saturating_add(1);
+        Some(slot)
     }
 
     /// Takes the date of a place of a list away, which must have one where the list is kept. It takes no memory.
@@ -126,11 +164,12 @@ impl Dates {
         ensures gone { (k : ℕ) → k < self.old.lists → on self.new k ≡ drop_place place (on self.old k) }
         ensures lists { self.new.lists ≡ self.old.lists }
     {
-        if list >= self.slots.lists() {
+        if list >= self.rows.len() {
             self.beside = self.beside.saturating_sub(1);
             return;
         }
-        self.slots.take_out(list, place, gone);
+        self.taken = self.taken.saturating_sub(1);
+        self.rows[list].take_out(place, gone);
     }
 
     /// The first place of a list whose date is not behind a moment.
@@ -138,6 +177,6 @@ impl Dates {
         requires { list < self.now.lists }
         ensures { result ≡ first_by now (on self.now list) }
     {
-        self.slots.first(list, now)
+        self.rows[list].first(now)
     }
 }

@@ -8,7 +8,7 @@ ghost use Rattle.foyer_policy.specs.declared.error.Reason.TheVariants.{NoMemory}
 
 use super::noting::note_slot;
 use super::tracking::Tracking;
-use crate::dates::{Dates, LISTS, PLACES};
+use crate::dates::{Dates, MOST};
 use crate::error::Result;
 use crate::lists::Lists;
 use crate::queued::HasItem;
@@ -82,8 +82,7 @@ pub(super) fn built<T: HasItem, const N: usize>(
     if count == 0 {
         return Ok(Tracking::Plain);
     }
-    let is_searched = searched <= LISTS && usize::from(searched) <= lists.count();
-    if !is_searched || lists.span() > PLACES {
+    if usize::from(searched) > lists.count() || lists.span() > MOST {
         return Ok(Tracking::Untracked);
     }
     // room for as many more, and one

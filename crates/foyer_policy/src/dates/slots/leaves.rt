@@ -1,71 +1,68 @@
-//! Leaves of trees over slots: of each list, for every few slots, a number that no date of it in these is below.
+//! Leaves of a tree over slots: for every few slots, a number that no date in these is below.
 
-ghost use Rattle.std.specs.Prelude.{◌≡◌, ◌≢◌, ℕ, ◌+◌, ◌/◌, ◌<◌, ◌≤◌, length, slice_get, slice_index};
+ghost use Rattle.std.specs.Prelude.{◌≡◌, ◌≢◌, ℕ, ◌+◌, ◌*◌, ◌/◌, ◌<◌, ◌≤◌, Some, length, slice_get, slice_index};
 ghost use Rattle.foyer_policy.specs.DateSlots.{AreAbove};
-ghost use Rattle.foyer_policy.specs.declared.dates.slots.Slot.{Slot};
 
 use super::row::Row;
 use super::{BLOCK, Gone};
 use crate::min_tree::MinTree;
 
-// The least date of a list in a block, or the greatest number where it has none there.
-fn least_date(row: &Row, block: usize, list: usize) -> u64
-    ensures { (j : ℕ) (s : Slot) → slice_get row.now.slots j ≡ Some s → s.list ≡ list → j / 32 ≡ block
-        → result ≤ s.date }
+// The least date in a block, or the greatest number where there is none.
+fn least_date(row: &Row, block: usize) -> u64
+    ensures { (j : ℕ) (e : ℕ × ℕ) → slice_get row.now.slots j ≡ Some (Some e) → j / 32 ≡ block → result ≤ e.1 }
 {
     let start = block.saturating_mul(BLOCK);
     let end = start.saturating_add(BLOCK).min(row.len());
     let mut least = u64::MAX;
     for index in start..end {
-        let slot = row.get(index);
-        if slot.list as usize == list && slot.date < least {
-            least = slot.date;
+        if let Some((_, date)) = row.get(index) {
+            least = least.min(date);
         }
     }
     least
 }
 
-// Sets the leaf of a block to the least date of the tree's list there.
-fn refresh(tree: &mut MinTree, row: &Row, block: usize, list: usize)
+// Sets the leaf of a block to the least date there.
+fn refresh(tree: &mut MinTree, row: &Row, block: usize)
     requires { block < length tree.old }
     ensures length { length tree.new ≡ length tree.old }
-    ensures here { (j : ℕ) (s : Slot) → slice_get row.now.slots j ≡ Some s → s.list ≡ list → j / 32 ≡ block
-        → slice_index tree.new block ≤ s.date }
+    ensures here { (j : ℕ) (e : ℕ × ℕ) → slice_get row.now.slots j ≡ Some (Some e) → j / 32 ≡ block
+        → slice_index tree.new block ≤ e.1 }
     ensures others { (b : ℕ) → b ≢ block → slice_index tree.new b ≡ slice_index tree.old b }
 {
-    tree.set(block, least_date(row, block, list));
+    tree.set(block, least_date(row, block));
 }
 
-// Sets the leaves of a tree for so many slots.
-pub(super) fn refresh_all(tree: &mut MinTree, row: &Row, limit: usize, list: usize)
-    requires leaves { limit / 32 < length tree.old }
-    requires within { length row.now.slots ≤ limit }
+// Sets so many leaves, the first ones, which must be those of all slots.
+pub(super) fn refresh_all(tree: &mut MinTree, row: &Row, count: usize)
+    requires leaves { count ≤ length tree.old }
+    requires within { length row.now.slots ≤ 32 * count }
     ensures length { length tree.new ≡ length tree.old }
-    ensures above { AreAbove list row.now.slots tree.new }
+    ensures above { AreAbove row.now.slots tree.new }
 {
-    for block in 0..limit / BLOCK + 1 {
-        refresh(tree, row, block, list);
+    for block in 0..count {
+        refresh(tree, row, block);
     }
 }
 
-// Sets the leaf of a block anew, where a date that went may have been the least. Where nothing of its list was before
-// that, the next to go is often beside it: then the block is marked, and its leaf set once another is.
-pub(super) fn raise(tree: &mut MinTree, row: &Row, block: usize, list: usize, gone: Gone)
+// Sets the leaf of a block anew, where a date that went may have been the least. Where its place was the first of its
+// list, the next to go is often beside it: then the block is marked, and its leaf set once another is.
+pub(super) fn raise(tree: &mut MinTree, row: &Row, block: usize, gone: Gone)
     requires leaf { block < length tree.old }
-    requires above { AreAbove list row.now.slots tree.old }
+    requires above { AreAbove row.now.slots tree.old }
     ensures length { length tree.new ≡ length tree.old }
-    ensures above { AreAbove list row.now.slots tree.new }
+    ensures above { AreAbove row.now.slots tree.new }
 {
     if gone.date > tree.get(block) {
         return;
     }
     if !gone.was_first {
-        refresh(tree, row, block, list);
+        refresh(tree, row, block);
         return;
     }
     let marked = tree.marked();
     if marked != block {
-        refresh(tree, row, marked, list);
+        refresh(tree, row, marked);
         tree.mark(block);
     }
 }

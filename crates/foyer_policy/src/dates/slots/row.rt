@@ -1,70 +1,22 @@
 //! A row of slots, in two columns.
 
-ghost use Rattle.std.specs.Prelude.{◌≡◌, ℕ, ◌+◌, ◌^◌, ◌<◌, ◌≤◌, ◌∷◌, ◌++◌, [], Some, OnOk, IfErr, IfOk, length, slice_get, slice_set, take};
-ghost use Rattle.foyer_policy.specs.Rows.{Fits, emptied};
+ghost use Rattle.std.specs.Prelude.{◌≡◌, ℕ, ◌+◌, ◌<◌, ◌≤◌, ◌∷◌, ◌++◌, [], Some, None, OnOk, IfErr, IfOk, IfSome, length, slice_get, slice_set, take};
 ghost use Rattle.foyer_policy.specs.declared.error.Reason.TheVariants.{NoMemory};
 
-use super::Slot;
 use crate::error::Result;
+use crate::lists::Place;
 use std::alloc::Global;
 use std::marker::Model;
 
-// What the numbers of places are below.
-const PLACES: u32 = 1 << 30;
+/// What the numbers of places in slots are below. An empty slot has this number.
+pub(super) const PLACES: u32 = u32::MAX;
 
-// The number of an empty slot's list.
-pub(super) const NO_LIST: u32 = 3;
-
-// The place and the list of a slot, in one word.
-#[derive(Clone, Copy)]
-struct Home {
-    word: u32,
-}
-
-impl Model for Home {
-    ghost use Rattle.foyer_policy.specs.Rows.{Home as State, home_of, with_home, with_home-home_of};
-
-    ghost Value = { State };
-
-    ghost view = { home_of };
-
-    ghost inverse = { with_home };
-
-    ghost inverse_ok = { λ i _. with_home-home_of i };
-}
-
-impl Home {
-    #[inline(always)]
-    fn of(place: u32, list: u32) -> Self
-        requires { (place < 2 ^ 30) × (list < 4) }
-        ensures { (result.place ≡ place) × (result.list ≡ list) }
-    {
-        Home {
-            word: list * PLACES + place,
-        }
-    }
-
-    #[inline(always)]
-    fn place(self) -> u32
-        ensures { (result ≡ self.place) × (result < 2 ^ 30) }
-    {
-        self.word % PLACES
-    }
-
-    #[inline(always)]
-    fn list(self) -> u32
-        ensures { (result ≡ self.list) × (result < 4) }
-    {
-        self.word / PLACES
-    }
-}
-
-/// Slots, one behind the other. Where they belong stands apart from their dates, so that to find and to empty one reads
-/// and writes one word of four bytes.
+/// Slots, one behind the other, each with a place and its date or empty. The places stand apart from the dates, so that to
+/// find and to empty a slot reads and writes one word of four bytes.
 #[derive(Drop)]
 pub(super) struct Row {
     dates: Vec<u64>,
-    homes: Vec<Home>,
+    places: Vec<u32>,
 }
 
 impl Model for Row {
@@ -75,11 +27,11 @@ impl Model for Row {
     ghost Value = { State };
 
     ghost view = { λ r. record {
-      slots = slots_of r.dates.items r.homes.items;
-      capacity = min (vec_capacity r.dates) (vec_capacity r.homes);
+      slots = slots_of r.dates.items r.places.items;
+      capacity = min (vec_capacity r.dates) (vec_capacity r.places);
     } };
 
-    ghost invariant = { λ r. length r.homes.items ≡ length r.dates.items };
+    ghost invariant = { λ r. length r.places.items ≡ length r.dates.items };
 }
 
 impl Row {
@@ -90,8 +42,8 @@ impl Row {
         ensures refused { IfErr result (λ e. e ≡ NoMemory) }
     {
         let dates = Vec::with_capacity(alloc, count)?;
-        let homes = Vec::with_capacity(alloc, count)?;
-        Ok(Row { dates, homes })
+        let places = Vec::with_capacity(alloc, count)?;
+        Ok(Row { dates, places })
     }
 
     /// Makes room for so many slots more. Only memory can be missing (F7); the slots are as they were.
@@ -102,7 +54,7 @@ impl Row {
         ensures refused { IfErr result (λ e. e ≡ NoMemory) }
     {
         self.dates.reserve(more)?;
-        self.homes.reserve(more)?;
+        self.places.reserve(more)?;
         Ok(())
     }
 
@@ -111,7 +63,7 @@ impl Row {
     pub(super) fn capacity(&self) -> usize
         ensures { result ≡ self.now.capacity }
     {
-        self.dates.capacity().min(self.homes.capacity())
+        self.dates.capacity().min(self.places.capacity())
     }
 
     /// How many slots there are.
@@ -122,54 +74,52 @@ impl Row {
         self.dates.len()
     }
 
-    /// The slot at an index below their number.
+    /// The place and the date of the slot at an index below their number, or none where it is empty.
     #[inline(always)]
-    pub(super) fn get(&self, index: usize) -> Slot
+    pub(super) fn get(&self, index: usize) -> Option<(Place, u64)>
         requires { index < length self.now.slots }
         ensures is { slice_get self.now.slots index ≡ Some result }
-        ensures fits { Fits result }
+        ensures fits { IfSome result (λ e. e.0 < 4294967295) }
     {
-        let home = self.homes[index];
-        Slot {
-            date: self.dates[index],
-            place: home.place(),
-            list: home.list(),
+        let place = self.places[index];
+        if place == PLACES {
+            return None;
         }
+        Some((Place::at(place as usize), self.dates[index]))
     }
 
     /// Writes the slot at an index below their number.
     #[inline(always)]
-    pub(super) fn set(&mut self, index: usize, slot: Slot)
+    pub(super) fn set(&mut self, index: usize, place: Place, date: u64)
         requires within { index < length self.old.slots }
-        requires fits { Fits slot }
-        ensures slots { self.new.slots ≡ slice_set self.old.slots index slot }
+        requires fits { place < 4294967295 }
+        ensures slots { self.new.slots ≡ slice_set self.old.slots index (Some (place, date)) }
         ensures capacity { self.new.capacity ≡ self.old.capacity }
     {
-        self.dates[index] = slot.date;
-        self.homes[index] = Home::of(slot.place, slot.list);
+        self.dates[index] = date;
+        self.places[index] = place.number() as u32;
     }
 
     /// Empties the slot at an index below their number.
     #[inline(always)]
     pub(super) fn empty(&mut self, index: usize)
         requires { index < length self.old.slots }
-        ensures slots { (s : Slot) → slice_get self.old.slots index ≡ Some s
-            → self.new.slots ≡ slice_set self.old.slots index (emptied s) }
+        ensures slots { self.new.slots ≡ slice_set self.old.slots index None }
         ensures capacity { self.new.capacity ≡ self.old.capacity }
     {
-        self.homes[index] = Home::of(0, NO_LIST);
+        self.places[index] = PLACES;
     }
 
     /// Puts a slot behind the others, for which there must be room.
     #[inline(always)]
-    pub(super) fn push_reserved(&mut self, slot: Slot)
+    pub(super) fn push_reserved(&mut self, place: Place, date: u64)
         requires room { length self.old.slots < self.old.capacity }
-        requires fits { Fits slot }
-        ensures slots { self.new.slots ≡ self.old.slots ++ slot ∷ [] }
+        requires fits { place < 4294967295 }
+        ensures slots { self.new.slots ≡ self.old.slots ++ Some (place, date) ∷ [] }
         ensures capacity { self.new.capacity ≡ self.old.capacity }
     {
-        self.dates.push_reserved(slot.date);
-        self.homes.push_reserved(Home::of(slot.place, slot.list));
+        self.dates.push_reserved(date);
+        self.places.push_reserved(place.number() as u32);
     }
 
     /// Drops all slots but so many, the first ones.
@@ -178,6 +128,6 @@ impl Row {
         ensures capacity { self.new.capacity ≡ self.old.capacity }
     {
         self.dates.truncate(count);
-        self.homes.truncate(count);
+        self.places.truncate(count);
     }
 }

@@ -1,9 +1,0 @@
-use Rattle.std.proofs.Common.{◌≡◌, ◌≤◌, ◌<◌, ℕ, Some}
-use Rattle.std.specs.Prelude.{slice_get}
-use Rattle.foyer_policy.specs.declared.dates.slots.Slot.{Slot}
-use Rattle.foyer_policy.proofs.dates.slots.leaves.least_date.Given as goal
-
--- no date so far is less
-abbrev pub invariant-loop-index : goal.invariant-loop-index
-invariant-loop-index l =
-    (j : ℕ) (s : Slot) → slice_get l.row.slots j ≡ Some s → s.list ≡ l.list → l.start ≤ j → j < l.index → l.least ≤ s.date
