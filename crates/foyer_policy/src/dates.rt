@@ -152,7 +152,7 @@ impl Dates {
         if self.used >= self.limit {
             self.close_up(lists);
         }
-        let slot = self.rows[list].push(lists, place, date)?;
+        let slot = self.rows[list].push(place, date)?;
         self.used = self.used.saturating_add(1);
         self.taken = self.taken.saturating_add(1);
         Some(slot)

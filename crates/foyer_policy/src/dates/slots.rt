@@ -193,26 +193,14 @@ impl Slots {
     }
 
     /// Puts a place that has no slot with its date behind the others, and answers the number of its slot, or nothing where
-    /// there is no room. It takes no memory.
+    /// no slot is left. It takes no memory.
     #[inline(always)]
-    pub(super) fn push<T: HasItem, const N: usize>(
-        &mut self,
-        lists: &mut Lists<T, N>,
-        place: Place,
-        date: u64,
-    ) -> Option<usize>
+    pub(super) fn push(&mut self, place: Place, date: u64) -> Option<usize>
         requires { find_in place self.old ≡ None }
-        ensures pushed { IsSome result → self.new ≡ self.old ++ (place, date) ∷ [] }
-        ensures lists { lists.new ≡ lists.old }
+        ensures { IsSome result → self.new ≡ self.old ++ (place, date) ∷ [] }
     {
-        if place.number() >= PLACES as usize {
-            return None;
-        }
-        if self.row.len() >= self.limit {
-            self.close_up(lists);
-        }
         let index = self.row.len();
-        if index >= self.limit {
+        if index >= self.limit || place.number() >= PLACES as usize {
             return None;
         }
         self.row.push_reserved(place, date);

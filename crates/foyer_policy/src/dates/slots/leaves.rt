@@ -16,7 +16,9 @@ fn least_date(row: &Row, block: usize) -> u64
     let mut least = u64::MAX;
     for index in start..end {
         if let Some((_, date)) = row.get(index) {
-            least = least.min(date);
+            if date < least {
+                least = date;
+            }
         }
     }
     least

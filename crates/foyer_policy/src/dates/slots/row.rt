@@ -81,11 +81,12 @@ impl Row {
         ensures is { slice_get self.now.slots index ≡ Some result }
         ensures fits { IfSome result (λ e. e.0 < 4294967295) }
     {
+        let date = self.dates[index];
         let place = self.places[index];
         if place == PLACES {
             return None;
         }
-        Some((Place::at(place as usize), self.dates[index]))
+        Some((Place::at(place as usize), date))
     }
 
     /// Writes the slot at an index below their number.
