@@ -1,0 +1,8 @@
+use Rattle.std.proofs.Common.{◌≡◌, ◌≤◌, ◌<◌, ℕ, Some}
+use Rattle.std.specs.Prelude.{slice_get}
+use Rattle.foyer_policy.proofs.dates.slots.leaves.least_date.Given as goal
+
+-- no date so far is less
+abbrev pub invariant-loop-index : goal.invariant-loop-index
+invariant-loop-index l =
+    (j : ℕ) (e : ℕ × ℕ) → slice_get l.row.slots j ≡ Some (Some e) → l.start ≤ j → j < l.index → l.least ≤ e.1
