@@ -23,7 +23,7 @@ use tracking::Tracking;
 /// steps that grow with the logarithm of how many items expire, and at once where none does.
 ///
 /// The dates are kept from the first call of `reserve` or `reserve_to` on that meets an item that expires. Until then,
-/// while memory for them is missing, and beyond 2^30 nodes, a search walks along the list. A value that is in keeps
+/// while memory for them is missing, and beyond 2^32 - 1 nodes, a search walks along the list. A value that is in keeps
 /// its item.
 #[derive(Drop)]
 pub(crate) struct DatedLists<T: HasItem, const N: usize> {

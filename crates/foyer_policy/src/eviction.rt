@@ -254,7 +254,7 @@ pub trait Eviction: Drop {
     /// and not pinned, or none where none is. It takes no memory. The policies of this crate find it in steps that grow
     /// with the logarithm of how many items expire, and at once where none does. They walk along their order where
     /// `reserve` made no room for that: before its first call that meets such an item, while memory is refused to it, and
-    /// for places from 2^30 on.
+    /// for places from 2^32 - 1 on.
     fn expired(&self, now: u64) -> Option<Place>
         ensures there { IfSome result (λ p. IsSome (at self.now p)) }
         ensures first { option_and_then (λ p. at self.now p) result ≡ first_due (is_due now) model (view self.now) };

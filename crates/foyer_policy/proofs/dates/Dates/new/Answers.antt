@@ -1,21 +1,17 @@
-use Rattle.std.proofs.Common.{rules, ◌≡◌, ℕ, ◌<◌, [], None, IfOk, IfErr, IsSome, ◌+◌, ◌-◌, ◌*◌, ◌≤◌, length, ◌/◌, ◌%◌, Bool, true, false, nat_eq, nat_lt, List, ◌∷◌, ◌++◌, slice_index_or, slice_set, bit_and, bit_or, Fits, w8, w32, w64, Bor, MutBor}
-use Rattle.foyer_policy.specs.Dates.{on, StandsIn, first_by, with_last}
-use Rattle.foyer_policy.specs.Lists.{drop_place, find_in}
-use Rattle.foyer_policy.specs.declared.error.Reason.TheVariants.{NoMemory}
+use Rattle.std.proofs.Common.{◌∙◌, [], ap, arith, length}
+use Rattle.std.proofs.lemmas.List.{get_or-replicate, length-replicate, replicate-append-replicate}
 use Rattle.foyer_policy.proofs.dates.Dates.new.Goals as goal
 
--- src/dates.rt:64:9
 pub loop-list-init : goal.loop-list-init
-loop-list-init c = ?
+loop-list-init c = c.new-rows.ensures.items
 
--- src/dates.rt:64:9
 pub loop-list-preserved : goal.loop-list-preserved
-loop-list-preserved c = ?
+loop-list-preserved c =
+    c.in_ok-push.ensures.items
+    ∙ (rw (c.loop-list.invariant, c.in_ok-row.ensures.none) (replicate-append-replicate c.loop-list._list 1 []))
 
--- src/dates.rt:58:5
 pub returns-clause-none : goal.returns-clause-none
-returns-clause-none c = ?
+returns-clause-none c = λ k less. rw c.loop-list.invariant (get_or-replicate c.loop-list._list k [] [] (omega (arith, less, c.loop-list-test.false)))
 
--- src/dates.rt:58:5
 pub returns-clause-lists : goal.returns-clause-lists
-returns-clause-lists c = ?
+returns-clause-lists c = ap length c.loop-list.invariant ∙ length-replicate c.loop-list._list [] ∙ omega (arith, c.loop-list-test.false, c.loop-list.auto._list-end)

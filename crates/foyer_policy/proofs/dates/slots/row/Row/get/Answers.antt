@@ -23,8 +23,8 @@ returns-then-place-clause-is c =
     rw (← c.self.view_is)
     (slots_of-get_empty v.dates.items v.places.items c.args.index p c.self.invariant place empty)
 
-pub index-requires : goal.index-requires
-index-requires c =
+pub index-date-requires : goal.index-date-requires
+index-date-requires c =
     let v = c.self.inside in
     let within = rw (← c.self.view_is) at c.requires in
     omega (arith, within, slots_of-length v.dates.items v.places.items c.self.invariant, v.dates.ok.0)
@@ -35,10 +35,10 @@ returns-clause-is c =
     let within = rw (← c.self.view_is) at c.requires in
     let count = slots_of-length v.dates.items v.places.items c.self.invariant in
     let below : c.args.index < length v.dates.items = omega (arith, within, count) in
-    let date = slice_get_read v.dates.items _ c.args.index c.index.result.now refl below c.index.ensures in
+    let date = slice_get_read v.dates.items _ c.args.index c.index-date.result.now refl below c.index-date.ensures in
     let place = slice_get_read v.places.items _ c.args.index c.index-place.result.now (sym c.self.invariant) below
     c.index-place.ensures in
     rw (← c.self.view_is, c.at.ensures)
-    (slots_of-get v.dates.items v.places.items c.args.index c.index.result.now c.index-place.result.now date place
-    ∙ ap Some (slot_of-full c.index.result.now c.index-place.result.now
+    (slots_of-get v.dates.items v.places.items c.args.index c.index-date.result.now c.index-place.result.now date place
+    ∙ ap Some (slot_of-full c.index-date.result.now c.index-place.result.now
     (other_place c.index-place.result.now 4294967295 c.if-place.false)))
