@@ -15,11 +15,11 @@ fn least_date(row: &Row, block: usize) -> u64
     let end = start.saturating_add(BLOCK).min(row.len());
     let mut least = u64::MAX;
     for index in start..end {
-        if let Some((_, date)) = row.get(index) {
-            if date < least {
-                least = date;
-            }
-        }
+        let date = match row.get(index) {
+            Some((_, date)) => date,
+            None => u64::MAX,
+        };
+        least = least.min(date);
     }
     least
 }
