@@ -104,7 +104,7 @@ impl Dates {
             return Ok(());
         }
         let count = self.taken.saturating_add(self.beside);
-        let wanted = (count.saturating_mul(5) / 2).saturating_add(FEW).min(MOST);
+        let wanted = count.saturating_mul(4).saturating_add(FEW).min(MOST);
         let mut limit = MOST;
         for list in 0..self.rows.len() {
             let row = &mut self.rows[list];

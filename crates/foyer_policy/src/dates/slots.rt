@@ -175,12 +175,15 @@ impl Slots {
         ensures lists { lists.new ≡ lists.old }
         ensures refused { IfErr result (λ e. e ≡ NoMemory) }
     {
-        self.row.reserve(wanted.saturating_sub(self.row.len()))?;
-        let limit = self.row.capacity().min(MOST);
-        let tree = MinTree::new(alloc, limit / BLOCK + 1)?;
+        self.close_up(lists);
+        // Only what is taken is written to the new row.
+        let row = self.row.with_room(alloc, wanted)?;
+        let limit = row.capacity().min(MOST);
+        let mut tree = MinTree::new(alloc, limit / BLOCK + 1)?;
+        refresh_all(&mut tree, &row, row.len() / BLOCK + 1);
+        self.row = row;
         self.limit = limit;
         self.tree = tree;
-        close_up(&mut self.row, limit, &mut self.tree, lists);
         Ok(())
     }
 

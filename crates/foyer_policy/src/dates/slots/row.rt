@@ -1,6 +1,6 @@
 //! A row of slots, in two columns.
 
-ghost use Rattle.std.specs.Prelude.{◌≡◌, ℕ, ◌+◌, ◌<◌, ◌≤◌, ◌∷◌, ◌++◌, [], Some, None, OnOk, IfErr, IfOk, IfSome, length, slice_get, slice_set, take};
+ghost use Rattle.std.specs.Prelude.{◌≡◌, ℕ, ◌<◌, ◌≤◌, ◌∷◌, ◌++◌, [], Some, None, IfErr, IfOk, IfSome, length, slice_get, slice_set, take};
 ghost use Rattle.foyer_policy.specs.declared.error.Reason.TheVariants.{NoMemory};
 
 use crate::error::Result;
@@ -46,16 +46,18 @@ impl Row {
         Ok(Row { dates, places })
     }
 
-    /// Makes room for so many slots more. Only memory can be missing (F7); the slots are as they were.
-    pub(super) fn reserve(&mut self, more: usize) -> Result<()>
-        ensures slots { self.new.slots ≡ self.old.slots }
-        ensures room { OnOk result (length self.new.slots + more ≤ self.new.capacity) }
-        ensures kept { self.old.capacity ≤ self.new.capacity }
+    /// The same slots, with room for so many. Only memory can be missing (F7).
+    pub(super) fn with_room(&self, alloc: Global, count: usize) -> Result<Self>
+        ensures slots { IfOk result (λ r. r.slots ≡ self.now.slots) }
+        ensures capacity { IfOk result (λ r. count ≤ r.capacity) }
+        ensures within { IfOk result (λ r. length r.slots ≤ r.capacity) }
         ensures refused { IfErr result (λ e. e ≡ NoMemory) }
     {
-        self.dates.reserve(more)?;
-        self.places.reserve(more)?;
-        Ok(())
+        let mut dates = Vec::with_capacity(alloc, count)?;
+        let mut places = Vec::with_capacity(alloc, count)?;
+        dates.extend_from_slice(&self.dates)?;
+        places.extend_from_slice(&self.places)?;
+        Ok(Row { dates, places })
     }
 
     /// How many slots there may be.
