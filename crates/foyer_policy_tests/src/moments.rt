@@ -183,3 +183,26 @@ fn what_expires_is_used_and_leaves_without_a_walk(rt: HostRuntime) -> Result<(),
     }
     Ok(())
 }
+
+// No insert makes room for what is kept of the items while these are used.
+#[test]
+fn what_is_expired_is_found_after_many_uses(rt: HostRuntime) -> Result<(), Fail> {
+    for config in &defaults() {
+        let mut policy = AnyEviction::new(rt.alloc(), 16_000, config)?;
+        let mut places = Vec::new(rt.alloc());
+        for id in 0..8_000u64 {
+            let expires = if id < 7_999 { 100 } else { 5 };
+            places.push(push(&mut policy, expiring(id, Some(expires)))?)?;
+        }
+        for _turn in 0..10 {
+            for place in places.iter() {
+                policy.acquire(*place);
+                policy.release(*place);
+            }
+        }
+        for _look in 0..100_000 {
+            assert_eq!(rt; policy.expired(5), places.last().copied());
+        }
+    }
+    Ok(())
+}
