@@ -41,13 +41,11 @@ module _ (limit : ℕ) (row : Row) (tree : List ℕ) (h : AreDates limit row tre
       ≡ row.capacity → length new ≡ length tree → slice_index new (length row.slots / 32) ≤ e.1 →
       ((b : ℕ) → slice_index new b ≤ slice_index tree b) → AreDates limit w new
   AreDates-pushed room w new slots capacity long here less = record {
-    placed = record {
-      room = omega (arith, capacity, h.placed.room);
-      few = h.placed.few;
-      within = rw slots (omega (arith, length_push row.slots (Some e), room));
-      apart = rw slots (λ i j c d is at. apart i j c d (slots_are i c is) (slots_are j d at));
-      leaves = omega (arith, long, h.placed.leaves);
-    };
+    room = omega (arith, capacity, h.room);
+    few = h.few;
+    within = rw slots (omega (arith, length_push row.slots (Some e), room));
+    apart = rw slots (λ i j c d is at. apart i j c d (slots_are i c is) (slots_are j d at));
+    leaves = omega (arith, long, h.leaves);
     above = rw slots (λ j d is. above j d (slots_are j d is));
   } where
     -- no slot had the place
@@ -58,7 +56,7 @@ module _ (limit : ℕ) (row : Row) (tree : List ℕ) (h : AreDates limit row tre
     apart i j c d (inl a) (inl b) same = a.0 ∙ sym b.0
     apart i j c d (inl a) (inr b) same = absurd (other j d b (sym same ∙ ap (λ (w : ℕ × ℕ). w.0) (sym a.1)))
     apart i j c d (inr a) (inl b) same = absurd (other i c a (same ∙ ap (λ (w : ℕ × ℕ). w.0) (sym b.1)))
-    apart i j c d (inr a) (inr b) same = h.placed.apart i j c d a b same
+    apart i j c d (inr a) (inr b) same = h.apart i j c d a b same
 
     above : (j : ℕ) (d : ℕ × ℕ) → Last j d ⊎ Stood j d → slice_index new (j / 32) ≤ d.1
     above j d (inl w) = rw (← w.1, w.0) here

@@ -27,15 +27,11 @@ AreAbove slots tree =
 abbrev pub AreEmptyFrom : ℕ → List (Option (ℕ × ℕ)) → Type 0
 AreEmptyFrom from slots = (j : ℕ) (e : ℕ × ℕ) → slice_get slots j ≡ Some (Some e) → j < from
 
--- what is true of slots, whatever the leaves are
-pub record ArePlaced (limit : ℕ) (row : Row) (tree : List ℕ) : Type 0 where
+-- what is true of slots
+pub record AreDates (limit : ℕ) (row : Row) (tree : List ℕ) : Type 0 where
   pub room : limit ≤ row.capacity
   pub few : limit < 2 ^ 32
   pub within : length row.slots ≤ limit
   pub apart : AreApart row.slots
   pub leaves : limit / 32 < length tree
-
--- what is true of slots
-pub record AreDates (limit : ℕ) (row : Row) (tree : List ℕ) : Type 0 where
-  pub placed : ArePlaced limit row tree
   pub above : AreAbove row.slots tree

@@ -2,7 +2,7 @@
 
 ghost use Rattle.std.specs.Prelude.{◌≡◌, ℕ, ◌<◌, ◌≤◌, ◌∷◌, ◌++◌, [], None, Some, IfErr, IfNone, IfOk, IfSome, IsSome, drop, length, slice_get};
 ghost use Rattle.foyer_policy.specs.Dates.{first_by};
-ghost use Rattle.foyer_policy.specs.DateSlots.{on_of, AreApart, AreDates, AreEmptyFrom, ArePlaced, IsAt};
+ghost use Rattle.foyer_policy.specs.DateSlots.{on_of, AreApart, AreEmptyFrom, IsAt};
 ghost use Rattle.foyer_policy.specs.Lists.{drop_place, find_in};
 ghost use Rattle.foyer_policy.specs.declared.error.Reason.TheVariants.{NoMemory};
 
@@ -77,24 +77,6 @@ fn gather<T: HasItem, const N: usize>(row: &mut Row, lists: &mut Lists<T, N>) ->
         }
     }
     to
-}
-
-// Drops the empty slots of a row, and sets the leaves of its tree.
-fn close_up<T: HasItem, const N: usize>(
-    row: &mut Row,
-    limit: usize,
-    tree: &mut MinTree,
-    lists: &mut Lists<T, N>,
-)
-    requires { ArePlaced limit row.old tree.old }
-    ensures dates { AreDates limit row.new tree.new }
-    ensures same { on_of row.new.slots ≡ on_of row.old.slots }
-    ensures lists { lists.new ≡ lists.old }
-{
-    let blocks = row.len() / BLOCK + 1;
-    let taken = gather(row, lists);
-    row.truncate(taken);
-    refresh_all(tree, row, blocks);
 }
 
 // The place of the first slot from one on and before another whose date is not behind a moment.
@@ -192,7 +174,10 @@ impl Slots {
         ensures same { self.new ≡ self.old }
         ensures lists { lists.new ≡ lists.old }
     {
-        close_up(&mut self.row, self.limit, &mut self.tree, lists);
+        let blocks = self.row.len() / BLOCK + 1;
+        let taken = gather(&mut self.row, lists);
+        self.row.truncate(taken);
+        refresh_all(&mut self.tree, &self.row, blocks);
     }
 
     /// Puts a place that has no slot with its date behind the others, and answers the number of its slot, or nothing where

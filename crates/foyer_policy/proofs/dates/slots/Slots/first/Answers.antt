@@ -11,7 +11,7 @@ returns-in_err-block c =
     rw (← c.self.view_is)
     (c.from_residual.ensures
     ∙ sym (first_by-none c.args.now s.row.slots
-    (late_slots c.args.now s.limit s.row.slots s.tree d.above d.placed.leaves d.placed.within c.in_err-block.ensures.none)))
+    (late_slots c.args.now s.limit s.row.slots s.tree d.above d.leaves d.within c.in_err-block.ensures.none)))
 
 pub returns-then-is_some : goal.returns-then-is_some
 returns-then-is_some c =
@@ -23,7 +23,7 @@ returns-then-is_some c =
     (found_is c.first_between-found.result _ c.first_between-found.ensures.some
     (sym c.is_some.ensures ∙ c.if-is_some.true)
     ∙ sym (first_by-drop c.args.now start s.row.slots
-    (late_before c.args.now s.limit s.row.slots s.tree d.above d.placed.leaves d.placed.within c.in_ok-block.block start low
+    (late_before c.args.now s.limit s.row.slots s.tree d.above d.leaves d.within c.in_ok-block.block start low
     c.in_ok-block.ensures.first)))
 
 pub returns-in_err-block-2 : goal.returns-in_err-block-2
@@ -32,7 +32,7 @@ returns-in_err-block-2 c =
     let d = c.self.invariant in
     let none = none_is c.first_between-found.result c.first_between-found.ensures.none
     (sym c.is_some.ensures ∙ c.if-is_some.false) in
-    let late = late_around c.args.now s.limit s.row.slots s.tree d.above d.placed.leaves d.placed.within
+    let late = late_around c.args.now s.limit s.row.slots s.tree d.above d.leaves d.within
     c.in_ok-block.block (length s.tree) c.in_ok-block.ensures.first
     (λ j e is at. none j e is (omega (arith, at, c.saturating_mul-start.ensures))
     (omega (
@@ -41,14 +41,14 @@ returns-in_err-block-2 c =
       c.saturating_mul-start.ensures,
       c.saturating_add-end.ensures,
       slice_get_within s.row.slots j (Some e) is,
-      d.placed.within,
-      d.placed.few,
+      d.within,
+      d.few,
     )))
     c.in_err-block-2.ensures.none in
     rw (← c.self.view_is)
     (c.from_residual-in_err-block-2.ensures
     ∙ sym (first_by-none c.args.now s.row.slots (λ j e is. late j e is
-    (omega (arith, d.placed.leaves, d.placed.within, slice_get_within s.row.slots j (Some e) is)))))
+    (omega (arith, d.leaves, d.within, slice_get_within s.row.slots j (Some e) is)))))
 
 pub returns : goal.returns
 returns c =
@@ -56,7 +56,7 @@ returns c =
     let d = c.self.invariant in
     let none = none_is c.first_between-found.result c.first_between-found.ensures.none
     (sym c.is_some.ensures ∙ c.if-is_some.false) in
-    let late = late_around c.args.now s.limit s.row.slots s.tree d.above d.placed.leaves d.placed.within
+    let late = late_around c.args.now s.limit s.row.slots s.tree d.above d.leaves d.within
     c.in_ok-block.block c.in_ok-block-2.block c.in_ok-block.ensures.first
     (λ j e is at. none j e is (omega (arith, at, c.saturating_mul-start.ensures))
     (omega (
@@ -65,8 +65,8 @@ returns c =
       c.saturating_mul-start.ensures,
       c.saturating_add-end.ensures,
       slice_get_within s.row.slots j (Some e) is,
-      d.placed.within,
-      d.placed.few,
+      d.within,
+      d.few,
     )))
     c.in_ok-block-2.ensures.first in
     let start = c.saturating_mul-start-2.result in

@@ -8,5 +8,5 @@ pub returns : goal.returns
 returns c =
     let s = c.self.inside in
     ap on_of c.empty.ensures.slots
-    ∙ entry_gone s.row.slots c.self.invariant.placed.apart c.args.place c.find-index.result c.find-index.ensures
+    ∙ entry_gone s.row.slots c.self.invariant.apart c.args.place c.find-index.result c.find-index.ensures
     ∙ ap (drop_place c.args.place) c.self.view_is
