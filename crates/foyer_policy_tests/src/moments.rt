@@ -194,13 +194,13 @@ fn what_is_expired_is_found_after_many_uses(rt: HostRuntime) -> Result<(), Fail>
             let expires = if id < 7_999 { 100 } else { 5 };
             places.push(push(&mut policy, expiring(id, Some(expires)))?)?;
         }
-        for _turn in 0..10 {
+        for _turn in 0..3 {
             for place in places.iter() {
                 policy.acquire(*place);
                 policy.release(*place);
             }
         }
-        for _look in 0..100_000 {
+        for _look in 0..50_000 {
             assert_eq!(rt; policy.expired(5), places.last().copied());
         }
     }
