@@ -1,6 +1,6 @@
 //! When items of lists expire, in the order of the lists.
 
-ghost use Rattle.std.specs.Prelude.{◌≡◌, ℕ, ◌<◌, [], None, IfOk, IfErr, IsSome};
+ghost use Rattle.std.specs.Prelude.{◌≡◌, ℕ, ◌<◌, [], None, IfOk, IfErr, IsSome, IsTrue};
 ghost use Rattle.foyer_policy.specs.Dates.{on, StandsIn, first_by, with_last};
 ghost use Rattle.foyer_policy.specs.Lists.{drop_place, find_in};
 ghost use Rattle.foyer_policy.specs.declared.error.Reason.TheVariants.{NoMemory};
@@ -159,6 +159,7 @@ impl Dates {
     }
 
     /// Takes the date of a place of a list away, which must have one where the list is kept. It takes no memory.
+    #[inline(always)]
     pub(crate) fn remove(&mut self, list: usize, place: Place, gone: Gone)
         requires { StandsIn list place self.old }
         ensures gone { (k : ℕ) → k < self.old.lists → on self.new k ≡ drop_place place (on self.old k) }
@@ -170,6 +171,15 @@ impl Dates {
         }
         self.taken = self.taken.saturating_sub(1);
         self.rows[list].take_out(place, gone);
+    }
+
+    /// Whether it's known, without a look at them, that all dates of a list are behind a moment.
+    #[inline(always)]
+    pub(crate) fn are_behind(&self, list: usize, now: u64) -> bool
+        requires { list < self.now.lists }
+        ensures { IsTrue result → first_by now (on self.now list) ≡ None }
+    {
+        self.rows[list].are_behind(now)
     }
 
     /// The first place of a list whose date is not behind a moment.

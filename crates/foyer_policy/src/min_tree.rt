@@ -122,6 +122,14 @@ impl MinTree {
         }
     }
 
+    /// The least number.
+    #[inline(always)]
+    pub(crate) fn least(&self) -> u64
+        ensures { (i : ℕ) → i < length self.now → result ≤ slice_index self.now i }
+    {
+        self.nodes[1]
+    }
+
     /// The index of the first number that is at most a limit, or `None` where none is.
     pub(crate) fn first(&self, limit: u64) -> Option<usize>
         ensures within { IfSome result (λ i. (i < length self.now) × (slice_index self.now i ≤ limit)) }

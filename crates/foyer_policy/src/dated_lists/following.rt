@@ -2,17 +2,38 @@
 
 ghost use Rattle.std.specs.Prelude.{◌≡◌, ◌<◌, ◌∷◌, ◌++◌, [], None, IfErr, IsSome, map, slice_set};
 ghost use Rattle.foyer_policy.specs.DatedLists.{Knows, dates_at};
-ghost use Rattle.foyer_policy.specs.Lists.{drop_place, find, list_at, moved, rest};
+ghost use Rattle.foyer_policy.specs.Dates.{with_last};
+ghost use Rattle.foyer_policy.specs.Lists.{drop_place, find, find_in, list_at, moved, rest};
 ghost use Rattle.foyer_policy.specs.declared.error.Reason.TheVariants.{NoMemory};
 
 use super::building::built;
-use super::noting::note_slot;
+use super::noting::note_slot_at;
 use super::tracking::Tracking;
 use crate::dates::Gone;
 use crate::error::Result;
 use crate::lists::{Lists, Place};
 use crate::queued::HasItem;
 use std::alloc::Global;
+
+// Puts the date of an item that comes to the end of a list behind the others there, and answers what is to be noted
+// beside the item.
+#[cold]
+#[inline(never)]
+fn push_date<T: HasItem, const N: usize>(
+    dates: &mut Tracking,
+    lists: &mut Lists<T, N>,
+    list: usize,
+    place: Place,
+    date: u64,
+) -> usize
+    requires known { Knows N (dates_at T.item_of lists.old.lists) dates.old }
+    requires list { list < N }
+    requires free { find place lists.old.lists ≡ None }
+    ensures known { Knows N (with_last list place date (dates_at T.item_of lists.old.lists)) dates.new }
+    ensures lists { lists.new ≡ lists.old }
+{
+    dates.push(lists, list, place, date)
+}
 
 /// Follows a value that comes to the end of a list.
 #[inline(always)]
@@ -34,9 +55,25 @@ pub(super) fn follow_push<T: HasItem, const N: usize>(
     // There are `N` lists.
     let _ = lists.count();
     if let Some(date) = value.item().expires {
-        let slot = dates.push(lists, list, place, date);
+        let slot = push_date(dates, lists, list, place, date);
         value.set_slot(slot);
     }
+}
+
+// The list of the value at a place, and what is known of its date, which goes.
+#[inline(always)]
+fn going<T: HasItem, const N: usize>(lists: &Lists<T, N>, place: Place, date: u64) -> (usize, Gone)
+    requires { IsSome (find place lists.now.lists) }
+    ensures within { result.0 < N }
+    ensures stands { find_in place (list_at lists.now.lists result.0) ≡ find place lists.now.lists }
+{
+    let list = lists.list_of(place);
+    let gone = Gone {
+        date,
+        slot: lists.get(place).slot(),
+        was_first: lists.front(list) == Some(place),
+    };
+    (list, gone)
 }
 
 // Takes the date of the item at a place away, where it has one.
@@ -47,14 +84,8 @@ fn remove_date<T: HasItem, const N: usize>(dates: &mut Tracking, lists: &Lists<T
     requires there { IsSome (find place lists.now.lists) }
     ensures { Knows N (dates_at T.item_of (map (drop_place place) lists.now.lists)) dates.new }
 {
-    let value = lists.get(place);
-    if let Some(date) = value.item().expires {
-        let list = lists.list_of(place);
-        let gone = Gone {
-            date,
-            slot: value.slot(),
-            was_first: lists.front(list) == Some(place),
-        };
+    if let Some(date) = lists.get(place).item().expires {
+        let (list, gone) = going(lists, place, date);
         dates.remove(list, place, gone);
     }
 }
@@ -125,17 +156,11 @@ fn move_date<T: HasItem, const N: usize>(
     ensures known { Knows N (dates_at T.item_of (moved place list lists.old.lists)) dates.new }
     ensures lists { lists.new ≡ lists.old }
 {
-    let value = lists.get(place);
-    if let Some(date) = value.item().expires {
-        let from = lists.list_of(place);
-        let gone = Gone {
-            date,
-            slot: value.slot(),
-            was_first: lists.front(from) == Some(place),
-        };
+    if let Some(date) = lists.get(place).item().expires {
+        let (from, gone) = going(lists, place, date);
         dates.remove(from, place, gone);
         let slot = dates.push(lists, list, place, date);
-        note_slot(lists, place, slot);
+        note_slot_at(lists, place, slot);
     }
 }
 

@@ -1,6 +1,7 @@
 //! Where the dates of values stand, noted beside the values.
 
-ghost use Rattle.std.specs.Prelude.{◌≡◌};
+ghost use Rattle.std.specs.Prelude.{◌≡◌, IsSome};
+ghost use Rattle.foyer_policy.specs.Lists.{find};
 
 use crate::lists::{Lists, Place};
 use crate::queued::HasItem;
@@ -15,6 +16,19 @@ pub(crate) fn note_slot<T: HasItem, const N: usize>(
     ensures { lists.new ≡ lists.old }
 {
     if lists.holds(place) {
-        lists.get_mut(place).set_slot(slot);
+        note_slot_at(lists, place, slot);
     }
+}
+
+/// The same where the place holds a value, which it must.
+#[inline(always)]
+pub(super) fn note_slot_at<T: HasItem, const N: usize>(
+    lists: &mut Lists<T, N>,
+    place: Place,
+    slot: usize,
+)
+    requires { IsSome (find place lists.old.lists) }
+    ensures { lists.new ≡ lists.old }
+{
+    lists.get_mut(place).set_slot(slot);
 }

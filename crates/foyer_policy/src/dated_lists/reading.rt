@@ -112,15 +112,17 @@ impl<T: HasItem, const N: usize> DatedLists<T, N> {
             Tracking::Untracked => first_of_list(&self.lists, list, now),
             Tracking::Tracked(dates) => {
                 let front = self.lists.front(list)?;
+                if list >= dates.lists() {
+                    return first_of_list(&self.lists, list, now);
+                }
+                if dates.are_behind(list, now) {
+                    return None;
+                }
                 // Where all live equally long, the front is often the first that is due.
                 if due_at(self.lists.get(front).item(), now) {
                     return Some(front);
                 }
-                if list < dates.lists() {
-                    dates.first(list, now)
-                } else {
-                    first_of_list(&self.lists, list, now)
-                }
+                dates.first(list, now)
             }
         }
     }

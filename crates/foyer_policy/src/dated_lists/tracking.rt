@@ -23,8 +23,7 @@ pub(super) enum Tracking {
 impl Tracking {
     /// Takes account of an item that expires and comes to the end of a list. It answers what is to be noted beside the
     /// item, and takes no memory.
-    #[cold]
-    #[inline(never)]
+    #[inline(always)]
     pub(super) fn push<T: HasItem, const N: usize>(
         &mut self,
         lists: &mut Lists<T, N>,
@@ -51,8 +50,7 @@ impl Tracking {
     }
 
     /// Takes account of an item that expires and goes from a list. It takes no memory.
-    #[cold]
-    #[inline(never)]
+    #[inline(always)]
     pub(super) fn remove(&mut self, list: usize, place: Place, gone: Gone)
         requires { CanRemove list place self.old }
         ensures { (n : ℕ) (are : ℕ → List _) → Knows n are self.old

@@ -1,6 +1,6 @@
 //! Slots for the dates of a list.
 
-ghost use Rattle.std.specs.Prelude.{◌≡◌, ℕ, ◌<◌, ◌≤◌, ◌∷◌, ◌++◌, [], None, Some, IfErr, IfNone, IfOk, IfSome, IsSome, drop, length, slice_get};
+ghost use Rattle.std.specs.Prelude.{◌≡◌, ℕ, ◌<◌, ◌≤◌, ◌∷◌, ◌++◌, [], None, Some, IfErr, IfNone, IfOk, IfSome, IsSome, IsTrue, drop, length, slice_get};
 ghost use Rattle.foyer_policy.specs.Dates.{first_by};
 ghost use Rattle.foyer_policy.specs.DateSlots.{on_of, AreApart, AreEmptyFrom, IsAt};
 ghost use Rattle.foyer_policy.specs.Lists.{drop_place, find_in};
@@ -197,6 +197,7 @@ impl Slots {
     }
 
     /// Empties the slot of a place, which must have one. It takes no memory.
+    #[inline(always)]
     pub(super) fn take_out(&mut self, place: Place, gone: Gone)
         requires { IsSome (find_in place self.old) }
         ensures { self.new ≡ drop_place place self.old }
@@ -204,6 +205,14 @@ impl Slots {
         let index = find(&self.row, place, gone.slot);
         self.row.empty(index);
         raise(&mut self.tree, &self.row, index / BLOCK, gone);
+    }
+
+    /// Whether it's known, without a look at them, that all dates are behind a moment.
+    #[inline(always)]
+    pub(super) fn are_behind(&self, now: u64) -> bool
+        ensures { IsTrue result → first_by now self.now ≡ None }
+    {
+        self.tree.least() > now
     }
 
     /// The first place whose date is not behind a moment.

@@ -24,7 +24,8 @@ fn least_date(row: &Row, block: usize) -> u64
     least
 }
 
-// Sets the leaf of a block to the least date there.
+// Sets the leaf of a block to the least date there. It's rare beside what calls it.
+#[inline(never)]
 fn refresh(tree: &mut MinTree, row: &Row, block: usize)
     requires { block < length tree.old }
     ensures length { length tree.new ≡ length tree.old }
@@ -49,6 +50,7 @@ pub(super) fn refresh_all(tree: &mut MinTree, row: &Row, count: usize)
 
 // Sets the leaf of a block anew, where a date that went may have been the least. Where its place was the first of its
 // list, the next to go is often beside it: then the block is marked, and its leaf set once another is.
+#[inline(always)]
 pub(super) fn raise(tree: &mut MinTree, row: &Row, block: usize, gone: Gone)
     requires leaf { block < length tree.old }
     requires above { AreAbove row.now.slots tree.old }
@@ -70,6 +72,7 @@ pub(super) fn raise(tree: &mut MinTree, row: &Row, block: usize, gone: Gone)
 }
 
 // Lowers the leaf of a block to a date that came.
+#[inline(always)]
 pub(super) fn lower(tree: &mut MinTree, block: usize, date: u64)
     requires { block < length tree.old }
     ensures length { length tree.new ≡ length tree.old }

@@ -1,8 +1,9 @@
-use Rattle.std.proofs.Common.{◌≡◌, ◌<◌, Bool, true, Some, length, arith, ap, sym, ◌∙◌}
+use Rattle.std.proofs.Common.{◌≡◌, ◌<◌, Bool, true, None, Some, length, arith, rules, ap, sym, ◌∙◌}
+use Rattle.std.specs.Prelude.{option_and_then, option_map}
 use Rattle.foyer_policy.specs.Dates.{first_by}
 use Rattle.foyer_policy.specs.DatedLists.{Knows, dates_at}
 use Rattle.foyer_policy.specs.Dues.{first_item}
-use Rattle.foyer_policy.specs.Lists.{list_at}
+use Rattle.foyer_policy.specs.Lists.{find, list_at}
 use Rattle.foyer_policy.specs.Moments.{is_due}
 use Rattle.foyer_policy.specs.declared.types.Item.{Item}
 use Rattle.foyer_policy.proofs.ListsLemmas.{find-at}
@@ -21,8 +22,8 @@ returns-in-Plain-clause-first g c =
     (sym (ap first_item (none-due item c.args.now (list_at i.lists.lists c.args.list)
     (known c.args.list c.requires))))
 
-pub returns-then-list-lists-clause-there : goal.returns-then-list-lists-clause-there
-returns-then-list-lists-clause-there g c =
+pub returns-else-due_at-clause-there : goal.returns-else-due_at-clause-there
+returns-else-due_at-clause-there g c =
     let item = g.T.HasItem.item_of in
     let i = c.self.inside in
     let known : Knows g.row.N (dates_at item i.lists.lists) (Tracked c.in-Tracked.dates) =
@@ -37,8 +38,8 @@ returns-then-list-lists-clause-there g c =
     (due-there item g.row.N i.lists.lists apart c.args.now c.args.list
     (first_by c.args.now (dates_at item i.lists.lists c.args.list)) c.requires due)
 
-pub returns-then-list-lists-clause-first : goal.returns-then-list-lists-clause-first
-returns-then-list-lists-clause-first g c =
+pub returns-else-due_at-clause-first : goal.returns-else-due_at-clause-first
+returns-else-due_at-clause-first g c =
     let item = g.T.HasItem.item_of in
     let i = c.self.inside in
     let known : Knows g.row.N (dates_at item i.lists.lists) (Tracked c.in-Tracked.dates) =
@@ -51,6 +52,24 @@ returns-then-list-lists-clause-first g c =
     let less : c.args.list < c.in-Tracked.dates.lists = omega arith in
     rw (← c.self.view_is, c.first.ensures, known.same c.args.list less)
     (due-first item g.row.N i.lists.lists apart c.args.now c.args.list
+    (first_by c.args.now (dates_at item i.lists.lists c.args.list)) c.requires due)
+
+pub returns-then-are_behind-clause-first : goal.returns-then-are_behind-clause-first
+returns-then-are_behind-clause-first g c =
+    let item = g.T.HasItem.item_of in
+    let i = c.self.inside in
+    let known : Knows g.row.N (dates_at item i.lists.lists) (Tracked c.in-Tracked.dates) =
+    rw c.in-Tracked.is at c.self.invariant in
+    let apart = c.front.ensures.apart in
+    let lt : c.args.list < length i.lists.lists = omega (arith, apart.count, c.requires) in
+    let none : first_by c.args.now (dates_at item i.lists.lists c.args.list) ≡ None =
+    rw (← known.same c.args.list (omega arith)) (c.are_behind.ensures (search rules)) in
+    let due : FirstDue item c.args.now (first_by c.args.now (dates_at item i.lists.lists c.args.list))
+    (list_at i.lists.lists c.args.list) =
+    first-due item c.args.now (list_at i.lists.lists c.args.list) (apart.within c.args.list lt) in
+    rw (← c.self.view_is)
+    (ap (λ o. option_and_then (λ p. option_map item (find p i.lists.lists)) o) (sym none)
+    ∙ due-first item g.row.N i.lists.lists apart c.args.now c.args.list
     (first_by c.args.now (dates_at item i.lists.lists c.args.list)) c.requires due)
 
 pub returns-then-due_at-clause-first : goal.returns-then-due_at-clause-first

@@ -1,19 +1,6 @@
-use Rattle.std.proofs.Common.{◌≡◌, ◌<◌, Some, None, length, arith, rules, ap, sym, ◌∙◌}
-use Rattle.foyer_policy.specs.DatedLists.{dates_at}
-use Rattle.foyer_policy.specs.Lists.{list_at}
-use Rattle.foyer_policy.proofs.DatedLists.Entries.{dates-free}
-use Rattle.foyer_policy.proofs.ListsLemmas.{free_at}
-use Rattle.foyer_policy.proofs.DatedLists.Changes.{CanPush-free, Knows-same, not_some, pushed-date, pushed-none}
+use Rattle.std.proofs.Common.{◌≡◌, ◌<◌, Some, None, length, arith, ap, sym, ◌∙◌}
+use Rattle.foyer_policy.proofs.DatedLists.Changes.{Knows-same, not_some, pushed-date, pushed-none}
 use Rattle.foyer_policy.proofs.dated_lists.following.follow_push.Goals as goal
-
-pub push-slot-requires : goal.push-slot-requires
-push-slot-requires g c =
-    let item = g.T.HasItem.item_of in
-    let ls = c.args.lists.now.lists in (
-      search rules,
-      CanPush-free g.row.N (dates_at item ls) c.args.place c.args.dates.now c.requires.known
-          (λ k lt. dates-free item c.args.place (list_at ls k) (free_at c.args.place ls k c.requires.free)),
-    )
 
 pub returns-in-Some-clause-known : goal.returns-in-Some-clause-known
 returns-in-Some-clause-known g c =
@@ -22,9 +9,9 @@ returns-in-Some-clause-known g c =
     let lt : c.args.list < length ls = omega (arith, c.count.ensures.apart.count, c.requires.list) in
     let is : (item c.args.value.now).expires ≡ Some c.in-Some.date =
     ap (λ i. i.expires) (sym c.item.ensures) ∙ c.in-Some.is in
-    Knows-same g.row.N _ _ c.push-slot.new.self
+    Knows-same g.row.N _ _ c.push_date-slot.new.dates
     (λ k less. pushed-date item ls c.args.list c.args.place c.in-Some.date c.args.value.now is lt k)
-    (c.push-slot.ensures.known g.row.N (dates_at item ls) c.requires.list c.requires.known)
+    c.push_date-slot.ensures.known
 
 pub returns-in_default-clause-known : goal.returns-in_default-clause-known
 returns-in_default-clause-known g c =
