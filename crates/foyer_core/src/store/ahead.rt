@@ -1,8 +1,8 @@
 //! What an eviction and a use read ahead.
 //!
 //! A share is counted by a locked instruction, behind which each read waits until those before it are done. So what is
-//! to be read of records and of the policy's nodes is read before shares are counted, all at once. What is asked here
-//! of them is so in any case.
+//! to be read of records and of the policy's nodes is read before shares are counted, all at once. Where a record is due,
+//! so is what leads to it by its id and by its key. What is asked here is so in any case.
 
 ghost use Rattle.std.specs.Prelude.{IsSome, IsTrue};
 
@@ -42,7 +42,7 @@ impl<E: Eviction, K: Key, V: Value, P: Properties, I: Finder<K>> Store<E, K, V, 
 
     // Whether the data of the record at a place in the policy have the hint that the policy has.
     #[inline(always)]
-    pub(super) fn agrees_at(&self, place: Place) -> bool
+    fn agrees_at(&self, place: Place) -> bool
         requires { IsSome (E.at self.now.eviction place) }
         ensures { IsTrue result }
     {
@@ -51,5 +51,23 @@ impl<E: Eviction, K: Key, V: Value, P: Properties, I: Finder<K>> Store<E, K, V, 
             Some(found) => found.properties().hint().unwrap_or(Hint::Normal) == item.hint,
             None => false,
         }
+    }
+
+    // Whether all is there that changes when what stands at a place in the policy leaves: the data of its record, its
+    // neighbors in the policy, and what leads to it by its id and by its key.
+    #[inline(always)]
+    pub(super) fn is_all_at(&self, place: Place) -> bool
+        requires { IsSome (E.at self.now.eviction place) }
+        ensures { IsTrue result }
+    {
+        let item = self.eviction.item(place);
+        let slot = place.number();
+        let Some(found) = self.records.get(slot) else {
+            return false;
+        };
+        found.properties().hint().unwrap_or(Hint::Normal) == item.hint
+            && self.eviction.look_ahead(place)
+            && self.records.stands(item.id) == Some(slot)
+            && self.slot_under(item.hash, found.key()) == Some(slot)
     }
 }

@@ -28,8 +28,8 @@ impl<E: Eviction, K: Key, V: Value, P: Properties, I: Finder<K>> Store<E, K, V, 
         ensures places { HasPlaces self.old → HasPlaces self.new }
     {
         if let Some(place) = self.eviction.expired(now) {
-            // The answer is always yes, as in `pop_one`.
-            if !self.agrees_at(place) {
+            // The answer is always yes, as in `pop_one`. All that changes when the record leaves is read here, at once.
+            if !self.is_all_at(place) {
                 return Err(Error::new(Reason::NoMemory));
             }
             return Ok(Some(self.leave_due(place)));
