@@ -1,95 +1,139 @@
 //! The first of many numbers that is at most another.
 
 ghost use Rattle.std.specs.Prelude.{◌≡◌, ℕ, ◌+◌, ◌-◌, ◌*◌, ◌^◌, ◌<◌, ◌≤◌, IfOk, IfErr, IfSome, IfNone, length, slice_index, slice_set};
-ghost use Rattle.foyer_policy.specs.MinTree.{IsTree, HasHeight};
+ghost use Rattle.foyer_policy.specs.MinTree.{leftmost, least_of, IsTree, HasHeight};
 ghost use Rattle.foyer_policy.specs.declared.error.Reason.TheVariants.{NoMemory};
 
 use crate::error::{Error, Reason, Result};
 use std::alloc::Global;
 use std::marker::Model;
 
-/// Numbers under indices from 0, as the leaves of a segment tree: each node above them has the lesser number of its two
+/// Numbers under indices from 0, as the leaves of a segment tree: each node above them has the least number of its four
 /// children. A number is changed, and the first within a limit, of all or behind an index, is found, in about as many
 /// steps as the tree is high.
 #[derive(Drop)]
 pub(crate) struct MinTree {
-    // The root is node 1, the children of node i are 2 i and 2 i + 1, and the nodes of the second half are the leaves.
+    // The root is node 1, and the children of node i are the four from 4 i - 2 on. Node 0 isn't used, so that the four
+    // stand in one line of the cache where memory begins 16 bytes behind a line's start, as big blocks mostly do.
     nodes: Vec<u64>,
-    // How many leaves there are, a power of two.
-    leaves: usize,
+    // The first leaf. The nodes from it on are the leaves, 3 first - 2 of them, a power of four.
+    first: usize,
     // An index that the owner marks; at first 0.
     marked: usize,
 }
 
 impl Model for MinTree {
-    ghost use Rattle.std.specs.Prelude.{ℕ, ◌<◌, List, drop};
+    ghost use Rattle.std.specs.Prelude.{ℕ, ◌+◌, ◌*◌, ◌<◌, List, drop};
     ghost use Rattle.foyer_policy.specs.MinTree.{IsTree};
 
     ghost Value = { List ℕ };
 
-    ghost view = { λ t. drop t.leaves t.nodes.items };
+    ghost view = { λ t. drop t.first t.nodes.items };
 
-    ghost invariant = { λ t. IsTree t.leaves t.nodes.items × (t.marked < t.leaves) };
+    ghost invariant = { λ t. IsTree t.first t.nodes.items × (t.marked + 2 < 3 * t.first) };
 }
 
-// The least power of two that is at least this number, where twice that fits.
-fn leaves_for(count: usize) -> Option<usize>
-    ensures enough { IfSome result (λ leaves. count ≤ leaves) }
-    ensures few { IfSome result (λ leaves. leaves ≤ 2 * count + 1) }
-    ensures fits { IfSome result (λ leaves. 2 * leaves < 2 ^ 64) }
-    ensures power { IfSome result (λ leaves. (height : ℕ) × (leaves ≡ 2 ^ height)) }
-    ensures none { IfNone result (2 ^ 62 < count) }
+// The first leaf of the least tree that has so many leaves, or nothing for a huge number.
+fn first_for(count: usize) -> Option<usize>
+    ensures enough { IfSome result (λ first. count + 2 ≤ 3 * first) }
+    ensures few { IfSome result (λ first. 3 * first ≤ 4 * count + 3) }
+    ensures fits { IfSome result (λ first. 4 * first < 2 ^ 64) }
+    ensures lowest { IfSome result (λ first. (height : ℕ) × (first ≡ leftmost 1 height)) }
+    ensures none { IfNone result (2 ^ 61 < count) }
 {
-    let mut leaves: usize = 1;
-    while leaves < count {
-        if leaves > usize::MAX / 4 {
+    let mut first: usize = 1;
+    while 3 * first - 2 < count {
+        if first > usize::MAX / 16 {
             return None;
         }
-        leaves *= 2;
+        first = 4 * first - 2;
     }
-    Some(leaves)
+    Some(first)
+}
+
+// The least number of four nodes in a row.
+#[inline(always)]
+fn least_number(nodes: &[u64], at: usize) -> u64
+    requires { at + 3 < length nodes.now }
+    ensures { result ≡ least_of nodes.now at }
+{
+    let left = nodes[at].min(nodes[at + 1]);
+    let right = nodes[at + 2].min(nodes[at + 3]);
+    left.min(right)
+}
+
+// The first of four nodes in a row whose number is at most a limit, which one's must be. It has no branches, since which
+// one it is can't be foretold.
+#[inline(always)]
+fn first_of(nodes: &[u64], at: usize, limit: u64) -> usize
+    requires room { at + 3 < length nodes.now }
+    requires some { least_of nodes.now at ≤ limit }
+    ensures from { at ≤ result }
+    ensures to { result ≤ at + 3 }
+    ensures within { slice_index nodes.now result ≤ limit }
+    ensures first { (j : ℕ) → at ≤ j → j < result → limit < slice_index nodes.now j }
+{
+    let one = nodes[at] > limit;
+    let two = one & (nodes[at + 1] > limit);
+    let three = two & (nodes[at + 2] > limit);
+    at + usize::from(one) + usize::from(two) + usize::from(three)
+}
+
+// The first of some nodes in a row whose number is at most a limit.
+#[inline(always)]
+fn first_in(nodes: &[u64], start: usize, end: usize, limit: u64) -> Option<usize>
+    requires { end ≤ length nodes.now }
+    ensures from { IfSome result (λ s. start ≤ s) }
+    ensures to { IfSome result (λ s. s < end) }
+    ensures within { IfSome result (λ s. slice_index nodes.now s ≤ limit) }
+    ensures first { IfSome result (λ s. (j : ℕ) → start ≤ j → j < s → limit < slice_index nodes.now j) }
+    ensures none { IfNone result ((j : ℕ) → start ≤ j → j < end → limit < slice_index nodes.now j) }
+{
+    for node in start..end {
+        if nodes[node] <= limit {
+            return Some(node);
+        }
+    }
+    None
 }
 
 // The index of the first number below a node that is at most a limit, which the node's number must be.
 #[inline]
-fn first_below(nodes: &[u64], leaves: usize, top: usize, limit: u64) -> usize
-    requires tree { IsTree leaves nodes.now }
-    requires top { (0 < top) × (top < 2 * leaves) }
+fn first_below(nodes: &[u64], first: usize, top: usize, limit: u64) -> usize
+    requires tree { IsTree first nodes.now }
+    requires top { (0 < top) × (top < length nodes.now) }
     requires number { slice_index nodes.now top ≤ limit }
-    ensures leaf { result < leaves }
-    ensures within { slice_index nodes.now (leaves + result) ≤ limit }
-    ensures behind { (height : ℕ) → HasHeight leaves top height → top * 2 ^ height ≤ leaves + result }
-    ensures first { (height : ℕ) → HasHeight leaves top height → (l : ℕ) → top * 2 ^ height ≤ l → l < leaves + result
+    ensures leaf { first + result < length nodes.now }
+    ensures within { slice_index nodes.now (first + result) ≤ limit }
+    ensures behind { (height : ℕ) → HasHeight first top height → leftmost top height ≤ first + result }
+    ensures first { (height : ℕ) → HasHeight first top height → (l : ℕ) → leftmost top height ≤ l → l < first + result
         → limit < slice_index nodes.now l }
 {
     let mut node = top;
     // Some leaf below the node is within the limit, and none before those is.
-    while node < leaves {
-        node *= 2;
-        if nodes[node] > limit {
-            node += 1;
-        }
+    while node < first {
+        node = first_of(nodes, 4 * node - 2, limit);
     }
-    node - leaves
+    node - first
 }
 
 impl MinTree {
     /// So many numbers or more, each the greatest. Only memory can be missing (F7).
     pub(crate) fn new(alloc: Global, count: usize) -> Result<Self>
         ensures count { IfOk result (λ t. count ≤ length t) }
-        ensures few { IfOk result (λ t. length t ≤ 2 * count + 1) }
+        ensures few { IfOk result (λ t. length t ≤ 4 * count + 1) }
         ensures greatest { IfOk result (λ t. (i : ℕ) → i < length t → slice_index t i ≡ 2 ^ 64 - 1) }
         ensures refused { IfErr result (λ e. e ≡ NoMemory) }
     {
-        let Some(leaves) = leaves_for(count) else {
+        let Some(first) = first_for(count) else {
             return Err(Error::new(Reason::NoMemory));
         };
-        let Ok(nodes) = Vec::from_elem(alloc, u64::MAX, 2 * leaves) else {
+        let Ok(nodes) = Vec::from_elem(alloc, u64::MAX, 4 * first - 2) else {
             return Err(Error::new(Reason::NoMemory));
         };
         Ok(MinTree {
             nodes,
-            leaves,
+            first,
             marked: 0,
         })
     }
@@ -100,7 +144,7 @@ impl MinTree {
         requires { index < length self.now }
         ensures { result ≡ slice_index self.now index }
     {
-        self.nodes[self.leaves + index]
+        self.nodes[self.first + index]
     }
 
     /// Changes the number at an index.
@@ -109,11 +153,11 @@ impl MinTree {
         requires { index < length self.old }
         ensures { self.new ≡ slice_set self.old index number }
     {
-        let mut node = self.leaves + index;
+        let mut node = self.first + index;
         self.nodes[node] = number;
         while node > 1 {
-            node /= 2;
-            let least = self.nodes[2 * node].min(self.nodes[2 * node + 1]);
+            node = (node + 2) / 4;
+            let least = least_number(&self.nodes, 4 * node - 2);
             // Above a node that keeps its number nothing changes.
             if self.nodes[node] == least {
                 return;
@@ -139,7 +183,7 @@ impl MinTree {
         if self.nodes[1] > limit {
             return None;
         }
-        Some(first_below(&self.nodes, self.leaves, 1, limit))
+        Some(first_below(&self.nodes, self.first, 1, limit))
     }
 
     /// The index of the first number behind an index that is at most a limit, or `None` where none is.
@@ -151,12 +195,13 @@ impl MinTree {
         ensures none { IfNone result ((j : ℕ) → index < j → j < length self.now → limit < slice_index self.now j) }
     {
         // No leaf behind the index that is below the node is within the limit.
-        let mut node = self.leaves + index;
+        let mut node = self.first + index;
         while node > 1 {
-            if node % 2 == 0 && self.nodes[node + 1] <= limit {
-                return Some(first_below(&self.nodes, self.leaves, node + 1, limit));
+            let parent = (node + 2) / 4;
+            if let Some(sibling) = first_in(&self.nodes, node + 1, 4 * parent + 2, limit) {
+                return Some(first_below(&self.nodes, self.first, sibling, limit));
             }
-            node /= 2;
+            node = parent;
         }
         None
     }

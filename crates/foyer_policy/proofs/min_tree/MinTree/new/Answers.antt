@@ -1,17 +1,19 @@
-use Rattle.std.proofs.Common.{rules, arith}
-use Rattle.std.proofs.lemmas.Nat.{pow_pos}
-use Rattle.foyer_policy.proofs.MinTreeLemmas.{all-equal}
+use Rattle.std.proofs.Common.{◌≡◌, ◌-◌, ◌*◌, length, ap, ◌∙◌, arith}
+use Rattle.std.proofs.lemmas.List.{length-replicate}
+use Rattle.foyer_policy.proofs.MinTreeLemmas.{all-equal, at-most}
 use Rattle.foyer_policy.proofs.min_tree.MinTree.new.Goals as goal
 
 pub invariant_of-result : goal.invariant_of-result
 invariant_of-result c =
-    let power = c.in-Some.ensures.power in
-    let are = c.in-Ok.ensures.items_if_clones_equal (λ y e. e) in (
+    let lowest = c.in-Some.ensures.lowest in
+    let some = at-most 1 lowest.0 (omega arith) in
+    let are = c.in-Ok.ensures.items_if_clones_equal (λ y e. e) in
+    let size : length c.in-Ok.nodes.items ≡ 4 * c.in-Some.first - 2 = ap length are ∙ length-replicate _ _ in (
       record {
-        height = power.0;
-        power = power.1;
-        size = search rules;
-        least = rw are (all-equal c.in-Some.leaves _);
+        height = lowest.0;
+        lowest = lowest.1;
+        size = omega (arith, lowest.1);
+        least = rw are (all-equal c.in-Some.first _ _ (omega (arith, lowest.1)));
       },
-      omega (arith, power.1, pow_pos power.0),
+      omega (arith, lowest.1),
     )
