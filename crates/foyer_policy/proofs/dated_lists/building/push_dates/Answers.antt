@@ -1,5 +1,5 @@
-use Rattle.std.proofs.Common.{◌≡◌, ◌<◌, ◌∷◌, ◌++◌, ℕ, List, Some, None, length, rules, arith, ap, sym, ◌∙◌, IsSome}
-use Rattle.foyer_policy.specs.Lists.{first_or, list_at}
+use Rattle.std.proofs.Common.{◌≡◌, ◌<◌, Some, None, length, rules, arith, ap, sym, ◌∙◌, IsSome}
+use Rattle.foyer_policy.specs.Lists.{list_at}
 use Rattle.foyer_policy.proofs.DatedLists.Changes.{not_some}
 use Rattle.foyer_policy.proofs.DatedLists.Walk.{met-left}
 use Rattle.foyer_policy.proofs.DatedLists.Collects.{Collects, collects-date, collects-found, collects-free, collects-none}

@@ -1,5 +1,4 @@
 use Rattle.std.proofs.Common.{◌∙◌, refl, ap, length}
-use Rattle.foyer_policy.specs.Dates.{Dates}
 use Rattle.foyer_policy.proofs.DatesSame.{same_item}
 use Rattle.foyer_policy.proofs.dates.Dates.close_up.Goals as goal
 

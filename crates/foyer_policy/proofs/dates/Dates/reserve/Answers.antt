@@ -1,4 +1,4 @@
-use Rattle.std.proofs.Common.{◌≡◌, [], ◌∙◌, refl, ap, arith, length, get_or}
+use Rattle.std.proofs.Common.{[], ◌∙◌, refl, ap, arith, length, get_or}
 use Rattle.foyer_policy.proofs.DatesSame.{same_item}
 use Rattle.foyer_policy.proofs.dates.Dates.reserve.Goals as goal
 

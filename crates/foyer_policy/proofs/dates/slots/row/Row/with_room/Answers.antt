@@ -1,4 +1,4 @@
-use Rattle.std.proofs.Common.{◌≡◌, ◌++◌, [], List, ℕ, length, ap, sym, refl, ◌∙◌, arith}
+use Rattle.std.proofs.Common.{◌≡◌, ◌++◌, [], List, ℕ, length, ap, sym, ◌∙◌, arith}
 use Rattle.foyer_policy.proofs.RowLemmas.{slots_of-length}
 use Rattle.foyer_policy.proofs.dates.slots.row.Row.with_room.Goals as goal
 
