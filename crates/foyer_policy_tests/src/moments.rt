@@ -101,7 +101,7 @@ fn look_at_the_far_end(rt: &(impl Abort + AllocGlobal), others: Option<u64>) -> 
         let last = push(&mut policy, expiring(8_000, Some(5)))?;
         // What expires is looked up once more room is made.
         policy.reserve()?;
-        for _look in 0..100_000 {
+        for _look in 0..50_000 {
             assert_eq!(rt; policy.expired(5), Some(last));
             assert_eq!(rt; policy.expired(4), None);
         }
@@ -133,7 +133,7 @@ fn what_is_expired_is_found_behind_what_left_from_the_front(rt: HostRuntime) -> 
             assert_eq!(rt; policy.remove(place).id, moment);
         }
         let last = push(&mut policy, expiring(14_000, Some(5)))?;
-        for _look in 0..100_000 {
+        for _look in 0..50_000 {
             assert_eq!(rt; policy.expired(6_999), Some(last));
         }
     }
@@ -155,7 +155,7 @@ fn what_is_expired_is_found_once_it_is_not_pinned(rt: HostRuntime) -> Result<(),
     for place in places.iter() {
         lru.release(*place);
     }
-    for _look in 0..100_000 {
+    for _look in 0..50_000 {
         assert_eq!(rt; lru.expired(5), places.last().copied());
     }
     Ok(())
