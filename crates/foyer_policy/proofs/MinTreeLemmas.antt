@@ -1,5 +1,7 @@
 -- The nodes of a segment tree, as the walks up and down go over them.
-use Rattle.std.proofs.Common.{◌≡◌, ℕ, zero, suc, ◌+◌, ◌-◌, ◌*◌, ◌/◌, ◌<◌, ◌≤◌, ◌≢◌, inl, inr, List, length, drop, get_or, replicate, set, refl, sym, ◌∙◌, ap, arith}
+use Rattle.std.proofs.Common.{◌≡◌, ℕ, zero, suc, ◌+◌, ◌-◌, ◌*◌, ◌/◌, ◌^◌, ◌<◌, ◌≤◌, ◌≢◌, inl, inr, refl, sym, ◌∙◌, ap, arith}
+use Rattle.std.proofs.Common.{List, length, drop, get_or, replicate, set}
+use Rattle.std.proofs.Math.Nat.{pow-succ', pow-le-pow_right}
 use Rattle.std.proofs.lemmas.Bool.{cases_lt, cases_eq}
 use Rattle.std.proofs.lemmas.List.{get_or-drop, get_or-replicate, get_or-set_other, get_or-set_same, length-drop, length-set, drop-set-lt, drop-set-add}
 use Rattle.foyer_policy.specs.MinTree.{leftmost, least_of, IsLeast, IsTree, HasHeight}
@@ -80,6 +82,22 @@ pub at-most : (i k : ℕ) → 0 < i → i ≤ leftmost i k
 at-most i zero some = omega (arith, leftmost-zero i)
 at-most i (suc k) some = omega (arith, at-most i k some, leftmost-last i k some)
 
+-- so many leaves are below the root
+pub leaves-are : (k : ℕ) → 3 * leftmost 1 k ≡ 4 ^ k + 2
+leaves-are zero = omega (arith, leftmost-zero 1)
+leaves-are (suc k) = omega (arith, leftmost-last 1 k (omega arith), leaves-are k, pow-succ' 4 k)
+
+-- a tree whose first leaf has so great a number has at least 2 ^ 62 leaves
+pub leaves-many : (first k : ℕ) → first ≡ leftmost 1 k → 2 ^ 60 ≤ first → 2 ^ 62 + 2 ≤ 3 * first
+leaves-many first k is many = elim (cases_lt k 31) [
+  | inl low ↦
+      let small : 4 ^ k ≤ 4 ^ 30 = pow-le-pow_right {n = 4} (omega arith) {i = k} {j = 30} (omega arith) in
+      absurd (omega (arith, leaves-are k))
+  | inr high ↦
+      let great : 4 ^ 31 ≤ 4 ^ k = pow-le-pow_right {n = 4} (omega arith) {i = 31} {j = k} high in
+      omega (arith, leaves-are k)
+]
+
 -- what holds of the nodes below each of some nodes in a row holds of all below these
 run : (P : ℕ → Type 0) (k a n : ℕ)
     → ((j : ℕ) → a ≤ j → j < a + n → (l : ℕ) → leftmost j k ≤ l → l < leftmost (j + 1) k → P l)
@@ -116,6 +134,40 @@ least-below first nodes (suc k) i l least some from to within =
     (omega (arith, leftmost-suc i c k (omega arith)))
     (omega (arith, leftmost-suc (i + 1) (c + 4) k (omega arith)))
     within
+
+-- the least of four numbers is one of them
+least-is : (nodes : List ℕ) (at : ℕ) → (j : ℕ) × (at ≤ j) × (j ≤ at + 3) × (get_or nodes j 0 ≡ least_of nodes at)
+least-is nodes at = elim (cases_eq (get_or nodes at 0) (least_of nodes at)) [
+  | inl zeroth ↦ (at, omega arith, omega arith, zeroth)
+  | inr past ↦ elim (cases_eq (get_or nodes (at + 1) 0) (least_of nodes at)) [
+    | inl one ↦ (at + 1, omega arith, omega arith, one)
+    | inr past-one ↦ elim (cases_eq (get_or nodes (at + 2) 0) (least_of nodes at)) [
+      | inl two ↦ (at + 2, omega arith, omega arith, two)
+      | inr past-two ↦ (at + 3, omega arith, omega arith, omega arith)
+    ]
+  ]
+]
+
+-- a leaf below a node has the node's number
+abbrev pub Has : List ℕ → ℕ → ℕ → Type 0
+Has nodes k i = (l : ℕ) × (leftmost i k ≤ l) × (l < leftmost (i + 1) k) × (get_or nodes l 0 ≡ get_or nodes i 0)
+
+pub least-has : (first : ℕ) (nodes : List ℕ) (k i : ℕ) → AllLeast first nodes → 0 < i
+    → leftmost (i + 1) k + 2 ≤ 4 * first → Has nodes k i
+least-has first nodes zero i least some room =
+    (i, omega (arith, leftmost-zero i), omega (arith, leftmost-zero (i + 1)), refl)
+least-has first nodes (suc k) i least some room =
+    let c = 4 * i - 2 in
+    let last = leftmost-last (i + 1) k (omega arith) in
+    let inner : i < first = omega (arith, at-most (i + 1) k (omega arith)) in
+    let here = least i some inner in
+    let one = least-is nodes c in
+    let next = leftmost-suc (i + 1) (c + 4) k (omega arith) in
+    let down = leftmost-suc i c k (omega arith) in
+    let before = leftmost-le c one.0 k (omega arith) one.1 in
+    let behind = leftmost-le (one.0 + 1) (c + 4) k (omega arith) (omega (arith, one.2)) in
+    let leaf = least-has first nodes k one.0 least (omega (arith, one.1)) (omega arith) in
+    (leaf.0, omega (arith, leaf.1), omega (arith, leaf.2), omega (arith, leaf.3, one.3))
 
 -- where nodes in a row are above a limit, the leaves below them are
 pub run-above : (first : ℕ) (nodes : List ℕ) (limit k a b l : ℕ) → AllLeast first nodes → 0 < a → a ≤ b

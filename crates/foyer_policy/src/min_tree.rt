@@ -16,8 +16,8 @@ pub(crate) struct MinTree {
     // The root is node 1, and the children of node i are the four from 4 i - 2 on. Node 0 isn't used, so that the four
     // stand in one line of the cache where memory begins 16 bytes behind a line's start, as big blocks mostly do.
     nodes: Vec<u64>,
-    // The first leaf. The nodes from it on are the leaves, 3 first - 2 of them, a power of four.
-    first: usize,
+    // The nodes from this one on are the leaves, three times its number less two of them, a power of four.
+    first_leaf: usize,
     // An index that the owner marks; at first 0.
     marked: usize,
 }
@@ -28,9 +28,9 @@ impl Model for MinTree {
 
     ghost Value = { List ℕ };
 
-    ghost view = { λ t. drop t.first t.nodes.items };
+    ghost view = { λ t. drop t.first_leaf t.nodes.items };
 
-    ghost invariant = { λ t. IsTree t.first t.nodes.items × (t.marked + 2 < 3 * t.first) };
+    ghost invariant = { λ t. IsTree t.first_leaf t.nodes.items × (t.marked + 2 < 3 * t.first_leaf) };
 }
 
 // The first leaf of the least tree that has so many leaves, or nothing for a huge number.
@@ -39,7 +39,7 @@ fn first_for(count: usize) -> Option<usize>
     ensures few { IfSome result (λ first. 3 * first ≤ 4 * count + 3) }
     ensures fits { IfSome result (λ first. 4 * first < 2 ^ 64) }
     ensures lowest { IfSome result (λ first. (height : ℕ) × (first ≡ leftmost 1 height)) }
-    ensures none { IfNone result (2 ^ 61 < count) }
+    ensures none { IfNone result (2 ^ 62 < count) }
 {
     let mut first: usize = 1;
     while 3 * first - 2 < count {
@@ -99,22 +99,22 @@ fn first_in(nodes: &[u64], start: usize, end: usize, limit: u64) -> Option<usize
 
 // The index of the first number below a node that is at most a limit, which the node's number must be.
 #[inline]
-fn first_below(nodes: &[u64], first: usize, top: usize, limit: u64) -> usize
-    requires tree { IsTree first nodes.now }
+fn first_below(nodes: &[u64], first_leaf: usize, top: usize, limit: u64) -> usize
+    requires tree { IsTree first_leaf nodes.now }
     requires top { (0 < top) × (top < length nodes.now) }
     requires number { slice_index nodes.now top ≤ limit }
-    ensures leaf { first + result < length nodes.now }
-    ensures within { slice_index nodes.now (first + result) ≤ limit }
-    ensures behind { (height : ℕ) → HasHeight first top height → leftmost top height ≤ first + result }
-    ensures first { (height : ℕ) → HasHeight first top height → (l : ℕ) → leftmost top height ≤ l → l < first + result
+    ensures leaf { first_leaf + result < length nodes.now }
+    ensures within { slice_index nodes.now (first_leaf + result) ≤ limit }
+    ensures behind { (height : ℕ) → HasHeight first_leaf top height → leftmost top height ≤ first_leaf + result }
+    ensures first { (height : ℕ) → HasHeight first_leaf top height → (l : ℕ) → leftmost top height ≤ l → l < first_leaf + result
         → limit < slice_index nodes.now l }
 {
     let mut node = top;
     // Some leaf below the node is within the limit, and none before those is.
-    while node < first {
+    while node < first_leaf {
         node = first_of(nodes, 4 * node - 2, limit);
     }
-    node - first
+    node - first_leaf
 }
 
 impl MinTree {
@@ -133,7 +133,7 @@ impl MinTree {
         };
         Ok(MinTree {
             nodes,
-            first,
+            first_leaf: first,
             marked: 0,
         })
     }
@@ -144,7 +144,7 @@ impl MinTree {
         requires { index < length self.now }
         ensures { result ≡ slice_index self.now index }
     {
-        self.nodes[self.first + index]
+        self.nodes[self.first_leaf + index]
     }
 
     /// Changes the number at an index.
@@ -153,7 +153,7 @@ impl MinTree {
         requires { index < length self.old }
         ensures { self.new ≡ slice_set self.old index number }
     {
-        let mut node = self.first + index;
+        let mut node = self.first_leaf + index;
         self.nodes[node] = number;
         while node > 1 {
             node = (node + 2) / 4;
@@ -169,7 +169,8 @@ impl MinTree {
     /// The least number.
     #[inline(always)]
     pub(crate) fn least(&self) -> u64
-        ensures { (i : ℕ) → i < length self.now → result ≤ slice_index self.now i }
+        ensures below { (i : ℕ) → i < length self.now → result ≤ slice_index self.now i }
+        ensures is { (i : ℕ) × (i < length self.now) × (slice_index self.now i ≡ result) }
     {
         self.nodes[1]
     }
@@ -183,7 +184,7 @@ impl MinTree {
         if self.nodes[1] > limit {
             return None;
         }
-        Some(first_below(&self.nodes, self.first, 1, limit))
+        Some(first_below(&self.nodes, self.first_leaf, 1, limit))
     }
 
     /// The index of the first number behind an index that is at most a limit, or `None` where none is.
@@ -195,11 +196,11 @@ impl MinTree {
         ensures none { IfNone result ((j : ℕ) → index < j → j < length self.now → limit < slice_index self.now j) }
     {
         // No leaf behind the index that is below the node is within the limit.
-        let mut node = self.first + index;
+        let mut node = self.first_leaf + index;
         while node > 1 {
             let parent = (node + 2) / 4;
             if let Some(sibling) = first_in(&self.nodes, node + 1, 4 * parent + 2, limit) {
-                return Some(first_below(&self.nodes, self.first, sibling, limit));
+                return Some(first_below(&self.nodes, self.first_leaf, sibling, limit));
             }
             node = parent;
         }

@@ -65,7 +65,7 @@ impl<E: Eviction, K: Key, V: Value, P: Properties, I: Finder<K>> Store<E, K, V, 
         let Some(found) = self.records.get(slot) else {
             return false;
         };
-        found.properties().hint().unwrap_or(Hint::Normal) == item.hint
+        self.agrees_at(place)
             && self.eviction.look_ahead(place)
             && self.records.stands(item.id) == Some(slot)
             && self.slot_under(item.hash, found.key()) == Some(slot)

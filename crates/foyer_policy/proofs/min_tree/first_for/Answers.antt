@@ -1,5 +1,5 @@
 use Rattle.std.proofs.Common.{suc, sym, arith}
-use Rattle.foyer_policy.proofs.MinTreeLemmas.{leftmost-zero, leftmost-last}
+use Rattle.foyer_policy.proofs.MinTreeLemmas.{leaves-many, leftmost-zero, leftmost-last}
 use Rattle.foyer_policy.proofs.min_tree.first_for.Goals as goal
 
 pub loop-first-init : goal.loop-first-init
@@ -16,3 +16,8 @@ loop-first-preserved c =
 
 pub returns-clause-lowest : goal.returns-clause-lowest
 returns-clause-lowest c = c.loop-first.invariant.3
+
+pub returns-then-first-clause-none : goal.returns-then-first-clause-none
+returns-then-first-clause-none c =
+    let h = c.loop-first.invariant.3 in
+    omega (arith, leaves-many c.loop-first.first h.0 h.1 (omega arith))

@@ -24,7 +24,7 @@ fn least_date(row: &Row, block: usize) -> u64
     least
 }
 
-// Sets the leaf of a block to the least date there. It's rare beside what calls it.
+// Sets the leaf of a block to the least date there. It stands apart, so that what seldom needs it stays short.
 #[inline(never)]
 fn refresh(tree: &mut MinTree, row: &Row, block: usize)
     requires { block < length tree.old }

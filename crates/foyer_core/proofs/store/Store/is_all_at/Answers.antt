@@ -12,7 +12,7 @@ use Rattle.foyer_core.proofs.Holdings.{holding}
 use Rattle.foyer_core.proofs.LeftLemmas.{stood_known, stood_counted}
 use Rattle.foyer_core.proofs.Outgoing.{out_led}
 use Rattle.foyer_core.proofs.ShardLemmas.{Holding}
-use Rattle.foyer_core.proofs.store.Store.is_all_at.Goals.{then-eq, else-eq, then-look_ahead, else-look_ahead}
+use Rattle.foyer_core.proofs.store.Store.is_all_at.Goals.{then-agrees_at, else-agrees_at, then-look_ahead, else-look_ahead}
 use Rattle.foyer_core.proofs.store.Store.is_all_at.Goals as goal
 
 -- the key of what stands at a place leads to it, under the hash that the policy has
@@ -33,26 +33,25 @@ module _ {K V P View C : Type 0} (m : Meaning K P View C) (laws : IsEquivalence 
 same_place : (a : Option ℕ) (n p : ℕ) → n ≡ p → a ≡ Some p → IsTrue (option_eq nat_eq a (Some n))
 same_place a n p e h = rw (h, e) (search rules)
 
-pub returns-then-eq-2 : goal.returns-then-eq-2
-returns-then-eq-2 g c =
+pub returns-then-eq : goal.returns-then-eq
+returns-then-eq g c =
     let s = c.args.self.now in
     let there : slot_in s.records c.number-slot.result ≡ Some c.in-Some.found.now = sym (rw c.in-Some.is at c.get.ensures) in
     let led = stood_led (meaning_of s) g.met.K.Eq.laws g.met.E.Eviction.lawful (holding s) c.args.place
     c.item-item.result c.item-item.ensures c.in-Some.found.now (rw c.number-slot.ensures at there) in
-    rw c.eq-then-eq-2.ensures (same_place c.slot_under.result c.number-slot.result c.args.place c.number-slot.ensures
+    rw c.eq-then-eq.ensures (same_place c.slot_under.result c.number-slot.result c.args.place c.number-slot.ensures
     (rw (c.slot_under.ensures, c.key.ensures) led))
 
-pub returns-else-eq-2 : goal.returns-else-eq-2
-returns-else-eq-2 g c =
+pub returns-else-eq : goal.returns-else-eq
+returns-else-eq g c =
     let s = c.args.self.now in
     let known = stood_known (meaning_of s) g.met.K.Eq.laws g.met.E.Eviction.lawful (holding s) c.args.place
     c.item-item.result c.item-item.ensures in
-    let hint : IsTrue c.eq.result = search rules in
     elim c.if-look_ahead.branch [
-      | then-look_ahead w ↦ rw (w.value-is, w.eq-then-look_ahead.ensures) (same_place w.stands.result
+      | then-look_ahead w ↦ rw (w.value-is, w.eq.ensures) (same_place w.stands.result
           c.number-slot.result c.args.place c.number-slot.ensures (rw w.stands.ensures known))
-      | else-look_ahead w ↦ elim c.if-eq.branch [
-        | then-eq v ↦ rw (w.value-is, v.value-is) v.look_ahead.ensures
-        | else-eq v ↦ absurd (let no = v.if-eq.false in search rules)
+      | else-look_ahead w ↦ elim c.if-agrees_at.branch [
+        | then-agrees_at v ↦ rw (w.value-is, v.value-is) v.look_ahead.ensures
+        | else-agrees_at v ↦ absurd (let yes = c.agrees_at.ensures in let no = v.if-agrees_at.false in search rules)
       ]
     ]

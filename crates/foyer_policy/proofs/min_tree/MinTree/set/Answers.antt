@@ -8,7 +8,7 @@ pub loop-node-init : goal.loop-node-init
 loop-node-init c = (
   refl,
   refl,
-  Up-leaf c.self.inside.first c.self.inside.nodes.items c.args.self.now c.args.index
+  Up-leaf c.self.inside.first_leaf c.self.inside.nodes.items c.args.self.now c.args.index
       c.args.number c.self.invariant.0 c.self.view_is c.requires,
 )
 
@@ -22,7 +22,7 @@ loop-node-preserved c =
     ∙ ap (λ ns. least_of ns at) c.deref.ensures.value in (
       c.loop-node.invariant.0,
       c.loop-node.invariant.1,
-      Up-next t.first (set c.args.self.now c.args.index c.args.number) xs c.loop-node.node c.least_number-least.result up
+      Up-next t.first_leaf (set c.args.self.now c.args.index c.args.number) xs c.loop-node.node c.least_number-least.result up
           c.loop-node-test.true is,
     )
 
@@ -34,7 +34,7 @@ invariant_of-self c =
         height = c.self.invariant.0.height;
         lowest = c.loop-node.invariant.0 ∙ c.self.invariant.0.lowest;
         size = up.size;
-        least = Up-root t.first (set c.args.self.now c.args.index c.args.number) t.nodes.items c.loop-node.node up
+        least = Up-root t.first_leaf (set c.args.self.now c.args.index c.args.number) t.nodes.items c.loop-node.node up
             c.loop-node-test.false;
       },
       omega arith,
@@ -55,7 +55,7 @@ invariant_of-self-then-index-least c =
         height = c.self.invariant.0.height;
         lowest = c.loop-node.invariant.0 ∙ c.self.invariant.0.lowest;
         size = up.size;
-        least = Up-stop t.first (set c.args.self.now c.args.index c.args.number) xs c.loop-node.node up here;
+        least = Up-stop t.first_leaf (set c.args.self.now c.args.index c.args.number) xs c.loop-node.node up here;
       },
       omega arith,
     )

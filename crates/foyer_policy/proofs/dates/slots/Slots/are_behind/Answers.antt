@@ -11,4 +11,4 @@ returns c = λ behind.
     rw (← c.self.view_is)
     (first_by-none c.args.now s.row.slots
     (late_slots c.args.now s.limit s.row.slots s.tree d.above d.leaves d.within
-    (λ b within. omega (arith, late, c.least.ensures b within))))
+    (λ b within. omega (arith, late, c.least.ensures.below b within))))
