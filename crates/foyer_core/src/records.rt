@@ -59,7 +59,7 @@ impl<K: Drop, V: Drop, P: Drop> Records<K, V, P> {
         Ok(())
     }
 
-    /// How many slots there are. A new one has this number.
+    /// Returns how many slots there are. A new one has this number.
     #[inline(always)]
     pub fn count(&self) -> usize
         ensures { result ≡ count_in self.now }
@@ -269,7 +269,7 @@ impl<K: Eq + Drop, V: Drop, P: Drop> Records<K, V, P> {
     ghost use Rattle.foyer_core.specs.Records.{slot_in};
     ghost use Rattle.foyer_core.specs.Table.{has_key};
 
-    /// Whether the record in a slot has this key.
+    /// Returns whether the record in a slot has this key.
     #[inline(always)]
     pub fn has_key(&self, slot: usize, hash: u64, key: &K) -> bool
         ensures { result ≡ has_key K.eq (slot_in self.now slot) (hash, key.now) }

@@ -73,7 +73,7 @@ impl<T> Cell<T> {
 impl<T> Slots<T> {
     ghost use Rattle.foyer_core.specs.SlotLends.{lends_get, lends_value};
 
-    /// No slot has a value, and there is no room. It takes no memory.
+    /// No slot has a value, and there is no room. Takes no memory.
     pub fn new(alloc: Global) -> Self
         ensures { result ≡ record { slots = []; next = 0; room = 0 } }
     {
@@ -102,7 +102,7 @@ impl<T> Slots<T> {
         self.cells.reserve(1)
     }
 
-    /// How many slots have a value.
+    /// Returns how many slots have a value.
     #[inline(always)]
     pub fn len(&self) -> usize
         ensures { result ≡ count_by is_some self.now.slots }
@@ -110,7 +110,7 @@ impl<T> Slots<T> {
         self.cells.len() - self.vacant
     }
 
-    /// How many slots there are, with a value or free. A new one has this number.
+    /// Returns how many slots there are, with a value or free. A new one has this number.
     #[inline(always)]
     pub fn count(&self) -> usize
         ensures { result ≡ length self.now.slots }

@@ -98,7 +98,7 @@ impl<E: Eviction, K: Key, V: Value, P: Properties, I: Finder<K>> Store<E, K, V, 
         self.usage
     }
 
-    /// How many records are in the index.
+    /// Returns how many records are in the index.
     #[inline(always)]
     pub fn entries(&self) -> u64
         ensures { result ≡ length (E.model.order (state_of self.now).view) }
@@ -106,7 +106,7 @@ impl<E: Eviction, K: Key, V: Value, P: Properties, I: Finder<K>> Store<E, K, V, 
         self.entries
     }
 
-    /// Whether a key has a record in the index that is not expired at a moment. It takes no memory.
+    /// Returns whether a key has a record in the index that is not expired at a moment. Takes no memory.
     pub fn contains(&self, now: u64, hash: u64, key: &K) -> bool
         ensures { result ≡ is_some (hit (meaning_of self.now) now (state_of self.now) (hash, key.now)) }
     {

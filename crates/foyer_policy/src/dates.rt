@@ -75,7 +75,7 @@ impl Dates {
         })
     }
 
-    /// How many lists there are, the first ones. Of the others nothing is kept but how many dates they have.
+    /// Returns how many lists there are, the first ones. Of the others nothing is kept but how many dates they have.
     #[inline(always)]
     pub(crate) fn lists(&self) -> usize
         ensures { result ≡ self.now.lists }
@@ -83,7 +83,7 @@ impl Dates {
         self.rows.len()
     }
 
-    /// Whether more slots are left than are taken.
+    /// Returns whether more slots are left than are taken.
     #[inline(always)]
     pub(crate) fn has_room(&self) -> bool {
         let count = self.taken.saturating_add(self.beside);
@@ -129,8 +129,8 @@ impl Dates {
         self.used = self.taken;
     }
 
-    /// Puts a place with its date to the end of a list, and answers the number of its slot, or nothing where there is no
-    /// room left. It takes no memory.
+    /// Puts a place with its date to the end of a list, and answers the number of its slot, or nothing where there is
+    /// no room left. Takes no memory.
     #[inline(always)]
     pub(crate) fn push<T: HasItem, const N: usize>(
         &mut self,
@@ -158,7 +158,7 @@ impl Dates {
         Some(slot)
     }
 
-    /// Takes the date of a place of a list away, which must have one where the list is kept. It takes no memory.
+    /// Takes the date of a place of a list away, which must have one where the list is kept. Takes no memory.
     #[inline(always)]
     pub(crate) fn remove(&mut self, list: usize, place: Place, gone: Gone)
         requires { StandsIn list place self.old }
@@ -173,7 +173,7 @@ impl Dates {
         self.rows[list].take_out(place, gone);
     }
 
-    /// Whether it's known, without a look at them, that all dates of a list are behind a moment.
+    /// Returns whether it's known, without a look at them, that all dates of a list are behind a moment.
     #[inline(always)]
     pub(crate) fn are_behind(&self, list: usize, now: u64) -> bool
         requires { list < self.now.lists }

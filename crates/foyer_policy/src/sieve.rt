@@ -19,7 +19,7 @@ use serde::{Deserialize, Serialize};
 use std::alloc::Global;
 use std::marker::Model;
 
-/// The configuration of a [`Sieve`], which has no parts.
+/// The configuration of a [`Sieve`]: nothing to set.
 #[derive(Clone, Debug, Default, Drop, PartialEq, Eq, Serialize, Deserialize)]
 pub struct SieveConfig;
 
@@ -40,12 +40,12 @@ struct Victim {
     looks: u128,
 }
 
-/// Sieve, after "SIEVE is Simpler than LRU" (NSDI 2024): records stand in the order in which they came
-/// in, and a use sets a record's visited bit.
+/// Sieve (Zhang and others, "SIEVE is Simpler than LRU", NSDI 2024): records stay in the order in which they were
+/// inserted, and a use sets a record's visited bit.
 ///
-/// A pop looks from the hand on, or from the front where there is no hand, and goes on at the front after
-/// the last record. A visited record loses its bit; the first unvisited one leaves. The hand then points
-/// to the record behind it, or to none behind the last.
+/// A pop goes along the queue from the hand, or from the front if there is no hand, and on from the front after the
+/// last record. A visited record loses its bit; the first unvisited one leaves. The hand then points to the record
+/// behind it, or to none at the end.
 #[derive(Drop)]
 pub struct Sieve {
     queue: DatedLists<Node, 1>,
@@ -218,8 +218,8 @@ impl Eviction for Sieve {
         self.queue.push_back_at(0, place, Queued::of(item, state));
     }
 
-    /// Takes the first unvisited record of the rotation from the hand out, or else the first of the
-    /// rotation; or answers none where there is no record. It is never refused.
+    /// Removes the first unvisited record from the hand on, or else the first one, and returns it with its place.
+    /// Returns `None` if there is no record. Never fails.
     fn pop_at(&mut self) -> Result<Option<(Place, Item)>>
         ensures ok { IsOk result }
         ensures first { IfOk result (λ found. option_map (λ e. e.1) found

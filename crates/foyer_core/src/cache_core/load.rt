@@ -1,4 +1,4 @@
-//! What the shards of a core hold together.
+//! The sums over the shards of a core.
 
 ghost use Rattle.std.specs.Prelude.{◌≡◌, ◌+◌, ◌-◌, ◌<◌, ◌≤◌, ◌^◌, length, map};
 ghost use Rattle.foyer_core.specs.Core.{AreSums};
@@ -10,7 +10,7 @@ use crate::finder::Finder;
 use crate::shard::Shard;
 use foyer_policy::{Eviction, Key, Properties, Value};
 
-/// What one shard holds, or several together.
+/// The usage and the number of entries of one shard, or of several together.
 #[derive(Clone, Copy)]
 pub(super) struct Load {
     // The sum of the weights of the records in the index.

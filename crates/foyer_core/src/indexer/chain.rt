@@ -20,7 +20,7 @@ pub(crate) struct Pair<K> {
     pub(crate) hash: u64,
     pub(crate) key: K,
     pub(crate) number: u64,
-    /// Where its chain goes on.
+    /// The next pair of its chain.
     pub(crate) next: Link,
 }
 

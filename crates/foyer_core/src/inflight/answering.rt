@@ -1,4 +1,4 @@
-//! What those get who wait for a key's fetch, where an insert brings the key's record in.
+//! What waiters get when an insert brings their key's record.
 
 ghost use Rattle.std.specs.Prelude.{◌≡◌, Some};
 ghost use Rattle.foyer_core.specs.Inflight.{closed, waiters_of};

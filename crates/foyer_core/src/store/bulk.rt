@@ -14,8 +14,8 @@ impl<E: Eviction, K: Key, V: Value, P: Properties, I: Finder<K>> Store<E, K, V, 
     ghost use Rattle.foyer_core.specs.CoreBulk.{EvictsToCapacity, EvictingToCapacity};
     ghost use Rattle.foyer_core.specs.State.{at_moment};
 
-    /// Sets the weight that the records may have together, and tells the policy. Nothing leaves, even where the
-    /// usage is above it. It takes no memory.
+    /// Sets the weight that the records may have together, and tells the policy. Nothing leaves, even where the usage
+    /// is above it. Takes no memory.
     pub fn set_capacity(&mut self, capacity: usize)
         ensures { state_of self.new ≡ after_capacity (meaning_of self.old) (state_of self.old) capacity }
     {
@@ -23,7 +23,7 @@ impl<E: Eviction, K: Key, V: Value, P: Properties, I: Finder<K>> Store<E, K, V, 
         self.capacity = capacity;
     }
 
-    /// Whether a configuration is of the store's policy.
+    /// Returns whether a configuration is of the store's policy.
     pub fn takes(&self, config: &E::Config) -> bool
         ensures { result ≡ E.model.takes (state_of self.now).view config.now }
     {

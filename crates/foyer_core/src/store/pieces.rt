@@ -22,8 +22,8 @@ impl<E: Eviction, K: Key, V: Value, P: Properties, I: Finder<K>> Store<E, K, V, 
     ghost use Rattle.foyer_core.specs.Steps.{Inserts, RefusesHandles, RefusesInsert};
     ghost use Rattle.foyer_core.specs.Pieces.{GainsHandles, InsertsPiece, Returns, RefusesReturn, coming_under, is_known};
 
-    /// Whether a piece, whose key has this hash, stands for a record of this shard: the piece has its core's
-    /// number and this hash, and its id was given. It takes no memory.
+    /// Returns whether a piece, whose key has this hash, stands for a record of this shard: the piece has its core's
+    /// number and this hash, and its id was given. Takes no memory.
     pub(crate) fn knows(&self, hash: u64, piece: &Piece<K, V, P>) -> bool
         ensures { result ≡ is_known (state_of self.now) hash piece.now }
     {
@@ -31,7 +31,7 @@ impl<E: Eviction, K: Key, V: Value, P: Properties, I: Finder<K>> Store<E, K, V, 
     }
 
     /// The hash and the key under which a piece comes in, whose key has this hash: those of the record for which it
-    /// stands, where the store knows it. It takes no memory.
+    /// stands, where the store knows it. Takes no memory.
     pub(crate) fn key_under<'a>(&'a self, hash: u64, piece: &'a Piece<K, V, P>) -> (u64, &'a K)
         ensures hash { result.0 ≡ (coming_under (state_of self.now) hash piece.now).0 }
         ensures key { result.1.now ≡ (coming_under (state_of self.now) hash piece.now).1 }

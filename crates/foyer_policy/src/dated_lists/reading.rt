@@ -62,7 +62,7 @@ impl<T: HasItem, const N: usize> DatedLists<T, N> {
         self.lists.get(place)
     }
 
-    /// How many nodes there are, with values or free. Each place is below it.
+    /// Returns how many nodes there are, with values or free. Each place is below it.
     #[inline(always)]
     pub(crate) fn span(&self) -> usize
         ensures span { result ≡ self.now.span }
@@ -71,7 +71,7 @@ impl<T: HasItem, const N: usize> DatedLists<T, N> {
         self.lists.span()
     }
 
-    /// Whether the value at a place has neighbors in its list where it is linked to some, which is so. To ask
+    /// Returns whether the value at a place has neighbors in its list where it is linked to some, which is so. To ask
     /// reads what `move_back` and `remove` are to write. The place must hold a value.
     #[inline(always)]
     pub(crate) fn has_neighbors(&self, place: Place) -> bool
@@ -92,7 +92,7 @@ impl<T: HasItem, const N: usize> DatedLists<T, N> {
         self.lists.first_two(list)
     }
 
-    /// Whether it's known that no item expires, without a look at them.
+    /// Returns whether it's known that no item expires, without a look at them.
     #[inline(always)]
     pub(crate) fn is_plain(&self) -> bool
         ensures { IsTrue result → (k : ℕ) → k < N → dates_at T.item_of self.now.lists k ≡ [] }

@@ -49,7 +49,7 @@ impl Tracking {
         }
     }
 
-    /// Takes account of an item that expires and goes from a list. It takes no memory.
+    /// Takes account of an item that expires and goes from a list. Takes no memory.
     #[inline(always)]
     pub(super) fn remove(&mut self, list: usize, place: Place, gone: Gone)
         requires { CanRemove list place self.old }

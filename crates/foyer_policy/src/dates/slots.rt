@@ -140,7 +140,7 @@ impl Slots {
         Ok(Slots { row, limit, tree })
     }
 
-    /// How many slots there may be.
+    /// Returns how many slots there may be.
     #[inline(always)]
     pub(super) fn limit(&self) -> usize {
         self.limit
@@ -169,7 +169,7 @@ impl Slots {
         Ok(())
     }
 
-    /// Drops the empty slots. It takes no memory.
+    /// Drops the empty slots. Takes no memory.
     pub(super) fn close_up<T: HasItem, const N: usize>(&mut self, lists: &mut Lists<T, N>)
         ensures same { self.new ≡ self.old }
         ensures lists { lists.new ≡ lists.old }
@@ -180,8 +180,8 @@ impl Slots {
         refresh_all(&mut self.tree, &self.row, blocks);
     }
 
-    /// Puts a place that has no slot with its date behind the others, and answers the number of its slot, or nothing where
-    /// no slot is left. It takes no memory.
+    /// Puts a place that has no slot with its date behind the others, and answers the number of its slot, or nothing
+    /// where no slot is left. Takes no memory.
     #[inline(always)]
     pub(super) fn push(&mut self, place: Place, date: u64) -> Option<usize>
         requires { find_in place self.old ≡ None }
@@ -196,7 +196,7 @@ impl Slots {
         Some(index)
     }
 
-    /// Empties the slot of a place, which must have one. It takes no memory.
+    /// Empties the slot of a place, which must have one. Takes no memory.
     #[inline(always)]
     pub(super) fn take_out(&mut self, place: Place, gone: Gone)
         requires { IsSome (find_in place self.old) }
@@ -207,7 +207,7 @@ impl Slots {
         raise(&mut self.tree, &self.row, index / BLOCK, gone);
     }
 
-    /// Whether it's known, without a look at them, that all dates are behind a moment.
+    /// Returns whether it's known, without a look at them, that all dates are behind a moment.
     #[inline(always)]
     pub(super) fn are_behind(&self, now: u64) -> bool
         ensures { IsTrue result → first_by now self.now ≡ None }

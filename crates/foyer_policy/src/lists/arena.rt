@@ -139,7 +139,7 @@ impl<T, const N: usize> Arena<T, N> {
         self.nodes.get(self.base, place)
     }
 
-    /// Whether a node has a value.
+    /// Returns whether a node has a value.
     #[inline(always)]
     pub(crate) fn has_value(&self, place: usize) -> bool
         requires arena { IsArena self.now }

@@ -60,7 +60,7 @@ impl Row {
         Ok(Row { dates, places })
     }
 
-    /// How many slots there may be.
+    /// Returns how many slots there may be.
     #[inline(always)]
     pub(super) fn capacity(&self) -> usize
         ensures { result ≡ self.now.capacity }
@@ -68,7 +68,7 @@ impl Row {
         self.dates.capacity().min(self.places.capacity())
     }
 
-    /// How many slots there are.
+    /// Returns how many slots there are.
     #[inline(always)]
     pub(super) fn len(&self) -> usize
         ensures { result ≡ length self.now.slots }
