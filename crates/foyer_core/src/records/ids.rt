@@ -1,7 +1,7 @@
-//! Where each id's record stands.
+//! The slot of each id.
 //!
-//! Ids are given in order and their records leave in about that order. So the last ids have a place each, in a ring, and
-//! an id whose record outstays these goes into a map.
+//! Ids are given in order, and their records leave in about that order. So the last ids have a place each in a ring,
+//! and an id whose record outstays the ring moves to a map.
 
 ghost use Rattle.std.specs.Prelude.{◌≡◌, ◌≢◌, ℕ, ◌+◌, ◌*◌, ◌%◌, ◌^◌, ◌<◌, ◌≤◌, Some, None, IfOk, IfSome, OnOk, length, slice_get, nat_eq, vec_len, true};
 ghost use Rattle.std.specs.HashMap.{get as get_key, spare};
@@ -14,7 +14,7 @@ use std::collections::HashMap;
 // Twice as many places come with each bit from here on.
 const FIRST_BITS: u32 = 3;
 
-/// The slot that stands at a place, or none.
+/// The slot at a place of the ring, or none.
 #[derive(Clone, Copy)]
 struct Standing {
     // the greatest number for none
@@ -52,8 +52,8 @@ impl Standing {
     }
 }
 
-/// Where each id's record stands. The last ids before `end` have a place each, by their low bits. One that still has a
-/// slot when the next with its low bits comes goes into a map.
+/// The slot of each id. The last ids before `end` have a place each in the ring, by their low bits. An id that still
+/// has a slot when its place is needed for a later one moves to the map.
 #[derive(Drop)]
 pub(crate) struct Ids {
     // none, or a place for each number of so many bits
@@ -70,7 +70,7 @@ pub(crate) struct Ids {
 impl Ids {
     ghost use Rattle.foyer_core.specs.Ids.{HasRoomForId, slot_of};
 
-    /// No id has a slot.
+    /// Creates a table in which no id has a slot.
     pub(crate) fn new(alloc: Global) -> Self
         ensures { (id : ℕ) → slot_of result id ≡ None }
     {
@@ -83,7 +83,7 @@ impl Ids {
         }
     }
 
-    /// Makes room for one more id beside those of so many records.
+    /// Makes room for one more id beside those of so many records. If memory runs out, nothing has changed.
     #[inline(always)]
     pub(crate) fn reserve(&mut self, records: usize) -> Result<(), AllocError>
         ensures room { OnOk result (HasRoomForId self.new) }
@@ -114,7 +114,7 @@ impl Ids {
         Ok(())
     }
 
-    /// The slot of an id.
+    /// Returns the slot of an id.
     #[inline(always)]
     pub(crate) fn get(&self, id: u64) -> Option<usize>
         ensures { result ≡ slot_of self.now id }
@@ -125,7 +125,7 @@ impl Ids {
         }
     }
 
-    /// An id that has no slot names this one. There is room for it.
+    /// Sets the slot of an id that has none. Needs room.
     #[inline(always)]
     pub(crate) fn name(&mut self, id: u64, slot: usize)
         requires room { HasRoomForId self.old }
@@ -166,7 +166,7 @@ impl Ids {
         name_far(&mut self.far, id, slot);
     }
 
-    /// An id has no slot any more.
+    /// Removes the slot of an id.
     #[inline(always)]
     pub(crate) fn remove(&mut self, id: u64)
         ensures room { HasRoomForId self.old → HasRoomForId self.new }

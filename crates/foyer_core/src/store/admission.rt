@@ -1,4 +1,4 @@
-//! How a record comes into the index and the policy, where there is room.
+//! How a record is entered in index and policy, once there is room.
 
 ghost use Rattle.std.specs.Prelude.{◌≡◌, ℕ, ◌+◌, ◌<◌, ◌≤◌, ◌^◌, Some, None, OnErr, IfOk, IsSome, IsSomeAnd, max, nat_eq, true, false};
 ghost use Rattle.std.specs.Option.{ForSome};

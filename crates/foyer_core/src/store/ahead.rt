@@ -1,8 +1,8 @@
-//! What an eviction and a use read ahead.
+//! Reads ahead of an eviction or a use.
 //!
-//! A share is counted by a locked instruction, behind which each read waits until those before it are done. So what is
-//! to be read of records and of the policy's nodes is read before shares are counted, all at once. Where a record is due,
-//! so is what leads to it by its id and by its key. What is asked here is so in any case.
+//! A share is counted by a locked instruction, and each read behind it waits until those before it are done. So what
+//! will be read of records and of the policy's nodes is read before shares are counted, all at once; for an expired
+//! record also what leads to it by its id and by its key. Each of these functions returns true.
 
 ghost use Rattle.std.specs.Prelude.{IsSome, IsTrue};
 

@@ -1,4 +1,4 @@
-//! The end of a shard's store: what is still in is told.
+//! The end of a store: its resident records are told.
 
 ghost use Rattle.std.specs.Prelude.{◌≡◌, ℕ, ◌<◌, Some, true};
 ghost use Rattle.foyer_policy.specs.Items.{count_of};

@@ -1,4 +1,4 @@
-//! Evictions of a shard's records.
+//! Evictions.
 
 ghost use Rattle.std.specs.Prelude.{◌≡◌, ◌<◌, Some, None, OnOk, OnErr, IfOk, IfErr, IfSome, IfNone, IsSome, vec_len, vec_capacity};
 ghost use Rattle.foyer_policy.specs.declared.error.Reason.TheVariants.{NoMemory};
@@ -78,9 +78,7 @@ impl<E: Eviction, K: Key, V: Value, P: Properties, I: Finder<K>> Store<E, K, V, 
         Ok(Some(self.records.leave(slot, self.number)))
     }
 
-    /// Evicts, at a moment, until the usage is at most the target, or nothing more leaves, and appends what leaves: what
-    /// is due first, and then what the policy pops. Refused for want of memory alone (F7); then some beginning of the
-    /// evictions has left, and stands in the list.
+    /// Evicts until the usage is at most the target, as `Shard::evict_onto` does.
     #[inline(always)]
     pub fn evict_onto(
         &mut self,

@@ -1,4 +1,4 @@
-//! Handles of a shard's records.
+//! Handles of records: `get` and `give_back`.
 
 ghost use Rattle.std.specs.Prelude.{◌≡◌, ◌≢◌, ◌⊎◌, Some, OnErr, IfOk, IfErr, IsSomeAnd, false, option_copied, option_map};
 ghost use Rattle.foyer_core.specs.Values.{Kept};
@@ -16,9 +16,7 @@ impl<E: Eviction, K: Key, V: Value, P: Properties, I: Finder<K>> Store<E, K, V, 
     ghost use Rattle.foyer_core.specs.State.{handles_in};
     ghost use Rattle.foyer_core.specs.Steps.{Gets, GivesBack};
 
-    /// An entry of the key's record, where it is in the index and not expired at a moment, which counts as a handle
-    /// and as a use. Refused at the limit of handles (F9), or where the record could not be shared (F7); then nothing
-    /// has changed. Allocates nothing.
+    /// Returns an entry of the key's record, as `Shard::get` does. Allocates nothing.
     #[inline(always)]
     pub fn get(&mut self, now: u64, hash: u64, key: &K) -> Result<Option<CoreEntry<K, V, P>>>
         ensures gets { Gets (meaning_of self.old) now (state_of self.old) (hash, key.now) result (state_of self.new) }
@@ -42,9 +40,7 @@ impl<E: Eviction, K: Key, V: Value, P: Properties, I: Finder<K>> Store<E, K, V, 
         Ok(Some(entry))
     }
 
-    /// Takes an entry back: its record has one handle less. With its last handle a record in the index is released, a
-    /// phantom one leaves, and any other is forgotten. An entry of another core's number, or of whose id there is no
-    /// handle here, comes back, and nothing has changed. Takes no memory.
+    /// Gives an entry back and returns what left with it, as `Shard::give_back` does. Takes no memory.
     #[inline(always)]
     pub fn give_back(
         &mut self,

@@ -1,4 +1,4 @@
-//! Phantom records, which are held and never in the index.
+//! Inserts of phantom records, which are never in the index.
 
 ghost use Rattle.std.specs.Prelude.{◌≡◌, ℕ, ◌+◌, ◌<◌, ◌≤◌, ◌^◌, Some, None, OnOk, IfOk, MatchResult, false, vec_len, vec_capacity};
 ghost use Rattle.foyer_policy.specs.declared.types.Source.{Source};

@@ -1,4 +1,4 @@
-//! Records that come into a shard by a piece.
+//! Inserts of pieces.
 
 ghost use Rattle.std.specs.Prelude.{◌≡◌, [], ◌+◌, ◌<◌, ◌≤◌, ◌^◌, Some, IfOk, IsSomeAnd, MatchResult, replicate, true, false, vec_len, vec_capacity};
 ghost use Rattle.foyer_policy.specs.declared.types.Source.TheVariants.{Memory};
@@ -22,16 +22,15 @@ impl<E: Eviction, K: Key, V: Value, P: Properties, I: Finder<K>> Store<E, K, V, 
     ghost use Rattle.foyer_core.specs.Steps.{Inserts, RefusesHandles, RefusesInsert};
     ghost use Rattle.foyer_core.specs.Pieces.{GainsHandles, InsertsPiece, Returns, RefusesReturn, coming_under, is_known};
 
-    /// Returns whether a piece, whose key has this hash, stands for a record of this shard: the piece has its core's
-    /// number and this hash, and its id was given. Takes no memory.
+    /// Returns whether a piece, whose key has this hash, stands for a record of this shard, as `Shard::knows` does.
     pub(crate) fn knows(&self, hash: u64, piece: &Piece<K, V, P>) -> bool
         ensures { result ≡ is_known (state_of self.now) hash piece.now }
     {
         piece.number() == self.number && piece.hash() == hash && piece.id() < self.next
     }
 
-    /// The hash and the key under which a piece comes in, whose key has this hash: those of the record for which it
-    /// stands, where the store knows it. Takes no memory.
+    /// Returns the hash and the key under which a piece is inserted, whose key has this hash: those of its record, if
+    /// the store knows that. Takes no memory.
     pub(crate) fn key_under<'a>(&'a self, hash: u64, piece: &'a Piece<K, V, P>) -> (u64, &'a K)
         ensures hash { result.0 ≡ (coming_under (state_of self.now) hash piece.now).0 }
         ensures key { result.1.now ≡ (coming_under (state_of self.now) hash piece.now).1 }
@@ -45,13 +44,8 @@ impl<E: Eviction, K: Key, V: Value, P: Properties, I: Finder<K>> Store<E, K, V, 
         }
     }
 
-    /// Takes a piece's record in, whose key has this hash, and answers handles of it, as `emplace` does. What leaves is
-    /// appended to a list. A clone of the key must equal it.
-    ///
-    /// A piece that the store knows stands for its record. One in the index has these handles more, and nothing else
-    /// happens. Any other comes in under its id: with the data that are held of it, or else with the piece's. A piece
-    /// that it does not know makes a new record, of this hash and this weight, which shares the piece's data. Each is
-    /// refused as an insert is; a record that has an id needs no other (F10).
+    /// Inserts the record of a piece as `Shard::emplace_piece` does, and returns one handle and as many more as
+    /// `further` says.
     pub(crate) fn emplace_piece(
         &mut self,
         alloc: Global,

@@ -1,4 +1,4 @@
-//! What a shard's store is asked that changes nothing.
+//! Why a `get` would fail whatever memory there is.
 
 ghost use Rattle.std.specs.Prelude.{◌≡◌, Err, IfSome, IfNone};
 ghost use Rattle.foyer_policy.specs.declared.error.Reason.TheVariants.{Handles};

@@ -1,4 +1,4 @@
-//! Why a shard takes a record not in.
+//! Why an insert fails whatever memory there is: F10, F9 and F8.
 
 ghost use Rattle.std.specs.Prelude.{◌≡◌, [], ◌⊎◌, ◌↔◌, ◌+◌, ◌<◌, ◌≤◌, ◌^◌, false, Some, IfSome, IfNone, IsTrue};
 ghost use Rattle.foyer_policy.specs.declared.error.Reason.TheVariants.{Ids, Handles, Weight};

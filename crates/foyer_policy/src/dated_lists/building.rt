@@ -1,4 +1,4 @@
-//! The dates of all items that are in lists.
+//! Looking up the dates of all items in lists.
 
 ghost use Rattle.std.specs.Prelude.{◌≡◌, ℕ, ◌≢◌, ◌+◌, ◌<◌, ◌≤◌, [], IfErr, IfOk, IsTrue};
 ghost use Rattle.foyer_policy.specs.DatedLists.{Builds, Knows, dates_at};
@@ -65,8 +65,10 @@ fn push_dates<T: HasItem, const N: usize>(
     true
 }
 
-/// What is known once all dates are looked up, where the first lists are searched, `searched` of them. Only memory can be
-/// missing (F7).
+/// Looks up all dates of the first `searched` lists.
+///
+/// # Errors
+/// F7 if memory runs out.
 #[cold]
 #[inline(never)]
 pub(super) fn built<T: HasItem, const N: usize>(

@@ -1,4 +1,4 @@
-//! How what is known of dates follows each change of the lists, before that is made.
+//! Keeps the dates up to date with each change of the lists, before the change is made.
 
 ghost use Rattle.std.specs.Prelude.{◌≡◌, ◌<◌, ◌∷◌, ◌++◌, [], None, IfErr, IsSome, map, slice_set};
 ghost use Rattle.foyer_policy.specs.DatedLists.{Knows, dates_at};
@@ -35,7 +35,7 @@ fn push_date<T: HasItem, const N: usize>(
     dates.push(lists, list, place, date)
 }
 
-/// Follows a value that comes to the end of a list.
+/// Follows a value that is appended to a list.
 #[inline(always)]
 pub(super) fn follow_push<T: HasItem, const N: usize>(
     dates: &mut Tracking,
@@ -90,7 +90,7 @@ fn remove_date<T: HasItem, const N: usize>(dates: &mut Tracking, lists: &Lists<T
     }
 }
 
-/// Follows a value that goes.
+/// Follows a value that is removed.
 #[inline(always)]
 pub(super) fn follow_remove<T: HasItem, const N: usize>(
     dates: &mut Tracking,
@@ -121,7 +121,7 @@ fn pop_date<T: HasItem, const N: usize>(dates: &mut Tracking, lists: &Lists<T, N
     }
 }
 
-/// Follows the first value of a list, which goes where there is one.
+/// Follows the first value of a list, if there is one, which is removed.
 #[inline(always)]
 pub(super) fn follow_pop<T: HasItem, const N: usize>(
     dates: &mut Tracking,
@@ -239,7 +239,10 @@ fn reserve_dates<T: HasItem, const N: usize>(
     make_room(dates, lists, searched, alloc)
 }
 
-/// Makes room for the date of one more item. Only memory can be missing (F7).
+/// Makes room for the date of one more item.
+///
+/// # Errors
+/// F7 if memory runs out.
 #[inline(always)]
 pub(super) fn follow_reserve<T: HasItem, const N: usize>(
     dates: &mut Tracking,

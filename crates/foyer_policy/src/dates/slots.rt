@@ -24,8 +24,8 @@ use row::{PLACES, Row};
 // How many slots have one leaf of the tree.
 const BLOCK: usize = 32;
 
-/// Places of a list with their dates, in slots: each stands behind those that came before it. A date that goes leaves its
-/// slot empty, until the slots close up.
+/// Places of a list with their dates, in slots, in the order in which they came. A date that is removed leaves its
+/// slot empty until the empty slots are dropped.
 #[derive(Drop)]
 pub(super) struct Slots {
     row: Row,
@@ -47,7 +47,7 @@ impl Model for Slots {
     ghost invariant = { λ s. AreDates s.limit s.row s.tree };
 }
 
-/// What is known of a date that goes.
+/// What is known of a date that is removed.
 #[derive(Clone, Copy)]
 pub(crate) struct Gone {
     pub(crate) date: u64,
@@ -129,7 +129,10 @@ fn search(row: &Row, place: Place) -> usize
 }
 
 impl Slots {
-    /// No slots, and room for so many or for 2^32 - 1. Only memory can be missing (F7).
+    /// Creates no slots, with room for so many, at most 2^32 - 1.
+    ///
+    /// # Errors
+    /// F7 if memory runs out.
     pub(super) fn new(alloc: Global, limit: usize) -> Result<Self>
         ensures none { IfOk result (λ s. s ≡ []) }
         ensures refused { IfErr result (λ e. e ≡ NoMemory) }
@@ -146,7 +149,10 @@ impl Slots {
         self.limit
     }
 
-    /// Makes room for so many slots, or for 2^32 - 1. Only memory can be missing (F7); nothing else changes.
+    /// Makes room for so many slots, at most 2^32 - 1.
+    ///
+    /// # Errors
+    /// F7 if memory runs out; nothing else has changed.
     pub(super) fn grow<T: HasItem, const N: usize>(
         &mut self,
         alloc: Global,
@@ -180,8 +186,8 @@ impl Slots {
         refresh_all(&mut self.tree, &self.row, blocks);
     }
 
-    /// Puts a place that has no slot with its date behind the others, and answers the number of its slot, or nothing
-    /// where no slot is left. Takes no memory.
+    /// Appends a place that has no slot, with its date, and returns the number of its slot, or `None` if there is no
+    /// room. Takes no memory.
     #[inline(always)]
     pub(super) fn push(&mut self, place: Place, date: u64) -> Option<usize>
         requires { find_in place self.old ≡ None }
@@ -207,7 +213,7 @@ impl Slots {
         raise(&mut self.tree, &self.row, index / BLOCK, gone);
     }
 
-    /// Returns whether it's known, without a look at them, that all dates are behind a moment.
+    /// Returns whether no date is due, as far as that is known without looking at them.
     #[inline(always)]
     pub(super) fn are_behind(&self, now: u64) -> bool
         ensures { IsTrue result → first_by now self.now ≡ None }
@@ -215,7 +221,7 @@ impl Slots {
         self.tree.least() > now
     }
 
-    /// The first place whose date is not behind a moment.
+    /// Returns the first place whose date is due at `now`.
     pub(super) fn first(&self, now: u64) -> Option<Place>
         ensures { result ≡ first_by now self.now }
     {

@@ -1,4 +1,4 @@
-//! The free nodes of a block, as a list of their own: a node comes in at its front, and any leaves it.
+//! The free nodes of a block, as a list of their own: nodes are added in front, and any one may be taken.
 
 ghost use Rattle.std.specs.Prelude.{◌≡◌, ◌^◌, ◌<◌, None, length, slice_index_or};
 ghost use Rattle.std.specs.Option.{ForSome};
@@ -41,7 +41,7 @@ fn set_after<T>(nodes: &mut Nodes<Links, T>, base: Base<Links, T>, at: Link, to:
     }
 }
 
-/// Puts a node without a value before the free ones, of which `free` is the first.
+/// Adds a node without a value in front of the free ones, of which `free` is the first.
 #[inline(always)]
 pub(super) fn put_free<T, const N: usize>(
     nodes: &mut Nodes<Links, T>,
@@ -66,7 +66,7 @@ pub(super) fn put_free<T, const N: usize>(
     nodes.set_links(base, place, links);
 }
 
-/// Takes a node out of the free ones, of which `free` is the first, and answers the first that is left.
+/// Takes a node from the free ones, of which `free` is the first, and returns the first that is left.
 #[inline(always)]
 pub(super) fn take_free<T>(
     nodes: &mut Nodes<Links, T>,

@@ -1,4 +1,4 @@
-//! Steps of linked lists over the nodes of an arena: a node is linked in, out of its list, or taken out.
+//! Steps of linked lists over the nodes of an arena: linking a node in, out of its list, and removing it.
 
 ghost use Rattle.std.specs.Prelude.{◌≡◌, ℕ, ◌+◌, ◌<◌, ◌∷◌, ◌++◌, [], Some, None, IsSome, IsTrue, length, map, slice_index_or, slice_set, if◌then◌else◌};
 ghost use Rattle.std.specs.Option.{ForSome};

@@ -22,8 +22,7 @@ pub(super) const MAIN: usize = 1;
 // No frequency passes this.
 pub(super) const MOST: u8 = 3;
 
-/// What an [`S3Fifo`](super::S3Fifo) keeps beside an item: its frequency, from 0 to 3, and which queue it
-/// is in.
+/// What an [`S3Fifo`](super::S3Fifo) keeps beside an item: its frequency, from 0 to 3, and its queue.
 #[derive(Clone, Copy, Debug, Default)]
 pub struct S3FifoState {
     pub(super) frequency: u8,

@@ -1,4 +1,4 @@
-//! Leaves of a tree over slots: for every few slots, a number that no date in these is below.
+//! The leaves of a tree over slots: for each block of slots, a number that none of its dates is below.
 
 ghost use Rattle.std.specs.Prelude.{◌≡◌, ◌≢◌, ℕ, ◌+◌, ◌*◌, ◌/◌, ◌<◌, ◌≤◌, Some, length, slice_get, slice_index};
 ghost use Rattle.foyer_policy.specs.DateSlots.{AreAbove};
