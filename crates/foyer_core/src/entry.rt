@@ -104,10 +104,10 @@ pub type Leave<K, V, P> = (Event, Left<K, V, P>);
 pub struct CoreEntry<K, V, P> {
     number: u64,
     id: u64,
-    // Where the record was when the entry was made. It is a hint alone.
+    // Where the record was when the entry was made. It is only a hint.
     slot: usize,
     kept: Share<K, V, P>,
-    // What is left for a leave.
+    // The share for `left`.
     left: Option<Arc<Body<K, V, P>, Global>>,
     source: Source,
 }
@@ -164,7 +164,7 @@ impl<K: Drop, V: Drop, P: Drop> CoreEntry<K, V, P> {
         self.id
     }
 
-    // The record stands in this slot.
+    // Sets the slot of the record.
     #[inline(always)]
     pub(crate) fn set_slot(&mut self, slot: usize)
         ensures { self.new ≡ self.old }
@@ -172,7 +172,7 @@ impl<K: Drop, V: Drop, P: Drop> CoreEntry<K, V, P> {
         self.slot = slot;
     }
 
-    // Where the record may stand.
+    // The slot that the record may be in.
     #[inline(always)]
     pub(crate) fn slot(&self) -> usize {
         self.slot
@@ -254,8 +254,8 @@ impl<K: Drop, V: Drop, P: Drop> CoreEntry<K, V, P> {
         Ok(Piece::of_share(self.number, self.id, self.slot, share))
     }
 
-    // An entry like this one, with a share of its own to leave, of a record in this slot. Only memory can be
-    // missing.
+    // An entry like this one, with its own share for `left`, of a record in this slot. F7 if the reference count is
+    // full.
     pub(crate) fn share(&self, slot: usize) -> Result<Self>
         ensures entry { IfOk result (λ e. e ≡ record self.now { left = true }) }
         ensures refused { IfErr result (λ e. e ≡ NoMemory) }

@@ -6,7 +6,7 @@ ghost use Rattle.std.specs.Prelude.{◌≡◌, true};
 pub trait Filter<K, V>: Drop {
     ghost use Rattle.std.specs.Prelude.{Bool};
 
-    // what the filter may answer
+    // what the filter may return
     ghost admits: { Self → K → V → Bool → Type 0 };
 
     /// Returns whether a record with this key and value is admitted. A record that isn't becomes phantom: its entry

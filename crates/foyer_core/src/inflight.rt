@@ -22,7 +22,7 @@ struct Inflight<N, R> {
     // the moment at which it was opened
     opened: u64,
     waiters: Vec<Waiting<N>>,
-    // the first builder that one who waits brought
+    // the first builder that a waiter brought
     later: Option<R>,
 }
 
@@ -35,7 +35,7 @@ impl<N, R> Model for Inflight<N, R> {
 }
 
 impl<N: Drop, R: Drop> Inflight<N, R> {
-    // A new fetch, opened at a moment, for which this one waits. Only memory can be missing.
+    // A new fetch, opened at `now`, with this waiter. F7 if memory runs out.
     fn new(alloc: Global, now: u64, id: u64, waiting: Waiting<N>) -> Result<Self>
         ensures made { IfOk result (λ o. o ≡ record { fetch = id; opened = now; tokens = waiting ∷ []; later = None }) }
         ensures refused { IfErr result (λ e. e ≡ NoMemory) }
@@ -52,7 +52,7 @@ impl<N: Drop, R: Drop> Inflight<N, R> {
         })
     }
 
-    // One more waits. Its builder is kept where none is. Only memory can be missing, and nothing changes then.
+    // Adds a waiter. Its builder is kept if the fetch has none. F7 if memory runs out; nothing has changed.
     fn join(&mut self, waiting: Waiting<N>, later: Option<R>) -> Result<()>
         ensures joined { OnOk result (self.new ≡ joined (Some self.old) self.old.opened self.old.fetch waiting later) }
         ensures refused { IfErr result (λ e. e ≡ NoMemory) }
@@ -68,7 +68,7 @@ impl<N: Drop, R: Drop> Inflight<N, R> {
         Ok(())
     }
 
-    // The builder that is kept, which is kept no longer.
+    // Takes the builder that is kept.
     fn take_later(&mut self) -> Option<R>
         ensures later { result ≡ self.old.later }
         ensures taken { self.new ≡ record self.old { later = None } }
@@ -183,7 +183,7 @@ impl<K: Key, N: Drop, R: Drop> InflightManager<K, N, R> {
         Ok(Enqueue::Wait { token })
     }
 
-    // The first one asks for a key.
+    // Opens a fetch for the first caller that asks for a key.
     fn lead(
         &mut self,
         now: u64,
@@ -245,7 +245,7 @@ impl<K: Key, N: Drop, R: Drop> InflightManager<K, N, R> {
         Some(waiters)
     }
 
-    // Who waits for a key's fetch, if one is open, which is closed. It takes no memory.
+    // Closes a key's fetch, if one is open, and returns its waiters. Takes no memory.
     #[inline(always)]
     fn close(&mut self, hash: u64, key: &K) -> Vec<Waiting<N>>
         ensures waiters { result.items ≡ waiters_of ((opens_of self.old).by_key (hash, key.now)) }
@@ -282,7 +282,7 @@ impl<K: Key, N: Drop, R: Drop> InflightManager<K, N, R> {
         Some(FetchOrTake::Notifiers(waiters))
     }
 
-    // The builder that a key's open fetch keeps, which it keeps no longer.
+    // Takes the builder that a key's open fetch keeps.
     fn take_later(&mut self, hash: u64, key: &K) -> Option<R>
         requires { is_some ((opens_of self.old).by_key (hash, key.now)) ≡ true }
         ensures later { (o : OpenFetch N R) → (opens_of self.old).by_key (hash, key.now) ≡ Some o → result ≡ o.later }

@@ -68,7 +68,7 @@ pub enum Outcome<K, V, P> {
 }
 
 impl<K: Drop, V: Drop, P: Drop> Outcome<K, V, P> {
-    // One of the handles each, for which their list has room, or the one refusal.
+    // One of the handles each, for which their list has room, or the same error each.
     fn of(came: Result<Handles<K, V, P>, Error>) -> Self
         requires room { IfOk came (λ made. vec_len made.others + 1 ≤ vec_capacity made.others) }
         ensures { got_of result ≡ shared_out came }
@@ -183,7 +183,7 @@ impl<K: Drop, V: Drop, P: Drop, N> Ended<K, V, P, N> {
         }
     }
 
-    // The end of a fetch for which these waited: each gets one of the handles, or all get the one refusal.
+    // The end of a fetch with these waiters: each gets one of the handles, or all get the error.
     pub(crate) fn found(
         waiters: Vec<Waiting<N>>,
         came: Result<Handles<K, V, P>, Error>,

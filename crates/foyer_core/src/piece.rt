@@ -17,7 +17,7 @@ use std::marker::Model;
 pub struct Piece<K, V, P> {
     number: u64,
     id: u64,
-    // Where the record was when the piece was made. It is a hint alone.
+    // Where the record was when the piece was made. It is only a hint.
     slot: usize,
     kept: Share<K, V, P>,
 }
@@ -45,7 +45,7 @@ impl<K, V, P> Piece<K, V, P> {
         self.id
     }
 
-    // Where the record may stand.
+    // The slot that the record may be in.
     pub(crate) fn slot(&self) -> usize {
         self.slot
     }
@@ -58,7 +58,7 @@ impl<K, V, P> Piece<K, V, P> {
         kept
     }
 
-    // A piece with this share of a record's data. The record may stand in this slot.
+    // A piece with this share of a record's data. The record may be in this slot.
     pub(crate) fn of_share(number: u64, id: u64, slot: usize, kept: Share<K, V, P>) -> Self
         ensures { result ≡ record { number = number; id = id; kept = kept } }
     {

@@ -94,7 +94,7 @@ impl<K: Drop, V: Drop, P: Drop> Record<K, V, P> {
         Ok(Record::of_share(Share::new(alloc, kept)?, 0))
     }
 
-    // A record with this share of its data and so many handles, which is in nothing.
+    // A record with this share of its data, so many handles and no flags.
     #[inline(always)]
     pub(crate) fn of_share(kept: Share<K, V, P>, refs: usize) -> Self
         ensures { (result.kept ≡ kept) × (result.place ≡ None) × (result.handles ≡ refs) × (bits_of result.flags ≡ 0) }
@@ -255,7 +255,7 @@ impl<K: Drop, V: Drop, P: Drop> Record<K, V, P> {
         self.state = state;
     }
 
-    // One more share of the data. Only memory can be missing.
+    // One more share of the data. F7 if the reference count is full.
     #[inline(always)]
     pub(crate) fn share(&self) -> Result<Share<K, V, P>>
         ensures kept { IfOk result (λ share. share ≡ self.now.kept) }

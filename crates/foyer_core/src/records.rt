@@ -144,7 +144,7 @@ impl<K: Drop, V: Drop, P: Drop> Records<K, V, P> {
         }
     }
 
-    // Puts a record with a new id in, and answers its slot.
+    // Enters a record with a new id, and returns its slot.
     #[inline(always)]
     fn put_new(&mut self, slot: Slot<K, V, P>) -> usize
         requires room { HasRoom self.old }
@@ -160,7 +160,7 @@ impl<K: Drop, V: Drop, P: Drop> Records<K, V, P> {
         place
     }
 
-    // Puts a record in a slot of its id, and answers what stood there.
+    // Puts a record into the slot of its id, and returns what was there.
     #[inline(always)]
     fn replace(&mut self, place: usize, slot: Slot<K, V, P>) -> Slot<K, V, P>
         requires { IsSomeAnd (slot_in self.old place) (λ s. s.id ≡ slot.id) }

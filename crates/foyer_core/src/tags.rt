@@ -113,7 +113,7 @@ impl Tags {
         wanted <= self.buckets.len() && more <= self.limit.saturating_sub(self.len)
     }
 
-    // The same where there are more buckets, or more homes.
+    // Makes room by more buckets, or by more homes.
     #[cold]
     #[inline(never)]
     fn make_room(&mut self, more: usize) -> Result<(), AllocError>
@@ -197,7 +197,7 @@ impl Tags {
         self.put(Tag::new(fingerprint_of(hash), slot));
     }
 
-    // Puts a tag in, whose slot is new. There is room for it.
+    // Enters a tag whose slot is new. Needs room.
     #[inline(always)]
     fn put(&mut self, tag: Tag)
         requires named { named (Some tag) ≡ Some tag }

@@ -6,7 +6,7 @@ ghost use Rattle.std.specs.Prelude.{◌≡◌};
 pub trait Weighter<K, V>: Drop {
     ghost use Rattle.std.specs.Prelude.{ℕ};
 
-    // what the weighter may answer
+    // what the weighter may return
     ghost weighs: { Self → K → V → ℕ → Type 0 };
 
     /// Returns the weight of a record with this key and value.

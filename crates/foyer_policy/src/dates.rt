@@ -19,7 +19,7 @@ pub(crate) use slots::Gone;
 /// The largest number of dates of a list. Places that have a date are below it.
 pub(crate) const MOST: usize = u32::MAX as usize;
 
-// How many slots more than are wanted there is room for at least.
+// The least number of spare slots.
 const FEW: usize = 32;
 
 /// Places of some lists with their dates, in the order of each list, so that the first one that is due is found in
@@ -31,15 +31,15 @@ const FEW: usize = 32;
 /// empty ones are dropped.
 #[derive(Drop)]
 pub(crate) struct Dates {
-    // Of each list the slots.
+    // The slots of each list.
     rows: Vec<Slots>,
-    // How many slots there may be, of all lists together.
+    // The largest number of slots, of all lists together.
     limit: usize,
-    // How many slots there are.
+    // The number of slots.
     used: usize,
-    // How many slots are not empty.
+    // The number of slots that aren't empty.
     taken: usize,
-    // How many dates are in lists that are not kept.
+    // The number of dates in lists whose dates aren't kept.
     beside: usize,
     alloc: Global,
 }

@@ -43,7 +43,7 @@ pub(crate) fn first_of_list<T: HasItem, const N: usize>(
     None
 }
 
-// As `first_of_lists`, where some item may expire.
+// As `first_of_lists`, if some items may expire.
 #[cold]
 #[inline(never)]
 fn first_of_each<T: HasItem, const N: usize>(

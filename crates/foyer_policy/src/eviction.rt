@@ -43,10 +43,10 @@ pub trait Eviction: Drop {
     // there is room for a `clear`
     ghost can_clear: { Self → Type 0 };
 
-    // a pop may want memory now, as where the policy is to remember what leaves
+    // a pop may need memory now, as in a policy that remembers what it evicted
     ghost pop_wants_memory: { Self → Type 0 };
 
-    // how many records the last pop read
+    // how many readings the last pop made
     ghost looked: { Self → ℕ };
 
     /// Checks a configuration, for every capacity alike. Takes no memory.

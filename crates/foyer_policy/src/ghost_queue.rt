@@ -47,7 +47,7 @@ impl Model for GhostQueue {
     ghost invariant = { λ g. g.weight ≡ ghost_weight g.pairs.items };
 }
 
-// Drops pairs from the front until the rest weighs at most this, and answers what the rest weighs.
+// Drops pairs from the front until the rest weighs at most this, and returns what the rest weighs.
 fn shrink(
     pairs: &mut VecDeque<(u64, usize)>,
     hashes: &mut HashSet<u64>,

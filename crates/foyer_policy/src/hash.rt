@@ -9,7 +9,7 @@ use std::marker::Model;
 
 /// Gives each key a hash, and equal keys equal hashes. Every `BuildHasher` is one.
 pub trait HashBuilder: Drop + 'static {
-    // The number of a key that makes these writes to a hasher.
+    // The hash of a key that makes these writes to a hasher.
     ghost hash_of: { Self → List (List ℕ) → ℕ };
 
     /// Returns the hash of a key.
@@ -17,7 +17,7 @@ pub trait HashBuilder: Drop + 'static {
         ensures number { result ≡ hash_of self.now (K.hash_input key.now) }
         ensures equal_keys { (other : K) → IsTrue (K.eq key.now other) → hash_of self.now (K.hash_input other) ≡ result };
 
-    // Each number fits a `u64`.
+    // Each hash fits a `u64`.
     ghost fits: { (s : Self) (writes : List (List ℕ)) → hash_of s writes < 2 ^ 64 };
 }
 

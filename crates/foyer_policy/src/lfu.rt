@@ -57,7 +57,7 @@ impl Default for LfuConfig {
     }
 }
 
-// Refuses two ratios: each alone, F2 before F3, and then their sum (F4).
+// Checks two ratios: each alone, F2 before F3, and then their sum (F4).
 fn check_ratios(window: Ratio, protected: Ratio) -> Result<()>
     ensures { result ≡ ok_unless (ratios_fault window protected) }
 {

@@ -7,7 +7,7 @@ use std::marker::Model;
 /// Where a chain goes on: at a place, or nowhere. It takes one word; an `Option<usize>` takes two.
 #[derive(Clone, Copy)]
 pub struct Link {
-    // the greatest number for nowhere
+    // the largest number for nowhere
     place: usize,
 }
 

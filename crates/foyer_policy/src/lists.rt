@@ -79,7 +79,7 @@ impl<T, const N: usize> Lists<T, N> {
         ensures kept { self.old.room ≤ self.new.room }
         ensures span { self.old.span ≤ self.new.span }
 
-        // It is refused only where the room is less, and so never where there was room.
+        // It fails only if the room is less, and so never if there was room.
         ensures refused { IfErr result (λ e. e ≡ Reason.NoMemory) }
         ensures lacking { OnErr result (self.new.room < more) }
         ensures had_room { more ≤ self.old.room → IsOk result }
@@ -105,7 +105,7 @@ impl<T, const N: usize> Lists<T, N> {
         ensures kept { self.old.room ≤ self.new.room }
         ensures span { self.old.span ≤ self.new.span }
 
-        // It is refused only where the span is less, and so never where it was enough.
+        // It fails only if the span is less, and so never if it was enough.
         ensures refused { IfErr result (λ e. e ≡ Reason.NoMemory) }
         ensures lacking { OnErr result (self.new.span < wanted) }
         ensures had_span { wanted ≤ self.old.span → IsOk result }
@@ -295,7 +295,7 @@ impl<T, const N: usize> Lists<T, N> {
         heads.len()
     }
 
-    // Takes the values of a list out, and drops them.
+    // Removes the values of a list, and drops them.
     fn clear(&mut self, list: usize)
     where
         T: Drop,

@@ -290,7 +290,7 @@ impl Eviction for Lru {
         self.high_weight = settle(&mut self.lists, weight, self.limit);
     }
 
-    // A use moves the node, and then lets one go from the pool of high priority.
+    // A use moves the node, and may lower one of the pool of high priority.
     #[inline(always)]
     fn look_ahead(&self, place: Place) -> bool {
         let lowered = match self.lists.front(HIGH) {
@@ -308,7 +308,7 @@ impl Eviction for Lru {
         }
     }
 
-    // The lists in front of the pinned one: what is pinned is not looked through.
+    // The lists before the pinned one: pinned items aren't searched.
     #[inline(always)]
     fn expired(&self, now: u64) -> Option<Place> {
         first_of_lists(&self.lists, PIN, now)

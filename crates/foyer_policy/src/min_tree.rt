@@ -13,8 +13,8 @@ use std::marker::Model;
 /// high.
 #[derive(Drop)]
 pub(crate) struct MinTree {
-    // The root is node 1, and the children of node i are the four from 4 i - 2 on. Node 0 isn't used, so that the four
-    // stand in one line of the cache where memory begins 16 bytes behind a line's start, as big blocks mostly do.
+    // The root is node 1, and the children of node i are the four from 4 i - 2 on. Node 0 isn't used, so that the
+    // four share a line of the cache if memory begins 16 bytes behind a line's start, as large blocks mostly do.
     nodes: Vec<u64>,
     // The nodes from this one on are the leaves, three times its number less two of them, a power of four.
     first_leaf: usize,
@@ -33,7 +33,7 @@ impl Model for MinTree {
     ghost invariant = { λ t. IsTree t.first_leaf t.nodes.items × (t.marked + 2 < 3 * t.first_leaf) };
 }
 
-// The first leaf of the least tree that has so many leaves, or nothing for a huge number.
+// The first leaf of the smallest tree that has so many leaves, or `None` for a huge number.
 fn first_for(count: usize) -> Option<usize>
     ensures enough { IfSome result (λ first. count + 2 ≤ 3 * first) }
     ensures few { IfSome result (λ first. 3 * first ≤ 4 * count + 3) }
@@ -62,8 +62,8 @@ fn least_number(nodes: &[u64], at: usize) -> u64
     left.min(right)
 }
 
-// The first of four nodes in a row whose number is at most a limit, which one's must be. It has no branches, since which
-// one it is can't be foretold.
+// The first of four nodes in a row whose number is at most a limit; one of them must be. It has no branches, since
+// nobody can predict which one it is.
 #[inline(always)]
 fn first_of(nodes: &[u64], at: usize, limit: u64) -> usize
     requires room { at + 3 < length nodes.now }

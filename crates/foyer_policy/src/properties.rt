@@ -9,7 +9,7 @@ use crate::types::{Age, Hint, Location};
 
 /// The properties of a record. A type returns `None` for what it doesn't keep.
 pub trait Properties: Default + Drop + 'static {
-    // What each question is answered with.
+    // What each method returns.
     ghost phantom_of: { Self → Option Bool };
 
     ghost hint_of: { Self → Option Hint };
@@ -20,7 +20,7 @@ pub trait Properties: Default + Drop + 'static {
 
     ghost expiry_of: { Self → Option ℕ };
 
-    // The properties with another answer to `phantom`.
+    // The properties with another phantom flag.
     ghost with_phantom_of: { Self → Bool → Self };
 
     /// Returns these properties with this value of `phantom`.
@@ -70,7 +70,7 @@ pub trait Properties: Default + Drop + 'static {
     fn expiry(&self) -> Option<u64>
         ensures { result ≡ expiry_of self.now };
 
-    // The phantom answer is the one that was given, and the other answers stay.
+    // The phantom flag is the given one, and all else stays.
     ghost phantom_given: { (p : Self) (b : Bool) → phantom_of (with_phantom_of p b) ≡ Some b };
 
     ghost hint_stays: { (p : Self) (b : Bool) → hint_of (with_phantom_of p b) ≡ hint_of p };

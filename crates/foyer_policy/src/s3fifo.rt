@@ -92,7 +92,7 @@ impl Model for S3Fifo {
 }
 
 impl S3Fifo {
-    // Takes the victim out, for which the ghost queue has room, and answers it with the place that it had.
+    // Removes the victim, for which the ghost queue has room, and returns it with its place.
     fn pop_reserved(&mut self) -> Option<(Place, Item)>
         requires room { HasRoomToPop self.old }
         ensures stood { IfSome result (λ e. item_at self.old.nodes.lists e.0 ≡ Some e.1) }
@@ -263,8 +263,7 @@ impl Eviction for S3Fifo {
         item
     }
 
-    // Of what a clear takes out only records of the small queue enter the ghost queue, and none where
-    // that is within its limit.
+    // A clear enters only records of the small queue in the ghost queue, and none if that queue is within its limit.
     fn reserve_clear(&mut self) -> Result<()> {
         if self.small_weight <= self.limit || self.ghost_queue.capacity() == 0 {
             return Ok(());

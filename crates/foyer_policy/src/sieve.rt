@@ -31,7 +31,7 @@ pub struct SieveState {
 
 type Node = Queued<SieveState>;
 
-// What a pop took out, the place that it had, where the hand goes, and how many bits it read.
+// What a pop removed, its place, where the hand goes, and how many bits were read.
 #[derive(Drop)]
 struct Victim {
     item: Item,
@@ -66,8 +66,8 @@ impl Model for Sieve {
     ghost invariant = { λ s. IsSound s.queue.lists s.hand };
 }
 
-// Reads the visited bit of the node at a place, and takes it off. This is the only reading of a bit that
-// a pop makes, and it counts as one look.
+// Reads the visited bit of the node at a place, and clears it. This is the only reading of a bit that a pop makes,
+// and it counts as one look.
 fn take_bit(queue: &mut DatedLists<Node, 1>, place: Place, looks: &mut u128) -> bool
     requires there { IsSome (find place queue.old.lists) }
     requires few { looks.old < 2 ^ 64 }
@@ -84,7 +84,7 @@ fn take_bit(queue: &mut DatedLists<Node, 1>, place: Place, looks: &mut u128) -> 
     visited
 }
 
-// The place behind this one in the queue; behind the last, the first.
+// The place after this one in the queue; after the last, the first.
 fn next_round(queue: &DatedLists<Node, 1>, place: Place) -> Place
     requires { IsSome (find place queue.now.lists) }
     ensures place { (xs ys : _) (n : _) → list_at queue.now.lists 0 ≡ xs ++ (place, n) ∷ ys
@@ -99,7 +99,7 @@ fn next_round(queue: &DatedLists<Node, 1>, place: Place) -> Place
     }
 }
 
-// Takes the victim out, looking from a place on.
+// Removes the victim, looking from a place on.
 fn take_victim(queue: &mut DatedLists<Node, 1>, start: Place) -> Victim
     requires there { IsSome (find start queue.old.lists) }
     requires once { HasIdsOnce (entry_items (list_at queue.old.lists 0)) }
@@ -129,7 +129,7 @@ fn take_victim(queue: &mut DatedLists<Node, 1>, start: Place) -> Victim
     }
 }
 
-// The hand, once the node at this place goes.
+// The hand after the node at this place is removed.
 fn hand_beside(hand: Option<Place>, place: Place) -> Option<Place>
     ensures { result ≡ hand_without place hand }
 {

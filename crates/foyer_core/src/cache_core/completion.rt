@@ -120,7 +120,7 @@ impl<
         ended
     }
 
-    // Ends an open fetch with a value for which there was no memory to clone the key.
+    // Ends an open fetch with a value whose key couldn't be cloned.
     fn refuse_value(
         &mut self,
         hash: u64,

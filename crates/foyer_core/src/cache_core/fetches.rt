@@ -93,7 +93,7 @@ impl<
         self.end(key, fetch, Error::new(Reason::TaskCancelled))
     }
 
-    // Ends an open fetch of a key with a refusal.
+    // Ends an open fetch of a key with an error.
     pub(super) fn end(&mut self, key: &K, fetch: u64, error: Error) -> Ended<K, V, P, N>
         ensures ended { let hash = S.hash_of (core_of self.old).hash_builder (K.hash_input key.now) in
             EndsAt (hash, key.now) fetch K.eq error (fetches_of self.old) (ending_of result) (fetches_of self.new) }

@@ -107,8 +107,8 @@ impl<
         made
     }
 
-    // The weight with which a piece makes a new record, whose key has this hash. The weighter is not asked of one that
-    // its shard knows, nor of one whose key is not this one.
+    // The weight that a piece makes a new record with, whose key has this hash. The weighter isn't asked of a piece
+    // that its shard knows, nor of one whose key isn't this one.
     pub(super) fn weight_under(&self, hash: u64, piece: &Piece<K, V, P>, key: &K) -> usize
         ensures { (s : State K V P E.View) → shard_at (core_of self.now) hash ≡ Some s → is_known s hash piece.now ≡ false
             → K.eq key.now piece.now.kept.key ≡ true

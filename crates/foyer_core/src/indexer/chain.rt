@@ -148,7 +148,7 @@ pub(crate) fn push<K>(heads: &mut [Link], shift: u32, pairs: &mut Vec<Pair<K>>, 
     put_in(heads, shift, pairs, place);
 }
 
-// Takes the pair of a place out, and answers its number. The last pair takes its place.
+// Removes the pair of a place, and returns its number. The last pair takes its place.
 pub(crate) fn swap_remove<K: Drop>(
     heads: &mut [Link],
     shift: u32,
@@ -180,7 +180,7 @@ pub(crate) fn numbers<K>(alloc: Global, pairs: &[Pair<K>]) -> Result<Vec<u64>, A
     pairs.iter().map(|pair| pair.number).collect(alloc)
 }
 
-// The heads of new chains, into which all pairs go. Where they are refused, nothing changes.
+// Returns the heads of new chains, with all pairs linked into them. If memory runs out, nothing has changed.
 #[cold]
 #[inline(never)]
 pub(crate) fn spread<K>(

@@ -148,7 +148,7 @@ impl Ids {
         outstay(&mut self.far, older, id, places);
     }
 
-    // The same of an id that is not the next, as one that was given before.
+    // Sets the slot of an id that isn't the next one, such as one that comes back with a piece.
     #[cold]
     #[inline(never)]
     fn name_again(&mut self, id: u64, slot: usize)
@@ -193,7 +193,7 @@ impl Ids {
     }
 }
 
-// The slot of an id by the map.
+// Returns the slot of an id in the map.
 #[cold]
 #[inline(never)]
 fn far_slot(far: &HashMap<u64, usize>, id: u64) -> Option<usize>
@@ -202,7 +202,7 @@ fn far_slot(far: &HashMap<u64, usize>, id: u64) -> Option<usize>
     far.get(&id).copied()
 }
 
-// Names an id's slot in the map, which has room for it.
+// Sets the slot of an id in the map, which has room for it.
 #[cold]
 #[inline(never)]
 fn name_far(far: &mut HashMap<u64, usize>, id: u64, slot: usize)
@@ -212,7 +212,7 @@ fn name_far(far: &mut HashMap<u64, usize>, id: u64, slot: usize)
     let _ = far.insert(id, slot);
 }
 
-// What stood at the place of an id among so many goes into the map, which has room for it.
+// Moves what was at an id's place, of so many, to the map, which has room for it.
 #[inline(always)]
 fn outstay(far: &mut HashMap<u64, usize>, older: Standing, id: u64, places: usize)
     requires { 0 < spare far.old }
@@ -228,7 +228,7 @@ fn outstay(far: &mut HashMap<u64, usize>, older: Standing, id: u64, places: usiz
     }
 }
 
-// Takes an id out of the map.
+// Removes an id from the map.
 #[cold]
 #[inline(never)]
 fn forget_far(far: &mut HashMap<u64, usize>, id: u64)
@@ -266,8 +266,8 @@ fn is_recent(many: usize, end: u64, id: u64) -> bool
     id < end && end - id <= many as u64
 }
 
-// What stands at a place once there is one for each number of so many bits: what stands at the place of the same id now,
-// if that is one of the last.
+// What is at a place once there is one for each number of so many bits: what is at the place of the same id now, if
+// that is one of the last.
 fn stays_at(near: &[Standing], end: u64, bits: u32, place: usize) -> Standing
     requires bits { bits < 64 }
     requires within { place < 2 ^ bits }

@@ -56,7 +56,7 @@ impl<E: Eviction, K: Key, V: Value, P: Properties, N: Drop, R: Drop, I: Finder<K
         }
     }
 
-    // One more asks for a key that is missing.
+    // Enters a caller that asks for a missing key.
     fn enqueue(
         &mut self,
         now: u64,
@@ -219,8 +219,8 @@ impl<E: Eviction, K: Key, V: Value, P: Properties, N: Drop, R: Drop, I: Finder<K
         Ended::found(waiters, came, leaves)
     }
 
-    // Whether a piece, whose key has the hash `own`, comes in under this hash and a key that equals this one. `is_home`
-    // says whether this is the shard of `own`.
+    // Whether a piece, whose key has the hash `own`, is inserted under this hash and a key that equals this one.
+    // `is_home` says whether this is the shard of `own`.
     fn is_under(&self, own: u64, piece: &Piece<K, V, P>, is_home: bool, hash: u64, key: &K) -> bool
         ensures { result ≡ comes_under (meaning_of self.now) (state_of self.now) own piece.now is_home (hash, key.now) }
     {

@@ -71,7 +71,7 @@ impl<E: Eviction, K: Key, V: Value, P: Properties, N: Drop, R: Drop, I: Finder<K
         }
     }
 
-    // The same where some may wait.
+    // Inserts as `emplace` does, if there are open fetches.
     #[cold]
     #[inline(never)]
     fn emplace_answering(
@@ -154,7 +154,7 @@ impl<E: Eviction, K: Key, V: Value, P: Properties, N: Drop, R: Drop, I: Finder<K
         }
     }
 
-    // An entry for each who waits for a key.
+    // An entry for each waiter of a key.
     #[inline(always)]
     pub(super) fn further(&self, hash: u64, key: &K) -> Further
         ensures count { result.count ≡ waiting_for (opens_of self.now) (hash, key.now) }
@@ -169,7 +169,7 @@ impl<E: Eviction, K: Key, V: Value, P: Properties, N: Drop, R: Drop, I: Finder<K
         Further { count, room: 0 }
     }
 
-    // An entry for each who waits for the key under which a piece comes in, whose key has this hash.
+    // An entry for each waiter of the key under which a piece is inserted, whose key has this hash.
     fn further_of(&self, hash: u64, piece: &Piece<K, V, P>) -> Further
         ensures count { result.count ≡ waiting_for (opens_of self.now) (coming_under (state_of self.now) hash piece.now) }
         ensures room { result.room ≡ 0 }

@@ -53,7 +53,7 @@ impl<E: Eviction, K: Key, V: Value, P: Properties, I: Finder<K>> Store<E, K, V, 
         self.entries = 0;
     }
 
-    // The records of these items leave the index and their slots, in the core of this number.
+    // Removes the records of these items from the index and their slots, in the core of this number.
     fn leave_all(
         index: &mut I,
         records: &mut Records<K, V, P>,
@@ -80,7 +80,7 @@ impl<E: Eviction, K: Key, V: Value, P: Properties, I: Finder<K>> Store<E, K, V, 
     }
 }
 
-// The record in a slot, to which its key leads, leaves the index and its slot, in the core of this number.
+// Removes the record in a slot, to which its key leads, from the index and the slot, in the core of this number.
 #[inline(always)]
 pub(super) fn leave_slot<K: Key, V: Drop, P: Drop, I: Finder<K>>(
     index: &mut I,

@@ -28,9 +28,9 @@ impl<E: Eviction, K: Key, V: Value, P: Properties, I: Finder<K>> Store<E, K, V, 
             return Err(Error::new(Reason::Handles));
         }
         let place = Place::at(slot);
-        // No veto: the answer is always yes, and the arm is never reached. It is asked so that the item's node and its
-        // neighbors are read before shares are counted (store/ahead.rt). An `unreachable!()` would let the compiler drop
-        // these reads.
+        // It always returns true, and the arm is never reached. It is called so that the item's node and its
+        // neighbors are read before shares are counted (store/ahead.rt). An `unreachable!()` would let the compiler
+        // drop these reads.
         if !self.eviction.look_ahead(place) {
             return Ok(None);
         }
@@ -78,7 +78,7 @@ impl<E: Eviction, K: Key, V: Value, P: Properties, I: Finder<K>> Store<E, K, V, 
         Ok(None)
     }
 
-    // The last handle of a record that is not in the index is gone.
+    // Forgets a record that isn't resident, with its last handle.
     fn forget(&mut self, slot: usize) -> Option<Leave<K, V, P>>
         requires { IsSomeAnd (slot_in self.old.records slot) (λ s. (s.handles ≡ 1) × (s.resident ≡ false)) }
         ensures { (s : Kept K V P) → slot_in self.old.records slot ≡ Some s
@@ -98,8 +98,7 @@ impl<E: Eviction, K: Key, V: Value, P: Properties, I: Finder<K>> Store<E, K, V, 
         self.number
     }
 
-    // How many handles there are of an id, whose record may stand in the slot that is hinted. It takes no
-    // memory.
+    // How many handles there are of an id, whose record may be in the hinted slot. Takes no memory.
     pub(crate) fn handles(&self, id: u64, hint: usize) -> usize
         ensures { result ≡ handles_in (state_of self.now) id }
     {
@@ -112,7 +111,7 @@ impl<E: Eviction, K: Key, V: Value, P: Properties, I: Finder<K>> Store<E, K, V, 
         }
     }
 
-    // What is held under an id, whose record may stand in the slot that is hinted. It takes no memory.
+    // The record of an id, which may be in the hinted slot. Takes no memory.
     pub(crate) fn held(&self, id: u64, hint: usize) -> Option<&Slot<K, V, P>>
         ensures { option_map rec_of (option_copied result) ≡ (state_of self.now).records id }
     {

@@ -81,8 +81,7 @@ impl<E: Eviction, K: Key, V: Value, P: Properties, I: Finder<K>> Store<E, K, V, 
         self.arrive(now, slot, source, leaves)
     }
 
-    // A record comes in that is not refused but for want of memory, and handles of it are made. What leaves is appended
-    // to a list.
+    // Inserts a record that only F7 can refuse, and makes handles of it. Appends what leaves.
     #[inline(always)]
     pub(super) fn come(
         &mut self,
@@ -118,7 +117,7 @@ impl<E: Eviction, K: Key, V: Value, P: Properties, I: Finder<K>> Store<E, K, V, 
         }
     }
 
-    // The same with one entry alone.
+    // Inserts as `come` does, with a single entry.
     #[inline(always)]
     fn arrive(
         &mut self,
@@ -152,7 +151,8 @@ impl<E: Eviction, K: Key, V: Value, P: Properties, I: Finder<K>> Store<E, K, V, 
         }
     }
 
-    // The same with no entry: it answers the slot where the record is. An entry with any source would be of it.
+    // Inserts as `arrive` does, with no entry, and returns the record's slot. An entry with any source would be of
+    // it.
     #[inline(always)]
     fn settle(
         &mut self,
@@ -176,10 +176,10 @@ impl<E: Eviction, K: Key, V: Value, P: Properties, I: Finder<K>> Store<E, K, V, 
         self.bring_in(now, slot, leaves)
     }
 
-    // Brings a plain record in, which is not refused but for want of memory: one with a new id, or one that
-    // comes back under its own.
+    // Inserts a plain record that only F7 can refuse: one with a new id, or one that comes back under its own.
     //
-    // A call by intent, where little is handed over: in line with all that stands around it, it would be too large to be.
+    // Never inlined, at a place where little is handed over: inlined with all around it, the caller would be too
+    // large.
     #[inline(never)]
     fn bring_in(
         &mut self,
@@ -215,7 +215,8 @@ impl<E: Eviction, K: Key, V: Value, P: Properties, I: Finder<K>> Store<E, K, V, 
         }
     }
 
-    // Makes room for one record and for what leaves, and makes a clone of the record's key. The slot is to come in.
+    // Makes room for one record and for what leaves, and clones the record's key. The slot gets the share that it
+    // leaves with.
     #[inline(always)]
     fn prepare(&mut self, slot: &mut Slot<K, V, P>, leaves: &mut Vec<Leave<K, V, P>>) -> Result<K>
         ensures same { state_of self.new ≡ state_of self.old }

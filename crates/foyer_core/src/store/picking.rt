@@ -37,7 +37,7 @@ impl<E: Eviction, K: Key, V: Value, P: Properties, I: Finder<K>> Store<E, K, V, 
         Ok(picked)
     }
 
-    // What the predicate says of an id's record.
+    // What the predicate returns for an id's record.
     fn says<F: Fn(&K, &V) -> bool>(&self, id: u64, predicate: &F) -> bool
         requires callable { F.IsAlwaysCallable predicate.now }
         requires there { 0 < count_of id (E.model.order (E.view self.now.eviction)) }
@@ -67,7 +67,7 @@ impl<E: Eviction, K: Key, V: Value, P: Properties, I: Finder<K>> Store<E, K, V, 
         }
     }
 
-    // The record of an id leaves, which may stand in the slot that is hinted.
+    // Evicts the record of an id, which may be in the hinted slot.
     #[inline(always)]
     pub(super) fn take_out(&mut self, id: u64, hint: usize) -> Left<K, V, P>
         requires { 0 < count_of id (E.model.order (E.view self.old.eviction)) }

@@ -78,7 +78,7 @@ impl<E: Eviction, K: Key, V: Value, P: Properties, I: Finder<K>> Store<E, K, V, 
         }
     }
 
-    // The record that a slot holds has more handles, and comes in where it is not in the index.
+    // Gives more handles to the record of a slot, and inserts it if it isn't resident.
     fn come_back(
         &mut self,
         alloc: Global,
@@ -106,7 +106,7 @@ impl<E: Eviction, K: Key, V: Value, P: Properties, I: Finder<K>> Store<E, K, V, 
         self.come_again(alloc, now, slot, further, leaves)
     }
 
-    // A record that is in the index has more handles.
+    // Gives more handles to a resident record.
     fn hand_out(&mut self, alloc: Global, slot: usize, further: Further) -> Result<Handles<K, V, P>>
         requires there { IsSomeAnd (slot_in self.old.records slot) (λ s. s.resident ≡ true) }
         requires listed { further.count + further.room < 2 ^ 64 }
@@ -133,7 +133,7 @@ impl<E: Eviction, K: Key, V: Value, P: Properties, I: Finder<K>> Store<E, K, V, 
         Ok(Handles { entry, others })
     }
 
-    // The record that a slot holds, which is not in the index, comes in, or is refused.
+    // Inserts the record of a slot that isn't resident, or refuses it.
     fn come_again(
         &mut self,
         alloc: Global,
@@ -169,7 +169,7 @@ impl<E: Eviction, K: Key, V: Value, P: Properties, I: Finder<K>> Store<E, K, V, 
         self.come(alloc, now, slot, Source::Memory, further, leaves)
     }
 
-    // A record that is in nothing comes in, or is refused.
+    // Inserts a record that the store doesn't hold, or refuses it.
     fn come_in(
         &mut self,
         alloc: Global,

@@ -40,7 +40,7 @@ fn count_all<T: HasItem, const N: usize>(lists: &Lists<T, N>) -> usize
     count
 }
 
-// Puts the dates of a list behind those of the lists before it, or answers no where there is no room for one.
+// Enters the dates of a list, and returns false if there is no room for one.
 fn push_dates<T: HasItem, const N: usize>(
     dates: &mut Dates,
     lists: &mut Lists<T, N>,

@@ -116,7 +116,7 @@ impl<T: HasItem, const N: usize> DatedLists<T, N> {
                 if dates.are_behind(list, now) {
                     return None;
                 }
-                // Where all live equally long, the front is often the first that is due.
+                // If all records live equally long, the front is often the first that is due.
                 if due_at(self.lists.get(front).item(), now) {
                     return Some(front);
                 }

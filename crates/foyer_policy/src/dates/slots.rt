@@ -21,7 +21,7 @@ mod row;
 use leaves::{lower, raise, refresh_all};
 use row::{PLACES, Row};
 
-// How many slots have one leaf of the tree.
+// The number of slots in a block, which has one leaf of the tree.
 const BLOCK: usize = 32;
 
 /// Places of a list with their dates, in slots, in the order in which they came. A date that is removed leaves its
@@ -29,10 +29,10 @@ const BLOCK: usize = 32;
 #[derive(Drop)]
 pub(super) struct Slots {
     row: Row,
-    // How many slots there may be.
+    // The largest number of slots.
     limit: usize,
-    // For every few slots, a number that no date in these is below: the least, but for the slots that are marked, where
-    // it may be less.
+    // For each block, a number that none of its dates is below: the least, but in the marked block, where it may be
+    // less.
     tree: MinTree,
 }
 
@@ -57,7 +57,7 @@ pub(crate) struct Gone {
     pub(crate) was_first: bool,
 }
 
-// Moves the slots that are taken to the front, in order, and answers how many these are. Each is noted beside its value.
+// Moves the taken slots to the front, in order, and returns how many they are. Each is noted beside its value.
 fn gather<T: HasItem, const N: usize>(row: &mut Row, lists: &mut Lists<T, N>) -> usize
     requires { AreApart row.old.slots }
     ensures apart { AreApart row.new.slots }
@@ -79,7 +79,7 @@ fn gather<T: HasItem, const N: usize>(row: &mut Row, lists: &mut Lists<T, N>) ->
     to
 }
 
-// The place of the first slot from one on and before another whose date is not behind a moment.
+// The place of the first slot, from one on and before another, whose date is due at `now`.
 fn first_between(row: &Row, start: usize, end: usize, now: u64) -> Option<Place>
     ensures some { IfSome result (λ p. first_by now (on_of (drop start row.now.slots)) ≡ Some p) }
     ensures none { IfNone result ((j : ℕ) (e : ℕ × ℕ) → slice_get row.now.slots j ≡ Some (Some e) → start ≤ j → j < end
@@ -95,7 +95,7 @@ fn first_between(row: &Row, start: usize, end: usize, now: u64) -> Option<Place>
     None
 }
 
-// The slot of a place that has one, sought where it was noted first.
+// The slot of a place that has one: the noted slot, if it is that, or else by a search.
 #[inline(always)]
 fn find(row: &Row, place: Place, noted: usize) -> usize
     requires { IsSome (find_in place (on_of row.now.slots)) }
@@ -111,7 +111,8 @@ fn find(row: &Row, place: Place, noted: usize) -> usize
     search(row, place)
 }
 
-// The same, sought from the first slot on. It isn't called where each slot is noted beside its value.
+// The slot of a place that has one, by a search from the first slot on. Never called if each slot is noted beside its
+// value.
 #[cold]
 #[inline(never)]
 fn search(row: &Row, place: Place) -> usize

@@ -181,8 +181,8 @@ impl<T, const N: usize> Arena<T, N> {
         self.grow(wanted.max(2 * self.len).max(4))
     }
 
-    // Moves all nodes to a block of `len`, where each keeps its number. The free ones are linked by
-    // rising numbers.
+    // Moves all nodes to a block of `len`, in which each keeps its number. The free ones are linked by rising
+    // numbers.
     fn grow(&mut self, len: usize) -> Result<(), AllocError>
         requires arena { IsArena self.old }
         requires more { self.old.len < len }
@@ -231,7 +231,7 @@ impl<T, const N: usize> Arena<T, N> {
     }
 }
 
-// Moves the nodes of a block to a greater one, and answers the first free one there.
+// Moves the nodes of a block to a larger one, and returns the first free one there.
 fn hand_over_all<T, const N: usize>(
     from: &mut Nodes<Links, T>,
     from_base: Base<Links, T>,
@@ -260,8 +260,8 @@ fn hand_over_all<T, const N: usize>(
     free
 }
 
-// Moves a node with its links and its value to the same number of another block. Where it has none,
-// it is free there, before `free`. Answers the first free one then.
+// Moves a node with its links and its value to the same number of another block. If it has no value, it is free
+// there, before `free`. Returns the first free one then.
 #[inline(always)]
 fn hand_over<T, const N: usize>(
     from: &mut Nodes<Links, T>,

@@ -9,7 +9,7 @@ use crate::link::Link;
 use crate::lists::arena::Links;
 use crate::lists::block::{Base, Nodes};
 
-// Sets what comes before the node `at`, where there is such a node.
+// Sets what comes before the node `at`, if there is such a node.
 #[inline(always)]
 fn set_before<T>(nodes: &mut Nodes<Links, T>, base: Base<Links, T>, at: Link, to: Link)
     requires base { base.ptr ≡ nodes.old.at }
@@ -25,7 +25,7 @@ fn set_before<T>(nodes: &mut Nodes<Links, T>, base: Base<Links, T>, at: Link, to
     }
 }
 
-// Sets what comes after the node `at`, where there is such a node.
+// Sets what comes after the node `at`, if there is such a node.
 #[inline(always)]
 fn set_after<T>(nodes: &mut Nodes<Links, T>, base: Base<Links, T>, at: Link, to: Link)
     requires base { base.ptr ≡ nodes.old.at }
