@@ -19,7 +19,7 @@ mod answering;
 #[derive(Drop)]
 struct Inflight<N, R> {
     id: u64,
-    // the moment at which it was opened
+    // the time at which it was opened
     opened: u64,
     waiters: Vec<Waiting<N>>,
     // the first builder that a waiter brought

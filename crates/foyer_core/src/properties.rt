@@ -10,11 +10,11 @@ use std::marker::Model;
 /// Whether a record is phantom, its hint and its expiry. Location and age aren't kept.
 #[derive(Clone, Debug, Drop, PartialEq, Eq)]
 pub struct CacheProperties {
-    // What is small stands side by side, so that the whole takes two words.
+    // The small fields are side by side, so that the whole takes two words.
     phantom: Option<bool>,
     hint: Hint,
     expires: bool,
-    // 0 where the record does not expire
+    // 0 if the record does not expire
     moment: u64,
 }
 

@@ -116,7 +116,7 @@ impl<E: Eviction, K: Key, V: Value, P: Properties, I: Finder<K>> Store<E, K, V, 
         self.live_under(now, hash, key).is_some()
     }
 
-    // The record that a key hits at a moment, and the slot where it stands. The slot is read once.
+    // The record that a key hits at `now`, and its slot, which is read once.
     #[inline(always)]
     fn live_under(&self, now: u64, hash: u64, key: &K) -> Option<(usize, &Slot<K, V, P>)>
         ensures led { IfSome result (λ live. I.view self.now.index (hash, key.now) ≡ Some live.0) }

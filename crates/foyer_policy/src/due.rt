@@ -11,7 +11,7 @@ use crate::lists::{Lists, Place};
 use crate::queued::HasItem;
 use crate::types::Item;
 
-/// Returns whether an item is due at a moment.
+/// Returns whether an item is due at `now`.
 #[inline(always)]
 pub(crate) fn due_at(item: Item, now: u64) -> bool
     ensures { result ≡ is_due now item }

@@ -57,7 +57,7 @@ pub(crate) struct Queued<S> {
     hash: u64,
     weight: usize,
     id: u64,
-    // 0 where the record does not expire
+    // 0 if the record does not expire
     moment: u64,
 }
 

@@ -25,7 +25,7 @@ const LANES: usize = 32;
 /// estimate is at least the hash's own count in it, and at most the step.
 #[derive(Drop)]
 pub struct Sketch {
-    // The counter of row r and bucket b stands at r * buckets + b.
+    // The counter of row r and bucket b is at r * buckets + b.
     counters: Vec<u16>,
     rows: usize,
     buckets: u32,

@@ -24,7 +24,7 @@ pub fn shard_capacity(capacity: usize, shards: usize, number: usize) -> usize
     capacity / shards + (number < capacity % shards) as usize
 }
 
-// A hash modulo the number of shards: a mask where that is a power of two, which spares a division.
+// A hash modulo the number of shards: a mask if that is a power of two, which spares a division.
 #[inline(always)]
 fn part_of(hash: u64, shards: u64) -> u64
     requires { 0 < shards }

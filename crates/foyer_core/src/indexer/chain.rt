@@ -72,8 +72,7 @@ pub(crate) fn find<K: Eq>(
     None
 }
 
-// The place of the pair whose link leads to the pair of a place, or `None` where the head of the
-// chain leads there.
+// The place of the pair whose link leads to the pair of a place, or `None` if the head of the chain leads there.
 fn place_before<K>(heads: &[Link], shift: u32, pairs: &[Pair<K>], place: usize) -> Option<usize>
     requires shift { shift < 64 }
     requires within { place < length pairs.now }
@@ -94,7 +93,7 @@ fn place_before<K>(heads: &[Link], shift: u32, pairs: &[Pair<K>], place: usize) 
     before
 }
 
-// Puts the pair of a place, which stands in no chain, into the chain of its hash.
+// Links the pair of a place, which is in no chain, into the chain of its hash.
 pub(crate) fn put_in<K>(heads: &mut [Link], shift: u32, pairs: &mut [Pair<K>], place: usize)
     requires shift { shift < 64 }
     requires heads { length heads.old ≡ 2 ^ (64 - shift) }

@@ -1,4 +1,4 @@
-//! A hash table with chains: a lookup reads one head and, for most keys, one pair.
+//! A hash table with chains: a look-up reads one head and, for most keys, one pair.
 
 ghost use Rattle.std.specs.Prelude.{◌≡◌, ◌↔◌, ℕ, ◌-◌, ◌^◌, ◌<◌, Some, None, IfOk, IfErr, OnOk, OnErr, IsTrue, length, vec_len, vec_capacity};
 ghost use Rattle.std.specs.List.{IsDistinct};

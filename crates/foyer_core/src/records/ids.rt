@@ -180,7 +180,7 @@ impl Ids {
         self.near[place] = Standing::none();
     }
 
-    // The slot of an id, where it is one of the last.
+    // The slot of an id, if it is one of the last.
     #[inline(always)]
     fn find_near(&self, id: u64) -> Option<usize>
         ensures { result ≡ slot_near self.now.end self.now.near.items id }

@@ -12,7 +12,7 @@ const GOLDEN: u64 = 0x9e37_79b9_7f4a_7c15;
 #[derive(Clone, Copy)]
 pub(crate) struct Tag {
     pub(crate) fingerprint: u32,
-    // the greatest number where there is no slot
+    // the largest number if there is no slot
     slot: u32,
 }
 
