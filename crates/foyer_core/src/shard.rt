@@ -23,6 +23,7 @@ mod fetches;
 mod insertion;
 mod keys;
 mod questions;
+mod resident_pieces;
 
 /// One shard of a cache. `N` is the type of waiters, `R` of fetch builders.
 ///
