@@ -69,7 +69,11 @@ where
         match shards.get_or_enqueue(now, hash, key, None, notifier)? {
             Lookup::Hit(core) => return Ok(shares.entry(core)),
             Lookup::Wait { token: _ } => {}
-            Lookup::Lead { fetch: id, .. } => {
+            Lookup::Lead {
+                fetch: id,
+                token: _,
+                required: _,
+            } => {
                 let fetch = Fetch {
                     id,
                     now,
