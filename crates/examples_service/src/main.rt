@@ -3,6 +3,7 @@
 
 use foyer_memory::{Bytes, CacheBuilder, EvictionConfig, PlainCache};
 use foyer_policy::{Event, EventListener, Fault, OrFault};
+use foyer_raw::Runtime;
 use std::alloc::Global;
 use std::env;
 use std::sync::Arc;
@@ -25,12 +26,12 @@ impl EventListener for Gone {
 
 /// What the threads share.
 #[derive(Drop)]
-struct Service {
-    pages: PlainCache<HostRuntime, String, Vec<u8>, Bytes, Gone>,
+struct Service<H: Runtime> {
+    pages: PlainCache<H, String, Vec<u8>, Bytes, Gone>,
     alloc: Global,
 }
 
-impl Service {
+impl<H: Runtime> Service<H> {
     /// Returns the length of a page, which is loaded if it is not in the cache at this time, in seconds.
     fn length(&self, now: u64, name: &str) -> foyer_policy::Result<usize> {
         let name = String::from_str(self.alloc, name)?;

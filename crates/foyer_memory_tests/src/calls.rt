@@ -2,7 +2,7 @@
 
 use crate::testing::{Cache, Outcome, all_policies, builder, given, number};
 use foyer_memory::{CacheProperties, EvictionConfig, Stats};
-use foyer_policy::Fault;
+use foyer_policy::{Fault, Properties};
 use foyer_raw::ListSpawner;
 use foyer_raw_tests::notes::Note::{Clear, Evict, Remove};
 use foyer_raw_tests::notes::Notes;
@@ -121,9 +121,9 @@ fn a_walk_visits_each_record_once(rt: HostRuntime) -> Outcome {
             found = found.wrapping_add(u64::from(cache.contains(0, key) && *value == u64::from(*key) * 10));
             let _ = seen.push(*key);
         })?;
-        assert_eq!(rt; seen.as_slice(), wanted);
+        assert_eq!(rt; seen.as_slice(), wanted.as_slice());
         assert_eq!(rt; found, 10);
-        assert_eq!(rt; cache.keys()?.as_slice(), wanted);
+        assert_eq!(rt; cache.keys()?.as_slice(), wanted.as_slice());
     }
     Ok(())
 }
@@ -142,7 +142,7 @@ fn retain_removes_what_the_closure_drops(rt: HostRuntime) -> Outcome {
             }
             *key == 0 || *key == 3
         })?;
-        assert_eq!(rt; cache.keys()?.as_slice(), [0, 3, 5]);
+        assert_eq!(rt; cache.keys()?.as_slice(), [0u32, 3, 5].as_slice());
         assert_eq!(rt; *cache.get(0, &5)?.ok_or("none")?, 55);
         assert_eq!(rt; cache.usage(), 3);
         assert!(rt; notes.are(&[Remove(2, 2), Remove(4, 4), Remove(1, 1), foyer_raw_tests::notes::Note::Replace(5, 5)]));
