@@ -1,4 +1,4 @@
-//! How a task ends its fetch.
+//! Ways in which a task ends its fetch.
 
 ghost use Rattle.std.specs.Prelude.{◌≡◌, true};
 
@@ -28,7 +28,7 @@ where
     Q: Pipe<Key = K, Value = V, Properties = P>,
     T: FetchTypes<K, V, P>,
 {
-    // Whether the fetch is open.
+    // Returns whether the fetch is open.
     pub(super) fn is_open(&self) -> bool {
         match &self.key {
             Some(key) => self.shares.shared.shards.is_open(self.hash, key, self.id),
@@ -36,8 +36,8 @@ where
         }
     }
 
-    // Ends the fetch, at its leader's moment, with what was fetched, and answers those who wait. Where the fetch is not open, nothing happens, and
-    // neither the weighter nor the filter is asked.
+    // Ends the fetch with what was fetched, inserted at the first caller's `now`, and gives all that wait their result. If
+    // the fetch isn't open nothing happens, and neither the weighter nor the filter is asked.
     pub(super) fn complete(&self, key: Option<K>, target: FetchTarget<K, V, P>, source: Source) {
         let Some(key) = key else {
             return;
@@ -87,7 +87,7 @@ where
         self.shares.ended(ended);
     }
 
-    // The refusal of a fault, which all who wait share.
+    // Makes the error of a fault, which all that wait share.
     fn refusal(&self, fault: Fault) -> Error {
         match Arc::new(self.shares.shared.shards.alloc, fault) {
             Ok(fault) => Error::new(Reason::Fetch(fault)),
@@ -95,7 +95,7 @@ where
         }
     }
 
-    // A builder that one who waits brought, or those who wait. None where the fetch is not open.
+    // Returns a builder that a waiting caller brought, or else the waiting callers; none if the fetch isn't open.
     pub(super) fn later(&self) -> Option<Later<K, V, P, T::Required>> {
         match &self.key {
             Some(key) => self
@@ -107,7 +107,7 @@ where
         }
     }
 
-    // Answers those who wait with the fault, or with none.
+    // Gives all that wait the fault, or none.
     pub(super) fn tell_nothing(&self, waiters: Waiters<K, V, P>, fault: Option<Fault>) {
         match fault {
             Some(fault) => refuse(waiters, self.refusal(fault)),
