@@ -41,3 +41,5 @@ pub mod Questions
 pub mod Probing
 pub mod Tags
 pub mod Trails
+pub mod Stats
+pub mod ResidentPieces

@@ -23,6 +23,7 @@ mod fetches;
 mod insertion;
 mod keys;
 mod questions;
+mod resident_pieces;
 
 /// One shard of a cache. Contracts see its `State`: maps from hashed keys to ids and from ids to records; and its
 /// `Opens`: the open fetches by their keys. `N` is what waits for an answer, and `R` what builds a fetch.

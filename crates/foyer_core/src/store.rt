@@ -30,6 +30,7 @@ mod picking;
 mod pieces;
 mod questions;
 mod refusals;
+mod resident_pieces;
 
 /// What a shard holds. Contracts see its `State`: maps from hashed keys to ids and from ids to records.
 #[derive(Drop)]

@@ -20,6 +20,7 @@ mod memory;
 mod moments;
 mod refused;
 mod shards;
+mod stats;
 
 // A core over numbers, where numbers wait for fetches and numbers build them.
 type Core<E = Fifo, W = UnitWeighter, A = AdmitAll, I = TagFinder<u64>> = CacheCore<

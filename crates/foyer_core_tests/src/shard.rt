@@ -8,6 +8,7 @@ use std::process::Abort;
 
 mod ending;
 mod fetches;
+mod resident_pieces;
 
 // A shard over numbers, where numbers wait for fetches and numbers build them.
 type Over<E> = Shard<E, u64, u64, CacheProperties, u64, u64, TagFinder<u64>>;

@@ -1,6 +1,6 @@
 //! The builder of caches.
 
-ghost use Rattle.std.specs.Prelude.{◌≡◌};
+ghost use Rattle.std.specs.Prelude.{◌≡◌, None, Some};
 ghost use Rattle.foyer_policy.specs.declared.eviction_config.EvictionConfig.TheVariants.{Lru};
 
 use foyer_core::{AdmitAll, Filter, Limits, RawCacheConfig, UnitWeighter, Weighter};
@@ -24,6 +24,7 @@ pub struct CacheBuilder<
 > {
     config: RawCacheConfig<EvictionConfig, S, W, A>,
     listener: L,
+    time_to_live: Option<u64>,
     keys: PhantomData<(K, V)>,
 }
 
@@ -38,10 +39,12 @@ impl<K: Key, V: Value> CacheBuilder<K, V> {
         ensures eviction_config { result.config.eviction_config ≡ Lru (record { high_priority_pool_ratio = record { num = 9; den = 10 } }) }
         ensures number { result.config.number ≡ 0 }
         ensures limits { result.config.limits ≡ record { handles = 18446744073709551615; ids = 18446744073709551615 } }
+        ensures time_to_live { result.time_to_live ≡ None }
     {
         CacheBuilder {
             config: RawCacheConfig::new(capacity),
             listener: NoListener::new(),
+            time_to_live: None,
             keys: PhantomData,
         }
     }
@@ -88,6 +91,17 @@ where
         self
     }
 
+    /// Sets a time to live, in the unit of the current time.
+    ///
+    /// A record that is inserted or fetched without an expiry of its own then expires at that call's `now + time_to_live`,
+    /// at most 2^64 - 1; with 0, no look-up finds it. A piece keeps the expiry that it has.
+    pub fn with_time_to_live(mut self, time_to_live: u64) -> Self
+        ensures { result ≡ record self { time_to_live = Some time_to_live } }
+    {
+        self.time_to_live = Some(time_to_live);
+        self
+    }
+
     /// Sets the hash builder of the keys.
     pub fn with_hash_builder<X: HashBuilder>(
         self,
@@ -101,11 +115,13 @@ where
         ensures filter { result.config.filter ≡ self.config.filter }
         ensures number { result.config.number ≡ self.config.number }
         ensures limits { result.config.limits ≡ self.config.limits }
+        ensures time_to_live { result.time_to_live ≡ self.time_to_live }
         ensures listener { result.listener ≡ self.listener }
     {
         let CacheBuilder {
             config,
             listener,
+            time_to_live,
             keys,
         } = self;
         let RawCacheConfig {
@@ -130,6 +146,7 @@ where
                 limits,
             },
             listener,
+            time_to_live,
             keys,
         }
     }
@@ -144,16 +161,19 @@ where
         ensures filter { result.config.filter ≡ self.config.filter }
         ensures number { result.config.number ≡ self.config.number }
         ensures limits { result.config.limits ≡ self.config.limits }
+        ensures time_to_live { result.time_to_live ≡ self.time_to_live }
         ensures listener { result.listener ≡ self.listener }
     {
         let CacheBuilder {
             config,
             listener,
+            time_to_live,
             keys,
         } = self;
         CacheBuilder {
             config: config.with_weighter(weighter),
             listener,
+            time_to_live,
             keys,
         }
     }
@@ -168,16 +188,19 @@ where
         ensures weighter { result.config.weighter ≡ self.config.weighter }
         ensures number { result.config.number ≡ self.config.number }
         ensures limits { result.config.limits ≡ self.config.limits }
+        ensures time_to_live { result.time_to_live ≡ self.time_to_live }
         ensures listener { result.listener ≡ self.listener }
     {
         let CacheBuilder {
             config,
             listener,
+            time_to_live,
             keys,
         } = self;
         CacheBuilder {
             config: config.with_filter(filter),
             listener,
+            time_to_live,
             keys,
         }
     }
@@ -196,15 +219,18 @@ where
         ensures filter { result.config.filter ≡ self.config.filter }
         ensures number { result.config.number ≡ self.config.number }
         ensures limits { result.config.limits ≡ self.config.limits }
+        ensures time_to_live { result.time_to_live ≡ self.time_to_live }
     {
         let CacheBuilder {
             config,
             listener: _,
+            time_to_live,
             keys,
         } = self;
         CacheBuilder {
             config,
             listener,
+            time_to_live,
             keys,
         }
     }

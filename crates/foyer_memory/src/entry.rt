@@ -18,7 +18,6 @@ use std::sync::Wait;
 ///
 /// The data stay readable while the entry is held, even after eviction. Its drop locks the record's shard to give the
 /// handle back. Contracts see the handle as the field `entry`.
-#[derive(Drop)]
 pub struct CacheEntry<
     H,
     K,
@@ -47,6 +46,26 @@ where
 {
     pub(crate) entry: RawCacheEntry<H, AnyEviction, K, V, S, P, W, A, L, Q, T::Required, I>,
     pub(crate) kind: Kind,
+}
+
+impl<H, K, V, S, P, W, A, L, Q, T, I> Drop for CacheEntry<H, K, V, S, P, W, A, L, Q, T, I>
+where
+    H: Wait + Drop,
+    K: Key,
+    V: Value,
+    S: Drop,
+    P: Properties,
+    W: Drop,
+    A: Drop,
+    L: EventListener<Key = K, Value = V>,
+    I: Finder<K>,
+    Q: Pipe<Key = K, Value = V, Properties = P>,
+    T: FetchTypes<K, V, P>,
+{
+    // Written by hand, so that a caller's proof doesn't go through all parts at its own types.
+    fn drop(self) {
+        let CacheEntry { entry: _, kind: _ } = self;
+    }
 }
 
 impl<H, K, V, S, P, W, A, L, Q, T, I> CacheEntry<H, K, V, S, P, W, A, L, Q, T, I>

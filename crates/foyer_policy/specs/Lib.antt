@@ -48,3 +48,4 @@ pub mod Sieve
 pub mod SieveLaws
 pub mod SieveQueue
 pub mod Sketch
+pub mod EvictionConfig

@@ -1,6 +1,6 @@
 //! Refusals: what kind each is of, its reason and its number.
 
-ghost use Rattle.std.specs.Prelude.{◌≡◌};
+ghost use Rattle.std.specs.Prelude.{◌≡◌, ◌⊎◌, [], string_bytes};
 ghost use Rattle.foyer_policy.specs.Errors.{kind_of};
 
 use std::alloc::{AllocError, AllocFailed, Global};
@@ -43,6 +43,27 @@ pub enum Field {
 pub struct Fault {
     pub code: u64,
     pub message: String,
+}
+
+impl Fault {
+    /// Returns a fault with this code and message.
+    pub fn new(code: u64, message: String) -> Self
+        ensures { result ≡ record { code = code; message = message } }
+    {
+        Fault { code, message }
+    }
+
+    /// Returns a fault with this code and this text as its message, or with no message if memory runs out.
+    pub fn with_text(alloc: Global, code: u64, text: &str) -> Self
+        ensures code { result.code ≡ code }
+        ensures message { (string_bytes result.message ≡ text.now) ⊎ (string_bytes result.message ≡ []) }
+    {
+        let message = match String::from_str(alloc, text) {
+            Ok(message) => message,
+            Err(_) => String::new(alloc),
+        };
+        Fault { code, message }
+    }
 }
 
 /// Why a call was refused.

@@ -1,4 +1,4 @@
-use foyer_policy::{Error, Fault, Field, Reason, Result};
+use foyer_policy::{Error, EvictionConfig, Fault, Field, OrFault, Reason, Result};
 use std::alloc::Global;
 use std::sync::Arc;
 use std::test::Fail;
@@ -86,4 +86,34 @@ fn a_refused_growth_becomes_a_refusal(rt: HostRuntime) {
     assert!(rt; reserve(&mut bytes, 1).is_ok());
     let refused = reserve(&mut bytes, usize::MAX);
     assert!(rt; refused == Err(Error::new(Reason::NoMemory)));
+}
+
+// Bytes of a number, and as many more as are asked for.
+fn fetched(alloc: Global, text: &str, more: usize) -> std::result::Result<Vec<u64>, Fault> {
+    let mut numbers = Vec::new(alloc);
+    let number: u64 = text.parse().or_fault(alloc, 3)?;
+    numbers.push(number).or_fault(alloc, 4)?;
+    numbers.reserve(more).or_fault(alloc, 5)?;
+    Ok(numbers)
+}
+
+#[test]
+fn errors_become_faults(rt: HostRuntime) -> std::result::Result<(), Fail> {
+    let alloc = rt.alloc();
+    assert_eq!(rt; fetched(alloc, "7", 1).expect(&rt, "a number").as_slice(), [7].as_slice());
+    let refused = fetched(alloc, "7", usize::MAX).expect_err(&rt, "no room");
+    assert_eq!(rt;
+        (refused.code, refused.message.as_str()),
+        (5, "memory allocation failed")
+    );
+    let refused = fetched(alloc, "x", 1).expect_err(&rt, "no number");
+    assert_eq!(rt;
+        (refused.code, refused.message.as_str()),
+        (3, "invalid digit found in string")
+    );
+    let named: std::result::Result<EvictionConfig, Fault> = "x".parse().or_fault(alloc, 6);
+    assert!(rt; named == Err(Fault::with_text(alloc, 6, "the policies are fifo, lru, lfu, s3fifo and sieve")));
+    let message = String::from_str(alloc, "no route")?;
+    assert!(rt; Fault::new(7, message) == Fault::with_text(alloc, 7, "no route"));
+    Ok(())
 }

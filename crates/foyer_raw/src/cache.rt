@@ -1,6 +1,6 @@
 //! The cache that threads share.
 
-ghost use Rattle.std.specs.Prelude.{◌≡◌, None, Err, IfErr, IfSome, OnOk};
+ghost use Rattle.std.specs.Prelude.{◌≡◌, None, Err, IfErr, IfOk, IfSome, OnOk};
 ghost use Rattle.foyer_policy.specs.declared.error.Reason.TheVariants.{NoMemory};
 
 use crate::fetch::{FetchTypes, NoFetch};
@@ -12,7 +12,7 @@ use crate::shares::Shares;
 use crate::stripes::Stripes;
 use crate::ticket::{Answer, Notifier};
 use foyer_core::{
-    AdmitAll, CacheCore, CacheProperties, Filter, Finder, RawCacheConfig, Rules, TagFinder,
+    AdmitAll, CacheCore, CacheProperties, Filter, Finder, RawCacheConfig, Rules, Stats, TagFinder,
     UnitWeighter, Weighter,
 };
 use foyer_policy::{
@@ -22,10 +22,12 @@ use foyer_policy::{
 use std::alloc::Global;
 use std::sync::{Arc, Wait};
 
+mod blocking;
 mod bulk;
 mod fetching;
 mod insertion;
 mod keys;
+mod walks;
 
 /// An in-memory cache that threads share, with its eviction policy as a type parameter.
 ///
@@ -62,6 +64,7 @@ where
 {
     shares: Shares<H, E, K, V, S, P, W, A, L, Q, T::Required, I>,
     stripes: Arc<Stripes<H, E, K, V, S, P, W, A, L, T::Required, I>>,
+    time_to_live: Option<u64>,
 }
 
 impl<H, E, K, V, S, P, W, A, L, Q, T, I> RawCache<H, E, K, V, S, P, W, A, L, Q, T, I>
@@ -126,6 +129,7 @@ where
                 pipe: None,
             },
             stripes: Arc::new(alloc, stripes)?,
+            time_to_live: None,
         })
     }
 }
@@ -149,18 +153,38 @@ where
     ///
     /// # Errors
     /// F7 if a reference count is full.
-    pub fn try_clone(&self) -> Result<Self> {
+    pub fn try_clone(&self) -> Result<Self>
+        ensures { IfOk result (λ again. again.time_to_live ≡ self.now.time_to_live) }
+    {
         Ok(RawCache {
             shares: self.shares.try_clone()?,
             stripes: Arc::try_clone(&self.stripes)?,
+            time_to_live: self.time_to_live,
         })
+    }
+
+    /// Returns the cache with this time to live, in the unit of the current time, which its later clones have too.
+    ///
+    /// A record that is inserted or fetched through them without an expiry of its own expires at that call's
+    /// `now + time_to_live`, at most 2^64 - 1.
+    pub fn with_time_to_live(mut self, time_to_live: Option<u64>) -> Self
+        ensures { result.time_to_live ≡ time_to_live }
+    {
+        self.time_to_live = time_to_live;
+        self
     }
 
     /// Returns the cache with this pipe, which its later entries, clones and tasks have too.
     ///
     /// Those made before keep the pipe that they had.
-    pub fn with_pipe(self, pipe: Arc<Q>) -> Self {
-        let RawCache { shares, stripes } = self;
+    pub fn with_pipe(self, pipe: Arc<Q>) -> Self
+        ensures { result.time_to_live ≡ self.time_to_live }
+    {
+        let RawCache {
+            shares,
+            stripes,
+            time_to_live,
+        } = self;
         let Shares { shared, pipe: _ } = shares;
         RawCache {
             shares: Shares {
@@ -168,6 +192,7 @@ where
                 pipe: Some(pipe),
             },
             stripes,
+            time_to_live,
         }
     }
 
@@ -193,6 +218,18 @@ where
     /// Locks one shard after the other, so others may change meanwhile.
     pub fn entries(&self) -> u128 {
         self.shares.shared.shards.entries()
+    }
+
+    /// Returns the counts since the cache was made or `reset_stats` was called.
+    ///
+    /// Locks one shard after the other, so others may change meanwhile.
+    pub fn stats(&self) -> Stats {
+        self.shares.shared.shards.stats()
+    }
+
+    /// Sets all counts to 0, one shard after the other.
+    pub fn reset_stats(&self) {
+        self.shares.shared.shards.reset_stats();
     }
 
     /// Returns the hash builder of the keys.

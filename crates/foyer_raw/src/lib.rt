@@ -4,6 +4,7 @@
 
 pub mod cache;
 pub mod entry;
+mod expiry;
 pub mod fetch;
 pub mod flush;
 pub mod listener;
@@ -17,7 +18,7 @@ pub mod ticket;
 pub use cache::RawCache;
 pub use entry::RawCacheEntry;
 pub use fetch::{
-    Direct, FetchTypes, Given, ListSpawner, NoFetch, OptionalFetch, OptionalFetchBuilder, Pollable,
+    AllTasks, Direct, FetchTypes, Given, ListSpawner, NoFetch, OptionalFetch, OptionalFetchBuilder, Pollable,
     RawFetch, RawFetchState, RawGetOrFetch, RawWait, RequiredFetch, RequiredFetchBuilder, Spawner,
     TaskEvent,
 };

@@ -9,7 +9,7 @@ use crate::fetch::{
     RequiredFetch, Spawner,
 };
 use crate::pipe::Pipe;
-use crate::shares::Shares;
+use crate::shares::{Fetch, Shares};
 use crate::ticket::{Answer, Notifier, Waiter};
 use foyer_core::{Filter, Finder, Lookup, Weighter};
 use foyer_policy::{EventListener, Eviction, HashBuilder, Key, Properties, Result, Value};
@@ -19,13 +19,13 @@ use std::sync::Wait;
 /// What a look-up needs that may have to wait: shares of the cache for an entry or a wait and for a task, the key's
 /// hash and a clone of it, and both ends of a channel.
 #[derive(Drop)]
-struct Asking<C, K: Drop, V: Drop, P: Drop> {
-    shares: C,
-    task: C,
-    hash: u64,
-    own: K,
-    notifier: Notifier<Answer<K, V, P>>,
-    waiter: Waiter<Answer<K, V, P>>,
+pub(super) struct Asking<C, K: Drop, V: Drop, P: Drop> {
+    pub(super) shares: C,
+    pub(super) task: C,
+    pub(super) hash: u64,
+    pub(super) own: K,
+    pub(super) notifier: Notifier<Answer<K, V, P>>,
+    pub(super) waiter: Waiter<Answer<K, V, P>>,
 }
 
 impl<H, E, K, V, S, P, W, A, L, Q, T, I> RawCache<H, E, K, V, S, P, W, A, L, Q, T, I>
@@ -84,7 +84,7 @@ where
     }
 
     // Makes what a look-up of a key needs. Fails with F7 alone.
-    fn asking(
+    pub(super) fn asking(
         &self,
         key: &K,
     ) -> Result<Asking<Shares<H, E, K, V, S, P, W, A, L, Q, T::Required, I>, K, V, P>> {
@@ -141,9 +141,12 @@ where
                 required,
             } => {
                 let begin = Begin {
-                    id: fetch,
-                    moment: now,
-                    hash,
+                    fetch: Fetch {
+                        id: fetch,
+                        now,
+                        hash,
+                        time_to_live: self.time_to_live,
+                    },
                     key: own,
                     context,
                     optional: fo(),

@@ -9,7 +9,7 @@ use crate::fetch::FetchTypes;
 use crate::pipe::Pipe;
 use crate::shards::FIRST;
 use crate::shares::Shares;
-use foyer_core::Finder;
+use foyer_core::{CoreEntry, Finder};
 use foyer_policy::{
     Error, Event, EventListener, Eviction, HashBuilder, Key, Properties, Result, Value,
 };
@@ -50,10 +50,27 @@ where
         ensures live { IfOk result (λ found. IfSome found (λ e. is_expired now (P.expiry_of e.kept.properties) ≡ false)) }
     {
         let hash = self.hash(key);
-        let shares = self.shares_for(now, hash, key)?;
         match self.shares.shared.shards.get(now, hash, key)? {
-            Some(core) => Ok(Some(shares.entry(core))),
+            Some(core) => Ok(Some(self.entry_of(hash, core)?)),
             None => Ok(None),
+        }
+    }
+
+    // The entry of a handle of a key with this hash. The handle is given back if the cache can't be shared once more (F7).
+    #[inline(always)]
+    fn entry_of(
+        &self,
+        hash: u64,
+        core: CoreEntry<K, V, P>,
+    ) -> Result<RawCacheEntry<H, E, K, V, S, P, W, A, L, Q, T::Required, I>>
+        ensures { IfOk result (λ e. e ≡ core) }
+    {
+        match self.shares_of(hash) {
+            Ok(shares) => Ok(shares.entry(core)),
+            Err(refused) => {
+                self.shares.give_back(core);
+                Err(refused)
+            }
         }
     }
 
@@ -68,7 +85,7 @@ where
         ensures { IfOk result (λ found. IfSome found (λ e. K.eq key.now e.kept.key ≡ true)) }
     {
         let hash = self.hash(key);
-        let shares = self.shares_for(FIRST, hash, key)?;
+        let shares = self.shares_for(hash, key)?;
         match self.shares.shared.shards.remove(hash, key)? {
             Some((core, left)) => {
                 self.shares.tell((Event::Remove, left));
@@ -78,11 +95,9 @@ where
         }
     }
 
-    // Shares for an entry of what a get of the key finds at `now`. If a reference count is full (F7), an F9 of the shard
-    // comes first.
+    // Shares for an entry of the key's record. If a reference count is full (F7), an F9 of the shard comes first.
     fn shares_for(
         &self,
-        now: u64,
         hash: u64,
         key: &K,
     ) -> Result<Shares<H, E, K, V, S, P, W, A, L, Q, T::Required, I>> {
@@ -90,7 +105,7 @@ where
             Ok(shares) => return Ok(shares),
             Err(refused) => refused,
         };
-        match self.shares.shared.shards.refuses_get(now, hash, key) {
+        match self.shares.shared.shards.refuses_get(FIRST, hash, key) {
             Some(reason) => Err(Error::new(reason)),
             None => Err(refused),
         }

@@ -8,7 +8,7 @@ ghost use Rattle.foyer_raw.specs.Steps.{next_state, Leads};
 use super::state::{RawFetchState, TaskEvent};
 use super::types::{FetchTypes, OptionalFuture, RequiredFuture};
 use crate::pipe::Pipe;
-use crate::shares::Shares;
+use crate::shares::{Fetch, Shares};
 use foyer_core::{Finder, TagFinder};
 use foyer_policy::{Error, EventListener, Eviction, Fault, Key, Properties, Reason, Value};
 use futures::Future;
@@ -38,10 +38,7 @@ where
     T: FetchTypes<K, V, P>,
 {
     state: RawFetchState,
-    id: u64,
-    // The first caller's `now`, at which the fetched value is inserted.
-    moment: u64,
-    hash: u64,
+    fetch: Fetch,
     // Until the value is inserted.
     key: Option<K>,
     shares: Shares<H, E, K, V, S, P, W, A, L, Q, T::Required, I>,
@@ -60,11 +57,7 @@ where
 /// What a task begins with.
 pub(crate) struct Begin<K, C, O, F> {
     /// The fetch.
-    pub(crate) id: u64,
-    /// The first caller's `now`.
-    pub(crate) moment: u64,
-    /// The key's hash.
-    pub(crate) hash: u64,
+    pub(crate) fetch: Fetch,
     /// The key.
     pub(crate) key: K,
     /// The builders' context.
@@ -98,12 +91,10 @@ where
         requires clones { (k c : K) → K.is_clone k c → K.eq c k ≡ true }
         ensures state { result.state ≡ RawFetchState.Init }
         ensures idle { IsNone result.optional_fetch × IsNone result.required_fetch }
-        ensures moment { result.moment ≡ begin.moment }
+        ensures fetch { result.fetch ≡ begin.fetch }
     {
         let Begin {
-            id,
-            moment,
-            hash,
+            fetch,
             key,
             context,
             optional,
@@ -111,9 +102,7 @@ where
         } = begin;
         RawFetch {
             state: RawFetchState::Init,
-            id,
-            moment,
-            hash,
+            fetch,
             key: Some(key),
             shares,
             context,
@@ -167,9 +156,7 @@ where
     fn drop(self) {
         let RawFetch {
             state,
-            id,
-            moment: _,
-            hash,
+            fetch,
             key,
             shares,
             context: _,
@@ -184,7 +171,12 @@ where
         }
         if let Some(key) = key {
             let error = Error::new(Reason::TaskCancelled);
-            shares.ended(shares.shared.shards.end(hash, &key, id, error));
+            shares.ended(
+                shares
+                    .shared
+                    .shards
+                    .end(fetch.hash, &key, fetch.id, error),
+            );
         }
     }
 }
@@ -207,8 +199,8 @@ where
     fn fmt<X: fmt::Write>(&self, f: &mut fmt::Formatter<X>) -> fmt::Result {
         f.debug_struct("RawFetch")
             .field("state", &self.state)
-            .field("id", &self.id)
-            .field("hash", &self.hash)
+            .field("id", &self.fetch.id)
+            .field("hash", &self.fetch.hash)
             .finish()
     }
 }

@@ -1,0 +1,167 @@
+//! Counts of what the calls of a cache came to.
+
+ghost use Rattle.std.specs.Prelude.{◌≡◌};
+ghost use Rattle.foyer_policy.specs.Moments.{is_expired};
+ghost use Rattle.foyer_policy.specs.Properties.{is_phantom};
+ghost use Rattle.foyer_core.specs.Stats.{next};
+
+use crate::entry::Left;
+use crate::properties::is_expired;
+use foyer_policy::{Event, Properties};
+
+/// How often each thing happened. A count that passes 2^64 - 1 goes on from 0.
+///
+/// A cache behind locks counts by itself. The steps of a core, a shard or a session know nothing of counts: their
+/// caller keeps a `Stats` and tells it, after each call, what that returned ([`Stats::count`],
+/// [`Stats::count_insert`]) and each record that left ([`Stats::count_left`]). Phantom records are not counted.
+#[derive(Clone, Copy, Debug, Default, PartialEq, Eq)]
+pub struct Stats {
+    /// Look-ups, touches among them, that found a record.
+    pub hits: u64,
+    /// Look-ups, touches among them, that found none.
+    pub misses: u64,
+    /// Records that were inserted, by a fetch too.
+    pub inserts: u64,
+    /// Records that were evicted.
+    pub evictions: u64,
+    /// Of the evicted records, those that were expired by then.
+    pub expired: u64,
+    /// Records whose key a newer record took.
+    pub replaced: u64,
+    /// Records that were removed by their key, or by a predicate.
+    pub removed: u64,
+    /// Records that left with a clear.
+    pub cleared: u64,
+    /// Misses that began a fetch.
+    pub fetches: u64,
+    /// Misses that wait for the fetch of another.
+    pub waits: u64,
+    /// Inserts that were refused, those of fetches too.
+    pub refused: u64,
+}
+
+/// What a call came to.
+#[derive(Clone, Copy, Debug, PartialEq, Eq)]
+pub enum Counted {
+    /// A look-up found a record.
+    Hit,
+    /// A look-up found none, and no fetch follows.
+    Miss,
+    /// A look-up found none, and its caller fetches: a miss too.
+    Fetch,
+    /// A look-up found none, and its caller waits for the fetch of another: a miss too.
+    Wait,
+    /// A record was inserted that is not a phantom.
+    Insert,
+    /// An insert was refused.
+    Refused,
+}
+
+impl Stats {
+    ghost use Rattle.foyer_core.specs.Stats.{counted, insert_counted, left_counted, sum};
+
+    /// Counts a call.
+    #[inline(always)]
+    pub fn count(&mut self, call: Counted)
+        ensures { self.new ≡ counted call self.old }
+    {
+        match call {
+            Counted::Hit => add_one(&mut self.hits),
+            Counted::Miss => add_one(&mut self.misses),
+            Counted::Fetch => {
+                add_one(&mut self.misses);
+                add_one(&mut self.fetches);
+            }
+            Counted::Wait => {
+                add_one(&mut self.misses);
+                add_one(&mut self.waits);
+            }
+            Counted::Insert => add_one(&mut self.inserts),
+            Counted::Refused => add_one(&mut self.refused),
+        }
+    }
+
+    /// Counts an insert that made a record with these properties, unless that is a phantom.
+    #[inline(always)]
+    pub fn count_insert<P: Properties>(&mut self, properties: &P)
+        ensures { self.new ≡ insert_counted (is_phantom (P.phantom_of properties.now)) self.old }
+    {
+        if !is_phantom(properties) {
+            self.count(Counted::Insert);
+        }
+    }
+
+    /// Counts a record that left at a moment, unless it is a phantom.
+    pub fn count_left<K, V, P: Properties>(
+        &mut self,
+        now: u64,
+        event: Event,
+        left: &Left<K, V, P>,
+    )
+        ensures { self.new ≡ left_counted (is_phantom (P.phantom_of left.now.kept.properties))
+            (is_expired now (P.expiry_of left.now.kept.properties)) event self.old }
+    {
+        if is_phantom(left.properties()) {
+            return;
+        }
+        match event {
+            Event::Evict => {
+                add_one(&mut self.evictions);
+                if is_expired(left.properties().expiry(), now) {
+                    add_one(&mut self.expired);
+                }
+            }
+            Event::Replace => add_one(&mut self.replaced),
+            Event::Remove => add_one(&mut self.removed),
+            Event::Clear => add_one(&mut self.cleared),
+        }
+    }
+
+    /// Adds the counts of others to these.
+    pub fn add(&mut self, other: &Stats)
+        ensures { self.new ≡ sum self.old other.now }
+    {
+        let Stats {
+            hits,
+            misses,
+            inserts,
+            evictions,
+            expired,
+            replaced,
+            removed,
+            cleared,
+            fetches,
+            waits,
+            refused,
+        } = other;
+        *self = Stats {
+            hits: self.hits.wrapping_add(*hits),
+            misses: self.misses.wrapping_add(*misses),
+            inserts: self.inserts.wrapping_add(*inserts),
+            evictions: self.evictions.wrapping_add(*evictions),
+            expired: self.expired.wrapping_add(*expired),
+            replaced: self.replaced.wrapping_add(*replaced),
+            removed: self.removed.wrapping_add(*removed),
+            cleared: self.cleared.wrapping_add(*cleared),
+            fetches: self.fetches.wrapping_add(*fetches),
+            waits: self.waits.wrapping_add(*waits),
+            refused: self.refused.wrapping_add(*refused),
+        };
+    }
+}
+
+// One more.
+#[inline(always)]
+fn add_one(count: &mut u64)
+    ensures { count.new ≡ next count.old }
+{
+    *count = count.wrapping_add(1);
+}
+
+// Whether properties say that their record is a phantom.
+#[inline(always)]
+fn is_phantom<P: Properties>(properties: &P) -> bool
+    ensures { result ≡ is_phantom (P.phantom_of properties.now) }
+{
+    properties.phantom() == Some(true)
+}
