@@ -1,16 +1,15 @@
 //! The examples that `crates/foyer_memory/CALLING.md` prints.
 
 use crate::testing::Outcome;
-use foyer_core::{AdmitAll, UnitWeighter, Weighter};
+use foyer_core::AdmitAll;
 use foyer_memory::{
-    Cache, CacheBuilder, CacheProperties, EvictionConfig, FetchTarget, S3FifoConfig,
+    Bytes, Cache, CacheBuilder, CacheProperties, EvictionConfig, FetchCache, FetchTarget,
+    S3FifoConfig,
 };
 use foyer_policy::{DefaultHasher, Event, EventListener, Fault, Result};
-use foyer_raw::{Direct, ListSpawner, NoListener, NoopPipe};
-use futures::Future;
+use foyer_raw::{AllTasks, ListSpawner};
 use futures::executor::block_on;
 use futures::future::{Ready, ready};
-use futures::task::{Context, Poll};
 use std::sync::atomic::{AtomicU64, Ordering};
 use std::sync::{Arc, Wait};
 use std::thread::map_indices;
@@ -28,28 +27,16 @@ fn a_cache_is_made_and_used(rt: HostRuntime) -> Outcome {
     Ok(())
 }
 
-/// A text weighs as many bytes as it has.
-#[derive(Clone, Copy)]
-struct Bytes;
-
-impl<K> Weighter<K, String> for Bytes {
-    ghost weighs = { λ _ _ _ _. Unit {0} };
-
-    fn weigh(&self, _key: &K, text: &String) -> usize {
-        text.len()
-    }
-}
-
 /// Counts the records that are evicted.
 #[derive(Drop)]
 struct Evictions(Arc<AtomicU64>);
 
 impl EventListener for Evictions {
-    type Key = u32;
+    type Key = String;
 
-    type Value = String;
+    type Value = Vec<u8>;
 
-    fn on_leave(&self, event: Event, _key: &u32, _text: &String) {
+    fn on_leave(&self, event: Event, _key: &String, _page: &Vec<u8>) {
         if event == Event::Evict {
             self.0.fetch_add(1, Ordering::SeqCst);
         }
@@ -62,8 +49,8 @@ fn what_is_evicted_is_counted(rt: HostRuntime) -> Outcome {
     let evicted = Arc::new(alloc, AtomicU64::new(0))?;
     let cache: Cache<
         HostRuntime,
-        u32,
         String,
+        Vec<u8>,
         DefaultHasher,
         CacheProperties,
         Bytes,
@@ -74,9 +61,12 @@ fn what_is_evicted_is_counted(rt: HostRuntime) -> Outcome {
         .with_weighter(Bytes)
         .with_event_listener(Evictions(Arc::try_clone(&evicted)?))
         .build(rt, alloc, &rt)?;
-    drop(cache.insert(0, 1, String::from_str(alloc, "sixsix")?)?);
-    drop(cache.insert(0, 2, String::from_str(alloc, "fives")?)?);
-    assert_eq!(rt; (evicted.load(Ordering::SeqCst), cache.usage()), (1, 5));
+    for key in ["a", "b"] {
+        let page = String::from_str(alloc, "12345")?.into_bytes();
+        drop(cache.insert(0, String::from_str(alloc, key)?, page)?);
+    }
+    assert_eq!(rt; (evicted.load(Ordering::SeqCst), cache.usage()), (1, 6));
+    assert_eq!(rt; cache.stats().evictions, 1);
     Ok(())
 }
 
@@ -102,35 +92,17 @@ fn fetched(square: u64) -> Fetch {
     }))
 }
 
-/// A cache that fetches what is missing.
-type Squares<H> = Cache<
-    H,
-    u32,
-    u64,
-    DefaultHasher,
-    CacheProperties,
-    UnitWeighter,
-    AdmitAll,
-    NoListener<u32, u64>,
-    NoopPipe<u32, u64>,
-    Direct<Fetch>,
->;
+/// A cache of squares that fetches what is missing.
+type Squares<H> = FetchCache<H, u32, u64, Fetch>;
 
-/// Polls the tasks until each has ended.
-#[derive(Drop)]
-struct AllTasks<X: Future<Output = ()>> {
-    tasks: ListSpawner<X>,
-}
-
-impl<X: Future<Output = ()>> Future for AllTasks<X> {
-    type Output = ();
-
-    fn poll(&mut self, cx: &mut Context<'_>) -> Poll<()> {
-        if self.tasks.poll_all(cx) > 0 {
-            return cx.yield_now();
-        }
-        Poll::Ready(())
-    }
+#[test]
+fn what_is_missing_is_made(rt: HostRuntime) -> Outcome {
+    let alloc = rt.alloc();
+    let squares: Squares<HostRuntime> = CacheBuilder::new(1000).build(rt, alloc, &rt)?;
+    let made = squares.get_or_insert_with(0, &8, || Ok(64))?;
+    let fetched = squares.get_or_fetch_blocking(0, &9, fetched(81))?;
+    assert_eq!(rt; (*made, *fetched), (64, 81));
+    Ok(())
 }
 
 #[test]
@@ -140,7 +112,7 @@ fn what_is_missing_is_fetched_once(rt: HostRuntime) -> Outcome {
     let mut tasks = ListSpawner::new(alloc);
     let first = squares.get_or_fetch(0, &9, || fetched(81), &mut tasks)?;
     let second = squares.get_or_fetch(0, &9, || fetched(82), &mut tasks)?;
-    block_on(&rt, AllTasks { tasks })?; // Before the waits: it is what ends them.
+    block_on(&rt, AllTasks::new(tasks))?; // Before the waits: it is what ends them.
     let (first, second) = (block_on(&rt, first)??, block_on(&rt, second)??);
     assert_eq!(rt; (*first, *second), (81, 81));
     Ok(())
