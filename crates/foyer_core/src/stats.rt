@@ -92,12 +92,7 @@ impl Stats {
     }
 
     /// Counts a record that left at a moment, unless it is a phantom.
-    pub fn count_left<K, V, P: Properties>(
-        &mut self,
-        now: u64,
-        event: Event,
-        left: &Left<K, V, P>,
-    )
+    pub fn count_left<K, V, P: Properties>(&mut self, now: u64, event: Event, left: &Left<K, V, P>)
         ensures { self.new ≡ left_counted (is_phantom (P.phantom_of left.now.kept.properties))
             (is_expired now (P.expiry_of left.now.kept.properties)) event self.old }
     {

@@ -31,6 +31,6 @@ pub use of::Of;
 pub use policy_config::PolicyConfig;
 pub use types::{
     FetchCache, FifoCache, FifoCacheEntry, FifoGetOrFetch, LfuCache, LfuCacheEntry, LfuGetOrFetch, LruCache,
-    LruCacheEntry, LruGetOrFetch, S3FifoCache, S3FifoCacheEntry, S3FifoGetOrFetch, SieveCache,
+    LruCacheEntry, LruGetOrFetch, PlainCache, S3FifoCache, S3FifoCacheEntry, S3FifoGetOrFetch, SieveCache,
     SieveCacheEntry, SieveGetOrFetch,
 };

@@ -90,8 +90,13 @@ fn policies_have_names(rt: HostRuntime) -> Result<(), Fail> {
     ] {
         assert!(rt; name.parse::<EvictionConfig>() == Ok(config), "{name}");
     }
-    for name in ["", "FIFO", "Lru", "lfu ", " lfu", "s3-fifo", "s3", "sievex", "wtinylfu"] {
-        assert!(rt; name.parse::<EvictionConfig>() == Err(UnknownPolicy), "{name}");
+    for name in [
+        "", "FIFO", "Lru", "lfu ", " lfu", "s3-fifo", "s3", "sievex", "wtinylfu",
+    ] {
+        assert!(rt;
+            name.parse::<EvictionConfig>() == Err(UnknownPolicy),
+            "{name}"
+        );
     }
     assert_eq!(rt;
         UnknownPolicy.to_string(rt.alloc())?.as_str(),

@@ -100,7 +100,10 @@ fn fetched(alloc: Global, text: &str, more: usize) -> std::result::Result<Vec<u6
 #[test]
 fn errors_become_faults(rt: HostRuntime) -> std::result::Result<(), Fail> {
     let alloc = rt.alloc();
-    assert_eq!(rt; fetched(alloc, "7", 1).expect(&rt, "a number").as_slice(), [7].as_slice());
+    assert_eq!(rt;
+        fetched(alloc, "7", 1).expect(&rt, "a number").as_slice(),
+        [7].as_slice()
+    );
     let refused = fetched(alloc, "7", usize::MAX).expect_err(&rt, "no room");
     assert_eq!(rt;
         (refused.code, refused.message.as_str()),
@@ -112,7 +115,14 @@ fn errors_become_faults(rt: HostRuntime) -> std::result::Result<(), Fail> {
         (3, "invalid digit found in string")
     );
     let named: std::result::Result<EvictionConfig, Fault> = "x".parse().or_fault(alloc, 6);
-    assert!(rt; named == Err(Fault::with_text(alloc, 6, "the policies are fifo, lru, lfu, s3fifo and sieve")));
+    assert!(rt;
+        named
+            == Err(Fault::with_text(
+                alloc,
+                6,
+                "the policies are fifo, lru, lfu, s3fifo and sieve"
+            ))
+    );
     let message = String::from_str(alloc, "no route")?;
     assert!(rt; Fault::new(7, message) == Fault::with_text(alloc, 7, "no route"));
     Ok(())

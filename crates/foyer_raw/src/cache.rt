@@ -132,6 +132,15 @@ where
             time_to_live: None,
         })
     }
+
+    /// The same cache with this time to live, in the unit of the current time: from then on what is inserted or fetched by this
+    /// value and its clones, and says no expiry of its own, expires at that call's `now + time_to_live` (at most 2^64 - 1).
+    pub fn with_time_to_live(mut self, time_to_live: Option<u64>) -> Self
+        ensures { result.time_to_live ≡ time_to_live }
+    {
+        self.time_to_live = time_to_live;
+        self
+    }
 }
 
 impl<H, E, K, V, S, P, W, A, L, Q, T, I> RawCache<H, E, K, V, S, P, W, A, L, Q, T, I>
@@ -161,17 +170,6 @@ where
             stripes: Arc::try_clone(&self.stripes)?,
             time_to_live: self.time_to_live,
         })
-    }
-
-    /// Returns the cache with this time to live, in the unit of the current time, which its later clones have too.
-    ///
-    /// A record that is inserted or fetched through them without an expiry of its own expires at that call's
-    /// `now + time_to_live`, at most 2^64 - 1.
-    pub fn with_time_to_live(mut self, time_to_live: Option<u64>) -> Self
-        ensures { result.time_to_live ≡ time_to_live }
-    {
-        self.time_to_live = time_to_live;
-        self
     }
 
     /// Returns the cache with this pipe, which its later entries, clones and tasks have too.

@@ -9,6 +9,7 @@ pub mod fetch;
 pub mod flush;
 pub mod listener;
 pub mod pipe;
+pub mod runtime;
 mod shards;
 mod shared;
 mod shares;
@@ -25,4 +26,5 @@ pub use fetch::{
 pub use flush::{Flush, FlushIf};
 pub use listener::{NoListener, tell};
 pub use pipe::{NoopPipe, Pipe};
+pub use runtime::Runtime;
 pub use ticket::{Answer, Notifier, Ticket, Waiter};

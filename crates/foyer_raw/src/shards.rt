@@ -42,7 +42,7 @@ where
     R: Drop,
     I: Finder<K>,
 {
-    rt: H,
+    pub(crate) rt: H,
     all: Vec<Mutex<Counting<E, K, V, P, R, I>>>,
     // The capacity, under the lock that orders changes of all shards.
     capacity: Mutex<usize>,

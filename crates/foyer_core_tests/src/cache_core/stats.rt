@@ -105,7 +105,14 @@ fn a_phantom_is_not_counted(rt: HostRuntime) -> Done {
     let mut stats = Stats::default();
     put_counted(&rt, &mut core, &mut stats, 0, 1, plain().with_phantom(true));
     assert!(rt; stats == Stats::default(), "{stats:?}");
-    put_counted(&rt, &mut core, &mut stats, 0, 1, plain().with_phantom(false));
+    put_counted(
+        &rt,
+        &mut core,
+        &mut stats,
+        0,
+        1,
+        plain().with_phantom(false),
+    );
     put_counted(&rt, &mut core, &mut stats, 0, 1, plain().with_phantom(true));
     let counts = Stats {
         inserts: 1,

@@ -47,7 +47,7 @@ where
 fn each_record_in_the_index_has_a_piece(rt: HostRuntime) -> Done {
     pieces_of::<Fifo>(&rt, rt.alloc(), &[1, 2, 3, 9])?;
     pieces_of::<Lru>(&rt, rt.alloc(), &[3, 9, 1, 2])?;
-    pieces_of::<Lfu>(&rt, rt.alloc(), &[1, 2, 3, 9])?;
+    pieces_of::<Lfu>(&rt, rt.alloc(), &[3, 9, 1, 2])?;
     pieces_of::<S3Fifo>(&rt, rt.alloc(), &[1, 2, 3, 9])?;
     pieces_of::<Sieve>(&rt, rt.alloc(), &[1, 2, 3, 9])
 }
@@ -71,7 +71,10 @@ fn a_piece_takes_its_record_out(rt: HostRuntime) -> Done {
     assert_keys(&rt, &pieces, &[1, 2, 3]);
     for (at, entries, usage) in [(1, 2, 1), (2, 1, 0), (0, 0, 0)] {
         let left = shard.remove_piece(&pieces[at]).expect(&rt, "a record");
-        assert_eq!(rt; (*left.key(), left.hash()), (*pieces[at].key(), pieces[at].hash()));
+        assert_eq!(rt;
+            (*left.key(), left.hash()),
+            (*pieces[at].key(), pieces[at].hash())
+        );
         assert_eq!(rt; (shard.entries(), shard.usage()), (entries, usage));
         assert!(rt; !shard.contains(0, left.hash(), left.key()));
         assert!(rt; shard.remove_piece(&pieces[at]).is_none());

@@ -6,14 +6,11 @@ use super::Cache;
 use crate::entry::CacheEntry;
 use foyer_core::{Filter, Finder, Weighter};
 use foyer_policy::{EventListener, Fault, HashBuilder, Key, Properties, Result, Value};
-use foyer_raw::{Direct, FetchTypes, Pipe, RequiredFetch};
-use std::alloc::AllocGlobal;
-use std::random::RandomSource;
-use std::sync::Wait;
+use foyer_raw::{Direct, FetchTypes, Pipe, RequiredFetch, Runtime};
 
 impl<H, K, V, S, P, W, A, L, Q, T, I> Cache<H, K, V, S, P, W, A, L, Q, T, I>
 where
-    H: Wait + RandomSource + AllocGlobal + Drop,
+    H: Runtime,
     K: Key,
     V: Value,
     S: HashBuilder,
@@ -55,7 +52,7 @@ where
 
 impl<H, K, V, S, P, W, A, L, Q, R, I> Cache<H, K, V, S, P, W, A, L, Q, Direct<R>, I>
 where
-    H: Wait + RandomSource + AllocGlobal + Drop,
+    H: Runtime,
     K: Key,
     V: Value,
     S: HashBuilder,

@@ -7,6 +7,7 @@ use super::fetching::Asking;
 use crate::entry::RawCacheEntry;
 use crate::fetch::{AllTasks, Direct, FetchTypes, Given, ListSpawner, RawWait, RequiredFetch};
 use crate::pipe::Pipe;
+use crate::runtime::Runtime;
 use crate::shares::Fetch;
 use foyer_core::{Filter, Finder, Lookup, Weighter};
 use foyer_policy::{
@@ -15,13 +16,10 @@ use foyer_policy::{
 };
 use futures::Future;
 use futures::executor::block_on;
-use std::alloc::AllocGlobal;
-use std::random::RandomSource;
-use std::sync::Wait;
 
 impl<H, E, K, V, S, P, W, A, L, Q, T, I> RawCache<H, E, K, V, S, P, W, A, L, Q, T, I>
 where
-    H: Wait + RandomSource + AllocGlobal + Drop,
+    H: Runtime,
     E: Eviction,
     K: Key,
     V: Value,
@@ -69,7 +67,11 @@ where
         match shards.get_or_enqueue(now, hash, key, None, notifier)? {
             Lookup::Hit(core) => return Ok(shares.entry(core)),
             Lookup::Wait { token: _ } => {}
-            Lookup::Lead { fetch: id, .. } => {
+            Lookup::Lead {
+                fetch: id,
+                token: _,
+                required: _,
+            } => {
                 let fetch = Fetch {
                     id,
                     now,
@@ -88,7 +90,7 @@ where
 
 impl<H, E, K, V, S, P, W, A, L, Q, R, I> RawCache<H, E, K, V, S, P, W, A, L, Q, Direct<R>, I>
 where
-    H: Wait + RandomSource + AllocGlobal + Drop,
+    H: Runtime,
     E: Eviction,
     K: Key,
     V: Value,
@@ -130,7 +132,7 @@ where
 // What a wait ends with. This thread is parked meanwhile.
 fn waited<H, X, F>(rt: &H, wait: F) -> Result<X>
 where
-    H: Wait + RandomSource + AllocGlobal,
+    H: Runtime,
     F: Future<Output = Result<Option<X>>>,
     requires { F.can_poll wait }
 {
