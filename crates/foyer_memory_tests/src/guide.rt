@@ -1,12 +1,11 @@
 //! The examples that `crates/foyer_memory/CALLING.md` prints.
 
 use crate::testing::Outcome;
-use foyer_core::AdmitAll;
 use foyer_memory::{
     Bytes, Cache, CacheBuilder, CacheProperties, EvictionConfig, FetchCache, FetchTarget,
-    S3FifoConfig,
+    PlainCache, S3FifoConfig,
 };
-use foyer_policy::{DefaultHasher, Event, EventListener, Fault, Result};
+use foyer_policy::{Event, EventListener, Fault, Result};
 use foyer_raw::{AllTasks, ListSpawner};
 use futures::executor::block_on;
 use futures::future::{Ready, ready};
@@ -47,16 +46,7 @@ impl EventListener for Evictions {
 fn what_is_evicted_is_counted(rt: HostRuntime) -> Outcome {
     let alloc = rt.alloc();
     let evicted = Arc::new(alloc, AtomicU64::new(0))?;
-    let cache: Cache<
-        HostRuntime,
-        String,
-        Vec<u8>,
-        DefaultHasher,
-        CacheProperties,
-        Bytes,
-        AdmitAll,
-        Evictions,
-    > = CacheBuilder::new(10)
+    let cache: PlainCache<HostRuntime, String, Vec<u8>, Bytes, Evictions> = CacheBuilder::new(10)
         .with_shards(1)
         .with_weighter(Bytes)
         .with_event_listener(Evictions(Arc::try_clone(&evicted)?))
