@@ -2,7 +2,7 @@
 use Rattle.std.proofs.Common.{◌≡◌, ◌≢◌, ℕ, ◌-◌, List, [], ◌∷◌, Option, Some, None, Ok, Err, Bool, true, false, cond, nat_eq, refl, sym, ◌∙◌, ap, subst, inl, inr, arith}
 use Rattle.std.proofs.Math.Logic.{∥∥₁_elim}
 use Rattle.std.proofs.Props.{props}
-use Rattle.std.specs.Prelude.{Result, IfNone, IfOk, OnErr, OnOk, OnSome, is_some, option_and_then}
+use Rattle.std.specs.Prelude.{Result, IfNone, IfOk, IfSome, OnErr, OnOk, OnSome, is_some, option_and_then}
 use Rattle.std.specs.Map.{update}
 use Rattle.std.proofs.lemmas.Map.{update_apart}
 use Rattle.foyer_policy.specs.Moments.{is_expired}
@@ -11,10 +11,10 @@ use Rattle.foyer_policy.specs.Policy.{evicted}
 use Rattle.foyer_policy.specs.declared.error.Reason.{Reason}
 use Rattle.foyer_policy.specs.declared.error.Reason.TheVariants.{Ids, Handles, Weight, NoMemory}
 use Rattle.foyer_policy.specs.declared.types.Event.{Event}
-use Rattle.foyer_policy.specs.declared.types.Event.TheVariants.{Remove}
+use Rattle.foyer_policy.specs.declared.types.Event.TheVariants.{Evict, Remove}
 use Rattle.foyer_policy.specs.declared.types.Source.{Source}
 use Rattle.foyer_core.specs.declared.outcome.Waiting.{Waiting}
-use Rattle.foyer_core.specs.Bulk.{GoesOn}
+use Rattle.foyer_core.specs.Bulk.{GoesOn, TakesRecordOut}
 use Rattle.foyer_core.specs.Fetching.{Apart}
 use Rattle.foyer_core.specs.Indexer.{same_key}
 use Rattle.foyer_core.specs.Inflight.{Opens, OpenFetch, after_enqueue, after_nothing, closed, joined, without_later}
@@ -153,6 +153,15 @@ module _ {K V P View C : Type 0} (m : Meaning K P View C) where
     pub leave_apart : (e : Event) (ids : List ℕ) (old : State K V P View) (ls : List (Event × Gone K V P)) (v : View)
         (new : State K V P View) → Leave m e ids old ls v new → Apart m.expires old f → Apart m.expires new f
     leave_apart e ids old ls v new h = within_apart m.expires f old new (leave_within e ids old ls v new h)
+
+    -- a record is taken out, or nothing is
+    pub taken_apart : (old : State K V P View) (id : ℕ) (left : Option (Gone K V P)) (new : State K V P View) →
+        IfSome left (λ gone. TakesRecordOut m old id gone new) → IfNone left (new ≡ old) → Apart m.expires old f →
+        Apart m.expires new f
+    taken_apart old id None new taken none = within_apart m.expires f old new (within_equal old new none)
+    taken_apart old id (Some gone) new taken none = leave_apart Evict (id ∷ []) old ((Evict, gone) ∷ [])
+        (m.policy.remove old.view id) new
+        (taken.rec, taken.there, ap (λ (g : Gone K V P). (Evict, g)) taken.gone_is, taken.after)
 
     -- what comes in is in the index only under its own key
     module _ (s : State K V P View) (kept : ∥ IsKept m s ∥₁) (i : Incoming K V P)

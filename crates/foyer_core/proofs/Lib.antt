@@ -85,6 +85,7 @@ pub mod Sound
 pub mod States
 pub mod Staying
 pub mod Stepped
+pub mod StandsLemmas
 pub mod StoredLemmas
 pub mod TableLemmas
 pub mod TagLemmas

@@ -34,7 +34,7 @@ impl<E: Eviction, K: Key, V: Value, P: Properties, I: Finder<K>> Store<E, K, V, 
 
     // A piece of the record of an id. Only memory can be missing.
     fn piece_of(&self, id: u64) -> Result<Piece<K, V, P>>
-        requires there { 0 < count_of id (E.model.order (E.view self.now.eviction)) }
+        requires { 0 < count_of id (E.model.order (E.view self.now.eviction)) }
         ensures piece { IfOk result (IsPieceOf (state_of self.now) id) }
         ensures refused { IfErr result (λ e. e ≡ NoMemory) }
     {

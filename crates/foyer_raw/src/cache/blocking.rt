@@ -52,17 +52,18 @@ where
         requires clones { (k c : K) → K.is_clone k c → K.eq c k ≡ true }
         requires callable { F.IsAlwaysCallable make }
     {
-        if let Some(entry) = self.get(now, key)? {
+        let hash = self.hash(key);
+        if let Some(entry) = self.get_first(now, hash, key)? {
             return Ok(entry);
         }
         let Asking {
             shares,
             task,
-            hash,
+            hash: _,
             own,
             notifier,
             waiter,
-        } = self.asking(key)?;
+        } = self.asking(hash, key)?;
         let shards = &self.shares.shared.shards;
         match shards.get_or_enqueue(now, hash, key, None, notifier)? {
             Lookup::Hit(core) => return Ok(shares.entry(core)),

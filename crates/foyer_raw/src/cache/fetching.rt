@@ -75,21 +75,22 @@ where
         ensures key { IfOk result (elim [ Hit entry ↦ IfSome entry (λ e. K.eq key.now e.kept.key ≡ true) | Miss _ ↦ Unit {0} ]) }
         ensures live { IfOk result (elim [ Hit entry ↦ IfSome entry (λ e. is_expired now (P.expiry_of e.kept.properties) ≡ false) | Miss _ ↦ Unit {0} ]) }
     {
-        if let Some(entry) = self.get(now, key)? {
+        let hash = self.hash(key);
+        if let Some(entry) = self.get_first(now, hash, key)? {
             return Ok(RawGetOrFetch::Hit(Some(entry)));
         }
         spawner.reserve()?;
-        let asking = self.asking(key)?;
+        let asking = self.asking(hash, key)?;
         self.ask(now, key, asking, fr(), fo, context, spawner)
     }
 
     // Makes what a look-up of a key needs. Fails with F7 alone.
     pub(super) fn asking(
         &self,
+        hash: u64,
         key: &K,
     ) -> Result<Asking<Shares<H, E, K, V, S, P, W, A, L, Q, T::Required, I>, K, V, P>> {
         let (notifier, waiter) = oneshot::channel(self.shares.shared.shards.alloc)?;
-        let hash = self.hash(key);
         Ok(Asking {
             own: key.clone()?,
             task: self.shares_of(hash)?,
@@ -218,11 +219,12 @@ where
         let given = Given {
             fetch: Pollable::new(fetch()),
         };
-        if let Some(entry) = self.get(now, key)? {
+        let hash = self.hash(key);
+        if let Some(entry) = self.get_first(now, hash, key)? {
             return Ok(RawGetOrFetch::Hit(Some(entry)));
         }
         spawner.reserve()?;
-        let asking = self.asking(key)?;
+        let asking = self.asking(hash, key)?;
         self.ask(
             now,
             key,

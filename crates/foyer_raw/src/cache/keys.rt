@@ -56,6 +56,22 @@ where
         }
     }
 
+    // An entry as `get` returns it. A miss is not counted, since another look-up follows it.
+    pub(super) fn get_first(
+        &self,
+        now: u64,
+        hash: u64,
+        key: &K,
+    ) -> Result<Option<RawCacheEntry<H, E, K, V, S, P, W, A, L, Q, T::Required, I>>>
+        ensures key { IfOk result (λ found. IfSome found (λ e. K.eq key.now e.kept.key ≡ true)) }
+        ensures live { IfOk result (λ found. IfSome found (λ e. is_expired now (P.expiry_of e.kept.properties) ≡ false)) }
+    {
+        match self.shares.shared.shards.get_first(now, hash, key)? {
+            Some(core) => Ok(Some(self.entry_of(hash, core)?)),
+            None => Ok(None),
+        }
+    }
+
     // The entry of a handle of a key with this hash. The handle is given back if the cache can't be shared once more (F7).
     #[inline(always)]
     fn entry_of(

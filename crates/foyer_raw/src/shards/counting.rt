@@ -22,16 +22,6 @@ impl<E: Eviction, K: Key, V: Value, P: Properties, R: Drop, I: Finder<K>> Counti
         }
     }
 
-    // Counts what a look-up found. A refused one is not counted.
-    #[inline(always)]
-    pub(crate) fn count_found<X>(&mut self, found: &Result<Option<X>>) {
-        match found {
-            Ok(Some(_)) => self.stats.count(Counted::Hit),
-            Ok(None) => self.stats.count(Counted::Miss),
-            Err(_) => {}
-        }
-    }
-
     // Counts a look-up that may begin a fetch.
     pub(crate) fn count_look_up<X>(&mut self, look: &Result<Lookup<K, V, P, X>>) {
         match look {

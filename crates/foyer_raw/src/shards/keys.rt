@@ -29,7 +29,29 @@ where
     {
         let mut locked = self.lock(hash);
         let found = locked.shard.get(now, hash, key);
-        locked.count_found(&found);
+        match &found {
+            Ok(Some(_)) => locked.stats.count(Counted::Hit),
+            Ok(None) => locked.stats.count(Counted::Miss),
+            Err(_) => {}
+        }
+        found
+    }
+
+    // A `get` whose miss is not counted, since another look-up follows it.
+    pub(crate) fn get_first(
+        &self,
+        now: u64,
+        hash: u64,
+        key: &K,
+    ) -> Result<Option<CoreEntry<K, V, P>>>
+        ensures key { IfOk result (λ found. IfSome found (λ e. K.eq key.now e.kept.key ≡ true)) }
+        ensures live { IfOk result (λ found. IfSome found (λ e. is_expired now (P.expiry_of e.kept.properties) ≡ false)) }
+    {
+        let mut locked = self.lock(hash);
+        let found = locked.shard.get(now, hash, key);
+        if let Ok(Some(_)) = &found {
+            locked.stats.count(Counted::Hit);
+        }
         found
     }
 
