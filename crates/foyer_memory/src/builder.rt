@@ -1,4 +1,4 @@
-//! Makes caches.
+//! The builder of caches.
 
 ghost use Rattle.std.specs.Prelude.{◌≡◌, None, Some};
 ghost use Rattle.foyer_policy.specs.declared.eviction_config.EvictionConfig.TheVariants.{Lru};
@@ -10,7 +10,9 @@ use std::marker::PhantomData;
 
 mod build;
 
-/// Makes a cache. A setter of a part whose type may be another one changes that type.
+/// Builds a `Cache`.
+///
+/// The setters of the hash builder, the weighter, the filter and the listener change the builder's type.
 #[derive(Drop)]
 pub struct CacheBuilder<
     K,
@@ -27,8 +29,10 @@ pub struct CacheBuilder<
 }
 
 impl<K: Key, V: Value> CacheBuilder<K, V> {
-    /// A builder of a cache of this capacity: 8 shards, an LRU policy of its default configuration, the default hash
-    /// builder, weight 1 for each record, each admitted, no listener, number 0 and the default limits.
+    /// Creates a builder of a cache of this capacity, which is a total weight.
+    ///
+    /// By default there are 8 shards, the policy is LRU with its default configuration, each record weighs 1 and is
+    /// admitted, there is no listener, and the number is 0.
     pub fn new(capacity: usize) -> Self
         ensures capacity { result.config.capacity ≡ capacity }
         ensures shards { result.config.shards ≡ 8 }
@@ -55,7 +59,7 @@ where
     A: Filter<K, V>,
     L: EventListener<Key = K, Value = V>,
 {
-    /// With this many shards. The capacity is shared out among them.
+    /// Sets the number of shards, among which the capacity is divided.
     pub fn with_shards(mut self, shards: usize) -> Self
         ensures { result ≡ record self { config = record self.config { shards = shards } } }
     {
@@ -63,7 +67,7 @@ where
         self
     }
 
-    /// With this policy, of this configuration.
+    /// Sets the policy and its configuration.
     pub fn with_eviction_config(mut self, eviction_config: EvictionConfig) -> Self
         ensures { result ≡ record self { config = record self.config { eviction_config = eviction_config } } }
     {
@@ -71,7 +75,7 @@ where
         self
     }
 
-    /// With this number. Caches that exchange records have different ones.
+    /// Sets the cache's number, by which it knows its own pieces. Caches that exchange pieces need different numbers.
     pub fn with_number(mut self, number: u64) -> Self
         ensures { result ≡ record self { config = record self.config { number = number } } }
     {
@@ -79,7 +83,7 @@ where
         self
     }
 
-    /// With these greatest numbers.
+    /// Sets the limits of the handle counts and of the ids.
     pub fn with_limits(mut self, limits: Limits) -> Self
         ensures { result ≡ record self { config = record self.config { limits = limits } } }
     {
@@ -87,9 +91,10 @@ where
         self
     }
 
-    /// With a time to live, in the unit of the current time: what is inserted or fetched and says no expiry of its own
-    /// expires at that call's `now + time_to_live` (at most 2^64 - 1). With 0 nothing is found again. A piece keeps what it
-    /// says.
+    /// Sets a time to live, in the unit of the current time.
+    ///
+    /// A record that is inserted or fetched without an expiry of its own then expires at that call's `now + time_to_live`,
+    /// at most 2^64 - 1; with 0, no look-up finds it. A piece keeps the expiry that it has.
     pub fn with_time_to_live(mut self, time_to_live: u64) -> Self
         ensures { result ≡ record self { time_to_live = Some time_to_live } }
     {
@@ -97,7 +102,7 @@ where
         self
     }
 
-    /// With what gives each key its hash.
+    /// Sets the hash builder of the keys.
     pub fn with_hash_builder<X: HashBuilder>(
         self,
         hash_builder: X,
@@ -146,7 +151,7 @@ where
         }
     }
 
-    /// With what gives each record its weight.
+    /// Sets the weighter, which gives each record its weight.
     pub fn with_weighter<X: Weighter<K, V>>(self, weighter: X) -> CacheBuilder<K, V, S, X, A, L>
         ensures given { result.config.weighter ≡ weighter }
         ensures capacity { result.config.capacity ≡ self.config.capacity }
@@ -173,7 +178,7 @@ where
         }
     }
 
-    /// With what says which records a get is to find.
+    /// Sets the filter. A record that it refuses is held by its entry alone, and no `get` finds it.
     pub fn with_filter<X: Filter<K, V>>(self, filter: X) -> CacheBuilder<K, V, S, W, X, L>
         ensures given { result.config.filter ≡ filter }
         ensures capacity { result.config.capacity ≡ self.config.capacity }
@@ -200,7 +205,7 @@ where
         }
     }
 
-    /// With who is told of what leaves.
+    /// Sets the listener, which is told of each record that leaves.
     pub fn with_event_listener<X: EventListener<Key = K, Value = V>>(
         self,
         listener: X,

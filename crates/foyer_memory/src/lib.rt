@@ -1,4 +1,4 @@
-//! The cache that users take, of any of the five policies, and its builder.
+//! The cache that users call, with any of the five policies, and its builder.
 #![tactic(auto)]
 
 pub mod builder;

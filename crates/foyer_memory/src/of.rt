@@ -1,4 +1,4 @@
-//! Caches, entries and look-ups whose policy is known by their type.
+//! Caches, entries and look-ups with their policy in the type.
 
 ghost use Rattle.std.specs.Prelude.{◌≡◌, None, Err, IfErr, IfOk, IfSome, OnOk};
 ghost use Rattle.foyer_policy.specs.declared.error.Reason.TheVariants.{NoMemory};
@@ -17,7 +17,7 @@ use std::marker::PhantomData;
 use std::ops::Deref;
 use std::sync::Wait;
 
-/// An `X` of the policy whose configuration is a `C`: a cache, an entry of one, or what a look-up in one answers.
+/// An `X`, which is a cache, an entry or a look-up, with its policy in the type: the one that `C` configures.
 #[derive(Drop)]
 pub struct Of<C, X> {
     inner: X,
@@ -63,8 +63,10 @@ where
     Q: Drop,
     T: FetchTypes<K, V, P>,
 {
-    /// A cache that holds nothing and has no pipe. Refused where there is to be no shard (F1), then with the policy
-    /// configuration's first fault (F2 to F6), and else only for want of memory (F7).
+    /// Creates an empty cache without a pipe.
+    ///
+    /// # Errors
+    /// F1 if there are no shards, F2 to F6 for the first fault of the policy's configuration, F7 if memory runs out.
     pub fn new(
         rt: H,
         alloc: Global,

@@ -1,4 +1,4 @@
-//! The caches of each policy, their entries and what their look-ups answer, by name.
+//! The caches of each policy, with their entries and look-ups, by name.
 
 use crate::cache::Cache;
 use crate::entry::CacheEntry;
@@ -37,7 +37,7 @@ pub type FetchCache<
     I = TagFinder<K>,
 > = Cache<H, K, V, S, P, W, A, L, Q, Direct<R>, I>;
 
-/// A cache whose policy is first in, first out.
+/// A cache whose policy is FIFO.
 pub type FifoCache<
     H,
     K,
@@ -52,7 +52,7 @@ pub type FifoCache<
     I = TagFinder<K>,
 > = Of<FifoConfig, Cache<H, K, V, S, P, W, A, L, Q, T, I>>;
 
-/// An entry of such a cache.
+/// An entry of a `FifoCache`.
 pub type FifoCacheEntry<
     H,
     K,
@@ -67,7 +67,7 @@ pub type FifoCacheEntry<
     I = TagFinder<K>,
 > = Of<FifoConfig, CacheEntry<H, K, V, S, P, W, A, L, Q, T, I>>;
 
-/// What its look-ups answer that fetch.
+/// The result of a look-up in a `FifoCache` that fetches what is missing.
 pub type FifoGetOrFetch<
     H,
     K,
@@ -97,7 +97,7 @@ pub type S3FifoCache<
     I = TagFinder<K>,
 > = Of<S3FifoConfig, Cache<H, K, V, S, P, W, A, L, Q, T, I>>;
 
-/// An entry of such a cache.
+/// An entry of an `S3FifoCache`.
 pub type S3FifoCacheEntry<
     H,
     K,
@@ -112,7 +112,7 @@ pub type S3FifoCacheEntry<
     I = TagFinder<K>,
 > = Of<S3FifoConfig, CacheEntry<H, K, V, S, P, W, A, L, Q, T, I>>;
 
-/// What its look-ups answer that fetch.
+/// The result of a look-up in an `S3FifoCache` that fetches what is missing.
 pub type S3FifoGetOrFetch<
     H,
     K,
@@ -127,7 +127,7 @@ pub type S3FifoGetOrFetch<
     I = TagFinder<K>,
 > = Of<S3FifoConfig, GetOrFetch<H, K, V, S, P, W, A, L, Q, T, I>>;
 
-/// A cache whose policy is least recently used.
+/// A cache whose policy is LRU.
 pub type LruCache<
     H,
     K,
@@ -142,7 +142,7 @@ pub type LruCache<
     I = TagFinder<K>,
 > = Of<LruConfig, Cache<H, K, V, S, P, W, A, L, Q, T, I>>;
 
-/// An entry of such a cache.
+/// An entry of an `LruCache`.
 pub type LruCacheEntry<
     H,
     K,
@@ -157,7 +157,7 @@ pub type LruCacheEntry<
     I = TagFinder<K>,
 > = Of<LruConfig, CacheEntry<H, K, V, S, P, W, A, L, Q, T, I>>;
 
-/// What its look-ups answer that fetch.
+/// The result of a look-up in an `LruCache` that fetches what is missing.
 pub type LruGetOrFetch<
     H,
     K,
@@ -187,7 +187,7 @@ pub type LfuCache<
     I = TagFinder<K>,
 > = Of<LfuConfig, Cache<H, K, V, S, P, W, A, L, Q, T, I>>;
 
-/// An entry of such a cache.
+/// An entry of an `LfuCache`.
 pub type LfuCacheEntry<
     H,
     K,
@@ -202,7 +202,7 @@ pub type LfuCacheEntry<
     I = TagFinder<K>,
 > = Of<LfuConfig, CacheEntry<H, K, V, S, P, W, A, L, Q, T, I>>;
 
-/// What its look-ups answer that fetch.
+/// The result of a look-up in an `LfuCache` that fetches what is missing.
 pub type LfuGetOrFetch<
     H,
     K,
@@ -232,7 +232,7 @@ pub type SieveCache<
     I = TagFinder<K>,
 > = Of<SieveConfig, Cache<H, K, V, S, P, W, A, L, Q, T, I>>;
 
-/// An entry of such a cache.
+/// An entry of a `SieveCache`.
 pub type SieveCacheEntry<
     H,
     K,
@@ -247,7 +247,7 @@ pub type SieveCacheEntry<
     I = TagFinder<K>,
 > = Of<SieveConfig, CacheEntry<H, K, V, S, P, W, A, L, Q, T, I>>;
 
-/// What its look-ups answer that fetch.
+/// The result of a look-up in a `SieveCache` that fetches what is missing.
 pub type SieveGetOrFetch<
     H,
     K,

@@ -10,6 +10,8 @@ mod compare;
 #[cfg(test)]
 mod fetches;
 #[cfg(test)]
+mod guide;
+#[cfg(test)]
 mod moments;
 #[cfg(test)]
 mod of;

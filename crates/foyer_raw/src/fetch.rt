@@ -1,4 +1,4 @@
-//! What fetches for those who wait for a key.
+//! Fetches of missing keys: tasks, waits, and what runs and builds them.
 
 mod direct;
 mod pollable;

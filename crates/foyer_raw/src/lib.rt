@@ -1,5 +1,5 @@
-//! The cache that many threads share: shards behind locks, entries that give their handle back as they are dropped, and
-//! the task that fetches for all who wait for a key.
+//! The cache that threads share: shards behind locks, entries that give their handle back when they are dropped, and
+//! the task that fetches a missing key for all that wait for it.
 #![tactic(auto)]
 
 pub mod cache;

@@ -1,4 +1,4 @@
-//! What a builder makes.
+//! Building a cache.
 
 ghost use Rattle.std.specs.Prelude.{◌≡◌, None, Err, IfErr, IfOk, IfSome, OnOk};
 ghost use Rattle.foyer_policy.specs.declared.error.Reason.TheVariants.{NoMemory};
@@ -22,9 +22,12 @@ where
     A: Filter<K, V>,
     L: EventListener<Key = K, Value = V>,
 {
-    /// A cache that holds nothing and has no pipe. Refused where there is to be no shard (F1), then with the policy
-    /// configuration's first fault (F2 to F6), and else only for want of memory (F7). A capacity below the number of shards
-    /// is logged as a warning.
+    /// Builds an empty cache without a pipe.
+    ///
+    /// Logs a warning if the capacity is below the number of shards.
+    ///
+    /// # Errors
+    /// F1 if there are no shards, F2 to F6 for the first fault of the policy's configuration, F7 if memory runs out.
     pub fn build<H, P, Q, T, I, G>(
         self,
         rt: H,

@@ -1,4 +1,4 @@
-//! The task that fetches for those who wait for a key.
+//! The task that fetches a missing key for all that wait for it.
 
 ghost use Rattle.std.specs.Prelude.{◌≡◌, ◌≢◌, ◌⊎◌, IfSome, IsNone, true};
 ghost use Rattle.futures.specs.Task.{Covers, Keeps};
@@ -19,8 +19,9 @@ use std::sync::Wait;
 mod ends;
 mod polls;
 
-/// The task that fetches for those who wait for a key. It belongs to the one who leads the fetch. Where it is dropped
-/// before it ended, those who wait get F15.
+/// The task that fetches a missing key for all that wait for it.
+///
+/// The spawner of the first caller gets it. If it is dropped before it has ended, all that wait get F15.
 pub struct RawFetch<H, E, K, V, S, P, W, A, L, Q, T, I = TagFinder<K>>
 where
     H: Wait + Drop,
@@ -38,7 +39,7 @@ where
 {
     state: RawFetchState,
     fetch: Fetch,
-    // Until the key comes in.
+    // Until the value is inserted.
     key: Option<K>,
     shares: Shares<H, E, K, V, S, P, W, A, L, Q, T::Required, I>,
     context: T::Context,
@@ -53,17 +54,17 @@ where
     ghost clones: { (k c : K) → K.is_clone k c → K.eq c k ≡ true },
 }
 
-/// With what a task begins.
+/// What a task begins with.
 pub(crate) struct Begin<K, C, O, F> {
     /// The fetch.
     pub(crate) fetch: Fetch,
     /// The key.
     pub(crate) key: K,
-    /// What the builders are given.
+    /// The builders' context.
     pub(crate) context: C,
     /// The optional builder, if there is one.
     pub(crate) optional: Option<O>,
-    /// The leader's own required builder, if there is one.
+    /// The first caller's own required builder, if there is one.
     pub(crate) required: Option<F>,
 }
 
@@ -82,7 +83,7 @@ where
     Q: Pipe<Key = K, Value = V, Properties = P>,
     T: FetchTypes<K, V, P>,
 {
-    // A task that was not polled yet.
+    // Makes a task.
     pub(crate) fn new(
         shares: Shares<H, E, K, V, S, P, W, A, L, Q, T::Required, I>,
         begin: Begin<K, T::Context, T::Optional, T::Required>,
@@ -113,19 +114,19 @@ where
         }
     }
 
-    /// What the task is doing.
+    /// Returns what the task is doing.
     pub fn state(&self) -> RawFetchState
         ensures { result ≡ self.now.state }
     {
         self.state
     }
 
-    /// Ends the task, as its drop does.
+    /// Cancels the task, as its drop does.
     pub fn cancel(self) {
         drop(self);
     }
 
-    // An event happens.
+    // Goes to the state after an event.
     fn step(&mut self, event: TaskEvent)
         ensures start { (optional : _) → event ≡ TaskEvent.Start optional → Leads 1 self.old.state self.new.state }
         ensures later { self.old.state ≢ RawFetchState.Init → Leads 1 self.old.state self.new.state }

@@ -1,4 +1,4 @@
-//! How a task ends its fetch.
+//! Ways in which a task ends its fetch.
 
 ghost use Rattle.std.specs.Prelude.{◌≡◌, true};
 
@@ -29,7 +29,7 @@ where
     Q: Pipe<Key = K, Value = V, Properties = P>,
     T: FetchTypes<K, V, P>,
 {
-    // Whether the fetch is open.
+    // Returns whether the fetch is open.
     pub(super) fn is_open(&self) -> bool {
         match &self.key {
             Some(key) => self.is_open_for(key),
@@ -43,8 +43,8 @@ where
         self.shares.shared.shards.is_open(hash, key, id)
     }
 
-    // Ends the fetch, at its leader's time, with what was fetched, and answers those who wait. If the fetch is not open,
-    // nothing happens, and neither the weighter nor the filter is asked.
+    // Ends the fetch with what was fetched, inserted at the first caller's `now`, and gives all that wait their result. If
+    // the fetch isn't open nothing happens, and neither the weighter nor the filter is asked.
     pub(super) fn complete(&self, key: Option<K>, target: FetchTarget<K, V, P>, source: Source) {
         let Some(key) = key else {
             return;
@@ -78,7 +78,7 @@ where
         }
     }
 
-    // A builder that one who waits brought, or those who wait. None if the fetch is not open.
+    // Returns a builder that a waiting caller brought, or else the waiting callers; none if the fetch isn't open.
     pub(super) fn later(&self) -> Option<Later<K, V, P, T::Required>> {
         let Fetch { id, hash, .. } = self.fetch;
         match &self.key {
@@ -87,7 +87,7 @@ where
         }
     }
 
-    // Answers those who wait with the fault, or with none.
+    // Gives all that wait the fault, or none.
     pub(super) fn tell_nothing(&self, waiters: Waiters<K, V, P>, fault: Option<Fault>) {
         match fault {
             Some(fault) => refuse(waiters, self.shares.refusal(fault)),
