@@ -75,6 +75,11 @@ fn main(rt: HostRuntime) -> anyhow::Result<()> {
     service.length(60, "home")?; // expired by now, and so loaded again
     service.pages.clear()?;
     let stats = service.pages.stats();
-    println!(rt; "{} loaded, {} left, {} refused", stats.inserts, gone.load(Ordering::SeqCst), stats.refused)?;
+    println!(rt;
+        "{} loaded, {} left, {} refused",
+        stats.inserts,
+        gone.load(Ordering::SeqCst),
+        stats.refused
+    )?;
     Ok(())
 }

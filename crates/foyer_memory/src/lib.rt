@@ -30,7 +30,7 @@ pub use kind::Kind;
 pub use of::Of;
 pub use policy_config::PolicyConfig;
 pub use types::{
-    FetchCache, FifoCache, FifoCacheEntry, FifoGetOrFetch, LfuCache, LfuCacheEntry, LfuGetOrFetch, LruCache,
-    LruCacheEntry, LruGetOrFetch, PlainCache, S3FifoCache, S3FifoCacheEntry, S3FifoGetOrFetch, SieveCache,
-    SieveCacheEntry, SieveGetOrFetch,
+    FetchCache, FifoCache, FifoCacheEntry, FifoGetOrFetch, LfuCache, LfuCacheEntry, LfuGetOrFetch,
+    LruCache, LruCacheEntry, LruGetOrFetch, PlainCache, S3FifoCache, S3FifoCacheEntry,
+    S3FifoGetOrFetch, SieveCache, SieveCacheEntry, SieveGetOrFetch,
 };

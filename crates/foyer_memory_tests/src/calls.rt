@@ -79,7 +79,10 @@ fn stats_count_what_each_shard_evicts(rt: HostRuntime) -> Outcome {
         assert_eq!(rt; cache.stats().evictions, 20);
         cache.evict_all(0)?;
         let stats = cache.stats();
-        assert_eq!(rt; (stats.inserts, stats.evictions, stats.expired, stats.cleared), (40, 40, 0, 0));
+        assert_eq!(rt;
+            (stats.inserts, stats.evictions, stats.expired, stats.cleared),
+            (40, 40, 0, 0)
+        );
     }
     Ok(())
 }
@@ -118,7 +121,9 @@ fn a_walk_visits_each_record_once(rt: HostRuntime) -> Outcome {
         let mut cleared = Vec::new(rt.alloc());
         let mut found = 0u64;
         cache.for_each(|key, value| {
-            found = found.wrapping_add(u64::from(cache.contains(0, key) && *value == u64::from(*key) * 10));
+            found = found.wrapping_add(u64::from(
+                cache.contains(0, key) && *value == u64::from(*key) * 10,
+            ));
             let _ = seen.push(*key);
             let _ = cleared.push(Clear(*key, *value));
         })?;
@@ -127,7 +132,10 @@ fn a_walk_visits_each_record_once(rt: HostRuntime) -> Outcome {
         cache.clear()?;
         assert!(rt; notes.are(cleared.as_slice()));
         seen.sort()?;
-        assert_eq!(rt; seen.as_slice(), [0u32, 1, 2, 3, 4, 5, 6, 7, 8, 9].as_slice());
+        assert_eq!(rt;
+            seen.as_slice(),
+            [0u32, 1, 2, 3, 4, 5, 6, 7, 8, 9].as_slice()
+        );
     }
     Ok(())
 }
@@ -181,8 +189,9 @@ fn a_missing_value_is_made_once(rt: HostRuntime) -> Outcome {
 // Threads that miss one key together get the one value that one of them makes.
 #[test]
 fn threads_make_a_value_once(rt: HostRuntime) -> Outcome {
-    let cache: foyer_memory::Cache<HostRuntime, u32, u64> =
-        foyer_memory::CacheBuilder::new(1000).build(rt, rt.alloc(), &rt)?;
+    let cache: foyer_memory::Cache<HostRuntime, u32, u64> = foyer_memory::CacheBuilder::new(
+        1000,
+    ).build(rt, rt.alloc(), &rt)?;
     let made = AtomicU64::new(0);
     let sums = thread::map_indices(
         &rt,
@@ -191,14 +200,10 @@ fn threads_make_a_value_once(rt: HostRuntime) -> Outcome {
         &|_thread| {
             let mut sum = 0u64;
             for key in 0..50u32 {
-                let entry = cache.get_or_insert_with(
-                    0,
-                    &key,
-                    || {
-                        made.fetch_add(1, Ordering::SeqCst);
-                        Ok(u64::from(key))
-                    },
-                );
+                let entry = cache.get_or_insert_with(0, &key, || {
+                    made.fetch_add(1, Ordering::SeqCst);
+                    Ok(u64::from(key))
+                });
                 sum = sum.wrapping_add(entry.map_or(1000, |entry| *entry));
             }
             sum
@@ -234,7 +239,12 @@ fn a_time_to_live_counts_from_each_call(rt: HostRuntime) -> Outcome {
             .with_time_to_live(10)
             .build(rt, rt.alloc(), &rt)?;
         drop(cache.insert(100, 1, 10)?);
-        drop(cache.insert_with_properties(101, 2, 20, CacheProperties::default().with_expiry(Some(500)))?);
+        drop(cache.insert_with_properties(
+            101,
+            2,
+            20,
+            CacheProperties::default().with_expiry(Some(500)),
+        )?);
         let mut tasks = ListSpawner::new(rt.alloc());
         let look = cache.get_or_fetch(103, &3, || given(30), &mut tasks)?;
         drop(cache.get_or_insert_with(104, &4, || Ok(40))?);

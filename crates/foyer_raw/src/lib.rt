@@ -19,9 +19,9 @@ pub mod ticket;
 pub use cache::RawCache;
 pub use entry::RawCacheEntry;
 pub use fetch::{
-    AllTasks, Direct, FetchTypes, Given, ListSpawner, NoFetch, OptionalFetch, OptionalFetchBuilder, Pollable,
-    RawFetch, RawFetchState, RawGetOrFetch, RawWait, RequiredFetch, RequiredFetchBuilder, Spawner,
-    TaskEvent,
+    AllTasks, Direct, FetchTypes, Given, ListSpawner, NoFetch, OptionalFetch, OptionalFetchBuilder,
+    Pollable, RawFetch, RawFetchState, RawGetOrFetch, RawWait, RequiredFetch, RequiredFetchBuilder,
+    Spawner, TaskEvent,
 };
 pub use flush::{Flush, FlushIf};
 pub use listener::{NoListener, tell};

@@ -89,11 +89,7 @@ where
         let Shards { all, .. } = self;
         for shard in all {
             let Counting { shard, stats: _ } = shard.into_inner();
-            shard.finish(&|key: &K, value: &V| listener.on_leave(
-                Event::Clear,
-                key,
-                value,
-            ));
+            shard.finish(&|key: &K, value: &V| listener.on_leave(Event::Clear, key, value));
         }
     }
 }

@@ -13,7 +13,14 @@ pub(crate) struct Counting<E: Eviction, K: Key, V: Value, P: Properties, R: Drop
     pub(crate) stats: Stats,
 }
 
-impl<E: Eviction, K: Key, V: Value, P: Properties, R: Drop, I: Finder<K>> Counting<E, K, V, P, R, I> {
+impl<E: Eviction, K: Key, V: Value, P: Properties, R: Drop, I: Finder<K>> Counting<
+    E,
+    K,
+    V,
+    P,
+    R,
+    I,
+> {
     // A shard of which nothing was counted yet.
     pub(crate) fn new(shard: RawShard<E, K, V, P, R, I>) -> Self {
         Counting {

@@ -81,9 +81,7 @@ where
     {
         let hash = kept.hash;
         let mut locked = self.lock(hash);
-        let ended = locked
-            .shard
-            .complete(self.alloc, now, fetch, kept, source);
+        let ended = locked.shard.complete(self.alloc, now, fetch, kept, source);
         locked.count_ended(now, &ended);
         ended
     }

@@ -5,7 +5,7 @@ ghost use Rattle.foyer_policy.specs.Moments.{is_expired};
 
 use super::{FIRST, Shards};
 use crate::ticket::{Answer, Notifier};
-use foyer_core::{Counted, CoreEntry, Data, Finder, InsertedOnto, Leave, Left, Piece};
+use foyer_core::{CoreEntry, Counted, Data, Finder, InsertedOnto, Leave, Left, Piece};
 use foyer_policy::{Error, Event, Eviction, Key, Properties, Reason, Result, Source, Value};
 use std::sync::Wait;
 
@@ -73,7 +73,9 @@ where
     pub(crate) fn touch(&self, now: u64, hash: u64, key: &K) -> Result<bool> {
         let mut locked = self.lock(hash);
         let found = locked.shard.touch(now, hash, key)?;
-        locked.stats.count(if found { Counted::Hit } else { Counted::Miss });
+        locked
+            .stats
+            .count(if found { Counted::Hit } else { Counted::Miss });
         Ok(found)
     }
 
@@ -95,9 +97,7 @@ where
     {
         let hash = kept.hash;
         let mut locked = self.lock(hash);
-        let made = locked
-            .shard
-            .emplace(self.alloc, now, kept, source, leaves);
+        let made = locked.shard.emplace(self.alloc, now, kept, source, leaves);
         locked.count_insert(now, &made, leaves);
         made
     }

@@ -9,9 +9,7 @@ use crate::shards::Later;
 use crate::shares::Fetch;
 use crate::ticket::{Waiters, refuse, tell_none};
 use foyer_core::{FetchOrTake, FetchTarget, Filter, Finder, Piece, Weighter};
-use foyer_policy::{
-    EventListener, Eviction, Fault, HashBuilder, Key, Properties, Source, Value,
-};
+use foyer_policy::{EventListener, Eviction, Fault, HashBuilder, Key, Properties, Source, Value};
 use std::sync::Wait;
 
 impl<H, E, K, V, S, P, W, A, L, Q, T, I> RawFetch<H, E, K, V, S, P, W, A, L, Q, T, I>
@@ -64,10 +62,7 @@ where
     // Ends the fetch with a piece.
     fn complete_piece(&self, key: &K, piece: Piece<K, V, P>) {
         let Fetch { id, now, hash, .. } = self.fetch;
-        let ended = self
-            .shares
-            .shared
-            .complete_piece(now, hash, key, id, piece);
+        let ended = self.shares.shared.complete_piece(now, hash, key, id, piece);
         self.shares.ended(ended);
     }
 
