@@ -1,4 +1,4 @@
-//! A cache of numbers in one thread's hands, and what a caller proves of it from the library's contracts alone.
+//! A cache of numbers that one thread owns, and what a caller proves of it from the library's contracts alone.
 
 ghost use Rattle.std.specs.Prelude.{◌≡◌, All, IfOk, IsSomeAnd, Some, length};
 ghost use Rattle.foyer_core.specs.CoreFetches.{open_in};
@@ -34,7 +34,7 @@ pub type Number = CoreEntry<u64, u64, CacheProperties>;
 /// The callers that waited for a number, and what they get.
 pub type Told = Answers<u64, u64, CacheProperties, Caller>;
 
-/// A number weighs as much as it is.
+/// A number is its own weight.
 #[derive(Clone, Copy, Debug, Default)]
 pub struct OwnWeight;
 
@@ -48,14 +48,13 @@ impl<K> Weighter<K, u64> for OwnWeight {
     }
 }
 
-/// An LRU cache of one shard that holds nothing.
+/// Makes an empty LRU cache of one shard.
 pub fn empty(alloc: Global, capacity: usize) -> Result<Numbers<Lru>> {
     let base = RawCacheConfig::new(capacity).with_weighter(OwnWeight);
     CacheCore::new(alloc, RawCacheConfig { shards: 1, ..base })
 }
 
-/// Puts a number in under a key, at a moment, and looks it up: it is found, however heavy it is, unless one of the two
-/// calls is refused.
+/// Inserts a number and looks it up. It is found, however heavy it is, unless one of the two calls fails.
 pub fn put_and_get<E: Eviction>(
     numbers: &mut Numbers<E>,
     now: u64,
@@ -64,7 +63,7 @@ pub fn put_and_get<E: Eviction>(
 ) -> Result<Option<Number>>
     ensures { IfOk result (λ found. IsSomeAnd found (λ entry. entry.kept.value ≡ number)) }
 {
-    // Those who wait for a fetch of the key get handles too, which are let go here, as is what left.
+    // If callers wait for a fetch of the key, they get handles too, which are dropped here, as is what left.
     let Inserted {
         entry,
         answers,
@@ -73,12 +72,12 @@ pub fn put_and_get<E: Eviction>(
     let found = numbers.get(now, &key);
     numbers.drop_answers(answers);
     numbers.drop_entry(entry);
-    // The insert says that a get finds the number, unless it has expired, and default properties never do.
+    // The insert's contract says that a get finds the number unless it has expired, and default properties never do.
     found
 }
 
-/// Looks a number up for a caller, at a moment. Where it is missing the caller waits for its fetch, and the first one gets the
-/// fetch, which it is to end.
+/// Looks a number up for a caller. If it is missing the caller waits for its fetch; the first one gets the fetch, and has
+/// to end it.
 pub fn ask<E: Eviction>(
     numbers: &mut Numbers<E>,
     now: u64,
@@ -99,8 +98,8 @@ pub fn ask<E: Eviction>(
     }
 }
 
-/// Ends a fetch with a number, at a moment. All who wait for it are answered: each gets a handle of the number, or all get the one
-/// refusal. Where the fetch is not open, nobody is.
+/// Ends a fetch with a number. Each caller that waits for it gets a handle of the number, or all get the same error. If
+/// the fetch isn't open, nobody gets anything.
 pub fn complete<E: Eviction>(
     numbers: &mut Numbers<E>,
     now: u64,

@@ -6,8 +6,8 @@ ghost use Rattle.foyer_policy.specs.declared.error.Reason.TheVariants.{NoMemory}
 
 use foyer_policy::{Eviction, Item, Place, Result};
 
-/// Makes room for an item and takes it in, at the place that is answered. Only memory can be missing (F7);
-/// then nothing has changed.
+/// Makes room for an item, adds it and returns its place. Fails only with F7 (out of memory), and then nothing has
+/// changed.
 pub fn take_in<E: Eviction>(policy: &mut E, item: Item) -> Result<Place>
     requires new_id { IsNewIn item.id (E.model.order (E.view policy.old)) }
     requires fits { item.weight + weight_of (E.model.order (E.view policy.old)) < 2 ^ 64 }

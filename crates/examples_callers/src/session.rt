@@ -15,8 +15,8 @@ pub type Numbers = Session<Lru, u64, u64, CacheProperties, DefaultHasher, UnitWe
 /// A command to it.
 pub type Ask = Command<u64, u64, CacheProperties, NoPredicate, LruConfig>;
 
-/// Puts a value in and looks it up, at a moment. What each key finds afterwards is what the replies tell; where memory
-/// is missing, nothing has changed.
+/// Inserts a value and looks it up. The replies tell which record each key finds afterwards; on F7 (out of memory)
+/// nothing has changed.
 pub fn put_and_look(
     numbers: &mut Numbers,
     alloc: Global,

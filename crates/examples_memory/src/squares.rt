@@ -140,7 +140,7 @@ pub fn square(number: u32) -> u64
     u64::from(number) * u64::from(number)
 }
 
-/// Puts the square of a number in, and answers what its entry has.
+/// Inserts the square of a number and returns the value of its entry.
 pub fn put<H: Wait + Drop>(squares: &Squares<H>, number: u32) -> Result<u64>
     ensures { IfOk result (λ square. square ≡ number * number) }
 {

@@ -1,6 +1,6 @@
-//! Makes caches.
+//! The builder of caches.
 
-ghost use Rattle.std.specs.Prelude.{◌≡◌};
+ghost use Rattle.std.specs.Prelude.{◌≡◌, None, Some};
 ghost use Rattle.foyer_policy.specs.declared.eviction_config.EvictionConfig.TheVariants.{Lru};
 
 use foyer_core::{AdmitAll, Filter, Limits, RawCacheConfig, UnitWeighter, Weighter};
@@ -10,7 +10,9 @@ use std::marker::PhantomData;
 
 mod build;
 
-/// Makes a cache. A setter of a part whose type may be another one changes that type.
+/// Builds a `Cache`.
+///
+/// The setters of the hash builder, the weighter, the filter and the listener change the builder's type.
 #[derive(Drop)]
 pub struct CacheBuilder<
     K,
@@ -22,22 +24,27 @@ pub struct CacheBuilder<
 > {
     config: RawCacheConfig<EvictionConfig, S, W, A>,
     listener: L,
+    time_to_live: Option<u64>,
     keys: PhantomData<(K, V)>,
 }
 
 impl<K: Key, V: Value> CacheBuilder<K, V> {
-    /// A builder of a cache of this capacity: 8 shards, an LRU policy of its default configuration, the default hash
-    /// builder, weight 1 for each record, each admitted, no listener, number 0 and the default limits.
+    /// Creates a builder of a cache of this capacity, which is a total weight.
+    ///
+    /// By default there are 8 shards, the policy is LRU with its default configuration, each record weighs 1 and is
+    /// admitted, there is no listener, and the number is 0.
     pub fn new(capacity: usize) -> Self
         ensures capacity { result.config.capacity ≡ capacity }
         ensures shards { result.config.shards ≡ 8 }
         ensures eviction_config { result.config.eviction_config ≡ Lru (record { high_priority_pool_ratio = record { num = 9; den = 10 } }) }
         ensures number { result.config.number ≡ 0 }
         ensures limits { result.config.limits ≡ record { handles = 18446744073709551615; ids = 18446744073709551615 } }
+        ensures time_to_live { result.time_to_live ≡ None }
     {
         CacheBuilder {
             config: RawCacheConfig::new(capacity),
             listener: NoListener::new(),
+            time_to_live: None,
             keys: PhantomData,
         }
     }
@@ -52,7 +59,7 @@ where
     A: Filter<K, V>,
     L: EventListener<Key = K, Value = V>,
 {
-    /// With this many shards. The capacity is shared out among them.
+    /// Sets the number of shards, among which the capacity is divided.
     pub fn with_shards(mut self, shards: usize) -> Self
         ensures { result ≡ record self { config = record self.config { shards = shards } } }
     {
@@ -60,7 +67,7 @@ where
         self
     }
 
-    /// With this policy, of this configuration.
+    /// Sets the policy and its configuration.
     pub fn with_eviction_config(mut self, eviction_config: EvictionConfig) -> Self
         ensures { result ≡ record self { config = record self.config { eviction_config = eviction_config } } }
     {
@@ -68,7 +75,7 @@ where
         self
     }
 
-    /// With this number. Caches that exchange records have different ones.
+    /// Sets the cache's number, by which it knows its own pieces. Caches that exchange pieces need different numbers.
     pub fn with_number(mut self, number: u64) -> Self
         ensures { result ≡ record self { config = record self.config { number = number } } }
     {
@@ -76,7 +83,7 @@ where
         self
     }
 
-    /// With these greatest numbers.
+    /// Sets the limits of the handle counts and of the ids.
     pub fn with_limits(mut self, limits: Limits) -> Self
         ensures { result ≡ record self { config = record self.config { limits = limits } } }
     {
@@ -84,7 +91,18 @@ where
         self
     }
 
-    /// With what gives each key its hash.
+    /// Sets a time to live, in the unit of the current time.
+    ///
+    /// A record that is inserted or fetched without an expiry of its own then expires at that call's `now + time_to_live`,
+    /// at most 2^64 - 1; with 0, no look-up finds it. A piece keeps the expiry that it has.
+    pub fn with_time_to_live(mut self, time_to_live: u64) -> Self
+        ensures { result ≡ record self { time_to_live = Some time_to_live } }
+    {
+        self.time_to_live = Some(time_to_live);
+        self
+    }
+
+    /// Sets the hash builder of the keys.
     pub fn with_hash_builder<X: HashBuilder>(
         self,
         hash_builder: X,
@@ -97,11 +115,13 @@ where
         ensures filter { result.config.filter ≡ self.config.filter }
         ensures number { result.config.number ≡ self.config.number }
         ensures limits { result.config.limits ≡ self.config.limits }
+        ensures time_to_live { result.time_to_live ≡ self.time_to_live }
         ensures listener { result.listener ≡ self.listener }
     {
         let CacheBuilder {
             config,
             listener,
+            time_to_live,
             keys,
         } = self;
         let RawCacheConfig {
@@ -126,11 +146,12 @@ where
                 limits,
             },
             listener,
+            time_to_live,
             keys,
         }
     }
 
-    /// With what gives each record its weight.
+    /// Sets the weighter, which gives each record its weight.
     pub fn with_weighter<X: Weighter<K, V>>(self, weighter: X) -> CacheBuilder<K, V, S, X, A, L>
         ensures given { result.config.weighter ≡ weighter }
         ensures capacity { result.config.capacity ≡ self.config.capacity }
@@ -140,21 +161,24 @@ where
         ensures filter { result.config.filter ≡ self.config.filter }
         ensures number { result.config.number ≡ self.config.number }
         ensures limits { result.config.limits ≡ self.config.limits }
+        ensures time_to_live { result.time_to_live ≡ self.time_to_live }
         ensures listener { result.listener ≡ self.listener }
     {
         let CacheBuilder {
             config,
             listener,
+            time_to_live,
             keys,
         } = self;
         CacheBuilder {
             config: config.with_weighter(weighter),
             listener,
+            time_to_live,
             keys,
         }
     }
 
-    /// With what says which records a get is to find.
+    /// Sets the filter. A record that it refuses is held by its entry alone, and no `get` finds it.
     pub fn with_filter<X: Filter<K, V>>(self, filter: X) -> CacheBuilder<K, V, S, W, X, L>
         ensures given { result.config.filter ≡ filter }
         ensures capacity { result.config.capacity ≡ self.config.capacity }
@@ -164,21 +188,24 @@ where
         ensures weighter { result.config.weighter ≡ self.config.weighter }
         ensures number { result.config.number ≡ self.config.number }
         ensures limits { result.config.limits ≡ self.config.limits }
+        ensures time_to_live { result.time_to_live ≡ self.time_to_live }
         ensures listener { result.listener ≡ self.listener }
     {
         let CacheBuilder {
             config,
             listener,
+            time_to_live,
             keys,
         } = self;
         CacheBuilder {
             config: config.with_filter(filter),
             listener,
+            time_to_live,
             keys,
         }
     }
 
-    /// With who is told of what leaves.
+    /// Sets the listener, which is told of each record that leaves.
     pub fn with_event_listener<X: EventListener<Key = K, Value = V>>(
         self,
         listener: X,
@@ -192,15 +219,18 @@ where
         ensures filter { result.config.filter ≡ self.config.filter }
         ensures number { result.config.number ≡ self.config.number }
         ensures limits { result.config.limits ≡ self.config.limits }
+        ensures time_to_live { result.time_to_live ≡ self.time_to_live }
     {
         let CacheBuilder {
             config,
             listener: _,
+            time_to_live,
             keys,
         } = self;
         CacheBuilder {
             config,
             listener,
+            time_to_live,
             keys,
         }
     }

@@ -14,9 +14,10 @@ use std::fmt::{self, Debug};
 use std::ops::Deref;
 use std::sync::Wait;
 
-/// A handle of a record of a cache of any of the five policies. Its drop gives the handle back under its shard's lock,
-/// and then tells what left with it. Contracts see its `entry` as what it holds, and its `kind`.
-#[derive(Drop)]
+/// A handle of a record of a `Cache`, which derefs to the record's value.
+///
+/// The data stay readable while the entry is held, even after eviction. Its drop locks the record's shard to give the
+/// handle back. Contracts see the handle as the field `entry`.
 pub struct CacheEntry<
     H,
     K,
@@ -47,6 +48,26 @@ where
     pub(crate) kind: Kind,
 }
 
+impl<H, K, V, S, P, W, A, L, Q, T, I> Drop for CacheEntry<H, K, V, S, P, W, A, L, Q, T, I>
+where
+    H: Wait + Drop,
+    K: Key,
+    V: Value,
+    S: Drop,
+    P: Properties,
+    W: Drop,
+    A: Drop,
+    L: EventListener<Key = K, Value = V>,
+    I: Finder<K>,
+    Q: Pipe<Key = K, Value = V, Properties = P>,
+    T: FetchTypes<K, V, P>,
+{
+    // Written by hand, so that a caller's proof doesn't go through all parts at its own types.
+    fn drop(self) {
+        let CacheEntry { entry: _, kind: _ } = self;
+    }
+}
+
 impl<H, K, V, S, P, W, A, L, Q, T, I> CacheEntry<H, K, V, S, P, W, A, L, Q, T, I>
 where
     H: Wait + Drop,
@@ -61,14 +82,14 @@ where
     Q: Pipe<Key = K, Value = V, Properties = P>,
     T: FetchTypes<K, V, P>,
 {
-    /// The policy of its cache.
+    /// Returns the policy of the entry's cache.
     pub fn kind(&self) -> Kind
         ensures { result ≡ self.now.kind }
     {
         self.kind
     }
 
-    /// The same entry as one of the policy whose configuration is a `C`, where it is of that, and else as it is.
+    /// Returns the entry with its policy in the type, or unchanged if its policy isn't the one that `C` configures.
     pub fn of_policy<C: PolicyConfig>(self) -> std::result::Result<Of<C, Self>, Self>
         ensures own { IfOk result (λ of. of.inner ≡ self) }
         ensures other { IfErr result (λ back. back ≡ self) }
@@ -81,67 +102,72 @@ where
         }
     }
 
-    /// The key's hash.
+    /// Returns the hash of the key.
     pub fn hash(&self) -> u64
         ensures { result ≡ self.now.entry.kept.hash }
     {
         self.entry.hash()
     }
 
-    /// The key.
+    /// Returns the key.
     pub fn key(&self) -> &K
         ensures { result.now ≡ self.now.entry.kept.key }
     {
         self.entry.key()
     }
 
-    /// The value.
+    /// Returns the value.
     pub fn value(&self) -> &V
         ensures { result.now ≡ self.now.entry.kept.value }
     {
         self.entry.value()
     }
 
-    /// What came with them.
+    /// Returns the properties with which the record was inserted.
     pub fn properties(&self) -> &P
         ensures { result.now ≡ self.now.entry.kept.properties }
     {
         self.entry.properties()
     }
 
-    /// What the record counts against the capacity.
+    /// Returns the record's weight.
     pub fn weight(&self) -> usize
         ensures { result ≡ self.now.entry.kept.weight }
     {
         self.entry.weight()
     }
 
-    /// Where the entry came from.
+    /// Returns where the entry came from.
     pub fn source(&self) -> Source
         ensures { result ≡ self.now.entry.source }
     {
         self.entry.source()
     }
 
-    /// A piece of the record. Only memory can be missing (F7).
+    /// Returns a piece of the record, which keeps its data and is no handle.
+    ///
+    /// # Errors
+    /// F7 if a reference count is full.
     pub fn piece(&self) -> Result<Piece<K, V, P>>
         ensures { IfOk result (λ p. (p.id ≡ self.now.entry.id) × (p.kept ≡ self.now.entry.kept)) }
     {
         self.entry.piece()
     }
 
-    /// How many handles the record has. It locks the record's shard.
+    /// Returns the number of the record's handles. Locks its shard.
     pub fn refs(&self) -> usize {
         self.entry.refs()
     }
 
-    /// Whether the record is in no more: it left, or gave way to another. It locks the record's shard.
+    /// Returns whether the record has left the cache, replaced by another or otherwise. Locks its shard.
     pub fn is_outdated(&self) -> bool {
         self.entry.is_outdated()
     }
 
-    /// One more entry of the same record, which counts as a handle and not as a use. It locks the record's shard.
-    /// Refused at the limit of handles (F9), or where something can't be shared (F7).
+    /// Returns another entry of the same record. This counts no use. Locks the record's shard.
+    ///
+    /// # Errors
+    /// F9 if the handle count would pass its limit, F7 if a reference count is full.
     pub fn try_clone(&self) -> Result<Self>
         ensures record { IfOk result (λ e. e.entry.kept ≡ self.now.entry.kept) }
         ensures kind { IfOk result (λ e. e.kind ≡ self.now.kind) }
@@ -152,7 +178,7 @@ where
         })
     }
 
-    /// Gives the handle back, as the drop does.
+    /// Gives the handle back, as the entry's drop does.
     pub fn release(self) {
         drop(self);
     }

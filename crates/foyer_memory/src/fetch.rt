@@ -1,4 +1,4 @@
-//! What a look-up answers that fetches what is missing.
+//! The result of a look-up that fetches what is missing.
 
 ghost use Rattle.std.specs.Prelude.{◌≡◌, ◌↔◌, ⊤, IfErr, IfOk, IsOk, MatchOption, None, Some, Ok, Err, true, false};
 ghost use Rattle.futures.specs.Poll.{IfReady, OnPending};
@@ -21,7 +21,7 @@ use futures::task::{Context, Poll};
 use std::fmt::{self, Debug};
 use std::sync::Wait;
 
-/// The task that fetches for those who wait for a key of a cache. A spawner takes it and has it polled.
+/// The task that fetches a missing key of a `Cache` for all that wait for it. A spawner takes it and has it polled.
 pub type FetchTask<
     H,
     K,
@@ -36,8 +36,7 @@ pub type FetchTask<
     I = TagFinder<K>,
 > = RawFetch<H, AnyEviction, K, V, S, P, W, A, L, Q, T, I>;
 
-/// A future of an entry, which a hit has at once.
-#[derive(Drop)]
+/// A future of an entry, which is ready at once on a hit.
 pub struct GetOrFetch<
     H,
     K,
@@ -68,6 +67,26 @@ where
     pub(crate) kind: Kind,
 }
 
+impl<H, K, V, S, P, W, A, L, Q, T, I> Drop for GetOrFetch<H, K, V, S, P, W, A, L, Q, T, I>
+where
+    H: Wait + Drop,
+    K: Key,
+    V: Value,
+    S: Drop,
+    P: Properties,
+    W: Drop,
+    A: Drop,
+    L: EventListener<Key = K, Value = V>,
+    I: Finder<K>,
+    Q: Pipe<Key = K, Value = V, Properties = P>,
+    T: FetchTypes<K, V, P>,
+{
+    // Written by hand, so that a caller's proof doesn't go through all parts at its own types.
+    fn drop(self) {
+        let GetOrFetch { look: _, kind: _ } = self;
+    }
+}
+
 impl<H, K, V, S, P, W, A, L, Q, T, I> GetOrFetch<H, K, V, S, P, W, A, L, Q, T, I>
 where
     H: Wait + Drop,
@@ -82,14 +101,14 @@ where
     Q: Pipe<Key = K, Value = V, Properties = P>,
     T: FetchTypes<K, V, P>,
 {
-    /// The policy of the cache.
+    /// Returns the policy of the cache.
     pub fn kind(&self) -> Kind
         ensures { result ≡ self.now.kind }
     {
         self.kind
     }
 
-    /// The same look-up as one of the policy whose configuration is a `C`, where it is of that, and else as it is.
+    /// Returns the look-up with its policy in the type, or unchanged if its policy isn't the one that `C` configures.
     pub fn of_policy<C: PolicyConfig>(self) -> std::result::Result<Of<C, Self>, Self>
         ensures own { IfOk result (λ of. of.inner ≡ self) }
         ensures other { IfErr result (λ back. back ≡ self) }
@@ -102,14 +121,17 @@ where
         }
     }
 
-    /// Whether the entry is still to come.
+    /// Returns whether the look-up missed, so that its entry is still to come.
     pub fn need_await(&self) -> bool
         ensures { result ≡ is_miss self.now.look }
     {
         self.look.need_await()
     }
 
-    /// The entry of a hit, or F16 where it was taken before; or a miss, as it was.
+    /// Returns the entry of a hit, or a miss unchanged.
+    ///
+    /// # Errors
+    /// F16 if the entry of a hit was taken before.
     pub fn try_unwrap(
         self,
     ) -> std::result::Result<Result<CacheEntry<H, K, V, S, P, W, A, L, Q, T, I>>, Self>
@@ -124,7 +146,7 @@ where
         }
     }
 
-    /// As `poll`, but answers none where the fetch found nothing.
+    /// Polls as `poll` does, but gives `None` if the fetch found nothing.
     pub fn poll_inner(
         &mut self,
         cx: &mut Context<'_>,
@@ -163,7 +185,10 @@ where
 {
     type Output = Result<CacheEntry<H, K, V, S, P, W, A, L, Q, T, I>>;
 
-    /// The entry, once it is there. Where the fetch found nothing it is F13, and after an answer F16.
+    /// Gives the entry once it is there.
+    ///
+    /// # Errors
+    /// F13 if the fetch found nothing, F16 if a result was given before, otherwise the error with which the fetch ended.
     fn poll(&mut self, cx: &mut Context<'_>) -> Poll<Self::Output>
         ensures value { IfReady result (λ _. ⊤) }
         ensures again { OnPending result ⊤ }

@@ -5,7 +5,7 @@ ghost use Rattle.foyer_memory.specs.Faults.{is_of, kind_of_config};
 
 use foyer_policy::EvictionConfig;
 
-/// Which of the five policies a cache has.
+/// One of the five policies.
 #[derive(Clone, Copy, Debug, PartialEq, Eq)]
 pub enum Kind {
     /// First in, first out.
@@ -21,7 +21,7 @@ pub enum Kind {
 }
 
 impl Kind {
-    /// The policy that a configuration is of.
+    /// Returns the policy of a configuration.
     pub fn of(config: &EvictionConfig) -> Self
         ensures { result ≡ kind_of_config config.now }
     {
@@ -34,7 +34,7 @@ impl Kind {
         }
     }
 
-    /// Whether a configuration is of this policy.
+    /// Returns whether a configuration is of this policy.
     pub fn has(self, config: &EvictionConfig) -> bool
         ensures { result ≡ is_of self config.now }
     {

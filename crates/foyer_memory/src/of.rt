@@ -1,4 +1,4 @@
-//! Caches, entries and look-ups whose policy is known by their type.
+//! Caches, entries and look-ups with their policy in the type.
 
 ghost use Rattle.std.specs.Prelude.{◌≡◌, None, Err, IfErr, IfOk, IfSome, OnOk};
 ghost use Rattle.foyer_policy.specs.declared.error.Reason.TheVariants.{NoMemory};
@@ -17,7 +17,7 @@ use std::marker::PhantomData;
 use std::ops::Deref;
 use std::sync::Wait;
 
-/// An `X` of the policy whose configuration is a `C`: a cache, an entry of one, or what a look-up in one answers.
+/// An `X`, which is a cache, an entry or a look-up, with its policy in the type: the one that `C` configures.
 #[derive(Drop)]
 pub struct Of<C, X> {
     inner: X,
@@ -63,8 +63,10 @@ where
     Q: Drop,
     T: FetchTypes<K, V, P>,
 {
-    /// A cache that holds nothing and has no pipe. Refused where there is to be no shard (F1), then with the policy
-    /// configuration's first fault (F2 to F6), and else only for want of memory (F7).
+    /// Creates an empty cache without a pipe.
+    ///
+    /// # Errors
+    /// F1 if there are no shards, F2 to F6 for the first fault of the policy's configuration, F7 if memory runs out.
     pub fn new(
         rt: H,
         alloc: Global,
@@ -117,11 +119,9 @@ where
     ghost from_gives = { λ of made. made ≡ record of.inner { kind = C.kind } };
 
     fn from(of: Of<C, Cache<H, K, V, S, P, W, A, L, Q, T, I>>) -> Self {
-        let Cache { cache, kind: _ } = of.inner;
-        Cache {
-            cache,
-            kind: C::kind(),
-        }
+        let mut cache = of.inner;
+        cache.kind = C::kind();
+        cache
     }
 }
 
@@ -146,11 +146,9 @@ where
     ghost from_gives = { λ of made. made ≡ record of.inner { kind = C.kind } };
 
     fn from(of: Of<C, CacheEntry<H, K, V, S, P, W, A, L, Q, T, I>>) -> Self {
-        let CacheEntry { entry, kind: _ } = of.inner;
-        CacheEntry {
-            entry,
-            kind: C::kind(),
-        }
+        let mut entry = of.inner;
+        entry.kind = C::kind();
+        entry
     }
 }
 
@@ -175,10 +173,8 @@ where
     ghost from_gives = { λ of made. made ≡ record of.inner { kind = C.kind } };
 
     fn from(of: Of<C, GetOrFetch<H, K, V, S, P, W, A, L, Q, T, I>>) -> Self {
-        let GetOrFetch { look, kind: _ } = of.inner;
-        GetOrFetch {
-            look,
-            kind: C::kind(),
-        }
+        let mut look = of.inner;
+        look.kind = C::kind();
+        look
     }
 }

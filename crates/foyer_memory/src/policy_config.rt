@@ -1,4 +1,4 @@
-//! What the configurations of the five policies have in common.
+//! The trait of the five policies' configurations.
 
 use crate::kind::Kind;
 use foyer_policy::{EvictionConfig, FifoConfig, LfuConfig, LruConfig, S3FifoConfig, SieveConfig};
@@ -15,11 +15,11 @@ pub trait PolicyConfig: Drop {
     // the configuration as one of any policy
     ghost as_any: { Self → EvictionConfig };
 
-    /// The policy.
+    /// Returns the policy.
     fn kind() -> Kind
         ensures { result ≡ kind };
 
-    /// The configuration as one of any policy.
+    /// Converts the configuration into one of any policy.
     fn into_any(self) -> EvictionConfig
         ensures { result ≡ as_any self };
 }

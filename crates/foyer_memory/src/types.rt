@@ -1,4 +1,4 @@
-//! The caches of each policy, their entries and what their look-ups answer, by name.
+//! The caches of each policy, with their entries and look-ups, by name.
 
 use crate::cache::Cache;
 use crate::entry::CacheEntry;
@@ -6,9 +6,38 @@ use crate::fetch::GetOrFetch;
 use crate::of::Of;
 use foyer_core::{AdmitAll, CacheProperties, TagFinder, UnitWeighter};
 use foyer_policy::{DefaultHasher, FifoConfig, LfuConfig, LruConfig, S3FifoConfig, SieveConfig};
-use foyer_raw::{NoFetch, NoListener, NoopPipe};
+use foyer_raw::{Direct, NoFetch, NoListener, NoopPipe};
 
-/// A cache whose policy is first in, first out.
+/// A cache of which only the parts are written that most programs choose: `get_or_insert_with` makes what is missing.
+pub type PlainCache<
+    H,
+    K,
+    V,
+    W = UnitWeighter,
+    L = NoListener<K, V>,
+    S = DefaultHasher,
+    P = CacheProperties,
+    A = AdmitAll,
+    Q = NoopPipe<K, V, P>,
+    I = TagFinder<K>,
+> = Cache<H, K, V, S, P, W, A, L, Q, NoFetch, I>;
+
+/// A cache that fetches what is missing by futures of the type `R`: `get_or_fetch` and `get_or_fetch_blocking` take one.
+pub type FetchCache<
+    H,
+    K,
+    V,
+    R,
+    W = UnitWeighter,
+    L = NoListener<K, V>,
+    S = DefaultHasher,
+    P = CacheProperties,
+    A = AdmitAll,
+    Q = NoopPipe<K, V, P>,
+    I = TagFinder<K>,
+> = Cache<H, K, V, S, P, W, A, L, Q, Direct<R>, I>;
+
+/// A cache whose policy is FIFO.
 pub type FifoCache<
     H,
     K,
@@ -23,7 +52,7 @@ pub type FifoCache<
     I = TagFinder<K>,
 > = Of<FifoConfig, Cache<H, K, V, S, P, W, A, L, Q, T, I>>;
 
-/// An entry of such a cache.
+/// An entry of a `FifoCache`.
 pub type FifoCacheEntry<
     H,
     K,
@@ -38,7 +67,7 @@ pub type FifoCacheEntry<
     I = TagFinder<K>,
 > = Of<FifoConfig, CacheEntry<H, K, V, S, P, W, A, L, Q, T, I>>;
 
-/// What its look-ups answer that fetch.
+/// The result of a look-up in a `FifoCache` that fetches what is missing.
 pub type FifoGetOrFetch<
     H,
     K,
@@ -68,7 +97,7 @@ pub type S3FifoCache<
     I = TagFinder<K>,
 > = Of<S3FifoConfig, Cache<H, K, V, S, P, W, A, L, Q, T, I>>;
 
-/// An entry of such a cache.
+/// An entry of an `S3FifoCache`.
 pub type S3FifoCacheEntry<
     H,
     K,
@@ -83,7 +112,7 @@ pub type S3FifoCacheEntry<
     I = TagFinder<K>,
 > = Of<S3FifoConfig, CacheEntry<H, K, V, S, P, W, A, L, Q, T, I>>;
 
-/// What its look-ups answer that fetch.
+/// The result of a look-up in an `S3FifoCache` that fetches what is missing.
 pub type S3FifoGetOrFetch<
     H,
     K,
@@ -98,7 +127,7 @@ pub type S3FifoGetOrFetch<
     I = TagFinder<K>,
 > = Of<S3FifoConfig, GetOrFetch<H, K, V, S, P, W, A, L, Q, T, I>>;
 
-/// A cache whose policy is least recently used.
+/// A cache whose policy is LRU.
 pub type LruCache<
     H,
     K,
@@ -113,7 +142,7 @@ pub type LruCache<
     I = TagFinder<K>,
 > = Of<LruConfig, Cache<H, K, V, S, P, W, A, L, Q, T, I>>;
 
-/// An entry of such a cache.
+/// An entry of an `LruCache`.
 pub type LruCacheEntry<
     H,
     K,
@@ -128,7 +157,7 @@ pub type LruCacheEntry<
     I = TagFinder<K>,
 > = Of<LruConfig, CacheEntry<H, K, V, S, P, W, A, L, Q, T, I>>;
 
-/// What its look-ups answer that fetch.
+/// The result of a look-up in an `LruCache` that fetches what is missing.
 pub type LruGetOrFetch<
     H,
     K,
@@ -158,7 +187,7 @@ pub type LfuCache<
     I = TagFinder<K>,
 > = Of<LfuConfig, Cache<H, K, V, S, P, W, A, L, Q, T, I>>;
 
-/// An entry of such a cache.
+/// An entry of an `LfuCache`.
 pub type LfuCacheEntry<
     H,
     K,
@@ -173,7 +202,7 @@ pub type LfuCacheEntry<
     I = TagFinder<K>,
 > = Of<LfuConfig, CacheEntry<H, K, V, S, P, W, A, L, Q, T, I>>;
 
-/// What its look-ups answer that fetch.
+/// The result of a look-up in an `LfuCache` that fetches what is missing.
 pub type LfuGetOrFetch<
     H,
     K,
@@ -203,7 +232,7 @@ pub type SieveCache<
     I = TagFinder<K>,
 > = Of<SieveConfig, Cache<H, K, V, S, P, W, A, L, Q, T, I>>;
 
-/// An entry of such a cache.
+/// An entry of a `SieveCache`.
 pub type SieveCacheEntry<
     H,
     K,
@@ -218,7 +247,7 @@ pub type SieveCacheEntry<
     I = TagFinder<K>,
 > = Of<SieveConfig, CacheEntry<H, K, V, S, P, W, A, L, Q, T, I>>;
 
-/// What its look-ups answer that fetch.
+/// The result of a look-up in a `SieveCache` that fetches what is missing.
 pub type SieveGetOrFetch<
     H,
     K,

@@ -4,9 +4,13 @@
 #[cfg(test)]
 mod build;
 #[cfg(test)]
+mod calls;
+#[cfg(test)]
 mod compare;
 #[cfg(test)]
 mod fetches;
+#[cfg(test)]
+mod guide;
 #[cfg(test)]
 mod moments;
 #[cfg(test)]

@@ -1,6 +1,6 @@
-//! The cache that many threads share.
+//! The cache that threads share.
 
-ghost use Rattle.std.specs.Prelude.{◌≡◌, None, Err, IfErr, IfSome, OnOk};
+ghost use Rattle.std.specs.Prelude.{◌≡◌, None, Err, IfErr, IfOk, IfSome, OnOk};
 ghost use Rattle.foyer_policy.specs.declared.error.Reason.TheVariants.{NoMemory};
 
 use crate::fetch::{FetchTypes, NoFetch};
@@ -12,7 +12,7 @@ use crate::shares::Shares;
 use crate::stripes::Stripes;
 use crate::ticket::{Answer, Notifier};
 use foyer_core::{
-    AdmitAll, CacheCore, CacheProperties, Filter, Finder, RawCacheConfig, Rules, TagFinder,
+    AdmitAll, CacheCore, CacheProperties, Filter, Finder, RawCacheConfig, Rules, Stats, TagFinder,
     UnitWeighter, Weighter,
 };
 use foyer_policy::{
@@ -22,13 +22,17 @@ use foyer_policy::{
 use std::alloc::Global;
 use std::sync::{Arc, Wait};
 
+mod blocking;
 mod bulk;
 mod fetching;
 mod insertion;
 mod keys;
+mod walks;
 
-/// A cache that many threads share. Each shard stands under a lock of its own, and each call makes one step of a shard,
-/// or one of each in turn. What left is told after the lock is released.
+/// An in-memory cache that threads share, with its eviction policy as a type parameter.
+///
+/// Each shard has a lock of its own. A call makes one step of a shard, or one of each in turn, and reports what left
+/// after the lock is released.
 #[derive(Drop)]
 pub struct RawCache<
     H,
@@ -60,6 +64,7 @@ where
 {
     shares: Shares<H, E, K, V, S, P, W, A, L, Q, T::Required, I>,
     stripes: Arc<Stripes<H, E, K, V, S, P, W, A, L, T::Required, I>>,
+    time_to_live: Option<u64>,
 }
 
 impl<H, E, K, V, S, P, W, A, L, Q, T, I> RawCache<H, E, K, V, S, P, W, A, L, Q, T, I>
@@ -79,8 +84,10 @@ where
 {
     ghost use Rattle.foyer_core.specs.Core.{core_fault};
 
-    /// A cache that holds nothing and has no pipe, whose shards share the capacity. Refused where there is to be no
-    /// shard (F1), then with the policy configuration's first fault (F2 to F6), and else only for want of memory (F7).
+    /// Creates an empty cache without a pipe, whose capacity is divided among its shards.
+    ///
+    /// # Errors
+    /// F1 if there are no shards, F2 to F6 for the first fault of the policy's configuration, F7 if memory runs out.
     pub fn new(
         rt: H,
         alloc: Global,
@@ -122,7 +129,17 @@ where
                 pipe: None,
             },
             stripes: Arc::new(alloc, stripes)?,
+            time_to_live: None,
         })
+    }
+
+    /// The same cache with this time to live, in the unit of the current time: from then on what is inserted or fetched by this
+    /// value and its clones, and says no expiry of its own, expires at that call's `now + time_to_live` (at most 2^64 - 1).
+    pub fn with_time_to_live(mut self, time_to_live: Option<u64>) -> Self
+        ensures { result.time_to_live ≡ time_to_live }
+    {
+        self.time_to_live = time_to_live;
+        self
     }
 }
 
@@ -141,18 +158,31 @@ where
     Q: Drop,
     T: FetchTypes<K, V, P>,
 {
-    /// The same cache again, with the same pipe. Refused where something can't be shared (F7).
-    pub fn try_clone(&self) -> Result<Self> {
+    /// Returns another owner of the same cache, with the same pipe.
+    ///
+    /// # Errors
+    /// F7 if a reference count is full.
+    pub fn try_clone(&self) -> Result<Self>
+        ensures { IfOk result (λ again. again.time_to_live ≡ self.now.time_to_live) }
+    {
         Ok(RawCache {
             shares: self.shares.try_clone()?,
             stripes: Arc::try_clone(&self.stripes)?,
+            time_to_live: self.time_to_live,
         })
     }
 
-    /// The same cache with this pipe, which its entries, clones and tasks have from then on. Those that were made before
-    /// keep what they had.
-    pub fn with_pipe(self, pipe: Arc<Q>) -> Self {
-        let RawCache { shares, stripes } = self;
+    /// Returns the cache with this pipe, which its later entries, clones and tasks have too.
+    ///
+    /// Those made before keep the pipe that they had.
+    pub fn with_pipe(self, pipe: Arc<Q>) -> Self
+        ensures { result.time_to_live ≡ self.time_to_live }
+    {
+        let RawCache {
+            shares,
+            stripes,
+            time_to_live,
+        } = self;
         let Shares { shared, pipe: _ } = shares;
         RawCache {
             shares: Shares {
@@ -160,35 +190,52 @@ where
                 pipe: Some(pipe),
             },
             stripes,
+            time_to_live,
         }
     }
 
-    /// The weight that the records may have together: that of the last resize, or else the first one.
+    /// Returns the capacity, a total weight, as the last `resize` or else the configuration set it.
     pub fn capacity(&self) -> usize {
         self.shares.shared.shards.capacity()
     }
 
-    /// How many shards there are.
+    /// Returns the number of shards.
     pub fn shards(&self) -> usize {
         self.shares.shared.shards.len()
     }
 
-    /// The sum of the weights of the records that are in, expired or not, one shard after the other.
+    /// Returns the total weight of the resident records, expired ones included.
+    ///
+    /// Locks one shard after the other, so others may change meanwhile.
     pub fn usage(&self) -> u128 {
         self.shares.shared.shards.usage()
     }
 
-    /// How many records are in, expired or not, one shard after the other.
+    /// Returns the number of resident records, expired ones included.
+    ///
+    /// Locks one shard after the other, so others may change meanwhile.
     pub fn entries(&self) -> u128 {
         self.shares.shared.shards.entries()
     }
 
-    /// What gives the keys their hashes.
+    /// Returns the counts since the cache was made or `reset_stats` was called.
+    ///
+    /// Locks one shard after the other, so others may change meanwhile.
+    pub fn stats(&self) -> Stats {
+        self.shares.shared.shards.stats()
+    }
+
+    /// Sets all counts to 0, one shard after the other.
+    pub fn reset_stats(&self) {
+        self.shares.shared.shards.reset_stats();
+    }
+
+    /// Returns the hash builder of the keys.
     pub fn hash_builder(&self) -> &Arc<S> {
         &self.shares.shared.hash_builder
     }
 
-    // Shares for an entry, a wait or a task of a key with this hash. Only memory can be missing (F7).
+    // Shares for an entry, a wait or a task of a key with this hash. Fails with F7 if a reference count is full.
     #[inline(always)]
     fn shares_of(&self, hash: u64) -> Result<Shares<H, E, K, V, S, P, W, A, L, Q, T::Required, I>> {
         let pipe = self.shares.pipe_again()?;

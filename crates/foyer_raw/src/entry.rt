@@ -1,4 +1,4 @@
-//! Entries of a cache that many threads share.
+//! Entries of a cache that threads share.
 
 ghost use Rattle.std.specs.Prelude.{◌≡◌, IfOk};
 
@@ -11,8 +11,10 @@ use std::marker::Model;
 use std::ops::Deref;
 use std::sync::Wait;
 
-/// A handle of a record. Its drop gives the handle back under its shard's lock, and then tells what left with it.
-/// Contracts see it as the core's entry that it keeps.
+/// A handle of a record of a `RawCache`, which derefs to the record's value.
+///
+/// The data stay readable while the entry is held, even after eviction. Its drop locks the record's shard to give the
+/// handle back, and reports what leaves with it. Contracts see it as the core's entry.
 pub struct RawCacheEntry<H, E, K, V, S, P, W, A, L, Q, R, I = TagFinder<K>>
 where
     H: Wait + Drop,
@@ -90,7 +92,7 @@ where
     Q: Pipe<Key = K, Value = V, Properties = P>,
     R: Drop,
 {
-    // The entry of a handle.
+    // Makes the entry of a handle.
     pub(crate) fn new(
         shares: Shares<H, E, K, V, S, P, W, A, L, Q, R, I>,
         core: CoreEntry<K, V, P>,
@@ -100,67 +102,72 @@ where
         RawCacheEntry { shares, core }
     }
 
-    /// The key's hash.
+    /// Returns the hash of the key.
     pub fn hash(&self) -> u64
         ensures { result ≡ self.now.kept.hash }
     {
         self.core.hash()
     }
 
-    /// The key.
+    /// Returns the key.
     pub fn key(&self) -> &K
         ensures { result.now ≡ self.now.kept.key }
     {
         self.core.key()
     }
 
-    /// The value.
+    /// Returns the value.
     pub fn value(&self) -> &V
         ensures { result.now ≡ self.now.kept.value }
     {
         self.core.value()
     }
 
-    /// What came with them.
+    /// Returns the properties with which the record was inserted.
     pub fn properties(&self) -> &P
         ensures { result.now ≡ self.now.kept.properties }
     {
         self.core.properties()
     }
 
-    /// What the record counts against the capacity.
+    /// Returns the record's weight.
     pub fn weight(&self) -> usize
         ensures { result ≡ self.now.kept.weight }
     {
         self.core.weight()
     }
 
-    /// Where the entry came from.
+    /// Returns where the entry came from.
     pub fn source(&self) -> Source
         ensures { result ≡ self.now.source }
     {
         self.core.source()
     }
 
-    /// A piece of the record. Only memory can be missing (F7).
+    /// Returns a piece of the record, which keeps its data and is no handle.
+    ///
+    /// # Errors
+    /// F7 if a reference count is full.
     pub fn piece(&self) -> Result<Piece<K, V, P>>
         ensures { IfOk result (λ p. (p.id ≡ self.now.id) × (p.kept ≡ self.now.kept)) }
     {
         self.core.piece()
     }
 
-    /// How many handles the record has. It locks the record's shard.
+    /// Returns the number of the record's handles. Locks its shard.
     pub fn refs(&self) -> usize {
         self.shares.shared.shards.refs(&self.core)
     }
 
-    /// Whether the record is in no more: it left, or gave way to another. It locks the record's shard.
+    /// Returns whether the record has left the cache, replaced by another or otherwise. Locks its shard.
     pub fn is_outdated(&self) -> bool {
         self.shares.shared.shards.is_outdated(&self.core)
     }
 
-    /// One more entry of the same record, which counts as a handle and not as a use. It locks the record's shard.
-    /// Refused at the limit of handles (F9), or where something can't be shared (F7).
+    /// Returns another entry of the same record. This counts no use. Locks the record's shard.
+    ///
+    /// # Errors
+    /// F9 if the handle count would pass its limit, F7 if a reference count is full.
     pub fn try_clone(&self) -> Result<Self>
         ensures { IfOk result (λ e. e.kept ≡ self.now.kept) }
     {
@@ -174,7 +181,7 @@ where
         }
     }
 
-    /// Gives the handle back, as the drop does.
+    /// Gives the handle back, as the entry's drop does.
     pub fn release(self) {
         drop(self);
     }
@@ -233,7 +240,7 @@ where
     }
 }
 
-// A record by the hash of its key.
+// A record, by the hash of its key.
 #[derive(Clone, Copy)]
 struct Named {
     hash: u64,

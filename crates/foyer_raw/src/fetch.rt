@@ -1,4 +1,4 @@
-//! What fetches for those who wait for a key.
+//! Fetches of missing keys: tasks, waits, and what runs and builds them.
 
 mod direct;
 mod pollable;
@@ -10,7 +10,7 @@ mod wait;
 
 pub use direct::{Direct, Given, NoFetch};
 pub use pollable::Pollable;
-pub use spawner::{ListSpawner, Spawner};
+pub use spawner::{AllTasks, ListSpawner, Spawner};
 pub use state::{RawFetchState, TaskEvent};
 pub(crate) use task::Begin;
 pub use task::RawFetch;

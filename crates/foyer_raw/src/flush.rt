@@ -6,8 +6,9 @@ use foyer_policy::{Error, Result};
 use futures::Future;
 use futures::task::{Context, Poll};
 
-/// The future of a flush, which has happened when it is made. It ends once the pipe has taken what left: with `Ok`, or
-/// where the flush was refused with that refusal.
+/// The future of a flush, which ends once the pipe has taken the pieces.
+///
+/// The evictions were made before it was returned. It gives the error of the flush, if there was one.
 #[derive(Drop)]
 pub struct Flush<F: Future<Output = ()>> {
     inner: Option<F>,
@@ -18,7 +19,7 @@ pub struct Flush<F: Future<Output = ()>> {
 pub type FlushIf<F> = Flush<F>;
 
 impl<F: Future<Output = ()>> Flush<F> {
-    // A flush that waits for this future, which may be polled, and was refused or not.
+    // Makes a flush that waits for this future, which may be polled, and then gives this result.
     pub(crate) fn new(inner: Option<F>, done: Result<()>) -> Self
         requires { IfSome inner F.can_poll }
         ensures inner { result.inner ≡ inner }

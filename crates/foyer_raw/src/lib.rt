@@ -1,13 +1,15 @@
-//! The cache that many threads share: shards behind locks, entries that give their handle back as they are dropped, and
-//! the task that fetches for all who wait for a key.
+//! The cache that threads share: shards behind locks, entries that give their handle back when they are dropped, and
+//! the task that fetches a missing key for all that wait for it.
 #![tactic(auto)]
 
 pub mod cache;
 pub mod entry;
+mod expiry;
 pub mod fetch;
 pub mod flush;
 pub mod listener;
 pub mod pipe;
+pub mod runtime;
 mod shards;
 mod shared;
 mod shares;
@@ -17,11 +19,12 @@ pub mod ticket;
 pub use cache::RawCache;
 pub use entry::RawCacheEntry;
 pub use fetch::{
-    Direct, FetchTypes, Given, ListSpawner, NoFetch, OptionalFetch, OptionalFetchBuilder, Pollable,
-    RawFetch, RawFetchState, RawGetOrFetch, RawWait, RequiredFetch, RequiredFetchBuilder, Spawner,
-    TaskEvent,
+    AllTasks, Direct, FetchTypes, Given, ListSpawner, NoFetch, OptionalFetch, OptionalFetchBuilder,
+    Pollable, RawFetch, RawFetchState, RawGetOrFetch, RawWait, RequiredFetch, RequiredFetchBuilder,
+    Spawner, TaskEvent,
 };
 pub use flush::{Flush, FlushIf};
 pub use listener::{NoListener, tell};
 pub use pipe::{NoopPipe, Pipe};
+pub use runtime::Runtime;
 pub use ticket::{Answer, Notifier, Ticket, Waiter};

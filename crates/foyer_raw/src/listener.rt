@@ -1,15 +1,15 @@
-//! Who is told of what leaves.
+//! Listeners, which are told of what leaves.
 
 use crate::pipe::Pipe;
 use foyer_core::Left;
 use foyer_policy::{Event, EventListener, Key, Properties, Value};
 use std::marker::PhantomData;
 
-/// Hears nothing.
+/// A listener that does nothing.
 pub struct NoListener<K, V>(PhantomData<(K, V)>);
 
 impl<K, V> NoListener<K, V> {
-    /// A listener that hears nothing.
+    /// Creates a listener that does nothing.
     pub fn new() -> Self {
         NoListener(PhantomData)
     }
@@ -29,7 +29,7 @@ impl<K: 'static, V: 'static> EventListener for NoListener<K, V> {
     fn on_leave(&self, _event: Event, _key: &K, _value: &V) {}
 }
 
-/// Tells one leave: the listener, and then, where it was evicted, the pipe, if there is one that is enabled.
+/// Tells the listener of a record that left, and then the pipe, if the record was evicted and there is an enabled one.
 pub fn tell<K, V, P, L, Q>(listener: &L, pipe: Option<&Q>, event: Event, left: Left<K, V, P>)
 where
     K: Key,

@@ -1,4 +1,4 @@
-//! Where what was evicted goes on to.
+//! Pipes, which take what was evicted.
 
 ghost use Rattle.std.specs.Prelude.{◌≡◌, IsSome};
 
@@ -8,7 +8,7 @@ use futures::future::{Ready, ready};
 use std::fmt::{self, Debug};
 use std::marker::PhantomData;
 
-/// Takes pieces of the records that were evicted.
+/// Takes pieces of evicted records, for example to write them to a disk. Called with no lock held.
 pub trait Pipe: Drop + 'static {
     /// The cache's key.
     type Key;
@@ -19,16 +19,16 @@ pub trait Pipe: Drop + 'static {
     /// The cache's properties.
     type Properties;
 
-    /// What a flush waits for.
+    /// The future that a flush waits for.
     type Flush: Future<Output = ()>;
 
-    /// Whether the pipe takes pieces.
+    /// Returns whether the pipe takes pieces.
     fn is_enabled(&self) -> bool;
 
     /// Takes one piece.
     fn send(&self, piece: Piece<Self::Key, Self::Value, Self::Properties>);
 
-    /// Takes many pieces. Its future, which may be polled, ends once they are where they go.
+    /// Takes many pieces, and returns a future that ends once they are where they go. It may be polled.
     fn flush(&self, pieces: Vec<Piece<Self::Key, Self::Value, Self::Properties>>) -> Self::Flush
         ensures { Self.Flush.can_poll result };
 }

@@ -7,8 +7,9 @@ use foyer_core::{Data, Filter, Finder, Piece, Rules, Weighter};
 use foyer_policy::{EventListener, Eviction, HashBuilder, Key, Properties, Value};
 use std::sync::{Arc, Wait};
 
-/// What the clones, the entries and the tasks of a cache share. The last owner's drop tells the listener all records that
-/// are still in.
+/// What the clones, the entries and the tasks of a cache share.
+///
+/// The last owner's drop tells the listener of all records that are still in, as `Clear`.
 pub(crate) struct Shared<H, E, K, V, S, P, W, A, L, R, I>
 where
     H: Drop,
@@ -68,8 +69,7 @@ where
     R: Drop,
     I: Finder<K>,
 {
-    // A record that is to come in, of a key that has this hash: the weighter is asked, and then the filter, with no lock
-    // held.
+    // Makes a record to insert, of a key with this hash. Asks the weighter, then the filter, with no lock held.
     pub(crate) fn data(&self, hash: u64, key: K, value: V, properties: P) -> Data<K, V, P>
         ensures key { result.key ≡ key }
         ensures value { result.value ≡ value }
@@ -77,18 +77,18 @@ where
         self.rules.data(hash, key, value, properties)
     }
 
-    // The weight that the weighter gives a piece, whose key has this hash, and 0 of one that its shard knows, of which it
-    // is not asked. A piece that the shard knows once it knows from then on.
+    // Returns the weight of a piece whose key has this hash, by the weighter. If its shard knows the piece, which then
+    // holds for ever, the weighter isn't asked, and this is 0.
     pub(crate) fn weight_of(&self, hash: u64, piece: &Piece<K, V, P>) -> usize {
-        let is_known = self.shards.lock(hash).knows(hash, piece);
+        let is_known = self.shards.lock(hash).shard.knows(hash, piece);
         if is_known {
             return 0;
         }
         self.rules.weighter.weigh(piece.key(), piece.value())
     }
 
-    // Ends an open fetch of a key, which has this hash, at a moment, with a piece. F12 where the record for which the piece stands has
-    // another key, or lives in another shard. The weighter is asked of a piece that stands for none here and has this key.
+    // Ends an open fetch of a key with this hash by a piece, inserted at `now`. All that wait get F12 if the piece's record
+    // has another key or lives in another shard. Asks the weighter of a piece that this cache doesn't know.
     pub(crate) fn complete_piece(
         &self,
         now: u64,
@@ -106,8 +106,8 @@ where
             0
         };
         let is_home = self.shards.index_of(own) == self.shards.index_of(hash);
-        let mut shard = self.shards.lock(hash);
-        shard.complete_piece(
+        let mut locked = self.shards.lock(hash);
+        let ended = locked.shard.complete_piece(
             self.shards.alloc,
             now,
             hash,
@@ -117,6 +117,8 @@ where
             own,
             is_home,
             weight,
-        )
+        );
+        locked.count_ended(now, &ended);
+        ended
     }
 }

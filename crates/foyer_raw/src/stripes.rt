@@ -1,7 +1,7 @@
-//! Shares of a cache, counted apart for each shard.
+//! Shares of a cache, with a reference count for each shard.
 //!
-//! Each call that answers an entry makes a share of the cache, and the entry's drop takes it away. Were all counted by
-//! one number, all threads would write the one line of memory where it stands, whichever shards they use.
+//! Each call that returns an entry makes a share of the cache, and the entry's drop takes it away. With one count for
+//! all, every thread would write to the same cache line, whichever shards they use.
 
 ghost use Rattle.std.specs.Prelude.{◌≡◌, ◌<◌, IfErr, vec_len};
 ghost use Rattle.foyer_policy.specs.declared.error.Reason.TheVariants.{NoMemory};
@@ -30,7 +30,7 @@ where
     I: Finder<K>,
 {
     shared: Arc<Shared<H, E, K, V, S, P, W, A, L, R, I>>,
-    // So much that the counts of two stripes never stand in one line of memory.
+    // Padding, so that two stripes' counts never share a cache line.
     apart: [u64; 8],
 }
 
@@ -94,7 +94,7 @@ where
     R: Drop,
     I: Finder<K>,
 {
-    /// So many stripes of what is shared. Only memory can be missing (F7).
+    /// Makes a stripe for each shard. Fails with F7 alone.
     pub(crate) fn new(
         alloc: Global,
         shared: Shared<H, E, K, V, S, P, W, A, L, R, I>,
@@ -115,7 +115,7 @@ where
         Ok(Stripes { all })
     }
 
-    /// A share that is counted for the shard in which the keys of a hash live. Only memory can be missing (F7).
+    /// Makes a share that is counted for the shard of a hash. Fails with F7 if its reference count is full.
     #[inline(always)]
     pub(crate) fn share(&self, hash: u64) -> Result<Arc<Stripe<H, E, K, V, S, P, W, A, L, R, I>>>
         ensures { IfErr result (λ e. e ≡ NoMemory) }

@@ -1,20 +1,22 @@
-//! Handles as they cross a channel.
+//! Handles on their way through a channel.
 
 use foyer_core::{CoreEntry, Waiting};
 use foyer_policy::{Error, Result};
 use futures::channel::oneshot;
 
-/// The receiver of an answer.
+/// The receiver of a result.
 pub type Waiter<X> = oneshot::Receiver<Result<X>>;
 
-/// The sender of an answer.
+/// The sender of a result.
 pub type Notifier<X> = oneshot::Sender<Result<X>>;
 
-/// What those get who wait for a key: a handle of its record, or none.
+/// What a caller that waits for a key gets: a handle of its record, or none.
 pub type Answer<K, V, P> = Option<Ticket<K, V, P>>;
 
-/// A handle as it crosses a channel. It holds no lock and no cache, so a shard may keep the sender of one. Who
-/// receives it makes an entry of it. One that is dropped is discarded: no cache hears of it.
+/// A handle on its way through a channel.
+///
+/// It holds no lock and no cache, so a shard may keep the sender of one. The receiver makes an entry of it. If it is
+/// dropped, the handle isn't given back.
 pub struct Ticket<K: Drop, V: Drop, P: Drop> {
     core: Option<CoreEntry<K, V, P>>,
 }
@@ -29,21 +31,21 @@ impl<K: Drop, V: Drop, P: Drop> Drop for Ticket<K, V, P> {
 }
 
 impl<K: Drop, V: Drop, P: Drop> Ticket<K, V, P> {
-    /// A ticket of a handle.
+    /// Makes a ticket of a handle.
     pub(crate) fn new(core: CoreEntry<K, V, P>) -> Self {
         Ticket { core: Some(core) }
     }
 
-    /// The handle.
+    /// Returns the handle.
     pub(crate) fn into_core(mut self) -> Option<CoreEntry<K, V, P>> {
         self.core.take()
     }
 }
 
-/// Those who wait for a key.
+/// The callers that wait for a key.
 pub(crate) type Waiters<K, V, P> = Vec<Waiting<Notifier<Answer<K, V, P>>>>;
 
-// Answers each who waited with the one refusal. Where a fault can't be shared it is F7.
+// Sends each waiting caller the error, or F7 if a reference count of its fault is full.
 pub(crate) fn refuse<K: Drop, V: Drop, P: Drop>(waiters: Waiters<K, V, P>, error: Error) {
     for waiting in waiters {
         let again = match error.clone() {
@@ -54,7 +56,7 @@ pub(crate) fn refuse<K: Drop, V: Drop, P: Drop>(waiters: Waiters<K, V, P>, error
     }
 }
 
-// Answers each who waited with none.
+// Sends each waiting caller `None`.
 pub(crate) fn tell_none<K: Drop, V: Drop, P: Drop>(waiters: Waiters<K, V, P>) {
     for waiting in waiters {
         let _sent = waiting.waiter.send(Ok(None));

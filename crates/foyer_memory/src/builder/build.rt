@@ -1,4 +1,4 @@
-//! What a builder makes.
+//! Building a cache.
 
 ghost use Rattle.std.specs.Prelude.{◌≡◌, None, Err, IfErr, IfOk, IfSome, OnOk};
 ghost use Rattle.foyer_policy.specs.declared.error.Reason.TheVariants.{NoMemory};
@@ -22,9 +22,12 @@ where
     A: Filter<K, V>,
     L: EventListener<Key = K, Value = V>,
 {
-    /// A cache that holds nothing and has no pipe. Refused where there is to be no shard (F1), then with the policy
-    /// configuration's first fault (F2 to F6), and else only for want of memory (F7). A capacity below the number of shards
-    /// is logged as a warning.
+    /// Builds an empty cache without a pipe.
+    ///
+    /// Logs a warning if the capacity is below the number of shards.
+    ///
+    /// # Errors
+    /// F1 if there are no shards, F2 to F6 for the first fault of the policy's configuration, F7 if memory runs out.
     pub fn build<H, P, Q, T, I, G>(
         self,
         rt: H,
@@ -42,16 +45,21 @@ where
         ensures refused { IfSome (build_fault self.config) (λ reason. result ≡ Err reason) }
         ensures memory { IfErr result (λ e. build_fault self.config ≡ None → e ≡ NoMemory) }
         ensures kind { IfOk result (λ cache. cache.kind ≡ kind_of_config self.config.eviction_config) }
+        ensures time_to_live { IfOk result (λ cache. cache.cache.time_to_live ≡ self.time_to_live) }
     {
         let CacheBuilder {
             config,
             listener,
+            time_to_live,
             keys: _,
         } = self;
         warn_of(log, config.capacity, config.shards);
         let kind = Kind::of(&config.eviction_config);
         match RawCache::new(rt, alloc, config, listener) {
-            Ok(cache) => Ok(Cache { cache, kind }),
+            Ok(cache) => Ok(Cache {
+                cache: cache.with_time_to_live(time_to_live),
+                kind,
+            }),
             Err(error) => Err(error),
         }
     }

@@ -1,4 +1,4 @@
-//! What a cache does with all of its records.
+//! Calls on all records.
 
 ghost use Rattle.std.specs.Prelude.{◌≡◌, IfSome};
 ghost use Rattle.foyer_policy.specs.Limit.{ok_unless};
@@ -27,30 +27,38 @@ where
     Q: Pipe<Key = K, Value = V, Properties = P>,
     T: FetchTypes<K, V, P>,
 {
-    /// Takes everything out, as `Clear`, shard by shard, in the policy's order. Refused for want of memory alone (F7); then
-    /// the shards before are done, and what left is told.
+    /// Removes all records, shard by shard, in the policy's order. The listener is told of each as `Clear`.
+    ///
+    /// # Errors
+    /// F7 if memory runs out; the shards before are cleared, and their records reported.
     pub fn clear(&self) -> Result<()> {
         self.cache.clear()
     }
 
-    /// Evicts all that is not pinned, shard by shard: what is expired at a moment first, and then the rest in the order in
-    /// which the policy gives it. Refused for want of memory alone (F7); then the shards before are done and some of the
-    /// next one's records may have left, and what left is told.
+    /// Evicts all records that aren't pinned, shard by shard: those expired at `now` first, then in the policy's order.
+    ///
+    /// # Errors
+    /// F7 if memory runs out; the evictions made so far stand and are reported.
     pub fn evict_all(&self, now: u64) -> Result<()> {
         self.cache.evict_all(now)
     }
 
-    /// Sets the weight that the records may have together, of which each shard gets its part, and then evicts from each shard
-    /// what is over, what is expired at a moment first. Resizes take turns. Refused for want of memory alone (F7); then the
-    /// capacities are set all the same, the shards before are done, and what left is told.
+    /// Sets the capacity, divides it among the shards and evicts what no longer fits, records expired at `now` first.
+    ///
+    /// Calls of `resize` and `reconfigure` take turns.
+    ///
+    /// # Errors
+    /// F7 if memory runs out; the capacity is set all the same, and the evictions made so far stand and are reported.
     pub fn resize(&self, now: u64, capacity: usize) -> Result<()> {
         self.cache.resize(now, capacity)
     }
 
-    /// Tells each shard's policy in turn another configuration. It counts for what the policy does from then on, with the
-    /// capacity that the shard has, and for every later `resize`. Nothing leaves. Refused with F17 where it is a
-    /// configuration of another policy, and else with its first fault alone, F2 to F6; then nothing has changed in any
-    /// shard. It takes no memory, and takes turns with resizes.
+    /// Gives the policy another configuration, shard by shard, which later calls of `resize` go by too.
+    ///
+    /// No record leaves, and no memory is taken. Calls of `resize` and `reconfigure` take turns.
+    ///
+    /// # Errors
+    /// F17 if the configuration is of another policy, F2 to F6 for its first fault; nothing has changed.
     pub fn reconfigure(&self, config: EvictionConfig) -> Result<()>
         ensures { result ≡ ok_unless (reconfigure_fault self.now.kind config) }
     {
@@ -62,17 +70,24 @@ where
         Ok(())
     }
 
-    /// Evicts all that is not pinned, as `evict_all` does at a moment, tells the listener all of it, and hands all its pieces to the pipe,
-    /// if there is one that is enabled. All of that happens here; the future waits for the pipe. It ends with `Ok`, or where
-    /// memory was missing with F7.
+    /// Evicts all records that aren't pinned, as `evict_all` does, and hands their pieces to the pipe if it is enabled.
+    ///
+    /// All of that happens in this call; the future waits for the pipe.
+    ///
+    /// # Errors
+    /// The future gives F7 if memory ran out; the evictions made until then stand and are reported.
     pub fn flush(&self, now: u64) -> Flush<Q::Flush>
         ensures { IfSome result.inner Q.Flush.can_poll }
     {
         self.cache.flush(now)
     }
 
-    /// Takes the records out of which the predicate says yes, pinned or not, as `Evict`, and tells them as `flush` does. The
-    /// predicate is asked once of each record, under its shard's lock: it must not call this cache.
+    /// Evicts the records for which the predicate returns true, pinned or not, and reports them as `flush` does.
+    ///
+    /// The predicate is called once for each record, under its shard's lock: it must not call this cache.
+    ///
+    /// # Errors
+    /// The future gives F7 if memory ran out; the shards before are done.
     pub fn flush_if<F: Fn(&K, &V) -> bool>(&self, predicate: F) -> FlushIf<Q::Flush>
         requires { F.IsAlwaysCallable predicate }
         ensures { IfSome result.inner Q.Flush.can_poll }

@@ -25,13 +25,17 @@ where
     Q: Pipe<Key = K, Value = V, Properties = P>,
     T: FetchTypes<K, V, P>,
 {
-    /// An entry of the key's record, where a get finds one at a moment. Else a wait for the fetch of the key: for the one that is open,
-    /// to which the required builder is lent where it has none, or for a new one, whose task the spawner gets. The required
-    /// builder is asked for once where the key is missing, and the optional one once where a new fetch begins, both with no
-    /// lock held. What the task fetches comes in at the moment that its leader gave.
+    /// Returns an entry of the key's record, or a wait for a fetch of the key.
     ///
-    /// A hit takes no memory, and is refused as `get` is (F9, F7). A miss makes room first (F7), and then is refused where a
-    /// number is missing (F10), and then for want of memory (F7).
+    /// If a `get` at `now` misses the key, the caller waits for the key's open fetch, or for a new one, whose task goes to
+    /// the spawner. The task inserts what it fetched at this `now`, whenever it is polled.
+    ///
+    /// `fr` is called once on a miss, and `fo` once if a new fetch begins, both with no lock held. A required builder that
+    /// the caller brings to an open fetch is kept if that has none.
+    ///
+    /// # Errors
+    /// On a hit, F9 if the handle count would pass its limit and F7 if a reference count is full; a hit takes no memory.
+    /// On a miss, F10 if no number is left and F7 if memory runs out.
     pub fn get_or_fetch_inner<O, F, X>(
         &self,
         now: u64,
@@ -75,8 +79,12 @@ where
     Q: Pipe<Key = K, Value = V, Properties = P>,
     R: RequiredFetch<K, V, P>,
 {
-    /// An entry of the key's record, or a wait for its fetch, as `get_or_fetch_inner` answers. The closure is called on a
-    /// hit too; its future, which may be polled, is the required fetch.
+    /// Returns an entry of the key's record, or a wait for its fetch, which polls the closure's future.
+    ///
+    /// The closure is called on a hit too. If the key has an open fetch, the caller waits for that one.
+    ///
+    /// # Errors
+    /// Those of `get_or_fetch_inner`.
     pub fn get_or_fetch<F, X>(
         &self,
         now: u64,

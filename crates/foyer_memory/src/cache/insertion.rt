@@ -1,4 +1,4 @@
-//! Records that come into a cache.
+//! Inserts.
 
 ghost use Rattle.std.specs.Prelude.{◌≡◌, IfOk, true};
 
@@ -23,7 +23,10 @@ where
     Q: Pipe<Key = K, Value = V, Properties = P>,
     T: FetchTypes<K, V, P>,
 {
-    /// Puts a value in under a key, with default properties, as `insert_with_properties` does.
+    /// Inserts a value with default properties and returns an entry of its record.
+    ///
+    /// # Errors
+    /// Those of `insert_with_properties`.
     pub fn insert(
         &self,
         now: u64,
@@ -40,13 +43,15 @@ where
         })
     }
 
-    /// Puts a record in, and answers an entry of it. The weighter is asked, and then the filter, before the lock. What is
-    /// expired at a moment makes room first. Those who wait for the key are answered, and then what left is told. A clone of
-    /// the key must equal it.
+    /// Inserts a record and returns an entry of it.
     ///
-    /// Refused, in this order, where no id is left (F10), the handles would pass the limit (F9), the weight of a plain
-    /// record and the pinned weight of other keys pass a `usize` (F8), or for want of memory (F7); what left by then is
-    /// told all the same.
+    /// The weighter is asked, and then the filter, before the shard is locked. Evicts records that are expired at `now`,
+    /// then the policy's victims, until the record fits. Callers that wait for a fetch of the key get this record.
+    ///
+    /// # Errors
+    /// F10 if no id is left, F9 if the handle count would pass its limit, F8 if the record's weight and the pinned weight
+    /// of other keys would overflow; nothing has changed. F7 if memory runs out; the evictions made so far stand and are
+    /// reported.
     pub fn insert_with_properties(
         &self,
         now: u64,
@@ -66,8 +71,12 @@ where
         })
     }
 
-    /// Puts a piece's record in at a moment, and answers an entry of it, with the source `Memory`. A piece of this cache stands for its
-    /// record; any other makes a new one, of the weight that the weighter gives it. Refused as an insert is.
+    /// Inserts the record of a piece and returns an entry of it, with the source `Memory`.
+    ///
+    /// A piece of this cache stands for its own record. Any other piece makes a new record, which the weighter weighs.
+    ///
+    /// # Errors
+    /// Those of `insert_with_properties`.
     pub fn insert_piece(
         &self,
         now: u64,

@@ -24,13 +24,17 @@ where
     Q: Pipe<Key = K, Value = V, Properties = P>,
     T: FetchTypes<K, V, P>,
 {
-    /// The hash of a key. Equal keys have equal ones.
+    /// Returns the hash of a key. Equal keys have equal hashes.
     pub fn hash(&self, key: &K) -> u64 {
         self.cache.hash(key)
     }
 
-    /// An entry of the key's record, where one is in that is not expired at a moment, which counts as a handle and as a
-    /// use. Refused at the limit of handles (F9), or where something can't be shared (F7). It allocates nothing.
+    /// Returns an entry of the key's record, unless that is expired at `now`. This counts as a use.
+    ///
+    /// Allocates nothing.
+    ///
+    /// # Errors
+    /// F9 if the handle count would pass its limit, F7 if a reference count is full.
     pub fn get(
         &self,
         now: u64,
@@ -47,8 +51,10 @@ where
         }
     }
 
-    /// Takes the key's record out, where one is in, expired or not, and answers an entry of it. It is told as `Remove`.
-    /// Refused as `get` is.
+    /// Removes the key's record, expired or not, and returns an entry of it. The listener is told of it as `Remove`.
+    ///
+    /// # Errors
+    /// Those of `get`.
     pub fn remove(&self, key: &K) -> Result<Option<CacheEntry<H, K, V, S, P, W, A, L, Q, T, I>>>
         ensures key { IfOk result (λ found. IfSome found (λ e. K.eq key.now e.entry.kept.key ≡ true)) }
         ensures kind { IfOk result (λ found. IfSome found (λ e. e.kind ≡ self.now.kind)) }
@@ -60,13 +66,15 @@ where
         }
     }
 
-    /// Whether a get finds the key at a moment; where it does, that counts as a use. Refused at the limit of handles alone
-    /// (F9). It takes no memory.
+    /// Returns whether a `get` at `now` finds the key, and if so counts a use of its record. Takes no memory.
+    ///
+    /// # Errors
+    /// F9 if the handle count would pass its limit.
     pub fn touch(&self, now: u64, key: &K) -> Result<bool> {
         self.cache.touch(now, key)
     }
 
-    /// Whether a get finds the key at a moment. It takes no memory.
+    /// Returns whether a `get` at `now` finds the key. It counts no use, and takes no memory.
     pub fn contains(&self, now: u64, key: &K) -> bool {
         self.cache.contains(now, key)
     }

@@ -9,23 +9,23 @@ use crate::fetch::{
     RequiredFetch, Spawner,
 };
 use crate::pipe::Pipe;
-use crate::shares::Shares;
+use crate::shares::{Fetch, Shares};
 use crate::ticket::{Answer, Notifier, Waiter};
 use foyer_core::{Filter, Finder, Lookup, Weighter};
 use foyer_policy::{EventListener, Eviction, HashBuilder, Key, Properties, Result, Value};
 use futures::channel::oneshot;
 use std::sync::Wait;
 
-/// What a look-up takes along that may have to wait: shares of the cache for an entry or a wait and for a task, the key's
+/// What a look-up needs that may have to wait: shares of the cache for an entry or a wait and for a task, the key's
 /// hash and a clone of it, and both ends of a channel.
 #[derive(Drop)]
-struct Asking<C, K: Drop, V: Drop, P: Drop> {
-    shares: C,
-    task: C,
-    hash: u64,
-    own: K,
-    notifier: Notifier<Answer<K, V, P>>,
-    waiter: Waiter<Answer<K, V, P>>,
+pub(super) struct Asking<C, K: Drop, V: Drop, P: Drop> {
+    pub(super) shares: C,
+    pub(super) task: C,
+    pub(super) hash: u64,
+    pub(super) own: K,
+    pub(super) notifier: Notifier<Answer<K, V, P>>,
+    pub(super) waiter: Waiter<Answer<K, V, P>>,
 }
 
 impl<H, E, K, V, S, P, W, A, L, Q, T, I> RawCache<H, E, K, V, S, P, W, A, L, Q, T, I>
@@ -45,13 +45,17 @@ where
 {
     ghost use Rattle.foyer_raw.specs.declared.fetch.wait.RawGetOrFetch.TheVariants.{Hit, Miss};
 
-    /// An entry of the key's record, where a get finds one at a moment. Else a wait for the fetch of the key: for the one that is open,
-    /// to which the required builder is lent where it has none, or for a new one, whose task the spawner gets. The required
-    /// builder is asked for once where the key is missing, and the optional one once where a new fetch begins, both with no
-    /// lock held. What the task fetches comes in at the moment that its leader gave.
+    /// Returns an entry of the key's record, or a wait for a fetch of the key.
     ///
-    /// A hit takes no memory, and is refused as `get` is (F9, F7). A miss makes room first (F7), and then is refused where a
-    /// number is missing (F10), and then for want of memory (F7).
+    /// If a `get` at `now` misses the key, the caller waits for the key's open fetch, or for a new one, whose task goes to
+    /// the spawner. The task inserts what it fetched at this `now`, whenever it is polled.
+    ///
+    /// `fr` is called once on a miss, and `fo` once if a new fetch begins, both with no lock held. A required builder that
+    /// the caller brings to an open fetch is kept if that has none.
+    ///
+    /// # Errors
+    /// On a hit, F9 if the handle count would pass its limit and F7 if a reference count is full; a hit takes no memory.
+    /// On a miss, F10 if no number is left and F7 if memory runs out.
     pub fn get_or_fetch_inner<O, F, X>(
         &self,
         now: u64,
@@ -71,21 +75,22 @@ where
         ensures key { IfOk result (elim [ Hit entry ↦ IfSome entry (λ e. K.eq key.now e.kept.key ≡ true) | Miss _ ↦ Unit {0} ]) }
         ensures live { IfOk result (elim [ Hit entry ↦ IfSome entry (λ e. is_expired now (P.expiry_of e.kept.properties) ≡ false) | Miss _ ↦ Unit {0} ]) }
     {
-        if let Some(entry) = self.get(now, key)? {
+        let hash = self.hash(key);
+        if let Some(entry) = self.get_first(now, hash, key)? {
             return Ok(RawGetOrFetch::Hit(Some(entry)));
         }
         spawner.reserve()?;
-        let asking = self.asking(key)?;
+        let asking = self.asking(hash, key)?;
         self.ask(now, key, asking, fr(), fo, context, spawner)
     }
 
-    // What a look-up of a key takes along. Only memory can be missing (F7).
-    fn asking(
+    // Makes what a look-up of a key needs. Fails with F7 alone.
+    pub(super) fn asking(
         &self,
+        hash: u64,
         key: &K,
     ) -> Result<Asking<Shares<H, E, K, V, S, P, W, A, L, Q, T::Required, I>, K, V, P>> {
         let (notifier, waiter) = oneshot::channel(self.shares.shared.shards.alloc)?;
-        let hash = self.hash(key);
         Ok(Asking {
             own: key.clone()?,
             task: self.shares_of(hash)?,
@@ -96,7 +101,7 @@ where
         })
     }
 
-    // An entry of the key's record, or a wait, by one look-up under one lock. There is room for a task.
+    // Returns an entry of the key's record, or a wait, by one look-up under one lock. There is room for a task.
     fn ask<O, X>(
         &self,
         now: u64,
@@ -137,9 +142,12 @@ where
                 required,
             } => {
                 let begin = Begin {
-                    id: fetch,
-                    moment: now,
-                    hash,
+                    fetch: Fetch {
+                        id: fetch,
+                        now,
+                        hash,
+                        time_to_live: self.time_to_live,
+                    },
                     key: own,
                     context,
                     optional: fo(),
@@ -152,9 +160,12 @@ where
         }
     }
 
-    /// A wait for what comes through a channel: for one who finds out in another way than by a task of this cache that there
-    /// is nothing, or why, and sends that. It ends as every wait does: once its sender is gone, with F14. Refused where
-    /// something can't be shared (F7).
+    /// Returns a wait for what comes through this channel, for results that no task of this cache sends.
+    ///
+    /// The wait gives F14 if the sender is gone.
+    ///
+    /// # Errors
+    /// F7 if a reference count is full.
     pub fn wait_for(
         &self,
         waiter: Waiter<Answer<K, V, P>>,
@@ -183,8 +194,12 @@ where
 {
     ghost use Rattle.foyer_raw.specs.declared.fetch.wait.RawGetOrFetch.TheVariants.{Hit, Miss};
 
-    /// An entry of the key's record, or a wait for its fetch, as `get_or_fetch_inner` answers. The closure is called on a
-    /// hit too; its future, which may be polled, is the required fetch.
+    /// Returns an entry of the key's record, or a wait for its fetch, which polls the closure's future.
+    ///
+    /// The closure is called on a hit too. If the key has an open fetch, the caller waits for that one.
+    ///
+    /// # Errors
+    /// Those of `get_or_fetch_inner`.
     pub fn get_or_fetch<F, X>(
         &self,
         now: u64,
@@ -204,11 +219,12 @@ where
         let given = Given {
             fetch: Pollable::new(fetch()),
         };
-        if let Some(entry) = self.get(now, key)? {
+        let hash = self.hash(key);
+        if let Some(entry) = self.get_first(now, hash, key)? {
             return Ok(RawGetOrFetch::Hit(Some(entry)));
         }
         spawner.reserve()?;
-        let asking = self.asking(key)?;
+        let asking = self.asking(hash, key)?;
         self.ask(
             now,
             key,

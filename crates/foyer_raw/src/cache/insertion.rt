@@ -1,9 +1,10 @@
-//! Records that come into a cache.
+//! Inserts.
 
 ghost use Rattle.std.specs.Prelude.{◌≡◌, IfOk, true};
 
 use super::RawCache;
 use crate::entry::RawCacheEntry;
+use crate::expiry::expiring;
 use crate::fetch::FetchTypes;
 use crate::pipe::Pipe;
 use crate::shards::RawInserted;
@@ -29,7 +30,10 @@ where
     Q: Pipe<Key = K, Value = V, Properties = P>,
     T: FetchTypes<K, V, P>,
 {
-    /// Puts a value in under a key, with default properties, as `insert_with_properties` does.
+    /// Inserts a value with default properties and returns an entry of its record.
+    ///
+    /// # Errors
+    /// Those of `insert_with_properties`.
     pub fn insert(
         &self,
         now: u64,
@@ -42,13 +46,15 @@ where
         self.insert_with_properties(now, key, value, P::default())
     }
 
-    /// Puts a record in, and answers an entry of it. The weighter is asked, and then the filter, before the lock. What is
-    /// expired at a moment makes room first. Those who wait for the key are answered, and then what left is told. A clone of
-    /// the key must equal it.
+    /// Inserts a record and returns an entry of it.
     ///
-    /// Refused, in this order, where no id is left (F10), the handles would pass the limit (F9), the weight of a plain
-    /// record and the pinned weight of other keys pass a `usize` (F8), or for want of memory (F7); what left by then is
-    /// told all the same.
+    /// The weighter is asked, and then the filter, before the shard is locked. Evicts records that are expired at `now`,
+    /// then the policy's victims, until the record fits. Callers that wait for a fetch of the key get this record.
+    ///
+    /// # Errors
+    /// F10 if no id is left, F9 if the handle count would pass its limit, F8 if the record's weight and the pinned weight
+    /// of other keys would overflow; nothing has changed. F7 if memory runs out; the evictions made so far stand and are
+    /// reported.
     pub fn insert_with_properties(
         &self,
         now: u64,
@@ -61,11 +67,12 @@ where
     {
         let hash = self.hash(&key);
         let shares = self.shares_of(hash);
+        let properties = expiring(properties, now, self.time_to_live);
         let kept = self.shares.shared.data(hash, key, value, properties);
         let shares = match shares {
             Ok(shares) => shares,
             Err(refused) => return Err(first_of(
-                self.shares.shared.shards.refuses_insert(&kept),
+                self.shares.shared.shards.refuse_insert(&kept),
                 refused,
             )),
         };
@@ -77,8 +84,12 @@ where
         }
     }
 
-    /// Puts a piece's record in at a moment, and answers an entry of it, with the source `Memory`. A piece of this cache stands for its
-    /// record; any other makes a new one, of the weight that the weighter gives it. Refused as an insert is.
+    /// Inserts the record of a piece and returns an entry of it, with the source `Memory`.
+    ///
+    /// A piece of this cache stands for its own record. Any other piece makes a new record, which the weighter weighs.
+    ///
+    /// # Errors
+    /// Those of `insert_with_properties`.
     pub fn insert_piece(
         &self,
         now: u64,
@@ -93,7 +104,7 @@ where
         let shares = match shares {
             Ok(shares) => shares,
             Err(refused) => {
-                let reason = shared.shards.refuses_piece(hash, weight, &piece);
+                let reason = shared.shards.refuse_piece(hash, weight, &piece);
                 return Err(first_of(reason, refused));
             }
         };
@@ -107,7 +118,7 @@ where
         }
     }
 
-    // The entry of what came in, once those who waited are answered and what left is told.
+    // Returns the entry of an insert, after the waiting callers got their results and what left was reported.
     fn came_in(
         &self,
         shares: Shares<H, E, K, V, S, P, W, A, L, Q, T::Required, I>,
@@ -122,14 +133,14 @@ where
         shares.entry(entry)
     }
 
-    // Why nothing came in, once what left all the same is told.
+    // Returns the error of an insert, after what left all the same was reported.
     fn refused(&self, error: Error, leaves: Vec<Leave<K, V, P>>) -> Error {
         self.shares.tell_all(leaves);
         error
     }
 }
 
-// The reason that goes first, where there is one, or else the refusal of memory.
+// Returns the reason that comes first, if there is one, or else the F7.
 fn first_of(reason: Option<Reason>, refused: Error) -> Error {
     match reason {
         Some(reason) => Error::new(reason),

@@ -9,7 +9,7 @@ use crate::fetch::FetchTypes;
 use crate::pipe::Pipe;
 use crate::shards::FIRST;
 use crate::shares::Shares;
-use foyer_core::Finder;
+use foyer_core::{CoreEntry, Finder};
 use foyer_policy::{
     Error, Event, EventListener, Eviction, HashBuilder, Key, Properties, Result, Value,
 };
@@ -30,13 +30,17 @@ where
     Q: Pipe<Key = K, Value = V, Properties = P>,
     T: FetchTypes<K, V, P>,
 {
-    /// The hash of a key. Equal keys have equal ones.
+    /// Returns the hash of a key. Equal keys have equal hashes.
     pub fn hash(&self, key: &K) -> u64 {
         self.shares.shared.hash_builder.hash_one(key)
     }
 
-    /// An entry of the key's record, where one is in that is not expired at a moment, which counts as a handle and as a
-    /// use. Refused at the limit of handles (F9), or where something can't be shared (F7). It allocates nothing.
+    /// Returns an entry of the key's record, unless that is expired at `now`. This counts as a use.
+    ///
+    /// Allocates nothing.
+    ///
+    /// # Errors
+    /// F9 if the handle count would pass its limit, F7 if a reference count is full.
     pub fn get(
         &self,
         now: u64,
@@ -46,15 +50,50 @@ where
         ensures live { IfOk result (λ found. IfSome found (λ e. is_expired now (P.expiry_of e.kept.properties) ≡ false)) }
     {
         let hash = self.hash(key);
-        let shares = self.shares_for(now, hash, key)?;
         match self.shares.shared.shards.get(now, hash, key)? {
-            Some(core) => Ok(Some(shares.entry(core))),
+            Some(core) => Ok(Some(self.entry_of(hash, core)?)),
             None => Ok(None),
         }
     }
 
-    /// Takes the key's record out, where one is in, expired or not, and answers an entry of it. It is told as `Remove`.
-    /// Refused as `get` is.
+    // An entry as `get` returns it. A miss is not counted, since another look-up follows it.
+    pub(super) fn get_first(
+        &self,
+        now: u64,
+        hash: u64,
+        key: &K,
+    ) -> Result<Option<RawCacheEntry<H, E, K, V, S, P, W, A, L, Q, T::Required, I>>>
+        ensures key { IfOk result (λ found. IfSome found (λ e. K.eq key.now e.kept.key ≡ true)) }
+        ensures live { IfOk result (λ found. IfSome found (λ e. is_expired now (P.expiry_of e.kept.properties) ≡ false)) }
+    {
+        match self.shares.shared.shards.get_first(now, hash, key)? {
+            Some(core) => Ok(Some(self.entry_of(hash, core)?)),
+            None => Ok(None),
+        }
+    }
+
+    // The entry of a handle of a key with this hash. The handle is given back if the cache can't be shared once more (F7).
+    #[inline(always)]
+    fn entry_of(
+        &self,
+        hash: u64,
+        core: CoreEntry<K, V, P>,
+    ) -> Result<RawCacheEntry<H, E, K, V, S, P, W, A, L, Q, T::Required, I>>
+        ensures { IfOk result (λ e. e ≡ core) }
+    {
+        match self.shares_of(hash) {
+            Ok(shares) => Ok(shares.entry(core)),
+            Err(refused) => {
+                self.shares.give_back(core);
+                Err(refused)
+            }
+        }
+    }
+
+    /// Removes the key's record, expired or not, and returns an entry of it. The listener is told of it as `Remove`.
+    ///
+    /// # Errors
+    /// Those of `get`.
     pub fn remove(
         &self,
         key: &K,
@@ -62,7 +101,7 @@ where
         ensures { IfOk result (λ found. IfSome found (λ e. K.eq key.now e.kept.key ≡ true)) }
     {
         let hash = self.hash(key);
-        let shares = self.shares_for(FIRST, hash, key)?;
+        let shares = self.shares_for(hash, key)?;
         match self.shares.shared.shards.remove(hash, key)? {
             Some((core, left)) => {
                 self.shares.tell((Event::Remove, left));
@@ -72,11 +111,9 @@ where
         }
     }
 
-    // Shares for an entry of what a get of the key finds at a moment. Where they can't be had (F7), F9 goes first, which the
-    // shard is asked for.
+    // Shares for an entry of the key's record. If a reference count is full (F7), an F9 of the shard comes first.
     fn shares_for(
         &self,
-        now: u64,
         hash: u64,
         key: &K,
     ) -> Result<Shares<H, E, K, V, S, P, W, A, L, Q, T::Required, I>> {
@@ -84,20 +121,22 @@ where
             Ok(shares) => return Ok(shares),
             Err(refused) => refused,
         };
-        match self.shares.shared.shards.refuses_get(now, hash, key) {
+        match self.shares.shared.shards.refuses_get(FIRST, hash, key) {
             Some(reason) => Err(Error::new(reason)),
             None => Err(refused),
         }
     }
 
-    /// Whether a get finds the key at a moment; where it does, that counts as a use. Refused at the limit of handles alone
-    /// (F9). It takes no memory.
+    /// Returns whether a `get` at `now` finds the key, and if so counts a use of its record. Takes no memory.
+    ///
+    /// # Errors
+    /// F9 if the handle count would pass its limit.
     pub fn touch(&self, now: u64, key: &K) -> Result<bool> {
         let hash = self.hash(key);
         self.shares.shared.shards.touch(now, hash, key)
     }
 
-    /// Whether a get finds the key at a moment. It takes no memory.
+    /// Returns whether a `get` at `now` finds the key. It counts no use, and takes no memory.
     pub fn contains(&self, now: u64, key: &K) -> bool {
         let hash = self.hash(key);
         self.shares.shared.shards.contains(now, hash, key)

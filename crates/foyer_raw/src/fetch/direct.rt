@@ -1,4 +1,4 @@
-//! Fetch types of no fetch, and of one required future.
+//! Fetch types without a fetch, and with one required future.
 
 use super::pollable::Pollable;
 use super::types::{FetchTypes, OptionalFetchBuilder, RequiredFetch, RequiredFetchBuilder};
@@ -8,7 +8,7 @@ use futures::Future;
 use futures::task::{Context, Poll};
 use std::marker::PhantomData;
 
-/// Stands for fetch types, and for a builder, where nothing is fetched.
+/// Fetch types, and a builder, for a cache that fetches nothing.
 #[derive(Clone, Copy, Debug)]
 pub struct NoFetch;
 
@@ -53,7 +53,7 @@ impl<K, V, P> FetchTypes<K, V, P> for NoFetch {
     type Required = NoFetch;
 }
 
-/// Gives the future that it holds.
+/// A builder that returns the future that it holds.
 #[derive(Drop)]
 pub struct Given<R: Future> {
     /// The future.
@@ -69,7 +69,7 @@ impl<K, V, P, C, R: RequiredFetch<K, V, P>> RequiredFetchBuilder<K, V, P, C> for
     }
 }
 
-/// Fetch types of a required future that the caller brings, with no context and no optional fetch.
+/// Fetch types for `get_or_fetch`: a required future `R` of the caller's, with no context and no optional fetch.
 pub struct Direct<R>(PhantomData<R>);
 
 impl<K, V, P, R: RequiredFetch<K, V, P>> FetchTypes<K, V, P> for Direct<R> {

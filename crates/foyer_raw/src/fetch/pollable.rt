@@ -4,7 +4,9 @@ ghost use Rattle.std.specs.Prelude.{◌≡◌};
 
 use futures::Future;
 
-/// A future that may be polled. A builder keeps one, so that the fact lasts under a lock, where no clause can follow.
+/// A future that may be polled.
+///
+/// A builder keeps one: the fact that it may be polled has to last under a lock, where no clause can follow it.
 #[derive(Drop)]
 pub struct Pollable<F: Future> {
     future: F,
@@ -12,7 +14,7 @@ pub struct Pollable<F: Future> {
 }
 
 impl<F: Future> Pollable<F> {
-    /// A future that may be polled.
+    /// Keeps a future that may be polled.
     pub fn new(future: F) -> Pollable<F>
         requires { F.can_poll future }
         ensures { result.future ≡ future }
@@ -20,7 +22,7 @@ impl<F: Future> Pollable<F> {
         Pollable { future }
     }
 
-    /// The future, which may be polled.
+    /// Returns the future, which may be polled.
     pub fn into_inner(self) -> F
         ensures { F.can_poll result }
     {

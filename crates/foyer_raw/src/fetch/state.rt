@@ -8,13 +8,13 @@ use std::fmt::{self, Debug};
 /// What a fetch task is doing.
 #[derive(Clone, Copy, PartialEq, Eq)]
 pub enum RawFetchState {
-    /// It was not polled yet.
+    /// It wasn't polled yet.
     Init,
     /// It polls the optional fetch.
     FetchOptional,
     /// It polls the required fetch.
     FetchRequired,
-    /// It answers those who wait.
+    /// It gives a result to all that wait.
     Notify,
     /// It has ended.
     Ready,
@@ -27,18 +27,18 @@ pub enum TaskEvent {
     Start(bool),
     /// An optional fetch gave a value, or a required one a value or a fault.
     Given,
-    /// An optional fetch gave none, or a fault.
+    /// An optional fetch gave no value, or a fault.
     Missing,
-    /// A builder was taken that one who waits had brought.
+    /// It took a builder that a waiting caller had brought.
     Taken,
-    /// Those who wait were answered.
+    /// All that wait got their result.
     Told,
-    /// The fetch is not open any more.
+    /// The fetch isn't open any more.
     Closed,
 }
 
 impl RawFetchState {
-    /// The state after an event. `required` says whether the leader's own required builder is still there.
+    /// Returns the state after an event. `required` says whether the first caller's own required builder is still there.
     pub fn next(self, required: bool, event: TaskEvent) -> Self
         ensures { result ≡ next_state self required event }
     {

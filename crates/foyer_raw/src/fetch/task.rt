@@ -1,4 +1,4 @@
-//! The task that fetches for those who wait for a key.
+//! The task that fetches a missing key for all that wait for it.
 
 ghost use Rattle.std.specs.Prelude.{◌≡◌, ◌≢◌, ◌⊎◌, IfSome, IsNone, true};
 ghost use Rattle.futures.specs.Task.{Covers, Keeps};
@@ -8,7 +8,7 @@ ghost use Rattle.foyer_raw.specs.Steps.{next_state, Leads};
 use super::state::{RawFetchState, TaskEvent};
 use super::types::{FetchTypes, OptionalFuture, RequiredFuture};
 use crate::pipe::Pipe;
-use crate::shares::Shares;
+use crate::shares::{Fetch, Shares};
 use foyer_core::{Finder, TagFinder};
 use foyer_policy::{Error, EventListener, Eviction, Fault, Key, Properties, Reason, Value};
 use futures::Future;
@@ -19,8 +19,9 @@ use std::sync::Wait;
 mod ends;
 mod polls;
 
-/// The task that fetches for those who wait for a key. It belongs to the one who leads the fetch. Where it is dropped
-/// before it ended, those who wait get F15.
+/// The task that fetches a missing key for all that wait for it.
+///
+/// The spawner of the first caller gets it. If it is dropped before it has ended, all that wait get F15.
 pub struct RawFetch<H, E, K, V, S, P, W, A, L, Q, T, I = TagFinder<K>>
 where
     H: Wait + Drop,
@@ -37,11 +38,8 @@ where
     T: FetchTypes<K, V, P>,
 {
     state: RawFetchState,
-    id: u64,
-    // When its leader asked: what is fetched comes in at this moment.
-    moment: u64,
-    hash: u64,
-    // Until the key comes in.
+    fetch: Fetch,
+    // Until the value is inserted.
     key: Option<K>,
     shares: Shares<H, E, K, V, S, P, W, A, L, Q, T::Required, I>,
     context: T::Context,
@@ -56,21 +54,17 @@ where
     ghost clones: { (k c : K) → K.is_clone k c → K.eq c k ≡ true },
 }
 
-/// With what a task begins.
+/// What a task begins with.
 pub(crate) struct Begin<K, C, O, F> {
     /// The fetch.
-    pub(crate) id: u64,
-    /// The moment at which its leader asked.
-    pub(crate) moment: u64,
-    /// The key's hash.
-    pub(crate) hash: u64,
+    pub(crate) fetch: Fetch,
     /// The key.
     pub(crate) key: K,
-    /// What the builders are given.
+    /// The builders' context.
     pub(crate) context: C,
     /// The optional builder, if there is one.
     pub(crate) optional: Option<O>,
-    /// The leader's own required builder, if there is one.
+    /// The first caller's own required builder, if there is one.
     pub(crate) required: Option<F>,
 }
 
@@ -89,7 +83,7 @@ where
     Q: Pipe<Key = K, Value = V, Properties = P>,
     T: FetchTypes<K, V, P>,
 {
-    // A task that was not polled yet.
+    // Makes a task.
     pub(crate) fn new(
         shares: Shares<H, E, K, V, S, P, W, A, L, Q, T::Required, I>,
         begin: Begin<K, T::Context, T::Optional, T::Required>,
@@ -97,12 +91,10 @@ where
         requires clones { (k c : K) → K.is_clone k c → K.eq c k ≡ true }
         ensures state { result.state ≡ RawFetchState.Init }
         ensures idle { IsNone result.optional_fetch × IsNone result.required_fetch }
-        ensures moment { result.moment ≡ begin.moment }
+        ensures fetch { result.fetch ≡ begin.fetch }
     {
         let Begin {
-            id,
-            moment,
-            hash,
+            fetch,
             key,
             context,
             optional,
@@ -110,9 +102,7 @@ where
         } = begin;
         RawFetch {
             state: RawFetchState::Init,
-            id,
-            moment,
-            hash,
+            fetch,
             key: Some(key),
             shares,
             context,
@@ -124,19 +114,19 @@ where
         }
     }
 
-    /// What the task is doing.
+    /// Returns what the task is doing.
     pub fn state(&self) -> RawFetchState
         ensures { result ≡ self.now.state }
     {
         self.state
     }
 
-    /// Ends the task, as its drop does.
+    /// Cancels the task, as its drop does.
     pub fn cancel(self) {
         drop(self);
     }
 
-    // An event happens.
+    // Goes to the state after an event.
     fn step(&mut self, event: TaskEvent)
         ensures start { (optional : _) → event ≡ TaskEvent.Start optional → Leads 1 self.old.state self.new.state }
         ensures later { self.old.state ≢ RawFetchState.Init → Leads 1 self.old.state self.new.state }
@@ -166,9 +156,7 @@ where
     fn drop(self) {
         let RawFetch {
             state,
-            id,
-            moment: _,
-            hash,
+            fetch,
             key,
             shares,
             context: _,
@@ -183,7 +171,7 @@ where
         }
         if let Some(key) = key {
             let error = Error::new(Reason::TaskCancelled);
-            shares.ended(shares.shared.shards.end(hash, &key, id, error));
+            shares.ended(shares.shared.shards.end(fetch.hash, &key, fetch.id, error));
         }
     }
 }
@@ -206,8 +194,8 @@ where
     fn fmt<X: fmt::Write>(&self, f: &mut fmt::Formatter<X>) -> fmt::Result {
         f.debug_struct("RawFetch")
             .field("state", &self.state)
-            .field("id", &self.id)
-            .field("hash", &self.hash)
+            .field("id", &self.fetch.id)
+            .field("hash", &self.fetch.hash)
             .finish()
     }
 }

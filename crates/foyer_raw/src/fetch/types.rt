@@ -1,10 +1,10 @@
-//! What a caller fetches with.
+//! The futures and builders of fetches.
 
 use foyer_core::FetchTarget;
 use foyer_policy::Fault;
 use futures::Future;
 
-/// A future of what may be there: a value or a piece, none, or a fault.
+/// A future of a value or a piece that may be missing, or of a fault.
 pub trait OptionalFetch<K, V, P>: Future<Output = Result<Option<FetchTarget<K, V, P>>, Fault>> {}
 
 impl<K, V, P, F: Future<Output = Result<Option<FetchTarget<K, V, P>>, Fault>>> OptionalFetch<
@@ -13,45 +13,45 @@ impl<K, V, P, F: Future<Output = Result<Option<FetchTarget<K, V, P>>, Fault>>> O
     P,
 > for F {}
 
-/// A future of what is to be there: a value or a piece, or a fault.
+/// A future of a value or a piece, or of a fault.
 pub trait RequiredFetch<K, V, P>: Future<Output = Result<FetchTarget<K, V, P>, Fault>> {}
 
 impl<K, V, P, F: Future<Output = Result<FetchTarget<K, V, P>, Fault>>> RequiredFetch<K, V, P>
     for F {}
 
-/// Makes an optional fetch, from a context.
+/// Makes an optional fetch from a context.
 pub trait OptionalFetchBuilder<K, V, P, C>: Drop {
     /// The fetch.
     type Fetch: OptionalFetch<K, V, P>;
 
-    /// The fetch, which may be polled.
+    /// Returns the fetch, which may be polled.
     fn build(self, context: &mut C) -> Self::Fetch
         ensures { Self.Fetch.can_poll result };
 }
 
-/// Makes a required fetch, from a context.
+/// Makes a required fetch from a context.
 pub trait RequiredFetchBuilder<K, V, P, C>: Drop {
     /// The fetch.
     type Fetch: RequiredFetch<K, V, P>;
 
-    /// The fetch, which may be polled.
+    /// Returns the fetch, which may be polled.
     fn build(self, context: &mut C) -> Self::Fetch
         ensures { Self.Fetch.can_poll result };
 }
 
-/// With what a cache fetches.
+/// What a cache fetches with: the builders of its fetches, and their context.
 pub trait FetchTypes<K, V, P> {
-    /// What the builders are given.
+    /// The builders' context.
     type Context: Drop;
 
-    /// Makes optional fetches.
+    /// The builder of optional fetches, which run first.
     type Optional: OptionalFetchBuilder<K, V, P, Self::Context>;
 
-    /// Makes required fetches.
+    /// The builder of required fetches.
     type Required: RequiredFetchBuilder<K, V, P, Self::Context>;
 }
 
-/// The optional fetches of a cache's fetch types.
+/// The future of an optional fetch.
 pub type OptionalFuture<K, V, P, T> = <<T as FetchTypes<K, V, P>>::Optional as OptionalFetchBuilder<
     K,
     V,
@@ -59,7 +59,7 @@ pub type OptionalFuture<K, V, P, T> = <<T as FetchTypes<K, V, P>>::Optional as O
     <T as FetchTypes<K, V, P>>::Context,
 >>::Fetch;
 
-/// The required fetches of a cache's fetch types.
+/// The future of a required fetch.
 pub type RequiredFuture<K, V, P, T> = <<T as FetchTypes<K, V, P>>::Required as RequiredFetchBuilder<
     K,
     V,

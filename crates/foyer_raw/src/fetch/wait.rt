@@ -17,7 +17,7 @@ use futures::task::{Context, Poll};
 use std::fmt::{self, Debug};
 use std::sync::Wait;
 
-/// A future of an entry, or of none. One that is dropped gives a handle back that came meanwhile.
+/// A future of an entry, or of none. If it is dropped, it gives a handle that came meanwhile back.
 pub struct RawWait<H, E, K, V, S, P, W, A, L, Q, R, I = TagFinder<K>>
 where
     H: Wait + Drop,
@@ -33,7 +33,7 @@ where
     Q: Pipe<Key = K, Value = V, Properties = P>,
     R: Drop,
 {
-    // Until the answer came.
+    // Until the result came.
     open: Option<
         (
             Shares<H, E, K, V, S, P, W, A, L, Q, R, I>,
@@ -57,7 +57,7 @@ where
     Q: Pipe<Key = K, Value = V, Properties = P>,
     R: Drop,
 {
-    // Waits for this answer.
+    // Makes a wait for what this receiver gets.
     pub(crate) fn new(
         shares: Shares<H, E, K, V, S, P, W, A, L, Q, R, I>,
         waiter: Waiter<Answer<K, V, P>>,
@@ -117,8 +117,10 @@ where
 {
     type Output = Result<Option<RawCacheEntry<H, E, K, V, S, P, W, A, L, Q, R, I>>>;
 
-    /// The answer, once it came: an entry, none, or a refusal; F14 where who was to send it is gone. It is given once: a
-    /// later poll is refused (F16), and changes nothing.
+    /// Gives the result once it came: an entry, or none if the fetch found nothing.
+    ///
+    /// # Errors
+    /// F14 if the sender is gone, F16 if a result was given before, otherwise the error with which the fetch ended.
     fn poll(&mut self, cx: &mut Context<'_>) -> Poll<Self::Output>
         ensures value { IfReady result (λ _. ⊤) }
         ensures again { OnPending result ⊤ }
@@ -168,7 +170,7 @@ where
     }
 }
 
-/// What a look-up answers that fetches what is missing: an entry at once, or a wait.
+/// The result of a look-up that fetches what is missing: an entry at once, or a wait.
 #[derive(Drop)]
 pub enum RawGetOrFetch<H, E, K, V, S, P, W, A, L, Q, R, I = TagFinder<K>>
 where
@@ -187,7 +189,7 @@ where
 {
     /// The entry, until it is taken.
     Hit(Option<RawCacheEntry<H, E, K, V, S, P, W, A, L, Q, R, I>>),
-    /// A wait for the one that is fetched.
+    /// A wait for the entry that is fetched.
     Miss(RawWait<H, E, K, V, S, P, W, A, L, Q, R, I>),
 }
 
@@ -208,14 +210,17 @@ where
 {
     ghost use Rattle.foyer_raw.specs.declared.fetch.wait.RawGetOrFetch.TheVariants.{Hit, Miss};
 
-    /// Whether the entry is still to come.
+    /// Returns whether the look-up missed, so that its entry is still to come.
     pub fn need_await(&self) -> bool
         ensures { elim self.now as (λ _. Type 0) [ Hit _ ↦ result ≡ false | Miss _ ↦ result ≡ true ] }
     {
         matches!(self, RawGetOrFetch::Miss(_))
     }
 
-    /// The entry of a hit, or F16 where it was taken before; or a miss, as it was.
+    /// Returns the entry of a hit, or a miss unchanged.
+    ///
+    /// # Errors
+    /// F16 if the entry of a hit was taken before.
     pub fn try_unwrap(
         self,
     ) -> std::result::Result<Result<RawCacheEntry<H, E, K, V, S, P, W, A, L, Q, R, I>>, Self>
@@ -252,7 +257,10 @@ where
 
     ghost use Rattle.foyer_raw.specs.declared.fetch.wait.RawGetOrFetch.TheVariants.{Hit, Miss};
 
-    /// The entry of a hit, or what the wait gives. It is given once: a later poll is refused (F16), and changes nothing.
+    /// Gives the entry of a hit, or the result of the wait.
+    ///
+    /// # Errors
+    /// F16 if a result was given before, otherwise the errors of the wait.
     fn poll(&mut self, cx: &mut Context<'_>) -> Poll<Self::Output>
         ensures value { IfReady result (λ _. ⊤) }
         ensures again { OnPending result ⊤ }

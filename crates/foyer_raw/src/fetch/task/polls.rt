@@ -1,4 +1,4 @@
-//! What one poll of a task does.
+//! The poll of a task.
 
 ghost use Rattle.std.specs.Prelude.{◌≡◌, ◌≢◌, ◌⊎◌, ⊤, IfSome, IsNone};
 ghost use Rattle.futures.specs.Task.{Covers, Keeps};
@@ -39,8 +39,7 @@ where
     // the sources of the fetch that is polled
     ghost needs = { λ t. Awaits t.state T.Optional.Fetch.needs T.Required.Fetch.needs t.optional_fetch t.required_fetch };
 
-    /// Goes on until a fetch is pending or the task ends. It goes through at most five events. Where it has ended it
-    /// changes nothing.
+    /// Goes on until a fetch is pending or the task ends, through at most five events. A task that has ended stays so.
     fn poll(&mut self, cx: &mut Context<'_>) -> Poll<()>
         requires { IfSome self.old.optional_fetch T.Optional.Fetch.can_poll × IfSome self.old.required_fetch T.Required.Fetch.can_poll }
         ensures value { IfReady result (λ _. ⊤) }
@@ -80,7 +79,7 @@ where
     Q: Pipe<Key = K, Value = V, Properties = P>,
     T: FetchTypes<K, V, P>,
 {
-    // Builds the optional fetch, where there is a builder.
+    // Builds the optional fetch, if there is a builder.
     fn start(&mut self)
         requires new { self.old.state ≡ RawFetchState.Init }
         requires can { IfSome self.old.optional_fetch T.Optional.Fetch.can_poll × IfSome self.old.required_fetch T.Required.Fetch.can_poll }
@@ -97,7 +96,7 @@ where
         }
     }
 
-    // From the optional fetch on.
+    // Goes on from the optional fetch.
     fn go_on(&mut self, cx: &mut Context<'_>) -> Poll<()>
         requires begun { self.old.state ≢ RawFetchState.Init }
         requires can { IfSome self.old.optional_fetch T.Optional.Fetch.can_poll × IfSome self.old.required_fetch T.Required.Fetch.can_poll }
@@ -121,7 +120,7 @@ where
         self.settle(cx)
     }
 
-    // From the answering on, or the required fetch.
+    // Goes on from the required fetch, or from giving results.
     fn settle(&mut self, cx: &mut Context<'_>) -> Poll<()>
         requires begun { self.old.state ≢ RawFetchState.Init }
         requires past { self.old.state ≢ RawFetchState.FetchOptional }
@@ -192,7 +191,7 @@ where
         }
     }
 
-    // The required fetch, which is built here where it was not yet.
+    // Takes the required fetch, and builds it first if need be.
     fn take_required(&mut self) -> Option<RequiredFuture<K, V, P, T>>
         requires { IfSome self.old.required_fetch T.Required.Fetch.can_poll }
         ensures can { IfSome result T.Required.Fetch.can_poll }
@@ -249,7 +248,7 @@ where
         }
     }
 
-    // Takes a builder that one who waits brought, or answers those who wait with none, or the fault.
+    // Takes a builder that a waiting caller brought, or else gives all that wait none, or the fault.
     fn take_or_tell(&mut self)
         requires at { self.old.state ≡ RawFetchState.Notify }
         requires can { IfSome self.old.optional_fetch T.Optional.Fetch.can_poll × IfSome self.old.required_fetch T.Required.Fetch.can_poll }
