@@ -1,7 +1,10 @@
 //! `foyer-sim POLICY CAPACITY SHARDS`: carries out the commands on standard input, one a line, over a
-//! cache of this policy, and prints the reply to each.
+//! cache of this policy, and prints the reply to each. At the end it says on standard error which were bad.
 #![tactic(auto)]
 
+mod bad;
+
+use bad::{Bad, Lined, Replies};
 use foyer_core::{AdmitAll, CacheCore, Limits, RawCacheConfig};
 use foyer_policy::ModHasher;
 use foyer_session::text::Watched;
@@ -59,15 +62,24 @@ fn run(rt: &HostRuntime) -> Result<(), Failure> {
         return Err(Failure::Memory);
     };
     let mut session: SimSession<ModHasher> = Session::new(alloc, core);
-    let Ok(mut reader) = BufReader::with_capacity(alloc, BUFFER, rt.stdin()) else {
+    let Ok(reader) = BufReader::with_capacity(alloc, BUFFER, rt.stdin()) else {
         return Err(Failure::Memory);
     };
-    let Ok(mut writer) = BufWriter::with_capacity(alloc, BUFFER, Watched::new(rt.stdout())) else {
+    let Ok(writer) = BufWriter::with_capacity(alloc, BUFFER, Watched::new(rt.stdout())) else {
         return Err(Failure::Memory);
     };
+    let bad = Bad::new();
+    let (mut reader, mut writer) = (Lined::new(reader, &bad), Replies::new(writer, &bad));
     let told = simulate(&mut reader, &mut writer, &mut session);
-    let has_failed = writer.get_ref().has_failed();
+    let has_failed = writer.get_ref().get_ref().has_failed();
     let flushed = writer.flush();
+    if bad.count() > 0 {
+        let (count, first, line) = (bad.count(), bad.first(), reader.first_bad());
+        // The replies say it where standard error can't.
+        let _ = eprintln!(rt;
+            "foyer-sim: bad lines: {count}, the first of them line {first}: {line}"
+        );
+    }
     match told {
         Ok(()) => flushed.map_err(Failure::Writing),
         Err(error) if has_failed => Err(Failure::Writing(error)),
