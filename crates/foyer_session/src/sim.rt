@@ -8,7 +8,7 @@ ghost use Rattle.foyer_session.specs.Told.{TellsAll, TellsPart};
 
 use crate::session::Session;
 use crate::text::Lines;
-use foyer_core::{AdmitAll, CacheProperties, Finder, TagFinder};
+use foyer_core::{AdmitAll, CacheProperties, Finder, Stats, TagFinder};
 use foyer_policy::{AnyEviction, HashBuilder};
 use std::io;
 use std::io::{BufRead, ErrorKind, Write};
@@ -41,11 +41,12 @@ pub type SimSession<S, I = TagFinder<u64>> = Session<
 ///
 /// What was written is flushed before each read that may wait, and at other times only as the writer does.
 /// It ends at the end of the input. It fails only where the reader or the writer does, or after 2^64
-/// lines; then what was written is a beginning of the text of some first lines.
+/// lines; then what was written is a beginning of the text of some first lines. What the commands come to is counted.
 pub fn simulate<R: BufRead, W: Write, S: HashBuilder, I: Finder<u64>>(
     reader: &mut R,
     writer: &mut W,
     session: &mut SimSession<S, I>,
+    stats: &mut Stats,
 ) -> io::Result<()>
     ensures all { OnOk result ((last : ℕ) × TellsAll (LineTold (meaning_of_session session.old) (λ builder key. S.hash_of builder (u64_input key)))
         (record { now = 0; session = session_of session.old }) (record { now = last; session = session_of session.new }) (R.remaining reader.old) (W.contents writer.old) (W.contents writer.new)) }
@@ -59,7 +60,7 @@ pub fn simulate<R: BufRead, W: Write, S: HashBuilder, I: Finder<u64>>(
         let Some(line) = lines.read(reader, writer)? else {
             return Ok(());
         };
-        tell::tell(writer, session, &mut moment, line)?;
+        tell::tell(writer, session, &mut moment, stats, line)?;
     }
     Err(io::Error::from(ErrorKind::Other))
 }
