@@ -8,7 +8,8 @@ use crate::receipt::{Receipt, Share};
 use foyer_session::{Command, Reply};
 use std::sync::ledger::Ledger;
 
-// Whether the receipts of these shares account for a history. A number is searched in each share by halves.
+// Whether the receipts of these shares account for a history. Each number is looked up in each share by binary
+// search.
 pub(crate) fn account_for<G: Ledger, K, V, P, Q: Compared<K, V, P, C>, C>(
     history: &[(Command<K, V, P, Q, C>, Reply<K, V, P>)],
     shares: &[Share<G, K, V, P, Q, C>],
@@ -46,7 +47,7 @@ fn agree<G: Ledger, K, V, P, Q: Compared<K, V, P, C>, C>(
     each_stands(history, receipts) && numbers_rise(receipts)
 }
 
-// Whether the call of each of these receipts stands in a history.
+// Whether each of these receipts agrees with the history's call at its number.
 fn each_stands<K, V, P, Q: Compared<K, V, P, C>, C>(
     history: &[(Command<K, V, P, Q, C>, Reply<K, V, P>)],
     receipts: &[Receipt<K, V, P, Q, C>],
@@ -61,7 +62,7 @@ fn each_stands<K, V, P, Q: Compared<K, V, P, C>, C>(
     true
 }
 
-// Whether the call of a receipt stands in a history at the receipt's number.
+// Whether a receipt agrees with the history's call at its number.
 fn stands<K, V, P, Q: Compared<K, V, P, C>, C>(
     history: &[(Command<K, V, P, Q, C>, Reply<K, V, P>)],
     receipt: &Receipt<K, V, P, Q, C>,
@@ -74,7 +75,7 @@ fn stands<K, V, P, Q: Compared<K, V, P, C>, C>(
     }
 }
 
-// Whether a call is that of a receipt.
+// Whether a receipt agrees with a call: the commands are equal, and so are the replies, if the receipt has one.
 fn is_call_of<K, V, P, Q: Compared<K, V, P, C>, C>(
     receipt: &Receipt<K, V, P, Q, C>,
     call: &(Command<K, V, P, Q, C>, Reply<K, V, P>),
@@ -90,14 +91,14 @@ fn is_call_of<K, V, P, Q: Compared<K, V, P, C>, C>(
     }
 }
 
-// Whether the numbers of receipts rise.
+// Whether the numbers of these receipts rise.
 fn numbers_rise<K, V, P, Q, C>(receipts: &[Receipt<K, V, P, Q, C>]) -> bool
     ensures { IsTrue result ↔ Rise receipts.now }
 {
     receipts.is_sorted_by(|one, next| one.number < next.number)
 }
 
-// Whether each number below a length is that of one receipt. No receipt has another number.
+// Whether each number below a length is on exactly one receipt. No receipt has another number.
 fn each_once<G: Ledger, K, V, P, Q, C>(shares: &[Share<G, K, V, P, Q, C>], len: usize) -> bool
     requires rise { All (λ s. Rise s.receipts.items) shares.now }
     requires below { All (λ s. All (λ r. r.number < len) s.receipts.items) shares.now }
@@ -111,7 +112,7 @@ fn each_once<G: Ledger, K, V, P, Q, C>(shares: &[Share<G, K, V, P, Q, C>], len: 
     true
 }
 
-// Whether just one receipt of these shares has a number.
+// Whether exactly one receipt of these shares has a number.
 fn is_once<G: Ledger, K, V, P, Q, C>(shares: &[Share<G, K, V, P, Q, C>], number: u64) -> bool
     requires { All (λ s. Rise s.receipts.items) shares.now }
     ensures { IsTrue result ↔ (times (λ s. s.receipts.items) number shares.now ≡ 1) }
@@ -128,7 +129,7 @@ fn is_once<G: Ledger, K, V, P, Q, C>(shares: &[Share<G, K, V, P, Q, C>], number:
     found
 }
 
-// Whether one of these receipts, whose numbers rise, has a number. Then just one has.
+// Whether one of these receipts has a number. Their numbers rise, so at most one has.
 fn has_number<K, V, P, Q, C>(receipts: &[Receipt<K, V, P, Q, C>], number: u64) -> bool
     requires { Rise receipts.now }
     ensures { count_by (λ r. r.number == number) receipts.now ≡ (if result then 1 else 0) }

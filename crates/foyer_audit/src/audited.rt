@@ -23,7 +23,7 @@ mod desk;
 
 use desk::Desk;
 
-/// What an audited shard ends with.
+/// The result of closing an audited shard.
 #[derive(Drop)]
 pub struct Closed<K, V, P, Q, C> {
     /// Whether the receipts of the shares account for the history.
@@ -33,8 +33,10 @@ pub struct Closed<K, V, P, Q, C> {
 }
 
 /// One shard of a cache under a lock, which records every command with its reply, and whose callers keep receipts of
-/// their calls. `G` names the shard's ledger, in which each call is counted. Each time the lock is free its history is
-/// one that a single thread could have made.
+/// their calls.
+///
+/// Whenever the lock is free, the history is one that a single thread could have made. `G` names the shard's ledger,
+/// in which each call is counted.
 #[derive(Drop)]
 pub struct AuditedShard<
     G: Ledger,
@@ -65,10 +67,13 @@ impl<
     C: Clone + Drop + Eq,
     I: Finder<K>,
 > AuditedShard<G, E, K, V, P, S, W, A, Q, C, I> {
-    /// An audited shard with no call in its history, over the shard of this number of a cache of this configuration,
-    /// and a share for each of so many threads. It asks for a blank ledger with a part for each. Refused as a book is:
-    /// where there is to be no shard (F1), then with the policy configuration's first fault (F2 to F6), and else only
-    /// for want of memory (F7).
+    /// Makes an audited shard with an empty history, and a share for each thread.
+    ///
+    /// The shard is that of this number of a cache of this configuration. It requires a blank ledger with a part for
+    /// each thread.
+    ///
+    /// # Errors
+    /// F1 if the cache has no shards; F2 to F6 if the policy's configuration has a fault; F7 if memory runs out.
     pub fn new(
         alloc: Global,
         blank: Blank,
@@ -96,10 +101,14 @@ impl<
         Ok((AuditedShard { desk }, shares))
     }
 
-    /// Carries a command out, as a book does, and leaves a receipt of it in the caller's share. Answers the reply, and
-    /// the number of both in the history. There is no reply where a copy of the recorded one was refused: of the two,
-    /// one for the receipt, either both are there or none. A clone of a key must equal it, and so must a clone of a
-    /// command. Refused only for want of memory (F7), and then no command was made, none recorded and no receipt left.
+    /// Carries out a command, like a book, and leaves a receipt in the caller's share. Returns the reply, and the
+    /// number of the call in the history.
+    ///
+    /// The receipt and the result have copies of the recorded reply; if memory runs out for one of the copies, both
+    /// have none. It requires that clones of keys and of commands equal them.
+    ///
+    /// # Errors
+    /// F7 if memory runs out before the command; nothing was done or recorded, and there is no receipt.
     pub fn call(
         &self,
         rt: &impl Wait,
@@ -120,9 +129,11 @@ impl<
         self.desk.lock(rt).call(share, command)
     }
 
-    /// Ends the shard, and answers its history and whether the receipts of these shares account for it: each receipt's
-    /// command, and its reply where it has one, stands in the history at its number, the numbers of each share rise,
-    /// and all numbers are those below the history's length, each once. Takes no memory.
+    /// Ends the shard, and returns its history and whether the receipts of these shares account for it. It allocates
+    /// nothing.
+    ///
+    /// They do if each receipt agrees with the history's call at its number, the numbers of each share rise, and each
+    /// call of the history has exactly one receipt.
     pub fn close(self, shares: Vec<Share<G, K, V, P, Q, C>>) -> Closed<K, V, P, Q, C>
         ensures yes { IsTrue result.yes ↔ AccountFor (λ share. share.receipts.items) Q.same Q.alike
             result.history.items shares.items }
@@ -150,7 +161,7 @@ impl<
     }
 }
 
-// A share for each of so many threads, with one part each. Only memory can be missing.
+// A share for each thread, with one part each. Fails only with F7.
 fn split<G: Ledger, K: Drop, V: Drop, P: Drop, Q: Drop, C: Drop>(
     alloc: Global,
     rest: ledger::Share<G>,
@@ -171,7 +182,7 @@ fn split<G: Ledger, K: Drop, V: Drop, P: Drop, Q: Drop, C: Drop>(
     Ok(shares)
 }
 
-// All parts and counts of shares in one.
+// Merges all parts and counts of shares into one.
 fn gather<G: Ledger, K: Drop, V: Drop, P: Drop, Q: Drop, C: Drop>(
     empty: ledger::Share<G>,
     shares: Vec<Share<G, K, V, P, Q, C>>,

@@ -13,9 +13,10 @@ use foyer_policy::{Error, Eviction, HashBuilder, Key, Past, Properties, Reason, 
 use foyer_session::{Answer, Command, Leaves, Predicate, Reply, Session};
 use std::alloc::Global;
 
-/// One shard of a cache, as a session over it alone, with the history of its calls. The history is one that a
-/// single thread could have made: it is legal from the opening state of the configuration, and ends in the
-/// session's state.
+/// One shard of a cache, as a session over it alone, with the history of its calls.
+///
+/// The history is one that a single thread could have made: it is legal from the opening state of the configuration,
+/// and ends in the session's state.
 #[derive(Drop)]
 pub struct Book<
     E: Eviction<Config = C>,
@@ -54,9 +55,10 @@ impl<
     C: Clone + Drop + Eq,
     I: Finder<K>,
 > Book<E, K, V, P, S, W, A, Q, C, I> {
-    /// An empty book of the shard of this number of a cache of this configuration, with that shard's capacity.
-    /// Refused as the cache is: where there is to be no shard (F1), then with the policy configuration's first
-    /// fault (F2 to F6), and else only for want of memory (F7).
+    /// Makes an empty book of the shard of this number of a cache of this configuration, with that shard's capacity.
+    ///
+    /// # Errors
+    /// F1 if the cache has no shards; F2 to F6 if the policy's configuration has a fault; F7 if memory runs out.
     pub fn new(alloc: Global, config: RawCacheConfig<C, S, W, A>, shard: usize) -> Result<Self>
         requires within { 0 < config.shards → shard < config.shards }
         ensures opening { IfOk result (λ book. book.opening.value ≡ config) }
@@ -88,10 +90,13 @@ impl<
         })
     }
 
-    /// Carries a command out, records it with its reply, and answers the number of both in the history, from 0. The
-    /// reply is one that a session may give to an equal command in the state before; where the command's key lives in
-    /// another shard it is `NotHeld`, and the state stays. A clone of a key must equal it, and so must a clone of a
-    /// command. Refused only for want of memory (F7), and then nothing has changed.
+    /// Carries out a command, records it with its reply, and returns the number of the call in the history, from 0.
+    ///
+    /// The reply is that of a session to an equal command; if the command's key lives in another shard, it is
+    /// `NotHeld`, and nothing else changes. It requires that clones of keys and of commands equal them.
+    ///
+    /// # Errors
+    /// F7 if memory runs out; nothing has changed.
     pub fn apply(&mut self, command: Command<K, V, P, Q, C>) -> Result<u64>
         requires keys { (k c : K) → K.is_clone k c → K.eq c k ≡ true }
         requires commands { (k c : Command K V P Q C)
@@ -122,7 +127,7 @@ impl<
         Ok(number)
     }
 
-    /// The reply of a number.
+    /// Returns the reply to the call of a number.
     pub fn reply(&self, number: u64) -> Option<&Reply<K, V, P>>
         ensures { MatchOption result (slice_get self.now.history.items number ≡ None)
             (λ reply. (c : Command K V P Q C) × (slice_get self.now.history.items number ≡ Some (c, reply.now))) }
@@ -133,7 +138,7 @@ impl<
         }
     }
 
-    // Two copies of the reply of a number, or none where one is refused.
+    // Two copies of the reply to the call of a number, or none if memory runs out for one.
     pub(crate) fn copies(&self, number: u64) -> (Option<Reply<K, V, P>>, Option<Reply<K, V, P>>)
         ensures { (c : Command K V P Q C) (reply : Reply K V P) → slice_get self.now.history.items number ≡ Some (c, reply)
             → AreCopies ⟦<Reply<K, V, P> as Clone>⟧.is_clone reply result.0 result.1 }
@@ -144,7 +149,7 @@ impl<
         }
     }
 
-    // The history, which is legal from the opening state of a configuration.
+    // Returns the history, which is legal from the opening state of the configuration.
     pub(crate) fn into_history(self) -> Vec<(Command<K, V, P, Q, C>, Reply<K, V, P>)>
         ensures history { result.items ≡ self.history.items }
         ensures legal { ∥ IsHistory (terms_of self.session) Q.picks Q.same
@@ -155,7 +160,7 @@ impl<
     }
 }
 
-// Two copies of a reply, or none where one is refused.
+// Two copies of a reply, or none if memory runs out for one.
 fn two_copies<K: Key, V: Value + Clone, P: Properties + Clone>(
     reply: &Reply<K, V, P>,
 ) -> (Option<Reply<K, V, P>>, Option<Reply<K, V, P>>)
@@ -170,7 +175,7 @@ fn two_copies<K: Key, V: Value + Clone, P: Properties + Clone>(
     (Some(one), Some(other))
 }
 
-// Carries a command of the shard of this number, of so many, out, and leaves the command. Only memory can be missing.
+// Carries out a clone of a command, for the shard of this number of so many. Fails only with F7.
 fn carry_out<
     E: Eviction<Config = C>,
     K: Key,

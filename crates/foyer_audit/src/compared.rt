@@ -1,9 +1,9 @@
-//! When two commands are equal, and when two replies are, as members that ghost fields and proofs can name.
+//! Equality of commands and of replies, under names that contracts can use.
 
 use foyer_session::{Command, Reply};
 
-/// Says in contracts when two commands whose `FlushIf` has this predicate are equal, and when two replies to them are:
-/// where `==` says so. Every predicate is one whose commands can be compared.
+/// Compares commands whose `FlushIf` has this predicate, and replies to them, by `==`. Every predicate with `==`
+/// implements it.
 pub trait Compared<K, V, P, C>: Sized {
     ghost use Rattle.std.specs.Prelude.{◌≡◌, Bool};
     ghost use Rattle.foyer_session.specs.declared.command.Command.{Command};
@@ -15,11 +15,11 @@ pub trait Compared<K, V, P, C>: Sized {
     // whether two replies are equal
     ghost alike: { Reply K V P → Reply K V P → Bool };
 
-    /// Whether two commands are equal.
+    /// Returns whether two commands are equal.
     fn are_same(one: &Command<K, V, P, Self, C>, other: &Command<K, V, P, Self, C>) -> bool
         ensures { result ≡ same one.now other.now };
 
-    /// Whether two replies are equal.
+    /// Returns whether two replies are equal.
     fn are_alike(one: &Reply<K, V, P>, other: &Reply<K, V, P>) -> bool
         ensures { result ≡ alike one.now other.now };
 }

@@ -1,5 +1,5 @@
-//! A shard's session with the history of its calls, which one thread could have made: a book in one thread's hands,
-//! and a book under a lock, whose callers account for their calls.
+//! One shard of a cache with the history of its calls, which a single thread could have made: a `Book` for one
+//! thread, and an `AuditedShard` under a lock, whose callers account for their calls.
 #![tactic(auto)]
 
 mod accounts;

@@ -1,4 +1,4 @@
-//! What a caller keeps of its calls.
+//! The receipts that callers keep.
 
 ghost use Rattle.std.specs.Prelude.{◌≡◌, ◌<◌, [], length};
 
@@ -7,19 +7,21 @@ use std::alloc::Global;
 use std::sync::ledger;
 use std::sync::ledger::Ledger;
 
-/// What is kept of one call.
+/// The receipt of one call.
 #[derive(Drop)]
 pub struct Receipt<K, V, P, Q, C> {
     /// The call's number in the history.
     pub number: u64,
     /// The command.
     pub command: Command<K, V, P, Q, C>,
-    /// A copy of the reply. There is none where a copy was refused, and then the call answered none either.
+    /// A copy of the reply; none if memory ran out for it, and then the call returned none either.
     pub reply: Option<Reply<K, V, P>>,
 }
 
-/// One caller's part in an audited shard: the receipts of its calls, in order, and a part of the shard's ledger, in
-/// which they are counted. A share can be neither copied nor made, and it fits the shard of its ledger alone.
+/// One caller's share of an audited shard: the receipts of its calls, in order, and a part of the shard's ledger, in
+/// which they are counted.
+///
+/// A share can't be copied or made by a caller, and only fits the shard of its ledger.
 #[derive(Drop)]
 pub struct Share<G: Ledger, K, V, P, Q, C> {
     pub(crate) receipts: Vec<Receipt<K, V, P, Q, C>>,
@@ -29,7 +31,7 @@ pub struct Share<G: Ledger, K, V, P, Q, C> {
 }
 
 impl<G: Ledger, K, V, P, Q, C> Share<G, K, V, P, Q, C> {
-    // A share of these parts, which has made no call.
+    // A share of these parts, with no receipts.
     pub(crate) fn of(alloc: Global, mine: ledger::Share<G>) -> Self
         requires parts { 0 < mine.parts }
         requires amount { mine.amount ≡ 0 }
@@ -42,7 +44,7 @@ impl<G: Ledger, K, V, P, Q, C> Share<G, K, V, P, Q, C> {
         }
     }
 
-    /// The receipts of the calls that were made with this share, in their order.
+    /// Returns the receipts of the calls that were made with this share, in order.
     pub fn receipts(&self) -> &[Receipt<K, V, P, Q, C>]
         ensures { result.now ≡ self.now.receipts.items }
     {

@@ -41,9 +41,10 @@ mod shards;
 
 pub use shards::{shard_capacity, shard_of};
 
-/// The records of a cache, found by their keys, in one thread's hands. `N` is what waits for an answer, `R` what
-/// builds a fetch, and `I` the index of each shard. Contracts see a `Core`: its shards, what gives its keys their
-/// hashes and its records their weights, and what admits them.
+/// A cache for one thread: records found by their keys, in shards that evict for themselves.
+///
+/// `N` is the type of waiters, `R` of fetch builders, and `I` of each shard's index. Contracts see a `Core`: the
+/// shards, the hash builder, the weighter and the filter.
 #[derive(Drop)]
 pub struct CacheCore<
     E: Eviction,
@@ -83,9 +84,12 @@ impl<
     ghost use Rattle.foyer_core.specs.Core.{IsNewCore, core_fault};
     ghost use Rattle.foyer_core.specs.Cores.{core_of, fetches_of, meaning_of_core};
 
-    /// A core that holds nothing, whose shards share the capacity: each of the n shards gets one n-th of it,
-    /// rounded down, and the first ones one more, as many as that leaves over. Refused where there is to be no
-    /// shard (F1), then with the policy configuration's first fault, and else only for want of memory (F7).
+    /// Creates an empty core, whose shards share the capacity: each of n shards gets one n-th of it, rounded down,
+    /// and the first shards get one more until nothing is left over.
+    ///
+    /// # Errors
+    /// F1 if there are no shards, then the first fault of the policy's configuration (F2 to F6), then F7 if memory
+    /// runs out.
     pub fn new(alloc: Global, config: RawCacheConfig<E::Config, S, W, A>) -> Result<Self>
         ensures made { IfOk result (λ core. IsNewCore (meaning_of_core core) config (core_of core)) }
         ensures fetches { IfOk result (λ core. All (λ f. f ≡ no_opens) (fetches_of core) × NoneOpen (fetches_of core)) }
@@ -116,7 +120,7 @@ impl<
     ghost use Rattle.foyer_core.specs.Laws.{one_of};
     ghost use Rattle.foyer_core.specs.Steps.{Gets, GivesBack};
 
-    /// A core that holds nothing, as `new` makes it, over indexes of a type that the caller picks.
+    /// Creates an empty core as `new` does, with an index of the caller's choice.
     pub fn with_index(alloc: Global, config: RawCacheConfig<E::Config, S, W, A>) -> Result<Self>
         ensures made { IfOk result (λ core. IsNewCore (meaning_of_core core) config (core_of core)) }
         ensures fetches { IfOk result (λ core. All (λ f. f ≡ no_opens) (fetches_of core) × NoneOpen (fetches_of core)) }
@@ -142,14 +146,14 @@ impl<
         })
     }
 
-    /// The weight that the records may have together.
+    /// Returns the capacity: the weight that the records may have together.
     pub fn capacity(&self) -> usize
         ensures { result ≡ (core_of self.now).capacity }
     {
         self.capacity
     }
 
-    /// How many shards there are. A record stands in the shard of its hash modulo this number.
+    /// Returns the number of shards. A record is in the shard of its hash modulo this number.
     pub fn shards(&self) -> usize
         ensures many { result ≡ length (core_of self.now).shards }
         ensures belong { Belong (core_of self.now).shards }
@@ -157,21 +161,21 @@ impl<
         self.shards.len()
     }
 
-    /// The sum of the weights of the records that a get finds.
+    /// Returns the sum of the weights of the resident records, expired ones included.
     pub fn usage(&self) -> u128
         ensures { result ≡ usage_of_core (meaning_of_core self.now) (core_of self.now) }
     {
         self.load.usage
     }
 
-    /// How many records a get finds.
+    /// Returns the number of resident records, expired ones included.
     pub fn entries(&self) -> u128
         ensures { result ≡ entries_of_core (meaning_of_core self.now) (core_of self.now) }
     {
         self.load.entries
     }
 
-    /// The hash of a key. Equal keys have equal ones.
+    /// Returns the hash of a key. Equal keys have equal hashes.
     #[inline(always)]
     pub fn hash(&self, key: &K) -> u64
         ensures hash { result ≡ S.hash_of (core_of self.now).hash_builder (K.hash_input key.now) }
@@ -181,7 +185,7 @@ impl<
         self.hash_builder.hash_one(key)
     }
 
-    /// What gives the keys their hashes. Each record has the hash of its key.
+    /// Returns the hash builder. Each record has the hash of its key.
     pub fn hash_builder(&self) -> &S
         ensures builder { result.now ≡ (core_of self.now).hash_builder }
         ensures hashed { AreHashed (hashes_of self.now) (core_of self.now).shards }
@@ -189,7 +193,7 @@ impl<
         &self.hash_builder
     }
 
-    /// Whether a get finds a record under the key at a moment. It takes no memory.
+    /// Returns whether a `get` at `now` finds the key. It counts no use, and takes no memory.
     pub fn contains(&self, now: u64, key: &K) -> bool
         ensures { let hash = S.hash_of (core_of self.now).hash_builder (K.hash_input key.now) in
             result ≡ is_some (hit_in (meaning_of_core self.now) now (core_of self.now) (hash, key.now)) }
@@ -198,9 +202,12 @@ impl<
         self.shards[self.shard_index(hash)].contains(now, hash, key)
     }
 
-    /// An entry of the key's record, where there is one that is not expired at a moment, which counts as a handle and as a
-    /// use. Refused at the limit of handles (F9), or where the record could not be shared (F7); then nothing has changed.
-    /// It allocates nothing.
+    /// Returns an entry of the key's record, unless that is expired at `now`. This counts as a use.
+    ///
+    /// Allocates nothing.
+    ///
+    /// # Errors
+    /// F9 if the handle count would pass its limit, F7 if a reference count is full; nothing has changed.
     #[inline(always)]
     pub fn get(&mut self, now: u64, key: &K) -> Result<Option<CoreEntry<K, V, P>>>
         ensures gets { let hash = S.hash_of (core_of self.old).hash_builder (K.hash_input key.now) in
@@ -214,7 +221,7 @@ impl<
         self.shards[place].get(now, hash, key)
     }
 
-    /// Puts a value in under a key, with default properties, as `insert_with_properties` does.
+    /// Inserts a value with default properties, as `insert_with_properties` does.
     pub fn insert(
         &mut self,
         now: u64,
@@ -238,21 +245,22 @@ impl<
         self.insert_with_properties(now, key, value, P::default())
     }
 
-    /// Puts a record in, of the weight that the weighter gives it, and answers an entry of it, one more for each who
-    /// waits for the key, whose fetch is closed, and what left. A clone of the key must equal it. Where the filter,
-    /// which is asked after the weighter, does not admit the record, or it is to be on disk alone, its properties are
-    /// made to say that it is phantom.
+    /// Inserts a record and returns an entry of it, an entry for each caller that waits for the key, and what left.
     ///
-    /// For a plain record others are evicted until its shard's capacity has room for it, or nothing more leaves, those
-    /// first that are expired at the moment, and then the key's record gives way (`Replace`). Afterwards a get of an equal
-    /// key finds the value until it expires, however heavy it is, and the shard's usage is at most its capacity, or the
-    /// record's weight and what was pinned before, whichever is more. A phantom one, which its properties say, is never found: nothing is evicted for
-    /// it, the key's record gives way, it is told as `Remove`, and it leaves (`Evict`) with its last handle.
+    /// The weighter is asked, and then the filter. Records that are expired at `now` are evicted, then the policy's
+    /// victims, until the record fits or nothing more leaves; then it replaces the key's record (`Replace`). A `get`
+    /// right after the insert finds it unless it has expired, however heavy it is. The shard's usage is then at most
+    /// its capacity, or the record's weight and what was pinned before, whichever is more. The key's fetch is closed.
+    /// A clone of the key must equal it.
     ///
-    /// Refused, in this order, where no id is left (F10), the handle would pass the limit (F9), the weight of a
-    /// plain record and the pinned weight of other keys pass a `usize` (F8), and then nothing has changed; or
-    /// for want of memory (F7): then some beginning of the evictions has left, which the refusal hands out. Who
-    /// waits for the key still waits.
+    /// A record that the filter doesn't admit, or whose properties say that it is phantom or to be on disk alone, is
+    /// reported as `Remove`. It replaces the key's record, but nothing is evicted for it, no `get` finds it, and it
+    /// leaves (`Evict`) with its last handle.
+    ///
+    /// # Errors
+    /// F10 if no id is left, F9 if the handle count would pass its limit, F8 if the record's weight and the pinned
+    /// weight of other keys don't fit a `usize`; nothing has changed. F7 if memory runs out; the evictions made so
+    /// far stand and are returned. After any error, callers that wait for the key still wait.
     pub fn insert_with_properties(
         &mut self,
         now: u64,
@@ -287,18 +295,20 @@ impl<
         }
     }
 
-    /// Whether the entry has the core's number and its record has a handle, as each entry has that the core
-    /// made and that was not spent. Cores that are to tell their entries apart need numbers of their own. It
-    /// takes no memory.
+    /// Returns whether the entry has the core's number and a record with a handle, as every unspent entry of this
+    /// core has.
+    ///
+    /// Cores with the same number can't tell their entries apart. Takes no memory.
     pub fn owns(&self, entry: &CoreEntry<K, V, P>) -> bool
         ensures { IsTrue result ↔ Owns (core_of self.now) entry.now }
     {
         self.shards[self.shard_index(entry.hash())].owns(entry)
     }
 
-    /// Takes an entry back: its record has one handle less. With its last handle a record that a get finds is
-    /// released, a phantom one leaves, and any other is forgotten. An entry that the core does not own comes
-    /// back, and nothing has changed. It takes no memory.
+    /// Gives an entry back and returns what left with it.
+    ///
+    /// With its last handle a resident record is released, a phantom one leaves, and any other is forgotten. An entry
+    /// that the core doesn't own comes back as `Err`, and nothing has changed. Takes no memory.
     #[inline(always)]
     pub fn give_back(
         &mut self,

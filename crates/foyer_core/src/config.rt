@@ -1,4 +1,4 @@
-//! What a core is made of.
+//! The configuration of a core.
 
 ghost use Rattle.std.specs.Prelude.{◌≡◌};
 
@@ -6,8 +6,8 @@ use crate::filter::AdmitAll;
 use crate::record::Limits;
 use crate::weighter::UnitWeighter;
 
-/// What a core is made of. `C` is the policy's configuration, `S` the hash builder's type, `W` the weighter's
-/// and `A` the filter's.
+/// The configuration of a core. `C` is the policy's configuration, `S` the hash builder, `W` the weighter and `A` the
+/// filter.
 #[derive(Drop)]
 pub struct RawCacheConfig<C, S, W, A> {
     /// The weight that the records may have together.
@@ -16,25 +16,25 @@ pub struct RawCacheConfig<C, S, W, A> {
     pub shards: usize,
     /// The configuration of each shard's policy.
     pub eviction_config: C,
-    /// Gives each key its number.
+    /// Gives each key its hash.
     pub hash_builder: S,
     /// Gives each record its weight.
     pub weighter: W,
-    /// Says which records a get is to find.
+    /// Says which records are admitted.
     pub filter: A,
-    /// The core's number. Cores that exchange records have different ones.
+    /// The core's number. Give different ones to cores that exchange records.
     pub number: u64,
-    /// The greatest numbers that the core may give.
+    /// The largest handle count and the limit of ids.
     pub limits: Limits,
 }
 
 impl<C: Default, S: Default> RawCacheConfig<C, S, UnitWeighter, AdmitAll> {
-    /// A configuration of this capacity, with defaults for all else: 8 shards, the policy's default
-    /// configuration, the default hash builder of its type, weight 1 for each record, each admitted, number 0
+    /// Creates a configuration of this capacity, with defaults for everything else: 8 shards, the policy's default
+    /// configuration, the default hash builder of its type, weight 1 for each record, every record admitted, number 0
     /// and the default limits.
     ///
-    /// A field that keeps its type is set by struct update: `RawCacheConfig { shards: 1,
-    /// ..RawCacheConfig::new(100) }`.
+    /// A field that keeps its type is set by struct update:
+    /// `RawCacheConfig { shards: 1, ..RawCacheConfig::new(100) }`.
     pub fn new(capacity: usize) -> Self
         ensures capacity { result.capacity ≡ capacity }
         ensures shards { result.shards ≡ 8 }
@@ -57,7 +57,7 @@ impl<C: Default, S: Default> RawCacheConfig<C, S, UnitWeighter, AdmitAll> {
 }
 
 impl<C, S, W: Drop, A: Drop> RawCacheConfig<C, S, W, A> {
-    /// The same configuration with this weighter.
+    /// Sets the weighter.
     pub fn with_weighter<B>(self, weighter: B) -> RawCacheConfig<C, S, B, A>
         ensures weighter { result.weighter ≡ weighter }
         ensures filter { result.filter ≡ self.filter }
@@ -80,7 +80,7 @@ impl<C, S, W: Drop, A: Drop> RawCacheConfig<C, S, W, A> {
         }
     }
 
-    /// The same configuration with this filter.
+    /// Sets the filter.
     pub fn with_filter<B>(self, filter: B) -> RawCacheConfig<C, S, W, B>
         ensures filter { result.filter ≡ filter }
         ensures weighter { result.weighter ≡ self.weighter }

@@ -1,4 +1,4 @@
-//! Entries, which are handles of records, and what left.
+//! Entries, which are handles of records, and records that left.
 
 ghost use Rattle.std.specs.Prelude.{◌≡◌, IsNone, None, Some, false, true, MatchOption, IfSome, IfOk, IfErr};
 ghost use Rattle.foyer_policy.specs.declared.error.Reason.TheVariants.{NoMemory};
@@ -14,7 +14,7 @@ use std::sync::Arc;
 
 mod alike;
 
-/// A record that left. It stays readable.
+/// A record that left. Its data stays readable.
 #[derive(Drop)]
 pub struct Left<K, V, P> {
     number: u64,
@@ -38,7 +38,7 @@ impl<K, V, P> Left<K, V, P> {
         Left { number, id, kept }
     }
 
-    /// The record's number, which its shard gave once.
+    /// Returns the record's id, which its shard gives once.
     #[inline(always)]
     pub fn id(&self) -> u64
         ensures { result ≡ self.now.id }
@@ -46,7 +46,7 @@ impl<K, V, P> Left<K, V, P> {
         self.id
     }
 
-    /// The key.
+    /// Returns the key.
     #[inline(always)]
     pub fn key(&self) -> &K
         ensures { result.now ≡ self.now.kept.key }
@@ -54,7 +54,7 @@ impl<K, V, P> Left<K, V, P> {
         self.kept.key()
     }
 
-    /// The value.
+    /// Returns the value.
     #[inline(always)]
     pub fn value(&self) -> &V
         ensures { result.now ≡ self.now.kept.value }
@@ -62,7 +62,7 @@ impl<K, V, P> Left<K, V, P> {
         self.kept.value()
     }
 
-    /// What came with them.
+    /// Returns the properties.
     #[inline(always)]
     pub fn properties(&self) -> &P
         ensures { result.now ≡ self.now.kept.properties }
@@ -70,7 +70,7 @@ impl<K, V, P> Left<K, V, P> {
         self.kept.properties()
     }
 
-    /// The key's hash.
+    /// Returns the key's hash.
     #[inline(always)]
     pub fn hash(&self) -> u64
         ensures { result ≡ self.now.kept.hash }
@@ -78,7 +78,7 @@ impl<K, V, P> Left<K, V, P> {
         self.kept.hash()
     }
 
-    /// What the record counted against the capacity.
+    /// Returns the weight.
     #[inline(always)]
     pub fn weight(&self) -> usize
         ensures { result ≡ self.now.kept.weight }
@@ -86,7 +86,7 @@ impl<K, V, P> Left<K, V, P> {
         self.kept.weight()
     }
 
-    /// A piece of the record. It takes no memory.
+    /// Returns a piece of the record. Takes no memory.
     pub fn piece(self) -> Piece<K, V, P>
         ensures { result ≡ record { number = self.number; id = self.id; kept = self.kept } }
     {
@@ -95,18 +95,19 @@ impl<K, V, P> Left<K, V, P> {
     }
 }
 
-/// A leave: why a record left, and the record.
+/// Why a record left, and the record.
 pub type Leave<K, V, P> = (Event, Left<K, V, P>);
 
-/// A handle of a record of a core. It must be spent: by `give_back` or `drop_entry` of that core, or by
-/// `discard` where the core is gone.
+/// A handle of a core's record: the data stays readable, even after eviction.
+///
+/// It must be spent, by `give_back` or `drop_entry` of that core, or by `discard` if the core is gone.
 pub struct CoreEntry<K, V, P> {
     number: u64,
     id: u64,
-    // Where the record was when the entry was made. It is a hint alone.
+    // Where the record was when the entry was made. It is only a hint.
     slot: usize,
     kept: Share<K, V, P>,
-    // What is left for a leave.
+    // The share for `left`.
     left: Option<Arc<Body<K, V, P>, Global>>,
     source: Source,
 }
@@ -155,7 +156,7 @@ impl<K: Drop, V: Drop, P: Drop> CoreEntry<K, V, P> {
         self.number
     }
 
-    /// The record's number, which its shard gave once.
+    /// Returns the record's id, which its shard gives once.
     #[inline(always)]
     pub fn id(&self) -> u64
         ensures { result ≡ self.now.id }
@@ -163,7 +164,7 @@ impl<K: Drop, V: Drop, P: Drop> CoreEntry<K, V, P> {
         self.id
     }
 
-    // The record stands in this slot.
+    // Sets the slot of the record.
     #[inline(always)]
     pub(crate) fn set_slot(&mut self, slot: usize)
         ensures { self.new ≡ self.old }
@@ -171,13 +172,13 @@ impl<K: Drop, V: Drop, P: Drop> CoreEntry<K, V, P> {
         self.slot = slot;
     }
 
-    // Where the record may stand.
+    // The slot that the record may be in.
     #[inline(always)]
     pub(crate) fn slot(&self) -> usize {
         self.slot
     }
 
-    /// The key's hash.
+    /// Returns the key's hash.
     #[inline(always)]
     pub fn hash(&self) -> u64
         ensures { result ≡ self.now.kept.hash }
@@ -185,7 +186,7 @@ impl<K: Drop, V: Drop, P: Drop> CoreEntry<K, V, P> {
         self.kept.hash()
     }
 
-    /// The key.
+    /// Returns the key.
     #[inline(always)]
     pub fn key(&self) -> &K
         ensures { result.now ≡ self.now.kept.key }
@@ -193,7 +194,7 @@ impl<K: Drop, V: Drop, P: Drop> CoreEntry<K, V, P> {
         self.kept.key()
     }
 
-    /// The value.
+    /// Returns the value.
     #[inline(always)]
     pub fn value(&self) -> &V
         ensures { result.now ≡ self.now.kept.value }
@@ -201,7 +202,7 @@ impl<K: Drop, V: Drop, P: Drop> CoreEntry<K, V, P> {
         self.kept.value()
     }
 
-    /// What came with them.
+    /// Returns the properties.
     #[inline(always)]
     pub fn properties(&self) -> &P
         ensures { result.now ≡ self.now.kept.properties }
@@ -209,7 +210,7 @@ impl<K: Drop, V: Drop, P: Drop> CoreEntry<K, V, P> {
         self.kept.properties()
     }
 
-    /// What the record counts against the capacity.
+    /// Returns the weight.
     #[inline(always)]
     pub fn weight(&self) -> usize
         ensures { result ≡ self.now.kept.weight }
@@ -217,7 +218,7 @@ impl<K: Drop, V: Drop, P: Drop> CoreEntry<K, V, P> {
         self.kept.weight()
     }
 
-    /// Where the entry came from.
+    /// Returns where the entry came from.
     #[inline(always)]
     pub fn source(&self) -> Source
         ensures { result ≡ self.now.source }
@@ -225,7 +226,7 @@ impl<K: Drop, V: Drop, P: Drop> CoreEntry<K, V, P> {
         self.source
     }
 
-    /// What a leave of the record would show, from a share of its own. It is given once.
+    /// Returns what the record would leave with, once: it has a share of the data for that.
     pub fn left(&mut self) -> Option<Left<K, V, P>>
         ensures given { IfSome result (λ l. (self.old.left ≡ true) × (l ≡ record { number = self.old.number; id = self.old.id; kept = self.old.kept })) }
         ensures once { IsNone result → self.old.left ≡ false }
@@ -241,7 +242,10 @@ impl<K: Drop, V: Drop, P: Drop> CoreEntry<K, V, P> {
         }
     }
 
-    /// A piece of the record. Only memory can be missing (F7); nothing changes.
+    /// Returns a piece of the record.
+    ///
+    /// # Errors
+    /// F7 if a reference count is full.
     pub fn piece(&self) -> Result<Piece<K, V, P>>
         ensures made { IfOk result (λ p. p ≡ record { number = self.now.number; id = self.now.id; kept = self.now.kept }) }
         ensures refused { IfErr result (λ e. e ≡ NoMemory) }
@@ -250,8 +254,8 @@ impl<K: Drop, V: Drop, P: Drop> CoreEntry<K, V, P> {
         Ok(Piece::of_share(self.number, self.id, self.slot, share))
     }
 
-    // An entry like this one, with a share of its own to leave, of a record in this slot. Only memory can be
-    // missing.
+    // An entry like this one, with its own share for `left`, of a record in this slot. F7 if the reference count is
+    // full.
     pub(crate) fn share(&self, slot: usize) -> Result<Self>
         ensures entry { IfOk result (λ e. e ≡ record self.now { left = true }) }
         ensures refused { IfErr result (λ e. e ≡ NoMemory) }
@@ -261,7 +265,7 @@ impl<K: Drop, V: Drop, P: Drop> CoreEntry<K, V, P> {
         Ok(CoreEntry::new(self.number, self.id, slot, kept, left, self.source))
     }
 
-    /// Ends an entry whose core is gone. No core changes.
+    /// Discards an entry whose core is gone. No core changes.
     #[inline(always)]
     pub fn discard(self) {
         let CoreEntry {

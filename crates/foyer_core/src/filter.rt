@@ -1,16 +1,16 @@
-//! Whether a record is to be found.
+//! Admission of records.
 
 ghost use Rattle.std.specs.Prelude.{◌≡◌, true};
 
-/// Says whether a record that is inserted is to be found. It is asked once for each insert, after the weighter.
+/// Says whether an inserted record is admitted. An insert asks it once, after the weighter.
 pub trait Filter<K, V>: Drop {
     ghost use Rattle.std.specs.Prelude.{Bool};
 
-    // what the filter may answer
+    // what the filter may return
     ghost admits: { Self → K → V → Bool → Type 0 };
 
-    /// Whether a record of this key and value comes in as its properties say. One that is not admitted is
-    /// phantom: its entry holds it, and no get finds it.
+    /// Returns whether a record with this key and value is admitted. A record that isn't becomes phantom: its entry
+    /// holds it, and no `get` finds it.
     fn admit(&self, key: &K, value: &V) -> bool
         ensures { admits self.now key.now value.now result };
 }

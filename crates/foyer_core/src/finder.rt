@@ -1,4 +1,4 @@
-//! How a shard finds the slot of a key. The keys are with the records: who asks says which slot has the key.
+//! How a shard finds the slot of a key. The shard says which slot has which key, so a finder needn't keep keys.
 
 ghost use Rattle.std.specs.Prelude.{◌≡◌, ◌≢◌, ℕ, Bool, Some, None, IfErr, OnOk, OnErr};
 ghost use Rattle.std.specs.Map.{update};
@@ -15,8 +15,8 @@ mod trail;
 pub use indexed::Indexed;
 pub use tag_finder::TagFinder;
 
-/// A map from keys to slots, which need not keep the keys. A key always comes with its hash: the pair of both is
-/// looked up, keys being compared by `==`.
+/// A map from keys to slots that needn't keep the keys. Keys are looked up together with their hash, and compared by
+/// `==`.
 pub trait Finder<K: Key>: Drop {
     ghost use Rattle.std.specs.Prelude.{◌≡◌, ℕ, Option, true};
     ghost use Rattle.foyer_core.specs.Indexer.{same_key};
@@ -24,19 +24,22 @@ pub trait Finder<K: Key>: Drop {
     // the slot under a hashed key
     ghost view: { Self → (ℕ × K) → Option ℕ };
 
-    /// No keys.
+    /// Creates a finder with no keys.
     fn empty(alloc: Global) -> Self
         ensures { (q : ℕ × K) → view result q ≡ None };
 
-    /// The slot under a key. The question is asked of slots that keys lead to: whether this key does.
+    /// Returns the slot of a key. `is_its` says of a slot whether this key leads to it, and is asked only of slots in
+    /// the finder.
     fn find<F: Fn(usize) -> bool>(&self, hash: u64, key: &K, is_its: F) -> Option<usize>
         requires asked { (q : ℕ × K) (s : ℕ) → view self.now q ≡ Some s → F.pre is_its s }
         requires told { (q : ℕ × K) (s : ℕ) (answer : Bool) → view self.now q ≡ Some s →
             F.post is_its s answer → answer ≡ same_key K.eq q (hash, key.now) }
         ensures { result ≡ view self.now (hash, key.now) };
 
-    /// Puts a slot, to which no key leads, under a key that leads to the slot `was`, or to none. It is refused for
-    /// want of memory alone, and nothing changes then.
+    /// Sets the slot of a key, which led to the slot `was`, or to none. No key leads to the new slot.
+    ///
+    /// # Errors
+    /// F7 if memory runs out; nothing has changed.
     fn put(&mut self, hash: u64, key: K, was: Option<usize>, slot: usize) -> Result<()>
         requires was { was ≡ view self.old (hash, key) }
         requires new { (q : ℕ × K) → view self.old q ≢ Some slot }
@@ -45,7 +48,7 @@ pub trait Finder<K: Key>: Drop {
         ensures refused { IfErr result (λ e. e ≡ NoMemory) }
         ensures err { OnErr result ((q : ℕ × K) → view self.new q ≡ view self.old q) };
 
-    /// Takes a key out, which leads to this slot. This takes no memory.
+    /// Removes a key that leads to this slot. Takes no memory.
     fn take(&mut self, hash: u64, key: &K, slot: usize)
         requires { view self.old (hash, key.now) ≡ Some slot }
         ensures { (q : ℕ × K) →

@@ -19,10 +19,10 @@ mod answering;
 #[derive(Drop)]
 struct Inflight<N, R> {
     id: u64,
-    // the moment at which it was opened
+    // the time at which it was opened
     opened: u64,
     waiters: Vec<Waiting<N>>,
-    // the first builder that one who waits brought
+    // the first builder that a waiter brought
     later: Option<R>,
 }
 
@@ -35,7 +35,7 @@ impl<N, R> Model for Inflight<N, R> {
 }
 
 impl<N: Drop, R: Drop> Inflight<N, R> {
-    // A new fetch, opened at a moment, for which this one waits. Only memory can be missing.
+    // A new fetch, opened at `now`, with this waiter. F7 if memory runs out.
     fn new(alloc: Global, now: u64, id: u64, waiting: Waiting<N>) -> Result<Self>
         ensures made { IfOk result (λ o. o ≡ record { fetch = id; opened = now; tokens = waiting ∷ []; later = None }) }
         ensures refused { IfErr result (λ e. e ≡ NoMemory) }
@@ -52,7 +52,7 @@ impl<N: Drop, R: Drop> Inflight<N, R> {
         })
     }
 
-    // One more waits. Its builder is kept where none is. Only memory can be missing, and nothing changes then.
+    // Adds a waiter. Its builder is kept if the fetch has none. F7 if memory runs out; nothing has changed.
     fn join(&mut self, waiting: Waiting<N>, later: Option<R>) -> Result<()>
         ensures joined { OnOk result (self.new ≡ joined (Some self.old) self.old.opened self.old.fetch waiting later) }
         ensures refused { IfErr result (λ e. e ≡ NoMemory) }
@@ -68,7 +68,7 @@ impl<N: Drop, R: Drop> Inflight<N, R> {
         Ok(())
     }
 
-    // The builder that is kept, which is kept no longer.
+    // Takes the builder that is kept.
     fn take_later(&mut self) -> Option<R>
         ensures later { result ≡ self.old.later }
         ensures taken { self.new ≡ record self.old { later = None } }
@@ -87,36 +87,37 @@ impl<N: Drop, R: Drop> Inflight<N, R> {
     }
 }
 
-/// What one gets who asks for a key that is missing.
+/// What a caller gets that asks for a missing key.
 #[derive(Drop)]
 pub enum Enqueue<R> {
-    /// Nobody fetches the key: who asks is to do it.
+    /// Nobody fetches the key: the caller leads a new fetch.
     Lead {
-        /// The fetch.
+        /// The fetch's id.
         id: u64,
-        /// With what the one who leads waits.
+        /// The token that the leader waits with.
         token: u64,
-        /// The builder that was brought.
+        /// The leader's own builder.
         required_fetch_builder: Option<R>,
     },
-    /// The key is fetched already.
+    /// The key has an open fetch.
     Wait {
-        /// With what to wait.
+        /// The token to wait with.
         token: u64,
     },
 }
 
-/// What a fetch gets that found nothing.
+/// What a fetch that found nothing goes on with.
 #[derive(Drop)]
 pub enum FetchOrTake<R, N> {
-    /// A builder that one who waits brought: it is to be fetched with.
+    /// A waiter's builder, to fetch with.
     Fetch(R),
-    /// Who waits. The fetch is not open any more.
+    /// The waiters. The fetch is closed.
     Notifiers(Vec<Waiting<N>>),
 }
 
-/// The open fetches of a shard, at most one for each key. A key always comes with its hash: the pair of both is
-/// looked up, keys being compared by `==`. `N` is what waits for an answer, `R` what builds a fetch.
+/// The open fetches of a shard, at most one for each key.
+///
+/// Keys are looked up together with their hash, and compared by `==`. `N` is the type of waiters, `R` of builders.
 #[derive(Drop)]
 pub struct InflightManager<K: Key, N: Drop, R: Drop> {
     index: HashTableIndexer<K>,
@@ -131,7 +132,7 @@ pub struct InflightManager<K: Key, N: Drop, R: Drop> {
 impl<K: Key, N: Drop, R: Drop> InflightManager<K, N, R> {
     ghost use Rattle.foyer_core.specs.Inflights.{opens_of};
 
-    /// No fetch is open, and the next fetch and the next token have the number 0.
+    /// Creates a manager with no open fetch. The first fetch and the first token have the number 0.
     pub fn new(alloc: Global) -> Self
         ensures { opens_of result ≡ no_opens }
     {
@@ -144,9 +145,13 @@ impl<K: Key, N: Drop, R: Drop> InflightManager<K, N, R> {
         }
     }
 
-    /// One more asks for a key that is missing at a moment. It leads a new fetch where none is open, and else waits. Its
-    /// builder is kept where it waits and no builder is kept. Refused where a number is not below `ids` (F10), and
-    /// then only for want of memory (F7); nothing changes.
+    /// Enters a caller that asks at `now` for a missing key.
+    ///
+    /// If the key has no open fetch, one is opened and the caller leads it. Otherwise the caller waits, and its
+    /// builder is kept if the fetch has none.
+    ///
+    /// # Errors
+    /// F10 if a number isn't below `ids`, then F7 if memory runs out; nothing has changed.
     pub fn enqueue(
         &mut self,
         now: u64,
@@ -178,7 +183,7 @@ impl<K: Key, N: Drop, R: Drop> InflightManager<K, N, R> {
         Ok(Enqueue::Wait { token })
     }
 
-    // The first one asks for a key.
+    // Opens a fetch for the first caller that asks for a key.
     fn lead(
         &mut self,
         now: u64,
@@ -218,8 +223,9 @@ impl<K: Key, N: Drop, R: Drop> InflightManager<K, N, R> {
         })
     }
 
-    /// Who waits for a key's fetch, one or more, which is not open any more. None where no fetch of the key is open,
-    /// or another one than was asked for. It takes no memory.
+    /// Closes a key's open fetch and returns its waiters, one or more. With an id, only that fetch.
+    ///
+    /// Returns `None` if no such fetch is open. Takes no memory.
     pub fn take(&mut self, hash: u64, key: &K, id: Option<u64>) -> Option<Vec<Waiting<N>>>
         ensures waited { IfSome result (λ waiters. 0 < length waiters.items) }
         ensures taken { IfSome result (λ waiters. IsSomeAnd (asked id ((opens_of self.old).by_key (hash, key.now))) (λ o. waiters.items ≡ o.tokens)) }
@@ -239,7 +245,7 @@ impl<K: Key, N: Drop, R: Drop> InflightManager<K, N, R> {
         Some(waiters)
     }
 
-    // Who waits for a key's fetch, if one is open, which is closed. It takes no memory.
+    // Closes a key's fetch, if one is open, and returns its waiters. Takes no memory.
     #[inline(always)]
     fn close(&mut self, hash: u64, key: &K) -> Vec<Waiting<N>>
         ensures waiters { result.items ≡ waiters_of ((opens_of self.old).by_key (hash, key.now)) }
@@ -254,8 +260,10 @@ impl<K: Key, N: Drop, R: Drop> InflightManager<K, N, R> {
         }
     }
 
-    /// A fetch of a key found nothing: the builder that is kept, to fetch with. Without one it is not open any more,
-    /// and who waits is answered. None where that fetch is not open. It takes no memory.
+    /// Takes the builder that an open fetch keeps, to go on with after the fetch found nothing. If it keeps none,
+    /// closes the fetch and returns its waiters.
+    ///
+    /// Returns `None` if the fetch isn't open. Takes no memory.
     pub fn fetch_or_take(&mut self, hash: u64, key: &K, id: u64) -> Option<FetchOrTake<R, N>>
         ensures answer { IfSome result (λ answer. IsSomeAnd (asked (Some id) ((opens_of self.old).by_key (hash, key.now))) (λ o. IsFetchOrTake o answer)) }
         ensures none { IfNone result (asked (Some id) ((opens_of self.old).by_key (hash, key.now)) ≡ None) }
@@ -274,7 +282,7 @@ impl<K: Key, N: Drop, R: Drop> InflightManager<K, N, R> {
         Some(FetchOrTake::Notifiers(waiters))
     }
 
-    // The builder that a key's open fetch keeps, which it keeps no longer.
+    // Takes the builder that a key's open fetch keeps.
     fn take_later(&mut self, hash: u64, key: &K) -> Option<R>
         requires { is_some ((opens_of self.old).by_key (hash, key.now)) ≡ true }
         ensures later { (o : OpenFetch N R) → (opens_of self.old).by_key (hash, key.now) ≡ Some o → result ≡ o.later }
@@ -288,7 +296,7 @@ impl<K: Key, N: Drop, R: Drop> InflightManager<K, N, R> {
         inflight.take_later()
     }
 
-    /// Whether this fetch of a key is open. It takes no memory.
+    /// Returns whether this fetch of a key is open. Takes no memory.
     pub fn is_open(&self, hash: u64, key: &K, id: u64) -> bool
         ensures is_open { IsTrue result ↔ IsOpen (opens_of self.now) (hash, key.now) id }
         ensures equal_keys { (other : K) → IsTrue (K.eq key.now other)
@@ -300,8 +308,7 @@ impl<K: Key, N: Drop, R: Drop> InflightManager<K, N, R> {
         }
     }
 
-    /// Whether there is no token for one more who asks for a key, or no number for its fetch: `enqueue` would be
-    /// refused (F10). It takes no memory.
+    /// Returns whether `enqueue` would fail with F10 for this key. Takes no memory.
     pub fn lacks(&self, hash: u64, key: &K, ids: u64) -> bool
         ensures yes { result ≡ true → LacksNumber ids (opens_of self.now) (hash, key.now) }
         ensures no { result ≡ false → HasNumbers ids (opens_of self.now) (hash, key.now) }
@@ -309,7 +316,7 @@ impl<K: Key, N: Drop, R: Drop> InflightManager<K, N, R> {
         self.next_token >= ids || (self.next_fetch >= ids && self.find(hash, key).is_none())
     }
 
-    /// How many wait for a key's fetch: 0 where none is open. It takes no memory.
+    /// Returns how many callers wait for a key's fetch: 0 if none is open. Takes no memory.
     #[inline(always)]
     pub fn waiters(&self, hash: u64, key: &K) -> usize
         ensures { result ≡ length (waiters_of ((opens_of self.now).by_key (hash, key.now))) }
@@ -320,7 +327,7 @@ impl<K: Key, N: Drop, R: Drop> InflightManager<K, N, R> {
         }
     }
 
-    /// Whether no fetch is open. It takes no memory.
+    /// Returns whether no fetch is open. Takes no memory.
     #[inline(always)]
     pub fn is_empty(&self) -> bool
         ensures { IsTrue result ↔ ((q : ℕ × K) → (opens_of self.now).by_key q ≡ None) }

@@ -1,4 +1,4 @@
-//! Records, the index, one shard and the sharded core of a cache.
+//! A cache for one thread: records, the index, one shard and the sharded core.
 #![tactic(auto)]
 
 pub mod cache_core;

@@ -1,4 +1,4 @@
-//! What inserts answer.
+//! What inserts, look-ups and ends of fetches return.
 
 ghost use Rattle.std.specs.Prelude.{◌≡◌, ◌+◌, ◌≤◌, [], Err, IfOk, MatchResult, Ok, Some, true, vec_len, vec_capacity};
 ghost use Rattle.foyer_core.specs.Onto.{shared_out};
@@ -10,10 +10,10 @@ use foyer_policy::{Error, Reason};
 use std::alloc::Global;
 use std::fmt::{self, Debug, Display};
 
-/// Why an insert, a resize or an eviction of all was refused, and what had left by then.
+/// Why an insert, a resize or an eviction failed, and what had left by then.
 #[derive(Drop)]
 pub struct Refused<K: Drop, V: Drop, P: Drop> {
-    /// Why.
+    /// The error.
     pub error: Error,
     /// What left, in order.
     pub leaves: Vec<Leave<K, V, P>>,
@@ -31,29 +31,29 @@ impl<K: Drop, V: Drop, P: Drop> Refused<K, V, P> {
     }
 }
 
-/// Who waits for an answer, with the token that it was given.
+/// A waiter with its token.
 #[derive(Clone, Drop, PartialEq, Eq)]
 pub struct Waiting<N> {
     /// The token's number.
     pub token: u64,
-    /// Who waits.
+    /// The waiter.
     pub waiter: N,
 }
 
-/// How many entries an insert makes beside the first, and for how many more their list has room.
+/// How many entries an insert makes beside the first, and the spare room in their list.
 #[derive(Clone, Copy)]
 pub(crate) struct Further {
     /// The entries.
     pub(crate) count: usize,
-    /// The room beside them.
+    /// The spare room.
     pub(crate) room: usize,
 }
 
-/// Handles of a record that came in.
+/// Handles of an inserted record.
 pub(crate) struct Handles<K: Drop, V: Drop, P: Drop> {
     /// The first.
     pub(crate) entry: CoreEntry<K, V, P>,
-    /// The further ones that were asked for.
+    /// The others.
     pub(crate) others: Vec<CoreEntry<K, V, P>>,
 }
 
@@ -61,14 +61,14 @@ pub(crate) struct Handles<K: Drop, V: Drop, P: Drop> {
 pub enum Outcome<K, V, P> {
     /// An entry each, in the order of the waiters.
     Entries(Vec<CoreEntry<K, V, P>>),
-    /// Nothing.
+    /// No entry.
     None,
-    /// The one refusal.
+    /// The same error each.
     Fault(Error),
 }
 
 impl<K: Drop, V: Drop, P: Drop> Outcome<K, V, P> {
-    // One of the handles each, for which their list has room, or the one refusal.
+    // One of the handles each, for which their list has room, or the same error each.
     fn of(came: Result<Handles<K, V, P>, Error>) -> Self
         requires room { IfOk came (λ made. vec_len made.others + 1 ≤ vec_capacity made.others) }
         ensures { got_of result ≡ shared_out came }
@@ -85,15 +85,15 @@ impl<K: Drop, V: Drop, P: Drop> Outcome<K, V, P> {
 
 /// The waiters of a key, and what they get.
 pub struct Answers<K, V, P, N> {
-    /// Who waited, in order.
+    /// The waiters, in order.
     pub waiters: Vec<Waiting<N>>,
     /// What they get.
     pub outcome: Outcome<K, V, P>,
 }
 
-/// What an insert answers that is not refused.
+/// What an insert returns.
 pub struct Inserted<K: Drop, V: Drop, P: Drop, N> {
-    /// A handle of the record.
+    /// An entry of the record.
     pub entry: CoreEntry<K, V, P>,
     /// What the key's waiters get.
     pub answers: Answers<K, V, P, N>,
@@ -101,9 +101,9 @@ pub struct Inserted<K: Drop, V: Drop, P: Drop, N> {
     pub leaves: Vec<Leave<K, V, P>>,
 }
 
-/// What an insert answers that appends what leaves to a list, and that is not refused.
+/// What an insert returns that appends what leaves to a list.
 pub struct InsertedOnto<K, V, P, N> {
-    /// A handle of the record.
+    /// An entry of the record.
     pub entry: CoreEntry<K, V, P>,
     /// What the key's waiters get.
     pub answers: Answers<K, V, P, N>,
@@ -122,8 +122,8 @@ impl<K, V, P, N> Answers<K, V, P, N> {
         }
     }
 
-    /// Who waited, in order, and what they get: the entries, one for each in the same order, no entry where they get
-    /// nothing, or the one refusal.
+    /// Returns the waiters in order, and what they get: an entry each in the same order, an empty list if they get
+    /// none, or the error that all of them get.
     pub fn into_parts(self) -> (Vec<Waiting<N>>, Result<Vec<CoreEntry<K, V, P>>, Error>)
         ensures waiters { result.0 ≡ self.waiters }
         ensures got { MatchResult result.1 (λ entries. handed_out self.outcome ≡ Ok entries.items) (λ error. handed_out self.outcome ≡ Err error) }
@@ -138,31 +138,31 @@ impl<K, V, P, N> Answers<K, V, P, N> {
     }
 }
 
-/// What a look-up answers that leads to a fetch where the key is missing.
+/// What a look-up returns that fetches a missing key.
 pub enum Lookup<K, V, P, R> {
     /// An entry of the key's record.
     Hit(CoreEntry<K, V, P>),
-    /// Nobody fetches the key: who asks is to do it.
+    /// Nobody fetches the key: the caller leads a new fetch.
     Lead {
-        /// The fetch.
+        /// The fetch's id.
         fetch: u64,
-        /// With what the one who leads waits.
+        /// The token that the leader waits with.
         token: u64,
-        /// The builder that was brought.
+        /// The leader's own builder.
         required: Option<R>,
     },
-    /// The key is fetched already.
+    /// The key has an open fetch.
     Wait {
-        /// With what to wait.
+        /// The token to wait with.
         token: u64,
     },
 }
 
-/// What the end of a fetch answers.
+/// What the end of a fetch returns.
 pub struct Ended<K: Drop, V: Drop, P: Drop, N> {
-    /// Whether the fetch was open. Where it was not, nothing has changed.
+    /// Whether the fetch was open. If it wasn't, nothing has changed.
     pub found: bool,
-    /// What those get who waited.
+    /// What the waiters get.
     pub answers: Answers<K, V, P, N>,
     /// What left, in order.
     pub leaves: Vec<Leave<K, V, P>>,
@@ -183,7 +183,7 @@ impl<K: Drop, V: Drop, P: Drop, N> Ended<K, V, P, N> {
         }
     }
 
-    // The end of a fetch for which these waited: each gets one of the handles, or all get the one refusal.
+    // The end of a fetch with these waiters: each gets one of the handles, or all get the error.
     pub(crate) fn found(
         waiters: Vec<Waiting<N>>,
         came: Result<Handles<K, V, P>, Error>,
@@ -208,7 +208,7 @@ impl<K: Drop, V: Drop, P: Drop> From<Refused<K, V, P>> for Error {
 
     ghost from_gives = { λ refused error. error ≡ refused.error };
 
-    /// Why it was refused. What had left is dropped.
+    /// Returns the error. What had left is dropped.
     fn from(refused: Refused<K, V, P>) -> Error {
         refused.error
     }
@@ -230,17 +230,17 @@ impl<K: Drop, V: Drop, P: Drop> Debug for Refused<K, V, P> {
 
 impl<K: Drop, V: Drop, P: Drop> std::error::Error for Refused<K, V, P> {}
 
-/// With what a fetch completes.
+/// What a fetch completes with.
 #[derive(Drop)]
 pub enum FetchTarget<K, V, P> {
     /// A value of the key, with its properties.
     Entry {
         /// The value.
         value: V,
-        /// What comes with it.
+        /// The properties.
         properties: P,
     },
-    /// What is kept of a record of the key.
+    /// A piece of the key's record.
     Piece(Piece<K, V, P>),
 }
 
@@ -250,7 +250,7 @@ impl<K, V, P: Default> From<V> for FetchTarget<K, V, P> {
 
     ghost from_gives = { λ value target. (properties : P) × P.is_default properties × (target ≡ Entry value properties) };
 
-    /// A value with default properties.
+    /// A value, with default properties.
     fn from(value: V) -> Self {
         FetchTarget::Entry {
             value,

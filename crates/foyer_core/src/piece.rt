@@ -1,4 +1,4 @@
-//! Pieces: what is kept of records outside of their core.
+//! Pieces: the data of records outside of their core.
 
 ghost use Rattle.std.specs.Prelude.{◌≡◌, IfOk, IfErr};
 ghost use Rattle.foyer_policy.specs.declared.error.Reason.TheVariants.{NoMemory};
@@ -10,13 +10,14 @@ use std::alloc::AllocError;
 use std::fmt::{self, Debug};
 use std::marker::Model;
 
-/// What is kept of a record outside of its core: a share of its data, with the core's number and the record's
-/// id. It is no handle: the record may leave.
+/// The data of a record outside of its core, with the core's number and the record's id.
+///
+/// It isn't a handle: the record may leave.
 #[derive(Drop)]
 pub struct Piece<K, V, P> {
     number: u64,
     id: u64,
-    // Where the record was when the piece was made. It is a hint alone.
+    // Where the record was when the piece was made. It is only a hint.
     slot: usize,
     kept: Share<K, V, P>,
 }
@@ -44,7 +45,7 @@ impl<K, V, P> Piece<K, V, P> {
         self.id
     }
 
-    // Where the record may stand.
+    // The slot that the record may be in.
     pub(crate) fn slot(&self) -> usize {
         self.slot
     }
@@ -57,7 +58,7 @@ impl<K, V, P> Piece<K, V, P> {
         kept
     }
 
-    // A piece with this share of a record's data. The record may stand in this slot.
+    // A piece with this share of a record's data. The record may be in this slot.
     pub(crate) fn of_share(number: u64, id: u64, slot: usize, kept: Share<K, V, P>) -> Self
         ensures { result ≡ record { number = number; id = id; kept = kept } }
     {
@@ -71,7 +72,10 @@ impl<K, V, P> Piece<K, V, P> {
 }
 
 impl<K: Drop, V: Drop, P: Drop> Piece<K, V, P> {
-    /// A piece of a record, which has this id in the core of this number. Only memory can be missing (F7).
+    /// Creates a piece of a record that has this id in the core of this number.
+    ///
+    /// # Errors
+    /// F7 if a reference count is full.
     pub fn new(kept: &Record<K, V, P>, number: u64, id: u64) -> Result<Self>
         ensures made { IfOk result (λ p. p ≡ record { number = number; id = id; kept = kept.now.kept }) }
         ensures refused { IfErr result (λ e. e ≡ NoMemory) }
@@ -80,28 +84,28 @@ impl<K: Drop, V: Drop, P: Drop> Piece<K, V, P> {
         Ok(Piece::of_share(number, id, 0, share))
     }
 
-    /// The key.
+    /// Returns the key.
     pub fn key(&self) -> &K
         ensures { result.now ≡ self.now.kept.key }
     {
         self.kept.key()
     }
 
-    /// The value.
+    /// Returns the value.
     pub fn value(&self) -> &V
         ensures { result.now ≡ self.now.kept.value }
     {
         self.kept.value()
     }
 
-    /// What came with them.
+    /// Returns the properties.
     pub fn properties(&self) -> &P
         ensures { result.now ≡ self.now.kept.properties }
     {
         self.kept.properties()
     }
 
-    /// The key's hash.
+    /// Returns the key's hash.
     pub fn hash(&self) -> u64
         ensures { result ≡ self.now.kept.hash }
     {
@@ -114,7 +118,7 @@ impl<K: Drop, V: Drop, P: Drop> Clone for Piece<K, V, P> {
 
     ghost is_clone = { λ p c. c ≡ p };
 
-    /// The same piece, with a share of its own, which is refused where the count of shares is full.
+    /// Returns the same piece with a share of its own. Fails if the reference count is full.
     fn clone(&self) -> std::result::Result<Self, AllocError> {
         let Ok(kept) = self.kept.try_clone() else {
             return Err(AllocError);

@@ -1,4 +1,4 @@
-//! The properties of the records of a plain cache.
+//! The properties of records in a plain cache.
 
 ghost use Rattle.std.specs.Prelude.{◌≡◌};
 ghost use Rattle.foyer_core.specs.State.{coming_in};
@@ -7,14 +7,14 @@ ghost use Rattle.foyer_policy.specs.Moments.{is_expired};
 use foyer_policy::{Age, Hint, Location, Properties};
 use std::marker::Model;
 
-/// Whether a record is a phantom, its hint, and when it expires. Of location and age nothing is kept.
+/// Whether a record is phantom, its hint and its expiry. Location and age aren't kept.
 #[derive(Clone, Debug, Drop, PartialEq, Eq)]
 pub struct CacheProperties {
-    // What is small stands side by side, so that the whole takes two words.
+    // The small fields are side by side, so that the whole takes two words.
     phantom: Option<bool>,
     hint: Hint,
     expires: bool,
-    // 0 where the record does not expire
+    // 0 if the record does not expire
     moment: u64,
 }
 
@@ -39,7 +39,7 @@ impl Default for CacheProperties {
 
     ghost is_default = { λ p. p ≡ record { phantom = None; hint = Normal; expires = None } };
 
-    /// No phantom answer, the normal hint, and no expiry.
+    /// Returns properties with no phantom flag, the normal hint and no expiry.
     fn default() -> CacheProperties {
         CacheProperties {
             phantom: None,
@@ -51,7 +51,7 @@ impl Default for CacheProperties {
 }
 
 impl CacheProperties {
-    /// The same properties with this hint.
+    /// Returns these properties with this hint.
     pub fn with_hint(mut self, hint: Hint) -> Self
         ensures { result ≡ record self { hint = hint } }
     {
@@ -59,15 +59,16 @@ impl CacheProperties {
         self
     }
 
-    /// The hint to the policy.
+    /// Returns the hint to the policy.
     pub fn hint(&self) -> Hint
         ensures { result ≡ self.now.hint }
     {
         self.hint
     }
 
-    /// The same properties, which say that the record expires at this moment, or never where there is none. From that
-    /// moment on a lookup misses the record.
+    /// Returns these properties with the time at which the record expires, or `None` for never.
+    ///
+    /// From that time on no `get` finds the record, and it is the first to be evicted. The unit is that of `now`.
     pub fn with_expiry(self, expires: Option<u64>) -> Self
         ensures { result ≡ record self { expires = expires } }
     {
@@ -83,7 +84,7 @@ impl CacheProperties {
         }
     }
 
-    /// When the record expires, or none.
+    /// Returns the time at which the record expires, or `None` for never.
     #[inline(always)]
     pub fn expiry(&self) -> Option<u64>
         ensures { result ≡ self.now.expires }
@@ -174,7 +175,7 @@ impl Properties for CacheProperties {
     }
 }
 
-/// Whether a record is expired at a moment that expires then, or never where there is none.
+/// Returns whether a record with this expiry is expired at `now`.
 #[inline(always)]
 pub(crate) fn is_expired(expiry: Option<u64>, now: u64) -> bool
     ensures { result ≡ is_expired now expiry }
@@ -185,8 +186,8 @@ pub(crate) fn is_expired(expiry: Option<u64>, now: u64) -> bool
     }
 }
 
-/// The properties with which a record comes in, where this is what the filter answered: where that is no, or the record
-/// is to be on disk alone, they are made to say that it is phantom.
+/// Returns the properties that a record is inserted with: phantom, if the filter didn't admit it or it is to be on
+/// disk alone.
 pub fn marked<P: Properties>(properties: P, admitted: bool) -> P
     ensures { result ≡ coming_in P.location_of P.with_phantom_of admitted properties }
 {

@@ -1,4 +1,4 @@
-//! Records: a key and a value with what the cache keeps beside them.
+//! The data of records, and limits.
 
 ghost use Rattle.std.specs.Prelude.{◌≡◌, ◌+◌, ◌-◌, ◌<◌, ◌≤◌, ◌^◌, ◌↔◌, IfOk, OnErr, IfErr, true, false, IsTrue, Some, None, Ok};
 ghost use Rattle.foyer_policy.specs.declared.error.Reason.TheVariants.{Handles, NoMemory};
@@ -10,22 +10,22 @@ use std::alloc::Global;
 use std::fmt::{self, Debug};
 use std::marker::Model;
 
-/// What a record keeps of what was inserted.
+/// What was inserted, with its hash and its weight.
 #[derive(Debug, Drop)]
 pub struct Data<K, V, P> {
     /// The key.
     pub key: K,
     /// The value.
     pub value: V,
-    /// What came with them.
+    /// The properties.
     pub properties: P,
     /// The key's hash.
     pub hash: u64,
-    /// What the record counts against the capacity.
+    /// The weight.
     pub weight: usize,
 }
 
-/// What a record is in: a set of `IN_INDEXER` and `IN_EVICTION`.
+/// A set of `IN_INDEXER` and `IN_EVICTION`, upstream's flags of a [`Record`]. No cache uses it.
 #[derive(Clone, Copy, Debug, PartialEq, Eq, PartialOrd, Ord, Hash)]
 pub struct Flags {
     in_eviction: bool,
@@ -45,7 +45,7 @@ impl Flags {
         in_indexer: false,
     };
 
-    /// 1 for `IN_INDEXER`, 2 for `IN_EVICTION`, and their sum for both.
+    /// Returns 1 for `IN_INDEXER`, 2 for `IN_EVICTION`, and the sum for both.
     pub fn bits(&self) -> u64
         ensures { result ≡ bits_of self.now }
     {
@@ -54,7 +54,7 @@ impl Flags {
         indexer + eviction
     }
 
-    /// The flags of either.
+    /// Returns the flags that are in either set.
     pub fn union(self, other: Flags) -> Flags
         ensures { result ≡ union_of self other }
     {
@@ -65,7 +65,7 @@ impl Flags {
     }
 }
 
-/// A record. Its data are shared with its entries and pieces.
+/// A record as upstream has it, for callers that use its name. No cache uses it: a shard keeps its records in slots.
 #[derive(Drop)]
 pub struct Record<K, V, P> {
     kept: Share<K, V, P>,
@@ -83,7 +83,10 @@ impl<K, V, P> Model for Record<K, V, P> {
 }
 
 impl<K: Drop, V: Drop, P: Drop> Record<K, V, P> {
-    /// A record with no handle, which is in nothing. Only memory can be missing (F7).
+    /// Creates a record with no handle and no flag.
+    ///
+    /// # Errors
+    /// F7 if memory runs out.
     pub fn new(alloc: Global, kept: Data<K, V, P>) -> Result<Self>
         ensures made { IfOk result (λ r. (r.kept ≡ kept) × (r.place ≡ None) × (r.handles ≡ 0) × (bits_of r.flags ≡ 0)) }
         ensures refused { IfErr result (λ e. e ≡ NoMemory) }
@@ -91,7 +94,7 @@ impl<K: Drop, V: Drop, P: Drop> Record<K, V, P> {
         Ok(Record::of_share(Share::new(alloc, kept)?, 0))
     }
 
-    // A record with this share of its data and so many handles, which is in nothing.
+    // A record with this share of its data, so many handles and no flags.
     #[inline(always)]
     pub(crate) fn of_share(kept: Share<K, V, P>, refs: usize) -> Self
         ensures { (result.kept ≡ kept) × (result.place ≡ None) × (result.handles ≡ refs) × (bits_of result.flags ≡ 0) }
@@ -107,7 +110,7 @@ impl<K: Drop, V: Drop, P: Drop> Record<K, V, P> {
         }
     }
 
-    /// The key.
+    /// Returns the key.
     #[inline(always)]
     pub fn key(&self) -> &K
         ensures { result.now ≡ self.now.kept.key }
@@ -115,7 +118,7 @@ impl<K: Drop, V: Drop, P: Drop> Record<K, V, P> {
         self.kept.key()
     }
 
-    /// The value.
+    /// Returns the value.
     #[inline(always)]
     pub fn value(&self) -> &V
         ensures { result.now ≡ self.now.kept.value }
@@ -123,7 +126,7 @@ impl<K: Drop, V: Drop, P: Drop> Record<K, V, P> {
         self.kept.value()
     }
 
-    /// What came with them.
+    /// Returns the properties.
     #[inline(always)]
     pub fn properties(&self) -> &P
         ensures { result.now ≡ self.now.kept.properties }
@@ -131,7 +134,7 @@ impl<K: Drop, V: Drop, P: Drop> Record<K, V, P> {
         self.kept.properties()
     }
 
-    /// The key's hash.
+    /// Returns the key's hash.
     #[inline(always)]
     pub fn hash(&self) -> u64
         ensures { result ≡ self.now.kept.hash }
@@ -139,7 +142,7 @@ impl<K: Drop, V: Drop, P: Drop> Record<K, V, P> {
         self.kept.hash()
     }
 
-    /// What the record counts against the capacity.
+    /// Returns the weight.
     #[inline(always)]
     pub fn weight(&self) -> usize
         ensures { result ≡ self.now.kept.weight }
@@ -147,7 +150,7 @@ impl<K: Drop, V: Drop, P: Drop> Record<K, V, P> {
         self.kept.weight()
     }
 
-    /// The record's place in the policy, while it is in.
+    /// Returns the record's place in a policy, if it has one.
     #[inline(always)]
     pub fn state(&self) -> Option<Place>
         ensures { result ≡ self.now.place }
@@ -155,7 +158,7 @@ impl<K: Drop, V: Drop, P: Drop> Record<K, V, P> {
         self.state
     }
 
-    /// How many handles the record has.
+    /// Returns the handle count.
     #[inline(always)]
     pub fn refs(&self) -> usize
         ensures { result ≡ self.now.handles }
@@ -163,8 +166,10 @@ impl<K: Drop, V: Drop, P: Drop> Record<K, V, P> {
         self.refs
     }
 
-    /// Adds handles and answers their count, or is refused (F9) where the count would pass `limit`, and
-    /// changes nothing.
+    /// Adds handles and returns their count.
+    ///
+    /// # Errors
+    /// F9 if the count would pass `limit`; nothing has changed.
     #[inline(always)]
     pub fn inc_refs(&mut self, n: usize, limit: usize) -> Result<usize>
         ensures added { IfOk result (λ refs. (refs ≡ self.old.handles + n) × (refs ≤ limit) × (self.new ≡ record self.old { handles = self.old.handles + n })) }
@@ -177,7 +182,7 @@ impl<K: Drop, V: Drop, P: Drop> Record<K, V, P> {
         Ok(self.refs)
     }
 
-    /// Takes handles away, at most as many as there are, and answers how many are left.
+    /// Takes away handles, at most as many as there are, and returns how many are left.
     #[inline(always)]
     pub fn dec_refs(&mut self, n: usize) -> usize
         requires { n ≤ self.old.handles }
@@ -188,7 +193,7 @@ impl<K: Drop, V: Drop, P: Drop> Record<K, V, P> {
         self.refs
     }
 
-    /// Whether all these flags are set.
+    /// Returns whether all these flags are set.
     #[inline(always)]
     pub fn get_flags(&self, flags: Flags) -> bool
         ensures { IsTrue result ↔ Includes self.now.flags flags }
@@ -197,7 +202,7 @@ impl<K: Drop, V: Drop, P: Drop> Record<K, V, P> {
             && (self.flags.in_eviction || !flags.in_eviction)
     }
 
-    /// Sets these flags, or takes them off.
+    /// Sets these flags, or clears them.
     #[inline(always)]
     pub fn set_flags(&mut self, flags: Flags, on: bool)
         ensures { self.new ≡ record self.old { flags = with_flags self.old.flags flags on } }
@@ -210,7 +215,7 @@ impl<K: Drop, V: Drop, P: Drop> Record<K, V, P> {
         }
     }
 
-    /// Says whether the record is in the index.
+    /// Sets or clears `IN_INDEXER`.
     #[inline(always)]
     pub fn set_in_indexer(&mut self, on: bool)
         ensures { self.new ≡ record self.old { flags = record self.old.flags { in_indexer = on } } }
@@ -218,7 +223,7 @@ impl<K: Drop, V: Drop, P: Drop> Record<K, V, P> {
         self.flags.in_indexer = on;
     }
 
-    /// Whether the record is in the index.
+    /// Returns whether `IN_INDEXER` is set.
     #[inline(always)]
     pub fn is_in_indexer(&self) -> bool
         ensures { result ≡ self.now.flags.in_indexer }
@@ -226,7 +231,7 @@ impl<K: Drop, V: Drop, P: Drop> Record<K, V, P> {
         self.flags.in_indexer
     }
 
-    /// Says whether the record is in the policy.
+    /// Sets or clears `IN_EVICTION`.
     #[inline(always)]
     pub fn set_in_eviction(&mut self, on: bool)
         ensures { self.new ≡ record self.old { flags = record self.old.flags { in_eviction = on } } }
@@ -234,7 +239,7 @@ impl<K: Drop, V: Drop, P: Drop> Record<K, V, P> {
         self.flags.in_eviction = on;
     }
 
-    /// Whether the record is in the policy.
+    /// Returns whether `IN_EVICTION` is set.
     #[inline(always)]
     pub fn is_in_eviction(&self) -> bool
         ensures { result ≡ self.now.flags.in_eviction }
@@ -242,7 +247,7 @@ impl<K: Drop, V: Drop, P: Drop> Record<K, V, P> {
         self.flags.in_eviction
     }
 
-    /// Says at which place the policy keeps the record, or that it is out.
+    /// Sets the record's place in a policy.
     #[inline(always)]
     pub fn set_state(&mut self, state: Option<Place>)
         ensures { self.new ≡ record self.old { place = state } }
@@ -250,7 +255,7 @@ impl<K: Drop, V: Drop, P: Drop> Record<K, V, P> {
         self.state = state;
     }
 
-    // One more share of the data. Only memory can be missing.
+    // One more share of the data. F7 if the reference count is full.
     #[inline(always)]
     pub(crate) fn share(&self) -> Result<Share<K, V, P>>
         ensures kept { IfOk result (λ share. share ≡ self.now.kept) }
@@ -268,10 +273,10 @@ impl<K, V, P> Debug for Record<K, V, P> {
     }
 }
 
-/// The greatest numbers that a cache may give.
+/// The largest numbers that a cache may use.
 #[derive(Clone, Copy, Debug, PartialEq, Eq)]
 pub struct Limits {
-    /// The greatest handle count of a record.
+    /// The largest handle count of a record.
     pub handles: usize,
     /// A record id, fetch id or token is given only below this number.
     pub ids: u64,

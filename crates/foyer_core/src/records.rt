@@ -1,4 +1,4 @@
-//! The records of a shard: slots with a record each, and where each id stands.
+//! The records of a shard, by slot and by id.
 
 ghost use Rattle.std.specs.Prelude.{◌≡◌, ℕ, ◌+◌, ◌-◌, ◌<◌, ◌≤◌, ◌^◌, Option, Some, None, IfErr, IfOk, OnOk, OnErr, IsSomeAnd, IsSome, IsTrue, nat_eq, option_copied, option_map, true};
 ghost use Rattle.std.specs.Map.{update};
@@ -19,8 +19,7 @@ use ids::Ids;
 use std::alloc::Global;
 use std::mem;
 
-/// A shard's records. A record is reached by its slot; where each id stands is asked only where a slot
-/// isn't known.
+/// The records of a shard, by slot. The table of ids is asked only if a slot isn't known.
 #[derive(Drop)]
 pub struct Records<K: Drop, V: Drop, P: Drop> {
     slots: Slots<Slot<K, V, P>>,
@@ -41,7 +40,10 @@ impl<K: Drop, V: Drop, P: Drop> Records<K, V, P> {
         }
     }
 
-    /// Makes room for one record. Only memory can be missing.
+    /// Makes room for one record.
+    ///
+    /// # Errors
+    /// F7 if memory runs out.
     #[inline(always)]
     pub fn reserve(&mut self) -> Result<()>
         ensures room { OnOk result (HasRoom self.new) }
@@ -59,7 +61,7 @@ impl<K: Drop, V: Drop, P: Drop> Records<K, V, P> {
         Ok(())
     }
 
-    /// How many slots there are. A new one has this number.
+    /// Returns the number of slots. A new slot gets this number.
     #[inline(always)]
     pub fn count(&self) -> usize
         ensures { result ≡ count_in self.now }
@@ -67,7 +69,7 @@ impl<K: Drop, V: Drop, P: Drop> Records<K, V, P> {
         self.slots.count()
     }
 
-    /// What is in a slot.
+    /// Returns the record in a slot.
     #[inline(always)]
     pub fn get(&self, slot: usize) -> Option<&Slot<K, V, P>>
         ensures { option_copied result ≡ slot_in self.now slot }
@@ -75,14 +77,14 @@ impl<K: Drop, V: Drop, P: Drop> Records<K, V, P> {
         self.slots.get(slot)
     }
 
-    /// The slots with a record, by rising number.
+    /// Returns the slots with a record, by rising number.
     pub fn iter(&self) -> Iter<'_, Slot<K, V, P>>
         ensures { result ≡ entries self.now.slots }
     {
         self.slots.iter()
     }
 
-    /// The slot where an id stands.
+    /// Returns the slot of an id.
     #[inline(always)]
     pub fn stands(&self, id: u64) -> Option<usize>
         ensures { result ≡ number_of self.now id }
@@ -90,7 +92,7 @@ impl<K: Drop, V: Drop, P: Drop> Records<K, V, P> {
         self.ids.get(id)
     }
 
-    /// The slot of an id, which may be the one that is hinted.
+    /// Returns the slot of an id, which may be the hinted one.
     #[inline(always)]
     pub fn find(&self, id: u64, hint: usize) -> Option<usize>
         ensures { result ≡ number_of self.now id }
@@ -103,7 +105,7 @@ impl<K: Drop, V: Drop, P: Drop> Records<K, V, P> {
         self.stands(id)
     }
 
-    /// The slot for a record whose id stands in this one, or nowhere: what is in it is of this id, if anything.
+    /// Returns the slot for a record: the one that its id has, or else the next new one.
     #[inline(always)]
     pub fn slot_for(&self, stands: Option<usize>) -> usize
         ensures slot { result ≡ slot_to self.now stands }
@@ -116,8 +118,8 @@ impl<K: Drop, V: Drop, P: Drop> Records<K, V, P> {
         }
     }
 
-    /// Puts a record in where its id stands, or in a new slot where it does not, and answers the slot and what
-    /// stood there. It asks for room.
+    /// Puts a record into the slot that its id has, or into a new one, and returns the slot and what it had. Needs
+    /// room.
     #[inline(always)]
     pub fn put(
         &mut self,
@@ -142,7 +144,7 @@ impl<K: Drop, V: Drop, P: Drop> Records<K, V, P> {
         }
     }
 
-    // Puts a record with a new id in, and answers its slot.
+    // Enters a record with a new id, and returns its slot.
     #[inline(always)]
     fn put_new(&mut self, slot: Slot<K, V, P>) -> usize
         requires room { HasRoom self.old }
@@ -158,7 +160,7 @@ impl<K: Drop, V: Drop, P: Drop> Records<K, V, P> {
         place
     }
 
-    // Puts a record in a slot of its id, and answers what stood there.
+    // Puts a record into the slot of its id, and returns what was there.
     #[inline(always)]
     fn replace(&mut self, place: usize, slot: Slot<K, V, P>) -> Slot<K, V, P>
         requires { IsSomeAnd (slot_in self.old place) (λ s. s.id ≡ slot.id) }
@@ -172,7 +174,7 @@ impl<K: Drop, V: Drop, P: Drop> Records<K, V, P> {
         mem::replace(found, slot)
     }
 
-    /// Counts so many handles more.
+    /// Counts so many more handles.
     #[inline(always)]
     pub fn add_handles(&mut self, slot: usize, more: usize)
         requires { IsSomeAnd (slot_in self.old slot) (λ s. s.handles + more < 2 ^ 64) }
@@ -191,7 +193,7 @@ impl<K: Drop, V: Drop, P: Drop> Records<K, V, P> {
         found.add_handles(more);
     }
 
-    /// Counts one handle more.
+    /// Counts one more handle.
     #[inline(always)]
     pub fn add_handle(&mut self, slot: usize)
         requires { IsSomeAnd (slot_in self.old slot) (λ s. s.handles + 1 < 2 ^ 64) }
@@ -225,7 +227,7 @@ impl<K: Drop, V: Drop, P: Drop> Records<K, V, P> {
         let _ = found.take_handle();
     }
 
-    /// Lets a slot's record go.
+    /// Removes the record of a slot.
     #[inline(always)]
     pub fn forget(&mut self, slot: usize) -> Slot<K, V, P>
         requires { IsSome (slot_in self.old slot) }
@@ -241,8 +243,8 @@ impl<K: Drop, V: Drop, P: Drop> Records<K, V, P> {
         found
     }
 
-    /// A slot's record is out of the index and the policy: what leaves with it, in the core of this number. It
-    /// stays only while it has a handle.
+    /// Takes the record of a slot out of index and policy, and returns what leaves, in the core of this number. The
+    /// record stays in its slot only while it has a handle.
     #[inline(always)]
     pub fn leave(&mut self, slot: usize, number: u64) -> Left<K, V, P>
         requires { IsSomeAnd (slot_in self.old slot) (λ s. s.resident ≡ true) }
@@ -269,7 +271,7 @@ impl<K: Eq + Drop, V: Drop, P: Drop> Records<K, V, P> {
     ghost use Rattle.foyer_core.specs.Records.{slot_in};
     ghost use Rattle.foyer_core.specs.Table.{has_key};
 
-    /// Whether the record in a slot has this key.
+    /// Returns whether the record in a slot has this key.
     #[inline(always)]
     pub fn has_key(&self, slot: usize, hash: u64, key: &K) -> bool
         ensures { result ≡ has_key K.eq (slot_in self.now slot) (hash, key.now) }

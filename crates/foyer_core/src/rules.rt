@@ -1,4 +1,4 @@
-//! What weighs the records of a cache, and what admits them.
+//! The weighter and the filter of a cache.
 
 ghost use Rattle.std.specs.Prelude.{◌≡◌};
 ghost use Rattle.foyer_core.specs.Rules.{Judges};
@@ -10,18 +10,19 @@ use crate::record::Data;
 use crate::weighter::Weighter;
 use foyer_policy::Properties;
 
-/// What weighs the records of a cache, and what admits them.
+/// The weighter and the filter of a cache.
 #[derive(Clone, Copy, Debug, Drop)]
 pub struct Rules<W, A> {
     /// Says what a record counts against the capacity.
     pub weighter: W,
-    /// Says whether a record is to be found.
+    /// Says whether a record is admitted.
     pub filter: A,
 }
 
 impl<W, A> Rules<W, A> {
-    /// The weight with which a record comes in, and its properties: the weighter is asked, and then the filter. Where it
-    /// does not admit the record, or that is to be on disk alone, they are made to say that it is phantom.
+    /// Returns the weight of a record and the properties it is inserted with: asks the weighter, and then the filter.
+    ///
+    /// A record that isn't admitted, or that is to be on disk alone, gets properties that say that it is phantom.
     #[inline(always)]
     pub fn judge<K, V, P: Properties>(&self, key: &K, value: &V, properties: P) -> (usize, P)
     where
@@ -35,8 +36,7 @@ impl<W, A> Rules<W, A> {
         (weight, marked(properties, admitted))
     }
 
-    /// A record that is to come in, of a key that has this hash, with the weight and the properties that `judge`
-    /// answers.
+    /// Returns the data of a record to insert, with the weight and the properties that `judge` returns.
     #[inline(always)]
     pub fn data<K, V, P: Properties>(
         &self,

@@ -1,4 +1,4 @@
-//! One shard of a cache: the records that it holds, and the fetches that are open for keys that it does not hold.
+//! One shard of a cache: its records and its open fetches.
 
 ghost use Rattle.std.specs.Prelude.{◌≡◌, ◌↔◌, ℕ, ◌<◌, None, OnOk, IfOk, IfErr, IfSome, IsTrue, is_some, length, Err};
 ghost use Rattle.foyer_policy.specs.declared.error.Reason.TheVariants.{NoMemory};
@@ -25,8 +25,10 @@ mod keys;
 mod questions;
 mod resident_pieces;
 
-/// One shard of a cache. Contracts see its `State`: maps from hashed keys to ids and from ids to records; and its
-/// `Opens`: the open fetches by their keys. `N` is what waits for an answer, and `R` what builds a fetch.
+/// One shard of a cache. `N` is the type of waiters, `R` of fetch builders.
+///
+/// Contracts see its `State`, maps from hashed keys to ids and from ids to records, and its `Opens`, the open fetches
+/// by their keys.
 #[derive(Drop)]
 pub struct Shard<E: Eviction, K: Key, V: Value, P: Properties, N: Drop, R: Drop, I: Finder<K>> {
     store: Store<E, K, V, P, I>,
@@ -47,8 +49,10 @@ impl<E: Eviction, K: Key, V: Value, P: Properties, N: Drop, R: Drop, I: Finder<K
     ghost use Rattle.foyer_core.specs.Shards.{state_of, meaning_of, opens_of};
     ghost use Rattle.foyer_core.specs.State.{hit, handles_in, usage_of};
 
-    /// A shard that holds nothing, over an empty index, with no open fetch. `number` is its core's. Refused with
-    /// the policy configuration's first fault, and else only for want of memory (F7).
+    /// Creates an empty shard over an empty index, with no open fetch. `number` is its core's.
+    ///
+    /// # Errors
+    /// The first fault of the policy's configuration (F2 to F6), then F7 if memory runs out.
     pub fn new(
         alloc: Global,
         number: u64,
@@ -79,7 +83,7 @@ impl<E: Eviction, K: Key, V: Value, P: Properties, N: Drop, R: Drop, I: Finder<K
         }
     }
 
-    /// The sum of the weights of the records in the index.
+    /// Returns the sum of the weights of the resident records, expired ones included.
     #[inline(always)]
     pub fn usage(&self) -> usize
         ensures { result ≡ usage_of (meaning_of self.now) (state_of self.now) }
@@ -87,7 +91,7 @@ impl<E: Eviction, K: Key, V: Value, P: Properties, N: Drop, R: Drop, I: Finder<K
         self.store.usage()
     }
 
-    /// How many records are in the index.
+    /// Returns the number of resident records, expired ones included.
     #[inline(always)]
     pub fn entries(&self) -> u64
         ensures { result ≡ length (E.model.order (state_of self.now).view) }
@@ -95,14 +99,15 @@ impl<E: Eviction, K: Key, V: Value, P: Properties, N: Drop, R: Drop, I: Finder<K
         self.store.entries()
     }
 
-    /// Whether a key has a record in the index that is not expired at a moment. It takes no memory.
+    /// Returns whether a `get` at `now` finds the key. It counts no use, and takes no memory.
     pub fn contains(&self, now: u64, hash: u64, key: &K) -> bool
         ensures { result ≡ is_some (hit (meaning_of self.now) now (state_of self.now) (hash, key.now)) }
     {
         self.store.contains(now, hash, key)
     }
 
-    /// Whether the entry has the number of the shard's core and its record has a handle here. It takes no memory.
+    /// Returns whether the entry has the number of the shard's core and its record has a handle here. Takes no
+    /// memory.
     pub fn owns(&self, entry: &CoreEntry<K, V, P>) -> bool
         ensures { IsTrue result ↔ ((entry.now.number ≡ (state_of self.now).number) × (0 < handles_in (state_of self.now) entry.now.id)) }
     {

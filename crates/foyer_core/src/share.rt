@@ -1,4 +1,4 @@
-//! Shares of what records keep.
+//! Shares of the data of records.
 
 ghost use Rattle.std.specs.Prelude.{◌≡◌, IfOk, IfErr};
 ghost use Rattle.std.specs.Arc.{arc_value};
@@ -19,8 +19,8 @@ pub struct Body<K, V, P> {
     properties: P,
 }
 
-/// A share of a record's data. The hash and the weight stand beside the body, since a record of another core
-/// may have the same body with others.
+/// A counted reference to a body. Hash and weight are beside it, since a record of another core may have the same
+/// body with others.
 #[derive(Drop)]
 pub struct Share<K, V, P> {
     body: Arc<Body<K, V, P>, Global>,
@@ -39,7 +39,10 @@ impl<K, V, P> Model for Share<K, V, P> {
 }
 
 impl<K, V, P> Share<K, V, P> {
-    /// The first share of these data. Only memory can be missing.
+    /// Creates the first share of these data.
+    ///
+    /// # Errors
+    /// F7 if memory runs out.
     #[inline(always)]
     pub fn new(alloc: Global, kept: Data<K, V, P>) -> Result<Self>
     where
@@ -69,7 +72,7 @@ impl<K, V, P> Share<K, V, P> {
         }
     }
 
-    /// A share of this body, with this hash and weight.
+    /// Returns a share of this body with this hash and weight.
     #[inline(always)]
     pub fn of_body(body: Arc<Body<K, V, P>, Global>, hash: u64, weight: usize) -> Self
         ensures { result ≡ kept_of (arc_value body) hash weight }
@@ -77,7 +80,7 @@ impl<K, V, P> Share<K, V, P> {
         Share { body, hash, weight }
     }
 
-    /// The same body with another hash and weight.
+    /// Returns the same body with another hash and weight.
     pub fn with(self, hash: u64, weight: usize) -> Self
         ensures { result ≡ record self { hash = hash; weight = weight } }
     {
@@ -85,7 +88,10 @@ impl<K, V, P> Share<K, V, P> {
         Share { body, hash, weight }
     }
 
-    /// One more share of the body alone. Only memory can be missing.
+    /// Returns one more reference to the body.
+    ///
+    /// # Errors
+    /// F7 if the reference count is full.
     #[inline(always)]
     pub fn body(&self) -> Result<Arc<Body<K, V, P>, Global>>
         ensures body { IfOk result (λ body. arc_value body ≡ body_of self.now) }
@@ -97,7 +103,10 @@ impl<K, V, P> Share<K, V, P> {
         }
     }
 
-    /// One more share. Only memory can be missing.
+    /// Returns one more share.
+    ///
+    /// # Errors
+    /// F7 if the reference count is full.
     #[inline(always)]
     pub fn try_clone(&self) -> Result<Self>
         ensures share { IfOk result (λ s. s ≡ self.now) }

@@ -11,8 +11,8 @@ use std::alloc::Global;
 use std::marker::Model;
 use std::sync::Arc;
 
-/// A record with its id. While the record is in the index and the policy, it has one more share of its
-/// body, with which it leaves. Its place in the policy has the number of its slot.
+/// A record with its id. A resident record has one more share of its body, with which it leaves. Its place in the
+/// policy has the number of its slot.
 #[derive(Drop)]
 pub struct Slot<K, V, P> {
     id: u64,
@@ -35,7 +35,7 @@ impl<K, V, P> Model for Slot<K, V, P> {
 }
 
 impl<K: Drop, V: Drop, P: Drop> Slot<K, V, P> {
-    /// A record with this share of its data and so many handles, which is in nothing.
+    /// Creates a record with this share of its data and so many handles, in neither index nor policy.
     #[inline(always)]
     pub fn outside(kept: Share<K, V, P>, id: u64, handles: usize) -> Self
         ensures { result ≡ record { id = id; kept = kept; handles = handles; resident = false } }
@@ -48,7 +48,10 @@ impl<K: Drop, V: Drop, P: Drop> Slot<K, V, P> {
         }
     }
 
-    /// The record is to come in: it gets the share with which it leaves. Only memory can be missing.
+    /// Gives the record the share with which it leaves.
+    ///
+    /// # Errors
+    /// F7 if the reference count is full.
     #[inline(always)]
     pub fn come_in(&mut self) -> Result<()>
         ensures came { OnOk result (self.new ≡ record self.old { resident = true }) }
@@ -59,7 +62,10 @@ impl<K: Drop, V: Drop, P: Drop> Slot<K, V, P> {
         Ok(())
     }
 
-    /// One more share of what the record keeps. Only memory can be missing.
+    /// Returns one more share of the record's data.
+    ///
+    /// # Errors
+    /// F7 if the reference count is full.
     #[inline(always)]
     pub fn share(&self) -> Result<Share<K, V, P>>
         ensures share { IfOk result (λ share. share ≡ self.now.kept) }
@@ -68,7 +74,10 @@ impl<K: Drop, V: Drop, P: Drop> Slot<K, V, P> {
         self.kept.try_clone()
     }
 
-    /// What a leave of the record shows, in the core of this number. Only memory can be missing.
+    /// Returns what the record leaves with, in the core of this number.
+    ///
+    /// # Errors
+    /// F7 if the reference count is full.
     #[inline(always)]
     pub fn left(&self, number: u64) -> Result<Left<K, V, P>>
         ensures left { IfOk result (λ l. l ≡ record { number = number; id = self.now.id; kept = self.now.kept }) }
@@ -134,7 +143,10 @@ impl<K: Drop, V: Drop, P: Drop> Slot<K, V, P> {
         self.leave.is_some()
     }
 
-    /// An entry of the record, not yet counted. Only memory can be missing.
+    /// Returns an entry of the record, not yet counted.
+    ///
+    /// # Errors
+    /// F7 if the reference count is full.
     #[inline(always)]
     pub fn entry(&self, number: u64, slot: usize, source: Source) -> Result<CoreEntry<K, V, P>>
         ensures entry { IfOk result (λ e. e ≡ record { number = number; id = self.now.id; kept = self.now.kept; source = source; left = true }) }
@@ -145,8 +157,10 @@ impl<K: Drop, V: Drop, P: Drop> Slot<K, V, P> {
         Ok(CoreEntry::new(number, self.id, slot, share, left, source))
     }
 
-    /// Entries of the record, not yet counted, as many as are said, in a list with the room that is said. Only
-    /// memory can be missing.
+    /// Returns entries of the record, not yet counted, in a list with spare room, both as `further` says.
+    ///
+    /// # Errors
+    /// F7 if memory runs out or the reference count is full.
     #[inline(always)]
     pub fn entries(
         &self,
@@ -176,7 +190,7 @@ impl<K: Drop, V: Drop, P: Drop> Slot<K, V, P> {
         Ok(entries)
     }
 
-    /// Counts so many handles more.
+    /// Counts so many more handles.
     #[inline(always)]
     pub fn add_handles(&mut self, more: usize)
         requires { self.old.handles + more < 2 ^ 64 }
@@ -185,7 +199,7 @@ impl<K: Drop, V: Drop, P: Drop> Slot<K, V, P> {
         self.handles += more;
     }
 
-    /// Counts one handle less, and answers how many are left.
+    /// Counts one handle less, and returns how many are left.
     #[inline(always)]
     pub fn take_handle(&mut self) -> usize
         requires { 0 < self.old.handles }
@@ -196,7 +210,7 @@ impl<K: Drop, V: Drop, P: Drop> Slot<K, V, P> {
         self.handles
     }
 
-    /// The record is out of the index and the policy: what leaves with it, in the core of this number.
+    /// Takes the record out of index and policy, and returns what leaves, in the core of this number.
     #[inline(always)]
     pub fn leave(&mut self, number: u64) -> Left<K, V, P>
         requires { IsTrue self.old.resident }
@@ -213,7 +227,7 @@ impl<K: Drop, V: Drop, P: Drop> Slot<K, V, P> {
         }
     }
 
-    /// What a record that is let go shows, in the core of this number.
+    /// Returns what leaves, in the core of this number.
     #[inline(always)]
     pub fn into_left(self, number: u64) -> Left<K, V, P>
         ensures { result ≡ record { number = number; id = self.id; kept = self.kept } }

@@ -1,7 +1,7 @@
 //! Values in slots, which are numbered from 0.
 //!
-//! A slot keeps its number and its value until that is removed. Then the slot is free, and is given to the next
-//! value. A new slot is made only where none is free.
+//! A slot keeps its number and its value until that is removed. Then the slot is free, and the next value gets it. A
+//! new slot is made only if none is free.
 
 ghost use Rattle.std.specs.Prelude.{◌≡◌, ◌+◌, ◌≤◌, ◌↔◌, ℕ, [], count_by, length, is_some, IsTrue, IsOk, IsSome, OnOk, OnErr, Some, None, option_copied, nat_eq};
 ghost use Rattle.std.specs.Option.{option_copied_mut};
@@ -18,8 +18,8 @@ use std::alloc::{AllocError, Global};
 use std::marker::Model;
 use std::mem;
 
-/// Values in slots. Only `reserve` takes memory: a value that comes in takes a room that was reserved, and gives it
-/// back when it leaves.
+/// Values in slots. Only `reserve` takes memory: a new value takes a reserved room, and gives it back when it is
+/// removed.
 #[derive(Drop)]
 pub struct Slots<T> {
     cells: Vec<Cell<T>>,
@@ -29,7 +29,7 @@ pub struct Slots<T> {
     vacant: usize,
 }
 
-/// Where a slot's value lies. A free cell leads to the one that was freed before it.
+/// Where a slot's value lies. A free cell leads to the one freed before it.
 #[derive(Drop)]
 enum Cell<T> {
     Free(Link),
@@ -73,7 +73,7 @@ impl<T> Cell<T> {
 impl<T> Slots<T> {
     ghost use Rattle.foyer_core.specs.SlotLends.{lends_get, lends_value};
 
-    /// No slot has a value, and there is no room. It takes no memory.
+    /// Creates slots with no value and no room. Takes no memory.
     pub fn new(alloc: Global) -> Self
         ensures { result ≡ record { slots = []; next = 0; room = 0 } }
     {
@@ -84,8 +84,7 @@ impl<T> Slots<T> {
         }
     }
 
-    /// Makes room for one more value. It is refused only where there was no room and memory is refused, and then
-    /// nothing changes.
+    /// Makes room for one more value. If memory runs out, nothing has changed.
     #[inline(always)]
     pub fn reserve(&mut self) -> Result<(), AllocError>
         ensures room { OnOk result (HasRoomFor self.new 1) }
@@ -102,7 +101,7 @@ impl<T> Slots<T> {
         self.cells.reserve(1)
     }
 
-    /// How many slots have a value.
+    /// Returns how many slots have a value.
     #[inline(always)]
     pub fn len(&self) -> usize
         ensures { result ≡ count_by is_some self.now.slots }
@@ -110,7 +109,7 @@ impl<T> Slots<T> {
         self.cells.len() - self.vacant
     }
 
-    /// How many slots there are, with a value or free. A new one has this number.
+    /// Returns the number of slots, with a value or free. A new slot gets this number.
     #[inline(always)]
     pub fn count(&self) -> usize
         ensures { result ≡ length self.now.slots }
@@ -118,7 +117,7 @@ impl<T> Slots<T> {
         self.cells.len()
     }
 
-    /// The slot that the next value gets.
+    /// Returns the slot that the next value gets.
     #[inline(always)]
     pub fn next_slot(&self) -> usize
         ensures next { result ≡ self.now.next }
@@ -131,7 +130,7 @@ impl<T> Slots<T> {
         }
     }
 
-    /// Puts a value into the next slot, and answers that. There must be room, which the value takes.
+    /// Puts a value into the next slot, and returns the slot. Needs room.
     #[inline(always)]
     pub fn insert(&mut self, value: T) -> usize
         requires { HasRoomFor self.old 1 }
@@ -153,7 +152,7 @@ impl<T> Slots<T> {
         slot
     }
 
-    /// Takes the value out of a slot, which must have one, and gives its room back. The next value gets this slot.
+    /// Removes the value of a slot, which must have one, and gives its room back. The next value gets this slot.
     #[inline(always)]
     pub fn remove(&mut self, slot: usize) -> T
         requires { IsSome (get self.old slot) }
@@ -174,7 +173,7 @@ impl<T> Slots<T> {
         }
     }
 
-    /// The value in a slot, if it has one.
+    /// Returns the value in a slot, if it has one.
     #[inline(always)]
     pub fn get(&self, slot: usize) -> Option<&T>
         ensures { option_copied result ≡ get self.now slot }
@@ -185,7 +184,7 @@ impl<T> Slots<T> {
         }
     }
 
-    /// The value in a slot for writing, if it has one.
+    /// Returns the value in a slot for writing, if it has one.
     #[inline(always)]
     pub fn get_mut(&mut self, slot: usize) -> Option<&mut T>
         ensures* writes_back { sem 𝓛 (lends_get T.row self.entry slot result) }
@@ -216,7 +215,7 @@ impl<T> Slots<T> {
         matches!(self.cells.get(slot), Some(Cell::Taken(_)))
     }
 
-    /// The slots that have a value, with it, by rising number.
+    /// Returns the slots that have a value, with it, by rising number.
     pub fn iter(&self) -> Iter<'_, T>
         ensures { result ≡ entries self.now }
     {

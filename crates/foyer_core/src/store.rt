@@ -1,4 +1,4 @@
-//! What a shard holds: a policy, an index and records.
+//! The policy, the index and the records of a shard.
 
 ghost use Rattle.std.specs.Prelude.{◌≡◌, ℕ, ◌≤◌, None, Some, OnOk, IfOk, IfErr, IfSome, is_some, length, option_map, Err};
 ghost use Rattle.foyer_policy.specs.declared.error.Reason.TheVariants.{NoMemory};
@@ -32,7 +32,8 @@ mod questions;
 mod refusals;
 mod resident_pieces;
 
-/// What a shard holds. Contracts see its `State`: maps from hashed keys to ids and from ids to records.
+/// The policy, the index and the records of a shard. Contracts see its `State`: maps from hashed keys to ids and from
+/// ids to records.
 #[derive(Drop)]
 pub struct Store<E: Eviction, K: Key, V: Value, P: Properties, I: Finder<K>> {
     eviction: E,
@@ -55,8 +56,10 @@ impl<E: Eviction, K: Key, V: Value, P: Properties, I: Finder<K>> Store<E, K, V, 
     ghost use Rattle.foyer_core.specs.Stores.{state_of, meaning_of};
     ghost use Rattle.foyer_core.specs.State.{hit, usage_of};
 
-    /// A store that holds nothing, over an empty index. `number` is its core's. Refused with the policy
-    /// configuration's first fault, and else only for want of memory (F7).
+    /// Creates an empty store over an empty index. `number` is its core's.
+    ///
+    /// # Errors
+    /// The first fault of the policy's configuration (F2 to F6), then F7 if memory runs out.
     pub fn new(
         alloc: Global,
         number: u64,
@@ -91,7 +94,7 @@ impl<E: Eviction, K: Key, V: Value, P: Properties, I: Finder<K>> Store<E, K, V, 
         })
     }
 
-    /// The sum of the weights of the records in the index.
+    /// Returns the sum of the weights of the resident records.
     #[inline(always)]
     pub fn usage(&self) -> usize
         ensures { result ≡ usage_of (meaning_of self.now) (state_of self.now) }
@@ -99,7 +102,7 @@ impl<E: Eviction, K: Key, V: Value, P: Properties, I: Finder<K>> Store<E, K, V, 
         self.usage
     }
 
-    /// How many records are in the index.
+    /// Returns the number of resident records.
     #[inline(always)]
     pub fn entries(&self) -> u64
         ensures { result ≡ length (E.model.order (state_of self.now).view) }
@@ -107,14 +110,14 @@ impl<E: Eviction, K: Key, V: Value, P: Properties, I: Finder<K>> Store<E, K, V, 
         self.entries
     }
 
-    /// Whether a key has a record in the index that is not expired at a moment. It takes no memory.
+    /// Returns whether a `get` at `now` finds the key. Takes no memory.
     pub fn contains(&self, now: u64, hash: u64, key: &K) -> bool
         ensures { result ≡ is_some (hit (meaning_of self.now) now (state_of self.now) (hash, key.now)) }
     {
         self.live_under(now, hash, key).is_some()
     }
 
-    // The record that a key hits at a moment, and the slot where it stands. The slot is read once.
+    // The record that a key hits at `now`, and its slot, which is read once.
     #[inline(always)]
     fn live_under(&self, now: u64, hash: u64, key: &K) -> Option<(usize, &Slot<K, V, P>)>
         ensures led { IfSome result (λ live. I.view self.now.index (hash, key.now) ≡ Some live.0) }

@@ -1,8 +1,8 @@
-//! An index from hashes to slots, in eight bytes for each bucket.
+//! An index from hashes to slots, in eight bytes for each bucket: open addressing with linear probing.
 //!
-//! A tag stands in the bucket of its hash or behind it, with no empty bucket between. Behind the last bucket of a
-//! hash there are further ones for what runs over, so no probe wraps round. A tag that leaves lets those behind it
-//! move back, and so nothing is left of it.
+//! A tag is in the bucket of its hash or behind it, with no empty bucket between. Buckets behind the last home take
+//! what runs over, so no probe wraps round. A removal moves the tags behind it back, so it leaves no marker (Knuth,
+//! The Art of Computer Programming, volume 3, section 6.4, algorithm R).
 
 ghost use Rattle.std.specs.Prelude.{◌≡◌, ℕ, ◌+◌, ◌-◌, ◌^◌, ◌<◌, ◌≤◌, Some, None, true, false, IfSome, IfNone, IfOk, OnOk, OnErr, IsTrue, ◌↔◌, nat_eq};
 ghost use Rattle.std.specs.Bool.{OnTrue, OnFalse};
@@ -20,8 +20,9 @@ const FIRST_BITS: u32 = 2;
 // So many buckets come at a time, at least, behind those that are used.
 const SPARE: usize = 8;
 
-/// Slots under hashes. Of a hash only its fingerprint is kept, 32 of its bits once they are mixed, so a slot that
-/// is found is one that may have this hash. No slot is in twice, and each is below 2^32 - 1.
+/// Slots under hashes, each below 2^32 - 1 and entered once.
+///
+/// Of a hash only a fingerprint of 32 mixed bits is kept, so a slot that is found is one that may have this hash.
 #[derive(Drop)]
 pub struct Tags {
     buckets: Buckets,
@@ -44,7 +45,7 @@ pub struct Tags {
 impl Tags {
     ghost use Rattle.foyer_core.specs.Tags.{slots_of, len_of, HasRoomForTags};
 
-    /// No slots. It takes no memory.
+    /// Creates an index with no slots. Takes no memory.
     pub fn new(alloc: Global) -> Self
         ensures slots { (s : ℕ) → slots_of result s ≡ None }
         ensures len { len_of result ≡ 0 }
@@ -52,7 +53,7 @@ impl Tags {
         Tags::over(alloc, FIRST_BITS)
     }
 
-    /// No slots, and room for so many.
+    /// Creates an index with no slots and room for so many.
     pub fn with_capacity(alloc: Global, slots: usize) -> Result<Self, AllocError>
         ensures slots { IfOk result (λ t. (s : ℕ) → slots_of t s ≡ None) }
         ensures len { IfOk result (λ t. len_of t ≡ 0) }
@@ -79,7 +80,7 @@ impl Tags {
         }
     }
 
-    /// How many slots are in.
+    /// Returns the number of slots.
     #[inline(always)]
     pub fn len(&self) -> usize
         ensures { result ≡ len_of self.now }
@@ -87,7 +88,7 @@ impl Tags {
         self.len
     }
 
-    /// Makes room for so many more slots. Where that is refused, for want of memory, nothing changes.
+    /// Makes room for so many more slots. If memory runs out, nothing has changed.
     #[inline(always)]
     pub fn reserve(&mut self, more: usize) -> Result<(), AllocError>
         ensures room { OnOk result (HasRoomForTags self.new more) }
@@ -112,7 +113,7 @@ impl Tags {
         wanted <= self.buckets.len() && more <= self.limit.saturating_sub(self.len)
     }
 
-    // The same where there are more buckets, or more homes.
+    // Makes room by more buckets, or by more homes.
     #[cold]
     #[inline(never)]
     fn make_room(&mut self, more: usize) -> Result<(), AllocError>
@@ -168,8 +169,8 @@ impl Tags {
         Ok(wider)
     }
 
-    /// A slot under a hash to which the question says yes, or `None` where it says no to each of them. Only slots that
-    /// are in under the hash's fingerprint are asked for.
+    /// Returns a slot under a hash for which `is_it` returns true, or `None`. It is called only for slots with the
+    /// hash's fingerprint.
     #[inline(always)]
     pub fn find<F: Fn(usize) -> bool>(&self, hash: u64, is_it: F) -> Option<usize>
         requires { (s : ℕ) → slots_of self.now s ≡ Some (fingerprint hash) → F.pre is_it s }
@@ -182,7 +183,7 @@ impl Tags {
         Some(found.slot)
     }
 
-    /// Puts a slot in under a hash. The slot is new, and there is room for it. This takes no memory.
+    /// Enters a new slot under a hash, for which there is room. Takes no memory.
     #[inline(always)]
     pub fn insert(&mut self, hash: u64, slot: usize)
         requires room { HasRoomForTags self.old 1 }
@@ -196,7 +197,7 @@ impl Tags {
         self.put(Tag::new(fingerprint_of(hash), slot));
     }
 
-    // Puts a tag in, whose slot is new. There is room for it.
+    // Enters a tag whose slot is new. Needs room.
     #[inline(always)]
     fn put(&mut self, tag: Tag)
         requires named { named (Some tag) ≡ Some tag }
@@ -215,7 +216,7 @@ impl Tags {
         self.len += 1;
     }
 
-    /// Puts another slot in the place of one that is in under a hash. The other one is new. This takes no memory.
+    /// Replaces a slot under a hash by a new one. Takes no memory.
     #[inline(always)]
     pub fn replace(&mut self, hash: u64, slot: usize, other: usize)
         requires there { slots_of self.old slot ≡ Some (fingerprint hash) }
@@ -236,7 +237,7 @@ impl Tags {
         self.buckets.put(found.bucket, Tag::new(fingerprint, other));
     }
 
-    /// Takes a slot out from under a hash, and says whether it was there. This takes no memory.
+    /// Removes a slot from under a hash, and returns whether it was there. Takes no memory.
     #[inline(always)]
     pub fn remove(&mut self, hash: u64, slot: usize) -> bool
         ensures was { IsTrue result ↔ (slots_of self.old slot ≡ Some (fingerprint hash)) }
@@ -258,7 +259,7 @@ impl Tags {
         true
     }
 
-    /// Takes every slot out. The room stays.
+    /// Removes all slots. The room stays.
     pub fn clear(&mut self)
         ensures slots { (s : ℕ) → slots_of self.new s ≡ None }
         ensures len { len_of self.new ≡ 0 }

@@ -2,14 +2,14 @@
 
 ghost use Rattle.std.specs.Prelude.{◌≡◌};
 
-/// Says what a record counts against the capacity. It is asked once for each insert.
+/// Says what a record counts against the capacity. An insert asks it once.
 pub trait Weighter<K, V>: Drop {
     ghost use Rattle.std.specs.Prelude.{ℕ};
 
-    // what the weighter may answer
+    // what the weighter may return
     ghost weighs: { Self → K → V → ℕ → Type 0 };
 
-    /// The weight of a record of this key and value.
+    /// Returns the weight of a record with this key and value.
     fn weigh(&self, key: &K, value: &V) -> usize
         ensures { weighs self.now key.now value.now result };
 }

@@ -1,6 +1,6 @@
 //! Makes caches.
 
-ghost use Rattle.std.specs.Prelude.{◌≡◌};
+ghost use Rattle.std.specs.Prelude.{◌≡◌, None, Some};
 ghost use Rattle.foyer_policy.specs.declared.eviction_config.EvictionConfig.TheVariants.{Lru};
 
 use foyer_core::{AdmitAll, Filter, Limits, RawCacheConfig, UnitWeighter, Weighter};
@@ -22,6 +22,7 @@ pub struct CacheBuilder<
 > {
     config: RawCacheConfig<EvictionConfig, S, W, A>,
     listener: L,
+    time_to_live: Option<u64>,
     keys: PhantomData<(K, V)>,
 }
 
@@ -34,10 +35,12 @@ impl<K: Key, V: Value> CacheBuilder<K, V> {
         ensures eviction_config { result.config.eviction_config ≡ Lru (record { high_priority_pool_ratio = record { num = 9; den = 10 } }) }
         ensures number { result.config.number ≡ 0 }
         ensures limits { result.config.limits ≡ record { handles = 18446744073709551615; ids = 18446744073709551615 } }
+        ensures time_to_live { result.time_to_live ≡ None }
     {
         CacheBuilder {
             config: RawCacheConfig::new(capacity),
             listener: NoListener::new(),
+            time_to_live: None,
             keys: PhantomData,
         }
     }
@@ -84,6 +87,16 @@ where
         self
     }
 
+    /// With a time to live, in the unit of the current time: what is inserted or fetched and says no expiry of its own
+    /// expires at that call's `now + time_to_live` (at most 2^64 - 1). With 0 nothing is found again. A piece keeps what it
+    /// says.
+    pub fn with_time_to_live(mut self, time_to_live: u64) -> Self
+        ensures { result ≡ record self { time_to_live = Some time_to_live } }
+    {
+        self.time_to_live = Some(time_to_live);
+        self
+    }
+
     /// With what gives each key its hash.
     pub fn with_hash_builder<X: HashBuilder>(
         self,
@@ -97,11 +110,13 @@ where
         ensures filter { result.config.filter ≡ self.config.filter }
         ensures number { result.config.number ≡ self.config.number }
         ensures limits { result.config.limits ≡ self.config.limits }
+        ensures time_to_live { result.time_to_live ≡ self.time_to_live }
         ensures listener { result.listener ≡ self.listener }
     {
         let CacheBuilder {
             config,
             listener,
+            time_to_live,
             keys,
         } = self;
         let RawCacheConfig {
@@ -126,6 +141,7 @@ where
                 limits,
             },
             listener,
+            time_to_live,
             keys,
         }
     }
@@ -140,16 +156,19 @@ where
         ensures filter { result.config.filter ≡ self.config.filter }
         ensures number { result.config.number ≡ self.config.number }
         ensures limits { result.config.limits ≡ self.config.limits }
+        ensures time_to_live { result.time_to_live ≡ self.time_to_live }
         ensures listener { result.listener ≡ self.listener }
     {
         let CacheBuilder {
             config,
             listener,
+            time_to_live,
             keys,
         } = self;
         CacheBuilder {
             config: config.with_weighter(weighter),
             listener,
+            time_to_live,
             keys,
         }
     }
@@ -164,16 +183,19 @@ where
         ensures weighter { result.config.weighter ≡ self.config.weighter }
         ensures number { result.config.number ≡ self.config.number }
         ensures limits { result.config.limits ≡ self.config.limits }
+        ensures time_to_live { result.time_to_live ≡ self.time_to_live }
         ensures listener { result.listener ≡ self.listener }
     {
         let CacheBuilder {
             config,
             listener,
+            time_to_live,
             keys,
         } = self;
         CacheBuilder {
             config: config.with_filter(filter),
             listener,
+            time_to_live,
             keys,
         }
     }
@@ -192,15 +214,18 @@ where
         ensures filter { result.config.filter ≡ self.config.filter }
         ensures number { result.config.number ≡ self.config.number }
         ensures limits { result.config.limits ≡ self.config.limits }
+        ensures time_to_live { result.time_to_live ≡ self.time_to_live }
     {
         let CacheBuilder {
             config,
             listener: _,
+            time_to_live,
             keys,
         } = self;
         CacheBuilder {
             config,
             listener,
+            time_to_live,
             keys,
         }
     }

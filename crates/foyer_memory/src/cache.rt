@@ -1,25 +1,26 @@
 //! A cache of any of the five policies.
 
-ghost use Rattle.std.specs.Prelude.{◌≡◌, ◌↔◌, IfErr, IfOk, IsOk};
+ghost use Rattle.std.specs.Prelude.{◌≡◌, ◌↔◌, IfErr, IfOk, IsOk, None};
 ghost use Rattle.foyer_policy.specs.declared.eviction_config.EvictionConfig.TheVariants.{Lru};
 
 use crate::builder::CacheBuilder;
 use crate::kind::Kind;
 use crate::of::Of;
 use crate::policy_config::PolicyConfig;
-use foyer_core::{AdmitAll, CacheProperties, Finder, TagFinder, UnitWeighter};
+use foyer_core::{AdmitAll, CacheProperties, Finder, Stats, TagFinder, UnitWeighter};
 use foyer_policy::{AnyEviction, DefaultHasher, EventListener, Key, Properties, Result, Value};
 use foyer_raw::{FetchTypes, NoFetch, NoListener, NoopPipe, RawCache};
 use std::fmt::{self, Debug};
 use std::sync::{Arc, Wait};
 
+mod blocking;
 mod bulk;
 mod fetching;
 mod insertion;
 mod keys;
+mod walks;
 
 /// A cache that many threads share, of any of the five policies.
-#[derive(Drop)]
 pub struct Cache<
     H,
     K,
@@ -50,6 +51,26 @@ where
     pub(crate) kind: Kind,
 }
 
+impl<H, K, V, S, P, W, A, L, Q, T, I> Drop for Cache<H, K, V, S, P, W, A, L, Q, T, I>
+where
+    H: Drop,
+    K: Key,
+    V: Value,
+    S: Drop,
+    P: Properties,
+    W: Drop,
+    A: Drop,
+    L: EventListener<Key = K, Value = V>,
+    I: Finder<K>,
+    Q: Drop,
+    T: FetchTypes<K, V, P>,
+{
+    // Written by hand, so that a caller's proof doesn't go through all parts at its own types.
+    fn drop(self) {
+        let Cache { cache: _, kind: _ } = self;
+    }
+}
+
 impl<H: Drop, K: Key, V: Value> Cache<H, K, V> {
     /// A builder of a cache of this capacity, as `CacheBuilder::new` makes it.
     pub fn builder(capacity: usize) -> CacheBuilder<K, V>
@@ -58,6 +79,7 @@ impl<H: Drop, K: Key, V: Value> Cache<H, K, V> {
         ensures eviction_config { result.config.eviction_config ≡ Lru (record { high_priority_pool_ratio = record { num = 9; den = 10 } }) }
         ensures number { result.config.number ≡ 0 }
         ensures limits { result.config.limits ≡ record { handles = 18446744073709551615; ids = 18446744073709551615 } }
+        ensures time_to_live { result.time_to_live ≡ None }
     {
         CacheBuilder::new(capacity)
     }
@@ -137,6 +159,16 @@ where
     /// How many records are in, expired or not, one shard after the other.
     pub fn entries(&self) -> u128 {
         self.cache.entries()
+    }
+
+    /// Returns what was counted since the cache was made or `reset_stats` was called, one shard after the other.
+    pub fn stats(&self) -> Stats {
+        self.cache.stats()
+    }
+
+    /// Sets all counts to 0, one shard after the other.
+    pub fn reset_stats(&self) {
+        self.cache.reset_stats();
     }
 
     /// What gives the keys their hashes.

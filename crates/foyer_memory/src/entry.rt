@@ -16,7 +16,6 @@ use std::sync::Wait;
 
 /// A handle of a record of a cache of any of the five policies. Its drop gives the handle back under its shard's lock,
 /// and then tells what left with it. Contracts see its `entry` as what it holds, and its `kind`.
-#[derive(Drop)]
 pub struct CacheEntry<
     H,
     K,
@@ -45,6 +44,26 @@ where
 {
     pub(crate) entry: RawCacheEntry<H, AnyEviction, K, V, S, P, W, A, L, Q, T::Required, I>,
     pub(crate) kind: Kind,
+}
+
+impl<H, K, V, S, P, W, A, L, Q, T, I> Drop for CacheEntry<H, K, V, S, P, W, A, L, Q, T, I>
+where
+    H: Wait + Drop,
+    K: Key,
+    V: Value,
+    S: Drop,
+    P: Properties,
+    W: Drop,
+    A: Drop,
+    L: EventListener<Key = K, Value = V>,
+    I: Finder<K>,
+    Q: Pipe<Key = K, Value = V, Properties = P>,
+    T: FetchTypes<K, V, P>,
+{
+    // Written by hand, so that a caller's proof doesn't go through all parts at its own types.
+    fn drop(self) {
+        let CacheEntry { entry: _, kind: _ } = self;
+    }
 }
 
 impl<H, K, V, S, P, W, A, L, Q, T, I> CacheEntry<H, K, V, S, P, W, A, L, Q, T, I>

@@ -37,7 +37,6 @@ pub type FetchTask<
 > = RawFetch<H, AnyEviction, K, V, S, P, W, A, L, Q, T, I>;
 
 /// A future of an entry, which a hit has at once.
-#[derive(Drop)]
 pub struct GetOrFetch<
     H,
     K,
@@ -66,6 +65,26 @@ where
 {
     pub(crate) look: RawGetOrFetch<H, AnyEviction, K, V, S, P, W, A, L, Q, T::Required, I>,
     pub(crate) kind: Kind,
+}
+
+impl<H, K, V, S, P, W, A, L, Q, T, I> Drop for GetOrFetch<H, K, V, S, P, W, A, L, Q, T, I>
+where
+    H: Wait + Drop,
+    K: Key,
+    V: Value,
+    S: Drop,
+    P: Properties,
+    W: Drop,
+    A: Drop,
+    L: EventListener<Key = K, Value = V>,
+    I: Finder<K>,
+    Q: Pipe<Key = K, Value = V, Properties = P>,
+    T: FetchTypes<K, V, P>,
+{
+    // Written by hand, so that a caller's proof doesn't go through all parts at its own types.
+    fn drop(self) {
+        let GetOrFetch { look: _, kind: _ } = self;
+    }
 }
 
 impl<H, K, V, S, P, W, A, L, Q, T, I> GetOrFetch<H, K, V, S, P, W, A, L, Q, T, I>

@@ -2,7 +2,9 @@
 #![tactic(auto)]
 
 pub mod builder;
+pub mod bytes;
 pub mod cache;
+pub mod closures;
 pub mod entry;
 pub mod fetch;
 pub mod kind;
@@ -11,10 +13,12 @@ pub mod policy_config;
 pub mod types;
 
 pub use builder::CacheBuilder;
+pub use bytes::{ByteLen, Bytes};
 pub use cache::Cache;
+pub use closures::{AdmitBy, ListenBy, WeighBy};
 pub use entry::CacheEntry;
 pub use fetch::{FetchTask, GetOrFetch};
-pub use foyer_core::{CacheProperties, FetchTarget, Filter, Piece, Weighter};
+pub use foyer_core::{CacheProperties, FetchTarget, Filter, Piece, Stats, Weighter};
 pub use foyer_policy::{
     Eviction, EvictionConfig, FifoConfig, LfuConfig, LruConfig, S3FifoConfig, SieveConfig,
 };
@@ -26,7 +30,7 @@ pub use kind::Kind;
 pub use of::Of;
 pub use policy_config::PolicyConfig;
 pub use types::{
-    FifoCache, FifoCacheEntry, FifoGetOrFetch, LfuCache, LfuCacheEntry, LfuGetOrFetch, LruCache,
-    LruCacheEntry, LruGetOrFetch, S3FifoCache, S3FifoCacheEntry, S3FifoGetOrFetch, SieveCache,
+    FetchCache, FifoCache, FifoCacheEntry, FifoGetOrFetch, LfuCache, LfuCacheEntry, LfuGetOrFetch, LruCache,
+    LruCacheEntry, LruGetOrFetch, PlainCache, S3FifoCache, S3FifoCacheEntry, S3FifoGetOrFetch, SieveCache,
     SieveCacheEntry, SieveGetOrFetch,
 };

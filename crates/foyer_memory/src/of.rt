@@ -117,11 +117,9 @@ where
     ghost from_gives = { λ of made. made ≡ record of.inner { kind = C.kind } };
 
     fn from(of: Of<C, Cache<H, K, V, S, P, W, A, L, Q, T, I>>) -> Self {
-        let Cache { cache, kind: _ } = of.inner;
-        Cache {
-            cache,
-            kind: C::kind(),
-        }
+        let mut cache = of.inner;
+        cache.kind = C::kind();
+        cache
     }
 }
 
@@ -146,11 +144,9 @@ where
     ghost from_gives = { λ of made. made ≡ record of.inner { kind = C.kind } };
 
     fn from(of: Of<C, CacheEntry<H, K, V, S, P, W, A, L, Q, T, I>>) -> Self {
-        let CacheEntry { entry, kind: _ } = of.inner;
-        CacheEntry {
-            entry,
-            kind: C::kind(),
-        }
+        let mut entry = of.inner;
+        entry.kind = C::kind();
+        entry
     }
 }
 
@@ -175,10 +171,8 @@ where
     ghost from_gives = { λ of made. made ≡ record of.inner { kind = C.kind } };
 
     fn from(of: Of<C, GetOrFetch<H, K, V, S, P, W, A, L, Q, T, I>>) -> Self {
-        let GetOrFetch { look, kind: _ } = of.inner;
-        GetOrFetch {
-            look,
-            kind: C::kind(),
-        }
+        let mut look = of.inner;
+        look.kind = C::kind();
+        look
     }
 }

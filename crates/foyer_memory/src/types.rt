@@ -6,7 +6,36 @@ use crate::fetch::GetOrFetch;
 use crate::of::Of;
 use foyer_core::{AdmitAll, CacheProperties, TagFinder, UnitWeighter};
 use foyer_policy::{DefaultHasher, FifoConfig, LfuConfig, LruConfig, S3FifoConfig, SieveConfig};
-use foyer_raw::{NoFetch, NoListener, NoopPipe};
+use foyer_raw::{Direct, NoFetch, NoListener, NoopPipe};
+
+/// A cache of which only the parts are written that most programs choose: `get_or_insert_with` makes what is missing.
+pub type PlainCache<
+    H,
+    K,
+    V,
+    W = UnitWeighter,
+    L = NoListener<K, V>,
+    S = DefaultHasher,
+    P = CacheProperties,
+    A = AdmitAll,
+    Q = NoopPipe<K, V, P>,
+    I = TagFinder<K>,
+> = Cache<H, K, V, S, P, W, A, L, Q, NoFetch, I>;
+
+/// A cache that fetches what is missing by futures of the type `R`: `get_or_fetch` and `get_or_fetch_blocking` take one.
+pub type FetchCache<
+    H,
+    K,
+    V,
+    R,
+    W = UnitWeighter,
+    L = NoListener<K, V>,
+    S = DefaultHasher,
+    P = CacheProperties,
+    A = AdmitAll,
+    Q = NoopPipe<K, V, P>,
+    I = TagFinder<K>,
+> = Cache<H, K, V, S, P, W, A, L, Q, Direct<R>, I>;
 
 /// A cache whose policy is first in, first out.
 pub type FifoCache<

@@ -1,4 +1,4 @@
-//! A policy that is any of the five, as its configuration says.
+//! A policy that is any of the five.
 
 ghost use Rattle.foyer_policy.specs.AnyKinds.{KeepsKind};
 
@@ -14,7 +14,7 @@ use crate::sieve::Sieve;
 use crate::types::Item;
 use std::alloc::Global;
 
-/// One of the five policies. Which one it is comes of the configuration, and never changes.
+/// One of the five policies. Its configuration says which, and that never changes.
 #[derive(Drop)]
 pub enum AnyEviction {
     /// First in, first out.
@@ -333,7 +333,7 @@ impl Eviction for AnyEviction {
     }
 }
 
-/// The law that no call makes a policy one of another kind. This function does nothing; the law is its contract.
+/// The law that no call changes which of the five a policy is. The function does nothing; the law is its contract.
 pub fn kinds_stay()
     ensures { KeepsKind }
 {}

@@ -1,4 +1,4 @@
-//! What every policy's state and configuration can do.
+//! The bounds of every policy's state and configuration.
 
 use serde::{DeserializeOwned, Serialize};
 
@@ -7,8 +7,7 @@ pub trait State: Default + Drop + 'static {}
 
 impl<T: Default + Drop + 'static> State for T {}
 
-/// A policy's configuration, with its defaults, which can be written and read. Every fitting type
-/// is one.
+/// A policy's configuration, which has a default and can be serialized. Every fitting type is one.
 pub trait Config: Clone + Default + Drop + Serialize + DeserializeOwned + 'static {}
 
 impl<T: Clone + Default + Drop + Serialize + DeserializeOwned + 'static> Config for T {}

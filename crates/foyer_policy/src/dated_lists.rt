@@ -19,12 +19,11 @@ use std::alloc::Global;
 use std::marker::Model;
 use tracking::Tracking;
 
-/// `N` lists of items, numbered from 0, as [`Lists`] are. The first item of a list that is due at a moment is found in
-/// steps that grow with the logarithm of how many items expire, and at once where none does.
+/// `N` lists of items, numbered from 0, as [`Lists`] are. The first item of a list that is due is found in steps that
+/// grow with the logarithm of how many items expire, and at once if none does.
 ///
-/// The dates are kept from the first call of `reserve` or `reserve_to` on that meets an item that expires. Until then,
-/// while memory for them is missing, and beyond 2^32 - 1 nodes, a search walks along the list. A value that is in keeps
-/// its item.
+/// Dates are kept from the first `reserve` or `reserve_to` after an item that expires was inserted. Until then, while
+/// memory for them is refused, and beyond 2^32 - 1 nodes, a search walks along the list. A value keeps its item.
 #[derive(Drop)]
 pub(crate) struct DatedLists<T: HasItem, const N: usize> {
     lists: Lists<T, N>,
@@ -47,8 +46,8 @@ impl<T: HasItem, const N: usize> Model for DatedLists<T, N> {
 }
 
 impl<T: HasItem, const N: usize> DatedLists<T, N> {
-    /// Empty lists with no room, which take no memory. The first ones, `searched` of them, are those in which `first_due` is
-    /// quick: of the others no dates are kept.
+    /// Creates empty lists with no room. Takes no memory. `first_due` is quick in the first `searched` of them; of
+    /// the others no dates are kept.
     pub(crate) fn new(alloc: Global, searched: u8) -> Self
         ensures lists { result.lists ≡ replicate N [] }
         ensures room { result.room ≡ 0 }
@@ -62,8 +61,10 @@ impl<T: HasItem, const N: usize> DatedLists<T, N> {
         }
     }
 
-    /// Makes room for `more` values beside those that are in, and for the date of one. Only memory can be missing (F7);
-    /// the lists are as they were, and neither the room nor the span is less.
+    /// Makes room for `more` values beside those in the lists, and for one date.
+    ///
+    /// # Errors
+    /// F7 if memory runs out. The lists are as they were, and neither the room nor the span is less.
     #[inline(always)]
     pub(crate) fn reserve(&mut self, more: usize) -> Result<()>
         ensures room { OnOk result (more ≤ self.new.room) }
@@ -79,8 +80,10 @@ impl<T: HasItem, const N: usize> DatedLists<T, N> {
         reserved
     }
 
-    /// Makes nodes until there are so many, and so a place for each number below `wanted`. Only memory can be missing
-    /// (F7); the lists are as they were, and neither the room nor the span is less.
+    /// Makes nodes until there are `wanted`, so that each number below it is a place.
+    ///
+    /// # Errors
+    /// F7 if memory runs out. The lists are as they were, and neither the room nor the span is less.
     #[inline(always)]
     pub(crate) fn reserve_to(&mut self, wanted: usize) -> Result<()>
         ensures enough { OnOk result (wanted ≤ self.new.span) }
@@ -96,7 +99,7 @@ impl<T: HasItem, const N: usize> DatedLists<T, N> {
         reserved
     }
 
-    /// The place that `Lists::next_place` answers. A room must be reserved.
+    /// Returns the place that `Lists::next_place` returns. Needs reserved room.
     #[inline(always)]
     pub(crate) fn next_place(&self) -> Place
         requires { 0 < self.now.room }
@@ -107,8 +110,7 @@ impl<T: HasItem, const N: usize> DatedLists<T, N> {
         self.lists.next_place()
     }
 
-    /// Puts a value at the end of a list, at a place that the caller chooses: one below the span, where
-    /// nothing stands. `list` is below `N`.
+    /// Appends a value to a list at a free place below the span, which the caller chooses. `list` is below `N`.
     #[inline(always)]
     pub(crate) fn push_back_at(&mut self, list: usize, place: Place, mut value: T)
         requires list { list < N }
@@ -127,8 +129,7 @@ impl<T: HasItem, const N: usize> DatedLists<T, N> {
         self.lists.push_back_at(list, place, value);
     }
 
-    /// Takes the first value of a list out, where there is one, and gives its room back. `list` is
-    /// below `N`.
+    /// Removes the first value of a list, if there is one, and gives its room back. `list` is below `N`.
     #[inline(always)]
     pub(crate) fn pop_front(&mut self, list: usize) -> Option<T>
         requires { list < N }
@@ -146,8 +147,7 @@ impl<T: HasItem, const N: usize> DatedLists<T, N> {
         self.lists.pop_front(list)
     }
 
-    /// Takes the first value of a list out, where there is one, and answers it with the place that it
-    /// had. `list` is below `N`.
+    /// Removes the first value of a list, if there is one, and returns it with its place. `list` is below `N`.
     #[inline(always)]
     pub(crate) fn pop_front_at(&mut self, list: usize) -> Option<(Place, T)>
         requires { list < N }
@@ -167,8 +167,7 @@ impl<T: HasItem, const N: usize> DatedLists<T, N> {
         self.lists.pop_front_at(list)
     }
 
-    /// Takes the value at a place out of its list, and gives its room back. The place must hold a
-    /// value.
+    /// Removes the value at a place, and gives its room back. The place must have a value.
     #[inline(always)]
     pub(crate) fn remove(&mut self, place: Place) -> T
         requires { IsSome (find place self.old.lists) }
@@ -185,8 +184,8 @@ impl<T: HasItem, const N: usize> DatedLists<T, N> {
         self.lists.remove(place)
     }
 
-    /// Moves the value at a place to the end of a list, which may be its own. It keeps its place.
-    /// The place must hold a value, and `list` is below `N`.
+    /// Moves the value at a place to the end of a list, which may be its own. It keeps its place. The place must have
+    /// a value, and `list` is below `N`.
     #[inline(always)]
     pub(crate) fn move_back(&mut self, place: Place, list: usize)
         requires list { list < N }

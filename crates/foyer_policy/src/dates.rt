@@ -1,4 +1,4 @@
-//! When items of lists expire, in the order of the lists.
+//! The expiry dates of items, in the order of their lists.
 
 ghost use Rattle.std.specs.Prelude.{◌≡◌, ℕ, ◌<◌, [], None, IfOk, IfErr, IsSome, IsTrue};
 ghost use Rattle.foyer_policy.specs.Dates.{on, StandsIn, first_by, with_last};
@@ -16,30 +16,30 @@ mod slots;
 
 pub(crate) use slots::Gone;
 
-/// How many dates of a list are kept at most. The numbers of places that have a date are below it.
+/// The largest number of dates of a list. Places that have a date are below it.
 pub(crate) const MOST: usize = u32::MAX as usize;
 
-// How many slots more than are wanted there is room for at least.
+// The least number of spare slots.
 const FEW: usize = 32;
 
-/// Places of some lists with their dates, in the order of each list, so that the first with a date that is not behind a
-/// moment is found in steps that grow with the logarithm of their number. A date goes to the end of a list alone, as a
-/// value does, and the number of its slot is noted beside that. Only `new` and `reserve` take memory.
+/// Places of some lists with their dates, in the order of each list, so that the first one that is due is found in
+/// steps that grow with the logarithm of their number. A date is only appended to a list, as its value is, and the
+/// number of its slot is noted beside that. Only `new` and `reserve` take memory.
 ///
-/// The dates of a list stand in slots, each behind those that came before it, and a tree has the least date of every few
-/// slots. A date that goes leaves its slot empty; where there are as many slots as may be, of all lists together, they
-/// close up.
+/// The dates of a list are in slots, in the order in which they came, and a tree has the least date of each block of
+/// slots. A date that is removed leaves its slot empty. When all lists together have as many slots as they may, the
+/// empty ones are dropped.
 #[derive(Drop)]
 pub(crate) struct Dates {
-    // Of each list the slots.
+    // The slots of each list.
     rows: Vec<Slots>,
-    // How many slots there may be, of all lists together.
+    // The largest number of slots, of all lists together.
     limit: usize,
-    // How many slots there are.
+    // The number of slots.
     used: usize,
-    // How many slots are not empty.
+    // The number of slots that aren't empty.
     taken: usize,
-    // How many dates are in lists that are not kept.
+    // The number of dates in lists whose dates aren't kept.
     beside: usize,
     alloc: Global,
 }
@@ -54,7 +54,10 @@ impl Model for Dates {
 }
 
 impl Dates {
-    /// No dates, of so many lists, and with room for so many dates. Only memory can be missing (F7).
+    /// Creates dates for so many lists, with room for so many dates.
+    ///
+    /// # Errors
+    /// F7 if memory runs out.
     pub(crate) fn new(alloc: Global, lists: u8, count: usize) -> Result<Self>
         ensures none { IfOk result (λ d. (k : ℕ) → k < lists → on d k ≡ []) }
         ensures lists { IfOk result (λ d. d.lists ≡ lists) }
@@ -75,7 +78,7 @@ impl Dates {
         })
     }
 
-    /// How many lists there are, the first ones. Of the others nothing is kept but how many dates they have.
+    /// Returns how many lists have their dates kept, the first ones. Of the others only the number of dates is known.
     #[inline(always)]
     pub(crate) fn lists(&self) -> usize
         ensures { result ≡ self.now.lists }
@@ -83,14 +86,17 @@ impl Dates {
         self.rows.len()
     }
 
-    /// Whether more slots are left than are taken.
+    /// Returns whether more slots are free than taken.
     #[inline(always)]
     pub(crate) fn has_room(&self) -> bool {
         let count = self.taken.saturating_add(self.beside);
         count < self.limit.saturating_sub(count)
     }
 
-    /// Makes room for one more date. Only memory can be missing (F7); nothing else changes.
+    /// Makes room for one more date.
+    ///
+    /// # Errors
+    /// F7 if memory runs out; nothing else has changed.
     pub(crate) fn reserve<T: HasItem, const N: usize>(
         &mut self,
         lists: &mut Lists<T, N>,
@@ -129,8 +135,8 @@ impl Dates {
         self.used = self.taken;
     }
 
-    /// Puts a place with its date to the end of a list, and answers the number of its slot, or nothing where there is no
-    /// room left. It takes no memory.
+    /// Appends a place with its date to a list, and returns the number of its slot, or `None` if there is no room.
+    /// Takes no memory.
     #[inline(always)]
     pub(crate) fn push<T: HasItem, const N: usize>(
         &mut self,
@@ -158,7 +164,7 @@ impl Dates {
         Some(slot)
     }
 
-    /// Takes the date of a place of a list away, which must have one where the list is kept. It takes no memory.
+    /// Removes the date of a place from a list. It must have one if the list's dates are kept. Takes no memory.
     #[inline(always)]
     pub(crate) fn remove(&mut self, list: usize, place: Place, gone: Gone)
         requires { StandsIn list place self.old }
@@ -173,7 +179,7 @@ impl Dates {
         self.rows[list].take_out(place, gone);
     }
 
-    /// Whether it's known, without a look at them, that all dates of a list are behind a moment.
+    /// Returns whether no date of a list is due, as far as that is known without looking at them.
     #[inline(always)]
     pub(crate) fn are_behind(&self, list: usize, now: u64) -> bool
         requires { list < self.now.lists }
@@ -182,7 +188,7 @@ impl Dates {
         self.rows[list].are_behind(now)
     }
 
-    /// The first place of a list whose date is not behind a moment.
+    /// Returns the first place of a list whose date is due at `now`.
     pub(crate) fn first(&self, list: usize, now: u64) -> Option<Place>
         requires { list < self.now.lists }
         ensures { result ≡ first_by now (on self.now list) }

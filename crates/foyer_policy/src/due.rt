@@ -11,7 +11,7 @@ use crate::lists::{Lists, Place};
 use crate::queued::HasItem;
 use crate::types::Item;
 
-/// Whether an item is due at a moment.
+/// Returns whether an item is due at `now`.
 #[inline(always)]
 pub(crate) fn due_at(item: Item, now: u64) -> bool
     ensures { result ≡ is_due now item }
@@ -22,7 +22,7 @@ pub(crate) fn due_at(item: Item, now: u64) -> bool
     }
 }
 
-/// The place of the first item of a list that is due at a moment, or `None` where none is. It walks along the list.
+/// Returns the place of the first item of a list that is due at `now`, or `None`. Walks along the list.
 pub(crate) fn first_of_list<T: HasItem, const N: usize>(
     lists: &Lists<T, N>,
     list: usize,
@@ -43,7 +43,7 @@ pub(crate) fn first_of_list<T: HasItem, const N: usize>(
     None
 }
 
-// As `first_of_lists`, where some item may expire.
+// As `first_of_lists`, if some items may expire.
 #[cold]
 #[inline(never)]
 fn first_of_each<T: HasItem, const N: usize>(
@@ -65,7 +65,7 @@ fn first_of_each<T: HasItem, const N: usize>(
     None
 }
 
-/// The place of the first item that is due at a moment in the first lists, `count` of them, or `None` where none is.
+/// Returns the place of the first item of the first `count` lists that is due at `now`, or `None`.
 #[inline(always)]
 pub(crate) fn first_of_lists<T: HasItem, const N: usize>(
     lists: &DatedLists<T, N>,

@@ -8,12 +8,12 @@ use std::marker::Model;
 use std::sync::Arc;
 use thiserror::Error as ThisError;
 
-/// What a refusal has to do with.
+/// What kind of error it is.
 #[derive(Clone, Copy, Debug, PartialEq, Eq, Hash)]
 pub enum ErrorKind {
-    /// A configuration that is not accepted.
+    /// A configuration that isn't accepted.
     Config,
-    /// Memory.
+    /// Out of memory.
     Memory,
     /// A limit of the cache.
     Limit,
@@ -105,7 +105,7 @@ pub enum Reason {
     WrongPolicy,
 }
 
-/// A refusal. Contracts see its reason, which tells its kind.
+/// Why a call failed. Contracts see its reason, which determines its kind.
 #[derive(Debug, Drop, ThisError)]
 #[error("{reason}")]
 pub struct Error {
@@ -133,7 +133,7 @@ impl Clone for Error {
 
     ghost is_infallible = { HasNoFault };
 
-    /// The same refusal again. A fault is shared, which is refused where its count is full.
+    /// Returns the same error. A fault is shared, which fails if its reference count is full.
     fn clone(&self) -> std::result::Result<Error, AllocError> {
         Ok(Error {
             kind: self.kind,
@@ -180,13 +180,13 @@ impl<T: Drop> From<AllocFailed<T>> for Error {
     }
 }
 
-/// What a call of this crate answers.
+/// What calls of the cache return.
 pub type Result<T> = std::result::Result<T, Error>;
 
 impl Error {
     ghost use Rattle.foyer_policy.specs.Errors.{kind_of, number_of};
 
-    /// The refusal for a reason.
+    /// Creates an error with this reason.
     pub fn new(reason: Reason) -> Self
         ensures { result ≡ reason }
     {
@@ -196,21 +196,21 @@ impl Error {
         }
     }
 
-    /// What the refusal has to do with.
+    /// Returns the kind.
     pub fn kind(&self) -> ErrorKind
         ensures { result ≡ kind_of self.now }
     {
         self.kind
     }
 
-    /// Why the call was refused.
+    /// Returns the reason.
     pub fn reason(&self) -> &Reason
         ensures { result.now ≡ self.now }
     {
         &self.reason
     }
 
-    /// The refusal's number: 7 for `F7`.
+    /// Returns the number: 7 for F7.
     pub fn number(&self) -> u8
         ensures { result ≡ number_of self.now }
     {

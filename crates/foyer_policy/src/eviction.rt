@@ -1,4 +1,4 @@
-//! What every eviction policy offers to the cache above it.
+//! The trait of eviction policies.
 
 ghost use Rattle.std.specs.Prelude.{◌≡◌, ◌≢◌, ◌↔◌, ℕ, ◌+◌, ◌<◌, ◌≤◌, ◌^◌, Option, Some, None, Ok, Err, OnOk, OnErr, IfOk, IfErr, IfSome, IfNone, IsSome, IsTrue, IsOk, option_and_then, option_map};
 ghost use Rattle.std.specs.Option.{option_copied};
@@ -16,11 +16,10 @@ use crate::queued::item_found;
 use crate::types::Item;
 use std::alloc::Global;
 
-/// An eviction policy: it holds an [`Item`] for each record that is in, at a [`Place`], and says which
-/// leaves next.
+/// An eviction policy: holds an [`Item`] for each resident record at a [`Place`], and says which leaves next.
 ///
-/// Contracts see a policy's abstract `view`, and what each call makes of it by the policy's `model`,
-/// which meets the laws of `IsPolicy`. A `Place` that is passed names an item that is in.
+/// Contracts see a policy's abstract `view`, and what each call makes of it by the policy's `model`, which meets the
+/// laws of `IsPolicy`. A `Place` that is passed must have an item.
 pub trait Eviction: Drop {
     /// The policy's configuration.
     type Config: Drop;
@@ -44,19 +43,23 @@ pub trait Eviction: Drop {
     // there is room for a `clear`
     ghost can_clear: { Self → Type 0 };
 
-    // a pop may want memory now, as where the policy is to remember what leaves
+    // a pop may need memory now, as in a policy that remembers what it evicted
     ghost pop_wants_memory: { Self → Type 0 };
 
-    // how many records the last pop read
+    // how many readings the last pop made
     ghost looked: { Self → ℕ };
 
-    /// Refuses a configuration with its first fault, F2 to F6, for every capacity alike. `new` and
-    /// `update` refuse it so, and for no other fault of it. It takes no memory.
+    /// Checks a configuration, for every capacity alike. Takes no memory.
+    ///
+    /// # Errors
+    /// F2 to F6 for the first fault. `new` and `update` fail with the same, and with no other fault.
     fn check(config: &Self::Config) -> Result<()>
         ensures { result ≡ ok_unless (model.fault config.now) };
 
-    /// A policy that holds nothing. Refused with the configuration's first fault, F2 to F6, and else
-    /// only for want of memory.
+    /// Creates an empty policy.
+    ///
+    /// # Errors
+    /// F2 to F6 for the configuration's first fault, then F7 if memory runs out.
     fn new(alloc: Global, capacity: usize, config: &Self::Config) -> Result<Self>
         ensures view { IfOk result (λ s. view s ≡ model.opening capacity config.now) }
         ensures places { IfOk result (λ s. (p : ℕ) → at s p ≡ None) }
@@ -66,12 +69,14 @@ pub trait Eviction: Drop {
         ensures refused { IfSome (model.fault config.now) (λ reason. result ≡ Err reason) }
         ensures memory { IfErr result (λ e. model.fault config.now ≡ None → e ≡ NoMemory) };
 
-    /// Whether a configuration is of this policy.
+    /// Returns whether a configuration is of this policy.
     fn takes(&self, config: &Self::Config) -> bool
         ensures { result ≡ model.takes (view self.now) config.now };
 
-    /// Sets the capacity, and the configuration where one is given. It takes no memory. Refused with F17 where
-    /// that is another policy's, and else with its first fault; then nothing has changed.
+    /// Sets the capacity, and the configuration if one is given. Takes no memory.
+    ///
+    /// # Errors
+    /// F17 if the configuration is of another policy, F2 to F6 for its first fault; nothing has changed.
     fn update(&mut self, capacity: usize, config: Option<&Self::Config>) -> Result<()>
         ensures accepted { refusal_in model (view self.old) (option_copied config.entry) ≡ None → IsOk result }
         ensures refused { IfSome (refusal_in model (view self.old) (option_copied config.entry)) (λ reason. result ≡ Err reason) }
@@ -82,8 +87,10 @@ pub trait Eviction: Drop {
         ensures span { span self.new ≡ span self.old }
         ensures looked { looked self.new ≡ looked self.old };
 
-    /// Makes room for one push, for which the span may grow. Only memory can be missing (F7); nothing else
-    /// changes.
+    /// Makes room for one push, for which the span may grow.
+    ///
+    /// # Errors
+    /// F7 if memory runs out; nothing else has changed.
     fn reserve(&mut self) -> Result<()>
         ensures room { OnOk result (0 < room self.new) }
         ensures refused { IfErr result (λ e. e ≡ NoMemory) }
@@ -93,8 +100,10 @@ pub trait Eviction: Drop {
         ensures span { span self.old ≤ span self.new }
         ensures looked { looked self.new ≡ looked self.old };
 
-    /// Makes nodes until there are so many, and so a place for each number below `wanted`. Only memory can be
-    /// missing (F7); nothing else changes.
+    /// Makes nodes until there are `wanted`, so that each number below it is a place.
+    ///
+    /// # Errors
+    /// F7 if memory runs out; nothing else has changed.
     fn reserve_to(&mut self, wanted: usize) -> Result<()>
         ensures enough { OnOk result (wanted ≤ span self.new) }
         ensures refused { IfErr result (λ e. e ≡ NoMemory) }
@@ -104,14 +113,15 @@ pub trait Eviction: Drop {
         ensures kept { span self.old ≤ span self.new }
         ensures looked { looked self.new ≡ looked self.old };
 
-    /// A place below the span where nothing stands: the one that `push` takes. It asks for reserved room.
+    /// Returns the free place that `push` takes next. Needs reserved room.
     fn next_place(&self) -> Place
         requires room { 0 < room self.now }
         ensures free { at self.now result ≡ None }
         ensures within { result < span self.now };
 
-    /// Takes an item in at a place that the caller chooses: one below the span, where nothing stands. It
-    /// asks for a new id, and that all weights in it fit a `usize` together; it takes no memory.
+    /// Inserts an item at a free place below the span, which the caller chooses.
+    ///
+    /// The id must be new, and all weights together fit a `usize`. Takes no memory.
     fn push_at(&mut self, place: Place, item: Item)
         requires within { place < span self.old }
         requires free { at self.old place ≡ None }
@@ -123,8 +133,9 @@ pub trait Eviction: Drop {
         ensures span { span self.new ≡ span self.old }
         ensures looked { looked self.new ≡ looked self.old };
 
-    /// Takes an item in at the next place. It asks for reserved room, a new id, and that all weights in it fit a
-    /// `usize` together; it takes no memory.
+    /// Inserts an item at the next place, and returns that.
+    ///
+    /// Needs reserved room; the id must be new, and all weights together fit a `usize`. Takes no memory.
     #[inline(always)]
     fn push(&mut self, item: Item) -> Place
         requires room { 0 < room self.old }
@@ -143,8 +154,10 @@ pub trait Eviction: Drop {
         place
     }
 
-    /// Takes the victim out, and answers it with the place at which it stood, or none where every item is pinned. Memory
-    /// can be missing (F7) only where the policy is to remember what leaves; then nothing has changed.
+    /// Removes the victim and returns it with its place, or `None` if every item is pinned.
+    ///
+    /// # Errors
+    /// F7 if memory runs out, only in a policy that remembers what it evicted; nothing has changed.
     fn pop_at(&mut self) -> Result<Option<(Place, Item)>>
         ensures stood { IfOk result (λ found. IfSome found (λ e. at self.old e.0 ≡ Some e.1)) }
         ensures pops { IfOk result (λ found. Pops model (view self.old) (option_map (λ e. e.1) found) (view self.new)) }
@@ -160,7 +173,7 @@ pub trait Eviction: Drop {
         ensures err_places { OnErr result ((p : ℕ) → at self.new p ≡ at self.old p) }
         ensures err_looked { OnErr result (looked self.new ≡ looked self.old) };
 
-    /// The same as `pop_at`, and it answers the victim alone.
+    /// Removes the victim and returns it, as `pop_at` does, without its place.
     #[inline(always)]
     fn pop(&mut self) -> Result<Option<Item>>
         ensures pops { IfOk result (λ found. Pops model (view self.old) found (view self.new)) }
@@ -178,7 +191,7 @@ pub trait Eviction: Drop {
         Ok(item_found(self.pop_at()?))
     }
 
-    /// Takes the item at a place out. It takes no memory.
+    /// Removes the item at a place and returns it. Takes no memory.
     fn remove(&mut self, place: Place) -> Item
         requires { IsSome (at self.old place) }
         ensures item { at self.old place ≡ Some result }
@@ -189,8 +202,10 @@ pub trait Eviction: Drop {
         ensures span { span self.new ≡ span self.old }
         ensures looked { looked self.new ≡ looked self.old };
 
-    /// Makes room for a `clear`. Only memory can be missing (F7), and only where a `pop` may want some;
-    /// nothing else changes.
+    /// Makes room for a `clear`.
+    ///
+    /// # Errors
+    /// F7 if memory runs out, only in a policy that remembers what it evicted; nothing else has changed.
     fn reserve_clear(&mut self) -> Result<()>
         ensures can_clear { OnOk result (can_clear self.new) }
         ensures refused { IfErr result (λ e. e ≡ NoMemory) }
@@ -201,7 +216,7 @@ pub trait Eviction: Drop {
         ensures span { span self.new ≡ span self.old }
         ensures looked { looked self.new ≡ looked self.old };
 
-    /// Takes every item out. It asks for the room of `reserve_clear`, and takes no memory.
+    /// Removes all items. Needs the room of `reserve_clear`, and takes no memory.
     fn clear(&mut self)
         requires { can_clear self.old }
         ensures view { view self.new ≡ model.clear (view self.old) }
@@ -210,7 +225,7 @@ pub trait Eviction: Drop {
         ensures span { span self.new ≡ span self.old }
         ensures looked { looked self.new ≡ 0 };
 
-    /// Tells the policy that the item at a place is used. It takes no memory.
+    /// Tells the policy that the item at a place was used. Takes no memory.
     fn acquire(&mut self, place: Place)
         requires { IsSome (at self.old place) }
         ensures view { IfSome (at self.old place) (λ i. view self.new ≡ model.acquire (view self.old) i.id) }
@@ -219,7 +234,7 @@ pub trait Eviction: Drop {
         ensures span { span self.new ≡ span self.old }
         ensures looked { looked self.new ≡ looked self.old };
 
-    /// Tells the policy that the item at a place has no handle any more. It takes no memory.
+    /// Tells the policy that the item at a place has no handle left. Takes no memory.
     fn release(&mut self, place: Place)
         requires { IsSome (at self.old place) }
         ensures view { IfSome (at self.old place) (λ i. view self.new ≡ model.release (view self.old) i.id) }
@@ -228,9 +243,10 @@ pub trait Eviction: Drop {
         ensures span { span self.new ≡ span self.old }
         ensures looked { looked self.new ≡ looked self.old };
 
-    /// Whether what `acquire` and `release` are to change is there, which it is. To ask reads it, before the caller
-    /// counts shares of the record: behind a locked count each of these reads would wait for memory by itself. A
-    /// policy to which a use is nothing reads nothing.
+    /// Reads what `acquire` and `release` will change, and returns true.
+    ///
+    /// A caller that is about to count shares of the record calls this first: after a locked count, each of these
+    /// reads would wait for memory by itself. A policy in which a use changes nothing reads nothing.
     #[inline(always)]
     fn look_ahead(&self, place: Place) -> bool
         requires { IsSome (at self.now place) }
@@ -240,8 +256,8 @@ pub trait Eviction: Drop {
         true
     }
 
-    /// Where items stand that may leave next, the first of them and the one behind it, so that what is there can be
-    /// read ahead. It's a hint alone, and a policy may give none.
+    /// Returns the places of two items that may leave next, so that the caller can read their records ahead. It is
+    /// only a hint, and a policy may return none.
     #[inline(always)]
     fn ahead(&self) -> (Option<Place>, Option<Place>)
         ensures first { IfSome result.0 (λ p. IsSome (at self.now p)) }
@@ -250,41 +266,45 @@ pub trait Eviction: Drop {
         (None, None)
     }
 
-    /// The place of the item that is to leave first at a moment: the first of the policy's order that is expired then
-    /// and not pinned, or none where none is. It takes no memory. The policies of this crate find it in steps that grow
-    /// with the logarithm of how many items expire, and at once where none does. They walk along their order where
-    /// `reserve` made no room for that: before its first call that meets such an item, while memory is refused to it, and
-    /// for places from 2^32 - 1 on.
+    /// Returns the place of the first item in the policy's order that is expired at `now` and not pinned, or `None`.
+    /// Takes no memory.
+    ///
+    /// The policies of this crate find it in steps that grow with the logarithm of how many items expire, and at once
+    /// if none does. They walk along their order as long as `reserve` has made no room for that: until its next call
+    /// after an item that expires was inserted, while memory is refused, and for places from 2^32 - 1 on.
     fn expired(&self, now: u64) -> Option<Place>
         ensures there { IfSome result (λ p. IsSome (at self.now p)) }
         ensures first { option_and_then (λ p. at self.now p) result ≡ first_due (is_due now) model (view self.now) };
 
-    /// How many nodes there are, with items or free. Every place is below it. `reserve` and `reserve_to` alone
-    /// raise it, and nothing lowers it.
+    /// Returns the number of nodes, with items or free. Every place is below it. It only grows, by `reserve` and
+    /// `reserve_to`.
     fn span(&self) -> usize
         ensures span { result ≡ span self.now }
         ensures within { (p : ℕ) → IsSome (at self.now p) → p < span self.now };
 
-    /// The item at a place.
+    /// Returns the item at a place.
     fn item(&self, place: Place) -> Item
         requires { IsSome (at self.now place) }
         ensures { at self.now place ≡ Some result };
 
-    /// The items that are in, in the policy's order. Only memory can be missing (F7).
+    /// Returns all items, in the policy's order.
+    ///
+    /// # Errors
+    /// F7 if memory runs out.
     fn order(&self) -> Result<Vec<Item>>
         ensures items { IfOk result (λ items. items.items ≡ model.order (view self.now)) }
         ensures refused { IfErr result (λ e. e ≡ NoMemory) };
 
-    /// The sum of the weights of the items that are pinned.
+    /// Returns the sum of the weights of the pinned items.
     fn pinned_weight(&self) -> usize
         ensures { result ≡ weight_of (model.pinned (view self.now)) };
 
-    /// Whether the item at a place is pinned.
+    /// Returns whether the item at a place is pinned.
     fn is_pinned(&self, place: Place) -> bool
         requires { IsSome (at self.now place) }
         ensures { IfSome (at self.now place) (λ i. IsTrue result ↔ (0 < count_of i.id (model.pinned (view self.now)))) };
 
-    /// How many records the last `pop` read; 0 before any, after one that gave none, and after `clear`.
+    /// Returns how many readings the last `pop` made: 0 before any, after one that returned none, and after `clear`.
     fn looks(&self) -> u128
         ensures { result ≡ looked self.now };
 

@@ -14,7 +14,7 @@ use serde::{Deserialize, Serialize};
 use std::alloc::Global;
 use std::marker::Model;
 
-/// The configuration of a [`Fifo`], which has no parts.
+/// The configuration of a [`Fifo`]: nothing to set.
 #[derive(Clone, Debug, Default, Drop, PartialEq, Eq, Serialize, Deserialize)]
 pub struct FifoConfig {}
 
@@ -22,7 +22,7 @@ pub struct FifoConfig {}
 #[derive(Debug, Default, Drop)]
 pub struct FifoState {}
 
-/// First in, first out: the record that came in first leaves first, used or not.
+/// First in, first out: the record that was inserted first leaves first, used or not.
 #[derive(Drop)]
 pub struct Fifo {
     queue: DatedLists<Kept, 1>,

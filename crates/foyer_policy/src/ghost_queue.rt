@@ -1,4 +1,4 @@
-//! The ghost queue, which remembers by their hashes what left lately.
+//! The ghost queue, which remembers the hashes of records that left lately.
 
 ghost use Rattle.std.specs.Prelude.{◌≡◌, ◌+◌, ◌≤◌, ◌<◌, min, [], IfErr, OnOk, OnErr, IsOk};
 ghost use Rattle.std.specs.HashSet.{spare};
@@ -14,12 +14,11 @@ use std::alloc::Global;
 use std::collections::{HashSet, VecDeque};
 use std::marker::Model;
 
-/// What left lately, oldest first, as pairs of a hash and a weight, with the set of the hashes that are
-/// remembered.
+/// Records that left lately, oldest first, as pairs of a hash and a weight, with the set of remembered hashes.
 ///
-/// The pairs weigh at most the capacity, or a single pair weighs more, perhaps with some of weight 0; after
-/// an update to capacity 0 all stay, whatever they weigh. A pair that goes takes its hash out of the set,
-/// even where a younger pair has the same hash.
+/// The pairs weigh at most the capacity, or a single pair weighs more, perhaps with some of weight 0. After an update
+/// to capacity 0 all pairs stay, whatever they weigh. A pair that leaves takes its hash out of the set, even if a
+/// younger pair has the same hash.
 #[derive(Drop)]
 pub struct GhostQueue {
     pairs: VecDeque<(u64, usize)>,
@@ -48,7 +47,7 @@ impl Model for GhostQueue {
     ghost invariant = { λ g. g.weight ≡ ghost_weight g.pairs.items };
 }
 
-// Drops pairs from the front until the rest weighs at most this, and answers what the rest weighs.
+// Drops pairs from the front until the rest weighs at most this, and returns what the rest weighs.
 fn shrink(
     pairs: &mut VecDeque<(u64, usize)>,
     hashes: &mut HashSet<u64>,
@@ -74,16 +73,16 @@ fn shrink(
     left
 }
 
-/// The law that no pair goes without need: what an update and a push keep of the pairs is their longest
-/// tail within the weight that is left to them.
+/// The law that no pair is dropped without need: an update and a push keep the longest tail of the pairs that fits
+/// the weight left to them.
 ///
-/// This function does nothing; the law is its contract.
+/// The function does nothing; the law is its contract.
 pub fn longest_tails_are_kept()
     ensures { LongestTailsAreKept }
 {}
 
 impl GhostQueue {
-    /// A queue that remembers nothing, which takes no memory.
+    /// Creates an empty queue. Takes no memory.
     pub fn new(alloc: Global, capacity: usize) -> Self
         ensures queue { ghost_of result ≡ record { pairs = []; hashes = empty; capacity = capacity } }
     {
@@ -95,8 +94,8 @@ impl GhostQueue {
         }
     }
 
-    /// Sets the capacity, and drops pairs from the front while they weigh more. With capacity 0 nothing
-    /// goes. It takes no memory.
+    /// Sets the capacity, and drops pairs from the front while they weigh more. With capacity 0 none is dropped.
+    /// Takes no memory.
     pub fn update(&mut self, capacity: usize)
         ensures queue { ghost_of self.new ≡ ghost_update (ghost_of self.old) capacity }
     {
@@ -106,7 +105,10 @@ impl GhostQueue {
         }
     }
 
-    /// Makes room for so many pushes. Only memory can be missing (F7), and then nothing else has changed.
+    /// Makes room for so many pushes.
+    ///
+    /// # Errors
+    /// F7 if memory runs out; nothing else has changed.
     pub fn reserve(&mut self, more: usize) -> Result<()>
         ensures room { OnOk result (more ≤ self.new.room) }
         ensures queue { ghost_of self.new ≡ ghost_of self.old }
@@ -124,7 +126,7 @@ impl GhostQueue {
         Ok(())
     }
 
-    /// Remembers a hash with its weight, for which there is room, as `push` does. It takes no memory.
+    /// Remembers a hash with its weight, as `push` does. Needs room, and takes no memory.
     pub fn push_reserved(&mut self, hash: u64, weight: usize)
         requires { 0 < self.old.capacity → 0 < self.old.room }
         ensures queue { ghost_of self.new ≡ ghost_push (ghost_of self.old) hash weight }
@@ -141,13 +143,13 @@ impl GhostQueue {
         let _ = self.hashes.insert(hash);
     }
 
-    /// Remembers a hash with its weight. Pairs go from the front first, while the others would weigh more
-    /// than the capacity with the new one, and weigh something. With capacity 0 nothing changes.
+    /// Remembers a hash with its weight.
+    ///
+    /// Pairs are dropped from the front first, while the others would weigh more than the capacity with the new one,
+    /// and weigh something. With capacity 0 nothing changes.
     ///
     /// # Errors
-    ///
-    /// [`Reason::NoMemory`] where memory is refused, and then nothing has changed. With capacity 0 it is
-    /// never refused.
+    /// F7 if memory runs out; nothing has changed. Never with capacity 0.
     pub fn push(&mut self, hash: u64, weight: usize) -> Result<()>
         ensures queue { OnOk result (ghost_of self.new ≡ ghost_push (ghost_of self.old) hash weight) }
         ensures refused { IfErr result (λ e. e ≡ NoMemory) }
@@ -162,21 +164,21 @@ impl GhostQueue {
         Ok(())
     }
 
-    /// Whether a hash is remembered.
+    /// Returns whether a hash is remembered.
     pub fn contains(&self, hash: u64) -> bool
         ensures { result ≡ contains (ghost_of self.now).hashes hash }
     {
         self.hashes.contains(&hash)
     }
 
-    /// The sum of the weights of the pairs.
+    /// Returns the sum of the weights of the pairs.
     pub fn weight(&self) -> usize
         ensures { result ≡ ghost_weight self.now.pairs }
     {
         self.weight
     }
 
-    /// The capacity.
+    /// Returns the capacity.
     pub fn capacity(&self) -> usize
         ensures { result ≡ self.now.capacity }
     {

@@ -1,4 +1,4 @@
-//! Numbers of keys, by which a cache finds its shards and its records.
+//! Hashes of keys, by which a cache finds their shards and records.
 
 ghost use Rattle.std.specs.Prelude.{◌≡◌, ℕ, ◌+◌, ◌*◌, ◌%◌, ◌^◌, ◌<◌, List, IsTrue};
 ghost use Rattle.std.specs.List.{concat, fold};
@@ -7,17 +7,17 @@ ghost use Rattle.foyer_policy.specs.Hash.{no_digits, with_bytes, number_of_bytes
 use std::hash::{BuildHasher, BuildHasherDefault, FoldHasher, Hash, Hasher};
 use std::marker::Model;
 
-/// Gives each key a number, and equal keys equal numbers. Every `BuildHasher` is one.
+/// Gives each key a hash, and equal keys equal hashes. Every `BuildHasher` is one.
 pub trait HashBuilder: Drop + 'static {
-    // The number of a key that makes these writes to a hasher.
+    // The hash of a key that makes these writes to a hasher.
     ghost hash_of: { Self → List (List ℕ) → ℕ };
 
-    /// The number of a key.
+    /// Returns the hash of a key.
     fn hash_one<K: Hash>(&self, key: &K) -> u64
         ensures number { result ≡ hash_of self.now (K.hash_input key.now) }
         ensures equal_keys { (other : K) → IsTrue (K.eq key.now other) → hash_of self.now (K.hash_input other) ≡ result };
 
-    // Each number fits a `u64`.
+    // Each hash fits a `u64`.
     ghost fits: { (s : Self) (writes : List (List ℕ)) → hash_of s writes < 2 ^ 64 };
 }
 
@@ -37,12 +37,13 @@ impl<S: BuildHasher + Drop + 'static> HashBuilder for S {
     }
 }
 
-/// The hash builder that a cache has where none is given. It is fast and not cryptographic. Its
-/// seed is fixed, so whoever picks the keys can make them collide.
+/// The default hash builder of a cache: fast, not cryptographic, with a fixed seed.
+///
+/// Its hashes aren't promised, and a caller who picks the keys can make them collide.
 pub type DefaultHasher = BuildHasherDefault<FoldHasher>;
 
-/// A hasher that sums the written bytes as the digits of a number to base 256, the least
-/// significant first, modulo 2^64. So the hash of a `u64` is that number. It builds itself.
+/// A hasher that reads the written bytes as the digits of a number in base 256, the least significant first, modulo
+/// 2^64. So the hash of a `u64` is that number. It builds itself.
 #[derive(Clone, Copy, Debug)]
 pub struct ModHasher {
     // The sum of the digits so far.
@@ -118,14 +119,14 @@ impl BuildHasher for ModHasher {
     }
 }
 
-/// The number that a `ModHasher` gives a key.
+/// Returns the hash that a `ModHasher` gives a key.
 pub fn mod_hash<K: Hash>(key: &K) -> u64
     ensures { result ≡ number_of_bytes (concat (K.hash_input key.now)) % 2 ^ 64 }
 {
     HashBuilder::hash_one(&ModHasher::default(), key)
 }
 
-/// The number that a `ModHasher` gives a `u64` key: that key.
+/// Returns the hash that a `ModHasher` gives a `u64` key: that key.
 pub fn mod_hash_of_u64(key: u64) -> u64
     ensures { result ≡ key }
 {

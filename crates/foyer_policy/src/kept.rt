@@ -6,7 +6,7 @@ use crate::queued::Queued;
 use crate::types::Item;
 use std::marker::Model;
 
-/// An item as a node keeps it where its policy keeps nothing beside it, which a contract sees as the item.
+/// An item as a node keeps it if its policy has no state. A contract sees the item.
 #[derive(Drop)]
 pub(crate) struct Kept {
     parts: Queued<()>,
@@ -31,7 +31,7 @@ impl Kept {
         }
     }
 
-    /// The item that is kept.
+    /// Returns the item.
     #[inline(always)]
     pub(crate) fn whole(&self) -> Item
         ensures { result ≡ self.now }
@@ -39,7 +39,7 @@ impl Kept {
         self.parts.whole()
     }
 
-    /// The number that was set last, or 0. No contract sees it.
+    /// Returns the number that was set last, or 0. No contract sees it.
     #[inline(always)]
     pub(crate) fn slot(&self) -> usize {
         self.parts.slot()

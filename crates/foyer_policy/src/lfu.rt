@@ -1,4 +1,4 @@
-//! w-TinyLFU: least frequently used, with a window for what came in lately.
+//! w-TinyLFU: least frequently used, with a window for new records.
 
 ghost use Rattle.std.specs.Prelude.{◌≡◌};
 ghost use Rattle.foyer_policy.specs.Lfu.{ratios_fault};
@@ -24,15 +24,15 @@ use std::marker::Model;
 /// The configuration of an [`Lfu`].
 #[derive(Clone, Debug, Drop, PartialEq, Eq, Serialize, Deserialize)]
 pub struct LfuConfig {
-    /// The share of the capacity that the window may weigh, above 0 and below 1, rounded down.
+    /// The part of the capacity that the window may weigh, above 0 and below 1.
     pub window_capacity_ratio: Ratio,
-    /// The share of the capacity that the list of protected records may weigh, above 0 and below 1,
-    /// rounded down. Both shares together are below 1.
+    /// The part of the capacity that protected records may weigh, above 0 and below 1. Both parts together are below
+    /// 1.
     pub protected_capacity_ratio: Ratio,
-    /// How many buckets each row of the sketch has, above 0. The more there are, the fewer hashes
-    /// share one, and the later old uses are forgotten.
+    /// The number of buckets in each row of the sketch, above 0. With more of them, fewer hashes share one, and old
+    /// uses fade later.
     pub cmsketch_buckets: u32,
-    /// How many rows the sketch has, above 0.
+    /// The number of rows of the sketch, above 0.
     pub cmsketch_hashes: u8,
 }
 
@@ -46,7 +46,7 @@ impl Default for LfuConfig {
       cmsketch_hashes = 3;
     } };
 
-    /// A window of one tenth, eight tenths for protected records, and 3 rows of 2719 buckets.
+    /// Returns a window of one tenth, eight tenths for protected records, and 3 rows of 2719 buckets.
     fn default() -> LfuConfig {
         LfuConfig {
             window_capacity_ratio: Ratio { num: 1, den: 10 },
@@ -57,7 +57,7 @@ impl Default for LfuConfig {
     }
 }
 
-// Refuses two ratios: each alone, F2 before F3, and then their sum (F4).
+// Checks two ratios: each alone, F2 before F3, and then their sum (F4).
 fn check_ratios(window: Ratio, protected: Ratio) -> Result<()>
     ensures { result ≡ ok_unless (ratios_fault window protected) }
 {
@@ -71,20 +71,17 @@ fn check_ratios(window: Ratio, protected: Ratio) -> Result<()>
     Ok(())
 }
 
-/// What an [`Lfu`] keeps beside an item: nothing of its own, since the list in which an item stands
-/// tells all that there is.
+/// What an [`Lfu`] keeps beside an item: nothing, since the item's list says it all.
 #[derive(Debug, Default, Drop)]
 pub struct LfuState {}
 
-/// w-TinyLFU (Einziger, Friedman and Manes, 2017): of two records, the one that was used less often
-/// leaves first.
+/// w-TinyLFU (Einziger, Friedman and Manes, 2017): of two records, the one that was used less often leaves first.
 ///
-/// A record comes into the window, and goes on to probation once the window weighs more than its
-/// share of the capacity. The first records of the two are compared by how often a sketch has seen
-/// their hashes, and the one that was seen less often leaves; where they were seen equally often it is
-/// that of probation. A record that is used while it is in probation becomes protected, and leaves
-/// only after all others; where the protected ones weigh more than their share, the first of them go
-/// back to probation.
+/// A record is inserted into the window, and moves to probation when the window weighs more than its part of the
+/// capacity. A pop compares the first records of both by how often a sketch has counted their hashes, and takes the
+/// one counted less; on a tie, that of probation. A record that is used in probation becomes protected, and leaves
+/// only after all others. If the protected records weigh more than their part, the first of them go back to
+/// probation.
 #[derive(Drop)]
 pub struct Lfu {
     lists: DatedLists<Kept, 3>,

@@ -1,4 +1,4 @@
-//! The part of a capacity that a ratio is, and which ratios are accepted.
+//! Limits from ratios, and which ratios are accepted.
 
 ghost use Rattle.std.specs.Prelude.{◌≡◌, ◌<◌};
 ghost use Rattle.foyer_policy.specs.Limit.{limit_of, ok_unless, ratio_fault};
@@ -6,7 +6,7 @@ ghost use Rattle.foyer_policy.specs.Limit.{limit_of, ok_unless, ratio_fault};
 use crate::error::{Error, Field, Reason, Result};
 use crate::types::Ratio;
 
-/// In which range a ratio is accepted.
+/// The range in which a ratio is accepted.
 #[derive(Clone, Copy)]
 pub(crate) enum Range {
     /// From 0 to 1, both included.
@@ -15,8 +15,8 @@ pub(crate) enum Range {
     Open,
 }
 
-/// The part of a capacity that a ratio is, rounded down, and at most the greatest `usize`. The
-/// denominator must not be 0.
+/// Returns the part of a capacity that a ratio gives, rounded down, and at most the largest `usize`. The denominator
+/// must not be 0.
 pub(crate) fn limit_of(capacity: usize, ratio: Ratio) -> usize
     requires { 0 < ratio.den }
     ensures { result ≡ limit_of capacity ratio }
@@ -26,8 +26,10 @@ pub(crate) fn limit_of(capacity: usize, ratio: Ratio) -> usize
     usize::try_from(part).unwrap_or(usize::MAX)
 }
 
-/// Refuses the ratio of a field: F2 for a denominator of 0, and else F3 where it lies outside of
-/// its range.
+/// Checks the ratio of a field.
+///
+/// # Errors
+/// F2 for a denominator of 0, F3 if it is outside of its range.
 pub(crate) fn check_ratio(range: Range, field: Field, ratio: Ratio) -> Result<()>
     ensures { result ≡ ok_unless (ratio_fault range field ratio) }
 {

@@ -1,14 +1,13 @@
-//! Links of chains and lists, in the room of one number.
+//! Links of chains and lists, in one word.
 
 ghost use Rattle.std.specs.Prelude.{◌≡◌, ◌-◌, ◌^◌, ◌<◌, Some, None};
 
 use std::marker::Model;
 
-/// Where a chain goes on: at a place, or nowhere. It takes as much room as a number, where an
-/// `Option<usize>` takes twice as much.
+/// Where a chain goes on: at a place, or nowhere. It takes one word; an `Option<usize>` takes two.
 #[derive(Clone, Copy)]
 pub struct Link {
-    // the greatest number for nowhere
+    // the largest number for nowhere
     place: usize,
 }
 
@@ -27,7 +26,7 @@ impl Model for Link {
 }
 
 impl Link {
-    /// The end of a chain.
+    /// Returns the end of a chain.
     #[inline(always)]
     pub fn end() -> Self
         ensures { result ≡ None }
@@ -35,7 +34,7 @@ impl Link {
         Link { place: usize::MAX }
     }
 
-    /// The link to a place, which is below the greatest number.
+    /// Returns a link to a place, which is below the largest number.
     #[inline(always)]
     pub fn to(place: usize) -> Self
         requires { place < 2 ^ 64 - 1 }
@@ -44,7 +43,7 @@ impl Link {
         Link { place }
     }
 
-    /// The place that it leads to, or `None` at the end.
+    /// Returns the place that it leads to, or `None` at the end.
     #[inline(always)]
     pub fn place(self) -> Option<usize>
         ensures { result ≡ self }

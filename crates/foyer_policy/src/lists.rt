@@ -20,13 +20,12 @@ mod reading;
 
 pub use place::Place;
 
-/// `N` lists of values, numbered from 0.
+/// `N` lists of values, numbered from 0, as doubly linked lists over one block of nodes.
 ///
-/// Each value has a place, by which it is read, moved and taken out in constant time. It keeps its
-/// place while it is in, also where it moves to another list; the place may be given again once the
-/// value is out. The lists choose the place of a value that comes in, or the caller does. Only `reserve`
-/// and `reserve_to` take memory: a value that comes in takes a room that was reserved, and gives it back
-/// when it leaves. Each place is below the span, which these two alone raise.
+/// Each value has a place, by which it is read, moved and removed in constant time. It keeps its place, also in
+/// another list; once it is removed the place may be given again. The lists choose the place of a new value, or the
+/// caller does. Only `reserve` and `reserve_to` take memory: a new value takes a reserved room, and gives it back
+/// when it is removed. Each place is below the span, which only these two raise.
 pub struct Lists<T, const N: usize> {
     nodes: Arena<T, N>,
     heads: [Link; N],
@@ -54,7 +53,7 @@ impl<T, const N: usize> Lists<T, N> {
     ghost use Rattle.std.specs.Borrow.{sem};
     ghost use Rattle.foyer_policy.specs.Lends.{lends_value};
 
-    /// Empty lists with no room, which take no memory.
+    /// Creates empty lists with no room. Takes no memory.
     pub fn new(alloc: Global) -> Self
         ensures lists { result.lists ≡ replicate N [] }
         ensures room { result.room ≡ 0 }
@@ -68,12 +67,11 @@ impl<T, const N: usize> Lists<T, N> {
         }
     }
 
-    /// Makes room for `more` values beside those that are in. Only this call and `reserve_to` take memory.
+    /// Makes room for `more` values beside those in the lists. Only this call and `reserve_to` take memory.
     ///
     /// # Errors
-    ///
-    /// [`Reason::NoMemory`] where the room is still less than `more`. The lists are as they were,
-    /// and neither the room nor the span is less.
+    /// F7 if the room is still less than `more`. The lists are as they were, and neither the room nor the span is
+    /// less.
     #[inline(always)]
     pub fn reserve(&mut self, more: usize) -> Result<()>
         ensures room { OnOk result (more ≤ self.new.room) }
@@ -81,7 +79,7 @@ impl<T, const N: usize> Lists<T, N> {
         ensures kept { self.old.room ≤ self.new.room }
         ensures span { self.old.span ≤ self.new.span }
 
-        // It is refused only where the room is less, and so never where there was room.
+        // It fails only if the room is less, and so never if there was room.
         ensures refused { IfErr result (λ e. e ≡ Reason.NoMemory) }
         ensures lacking { OnErr result (self.new.room < more) }
         ensures had_room { more ≤ self.old.room → IsOk result }
@@ -95,12 +93,11 @@ impl<T, const N: usize> Lists<T, N> {
         }
     }
 
-    /// Makes nodes until there are so many, and so a place for each number below `wanted`.
+    /// Makes nodes until there are `wanted`, so that each number below it is a place.
     ///
     /// # Errors
-    ///
-    /// [`Reason::NoMemory`] where the span is still less than `wanted`. The lists are as they were, and
-    /// neither the room nor the span is less.
+    /// F7 if the span is still less than `wanted`. The lists are as they were, and neither the room nor the span is
+    /// less.
     #[inline(always)]
     pub fn reserve_to(&mut self, wanted: usize) -> Result<()>
         ensures enough { OnOk result (wanted ≤ self.new.span) }
@@ -108,7 +105,7 @@ impl<T, const N: usize> Lists<T, N> {
         ensures kept { self.old.room ≤ self.new.room }
         ensures span { self.old.span ≤ self.new.span }
 
-        // It is refused only where the span is less, and so never where it was enough.
+        // It fails only if the span is less, and so never if it was enough.
         ensures refused { IfErr result (λ e. e ≡ Reason.NoMemory) }
         ensures lacking { OnErr result (self.new.span < wanted) }
         ensures had_span { wanted ≤ self.old.span → IsOk result }
@@ -122,8 +119,8 @@ impl<T, const N: usize> Lists<T, N> {
         }
     }
 
-    /// The place that `push_back` would give: the one that was given back last, or else the least that
-    /// was never given. A room must be reserved.
+    /// Returns the place that `push_back` would take: the one freed last, or else the least that was never taken.
+    /// Needs reserved room.
     #[inline(always)]
     pub fn next_place(&self) -> Place
         requires { 0 < self.now.room }
@@ -137,8 +134,7 @@ impl<T, const N: usize> Lists<T, N> {
         }
     }
 
-    /// Puts a value at the end of a list, at a place that the caller chooses: one below the span, where
-    /// nothing stands. `list` is below `N`.
+    /// Appends a value to a list at a free place below the span, which the caller chooses. `list` is below `N`.
     #[inline(always)]
     pub fn push_back_at(&mut self, list: usize, place: Place, value: T)
         requires list { list < N }
@@ -163,8 +159,7 @@ impl<T, const N: usize> Lists<T, N> {
         );
     }
 
-    /// Puts a value at the end of a list, and answers its place. `list` is below `N`, and a room
-    /// must be reserved, which the value takes.
+    /// Appends a value to a list, and returns its place. `list` is below `N`. Needs reserved room.
     #[inline(always)]
     pub fn push_back(&mut self, list: usize, value: T) -> Place
         requires list { list < N }
@@ -185,8 +180,7 @@ impl<T, const N: usize> Lists<T, N> {
         place
     }
 
-    /// Takes the first value of a list out, where there is one, and gives its room back. `list` is
-    /// below `N`.
+    /// Removes the first value of a list, if there is one, and gives its room back. `list` is below `N`.
     #[inline(always)]
     pub fn pop_front(&mut self, list: usize) -> Option<T>
         requires { list < N }
@@ -204,8 +198,7 @@ impl<T, const N: usize> Lists<T, N> {
         Some(value)
     }
 
-    /// Takes the first value of a list out, where there is one, and answers it with the place that it
-    /// had. `list` is below `N`.
+    /// Removes the first value of a list, if there is one, and returns it with its place. `list` is below `N`.
     #[inline(always)]
     pub fn pop_front_at(&mut self, list: usize) -> Option<(Place, T)>
         requires { list < N }
@@ -230,8 +223,7 @@ impl<T, const N: usize> Lists<T, N> {
         }
     }
 
-    /// Takes the value at a place out of its list, and gives its room back. The place must hold a
-    /// value.
+    /// Removes the value at a place, and gives its room back. The place must have a value.
     #[inline(always)]
     pub fn remove(&mut self, place: Place) -> T
         requires { IsSome (find place self.old.lists) }
@@ -252,8 +244,8 @@ impl<T, const N: usize> Lists<T, N> {
         )
     }
 
-    /// Moves the value at a place to the end of a list, which may be its own. It keeps its place.
-    /// The place must hold a value, and `list` is below `N`.
+    /// Moves the value at a place to the end of a list, which may be its own. It keeps its place. The place must have
+    /// a value, and `list` is below `N`.
     #[inline(always)]
     pub fn move_back(&mut self, place: Place, list: usize)
         requires list { list < N }
@@ -280,8 +272,7 @@ impl<T, const N: usize> Lists<T, N> {
         );
     }
 
-    /// The value at a place for writing. The place must hold a value, and ends with the one that
-    /// was written last.
+    /// Returns the value at a place for writing. The place must have a value.
     #[inline(always)]
     pub fn get_mut(&mut self, place: Place) -> &mut T
         requires { IsSome (find place self.old.lists) }
@@ -294,7 +285,7 @@ impl<T, const N: usize> Lists<T, N> {
         self.nodes.nodes.get_mut(base, place.node)
     }
 
-    /// The number of lists.
+    /// Returns the number of lists.
     #[inline(always)]
     pub(crate) fn count(&self) -> usize
         ensures count { result ≡ N }
@@ -304,7 +295,7 @@ impl<T, const N: usize> Lists<T, N> {
         heads.len()
     }
 
-    // Takes the values of a list out, and drops them.
+    // Removes the values of a list, and drops them.
     fn clear(&mut self, list: usize)
     where
         T: Drop,
@@ -317,7 +308,7 @@ impl<T, const N: usize> Lists<T, N> {
     }
 }
 
-/// Each value is dropped, list by list, and the block is given back.
+/// Drops each value, list by list, and frees the block.
 impl<T: Drop, const N: usize> Drop for Lists<T, N> {
     fn drop(mut self) {
         for list in 0..self.count() {

@@ -1,14 +1,14 @@
-//! How many records the pops of a policy read, over all its calls.
+//! How many readings the pops of a policy make, over all its calls.
 
 ghost use Rattle.foyer_policy.specs.Looks.{LooksArePaid};
 
 use crate::eviction::Eviction;
 
-/// The law that evictions are paid for: over every list of calls of a new policy, the looks of all its
-/// pops together are at most the number of victims that pops gave and of acquires.
+/// The law that bounds the work of pops: over every list of calls of a new policy, the looks of all its pops together
+/// are at most the number of victims plus the number of calls of `acquire`.
 ///
-/// The victims of a `clear` do not count among them, nor what a `clear` reads. This function does nothing;
-/// the law is its contract.
+/// Neither the victims of a `clear` nor what it reads are counted. The function does nothing; the law is its
+/// contract.
 pub fn looks_are_paid<E: Eviction>()
     ensures { LooksArePaid E.model }
 {}

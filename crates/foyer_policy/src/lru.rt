@@ -24,9 +24,10 @@ use std::marker::Model;
 /// The configuration of an [`Lru`].
 #[derive(Clone, Debug, Drop, PartialEq, Eq, Serialize, Deserialize)]
 pub struct LruConfig {
-    /// The share of the capacity that the pool of high priority may weigh, from 0 to 1, rounded
-    /// down. Records that come in with the hint [`Hint::Normal`] have high priority; those that came
-    /// first lose it where the pool would weigh more.
+    /// The part of the capacity that the pool of high priority may weigh, from 0 to 1.
+    ///
+    /// Records with the hint [`Hint::Normal`] have high priority. If the pool weighs more, those inserted first lose
+    /// it.
     pub high_priority_pool_ratio: Ratio,
 }
 
@@ -35,7 +36,7 @@ impl Default for LruConfig {
 
     ghost is_default = { λ c. c.high_priority_pool_ratio ≡ record { num = 9; den = 10 } };
 
-    /// A pool of nine tenths.
+    /// Returns a pool of nine tenths.
     fn default() -> LruConfig {
         LruConfig {
             high_priority_pool_ratio: Ratio { num: 9, den: 10 },
@@ -52,11 +53,10 @@ pub struct LruState {
 
 /// Least recently used, with a pool of high priority and with pins, as in `foyer-memory`.
 ///
-/// A record that comes in with the hint [`Hint::Normal`] is put into the pool of high priority, one
-/// with [`Hint::Low`] beside it. The pool weighs at most its share of the capacity: where it would
-/// weigh more, the first of it lose their priority. An acquired record is pinned until it is
-/// released, and no pop gives it; a released one goes back to where its priority says. A pop takes
-/// what came in or was released longest ago, of low priority first.
+/// A record with the hint [`Hint::Normal`] is inserted into the pool, one with [`Hint::Low`] beside it. If the pool
+/// weighs more than its part of the capacity, its first records lose their priority. A record that is acquired is
+/// pinned until it is released, and no pop takes it; then it goes back to the end of the list of its priority. A pop
+/// takes the record that was inserted or released longest ago, of low priority first.
 #[derive(Drop)]
 pub struct Lru {
     lists: DatedLists<Node, 3>,
@@ -82,7 +82,7 @@ impl Model for Lru {
 }
 
 impl Lru {
-    /// What the pool of high priority weighs, which is at most its limit after every call.
+    /// Returns the weight of the pool of high priority, which is at most its limit after every call.
     pub fn high_priority_weight(&self) -> usize
         ensures weight { result ≡ weight_of (lru_view self.now).high }
         ensures within { IsWithinLimit (lru_view self.now) }
@@ -195,8 +195,8 @@ impl Eviction for Lru {
         }
     }
 
-    /// Takes the first item of low priority out, or else the first of the pool, or answers none where
-    /// every item is pinned. It gives no pinned item, and is never refused.
+    /// Removes the first item of low priority, or else the first of the pool, and returns it with its place. Returns
+    /// `None` if every item is pinned. Never fails.
     #[inline(always)]
     fn pop_at(&mut self) -> Result<Option<(Place, Item)>>
         ensures ok { IsOk result }
@@ -290,7 +290,7 @@ impl Eviction for Lru {
         self.high_weight = settle(&mut self.lists, weight, self.limit);
     }
 
-    // A use moves the node, and then lets one go from the pool of high priority.
+    // A use moves the node, and may lower one of the pool of high priority.
     #[inline(always)]
     fn look_ahead(&self, place: Place) -> bool {
         let lowered = match self.lists.front(HIGH) {
@@ -308,7 +308,7 @@ impl Eviction for Lru {
         }
     }
 
-    // The lists in front of the pinned one: what is pinned is not looked through.
+    // The lists before the pinned one: pinned items aren't searched.
     #[inline(always)]
     fn expired(&self, now: u64) -> Option<Place> {
         first_of_lists(&self.lists, PIN, now)

@@ -8,13 +8,13 @@ use crate::error::{Error, Reason, Result};
 use std::alloc::Global;
 use std::marker::Model;
 
-/// Numbers under indices from 0, as the leaves of a segment tree: each node above them has the least number of its four
-/// children. A number is changed, and the first within a limit, of all or behind an index, is found, in about as many
-/// steps as the tree is high.
+/// Numbers under indices from 0, as the leaves of a segment tree, in which each node has the least number of its four
+/// children. Changing a number, and finding the first one within a limit, take about as many steps as the tree is
+/// high.
 #[derive(Drop)]
 pub(crate) struct MinTree {
-    // The root is node 1, and the children of node i are the four from 4 i - 2 on. Node 0 isn't used, so that the four
-    // stand in one line of the cache where memory begins 16 bytes behind a line's start, as big blocks mostly do.
+    // The root is node 1, and the children of node i are the four from 4 i - 2 on. Node 0 isn't used, so that the
+    // four share a line of the cache if memory begins 16 bytes behind a line's start, as large blocks mostly do.
     nodes: Vec<u64>,
     // The nodes from this one on are the leaves, three times its number less two of them, a power of four.
     first_leaf: usize,
@@ -33,7 +33,7 @@ impl Model for MinTree {
     ghost invariant = { λ t. IsTree t.first_leaf t.nodes.items × (t.marked + 2 < 3 * t.first_leaf) };
 }
 
-// The first leaf of the least tree that has so many leaves, or nothing for a huge number.
+// The first leaf of the smallest tree that has so many leaves, or `None` for a huge number.
 fn first_for(count: usize) -> Option<usize>
     ensures enough { IfSome result (λ first. count + 2 ≤ 3 * first) }
     ensures few { IfSome result (λ first. 3 * first ≤ 4 * count + 3) }
@@ -62,8 +62,8 @@ fn least_number(nodes: &[u64], at: usize) -> u64
     left.min(right)
 }
 
-// The first of four nodes in a row whose number is at most a limit, which one's must be. It has no branches, since which
-// one it is can't be foretold.
+// The first of four nodes in a row whose number is at most a limit; one of them must be. It has no branches, since
+// nobody can predict which one it is.
 #[inline(always)]
 fn first_of(nodes: &[u64], at: usize, limit: u64) -> usize
     requires room { at + 3 < length nodes.now }
@@ -118,7 +118,10 @@ fn first_below(nodes: &[u64], first_leaf: usize, top: usize, limit: u64) -> usiz
 }
 
 impl MinTree {
-    /// So many numbers or more, each the greatest. Only memory can be missing (F7).
+    /// Creates at least so many numbers, each the largest.
+    ///
+    /// # Errors
+    /// F7 if memory runs out.
     pub(crate) fn new(alloc: Global, count: usize) -> Result<Self>
         ensures count { IfOk result (λ t. count ≤ length t) }
         ensures few { IfOk result (λ t. length t ≤ 4 * count + 1) }
@@ -138,7 +141,7 @@ impl MinTree {
         })
     }
 
-    /// The number at an index.
+    /// Returns the number at an index.
     #[inline]
     pub(crate) fn get(&self, index: usize) -> u64
         requires { index < length self.now }
@@ -166,7 +169,7 @@ impl MinTree {
         }
     }
 
-    /// The least number.
+    /// Returns the least number.
     #[inline(always)]
     pub(crate) fn least(&self) -> u64
         ensures below { (i : ℕ) → i < length self.now → result ≤ slice_index self.now i }
@@ -175,7 +178,7 @@ impl MinTree {
         self.nodes[1]
     }
 
-    /// The index of the first number that is at most a limit, or `None` where none is.
+    /// Returns the index of the first number that is at most a limit, or `None`.
     pub(crate) fn first(&self, limit: u64) -> Option<usize>
         ensures within { IfSome result (λ i. (i < length self.now) × (slice_index self.now i ≤ limit)) }
         ensures first { IfSome result (λ i. (j : ℕ) → j < i → limit < slice_index self.now j) }
@@ -187,7 +190,7 @@ impl MinTree {
         Some(first_below(&self.nodes, self.first_leaf, 1, limit))
     }
 
-    /// The index of the first number behind an index that is at most a limit, or `None` where none is.
+    /// Returns the index of the first number after an index that is at most a limit, or `None`.
     pub(crate) fn first_after(&self, index: usize, limit: u64) -> Option<usize>
         requires { index < length self.now }
         ensures behind { IfSome result (λ i. index < i) }
@@ -207,7 +210,7 @@ impl MinTree {
         None
     }
 
-    /// The index that was marked last, or 0 where none was.
+    /// Returns the index that was marked last, or 0 if none was.
     #[inline]
     pub(crate) fn marked(&self) -> usize
         ensures { result < length self.now }
@@ -215,7 +218,7 @@ impl MinTree {
         self.marked
     }
 
-    /// Marks an index, which changes no number.
+    /// Marks an index. No number changes.
     #[inline]
     pub(crate) fn mark(&mut self, index: usize)
         requires { index < length self.old }

@@ -1,12 +1,13 @@
-//! What clauses alone read of what was.
+//! A value as it was, for contracts only.
 
 ghost use Rattle.std.specs.Prelude.{◌≡◌};
 ghost use Rattle.std.specs.Borrow.{ftrue};
 
 use std::marker::{Model, PhantomData, Send, Sync};
 
-/// A value as it was, which clauses alone read, and which takes no memory. It is std's `Snapshot` again, with what a
-/// caller's proof asks for where a struct that holds one goes to another thread or is shared by threads.
+/// A value as it was, which only contracts read and which takes no memory.
+///
+/// It is std's `Snapshot` that is also `Send` and `Sync`, as a struct that holds one needs to be if threads share it.
 pub struct Past<T> {
     of: PhantomData<T>,
     pub ghost value: { T },
@@ -23,7 +24,7 @@ unsafe impl<T> Send for Past<T> {}
 unsafe impl<T> Sync for Past<T> {}
 
 impl<T> Past<T> {
-    /// The value as it is now.
+    /// Keeps the value as it is now.
     pub fn of(value: &T) -> Past<T>
         ensures { result.value ≡ value.now }
     {

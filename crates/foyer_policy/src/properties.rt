@@ -1,4 +1,4 @@
-//! What comes with a record: whether it is a phantom, its hint, its place, its age and when it expires.
+//! What comes with a record: phantom or not, a hint, a location, an age and an expiry.
 
 ghost use Rattle.std.specs.Prelude.{◌≡◌, ℕ, Bool, Option, Some};
 ghost use Rattle.foyer_policy.specs.declared.types.Age.{Age};
@@ -7,9 +7,9 @@ ghost use Rattle.foyer_policy.specs.declared.types.Location.{Location};
 
 use crate::types::{Age, Hint, Location};
 
-/// The properties of a record. A type answers what it keeps, and `None` for what it does not.
+/// The properties of a record. A type returns `None` for what it doesn't keep.
 pub trait Properties: Default + Drop + 'static {
-    // What each question is answered with.
+    // What each method returns.
     ghost phantom_of: { Self → Option Bool };
 
     ghost hint_of: { Self → Option Hint };
@@ -20,43 +20,42 @@ pub trait Properties: Default + Drop + 'static {
 
     ghost expiry_of: { Self → Option ℕ };
 
-    // The properties with another answer to `phantom`.
+    // The properties with another phantom flag.
     ghost with_phantom_of: { Self → Bool → Self };
 
-    /// The same properties, which answer `phantom` with this.
+    /// Returns these properties with this value of `phantom`.
     fn with_phantom(self, phantom: bool) -> Self
         ensures { result ≡ with_phantom_of self phantom };
 
-    /// Whether the record is never to be indexed, and leaves with its last handle.
+    /// Returns whether the record is phantom: no `get` finds it, and it leaves with its last handle.
     fn phantom(&self) -> Option<bool>
         ensures { result ≡ phantom_of self.now };
 
-    /// The properties with a hint, where the type keeps one.
+    /// Returns these properties with a hint, if the type keeps one.
     fn with_hint(self, hint: Hint) -> Self
         ensures { phantom_of result ≡ phantom_of self };
 
-    /// The hint to the policy.
+    /// Returns the hint to the policy.
     fn hint(&self) -> Option<Hint>
         ensures { result ≡ hint_of self.now };
 
-    /// The properties with a location, where the type keeps one.
+    /// Returns these properties with a location, if the type keeps one.
     fn with_location(self, location: Location) -> Self
         ensures { phantom_of result ≡ phantom_of self };
 
-    /// Where the record is to be kept.
+    /// Returns where the record is to be kept.
     fn location(&self) -> Option<Location>
         ensures { result ≡ location_of self.now };
 
-    /// The properties with an age, where the type keeps one.
+    /// Returns these properties with an age, if the type keeps one.
     fn with_age(self, age: Age) -> Self
         ensures { phantom_of result ≡ phantom_of self };
 
-    /// How old the disk's copy of the record is.
+    /// Returns how old the disk's copy of the record is.
     fn age(&self) -> Option<Age>
         ensures { result ≡ age_of self.now };
 
-    /// The properties with the moment at which the record expires, or with none, where the type keeps it. A type
-    /// that keeps none has them as they are.
+    /// Returns these properties with the time at which the record expires, or `None` for never, if the type keeps it.
     fn with_expiry(self, expires: Option<u64>) -> Self
         ensures { phantom_of result ≡ phantom_of self }
     {
@@ -64,11 +63,14 @@ pub trait Properties: Default + Drop + 'static {
         self
     }
 
-    /// When the record expires, or none: its item says the same (`Item::expires`). No cache looks at it yet.
+    /// Returns the time at which the record expires, or `None` for never.
+    ///
+    /// From that time on no `get` finds the record, and it is the first to be evicted. Its item has the same
+    /// (`Item::expires`).
     fn expiry(&self) -> Option<u64>
         ensures { result ≡ expiry_of self.now };
 
-    // The phantom answer is the one that was given, and the other answers stay.
+    // The phantom flag is the given one, and all else stays.
     ghost phantom_given: { (p : Self) (b : Bool) → phantom_of (with_phantom_of p b) ≡ Some b };
 
     ghost hint_stays: { (p : Self) (b : Bool) → hint_of (with_phantom_of p b) ≡ hint_of p };

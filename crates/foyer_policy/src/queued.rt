@@ -1,4 +1,4 @@
-//! Items under places, alone or each with what a policy keeps beside it.
+//! Items in lists, alone or with the state that a policy keeps beside them.
 
 ghost use Rattle.std.specs.Prelude.{◌≡◌, ◌++◌, ◌<◌, IfErr, OnOk, map, option_map};
 ghost use Rattle.foyer_policy.specs.Lists.{list_at};
@@ -46,8 +46,8 @@ impl HasItem for Kept {
     }
 }
 
-/// An item, and what its policy keeps beside it, in no more bytes than the item alone takes. That the record expires
-/// stands beside the hint, as does the state, which is small, and a number that no contract sees.
+/// An item with a small state, in no more bytes than the item alone. Whether the record expires, the state, and a
+/// number that no contract sees are beside the hint.
 #[derive(Drop)]
 pub(crate) struct Queued<S> {
     slot: u32,
@@ -57,7 +57,7 @@ pub(crate) struct Queued<S> {
     hash: u64,
     weight: usize,
     id: u64,
-    // 0 where the record does not expire
+    // 0 if the record does not expire
     moment: u64,
 }
 
@@ -91,7 +91,7 @@ impl<S> Queued<S> {
         }
     }
 
-    /// The item that is kept.
+    /// Returns the item.
     #[inline(always)]
     pub(crate) fn whole(&self) -> Item
         ensures { result ≡ self.now.item }
@@ -109,7 +109,7 @@ impl<S> Queued<S> {
         }
     }
 
-    /// The number that was set last, or 0. No contract sees it.
+    /// Returns the number that was set last, or 0. No contract sees it.
     #[inline(always)]
     pub(crate) fn slot(&self) -> usize {
         self.slot as usize
@@ -125,7 +125,7 @@ impl<S> Queued<S> {
 }
 
 impl<S: Copy> Queued<S> {
-    /// What the policy keeps beside the item.
+    /// Returns the state.
     #[inline(always)]
     pub(crate) fn state(&self) -> S
         ensures { result ≡ self.now.state }
@@ -133,7 +133,7 @@ impl<S: Copy> Queued<S> {
         self.state
     }
 
-    /// Sets what the policy keeps. The item stays.
+    /// Sets the state. The item stays.
     #[inline(always)]
     pub(crate) fn set_state(&mut self, state: S)
         ensures { self.new ≡ record { item = self.old.item; state = state } }
@@ -161,7 +161,7 @@ impl<S> HasItem for Queued<S> {
     }
 }
 
-/// What was found at a place, with its item whole.
+/// Returns what was found at a place, with its item whole.
 #[inline(always)]
 pub(crate) fn whole_found(found: Option<(Place, Kept)>) -> Option<(Place, Item)>
     ensures { result ≡ found }
@@ -172,7 +172,7 @@ pub(crate) fn whole_found(found: Option<(Place, Kept)>) -> Option<(Place, Item)>
     }
 }
 
-/// The item that was found at a place, alone.
+/// Returns the item that was found at a place, alone.
 #[inline(always)]
 pub(crate) fn item_found(found: Option<(Place, Item)>) -> Option<Item>
     ensures { result ≡ option_map (λ e. e.1) found }
@@ -181,7 +181,10 @@ pub(crate) fn item_found(found: Option<(Place, Item)>) -> Option<Item>
     Some(item)
 }
 
-/// Appends the items of a list, first to last. Only memory can be missing (F7).
+/// Appends the items of a list, first to last.
+///
+/// # Errors
+/// F7 if memory runs out.
 pub(crate) fn append_items<T: HasItem, const N: usize>(
     lists: &DatedLists<T, N>,
     list: usize,

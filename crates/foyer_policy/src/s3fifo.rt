@@ -27,13 +27,12 @@ use std::marker::Model;
 /// The configuration of an [`S3Fifo`].
 #[derive(Clone, Debug, Drop, PartialEq, Eq, Serialize, Deserialize)]
 pub struct S3FifoConfig {
-    /// The share of the capacity that the small queue may weigh before a pop takes from it, above 0
-    /// and below 1, rounded down.
+    /// The part of the capacity that the small queue may weigh before a pop takes from it, above 0 and below 1.
     pub small_queue_capacity_ratio: Ratio,
-    /// The share of the capacity that the ghost queue may weigh, any number, rounded down.
+    /// The part of the capacity that the ghost queue may weigh, any number.
     pub ghost_queue_capacity_ratio: Ratio,
-    /// From this frequency on, a pop moves a record of the small queue to the main queue and does not
-    /// evict it. More than 3 counts as 3.
+    /// From this frequency on, a pop moves a record of the small queue to the main queue instead of evicting it. More
+    /// than 3 counts as 3.
     pub small_to_main_freq_threshold: u8,
 }
 
@@ -46,7 +45,7 @@ impl Default for S3FifoConfig {
       small_to_main_freq_threshold = 1;
     } };
 
-    /// A small queue of one tenth, a ghost queue of the whole, a threshold of 1.
+    /// Returns a small queue of one tenth, a ghost queue of the whole capacity and a threshold of 1.
     fn default() -> S3FifoConfig {
         S3FifoConfig {
             small_queue_capacity_ratio: Ratio { num: 1, den: 10 },
@@ -56,13 +55,13 @@ impl Default for S3FifoConfig {
     }
 }
 
-/// S3-FIFO, after "FIFO queues are all you need for cache eviction" (SOSP 2023): a small queue for what comes
-/// in, a main queue for what was used, and a ghost queue that remembers what left the small one.
+/// S3-FIFO (Yang and others, "FIFO queues are all you need for cache eviction", SOSP 2023): a small queue for new
+/// records, a main queue for those that were used, and a ghost queue that remembers what left the small one.
 ///
-/// Each use adds 1 to a record's frequency, up to 3. Where the small queue weighs more than its limit, a
-/// pop looks along it: records at or above the threshold go to the main queue, the first below it leaves.
-/// Else the main queue gives its first record of frequency 0, after lowering each before it by one and
-/// putting it at the back. A record whose hash the ghost queue remembers comes in at the main queue.
+/// Each use adds 1 to a record's frequency, up to 3. If the small queue weighs more than its limit, a pop goes along
+/// it: records at or above the threshold move to the main queue, and the first one below it leaves. Otherwise the
+/// first record of the main queue with frequency 0 leaves; each one before it is lowered by 1 and goes to the back. A
+/// record whose hash the ghost queue remembers is inserted into the main queue.
 #[derive(Drop)]
 pub struct S3Fifo {
     queues: DatedLists<Node, 2>,
@@ -93,7 +92,7 @@ impl Model for S3Fifo {
 }
 
 impl S3Fifo {
-    // Takes the victim out, for which the ghost queue has room, and answers it with the place that it had.
+    // Removes the victim, for which the ghost queue has room, and returns it with its place.
     fn pop_reserved(&mut self) -> Option<(Place, Item)>
         requires room { HasRoomToPop self.old }
         ensures stood { IfSome result (λ e. item_at self.old.nodes.lists e.0 ≡ Some e.1) }
@@ -264,8 +263,7 @@ impl Eviction for S3Fifo {
         item
     }
 
-    // Of what a clear takes out only records of the small queue enter the ghost queue, and none where
-    // that is within its limit.
+    // A clear enters only records of the small queue in the ghost queue, and none if that queue is within its limit.
     fn reserve_clear(&mut self) -> Result<()> {
         if self.small_weight <= self.limit || self.ghost_queue.capacity() == 0 {
             return Ok(());

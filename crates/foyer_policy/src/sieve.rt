@@ -19,7 +19,7 @@ use serde::{Deserialize, Serialize};
 use std::alloc::Global;
 use std::marker::Model;
 
-/// The configuration of a [`Sieve`], which has no parts.
+/// The configuration of a [`Sieve`]: nothing to set.
 #[derive(Clone, Debug, Default, Drop, PartialEq, Eq, Serialize, Deserialize)]
 pub struct SieveConfig;
 
@@ -31,7 +31,7 @@ pub struct SieveState {
 
 type Node = Queued<SieveState>;
 
-// What a pop took out, the place that it had, where the hand goes, and how many bits it read.
+// What a pop removed, its place, where the hand goes, and how many bits were read.
 #[derive(Drop)]
 struct Victim {
     item: Item,
@@ -40,12 +40,12 @@ struct Victim {
     looks: u128,
 }
 
-/// Sieve, after "SIEVE is Simpler than LRU" (NSDI 2024): records stand in the order in which they came
-/// in, and a use sets a record's visited bit.
+/// Sieve (Zhang and others, "SIEVE is Simpler than LRU", NSDI 2024): records stay in the order in which they were
+/// inserted, and a use sets a record's visited bit.
 ///
-/// A pop looks from the hand on, or from the front where there is no hand, and goes on at the front after
-/// the last record. A visited record loses its bit; the first unvisited one leaves. The hand then points
-/// to the record behind it, or to none behind the last.
+/// A pop goes along the queue from the hand, or from the front if there is no hand, and on from the front after the
+/// last record. A visited record loses its bit; the first unvisited one leaves. The hand then points to the record
+/// behind it, or to none at the end.
 #[derive(Drop)]
 pub struct Sieve {
     queue: DatedLists<Node, 1>,
@@ -66,8 +66,8 @@ impl Model for Sieve {
     ghost invariant = { λ s. IsSound s.queue.lists s.hand };
 }
 
-// Reads the visited bit of the node at a place, and takes it off. This is the only reading of a bit that
-// a pop makes, and it counts as one look.
+// Reads the visited bit of the node at a place, and clears it. This is the only reading of a bit that a pop makes,
+// and it counts as one look.
 fn take_bit(queue: &mut DatedLists<Node, 1>, place: Place, looks: &mut u128) -> bool
     requires there { IsSome (find place queue.old.lists) }
     requires few { looks.old < 2 ^ 64 }
@@ -84,7 +84,7 @@ fn take_bit(queue: &mut DatedLists<Node, 1>, place: Place, looks: &mut u128) -> 
     visited
 }
 
-// The place behind this one in the queue; behind the last, the first.
+// The place after this one in the queue; after the last, the first.
 fn next_round(queue: &DatedLists<Node, 1>, place: Place) -> Place
     requires { IsSome (find place queue.now.lists) }
     ensures place { (xs ys : _) (n : _) → list_at queue.now.lists 0 ≡ xs ++ (place, n) ∷ ys
@@ -99,7 +99,7 @@ fn next_round(queue: &DatedLists<Node, 1>, place: Place) -> Place
     }
 }
 
-// Takes the victim out, looking from a place on.
+// Removes the victim, looking from a place on.
 fn take_victim(queue: &mut DatedLists<Node, 1>, start: Place) -> Victim
     requires there { IsSome (find start queue.old.lists) }
     requires once { HasIdsOnce (entry_items (list_at queue.old.lists 0)) }
@@ -129,7 +129,7 @@ fn take_victim(queue: &mut DatedLists<Node, 1>, start: Place) -> Victim
     }
 }
 
-// The hand, once the node at this place goes.
+// The hand after the node at this place is removed.
 fn hand_beside(hand: Option<Place>, place: Place) -> Option<Place>
     ensures { result ≡ hand_without place hand }
 {
@@ -218,8 +218,8 @@ impl Eviction for Sieve {
         self.queue.push_back_at(0, place, Queued::of(item, state));
     }
 
-    /// Takes the first unvisited record of the rotation from the hand out, or else the first of the
-    /// rotation; or answers none where there is no record. It is never refused.
+    /// Removes the first unvisited record from the hand on, or else the first one, and returns it with its place.
+    /// Returns `None` if there is no record. Never fails.
     fn pop_at(&mut self) -> Result<Option<(Place, Item)>>
         ensures ok { IsOk result }
         ensures first { IfOk result (λ found. option_map (λ e. e.1) found

@@ -1,4 +1,4 @@
-//! How often hashes were seen lately, by a count-min sketch.
+//! A count-min sketch, which estimates how often hashes were seen lately.
 
 ghost use Rattle.std.specs.Prelude.{◌≡◌, ◌==◌, ℕ, suc, ◌+◌, ◌*◌, ◌/◌, ◌<◌, ◌≤◌, ◌^◌, List, Option, None, Some, OnOk, IfOk, IfErr, IfSome, length, map, slice_index, slice_set};
 ghost use Rattle.std.specs.Simd.{first_chunks};
@@ -14,19 +14,18 @@ use std::simd::prelude::*;
 // How many counters are halved at once.
 const LANES: usize = 32;
 
-/// A count-min sketch (Cormode and Muthukrishnan, 2005): rows of counters of 16 bits that tell about
-/// how often each hash was counted, in a fixed amount of memory.
+/// A count-min sketch (Cormode and Muthukrishnan, 2005): rows of counters of 16 bits that estimate how often each
+/// hash was counted, in a fixed amount of memory.
 ///
-/// A hash has one bucket in each row, and its estimate is the least of their counters, which hashes
-/// of the same buckets raise too. As in TinyLFU (Einziger, Friedman and Manes, 2017) old counts fade:
-/// the step goes up with each hash, and once it is as high as a row has buckets, all counters and the
-/// step are halved.
+/// A hash has one bucket in each row, and its estimate is the least of their counters, which hashes of the same
+/// buckets raise too. Old counts fade as in TinyLFU (Einziger, Friedman and Manes, 2017): the step rises with each
+/// hash, and once it equals the number of buckets, all counters and the step are halved.
 ///
-/// Some past of counted hashes and halvings gives the counters and the step, and for each such past
-/// a hash's estimate is at least the hash's own number in it, and at most the step.
+/// The counters and the step come from some past of counted hashes and halvings. For each such past, a hash's
+/// estimate is at least the hash's own count in it, and at most the step.
 #[derive(Drop)]
 pub struct Sketch {
-    // The counter of row r and bucket b stands at r * buckets + b.
+    // The counter of row r and bucket b is at r * buckets + b.
     counters: Vec<u16>,
     rows: usize,
     buckets: u32,
@@ -131,8 +130,10 @@ fn least_counter(counters: &[u16], rows: usize, buckets: u32, hash: u64) -> u16
 }
 
 impl Sketch {
-    /// A sketch that has counted nothing. Refused where there are no rows (F5), else where there are
-    /// no buckets (F6), and else only for want of memory (F7).
+    /// Creates a sketch that has counted nothing.
+    ///
+    /// # Errors
+    /// F5 if there are no rows, F6 if there are no buckets, then F7 if memory runs out.
     pub fn new(alloc: Global, rows: u8, buckets: u32) -> Result<Self>
         ensures made { IfOk result (λ s. s ≡ new_sketch rows buckets) }
         ensures accepted { OnOk result (size_fault rows buckets ≡ None) }
@@ -157,9 +158,8 @@ impl Sketch {
         })
     }
 
-    /// Counts a hash: its counter in each row rises by one, up to the greatest number, and so does
-    /// the step. Where the step is then the number of buckets, the step and all counters are halved,
-    /// rounded down.
+    /// Counts a hash: adds 1 to its counter in each row, up to the largest number, and to the step. If the step then
+    /// equals the number of buckets, halves the step and all counters, rounded down.
     pub fn update(&mut self, hash: u64)
         ensures { self.new ≡ counting hash self.old }
     {
@@ -171,7 +171,7 @@ impl Sketch {
         }
     }
 
-    /// How often the hash was counted, about: the least of its counters.
+    /// Returns about how often the hash was counted: the least of its counters.
     pub fn estimate(&self, hash: u64) -> u16
         ensures estimate { result ≡ estimate_of self.now hash }
         ensures past { HasPast self.now }
@@ -189,8 +189,8 @@ impl Sketch {
         halve_all(self.counters.as_mut_slice());
     }
 
-    /// How many hashes were counted, halved wherever an `update` halved the counters. It is below the
-    /// number of buckets.
+    /// Returns the step: how many hashes were counted, halved whenever an `update` halved the counters. It is below
+    /// the number of buckets.
     pub fn step(&self) -> usize
         ensures step { result ≡ self.now.step }
         ensures below { result < self.now.buckets }
@@ -199,8 +199,10 @@ impl Sketch {
     }
 }
 
-/// A law of every estimate, by the sketch's definitions alone: for each past that explains a sketch,
-/// a hash's estimate is at least the hash's own number in that past, and at most the step.
+/// The law of estimates: for each past that explains a sketch, a hash's estimate is at least the hash's own count in
+/// that past, and at most the step.
+///
+/// The function does nothing; the law is its contract.
 pub fn estimates_are_bounded()
     ensures { EstimatesAreBounded }
 {}

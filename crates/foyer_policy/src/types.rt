@@ -1,4 +1,4 @@
-//! Types that every layer of the cache speaks of.
+//! Types that all crates of the cache share.
 
 ghost use Rattle.std.specs.Prelude.{◌≡◌};
 
@@ -8,9 +8,9 @@ use std::hash::Hash;
 /// Why a record left.
 #[derive(Clone, Copy, Debug, PartialEq, Eq, Hash)]
 pub enum Event {
-    /// It was evicted to make room, or asked to leave by a predicate.
+    /// It was evicted to make room, or because a predicate picked it.
     Evict,
-    /// A newer record took its key.
+    /// A newer record replaced it.
     Replace,
     /// Its key was removed.
     Remove,
@@ -24,7 +24,7 @@ pub enum Hint {
     /// The record has no special priority.
     #[default]
     Normal,
-    /// The record is to leave early.
+    /// The record should leave early.
     Low,
 }
 
@@ -34,9 +34,9 @@ pub enum Location {
     /// In memory and on disk.
     #[default]
     Default,
-    /// In memory alone.
+    /// In memory only.
     InMem,
-    /// On disk alone.
+    /// On disk only.
     OnDisk,
 }
 
@@ -63,25 +63,25 @@ pub enum Source {
     Disk,
 }
 
-/// A share of a capacity: `num / den`.
+/// A part of a capacity: `num / den`, rounded down.
 #[derive(Clone, Copy, Debug, PartialEq, Eq, Hash, Serialize, Deserialize)]
 pub struct Ratio {
     pub num: u32,
     pub den: u32,
 }
 
-/// What a policy keeps of a record.
+/// What a policy knows of a record.
 #[derive(Clone, Copy, Debug, PartialEq, Eq, Hash)]
 pub struct Item {
-    /// The record's number, which its shard gives once.
+    /// The record's id, which its shard gives once.
     pub id: u64,
     /// The hash of the record's key.
     pub hash: u64,
-    /// What the record counts against the capacity.
+    /// The weight.
     pub weight: usize,
     /// The hint that came with the record.
     pub hint: Hint,
-    /// When the record expires, or none. From that moment on `Eviction::expired` may name it.
+    /// The time from which on the record is expired, or `None` for never.
     pub expires: Option<u64>,
 }
 
@@ -95,7 +95,7 @@ pub trait Value: Drop + 'static {}
 
 impl<T: Drop + 'static> Value for T {}
 
-/// Is told of the records that leave a cache.
+/// Hears of each record that leaves a cache.
 pub trait EventListener: Drop + 'static {
     /// The cache's key.
     type Key;
@@ -103,6 +103,6 @@ pub trait EventListener: Drop + 'static {
     /// The cache's value.
     type Value;
 
-    /// Is called once for each record that left, with the reason why it did.
+    /// Called once for each record that left, with the reason.
     fn on_leave(&self, event: Event, key: &Self::Key, value: &Self::Value);
 }

@@ -1,6 +1,6 @@
 //! The cache that many threads share.
 
-ghost use Rattle.std.specs.Prelude.{◌≡◌, None, Err, IfErr, IfSome, OnOk};
+ghost use Rattle.std.specs.Prelude.{◌≡◌, None, Err, IfErr, IfOk, IfSome, OnOk};
 ghost use Rattle.foyer_policy.specs.declared.error.Reason.TheVariants.{NoMemory};
 
 use crate::fetch::{FetchTypes, NoFetch};
@@ -12,7 +12,7 @@ use crate::shares::Shares;
 use crate::stripes::Stripes;
 use crate::ticket::{Answer, Notifier};
 use foyer_core::{
-    AdmitAll, CacheCore, CacheProperties, Filter, Finder, RawCacheConfig, Rules, TagFinder,
+    AdmitAll, CacheCore, CacheProperties, Filter, Finder, RawCacheConfig, Rules, Stats, TagFinder,
     UnitWeighter, Weighter,
 };
 use foyer_policy::{
@@ -22,10 +22,12 @@ use foyer_policy::{
 use std::alloc::Global;
 use std::sync::{Arc, Wait};
 
+mod blocking;
 mod bulk;
 mod fetching;
 mod insertion;
 mod keys;
+mod walks;
 
 /// A cache that many threads share. Each shard stands under a lock of its own, and each call makes one step of a shard,
 /// or one of each in turn. What left is told after the lock is released.
@@ -60,6 +62,7 @@ where
 {
     shares: Shares<H, E, K, V, S, P, W, A, L, Q, T::Required, I>,
     stripes: Arc<Stripes<H, E, K, V, S, P, W, A, L, T::Required, I>>,
+    time_to_live: Option<u64>,
 }
 
 impl<H, E, K, V, S, P, W, A, L, Q, T, I> RawCache<H, E, K, V, S, P, W, A, L, Q, T, I>
@@ -122,7 +125,17 @@ where
                 pipe: None,
             },
             stripes: Arc::new(alloc, stripes)?,
+            time_to_live: None,
         })
+    }
+
+    /// The same cache with this time to live, in the unit of the current time: from then on what is inserted or fetched by this
+    /// value and its clones, and says no expiry of its own, expires at that call's `now + time_to_live` (at most 2^64 - 1).
+    pub fn with_time_to_live(mut self, time_to_live: Option<u64>) -> Self
+        ensures { result.time_to_live ≡ time_to_live }
+    {
+        self.time_to_live = time_to_live;
+        self
     }
 }
 
@@ -142,17 +155,26 @@ where
     T: FetchTypes<K, V, P>,
 {
     /// The same cache again, with the same pipe. Refused where something can't be shared (F7).
-    pub fn try_clone(&self) -> Result<Self> {
+    pub fn try_clone(&self) -> Result<Self>
+        ensures { IfOk result (λ again. again.time_to_live ≡ self.now.time_to_live) }
+    {
         Ok(RawCache {
             shares: self.shares.try_clone()?,
             stripes: Arc::try_clone(&self.stripes)?,
+            time_to_live: self.time_to_live,
         })
     }
 
     /// The same cache with this pipe, which its entries, clones and tasks have from then on. Those that were made before
     /// keep what they had.
-    pub fn with_pipe(self, pipe: Arc<Q>) -> Self {
-        let RawCache { shares, stripes } = self;
+    pub fn with_pipe(self, pipe: Arc<Q>) -> Self
+        ensures { result.time_to_live ≡ self.time_to_live }
+    {
+        let RawCache {
+            shares,
+            stripes,
+            time_to_live,
+        } = self;
         let Shares { shared, pipe: _ } = shares;
         RawCache {
             shares: Shares {
@@ -160,6 +182,7 @@ where
                 pipe: Some(pipe),
             },
             stripes,
+            time_to_live,
         }
     }
 
@@ -181,6 +204,16 @@ where
     /// How many records are in, expired or not, one shard after the other.
     pub fn entries(&self) -> u128 {
         self.shares.shared.shards.entries()
+    }
+
+    /// What the cache has counted, one shard after the other.
+    pub fn stats(&self) -> Stats {
+        self.shares.shared.shards.stats()
+    }
+
+    /// Counts from 0 again, one shard after the other.
+    pub fn reset_stats(&self) {
+        self.shares.shared.shards.reset_stats();
     }
 
     /// What gives the keys their hashes.

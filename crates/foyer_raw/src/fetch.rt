@@ -10,7 +10,7 @@ mod wait;
 
 pub use direct::{Direct, Given, NoFetch};
 pub use pollable::Pollable;
-pub use spawner::{ListSpawner, Spawner};
+pub use spawner::{AllTasks, ListSpawner, Spawner};
 pub use state::{RawFetchState, TaskEvent};
 pub(crate) use task::Begin;
 pub use task::RawFetch;

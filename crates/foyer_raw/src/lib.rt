@@ -4,10 +4,12 @@
 
 pub mod cache;
 pub mod entry;
+mod expiry;
 pub mod fetch;
 pub mod flush;
 pub mod listener;
 pub mod pipe;
+pub mod runtime;
 mod shards;
 mod shared;
 mod shares;
@@ -17,11 +19,12 @@ pub mod ticket;
 pub use cache::RawCache;
 pub use entry::RawCacheEntry;
 pub use fetch::{
-    Direct, FetchTypes, Given, ListSpawner, NoFetch, OptionalFetch, OptionalFetchBuilder, Pollable,
+    AllTasks, Direct, FetchTypes, Given, ListSpawner, NoFetch, OptionalFetch, OptionalFetchBuilder, Pollable,
     RawFetch, RawFetchState, RawGetOrFetch, RawWait, RequiredFetch, RequiredFetchBuilder, Spawner,
     TaskEvent,
 };
 pub use flush::{Flush, FlushIf};
 pub use listener::{NoListener, tell};
 pub use pipe::{NoopPipe, Pipe};
+pub use runtime::Runtime;
 pub use ticket::{Answer, Notifier, Ticket, Waiter};

@@ -11,9 +11,12 @@ use std::hint::spin_loop;
 use std::sync::{Mutex, MutexGuard, Wait};
 
 mod bulk;
+mod counting;
 mod fetches;
 mod keys;
+mod walk;
 
+pub(crate) use counting::Counting;
 pub(crate) use fetches::{Later, RawEnded};
 pub(crate) use keys::RawInserted;
 
@@ -39,8 +42,8 @@ where
     R: Drop,
     I: Finder<K>,
 {
-    rt: H,
-    all: Vec<Mutex<RawShard<E, K, V, P, R, I>>>,
+    pub(crate) rt: H,
+    all: Vec<Mutex<Counting<E, K, V, P, R, I>>>,
     // The capacity, under the lock that orders changes of all shards.
     capacity: Mutex<usize>,
     pub(crate) alloc: Global,
@@ -85,7 +88,8 @@ where
     pub(crate) fn finish<L: EventListener<Key = K, Value = V>>(self, listener: &L) {
         let Shards { all, .. } = self;
         for shard in all {
-            shard.into_inner().finish(&|key: &K, value: &V| listener.on_leave(
+            let Counting { shard, stats: _ } = shard.into_inner();
+            shard.finish(&|key: &K, value: &V| listener.on_leave(
                 Event::Clear,
                 key,
                 value,
@@ -114,7 +118,7 @@ where
 
     // The shard of a hash, locked. A lock that is free is had without waiting.
     #[inline(always)]
-    pub(crate) fn lock(&self, hash: u64) -> MutexGuard<'_, RawShard<E, K, V, P, R, I>> {
+    pub(crate) fn lock(&self, hash: u64) -> MutexGuard<'_, Counting<E, K, V, P, R, I>> {
         let place = self.index_of(hash);
         match self.all[place].try_lock() {
             Some(shard) => shard,
@@ -126,7 +130,7 @@ where
     // the thread looks for a while first.
     #[cold]
     #[inline(never)]
-    fn wait_for(&self, place: usize) -> MutexGuard<'_, RawShard<E, K, V, P, R, I>>
+    fn wait_for(&self, place: usize) -> MutexGuard<'_, Counting<E, K, V, P, R, I>>
         requires { place < vec_len self.now.all }
     {
         let shard = &self.all[place];
@@ -144,13 +148,13 @@ where
 fn locked<E: Eviction, K: Key, V: Value, P: Properties, R: Drop, I: Finder<K>>(
     alloc: Global,
     made: Vec<RawShard<E, K, V, P, R, I>>,
-) -> Result<Vec<Mutex<RawShard<E, K, V, P, R, I>>>>
+) -> Result<Vec<Mutex<Counting<E, K, V, P, R, I>>>>
     ensures len { IfOk result (λ all. vec_len all ≡ vec_len made) }
     ensures memory { IfErr result (λ e. e ≡ NoMemory) }
 {
     let mut all = Vec::new(alloc);
     for shard in made {
-        all.push(Mutex::new(shard))?;
+        all.push(Mutex::new(Counting::new(shard)))?;
     }
     Ok(all)
 }

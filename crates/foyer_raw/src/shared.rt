@@ -80,7 +80,7 @@ where
     // The weight that the weighter gives a piece, whose key has this hash, and 0 of one that its shard knows, of which it
     // is not asked. A piece that the shard knows once it knows from then on.
     pub(crate) fn weight_of(&self, hash: u64, piece: &Piece<K, V, P>) -> usize {
-        let is_known = self.shards.lock(hash).knows(hash, piece);
+        let is_known = self.shards.lock(hash).shard.knows(hash, piece);
         if is_known {
             return 0;
         }
@@ -106,8 +106,8 @@ where
             0
         };
         let is_home = self.shards.index_of(own) == self.shards.index_of(hash);
-        let mut shard = self.shards.lock(hash);
-        shard.complete_piece(
+        let mut locked = self.shards.lock(hash);
+        let ended = locked.shard.complete_piece(
             self.shards.alloc,
             now,
             hash,
@@ -117,6 +117,8 @@ where
             own,
             is_home,
             weight,
-        )
+        );
+        locked.count_ended(now, &ended);
+        ended
     }
 }

@@ -13,6 +13,10 @@ use foyer_core::{Answers, CoreEntry, Ended, Finder, Leave, Left, Piece};
 use foyer_policy::{EventListener, Eviction, Key, Properties, Result, Value};
 use std::sync::{Arc, Wait};
 
+mod ending;
+
+pub(crate) use ending::Fetch;
+
 /// What a cache, an entry, a wait and a task each have: a share of what they have in common, and the pipe.
 #[derive(Drop)]
 pub(crate) struct Shares<H, E, K, V, S, P, W, A, L, Q, R, I>

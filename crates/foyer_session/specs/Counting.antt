@@ -44,8 +44,8 @@ refusal_counted _ s = s
 module _ {K V P : Type 0} (phantom : P → Option Bool) where
   -- the counts after the answer to an insert
   abbrev pub insert_answered : Answer K V P → Stats → Stats
-  insert_answered (Entry _ record _) s = insert_counted (is_phantom (phantom record.kept.properties)) s
-  insert_answered (Answered _ (Some record)) s = insert_counted (is_phantom (phantom record.kept.properties)) s
+  insert_answered (Entry _ shown _) s = insert_counted (is_phantom (phantom shown.kept.properties)) s
+  insert_answered (Answered _ (Some shown)) s = insert_counted (is_phantom (phantom shown.kept.properties)) s
   insert_answered (Answered _ None) s = counted IsRefused s
   insert_answered (Refused _) s = counted IsRefused s
   insert_answered _ s = s

@@ -1,4 +1,4 @@
-//! What those get who waited for a key.
+//! What waiters get.
 
 ghost use Rattle.std.specs.Prelude.{◌≡◌, ◌==◌, Err, IfSome, IfNone, All, map, slice_get, length, option_map, option_and_then, vec_len};
 ghost use Rattle.foyer_session.specs.Tokens.{Fits, Fits-prop, got_by, handle_in, IsNoFault, numbers_of};
@@ -9,19 +9,19 @@ use std::marker::Model;
 
 mod alike;
 
-/// What each of those gets who waited.
+/// What the waiters get.
 #[derive(Drop)]
 pub(crate) enum Gets {
     // A handle each, numbered from this one on.
     Handles(u64),
     // Nothing.
     Nothing,
-    // The one refusal.
+    // The one error for all.
     Fault(Error),
 }
 
-/// The tokens of those who waited, in order, each with what it got: the number of a handle, nothing, or the one
-/// refusal of all. Contracts see a list of both.
+/// The tokens of the waiters, in order, each with what it got: the number of a handle, nothing, or the one error for
+/// all. Contracts see a list of pairs.
 #[derive(Drop)]
 pub struct Answers {
     waiters: Vec<Waiting<()>>,
@@ -48,21 +48,21 @@ impl Answers {
         Answers { waiters, gets }
     }
 
-    /// How many waited.
+    /// Returns the number of waiters.
     pub fn len(&self) -> usize
         ensures { result ≡ length self.now }
     {
         self.waiters.len()
     }
 
-    /// Whether nobody waited.
+    /// Returns whether nobody waited.
     pub fn is_empty(&self) -> bool
         ensures { result ≡ (length self.now == 0) }
     {
         self.waiters.is_empty()
     }
 
-    /// The token at a place of the list.
+    /// Returns the token at a position of the list.
     pub fn token(&self, at: usize) -> Option<u64>
         ensures { result ≡ option_map (λ got. got.0) (slice_get self.now at) }
     {
@@ -70,7 +70,7 @@ impl Answers {
         Some(waiting.token)
     }
 
-    /// The number of the handle that the token at a place of the list got, where it got one.
+    /// Returns the number of the handle that the token at a position got, if it got one.
     pub fn handle(&self, at: usize) -> Option<u64>
         ensures { result ≡ option_and_then (λ got. handle_in got.1) (slice_get self.now at) }
     {
@@ -87,7 +87,7 @@ impl Answers {
         }
     }
 
-    /// Why all got nothing, where it was refused.
+    /// Returns the error that all waiters got, if they got one.
     pub fn fault(&self) -> Option<&Error>
         ensures some { IfSome result (λ error. All (λ got. got.1 ≡ Err error.now) self.now) }
         ensures none { IfNone result (All (λ got. IsNoFault got.1) self.now) }

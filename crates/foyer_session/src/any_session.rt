@@ -15,9 +15,9 @@ use crate::session::Session;
 use foyer_core::{Filter, Weighter};
 use foyer_policy::{AnyEviction, EvictionConfig, HashBuilder, Key, Properties, Result, Value};
 
-/// Carries out commands as `Session::run` does, over a cache whose policy its configuration chose. What leaves is what
-/// that policy gives. `Session::run` promises the same of a session over one of the five by itself, since it is generic
-/// in the policy.
+/// Carries out commands, like `Session::run`, over a cache whose policy was chosen by its configuration.
+///
+/// What is evicted is what that policy evicts. For a session over one policy type, `Session::run` promises the same.
 pub fn run_any<
     K: Key,
     V: Value,

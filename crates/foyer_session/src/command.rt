@@ -1,4 +1,4 @@
-//! What a session is asked, and what it answers.
+//! The commands of a session, and its replies.
 
 ghost use Rattle.std.specs.Prelude.{◌≡◌, []};
 
@@ -11,77 +11,79 @@ use std::sync::Arc;
 
 mod alike;
 
-/// What a session is asked. It names a handle by its number: handles are numbered from 0 in the order in
-/// which they were handed out, and so are pieces. A first number `now` is the moment of the command: a record that has
-/// expired by then is not found, and is the first to be evicted. Moments may go back. `Q` is the predicate of a `FlushIf`, and `C` the configuration of
-/// the cache's policy.
+/// A command to a session. It names handles and pieces by their numbers, from 0 in the order in which they were
+/// handed out.
+///
+/// If the first number is `now`, it is the current time in any unit: a record that has expired by then is a miss, and
+/// is the first to be evicted. Times may go back. `Q` is the predicate of `FlushIf`, and `C` the configuration of the
+/// cache's policy.
 #[derive(Clone, Debug, Drop, PartialEq, Eq)]
 pub enum Command<K, V, P, Q, C> {
-    /// `now`, and a key, a value and properties of which a record is to come in.
+    /// Inserts, at `now`, a record with this key, value and properties.
     Insert(u64, K, V, P),
-    /// Asks, at `now`, for a handle of the key's record.
+    /// Looks the key up at `now`, and takes a handle of its record.
     Get(u64, K),
-    /// Asks whether the key has a record at `now`.
+    /// Asks whether the key is a hit at `now`.
     Contains(u64, K),
-    /// Uses the key's record at `now`, as a `Get` does whose handle is dropped at once.
+    /// Uses the key's record at `now`, like a `Get` whose handle is dropped at once.
     Touch(u64, K),
-    /// Takes the key's record out, and asks for a handle of it.
+    /// Removes the key's record, expired or not, and takes a handle of it.
     Remove(K),
-    /// Asks for one more handle of the record of the handle of this number.
+    /// Clones the handle of this number.
     Clone(u64),
-    /// Gives the handle of this number back.
+    /// Drops the handle of this number.
     Drop(u64),
-    /// Asks for a piece of the record of the handle of this number. The piece stays held.
+    /// Takes a piece of the record of the handle of this number. The piece stays held.
     TakePiece(u64),
-    /// `now`, and the number of a piece whose record is to come in. The piece stays held.
+    /// Inserts, at `now`, a clone of the piece of this number. The piece stays held.
     InsertPiece(u64, u64),
     /// Asks how many handles the record of the handle of this number has.
     Refs(u64),
-    /// Asks whether the record of the handle of this number left.
+    /// Asks whether the record of the handle of this number is no longer in the index.
     Outdated(u64),
-    /// Asks, at `now`, for a handle of the key's record. Where there is none, who asks waits for the key's fetch with a token,
-    /// and leads a new one where none is open. The number is the label of a builder that who waits brings.
+    /// Looks the key up at `now`, and on a miss takes a token and waits for the key's fetch. If none is open, the
+    /// caller leads a new one. The label stands for a builder that the caller brings.
     GetOrFetch(u64, K, Option<u64>),
-    /// Ends, at `now`, the key's fetch of this number with a record of the key.
+    /// Completes, at `now`, the key's fetch of this id.
     Complete(u64, K, u64, End<V, P>),
-    /// Ends the key's fetch of this number with a fault.
+    /// Ends the key's fetch of this id with a fault.
     Fail(K, u64, Arc<Fault, Global>),
-    /// Ends the key's fetch of this number, whose task was dropped.
+    /// Ends the key's fetch of this id, whose task was dropped.
     Cancel(K, u64),
-    /// The key's fetch of this number found nothing, or failed with the fault. Where a builder is kept it goes on
-    /// with that, and else it ends.
+    /// Says that the key's fetch of this id found nothing, or failed with the fault. It goes on with the builder that
+    /// is kept, or ends if there is none.
     FetchOrTake(K, u64, Option<Arc<Fault, Global>>),
-    /// Asks whether the key's fetch of this number is open.
+    /// Asks whether the key's fetch of this id is open.
     IsOpen(K, u64),
-    /// Takes all records out.
+    /// Removes all records.
     Clear,
-    /// Evicts all records that are not pinned: those first that have expired at `now`.
+    /// Evicts all records that aren't pinned, those that have expired at `now` first.
     EvictAll(u64),
     /// Evicts the records that the predicate picks, pinned or not.
     FlushIf(Q),
-    /// Sets the weight that the records may have together, and evicts to it at `now`.
+    /// Sets the capacity, and evicts to it at `now`.
     Resize(u64, usize),
-    /// Sets the configuration of each shard's policy, where it is one of that policy's (F17) and has no fault (F2 to
-    /// F6). Nothing leaves.
+    /// Gives each shard's policy another configuration; nothing is evicted. F17 if it is another policy's, F2 to F6
+    /// if it has a fault.
     Reconfigure(C),
-    /// Asks for the weight that the records may have together.
+    /// Asks for the capacity.
     Capacity,
-    /// Asks for the sum of the weights of the records that a get finds.
+    /// Asks for the sum of the weights of the records in the index, expired or not.
     Usage,
-    /// Asks how many records a get finds.
+    /// Asks how many records are in the index, expired or not.
     Entries,
 }
 
-/// With what a fetch ends that found a record.
+/// What a fetch found.
 #[derive(Clone, Debug, Drop, PartialEq, Eq)]
 pub enum End<V, P> {
-    /// A value of the key, with its properties, and where it came from.
+    /// A value, its properties, and where it came from.
     Value(V, P, Source),
-    /// The record of the piece of this number. The piece stays held.
+    /// The piece of this number, which stays held.
     PieceNo(u64),
 }
 
-/// What left, in order.
+/// The records that were removed, in order, each with its event.
 #[derive(Drop)]
 pub struct Leaves<K, V, P> {
     items: Vec<(Event, Left<K, V, P>)>,
@@ -104,14 +106,14 @@ impl<K, V, P> Leaves<K, V, P> {
         Leaves { items }
     }
 
-    /// Nothing left.
+    /// Makes an empty list.
     pub fn none(alloc: Global) -> Self
         ensures { result ≡ [] }
     {
         Leaves::new(Vec::new(alloc))
     }
 
-    /// The records that left, each with the reason why.
+    /// Returns the records, each with its event.
     pub fn as_slice(&self) -> &[(Event, Left<K, V, P>)]
         ensures { result.now ≡ self.now }
     {
@@ -119,77 +121,75 @@ impl<K, V, P> Leaves<K, V, P> {
     }
 }
 
-/// What a session answers to a command, beside what left.
+/// The answer to a command.
 #[derive(Clone, Drop, PartialEq)]
 pub enum Answer<K, V, P> {
-    /// To `Insert` or `InsertPiece`: the record came in.
+    /// To `Insert` or `InsertPiece`: the record was inserted.
     Entry {
         /// The number of its handle.
         handle: u64,
         /// The record.
         record: Left<K, V, P>,
-        /// The key's waiters, who got handles as well.
+        /// The key's waiters, who got handles too.
         answers: Answers,
     },
-    /// To `Get`, `GetOrFetch`, `Remove` or `Clone`: a handle of the record that was asked for.
+    /// To `Get`, `GetOrFetch`, `Remove` or `Clone`: a handle.
     Found {
         /// The number of the new handle.
         handle: u64,
         /// The record.
         record: Left<K, V, P>,
     },
-    /// To `Get` or `Remove`: the key has no record.
+    /// To `Get`: a miss. To `Remove`: the key isn't in the index.
     Missing,
-    /// To `GetOrFetch`: the key has no record, and no fetch of it was open. Who asked leads a new one, and waits.
+    /// To `GetOrFetch`: a miss with no open fetch. The caller leads a new one, and waits for it.
     Lead {
-        /// The number of the fetch.
+        /// The fetch's id.
         fetch: u64,
         /// The number of the token.
         token: u64,
     },
-    /// To `GetOrFetch`: the key has no record, and a fetch of it is open. Who asked waits.
+    /// To `GetOrFetch`: a miss with an open fetch. The caller waits for it.
     Wait {
         /// The number of the token.
         token: u64,
     },
     /// To `Complete`, `Fail`, `Cancel` or `FetchOrTake`: the fetch has ended.
     Answered {
-        /// What those get who waited.
+        /// What the waiters got.
         answers: Answers,
-        /// The record of which they got handles.
+        /// The record of their handles, if they got any.
         record: Option<Left<K, V, P>>,
     },
     /// To `FetchOrTake`: the label of the builder that was kept. The fetch goes on with it.
     Later(u64),
     /// To `Complete`, `Fail`, `Cancel` or `FetchOrTake`: that fetch is not open. Nothing has changed.
     Lost,
-    /// To `Contains` or `Touch`: the key has a record. To `Outdated`: the handle's record left. To `IsOpen`: that
-    /// fetch is open.
+    /// To `Contains` or `Touch`: a hit. To `Outdated`: the record is no longer in the index. To `IsOpen`: that fetch
+    /// is open.
     Yes,
-    /// To `Contains` or `Touch`: the key has no record. To `Outdated`: a get of its key finds the handle's
-    /// record. To `IsOpen`: that fetch is not open.
+    /// To `Contains` or `Touch`: a miss. To `Outdated`: the record is in the index. To `IsOpen`: that fetch is not
+    /// open.
     No,
-    /// To `Drop`: the handle was given back. To `Clear`, `EvictAll`, `FlushIf`, `Resize` or `Reconfigure`: it is
-    /// done.
+    /// To `Drop`, `Clear`, `EvictAll`, `FlushIf`, `Resize` or `Reconfigure`: done.
     Done,
-    /// To `Refs`, `Capacity`, `Usage` or `Entries`: so many.
+    /// To `Refs`, `Capacity`, `Usage` or `Entries`: the number.
     Number(u128),
     /// To `TakePiece`: the number of the new piece.
     PieceNo(u64),
-    /// To what names a handle or a piece: none that is held has this number. Nothing has changed.
+    /// To a command that names a handle or a piece: none with this number is held. Nothing has changed.
     NotHeld,
-    /// To `Insert`, `InsertPiece`, `Get`, `GetOrFetch`, `Touch`, `Remove`, `Clone` or `TakePiece`, to a `Complete`
-    /// whose piece could not be cloned, and to `Clear`, `EvictAll`, `FlushIf`, `Resize` or `Reconfigure`: why it was
-    /// refused.
+    /// To a command that failed: why. After F7, `Insert`, `InsertPiece`, `EvictAll` and `Resize` may have evicted
+    /// some records, which the reply has; else nothing has changed, but that `Resize` sets the capacity all the same.
     Refused(Error),
 }
 
-/// What a session answers to a command.
+/// The reply to a command.
 #[derive(Clone, Drop, PartialEq)]
 pub struct Reply<K, V, P> {
     /// The answer.
     pub answer: Answer<K, V, P>,
-    /// What left.
+    /// The records that were removed.
     pub leaves: Leaves<K, V, P>,
 }
 

@@ -1,20 +1,20 @@
-//! Which records a `FlushIf` takes out.
+//! Which records a `FlushIf` evicts.
 
 ghost use Rattle.std.specs.Prelude.{◌≡◌, false};
 
-/// Says which records a `FlushIf` takes out. It is asked once of each record.
+/// Picks the records that a `FlushIf` evicts. It is asked once for each record.
 pub trait Predicate<K, V>: Drop {
     ghost use Rattle.std.specs.Prelude.{Bool};
 
     // what the predicate may answer
     ghost picks: { Self → K → V → Bool → Type 0 };
 
-    /// Whether the record of this key and value is taken out.
+    /// Returns whether the record of this key and value is evicted.
     fn pick(&self, key: &K, value: &V) -> bool
         ensures { picks self.now key.now value.now result };
 }
 
-/// Takes no record out.
+/// Picks no record.
 #[derive(Clone, Copy, Debug, Default, PartialEq, Eq)]
 pub struct NoPredicate;
 

@@ -1,4 +1,4 @@
-//! A cache in one thread's hands, and the handles and the pieces that it handed out.
+//! A cache for one thread, with the handles and the pieces that it handed out.
 
 ghost use Rattle.std.specs.Prelude.{◌≡◌, ◌+◌, ◌*◌, ◌<◌, ◌≤◌, [], ◌∷◌, true, IfOk, IfErr, OnOk, OnErr, vec_len, vec_capacity};
 ghost use Rattle.foyer_policy.specs.declared.error.Reason.TheVariants.{NoMemory};
@@ -26,11 +26,10 @@ mod waiters;
 use handle::Handle;
 use ready::Ready;
 
-/// A core with the handles that it handed out, each held or gone, and the pieces, which stay held. It carries
-/// out commands, which name a handle by its number. `I` is the index of each shard. Contracts see a
-/// `SessionState`.
+/// A core with the handles that it handed out, each held or dropped, and the pieces, which stay held.
 ///
-/// A session that ends drops its held handles with its core, and tells nothing.
+/// It carries out commands, which name handles and pieces by their numbers. `I` is the index of each shard. Contracts
+/// see a `SessionState`. A session that is dropped drops its handles with its core, and reports nothing.
 #[derive(Drop)]
 pub struct Session<
     E: Eviction,
@@ -50,7 +49,7 @@ pub struct Session<
     alloc: Global,
     ghost owns: { ∥ OwnsHandles (core_of core) handles.items ∥₁ },
     ghost waits: { ∥ SoManyWait (fetches_of core) waiting ∥₁ },
-    // each who waits has room for a handle
+    // there is room for a handle for each waiter
     ghost room: { vec_len handles + waiting ≤ vec_capacity handles },
 }
 
@@ -71,8 +70,8 @@ impl<
     ghost use Rattle.foyer_session.specs.Sessions.{session_of, meaning_of_session, taken, terms_of};
     ghost use Rattle.foyer_session.specs.Step.{NumberStep, Step};
 
-    /// A session over a core, which has handed nothing out. It asks that no fetch is open in the core, as in a new
-    /// one, since it has nobody to answer.
+    /// Makes a session over a core, with no handles and no pieces. It requires that no fetch is open, as in a new
+    /// core, since the session couldn't answer its waiters.
     pub fn new(alloc: Global, core: CacheCore<E, K, V, P, S, W, A, (), u64, I>) -> Self
         requires idle { NoneOpen (fetches_of core) }
         ensures core { (session_of result).core ≡ core_of core }
@@ -89,11 +88,15 @@ impl<
         }
     }
 
-    /// Carries out commands, each as `step` does, and answers their replies in order. So these tell what each
-    /// key finds: a record that is not phantom is found from the reply that brought it in until its leave is
-    /// told. Each token that waited or was issued waits then or was handed out once, with a handle of the record that
-    /// came in for its key with that very reply, with nothing, or with the reason why its fetch ended. A clone of a key
-    /// must equal it. Refused only for want of memory (F7), before any command, and then nothing has changed.
+    /// Carries out commands in order, and returns their replies.
+    ///
+    /// The replies tell which record each key has: a record that isn't phantom is in the index from the reply that
+    /// inserted it until the one that reports its removal. Each token that waited or was issued waits afterwards, or
+    /// was answered once: with a handle of the record that the same reply inserted for its key, with nothing, or with
+    /// the error that ended its fetch. It requires that a clone of a key equals it.
+    ///
+    /// # Errors
+    /// F7 if memory runs out before the first command; nothing has changed.
     pub fn run<Q: Predicate<K, V>>(
         &mut self,
         commands: Vec<Command<K, V, P, Q, E::Config>>,
@@ -120,10 +123,11 @@ impl<
         Ok(replies)
     }
 
-    /// Carries out one command. The reply tells what each key finds then: a leave takes its key out where the
-    /// key found that record, and then the record that an insert let in goes in under its key, unless it is
-    /// phantom. The tokens of those who wait are settled and answered as `run` says. A clone of a key must equal it.
-    /// Refused only for want of memory (F7), before the command, and then nothing has changed.
+    /// Carries out one command, and returns its reply, of which the same holds as of those of `run`. It requires that
+    /// a clone of a key equals it.
+    ///
+    /// # Errors
+    /// F7 if memory runs out before the command; nothing has changed.
     pub fn step<Q: Predicate<K, V>>(
         &mut self,
         command: Command<K, V, P, Q, E::Config>,
@@ -142,29 +146,29 @@ impl<
         Ok(self.carry_out(ready))
     }
 
-    /// The sum of the weights of the records that a get finds.
+    /// Returns the sum of the weights of the records in the index, expired or not.
     pub fn usage(&self) -> u128
         ensures { result ≡ usage_of_core (meaning_of_session self.now) (session_of self.now).core }
     {
         self.core.usage()
     }
 
-    /// How many records a get finds.
+    /// Returns how many records are in the index, expired or not.
     pub fn entries(&self) -> u128
         ensures { result ≡ entries_of_core (meaning_of_session self.now) (session_of self.now).core }
     {
         self.core.entries()
     }
 
-    /// The hash of a key. A key's shard is this number, modulo how many shards there are.
+    /// Returns the hash of a key. The key's shard is the hash modulo the number of shards.
     pub fn hash(&self, key: &K) -> u64
         ensures { result ≡ (terms_of self.now).hash (session_of self.now).core.hash_builder key.now }
     {
         self.core.hash(key)
     }
 
-    // Makes room for what so many commands may hand out, two handles and one piece each, beside a handle for each who
-    // waits. Only memory can be missing (F7).
+    // Makes room for what so many commands may hand out, two handles and one piece each, and for a handle for each
+    // waiter. Fails only with F7.
     fn make_room(&mut self, commands: usize) -> Result<()>
         ensures session { session_of self.new ≡ session_of self.old }
         ensures handles { OnOk result (taken self.new + 2 * commands ≤ vec_capacity self.new.handles) }
@@ -187,14 +191,14 @@ impl<
         Ok(())
     }
 
-    // Answers a number, and changes nothing.
+    // Replies with a number, and changes nothing.
     fn tell_number(&self, number: u128) -> Reply<K, V, P>
         ensures { NumberStep number (session_of self.now) result.answer result.leaves (session_of self.now) }
     {
         Reply::new(Answer::Number(number), Vec::new(self.alloc))
     }
 
-    // Carries out a command that nothing can be missing for.
+    // Carries out a command for which all room is made.
     fn carry_out<Q: Predicate<K, V>>(
         &mut self,
         ready: Ready<K, V, P, Q, E::Config>,

@@ -1,4 +1,4 @@
-//! What a program over a session is asked for, keeps and prints.
+//! What `foyer-sim` makes of its arguments and its lines.
 
 ghost use Rattle.std.specs.Prelude.{◌≡◌, ℕ, [], Some, IfSome, OnOk, OnErr};
 ghost use Rattle.std.specs.Hash.{u64 as u64_input};
@@ -22,7 +22,7 @@ pub use args::{SimArgs, SimPolicy, sim_args};
 pub use reply::{event_name, write_answer, write_found, write_numbered, write_refusal, write_rest};
 pub use value::{SimValue, SimWeighter};
 
-/// A session as a program has it, over a cache of any of the five policies.
+/// The session of `foyer-sim`, over a cache of any of the five policies.
 pub type SimSession<S, I = TagFinder<u64>> = Session<
     AnyEviction,
     u64,
@@ -34,14 +34,15 @@ pub type SimSession<S, I = TagFinder<u64>> = Session<
     I,
 >;
 
-/// Carries out the lines of a reader, each as a command, and writes for each the reply, what left, and the
-/// usage and the entries then. A line whose command is refused says so, and the next one is carried out. The line
-/// `high N D` asks for the configuration of LRU whose pool of high priority has the share `N / D`. The line `at N` sets
-/// the moment of the lines after it, which is 0 at the start and may go back.
+/// Carries out each line of a reader as a command, until the end of the input, counts it, and writes its reply, the
+/// removals, the usage and the entries.
 ///
-/// What was written is flushed before each read that may wait, and at other times only as the writer does.
-/// It ends at the end of the input. It fails only where the reader or the writer does, or after 2^64
-/// lines; then what was written is a beginning of the text of some first lines. What the commands come to is counted.
+/// If a command fails, its reply says so, and the next line is carried out. The line `at N` sets the time of the
+/// lines after it, which is 0 at the start and may go back. The output is flushed before each read that may wait.
+///
+/// # Errors
+/// That of the reader or the writer; after 2^64 lines, `ErrorKind::Other`. The output is then a beginning of the text
+/// of some first lines.
 pub fn simulate<R: BufRead, W: Write, S: HashBuilder, I: Finder<u64>>(
     reader: &mut R,
     writer: &mut W,

@@ -1,4 +1,4 @@
-//! The lines that a program reads, and the numbers that it prints. Nothing here allocates.
+//! The lines that `foyer-sim` reads, and the numbers that it prints. Nothing here allocates.
 
 use foyer_policy::Ratio;
 
@@ -15,20 +15,19 @@ pub use print::{flush_out, write_number, write_out, write_wide_number};
 pub use scan::Lines;
 pub use watched::Watched;
 
-/// A line of commands. Words are parted by spaces, and numbers are decimal.
+/// A parsed line. Words are separated by spaces, and numbers are decimal.
 #[derive(Clone, Copy, Debug, PartialEq, Eq)]
 pub enum Line {
     /// A line without words.
     Blank,
-    /// `insert K V [W [E]]`. A line that leaves out W means the weight 1, and one without E that the record never
-    /// expires.
+    /// `insert K V [W [E]]`. Without W the weight is 1; without E the record never expires.
     Insert {
         key: u64,
         value: u64,
         weight: usize,
         expires: Option<u64>,
     },
-    /// `phantom K V [W]`, an insert of a phantom record. A line that leaves out W means the weight 1.
+    /// `phantom K V [W]`, which inserts a phantom record. Without W the weight is 1.
     Phantom {
         key: u64,
         value: u64,
@@ -42,27 +41,27 @@ pub enum Line {
     Touch(u64),
     /// `remove K`.
     Remove(u64),
-    /// `drop N`, of a handle's number.
+    /// `drop N`, with the number of a handle.
     Drop(u64),
     /// `clear`.
     Clear,
     /// `evict`.
     Evict,
-    /// `resize C`, of the capacity.
+    /// `resize C`, with the new capacity.
     Resize(usize),
-    /// `high N D`, of the share `N / D`, each below 2^32.
+    /// `high N D`, with the share `N / D` of LRU's high-priority pool, both below 2^32.
     High(Ratio),
     /// `fetch K`.
     Fetch(u64),
-    /// `at N`, of the moment of the lines after it.
+    /// `at N`, with the time of the lines after it.
     At(u64),
-    /// `done K F V`, the end of the key's fetch of the number F with a value of the weight 1.
+    /// `done K F V`, which completes fetch F of the key with a value of weight 1.
     Done {
         key: u64,
         fetch: u64,
         value: u64,
     },
-    /// `cancel K F`, the end of the key's fetch of the number F without one.
+    /// `cancel K F`, which ends fetch F of the key without a value.
     Cancel {
         key: u64,
         fetch: u64,

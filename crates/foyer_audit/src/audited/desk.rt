@@ -1,4 +1,4 @@
-//! What stands under the lock of an audited shard.
+//! What is under the lock of an audited shard.
 
 ghost use Rattle.std.specs.Prelude.{◌≡◌, ◌+◌, ◌++◌, ◌∷◌, [], true, IfErr, IfOk, OnErr, OnOk, length};
 ghost use Rattle.foyer_policy.specs.declared.error.Reason.TheVariants.{NoMemory};
@@ -15,7 +15,7 @@ use foyer_session::{Command, Predicate, Reply};
 use std::sync::ledger;
 use std::sync::ledger::Ledger;
 
-// What stands under the lock: the book, how many calls all shares count, and a share of no part, to gather the others.
+// The book, the number of calls that all shares count, and a share without a part, into which the others are merged.
 #[derive(Drop)]
 pub(super) struct Desk<
     G: Ledger,
@@ -51,8 +51,8 @@ impl<
     C: Clone + Drop + Eq,
     I: Finder<K>,
 > Desk<G, E, K, V, P, S, W, A, Q, C, I> {
-    // The call under the lock. The book goes on by one call of an equal command, and what the caller gets and keeps are
-    // the number and two copies of the reply that stand there.
+    // The call under the lock. The book records an equal command with its reply; the caller gets the number and a
+    // copy of the reply, and the share a receipt with another copy.
     pub(super) fn call(
         &mut self,
         share: &mut Share<G, K, V, P, Q, C>,

@@ -27,9 +27,9 @@ impl<
     ghost use Rattle.foyer_core.specs.Dropping.{Drops, among};
     ghost use Rattle.foyer_core.specs.Laws.{HandlesStay};
 
-    /// Ends answers that nobody wants: each entry as `drop_entry` does, from the last to the first. Who waited is
-    /// dropped, and so is what left with the entries. Where there is no entry, as where nobody waited, nothing
-    /// changes. It takes no memory.
+    /// Ends answers that nobody wants: gives each entry back, from the last to the first, and drops the waiters.
+    ///
+    /// What leaves with the entries is dropped too. Takes no memory.
     pub fn drop_answers(&mut self, answers: Answers<K, V, P, N>)
         ensures dropped { Drops (meaning_of_core self.old) (hashes_of self.old) (entries_got answers.outcome) (core_of self.old) (core_of self.new) }
         ensures nobody { entries_got answers.outcome ≡ [] → core_of self.new ≡ core_of self.old }

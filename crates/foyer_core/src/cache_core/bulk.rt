@@ -34,10 +34,13 @@ impl<
     ghost use Rattle.foyer_core.specs.CallLaws.{CallLaws};
     ghost use Rattle.foyer_core.specs.State.{at_moment};
 
-    /// Evicts, at a moment, all that is not pinned, shard by shard, what is expired first and then in the order in which
-    /// each policy gives it, and answers what left. Refused for want of memory alone (F7); then the first shards are done, and some beginning of
-    /// the next one's evictions has left, which the refusal hands out. Where nothing is pinned and it is not
-    /// refused, nothing is in afterwards.
+    /// Evicts all records that aren't pinned, shard by shard: those expired at `now` first, then in the policy's
+    /// order. Returns what left.
+    ///
+    /// If nothing is pinned, the core is empty afterwards.
+    ///
+    /// # Errors
+    /// F7 if memory runs out; the evictions made so far stand and are returned.
     pub fn evict_all(
         &mut self,
         now: u64,
@@ -62,11 +65,11 @@ impl<
         }
     }
 
-    /// Sets the weight that the records may have together: each of the n shards gets one n-th of it, rounded
-    /// down, and the first ones one more, as many as that leaves over, and all policies are told. Then evicts, at a
-    /// moment, shard by shard, until the usage of each is at most its capacity, or nothing more leaves, and answers
-    /// what left. Refused for want of memory alone (F7); then the capacities are set all the same, the first
-    /// shards are done, and some beginning of the next one's evictions has left, which the refusal hands out.
+    /// Sets the capacity, divides it among the shards as `new` does, and evicts what no longer fits, shard by shard,
+    /// records expired at `now` first. Returns what left.
+    ///
+    /// # Errors
+    /// F7 if memory runs out; the capacity is set all the same, and the evictions made so far stand and are returned.
     pub fn resize(
         &mut self,
         now: u64,
@@ -98,10 +101,12 @@ impl<
         }
     }
 
-    /// Tells all policies another configuration. It counts for what each shard's policy does from then on, with the
-    /// capacity that the shard has, and for every later `resize`. Nothing leaves. Refused with the configuration's
-    /// first fault alone, F2 to F6, whatever the core holds, and then nothing has changed in any shard. It takes no
-    /// memory.
+    /// Gives each shard's policy another configuration, which later calls of `resize` go by too. No record leaves.
+    ///
+    /// Takes no memory.
+    ///
+    /// # Errors
+    /// F17 if a shard's policy is another one, F2 to F6 for the configuration's first fault; nothing has changed.
     pub fn reconfigure(&mut self, config: &E::Config) -> Result<()>
         ensures configured { MatchResult result
             (λ _. Configures (meaning_of_core self.old) config.now (core_of self.old) (core_of self.new))
@@ -122,9 +127,10 @@ impl<
         Ok(())
     }
 
-    /// Takes everything out, as `Clear`, shard by shard, in each policy's order, and answers what left. Room is
-    /// made for all shards first: refused for want of memory alone (F7), and then nothing has changed. Else
-    /// nothing is in afterwards.
+    /// Removes all records as `Clear`, shard by shard, in the policy's order, and returns them.
+    ///
+    /// # Errors
+    /// F7 if memory runs out; nothing has changed.
     pub fn clear(&mut self) -> Result<Vec<Leave<K, V, P>>>
         ensures clears { MatchResult result
             (λ leaves. OfShards (InTurn (Clears (meaning_of_core self.old))) (core_of self.old) leaves.items (core_of self.new))
@@ -140,9 +146,11 @@ impl<
         cleared
     }
 
-    /// Takes the records of which the predicate says yes out, pinned or not, as `Evict`, shard by shard, in each
-    /// policy's order, and answers what left. The predicate is asked once of each record, and room is made for
-    /// all shards first: refused for want of memory alone (F7), and then nothing has changed.
+    /// Evicts the records for which the predicate returns true, pinned or not, shard by shard, in the policy's order,
+    /// and returns them. The predicate is called once for each record.
+    ///
+    /// # Errors
+    /// F7 if memory runs out; nothing has changed.
     pub fn flush_if<F: Fn(&K, &V) -> bool>(&mut self, predicate: &F) -> Result<Vec<Leave<K, V, P>>>
         requires { F.IsAlwaysCallable predicate.now }
         ensures evicts { MatchResult result

@@ -35,17 +35,15 @@ impl<
     ghost use Rattle.foyer_core.specs.Fetching.{CompletesBy};
     ghost use Rattle.foyer_core.specs.Laws.{HandlesStay};
 
-    /// Ends an open fetch of a key, at a moment, with a record of it, of which each who waits gets an entry, and answers
-    /// what left. The
-    /// key's fetch is closed. A clone of the key must equal it.
+    /// Ends an open fetch of a key with a record of it: inserts that record at `now` and returns an entry for each
+    /// waiter, and what left.
     ///
-    /// A value comes in as an insert's does, with this source: the weighter is asked and then the filter. A piece comes
-    /// in as an inserted one does, with the source `Memory`, where the record that it stands for has this key; else those
-    /// who wait get F12. Where the record is refused, they get that refusal (F10, F9, F8, F7), and for want of memory
-    /// some beginning of the evictions has left. Where it came in and is not phantom, a get of an equal key finds it
-    /// afterwards, until it expires.
+    /// A value is inserted as by `insert_with_properties`, with this source. A piece is inserted as by
+    /// `insert_piece`, if its record has this key; otherwise the waiters get F12. If the insert fails, the waiters
+    /// get its error, the fetch is closed all the same, and after F7 the evictions made so far stand. A clone of the
+    /// key must equal it.
     ///
-    /// A fetch that is not open ends as lost: nothing happens, and neither the weighter nor the filter is asked.
+    /// If the fetch isn't open, nothing changes, and neither the weighter nor the filter is asked.
     pub fn complete(
         &mut self,
         now: u64,
@@ -122,7 +120,7 @@ impl<
         ended
     }
 
-    // Ends an open fetch with a value for which there was no memory to clone the key.
+    // Ends an open fetch with a value whose key couldn't be cloned.
     fn refuse_value(
         &mut self,
         hash: u64,

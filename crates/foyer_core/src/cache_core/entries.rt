@@ -30,9 +30,10 @@ impl<
     ghost use Rattle.foyer_core.specs.Laws.{one_of};
     ghost use Rattle.foyer_core.specs.Steps.{ClonesHandle, GivesBack, Removes, Touches};
 
-    /// Whether a get finds a record under the key at a moment; if it does, that counts as a use, as a `get` does whose
-    /// entry is given back at once. Refused at the limit of handles alone (F9); then nothing has changed. It
-    /// takes no memory.
+    /// Returns whether a `get` at `now` finds the key, and if so counts a use of its record. Takes no memory.
+    ///
+    /// # Errors
+    /// F9 if the handle count would pass its limit; nothing has changed.
     pub fn touch(&mut self, now: u64, key: &K) -> Result<bool>
         ensures touches { let hash = S.hash_of (core_of self.old).hash_builder (K.hash_input key.now) in
             AtShard (λ s t. Touches (meaning_of_core self.old) now s (hash, key.now) result t)
@@ -45,9 +46,12 @@ impl<
         self.shards[place].touch(now, hash, key)
     }
 
-    /// Takes the key's record out, where it is in the index, and answers an entry of it, which counts as a
-    /// handle, and the record that left, as `Remove`. Refused at the limit of handles (F9), or where the record
-    /// could not be shared (F7); then nothing has changed. It allocates nothing.
+    /// Removes the key's record, expired or not, and returns an entry of it and the record as it left (`Remove`).
+    ///
+    /// Allocates nothing.
+    ///
+    /// # Errors
+    /// F9 if the handle count would pass its limit, F7 if a reference count is full; nothing has changed.
     pub fn remove(&mut self, key: &K) -> Result<Option<(CoreEntry<K, V, P>, Left<K, V, P>)>>
         ensures removes { let hash = S.hash_of (core_of self.old).hash_builder (K.hash_input key.now) in
             AtShard (λ s t. Removes (meaning_of_core self.old) s (hash, key.now) result t)
@@ -67,9 +71,12 @@ impl<
         removed
     }
 
-    /// One more entry of the same record, with the same source, which counts as a handle and not as a use. It
-    /// asks for an entry that the core owns. Refused at the limit of handles (F9), or where the record could
-    /// not be shared (F7); then nothing has changed. It allocates nothing.
+    /// Returns one more entry of the same record, with the same source. It counts as a handle and not as a use.
+    ///
+    /// The core must own the entry. Allocates nothing.
+    ///
+    /// # Errors
+    /// F9 if the handle count would pass its limit, F7 if a reference count is full; nothing has changed.
     pub fn clone_handle(&mut self, entry: &CoreEntry<K, V, P>) -> Result<CoreEntry<K, V, P>>
         requires owned { Owns (core_of self.old) entry.now }
         ensures clones { AtShard (λ s t. ClonesHandle s entry.now result t)
@@ -81,7 +88,7 @@ impl<
         self.shards[place].clone_handle(entry)
     }
 
-    /// How many handles an entry's record has. It asks for an entry that the core owns, and takes no memory.
+    /// Returns how many handles the entry's record has. The core must own the entry. Takes no memory.
     pub fn refs(&self, entry: &CoreEntry<K, V, P>) -> usize
         requires owned { Owns (core_of self.now) entry.now }
         ensures { result ≡ refs_in (core_of self.now) entry.now }
@@ -89,8 +96,8 @@ impl<
         self.shards[self.shard_index(entry.hash())].refs(entry)
     }
 
-    /// Whether an entry's record is in the index no more: it left, or gave way to another. It asks for an
-    /// entry that the core owns, and takes no memory.
+    /// Returns whether the entry's record is no longer resident: it left, or was replaced. The core must own the
+    /// entry. Takes no memory.
     pub fn is_outdated(&self, entry: &CoreEntry<K, V, P>) -> bool
         requires owned { Owns (core_of self.now) entry.now }
         ensures { IsTrue result ↔ IsOutdatedIn (core_of self.now) entry.now }
@@ -98,8 +105,8 @@ impl<
         self.shards[self.shard_index(entry.hash())].is_outdated(entry)
     }
 
-    /// Ends an entry, as `give_back` does, and answers what left with it. One that the core does not own is
-    /// discarded, and nothing changes. It takes no memory.
+    /// Gives an entry back and returns what left with it. An entry that the core doesn't own is discarded, and
+    /// nothing changes. Takes no memory.
     pub fn drop_entry(&mut self, entry: CoreEntry<K, V, P>) -> Option<Leave<K, V, P>>
         ensures owned { Owns (core_of self.old) entry → AtShard (λ s t. GivesBack (meaning_of_core self.old) s entry.id result t)
             entry.kept.hash (core_of self.old) (core_of self.new) }

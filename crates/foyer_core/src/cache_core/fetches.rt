@@ -1,4 +1,4 @@
-//! Fetches of keys that a core does not hold.
+//! Fetches of missing keys.
 
 ghost use Rattle.std.specs.Prelude.{◌≡◌, ◌↔◌, ℕ, [], None, Some, IfSome, IfNone, IfOk, IfErr, OnSome, IsSomeAnd, IsTrue, true};
 ghost use Rattle.foyer_policy.specs.declared.error.Reason.TheVariants.{Fetch, TaskCancelled};
@@ -32,12 +32,13 @@ impl<
     ghost use Rattle.foyer_core.specs.Fetching.{LooksUp};
     ghost use Rattle.foyer_core.specs.CallLaws.{CallLaws};
 
-    /// An entry of the key's record, as `get` answers it at a moment, or where the key is missing a token to wait with: for a new
-    /// fetch, which the one who asks leads and for which it gets its builder back, or for the one that is open. A
-    /// builder that one who waits brings is kept where none is kept. A clone of the key must equal it.
+    /// Returns an entry as `get` does at `now`, or a token to wait with if the key is missing.
     ///
-    /// Refused on a hit as `get` is (F9, F7), and on a miss where a number is missing (F10), and then for want of
-    /// memory (F7); nothing has changed.
+    /// If the key has no open fetch, one is opened, and the caller leads it and gets its builder back. Otherwise the
+    /// caller waits for that one, and its builder is kept if the fetch has none. A clone of the key must equal it.
+    ///
+    /// # Errors
+    /// On a hit, those of `get`. On a miss, F10 if no number is left and F7 if memory runs out. Nothing has changed.
     pub fn get_or_enqueue(
         &mut self,
         now: u64,
@@ -56,8 +57,10 @@ impl<
         self.shards[place].get_or_enqueue(now, hash, key, required, waiter)
     }
 
-    /// Whether this fetch of a key is open. Equal keys have the same, and a key has at most one. Where it has one and is in
-    /// the index, its record was expired when the fetch was opened. It takes no memory.
+    /// Returns whether this fetch of a key is open. Takes no memory.
+    ///
+    /// A key has at most one open fetch. If it has one and is resident, its record was expired when the fetch was
+    /// opened.
     pub fn is_open(&self, key: &K, fetch: u64) -> bool
         ensures is_open { let hash = S.hash_of (core_of self.now).hash_builder (K.hash_input key.now) in
             IsTrue result ↔ IsOpenIn (fetches_of self.now) (hash, key.now) fetch }
@@ -70,8 +73,8 @@ impl<
         self.shards[self.shard_index(hash)].is_open(hash, key, fetch)
     }
 
-    /// Ends an open fetch of a key with a fault, which those get who wait (F11). A fetch that is not open ends as lost,
-    /// and nothing happens. It takes no memory.
+    /// Ends an open fetch of a key with a fault, which its waiters get (F11). If the fetch isn't open, nothing
+    /// changes. Takes no memory.
     pub fn fail(&mut self, key: &K, fetch: u64, fault: Arc<Fault, Global>) -> Ended<K, V, P, N>
         ensures ended { let hash = S.hash_of (core_of self.old).hash_builder (K.hash_input key.now) in
             EndsAt (hash, key.now) fetch K.eq (Fetch fault) (fetches_of self.old) (ending_of result) (fetches_of self.new) }
@@ -80,8 +83,8 @@ impl<
         self.end(key, fetch, Error::new(Reason::Fetch(fault)))
     }
 
-    /// Ends an open fetch of a key whose task was dropped, which those get who wait (F15). A fetch that is not open
-    /// ends as lost, and nothing happens. It takes no memory.
+    /// Ends an open fetch of a key whose task was dropped; its waiters get F15. If the fetch isn't open, nothing
+    /// changes. Takes no memory.
     pub fn cancel(&mut self, key: &K, fetch: u64) -> Ended<K, V, P, N>
         ensures ended { let hash = S.hash_of (core_of self.old).hash_builder (K.hash_input key.now) in
             EndsAt (hash, key.now) fetch K.eq TaskCancelled (fetches_of self.old) (ending_of result) (fetches_of self.new) }
@@ -90,7 +93,7 @@ impl<
         self.end(key, fetch, Error::new(Reason::TaskCancelled))
     }
 
-    // Ends an open fetch of a key with a refusal.
+    // Ends an open fetch of a key with an error.
     pub(super) fn end(&mut self, key: &K, fetch: u64, error: Error) -> Ended<K, V, P, N>
         ensures ended { let hash = S.hash_of (core_of self.old).hash_builder (K.hash_input key.now) in
             EndsAt (hash, key.now) fetch K.eq error (fetches_of self.old) (ending_of result) (fetches_of self.new) }
@@ -101,8 +104,10 @@ impl<
         self.shards[place].end(self.alloc, hash, key, fetch, error)
     }
 
-    /// A fetch of a key found nothing: the builder that is kept, to fetch with. Without one it is closed, and
-    /// who waits is to be answered. None where that fetch is not open. It takes no memory.
+    /// Takes the builder that an open fetch keeps, to go on with after the fetch found nothing. If it keeps none,
+    /// closes the fetch and returns its waiters.
+    ///
+    /// Returns `None` if the fetch isn't open. Takes no memory.
     pub fn fetch_or_take(&mut self, key: &K, fetch: u64) -> Option<FetchOrTake<R, N>>
         ensures answer { let hash = S.hash_of (core_of self.old).hash_builder (K.hash_input key.now) in
             IfSome result (λ answer. IsSomeAnd (asked (Some fetch) (open_in (fetches_of self.old) (hash, key.now))) (λ o. IsFetchOrTake o answer)) }

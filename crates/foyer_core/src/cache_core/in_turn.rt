@@ -17,8 +17,8 @@ use crate::shard::Shard;
 use foyer_policy::{Error, Eviction, Item, Key, Properties, Reason, Result, Value};
 use std::alloc::Global;
 
-// Evicts all that is not pinned. Refused for want of memory alone; then the first shards are done, and some
-// beginning of the next one's evictions has left.
+// Evicts all records that aren't pinned. F7 if memory runs out; the first shards are done, and the evictions made so
+// far stand.
 pub(super) fn evict_each<
     E: Eviction,
     K: Key,
@@ -48,8 +48,8 @@ pub(super) fn evict_each<
     Ok(())
 }
 
-// Evicts to the capacity of each shard. Refused for want of memory alone; then the first shards are done, and
-// some beginning of the next one's evictions has left.
+// Evicts to the capacity of each shard. F7 if memory runs out; the first shards are done, and the evictions made so
+// far stand.
 pub(super) fn evict_each_to_capacity<
     E: Eviction,
     K: Key,
@@ -79,7 +79,7 @@ pub(super) fn evict_each_to_capacity<
     Ok(())
 }
 
-// Gives each shard its share of a capacity, and tells its policy. Nothing leaves, and it takes no memory.
+// Gives each shard its part of a capacity, and tells its policy. Nothing leaves. Takes no memory.
 pub(super) fn share_out<
     E: Eviction,
     K: Key,
@@ -120,7 +120,7 @@ pub(super) fn taken_by_each<
     true
 }
 
-// Tells each shard's policy another configuration, one that it accepts. Nothing leaves, and it takes no memory.
+// Gives each shard's policy another configuration, one that it accepts. Nothing leaves. Takes no memory.
 pub(super) fn configure_each<
     E: Eviction,
     K: Key,
@@ -142,8 +142,8 @@ pub(super) fn configure_each<
     }
 }
 
-// Takes everything out, as `Clear`, and answers what leaves. Room is made for all shards first; only memory can
-// be missing, and then nothing has changed.
+// Removes all records as `Clear`, and returns them. Makes room for all shards first; F7 if memory runs out, and
+// nothing has changed.
 pub(super) fn clear_each<
     E: Eviction,
     K: Key,
@@ -168,8 +168,8 @@ pub(super) fn clear_each<
     Ok(leaves)
 }
 
-// Makes room in each policy for a `clear`, and answers what each shard holds. Only memory can be missing;
-// nothing else changes.
+// Makes room in each policy for a `clear`, and returns the items of each shard. F7 if memory runs out; nothing else
+// has changed.
 fn reserve_each<E: Eviction, K: Key, V: Value, P: Properties, N: Drop, R: Drop, I: Finder<K>>(
     shards: &mut Vec<Shard<E, K, V, P, N, R, I>>,
     alloc: Global,
@@ -188,8 +188,8 @@ fn reserve_each<E: Eviction, K: Key, V: Value, P: Properties, N: Drop, R: Drop, 
     Ok(lists)
 }
 
-// Takes the records of which the predicate says yes out, as `Evict`, and answers what leaves. It is asked once
-// of each, and room is made for all shards first; only memory can be missing, and then nothing has changed.
+// Evicts the records for which the predicate returns true, and returns them. Calls it once for each, and makes room
+// for all shards first; F7 if memory runs out, and nothing has changed.
 pub(super) fn evict_each_if<
     E: Eviction,
     K: Key,
@@ -220,7 +220,7 @@ pub(super) fn evict_each_if<
     Ok(leaves)
 }
 
-// The items of each shard of which the predicate says yes. It is asked once of each. Only memory can be missing.
+// The items of each shard for which the predicate returns true. Calls it once for each. F7 if memory runs out.
 fn pick_each<
     E: Eviction,
     K: Key,
@@ -245,8 +245,8 @@ fn pick_each<
     Ok(lists)
 }
 
-// An empty list with room for as many as these lists have together. Only memory can be missing, as for more
-// than a `usize` counts.
+// An empty list with room for as many as these lists have together. F7 if memory runs out, also for more than a
+// `usize` counts.
 fn room_for<T: Drop>(alloc: Global, lists: &[Vec<Item>]) -> Result<Vec<T>>
     ensures empty { IfOk result (λ room. room.items ≡ []) }
     ensures none { IfOk result (λ room. vec_len room ≡ 0) }

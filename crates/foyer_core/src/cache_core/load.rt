@@ -1,4 +1,4 @@
-//! What the shards of a core hold together.
+//! The sums over the shards of a core.
 
 ghost use Rattle.std.specs.Prelude.{◌≡◌, ◌+◌, ◌-◌, ◌<◌, ◌≤◌, ◌^◌, length, map};
 ghost use Rattle.foyer_core.specs.Core.{AreSums};
@@ -10,12 +10,12 @@ use crate::finder::Finder;
 use crate::shard::Shard;
 use foyer_policy::{Eviction, Key, Properties, Value};
 
-/// What one shard holds, or several together.
+/// The usage and the number of entries of one shard, or of several together.
 #[derive(Clone, Copy)]
 pub(super) struct Load {
-    // The sum of the weights of the records in the index.
+    // The sum of the weights of the resident records.
     pub(super) usage: u128,
-    // How many records are in the index.
+    // The number of resident records.
     pub(super) entries: u128,
 }
 
@@ -59,7 +59,7 @@ impl Load {
         sum
     }
 
-    // A part of the load gives way to another.
+    // Replaces a part of the load by another.
     #[inline(always)]
     pub(super) fn replace(&mut self, before: Load, after: Load)
         requires usage { (before.usage ≤ self.old.usage) × (self.old.usage - before.usage + after.usage < 2 ^ 128) }

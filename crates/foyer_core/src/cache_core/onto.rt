@@ -1,4 +1,4 @@
-//! Inserts that append what leaves to a list that the caller lends, which may have room from the calls before.
+//! Inserts that append what leaves to a list that the caller lends, so that its room can be used again.
 
 ghost use Rattle.std.specs.Prelude.{◌≡◌, ◌+◌, true, false, IfOk, MatchResult, length};
 ghost use Rattle.foyer_policy.specs.Properties.{is_phantom};
@@ -34,8 +34,8 @@ impl<
     ghost use Rattle.foyer_core.specs.CallLaws.{AnswersIn, InsertLaws, IsNewEntry};
     ghost use Rattle.foyer_core.specs.Onto.{insertion_onto};
 
-    /// Puts a record in as `insert_with_properties` does, and appends what leaves, in order. Where it is refused, what
-    /// had left by then stands in the list.
+    /// Inserts a record as `insert_with_properties` does, and appends what leaves to a list, in order, also before an
+    /// error.
     #[inline(always)]
     pub fn insert_with_properties_onto(
         &mut self,

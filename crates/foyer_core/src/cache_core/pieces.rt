@@ -1,4 +1,4 @@
-//! Records that come into a core by a piece.
+//! Inserts of pieces.
 
 ghost use Rattle.std.specs.Prelude.{◌≡◌, ◌+◌, MatchResult, Some, false, length, true};
 ghost use Rattle.foyer_core.specs.Inflight.{waiters_of};
@@ -35,17 +35,18 @@ impl<
     ghost use Rattle.foyer_core.specs.CallLaws.{AnswersIn, InsertLaws};
     ghost use Rattle.foyer_core.specs.Pieces.{InsertsPiece, coming_under, is_known};
 
-    /// Puts a piece's record in, and answers an entry of it, with the source `Memory`, and what left. A clone of
-    /// its key must equal it.
+    /// Inserts the record of a piece and returns an entry of it with the source `Memory`, an entry for each caller
+    /// that waits for its key, and what left.
     ///
-    /// A piece that this core made stands for its record, where the key still has the piece's hash. While the
-    /// record is held, its own data count, and else the piece's. A record that a get finds has one handle more,
-    /// and nothing else happens. Any other comes in again under its id, as an insert of it would. A piece of
-    /// another core makes a new record, with a hash and a weight of its own, which shares the piece's key, value
-    /// and properties. Neither the filter nor the location is asked; properties that say phantom count. Who waits for
-    /// the key of that record gets an entry of it each, and the key's fetch is closed.
+    /// A piece that this core made stands for its record, if the key still has the piece's hash. If that record is
+    /// resident it gets the handles, and nothing else happens. Otherwise it is inserted under its id, as by
+    /// `insert_with_properties`, with the data that a handle still holds, or else the piece's. A piece of another
+    /// core makes a new record that shares the piece's key, value and properties, with a hash and a weight of its
+    /// own. The filter isn't asked; a piece whose properties say phantom stays phantom. The key's fetch is closed. A
+    /// clone of the key must equal it.
     ///
-    /// Refused as an insert is; a record that has an id needs no other (F10).
+    /// # Errors
+    /// Those of `insert_with_properties`, but F10 only for a new record.
     pub fn insert_piece(
         &mut self,
         now: u64,
@@ -76,8 +77,7 @@ impl<
         }
     }
 
-    /// Puts a piece's record in as `insert_piece` does, and appends what leaves, in order. Where it is refused, what had
-    /// left by then stands in the list.
+    /// Inserts a piece as `insert_piece` does, and appends what leaves to a list, in order, also before an error.
     pub fn insert_piece_onto(
         &mut self,
         now: u64,
@@ -107,8 +107,8 @@ impl<
         made
     }
 
-    // The weight with which a piece makes a new record, whose key has this hash. The weighter is not asked of one that
-    // its shard knows, nor of one whose key is not this one.
+    // The weight that a piece makes a new record with, whose key has this hash. The weighter isn't asked of a piece
+    // that its shard knows, nor of one whose key isn't this one.
     pub(super) fn weight_under(&self, hash: u64, piece: &Piece<K, V, P>, key: &K) -> usize
         ensures { (s : State K V P E.View) → shard_at (core_of self.now) hash ≡ Some s → is_known s hash piece.now ≡ false
             → K.eq key.now piece.now.kept.key ≡ true

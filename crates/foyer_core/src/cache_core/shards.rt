@@ -15,8 +15,8 @@ use crate::weighter::Weighter;
 use foyer_policy::{Eviction, HashBuilder, Key, Properties, Result, Value};
 use std::alloc::Global;
 
-/// What the shard of a number gets of a capacity that so many shards have together: one part of it, rounded down, and
-/// one more where that leaves some over.
+/// Returns the part of a capacity that the shard of this number gets: one n-th, rounded down, and one more if its
+/// number is below what is left over.
 pub fn shard_capacity(capacity: usize, shards: usize, number: usize) -> usize
     requires { 0 < shards }
     ensures { result ≡ share_of capacity shards number }
@@ -24,7 +24,7 @@ pub fn shard_capacity(capacity: usize, shards: usize, number: usize) -> usize
     capacity / shards + (number < capacity % shards) as usize
 }
 
-// A hash modulo the number of shards: a mask where that is a power of two, which spares a division.
+// A hash modulo the number of shards: a mask if that is a power of two, which spares a division.
 #[inline(always)]
 fn part_of(hash: u64, shards: u64) -> u64
     requires { 0 < shards }
@@ -37,7 +37,7 @@ fn part_of(hash: u64, shards: u64) -> u64
     }
 }
 
-/// The number of the shard, of so many, in which the keys of a hash live: the hash modulo the number of shards.
+/// Returns the number of the shard of a hash: the hash modulo the number of shards.
 #[inline(always)]
 pub fn shard_of(hash: u64, shards: usize) -> usize
     requires { 0 < shards }
@@ -61,8 +61,11 @@ impl<
 > CacheCore<E, K, V, P, S, W, A, N, R, I> {
     ghost use Rattle.foyer_core.specs.Shards.{opens_of, state_of};
 
-    /// Shards that hold nothing and share a configuration's capacity, as many as it says, each over an empty index. They
-    /// are what a core has, for a cache that keeps each behind a lock of its own. Refused as `new` is.
+    /// Creates the empty shards of a configuration, each over an empty index, for a cache that keeps each behind a
+    /// lock.
+    ///
+    /// # Errors
+    /// Those of `new`.
     pub fn new_shards(
         alloc: Global,
         config: &RawCacheConfig<E::Config, S, W, A>,

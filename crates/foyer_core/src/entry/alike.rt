@@ -1,4 +1,4 @@
-//! Clones of what left, and when two of them are equal.
+//! Clones of records that left, and when two of them are equal.
 
 use super::Left;
 use std::alloc::AllocError;
@@ -8,7 +8,7 @@ impl<K: Drop, V: Drop, P: Drop> Clone for Left<K, V, P> {
 
     ghost is_clone = { λ l c. c ≡ l };
 
-    /// The same record that left, with a share of its own, which is refused where the count of shares is full.
+    /// Returns the same record with a share of its own. Fails if the reference count is full.
     fn clone(&self) -> std::result::Result<Self, AllocError> {
         let Ok(kept) = self.kept.try_clone() else {
             return Err(AllocError);
@@ -24,7 +24,7 @@ impl<K: PartialEq, V: PartialEq, P: PartialEq> PartialEq for Left<K, V, P> {
 
     ghost laws = { gone_eq_per K.laws V.laws P.laws };
 
-    /// Whether both are the same record of the same core, by their numbers and by what is kept of them.
+    /// Returns whether both have the same numbers of core and record, and equal data.
     fn eq(&self, other: &Self) -> bool {
         self.number == other.number
             && self.id == other.id

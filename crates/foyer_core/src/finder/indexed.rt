@@ -1,17 +1,17 @@
-//! Slots in an index that keeps the keys.
+//! A finder over an index that keeps the keys.
 
 use crate::finder::Finder;
 use crate::indexer::{HashTableIndexer, Indexer};
 use foyer_policy::{Key, Result};
 use std::alloc::Global;
 
-/// A finder over an index, whose numbers are slots.
+/// A finder over any [`Indexer`], whose numbers are slots.
 #[derive(Drop)]
 pub struct Indexed<I> {
     index: I,
 }
 
-/// A finder over an index, which keeps its keys.
+/// Makes a finder of an index, with the keys that it has.
 impl<I: Drop> From<I> for Indexed<I> {
     ghost use Rattle.std.specs.Prelude.{◌≡◌};
 

@@ -1,4 +1,4 @@
-//! Tags, with which slot each key leads to.
+//! Tags, and which slot each key leads to.
 
 ghost use Rattle.std.specs.Prelude.{◌≡◌, ◌≢◌, ℕ, Bool, ◌-◌, ◌^◌, ◌<◌, Some, None, IfErr, OnOk, OnErr};
 ghost use Rattle.std.specs.Map.{update};
@@ -13,7 +13,7 @@ use foyer_policy::{Error, Key, Reason, Result};
 use std::alloc::Global;
 use std::snapshot::Snapshot;
 
-/// Slots below 2^32 - 1 under hashed keys, in tags. The keys are in no memory of theirs.
+/// Slots below 2^32 - 1 under hashed keys, in tags. No memory is taken for the keys.
 #[derive(Drop)]
 pub(crate) struct KeyTags<K: Key> {
     tags: Tags,
@@ -22,7 +22,7 @@ pub(crate) struct KeyTags<K: Key> {
 }
 
 impl<K: Key> KeyTags<K> {
-    /// No keys.
+    /// Creates tags with no keys.
     pub(crate) fn new(alloc: Global) -> Self
         ensures { (q : ℕ × K) → led K.eq result.trail q ≡ None }
     {
@@ -32,7 +32,7 @@ impl<K: Key> KeyTags<K> {
         }
     }
 
-    /// The slot under a key. The question is asked of slots that keys lead to: whether this key does.
+    /// Returns the slot of a key. `is_its` says of a slot whether this key leads to it.
     #[inline(always)]
     pub(crate) fn find<F: Fn(usize) -> bool>(&self, hash: u64, _key: &K, is_its: F) -> Option<usize>
         requires asked { (q : ℕ × K) (s : ℕ) → led K.eq self.now.trail q ≡ Some s → F.pre is_its s }
@@ -43,8 +43,10 @@ impl<K: Key> KeyTags<K> {
         self.tags.find(hash, is_its)
     }
 
-    /// Puts a slot, to which no key leads, under a key that leads to none. Only memory can be missing, and nothing
-    /// changes then.
+    /// Sets the slot of a key that has none. No key leads to the slot.
+    ///
+    /// # Errors
+    /// F7 if memory runs out; nothing has changed.
     #[inline(always)]
     pub(crate) fn insert(&mut self, hash: u64, key: Snapshot<K>, slot: usize) -> Result<()>
         requires slot { slot < 2 ^ 32 - 1 }
@@ -63,7 +65,7 @@ impl<K: Key> KeyTags<K> {
         Ok(())
     }
 
-    /// Puts a slot, to which no key leads, under a key in the place of its own. This takes no memory.
+    /// Replaces the slot of a key by one to which no key leads. Takes no memory.
     #[inline(always)]
     pub(crate) fn replace(&mut self, hash: u64, key: Snapshot<K>, was: usize, slot: usize)
         requires was { led K.eq self.old.trail (hash, key.value) ≡ Some was }
@@ -76,7 +78,7 @@ impl<K: Key> KeyTags<K> {
         self.trail.mark(hash, key, Some(slot));
     }
 
-    /// Takes a key out, which leads to this slot. This takes no memory.
+    /// Removes a key that leads to this slot. Takes no memory.
     #[inline(always)]
     pub(crate) fn remove(&mut self, hash: u64, key: Snapshot<K>, slot: usize)
         requires { led K.eq self.old.trail (hash, key.value) ≡ Some slot }

@@ -13,11 +13,11 @@ use foyer_policy::{Key, Result};
 use std::alloc::Global;
 use std::snapshot::Snapshot;
 
-// From here on slots have no number of 32 bits that stands for a slot in a tag.
+// Slots from here on don't fit a tag.
 const FAR: usize = u32::MAX as usize;
 
-/// A finder that takes eight bytes for each bucket, and looks at the records for their keys. Slots whose numbers are
-/// too great for tags are in an index beside them.
+/// A finder that takes eight bytes for each bucket and compares keys in the records. Slots from 2^32 - 1 on are in an
+/// index beside the tags.
 #[derive(Drop)]
 pub struct TagFinder<K: Key, I: Indexer<K> = HashTableIndexer<K>> {
     near: KeyTags<K>,

@@ -1,4 +1,4 @@
-//! What was marked of keys, for contracts alone.
+//! Which slot each key leads to, for contracts only.
 
 ghost use Rattle.std.specs.Prelude.{◌≡◌, ℕ, Bool, Option, None, nat_eq};
 ghost use Rattle.std.specs.Map.{update};
@@ -8,12 +8,12 @@ use foyer_policy::Past;
 use std::mem;
 use std::snapshot::Snapshot;
 
-/// What was marked of keys, one thing after the other.
+/// A list of marks, the last one first.
 #[derive(Drop)]
 enum Marks<K> {
     /// Nothing.
     Start,
-    /// A key leads to a slot from here on, or to none.
+    /// Marks that a key leads to a slot from here on, or to none.
     Mark {
         before: Past<Marks<K>>,
         hash: u64,
@@ -22,8 +22,7 @@ enum Marks<K> {
     },
 }
 
-/// Which slot each hashed key leads to, by what was marked. It takes no memory, and nothing is done for it when
-/// the program runs.
+/// Which slot each hashed key leads to, by the marks made. Takes no memory, and no code runs for it.
 #[derive(Drop)]
 pub(crate) struct Trail<K> {
     marks: Past<Marks<K>>,
@@ -32,7 +31,7 @@ pub(crate) struct Trail<K> {
 impl<K> Trail<K> {
     ghost use Rattle.foyer_core.specs.Trails.{led, keyed, keyed_with};
 
-    /// No key leads to a slot.
+    /// Creates a trail in which no key leads to a slot.
     #[inline(always)]
     pub(crate) fn new() -> Self
         ensures led { (eq : K → K → Bool) (q : ℕ × K) → led eq result q ≡ None }
@@ -43,7 +42,7 @@ impl<K> Trail<K> {
         }
     }
 
-    /// A key leads to a slot from here on, or to none.
+    /// Marks that a key leads to a slot from here on, or to none.
     #[inline(always)]
     pub(crate) fn mark(&mut self, hash: u64, key: Snapshot<K>, slot: Option<usize>)
         ensures led { (eq : K → K → Bool) (q : ℕ × K) →

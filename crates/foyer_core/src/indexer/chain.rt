@@ -20,7 +20,7 @@ pub(crate) struct Pair<K> {
     pub(crate) hash: u64,
     pub(crate) key: K,
     pub(crate) number: u64,
-    /// Where its chain goes on.
+    /// The next pair of its chain.
     pub(crate) next: Link,
 }
 
@@ -72,8 +72,7 @@ pub(crate) fn find<K: Eq>(
     None
 }
 
-// The place of the pair whose link leads to the pair of a place, or `None` where the head of the
-// chain leads there.
+// The place of the pair whose link leads to the pair of a place, or `None` if the head of the chain leads there.
 fn place_before<K>(heads: &[Link], shift: u32, pairs: &[Pair<K>], place: usize) -> Option<usize>
     requires shift { shift < 64 }
     requires within { place < length pairs.now }
@@ -94,7 +93,7 @@ fn place_before<K>(heads: &[Link], shift: u32, pairs: &[Pair<K>], place: usize) 
     before
 }
 
-// Puts the pair of a place, which stands in no chain, into the chain of its hash.
+// Links the pair of a place, which is in no chain, into the chain of its hash.
 pub(crate) fn put_in<K>(heads: &mut [Link], shift: u32, pairs: &mut [Pair<K>], place: usize)
     requires shift { shift < 64 }
     requires heads { length heads.old ≡ 2 ^ (64 - shift) }
@@ -148,7 +147,7 @@ pub(crate) fn push<K>(heads: &mut [Link], shift: u32, pairs: &mut Vec<Pair<K>>, 
     put_in(heads, shift, pairs, place);
 }
 
-// Takes the pair of a place out, and answers its number. The last pair takes its place.
+// Removes the pair of a place, and returns its number. The last pair takes its place.
 pub(crate) fn swap_remove<K: Drop>(
     heads: &mut [Link],
     shift: u32,
@@ -180,7 +179,7 @@ pub(crate) fn numbers<K>(alloc: Global, pairs: &[Pair<K>]) -> Result<Vec<u64>, A
     pairs.iter().map(|pair| pair.number).collect(alloc)
 }
 
-// The heads of new chains, into which all pairs go. Where they are refused, nothing changes.
+// Returns the heads of new chains, with all pairs linked into them. If memory runs out, nothing has changed.
 #[cold]
 #[inline(never)]
 pub(crate) fn spread<K>(

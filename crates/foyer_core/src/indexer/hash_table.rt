@@ -1,4 +1,4 @@
-//! An index that reads one head of a chain and, for most keys, one pair.
+//! A hash table with chains: a look-up reads one head and, for most keys, one pair.
 
 ghost use Rattle.std.specs.Prelude.{◌≡◌, ◌↔◌, ℕ, ◌-◌, ◌^◌, ◌<◌, Some, None, IfOk, IfErr, OnOk, OnErr, IsTrue, length, vec_len, vec_capacity};
 ghost use Rattle.std.specs.List.{IsDistinct};
@@ -17,7 +17,8 @@ use std::mem;
 // Twice as many heads come with each step of the shift down from here.
 const FIRST_SHIFT: u32 = 62;
 
-/// An index whose keys stand in chains by their hashes.
+/// A hash table with separate chaining, whose pairs lie in one vector (Knuth, The Art of Computer Programming, volume
+/// 3, section 6.4).
 #[derive(Drop)]
 pub struct HashTableIndexer<K: Key> {
     // the link to the first pair of each chain
@@ -34,7 +35,7 @@ pub struct HashTableIndexer<K: Key> {
 }
 
 impl<K: Key> HashTableIndexer<K> {
-    /// An index with no keys.
+    /// Creates an index with no keys.
     pub fn new(alloc: Global) -> Self
         ensures { (q : ℕ × K) → ⟦<HashTableIndexer<K> as Indexer<K>>⟧.view result q ≡ None }
     {
@@ -46,7 +47,7 @@ impl<K: Key> HashTableIndexer<K> {
         }
     }
 
-    /// Whether there is no key. It takes no memory.
+    /// Returns whether there is no key. Takes no memory.
     #[inline(always)]
     pub fn is_empty(&self) -> bool
         ensures { IsTrue result ↔ ((q : ℕ × K) → ⟦<HashTableIndexer<K> as Indexer<K>>⟧.view self.now q ≡ None) }

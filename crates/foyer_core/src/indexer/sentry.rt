@@ -1,4 +1,4 @@
-//! A guard round an index.
+//! Upstream's guard round an index.
 
 ghost use Rattle.std.specs.Prelude.{◌≡◌, ℕ, None};
 
@@ -6,15 +6,17 @@ use crate::indexer::{HashTableIndexer, Indexer};
 use foyer_policy::{Key, Result};
 use std::alloc::Global;
 
-/// An index whose calls are those of the index that it holds. The flag `IN_INDEXER` of a record is set by the
-/// shard, as the record's number comes into the index or goes.
+/// An index that hands each call on to the one inside.
+///
+/// Upstream's sets a flag of each record that enters or leaves the index. Here an index holds numbers, nothing sets
+/// that flag, and a shard's slots know which records are in the index.
 #[derive(Drop)]
 pub struct Sentry<I> {
     indexer: I,
 }
 
 impl<K: Key> Sentry<HashTableIndexer<K>> {
-    /// An index with no keys.
+    /// Creates an index with no keys.
     pub fn new(alloc: Global) -> Self
         ensures { (q : ℕ × K) → ⟦<Sentry<HashTableIndexer<K>> as Indexer<K>>⟧.view result q ≡ None }
     {
@@ -24,7 +26,7 @@ impl<K: Key> Sentry<HashTableIndexer<K>> {
     }
 }
 
-/// A guard round an index, which keeps its keys.
+/// Puts a guard round an index, with the keys that it has.
 impl<I: Drop> From<I> for Sentry<I> {
     ghost from_gives = { λ indexer s. s.indexer ≡ indexer };
 

@@ -1,4 +1,4 @@
-//! What those get who wait for a key's fetch, where an insert brings the key's record in.
+//! What waiters get when an insert brings their key's record.
 
 ghost use Rattle.std.specs.Prelude.{◌≡◌, Some};
 ghost use Rattle.foyer_core.specs.Inflight.{closed, waiters_of};
@@ -13,8 +13,8 @@ use foyer_policy::Key;
 impl<K: Key, N: Drop, R: Drop> InflightManager<K, N, R> {
     ghost use Rattle.foyer_core.specs.Inflights.{opens_of};
 
-    // What those get who wait for the key of a record that came in: one of these entries each. The key's fetch is
-    // closed. It takes no memory.
+    // What the waiters of an inserted record's key get: one of these entries each. Closes the key's fetch. Takes no
+    // memory.
     pub(crate) fn answers<V: Drop, P: Drop>(
         &mut self,
         entry: &CoreEntry<K, V, P>,

@@ -1,7 +1,7 @@
-//! Where each id's record stands.
+//! The slot of each id.
 //!
-//! Ids are given in order and their records leave in about that order. So the last ids have a place each, in a ring, and
-//! an id whose record outstays these goes into a map.
+//! Ids are given in order, and their records leave in about that order. So the last ids have a place each in a ring,
+//! and an id whose record outstays the ring moves to a map.
 
 ghost use Rattle.std.specs.Prelude.{◌≡◌, ◌≢◌, ℕ, ◌+◌, ◌*◌, ◌%◌, ◌^◌, ◌<◌, ◌≤◌, Some, None, IfOk, IfSome, OnOk, length, slice_get, nat_eq, vec_len, true};
 ghost use Rattle.std.specs.HashMap.{get as get_key, spare};
@@ -14,7 +14,7 @@ use std::collections::HashMap;
 // Twice as many places come with each bit from here on.
 const FIRST_BITS: u32 = 3;
 
-/// The slot that stands at a place, or none.
+/// The slot at a place of the ring, or none.
 #[derive(Clone, Copy)]
 struct Standing {
     // the greatest number for none
@@ -52,8 +52,8 @@ impl Standing {
     }
 }
 
-/// Where each id's record stands. The last ids before `end` have a place each, by their low bits. One that still has a
-/// slot when the next with its low bits comes goes into a map.
+/// The slot of each id. The last ids before `end` have a place each in the ring, by their low bits. An id that still
+/// has a slot when its place is needed for a later one moves to the map.
 #[derive(Drop)]
 pub(crate) struct Ids {
     // none, or a place for each number of so many bits
@@ -70,7 +70,7 @@ pub(crate) struct Ids {
 impl Ids {
     ghost use Rattle.foyer_core.specs.Ids.{HasRoomForId, slot_of};
 
-    /// No id has a slot.
+    /// Creates a table in which no id has a slot.
     pub(crate) fn new(alloc: Global) -> Self
         ensures { (id : ℕ) → slot_of result id ≡ None }
     {
@@ -83,7 +83,7 @@ impl Ids {
         }
     }
 
-    /// Makes room for one more id beside those of so many records.
+    /// Makes room for one more id beside those of so many records. If memory runs out, nothing has changed.
     #[inline(always)]
     pub(crate) fn reserve(&mut self, records: usize) -> Result<(), AllocError>
         ensures room { OnOk result (HasRoomForId self.new) }
@@ -114,7 +114,7 @@ impl Ids {
         Ok(())
     }
 
-    /// The slot of an id.
+    /// Returns the slot of an id.
     #[inline(always)]
     pub(crate) fn get(&self, id: u64) -> Option<usize>
         ensures { result ≡ slot_of self.now id }
@@ -125,7 +125,7 @@ impl Ids {
         }
     }
 
-    /// An id that has no slot names this one. There is room for it.
+    /// Sets the slot of an id that has none. Needs room.
     #[inline(always)]
     pub(crate) fn name(&mut self, id: u64, slot: usize)
         requires room { HasRoomForId self.old }
@@ -148,7 +148,7 @@ impl Ids {
         outstay(&mut self.far, older, id, places);
     }
 
-    // The same of an id that is not the next, as one that was given before.
+    // Sets the slot of an id that isn't the next one, such as one that comes back with a piece.
     #[cold]
     #[inline(never)]
     fn name_again(&mut self, id: u64, slot: usize)
@@ -166,7 +166,7 @@ impl Ids {
         name_far(&mut self.far, id, slot);
     }
 
-    /// An id has no slot any more.
+    /// Removes the slot of an id.
     #[inline(always)]
     pub(crate) fn remove(&mut self, id: u64)
         ensures room { HasRoomForId self.old → HasRoomForId self.new }
@@ -180,7 +180,7 @@ impl Ids {
         self.near[place] = Standing::none();
     }
 
-    // The slot of an id, where it is one of the last.
+    // The slot of an id, if it is one of the last.
     #[inline(always)]
     fn find_near(&self, id: u64) -> Option<usize>
         ensures { result ≡ slot_near self.now.end self.now.near.items id }
@@ -193,7 +193,7 @@ impl Ids {
     }
 }
 
-// The slot of an id by the map.
+// Returns the slot of an id in the map.
 #[cold]
 #[inline(never)]
 fn far_slot(far: &HashMap<u64, usize>, id: u64) -> Option<usize>
@@ -202,7 +202,7 @@ fn far_slot(far: &HashMap<u64, usize>, id: u64) -> Option<usize>
     far.get(&id).copied()
 }
 
-// Names an id's slot in the map, which has room for it.
+// Sets the slot of an id in the map, which has room for it.
 #[cold]
 #[inline(never)]
 fn name_far(far: &mut HashMap<u64, usize>, id: u64, slot: usize)
@@ -212,7 +212,7 @@ fn name_far(far: &mut HashMap<u64, usize>, id: u64, slot: usize)
     let _ = far.insert(id, slot);
 }
 
-// What stood at the place of an id among so many goes into the map, which has room for it.
+// Moves what was at an id's place, of so many, to the map, which has room for it.
 #[inline(always)]
 fn outstay(far: &mut HashMap<u64, usize>, older: Standing, id: u64, places: usize)
     requires { 0 < spare far.old }
@@ -228,7 +228,7 @@ fn outstay(far: &mut HashMap<u64, usize>, older: Standing, id: u64, places: usiz
     }
 }
 
-// Takes an id out of the map.
+// Removes an id from the map.
 #[cold]
 #[inline(never)]
 fn forget_far(far: &mut HashMap<u64, usize>, id: u64)
@@ -266,8 +266,8 @@ fn is_recent(many: usize, end: u64, id: u64) -> bool
     id < end && end - id <= many as u64
 }
 
-// What stands at a place once there is one for each number of so many bits: what stands at the place of the same id now,
-// if that is one of the last.
+// What is at a place once there is one for each number of so many bits: what is at the place of the same id now, if
+// that is one of the last.
 fn stays_at(near: &[Standing], end: u64, bits: u32, place: usize) -> Standing
     requires bits { bits < 64 }
     requires within { place < 2 ^ bits }

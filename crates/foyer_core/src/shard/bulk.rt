@@ -23,8 +23,7 @@ impl<E: Eviction, K: Key, V: Value, P: Properties, N: Drop, R: Drop, I: Finder<K
     ghost use Rattle.foyer_core.specs.State.{at_moment};
     ghost use Rattle.foyer_core.specs.Steps.{Evicts, Evicting};
 
-    /// Sets the weight that the records may have together, and tells the policy. Nothing leaves, even where the
-    /// usage is above it. It takes no memory.
+    /// Sets the capacity and tells the policy. Nothing leaves, even if the usage is above it. Takes no memory.
     pub fn set_capacity(&mut self, capacity: usize)
         ensures set { state_of self.new ≡ after_capacity (meaning_of self.old) (state_of self.old) capacity }
         ensures opens { opens_of self.new ≡ opens_of self.old }
@@ -32,15 +31,15 @@ impl<E: Eviction, K: Key, V: Value, P: Properties, N: Drop, R: Drop, I: Finder<K
         self.store.set_capacity(capacity)
     }
 
-    /// Whether a configuration is of the shard's policy.
+    /// Returns whether a configuration is of the shard's policy.
     pub fn takes(&self, config: &E::Config) -> bool
         ensures { result ≡ E.model.takes (state_of self.now).view config.now }
     {
         self.store.takes(config)
     }
 
-    /// Tells the policy another configuration, one that it accepts. The capacity stays, and nothing leaves. It takes
-    /// no memory.
+    /// Gives the policy another configuration, one that it accepts. The capacity stays, and nothing leaves. Takes no
+    /// memory.
     pub fn configure(&mut self, config: &E::Config)
         requires accepted { E.model.fault config.now ≡ None }
         requires taken { IsTrue (E.model.takes (state_of self.old).view config.now) }
@@ -51,8 +50,11 @@ impl<E: Eviction, K: Key, V: Value, P: Properties, N: Drop, R: Drop, I: Finder<K
         self.store.configure(config)
     }
 
-    /// Evicts, at a moment, until the usage is at most the capacity, or nothing more leaves, and appends what leaves.
-    /// Refused for want of memory alone (F7); then some beginning of the evictions has left, and stands in the list.
+    /// Evicts until the usage is at most the capacity or nothing more leaves, records expired at `now` first, and
+    /// appends what leaves.
+    ///
+    /// # Errors
+    /// F7 if memory runs out; the evictions made so far stand and are in the list.
     pub fn evict_to_capacity(&mut self, now: u64, leaves: &mut Vec<Leave<K, V, P>>) -> Result<()>
         ensures done { OnOk result (GoesOn leaves.old.items leaves.new.items
             (λ ls. EvictsToCapacity (at_moment now (meaning_of self.old)) (state_of self.old) ls (state_of self.new))) }
@@ -64,8 +66,11 @@ impl<E: Eviction, K: Key, V: Value, P: Properties, N: Drop, R: Drop, I: Finder<K
         self.store.evict_to_capacity(now, leaves)
     }
 
-    /// Evicts, at a moment, all that is not pinned, what is expired first and then in the order in which the policy gives
-    /// it, and appends what leaves. Refused for want of memory alone (F7); then some beginning of it has left, and stands in the list.
+    /// Evicts all records that aren't pinned, those expired at `now` first, then in the policy's order, and appends
+    /// them.
+    ///
+    /// # Errors
+    /// F7 if memory runs out; the evictions made so far stand and are in the list.
     pub fn evict_unpinned(&mut self, now: u64, leaves: &mut Vec<Leave<K, V, P>>) -> Result<()>
         ensures done { OnOk result (GoesOn leaves.old.items leaves.new.items
             (λ ls. EvictsUnpinned (at_moment now (meaning_of self.old)) (state_of self.old) ls (state_of self.new))) }
@@ -77,8 +82,11 @@ impl<E: Eviction, K: Key, V: Value, P: Properties, N: Drop, R: Drop, I: Finder<K
         self.store.evict_unpinned(now, leaves)
     }
 
-    /// Evicts, at a moment, until the usage is at most the target, or nothing more leaves, and appends what leaves. Refused
-    /// for want of memory alone (F7); then some beginning of the evictions has left, and stands in the list.
+    /// Evicts until the usage is at most the target or nothing more leaves, records expired at `now` first, and
+    /// appends what leaves.
+    ///
+    /// # Errors
+    /// F7 if memory runs out; the evictions made so far stand and are in the list.
     pub fn evict_onto(
         &mut self,
         now: u64,

@@ -1,4 +1,4 @@
-//! What a shard takes out at once: all of its records, or those of which a predicate says yes.
+//! Removals of all records of a shard, or of those that a predicate picks.
 
 ghost use Rattle.std.specs.Prelude.{◌≡◌, ◌+◌, ◌≤◌, OnOk, OnErr, IfOk, IfErr, length, vec_len, vec_capacity};
 ghost use Rattle.foyer_policy.specs.Items.{IsWithin};
@@ -23,8 +23,10 @@ impl<E: Eviction, K: Key, V: Value, P: Properties, N: Drop, R: Drop, I: Finder<K
     ghost use Rattle.foyer_core.specs.Shards.{state_of, meaning_of, opens_of};
     ghost use Rattle.foyer_core.specs.Bulk.{GoesOn, Clears, EvictsIf, Picks, Says, TakesOut};
 
-    /// Makes room in the policy for a `clear`, and answers what is in, in the policy's order. Only memory can be
-    /// missing (F7); nothing else changes.
+    /// Makes room in the policy for a `clear`, and returns all items, in the policy's order.
+    ///
+    /// # Errors
+    /// F7 if memory runs out; nothing else has changed.
     pub fn reserve_clear(&mut self) -> Result<Vec<Item>>
         ensures same { state_of self.new ≡ state_of self.old }
         ensures can_clear { OnOk result (E.can_clear self.new.store.eviction) }
@@ -35,8 +37,9 @@ impl<E: Eviction, K: Key, V: Value, P: Properties, N: Drop, R: Drop, I: Finder<K
         self.store.reserve_clear()
     }
 
-    /// Takes everything out, as `Clear`, in the policy's order, and appends what leaves. It asks for the room
-    /// and the items of `reserve_clear`, and for room in the list; it takes no memory.
+    /// Removes all records as `Clear`, in the policy's order, and appends them.
+    ///
+    /// Needs the room and the items of `reserve_clear`, and room in the list. Takes no memory.
     pub fn clear(&mut self, items: &[Item], leaves: &mut Vec<Leave<K, V, P>>)
         requires can_clear { E.can_clear self.old.store.eviction }
         requires items { items.now ≡ E.model.order (state_of self.old).view }
@@ -49,8 +52,10 @@ impl<E: Eviction, K: Key, V: Value, P: Properties, N: Drop, R: Drop, I: Finder<K
         self.store.clear(items, leaves)
     }
 
-    /// Takes everything out, as `Clear`, in the policy's order, and appends what leaves. Refused for want of memory
-    /// alone (F7); then nothing has changed.
+    /// Removes all records as `Clear`, in the policy's order, and appends them.
+    ///
+    /// # Errors
+    /// F7 if memory runs out; nothing has changed.
     pub fn clear_onto(&mut self, leaves: &mut Vec<Leave<K, V, P>>) -> Result<()>
         ensures done { OnOk result (GoesOn leaves.old.items leaves.new.items (λ ls. Clears (meaning_of self.old) (state_of self.old) ls (state_of self.new))) }
         ensures err { OnErr result (state_of self.new ≡ state_of self.old) }
@@ -66,8 +71,11 @@ impl<E: Eviction, K: Key, V: Value, P: Properties, N: Drop, R: Drop, I: Finder<K
         Ok(())
     }
 
-    /// Takes the records of which the predicate says yes out, pinned or not, as `Evict`, in the policy's order, and
-    /// appends what leaves. It is asked once of each. Refused for want of memory alone (F7); then nothing has changed.
+    /// Evicts the records for which the predicate returns true, pinned or not, in the policy's order, and appends
+    /// them. The predicate is called once for each record.
+    ///
+    /// # Errors
+    /// F7 if memory runs out; nothing has changed.
     pub fn evict_if<F: Fn(&K, &V) -> bool>(
         &mut self,
         alloc: Global,
@@ -91,8 +99,11 @@ impl<E: Eviction, K: Key, V: Value, P: Properties, N: Drop, R: Drop, I: Finder<K
         Ok(())
     }
 
-    /// The items of the records of which the predicate says yes, pinned or not, in the policy's order. It is
-    /// asked once of each. Only memory can be missing (F7); nothing changes.
+    /// Returns the items of the records for which the predicate returns true, pinned or not, in the policy's order.
+    /// The predicate is called once for each record.
+    ///
+    /// # Errors
+    /// F7 if memory runs out.
     pub fn pick<F: Fn(&K, &V) -> bool>(&self, alloc: Global, predicate: &F) -> Result<Vec<Item>>
         requires { F.IsAlwaysCallable predicate.now }
         ensures picks { IfOk result (λ picked. Picks (meaning_of self.now) (Says F.Fn predicate.now) (state_of self.now) picked.items) }
@@ -102,8 +113,9 @@ impl<E: Eviction, K: Key, V: Value, P: Properties, N: Drop, R: Drop, I: Finder<K
         self.store.pick(alloc, predicate)
     }
 
-    /// Takes the records of these items out, as `Evict`, in this order, and appends what leaves. It asks for
-    /// items that are in, each once, as `pick` gives them, and for room in the list; it takes no memory.
+    /// Evicts the records of these items, in this order, and appends them.
+    ///
+    /// Each must be resident and named once, as `pick` returns them, and the list needs room. Takes no memory.
     pub fn evict_picked(&mut self, picked: &[Item], leaves: &mut Vec<Leave<K, V, P>>)
         requires within { IsWithin picked.now (E.model.order (state_of self.old).view) }
         requires room { vec_len leaves.old + length picked.now ≤ vec_capacity leaves.old }

@@ -16,10 +16,11 @@ impl<E: Eviction, K: Key, V: Value, P: Properties, N: Drop, R: Drop, I: Finder<K
     ghost use Rattle.foyer_core.specs.Shards.{state_of};
     ghost use Rattle.foyer_core.specs.Questions.{TellsResidents};
 
-    /// Ends the shard, and calls `tell` with the key and the value of each record that is in the index: once each, in
-    /// the policy's order, or where there is no memory for that order, in the order of slots. None is lost. The
-    /// contract says that each was told; that it was once, and in which order, no contract can say of a function
-    /// that only looks.
+    /// Ends the shard, and calls `tell` with the key and the value of each resident record: once each, in the
+    /// policy's order, or in the order of slots if there is no memory for that order.
+    ///
+    /// The contract says that each was told. How often, and in which order, no contract can say of a function that
+    /// only looks.
     pub fn finish<F: Fn(&K, &V)>(self, tell: &F)
         requires { F.IsAlwaysCallable tell.now }
         ensures { TellsResidents F.Fn tell.now (state_of self) }

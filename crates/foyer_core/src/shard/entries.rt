@@ -1,4 +1,4 @@
-//! Handles of a shard's records, and what it does with an entry that is its own.
+//! Calls on a shard's entries, and `get`.
 
 ghost use Rattle.std.specs.Prelude.{◌≡◌, ◌≢◌, ◌<◌, ◌↔◌, ◌⊎◌, OnErr, IfOk, IfErr, IfSome, IsTrue, true};
 
@@ -20,9 +20,12 @@ impl<E: Eviction, K: Key, V: Value, P: Properties, N: Drop, R: Drop, I: Finder<K
     ghost use Rattle.foyer_core.specs.State.{handles_in};
     ghost use Rattle.foyer_core.specs.Steps.{ClonesHandle, Gets, GivesBack, IsOutdated};
 
-    /// An entry of the key's record, where it is in the index and not expired at a moment, which counts as a handle and as
-    /// a use. Refused at the limit of handles (F9), or where the record could not be shared (F7); then nothing
-    /// has changed. It allocates nothing.
+    /// Returns an entry of the key's record, unless that is expired at `now`. This counts as a use.
+    ///
+    /// Allocates nothing.
+    ///
+    /// # Errors
+    /// F9 if the handle count would pass its limit, F7 if a reference count is full; nothing has changed.
     #[inline(always)]
     pub fn get(&mut self, now: u64, hash: u64, key: &K) -> Result<Option<CoreEntry<K, V, P>>>
         ensures gets { Gets (meaning_of self.old) now (state_of self.old) (hash, key.now) result (state_of self.new) }
@@ -32,9 +35,11 @@ impl<E: Eviction, K: Key, V: Value, P: Properties, N: Drop, R: Drop, I: Finder<K
         self.store.get(now, hash, key)
     }
 
-    /// Takes an entry back: its record has one handle less. With its last handle a record in the index is
-    /// released, a phantom one leaves, and any other is forgotten. An entry of another core's number, or of
-    /// whose id there is no handle here, comes back, and nothing has changed. It takes no memory.
+    /// Gives an entry back and returns what left with it.
+    ///
+    /// With its last handle a resident record is released, a phantom one leaves, and any other is forgotten. An entry
+    /// with another core's number, or whose id has no handle here, comes back as `Err`, and nothing has changed.
+    /// Takes no memory.
     #[inline(always)]
     pub fn give_back(
         &mut self,
@@ -50,9 +55,12 @@ impl<E: Eviction, K: Key, V: Value, P: Properties, N: Drop, R: Drop, I: Finder<K
         self.store.give_back(entry)
     }
 
-    /// One more entry of the same record, with the same source, which counts as a handle and not as a use. It
-    /// asks for an entry that is this shard's. Refused at the limit of handles (F9), or where the record could
-    /// not be shared (F7); then nothing has changed. It allocates nothing.
+    /// Returns one more entry of the same record, with the same source. It counts as a handle and not as a use.
+    ///
+    /// The shard must own the entry. Allocates nothing.
+    ///
+    /// # Errors
+    /// F9 if the handle count would pass its limit, F7 if a reference count is full; nothing has changed.
     pub fn clone_handle(&mut self, entry: &CoreEntry<K, V, P>) -> Result<CoreEntry<K, V, P>>
         requires owned { (entry.now.number ≡ (state_of self.old).number) × (0 < handles_in (state_of self.old) entry.now.id) }
         ensures clones { ClonesHandle (state_of self.old) entry.now result (state_of self.new) }
@@ -62,7 +70,7 @@ impl<E: Eviction, K: Key, V: Value, P: Properties, N: Drop, R: Drop, I: Finder<K
         self.store.clone_handle(entry)
     }
 
-    /// How many handles an entry's record has. It asks for an entry that is this shard's, and takes no memory.
+    /// Returns how many handles the entry's record has. The shard must own the entry. Takes no memory.
     pub fn refs(&self, entry: &CoreEntry<K, V, P>) -> usize
         requires owned { (entry.now.number ≡ (state_of self.now).number) × (0 < handles_in (state_of self.now) entry.now.id) }
         ensures { result ≡ handles_in (state_of self.now) entry.now.id }
@@ -70,8 +78,7 @@ impl<E: Eviction, K: Key, V: Value, P: Properties, N: Drop, R: Drop, I: Finder<K
         self.store.refs(entry)
     }
 
-    /// Whether an entry's record is in the index no more. It asks for an entry that is this shard's, and takes
-    /// no memory.
+    /// Returns whether the entry's record is no longer resident. The shard must own the entry. Takes no memory.
     pub fn is_outdated(&self, entry: &CoreEntry<K, V, P>) -> bool
         requires owned { (entry.now.number ≡ (state_of self.now).number) × (0 < handles_in (state_of self.now) entry.now.id) }
         ensures { IsTrue result ↔ IsOutdated (state_of self.now) entry.now.id }

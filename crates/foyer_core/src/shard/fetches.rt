@@ -1,4 +1,4 @@
-//! Fetches of keys that a shard does not hold.
+//! Fetches of missing keys.
 
 ghost use Rattle.std.specs.Prelude.{◌≡◌, ◌↔◌, ℕ, None, Some, IfOk, IfSome, IfNone, OnSome, IsSomeAnd, IsTrue, true};
 ghost use Rattle.foyer_policy.specs.declared.types.Source.{Source as SourceOf};
@@ -29,12 +29,13 @@ impl<E: Eviction, K: Key, V: Value, P: Properties, N: Drop, R: Drop, I: Finder<K
     ghost use Rattle.foyer_core.specs.Fetching.{Apart, CompletesBy, EndsBy, LooksUp};
     ghost use Rattle.foyer_core.specs.PieceEnds.{CompletesPieceBy, comes_under};
 
-    /// An entry of the key's record, as `get` answers it at a moment, or where the key is missing a token to wait with: for a new
-    /// fetch, which the one who asks leads, or for the one that is open. A builder that one who waits brings is kept
-    /// where none is kept. A clone of the key must equal it.
+    /// Returns an entry as `get` does at `now`, or a token to wait with if the key is missing.
     ///
-    /// Refused on a hit as `get` is (F9, F7), and on a miss where a number is missing (F10), and then for want of
-    /// memory (F7); nothing has changed.
+    /// If the key has no open fetch, one is opened and the caller leads it. Otherwise the caller waits for that one,
+    /// and its builder is kept if the fetch has none. A clone of the key must equal it.
+    ///
+    /// # Errors
+    /// On a hit, those of `get`. On a miss, F10 if no number is left and F7 if memory runs out. Nothing has changed.
     pub fn get_or_enqueue(
         &mut self,
         now: u64,
@@ -55,7 +56,7 @@ impl<E: Eviction, K: Key, V: Value, P: Properties, N: Drop, R: Drop, I: Finder<K
         }
     }
 
-    // One more asks for a key that is missing.
+    // Enters a caller that asks for a missing key.
     fn enqueue(
         &mut self,
         now: u64,
@@ -97,8 +98,10 @@ impl<E: Eviction, K: Key, V: Value, P: Properties, N: Drop, R: Drop, I: Finder<K
         }
     }
 
-    /// Whether this fetch of a key is open. A key has at most one, and where it has one and is in the index, its record was
-    /// expired when the fetch was opened. It takes no memory.
+    /// Returns whether this fetch of a key is open. Takes no memory.
+    ///
+    /// A key has at most one open fetch. If it has one and is resident, its record was expired when the fetch was
+    /// opened.
     pub fn is_open(&self, hash: u64, key: &K, fetch: u64) -> bool
         ensures is_open { IsTrue result ↔ IsOpen (opens_of self.now) (hash, key.now) fetch }
         ensures equal_keys { (other : K) → IsTrue (K.eq key.now other)
@@ -108,8 +111,10 @@ impl<E: Eviction, K: Key, V: Value, P: Properties, N: Drop, R: Drop, I: Finder<K
         self.inflights.is_open(hash, key, fetch)
     }
 
-    /// A fetch of a key found nothing: the builder that is kept, to fetch with. Without one it is closed, and
-    /// who waits is answered. None where that fetch is not open. It takes no memory.
+    /// Takes the builder that an open fetch keeps, to go on with after the fetch found nothing. If it keeps none,
+    /// closes the fetch and returns its waiters.
+    ///
+    /// Returns `None` if the fetch isn't open. Takes no memory.
     pub fn fetch_or_take(&mut self, hash: u64, key: &K, fetch: u64) -> Option<FetchOrTake<R, N>>
         ensures answer { IfSome result (λ answer. IsSomeAnd (asked (Some fetch) ((opens_of self.old).by_key (hash, key.now))) (λ o. IsFetchOrTake o answer)) }
         ensures none { IfNone result (asked (Some fetch) ((opens_of self.old).by_key (hash, key.now)) ≡ None) }
@@ -120,8 +125,8 @@ impl<E: Eviction, K: Key, V: Value, P: Properties, N: Drop, R: Drop, I: Finder<K
         self.inflights.fetch_or_take(hash, key, fetch)
     }
 
-    /// Ends an open fetch of a key with a refusal, which those get who wait. Where that fetch is not open, nothing
-    /// happens. It takes no memory.
+    /// Ends an open fetch of a key with an error, which its waiters get. If the fetch isn't open, nothing changes.
+    /// Takes no memory.
     pub fn end(
         &mut self,
         alloc: Global,
@@ -140,9 +145,11 @@ impl<E: Eviction, K: Key, V: Value, P: Properties, N: Drop, R: Drop, I: Finder<K
         }
     }
 
-    /// Ends an open fetch of a key with a new record of it, as `emplace` takes one in at a moment, but with one handle for each who
-    /// waits and none beside. The fetch is closed, and where the record is refused, those who wait get the refusal.
-    /// Where that fetch is not open, nothing happens. A clone of the key must equal it.
+    /// Ends an open fetch of a key with a new record of it, which is inserted at `now` as by `emplace`, with a handle
+    /// for each waiter and none beside.
+    ///
+    /// If the insert fails, the waiters get its error, and the fetch is closed all the same. If the fetch isn't open,
+    /// nothing changes. A clone of the key must equal it.
     pub fn complete(
         &mut self,
         alloc: Global,
@@ -171,10 +178,11 @@ impl<E: Eviction, K: Key, V: Value, P: Properties, N: Drop, R: Drop, I: Finder<K
         Ended::found(waiters, came, leaves)
     }
 
-    /// Ends an open fetch of a key with a piece, whose key has the hash `own`, as `complete` does. Where the record for
-    /// which the piece stands has this hash and a key that equals this one, and `is_home` says that this is the shard of
-    /// `own`, it comes in as `emplace_piece` takes it in, of this weight where it stands for none of this shard's. Else
-    /// those who wait get F12.
+    /// Ends an open fetch of a key with a piece, whose key has the hash `own`, as `complete` does.
+    ///
+    /// `is_home` says whether this is the shard of `own`. If it is, and the piece's record has this hash and an equal
+    /// key, it is inserted as by `emplace_piece`, with this weight if the shard doesn't know the piece. Otherwise the
+    /// waiters get F12.
     pub fn complete_piece(
         &mut self,
         alloc: Global,
@@ -211,8 +219,8 @@ impl<E: Eviction, K: Key, V: Value, P: Properties, N: Drop, R: Drop, I: Finder<K
         Ended::found(waiters, came, leaves)
     }
 
-    // Whether a piece, whose key has the hash `own`, comes in under this hash and a key that equals this one. `is_home`
-    // says whether this is the shard of `own`.
+    // Whether a piece, whose key has the hash `own`, is inserted under this hash and a key that equals this one.
+    // `is_home` says whether this is the shard of `own`.
     fn is_under(&self, own: u64, piece: &Piece<K, V, P>, is_home: bool, hash: u64, key: &K) -> bool
         ensures { result ≡ comes_under (meaning_of self.now) (state_of self.now) own piece.now is_home (hash, key.now) }
     {
@@ -223,8 +231,8 @@ impl<E: Eviction, K: Key, V: Value, P: Properties, N: Drop, R: Drop, I: Finder<K
         hash == under && *key == *other
     }
 
-    /// Ends an open fetch of a key with a value for which there was no memory to clone the key: those who wait get the
-    /// refusal that an insert would have, which is that of the memory (F7) where nothing else refuses it.
+    /// Ends an open fetch of a key with a value whose key couldn't be cloned: the waiters get the error that an
+    /// insert would have, and F7 if it would have none.
     pub fn refuse_value(
         &mut self,
         alloc: Global,

@@ -1,4 +1,4 @@
-//! Records that come into a shard.
+//! Inserts into a shard.
 
 ghost use Rattle.std.specs.Prelude.{◌≡◌, ◌+◌, ◌<◌, ◌^◌, IfOk, MatchResult, OnErr, true};
 ghost use Rattle.foyer_core.specs.Inflight.{closed, waiters_of};
@@ -29,17 +29,18 @@ impl<E: Eviction, K: Key, V: Value, P: Properties, N: Drop, R: Drop, I: Finder<K
     ghost use Rattle.foyer_core.specs.Steps.{Inserts, RefusesInsert, newcomer};
     ghost use Rattle.foyer_core.specs.Pieces.{InsertsPiece, coming_under, is_known};
 
-    /// Takes a new record in, and answers an entry of it, with this source, and one more for each who waits for its
-    /// key, whose fetch is closed. What leaves is appended to a list. A clone of the key must equal it.
+    /// Inserts a record, and returns an entry of it with this source and one for each caller that waits for its key.
+    /// Appends what leaves.
     ///
-    /// For a plain record others are evicted until the capacity has room for it, or nothing more leaves, those first that
-    /// are expired at the moment, and then the key's record gives way (`Replace`). For a phantom one, which its properties say, the key's
-    /// record gives way and nothing is evicted; it is told as `Remove`, is in the index at no time, and leaves
-    /// with its last handle.
+    /// Records that are expired at `now` are evicted, then the policy's victims, until the record fits or nothing
+    /// more leaves; then it replaces the key's record (`Replace`). A record whose properties say that it is phantom
+    /// is reported as `Remove`: it replaces the key's record, but nothing is evicted for it, it is never in the
+    /// index, and it leaves with its last handle. The key's fetch is closed. A clone of the key must equal it.
     ///
-    /// Refused, in this order, where no id is left (F10), the handles would pass the limit (F9), the weight of a
-    /// plain record and the pinned weight of other keys pass a `usize` (F8), and then nothing has changed; or
-    /// for want of memory (F7): then some beginning of the evictions has left. Who waits for the key still waits.
+    /// # Errors
+    /// F10 if no id is left, F9 if the handle count would pass its limit, F8 if the record's weight and the pinned
+    /// weight of other keys don't fit a `usize`; nothing has changed. F7 if memory runs out; the evictions made so
+    /// far stand. After any error, callers that wait for the key still wait.
     #[inline(always)]
     pub fn emplace(
         &mut self,
@@ -70,7 +71,7 @@ impl<E: Eviction, K: Key, V: Value, P: Properties, N: Drop, R: Drop, I: Finder<K
         }
     }
 
-    // The same where some may wait.
+    // Inserts as `emplace` does, if there are open fetches.
     #[cold]
     #[inline(never)]
     fn emplace_answering(
@@ -104,21 +105,24 @@ impl<E: Eviction, K: Key, V: Value, P: Properties, N: Drop, R: Drop, I: Finder<K
         }
     }
 
-    /// Whether a piece, whose key has this hash, stands for a record of this shard: the piece has its core's
-    /// number and this hash, and its id was given. It takes no memory.
+    /// Returns whether a piece, whose key has this hash, stands for a record of this shard: the piece has the core's
+    /// number and this hash, and its id was given. Takes no memory.
     pub fn knows(&self, hash: u64, piece: &Piece<K, V, P>) -> bool
         ensures { result ≡ is_known (state_of self.now) hash piece.now }
     {
         self.store.knows(hash, piece)
     }
 
-    /// Takes a piece's record in, whose key has this hash, and answers as `emplace` does, with the source `Memory`. What
-    /// leaves is appended to a list. A clone of the key must equal it.
+    /// Inserts the record of a piece, whose key has this hash, and returns what `emplace` does, with the source
+    /// `Memory`. Appends what leaves.
     ///
-    /// A piece that the shard knows stands for its record. One in the index has these handles more, and nothing else
-    /// happens to it. Any other comes in under its id: with the data that are held of it, or else with the piece's. A
-    /// piece that it does not know makes a new record, of this hash and this weight, which shares the piece's data, as
-    /// it may with another core's record. Each is refused as an insert is; a record that has an id needs no other (F10).
+    /// A piece that the shard knows stands for its record. If that is resident it gets the handles, and nothing else
+    /// happens. Otherwise it is inserted under its id, with the data that a handle still holds, or else the piece's.
+    /// A piece that the shard doesn't know makes a new record of this hash and this weight, which shares the piece's
+    /// data. A clone of the key must equal it.
+    ///
+    /// # Errors
+    /// Those of `emplace`, but F10 only for a new record.
     pub fn emplace_piece(
         &mut self,
         alloc: Global,
@@ -150,7 +154,7 @@ impl<E: Eviction, K: Key, V: Value, P: Properties, N: Drop, R: Drop, I: Finder<K
         }
     }
 
-    // An entry for each who waits for a key.
+    // An entry for each waiter of a key.
     #[inline(always)]
     pub(super) fn further(&self, hash: u64, key: &K) -> Further
         ensures count { result.count ≡ waiting_for (opens_of self.now) (hash, key.now) }
@@ -165,7 +169,7 @@ impl<E: Eviction, K: Key, V: Value, P: Properties, N: Drop, R: Drop, I: Finder<K
         Further { count, room: 0 }
     }
 
-    // An entry for each who waits for the key under which a piece comes in, whose key has this hash.
+    // An entry for each waiter of the key under which a piece is inserted, whose key has this hash.
     fn further_of(&self, hash: u64, piece: &Piece<K, V, P>) -> Further
         ensures count { result.count ≡ waiting_for (opens_of self.now) (coming_under (state_of self.now) hash piece.now) }
         ensures room { result.room ≡ 0 }

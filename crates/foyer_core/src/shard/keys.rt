@@ -1,4 +1,4 @@
-//! What a shard does with a key, beside a `get`.
+//! Calls on a key, beside `get`.
 
 ghost use Rattle.std.specs.Prelude.{◌≡◌, IfOk, IfSome, true};
 
@@ -19,9 +19,10 @@ impl<E: Eviction, K: Key, V: Value, P: Properties, N: Drop, R: Drop, I: Finder<K
     ghost use Rattle.foyer_core.specs.Shards.{state_of, meaning_of, opens_of};
     ghost use Rattle.foyer_core.specs.Steps.{Touches, Removes};
 
-    /// Whether the key's record is in the index and not expired at a moment; if so, that counts as a use, as a `get` does
-    /// whose entry is given back at once. Refused at the limit of handles alone (F9); then nothing has changed. It takes no
-    /// memory.
+    /// Returns whether a `get` at `now` finds the key, and if so counts a use of its record. Takes no memory.
+    ///
+    /// # Errors
+    /// F9 if the handle count would pass its limit; nothing has changed.
     pub fn touch(&mut self, now: u64, hash: u64, key: &K) -> Result<bool>
         ensures touches { Touches (meaning_of self.old) now (state_of self.old) (hash, key.now) result (state_of self.new) }
         ensures opens { opens_of self.new ≡ opens_of self.old }
@@ -29,9 +30,12 @@ impl<E: Eviction, K: Key, V: Value, P: Properties, N: Drop, R: Drop, I: Finder<K
         self.store.touch(now, hash, key)
     }
 
-    /// Takes the key's record out, where it is in the index, and answers an entry of it, which counts as a
-    /// handle, and the record that left, as `Remove`. Refused at the limit of handles (F9), or where the record
-    /// could not be shared (F7); then nothing has changed. It allocates nothing.
+    /// Removes the key's record, expired or not, and returns an entry of it and the record as it left (`Remove`).
+    ///
+    /// Allocates nothing.
+    ///
+    /// # Errors
+    /// F9 if the handle count would pass its limit, F7 if a reference count is full; nothing has changed.
     pub fn remove(
         &mut self,
         hash: u64,

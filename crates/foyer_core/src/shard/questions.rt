@@ -1,4 +1,4 @@
-//! What a shard is asked that changes nothing: why a step would be refused. No question takes memory.
+//! Why a call would fail whatever memory there is. These calls change nothing and take no memory.
 
 ghost use Rattle.std.specs.Prelude.{◌≡◌, ◌≢◌, ◌+◌, [], Err, IfSome, IfNone};
 ghost use Rattle.foyer_policy.specs.Properties.{is_phantom};
@@ -22,8 +22,8 @@ impl<E: Eviction, K: Key, V: Value, P: Properties, N: Drop, R: Drop, I: Finder<K
     ghost use Rattle.foyer_core.specs.Steps.{Gets, MayBy, RefusesInsert, newcomer};
     ghost use Rattle.foyer_core.specs.Waited.{waiting_for};
 
-    /// Why a `get` of a key at a moment would be refused, whatever memory there is: where its record has as many handles as
-    /// one may have (F9). Else none, also where the key has no record in the index, or an expired one.
+    /// Returns why a `get` of a key at `now` would fail whatever memory there is: F9, or `None`, also if it would
+    /// miss.
     pub fn refuses_get(&self, now: u64, hash: u64, key: &K) -> Option<Reason>
         ensures some { IfSome result (λ reason. (reason ≡ Handles)
             × Gets (meaning_of self.now) now (state_of self.now) (hash, key.now) (Err Handles) (state_of self.now)) }
@@ -32,8 +32,8 @@ impl<E: Eviction, K: Key, V: Value, P: Properties, N: Drop, R: Drop, I: Finder<K
         self.store.get_refusal(now, hash, key)
     }
 
-    /// Why an `emplace` of a record with this key, these properties and this weight would be refused now, whatever its
-    /// value is and whatever memory there is: F10, F9 or F8, with a handle for each who waits for the key. Else none.
+    /// Returns why an `emplace` of a record with this key, these properties and this weight would fail, whatever its
+    /// value and whatever memory there is: F10, F9 or F8, with a handle for each waiter, or `None`.
     pub fn refuses_insert(
         &self,
         hash: u64,

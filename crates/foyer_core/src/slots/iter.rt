@@ -8,7 +8,7 @@ ghost use Rattle.foyer_core.specs.Cells.{value_of};
 use super::Cell;
 use std::marker::Model;
 
-/// The slots that have a value, with it: those that are still to come.
+/// An iterator over the slots that have a value, with it.
 #[derive(Drop)]
 pub struct Iter<'a, T> {
     cells: &'a [Cell<T>],

@@ -1,4 +1,4 @@
-//! How a record comes into the index and the policy, where there is room.
+//! How a record is entered in index and policy, once there is room.
 
 ghost use Rattle.std.specs.Prelude.{◌≡◌, ℕ, ◌+◌, ◌<◌, ◌≤◌, ◌^◌, Some, None, OnErr, IfOk, IsSome, IsSomeAnd, max, nat_eq, true, false};
 ghost use Rattle.std.specs.Option.{ForSome};
@@ -23,8 +23,8 @@ impl<E: Eviction, K: Key, V: Value, P: Properties, I: Finder<K>> Store<E, K, V, 
     ghost use Rattle.foyer_core.specs.State.{key_of, usage_of};
     ghost use Rattle.foyer_core.specs.Steps.{GivesWay, Admits, HasId};
 
-    // Puts a record in, where there is room, in place of what is held under its id, and takes its key's record
-    // out. Refused where the index has no room, and then nothing has changed.
+    // Enters a record, for which there is room, in place of what is held under its id, and removes its key's record.
+    // Fails if the index has no room; nothing has changed.
     #[inline(always)]
     pub(super) fn admit(
         &mut self,
@@ -73,7 +73,7 @@ impl<E: Eviction, K: Key, V: Value, P: Properties, I: Finder<K>> Store<E, K, V, 
         Ok((number, replaced))
     }
 
-    // The slot where an id stands. What was not given stands nowhere.
+    // The slot of an id. An id that wasn't given has none.
     #[inline(always)]
     pub(super) fn stands(&self, id: u64) -> Option<usize>
         ensures { result ≡ number_of self.now.records id }
@@ -85,7 +85,7 @@ impl<E: Eviction, K: Key, V: Value, P: Properties, I: Finder<K>> Store<E, K, V, 
     }
 }
 
-// The next number once this id is in.
+// The next number once this id is used.
 #[inline(always)]
 pub(super) fn above(next: u64, id: u64) -> u64
     requires { id + 1 < 2 ^ 64 }
@@ -94,8 +94,7 @@ pub(super) fn above(next: u64, id: u64) -> u64
     if id < next { next } else { id + 1 }
 }
 
-// The record that a key had gives way, where it had one: the weight that is gone, and what leaves, in the
-// core of this number.
+// Removes the record that a key had, if it had one: returns its weight and what leaves, in the core of this number.
 #[inline(always)]
 fn give_way<E: Eviction, K: Drop, V: Drop, P: Drop>(
     eviction: &mut E,
@@ -130,7 +129,7 @@ fn give_way<E: Eviction, K: Drop, V: Drop, P: Drop>(
     (weight, Some(left))
 }
 
-// The record in a slot gives way: the weight that is gone, and what leaves, in the core of this number.
+// Removes the record in a slot: returns its weight and what leaves, in the core of this number.
 #[cold]
 #[inline(never)]
 fn leave_way<E: Eviction, K: Drop, V: Drop, P: Drop>(

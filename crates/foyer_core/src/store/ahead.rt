@@ -1,8 +1,8 @@
-//! What an eviction and a use read ahead.
+//! Reads ahead of an eviction or a use.
 //!
-//! A share is counted by a locked instruction, behind which each read waits until those before it are done. So what is
-//! to be read of records and of the policy's nodes is read before shares are counted, all at once. Where a record is due,
-//! so is what leads to it by its id and by its key. What is asked here is so in any case.
+//! A share is counted by a locked instruction, and each read behind it waits until those before it are done. So what
+//! will be read of records and of the policy's nodes is read before shares are counted, all at once; for an expired
+//! record also what leads to it by its id and by its key. Each of these functions returns true.
 
 ghost use Rattle.std.specs.Prelude.{IsSome, IsTrue};
 
@@ -11,8 +11,7 @@ use crate::finder::Finder;
 use foyer_policy::{Eviction, Hint, Key, Place, Properties, Value};
 
 impl<E: Eviction, K: Key, V: Value, P: Properties, I: Finder<K>> Store<E, K, V, P, I> {
-    // Whether the records that may leave next stand where the policy has them: the data of the first, and the slot of
-    // the one behind it, are read.
+    // Reads the data of the record that may leave next, and the slot of the one behind it. Returns true.
     #[inline(always)]
     pub(super) fn looks_ahead(&self) -> bool
         ensures { IsTrue result }
@@ -28,7 +27,7 @@ impl<E: Eviction, K: Key, V: Value, P: Properties, I: Finder<K>> Store<E, K, V, 
         }
     }
 
-    // Whether the slot of a place in the policy has a record that is in the index.
+    // Reads the slot of a place in the policy. Returns true.
     #[inline(always)]
     fn stands_at(&self, place: Place) -> bool
         requires { IsSome (E.at self.now.eviction place) }
@@ -40,7 +39,7 @@ impl<E: Eviction, K: Key, V: Value, P: Properties, I: Finder<K>> Store<E, K, V, 
         }
     }
 
-    // Whether the data of the record at a place in the policy have the hint that the policy has.
+    // Reads the data of the record at a place in the policy. Returns true.
     #[inline(always)]
     fn agrees_at(&self, place: Place) -> bool
         requires { IsSome (E.at self.now.eviction place) }
@@ -53,8 +52,8 @@ impl<E: Eviction, K: Key, V: Value, P: Properties, I: Finder<K>> Store<E, K, V, 
         }
     }
 
-    // Whether all is there that changes when what stands at a place in the policy leaves: the data of its record, its
-    // neighbors in the policy, and what leads to it by its id and by its key.
+    // Reads all that changes when the record at a place in the policy leaves: its data, its neighbors in the policy,
+    // and what leads to it by its id and by its key. Returns true.
     #[inline(always)]
     pub(super) fn is_all_at(&self, place: Place) -> bool
         requires { IsSome (E.at self.now.eviction place) }

@@ -1,4 +1,4 @@
-//! What a shard does with all of its records.
+//! Evictions, capacity and configuration of a store.
 
 ghost use Rattle.std.specs.Prelude.{◌≡◌, ℕ, Some, None, OnOk, OnErr, IfErr, IsTrue};
 ghost use Rattle.foyer_policy.specs.declared.error.Reason.TheVariants.{NoMemory};
@@ -14,8 +14,7 @@ impl<E: Eviction, K: Key, V: Value, P: Properties, I: Finder<K>> Store<E, K, V, 
     ghost use Rattle.foyer_core.specs.CoreBulk.{EvictsToCapacity, EvictingToCapacity};
     ghost use Rattle.foyer_core.specs.State.{at_moment};
 
-    /// Sets the weight that the records may have together, and tells the policy. Nothing leaves, even where the
-    /// usage is above it. It takes no memory.
+    /// Sets the capacity and tells the policy. Nothing leaves, even if the usage is above it. Takes no memory.
     pub fn set_capacity(&mut self, capacity: usize)
         ensures { state_of self.new ≡ after_capacity (meaning_of self.old) (state_of self.old) capacity }
     {
@@ -23,15 +22,15 @@ impl<E: Eviction, K: Key, V: Value, P: Properties, I: Finder<K>> Store<E, K, V, 
         self.capacity = capacity;
     }
 
-    /// Whether a configuration is of the store's policy.
+    /// Returns whether a configuration is of the store's policy.
     pub fn takes(&self, config: &E::Config) -> bool
         ensures { result ≡ E.model.takes (state_of self.now).view config.now }
     {
         self.eviction.takes(config)
     }
 
-    /// Tells the policy another configuration, one that it accepts. The capacity stays, and nothing leaves. It takes
-    /// no memory.
+    /// Gives the policy another configuration, one that it accepts. The capacity stays, and nothing leaves. Takes no
+    /// memory.
     pub fn configure(&mut self, config: &E::Config)
         requires accepted { E.model.fault config.now ≡ None }
         requires taken { IsTrue (E.model.takes (state_of self.old).view config.now) }
@@ -41,8 +40,7 @@ impl<E: Eviction, K: Key, V: Value, P: Properties, I: Finder<K>> Store<E, K, V, 
         tell_config(&mut self.eviction, self.capacity, config);
     }
 
-    /// Evicts, at a moment, until the usage is at most the capacity, or nothing more leaves, and appends what leaves.
-    /// Refused for want of memory alone (F7); then some beginning of the evictions has left, and stands in the list.
+    /// Evicts until the usage is at most the capacity, as `Shard::evict_to_capacity` does.
     pub fn evict_to_capacity(&mut self, now: u64, leaves: &mut Vec<Leave<K, V, P>>) -> Result<()>
         ensures done { OnOk result (GoesOn leaves.old.items leaves.new.items
             (λ ls. EvictsToCapacity (at_moment now (meaning_of self.old)) (state_of self.old) ls (state_of self.new))) }
@@ -53,8 +51,7 @@ impl<E: Eviction, K: Key, V: Value, P: Properties, I: Finder<K>> Store<E, K, V, 
         self.evict_onto(now, leaves, self.capacity)
     }
 
-    /// Evicts, at a moment, all that is not pinned, what is due first and then in the order in which the policy gives it,
-    /// and appends what leaves. Refused for want of memory alone (F7); then some beginning of it has left, and stands in the list.
+    /// Evicts all records that aren't pinned, as `Shard::evict_unpinned` does.
     pub fn evict_unpinned(&mut self, now: u64, leaves: &mut Vec<Leave<K, V, P>>) -> Result<()>
         ensures done { OnOk result (GoesOn leaves.old.items leaves.new.items
             (λ ls. EvictsUnpinned (at_moment now (meaning_of self.old)) (state_of self.old) ls (state_of self.new))) }

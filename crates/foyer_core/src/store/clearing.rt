@@ -1,4 +1,4 @@
-//! All records of a shard leave at once.
+//! The removal of all records.
 
 ghost use Rattle.std.specs.Prelude.{◌≡◌, ℕ, ◌+◌, ◌≤◌, [], Some, None, OnOk, IfOk, IfErr, IsSomeAnd, nat_eq, true, length, vec_len, vec_capacity};
 ghost use Rattle.std.specs.Map.{update};
@@ -21,8 +21,7 @@ impl<E: Eviction, K: Key, V: Value, P: Properties, I: Finder<K>> Store<E, K, V, 
     ghost use Rattle.foyer_core.specs.Stores.{state_of, meaning_of};
     ghost use Rattle.foyer_core.specs.Bulk.{GoesOn, Clears, Lined, Passes};
 
-    /// Makes room in the policy for a `clear`, and answers what is in, in the policy's order. Only memory can be
-    /// missing (F7); nothing else changes.
+    /// Makes room for a `clear` and returns all items, as `Shard::reserve_clear` does.
     pub fn reserve_clear(&mut self) -> Result<Vec<Item>>
         ensures same { state_of self.new ≡ state_of self.old }
         ensures can_clear { OnOk result (E.can_clear self.new.eviction) }
@@ -33,8 +32,7 @@ impl<E: Eviction, K: Key, V: Value, P: Properties, I: Finder<K>> Store<E, K, V, 
         self.eviction.order()
     }
 
-    /// Takes everything out, as `Clear`, in the policy's order, and appends what leaves. It asks for the room
-    /// and the items of `reserve_clear`, and for room in the list; it takes no memory.
+    /// Removes all records, as `Shard::clear` does.
     pub fn clear(&mut self, items: &[Item], leaves: &mut Vec<Leave<K, V, P>>)
         requires can_clear { E.can_clear self.old.eviction }
         requires items { items.now ≡ E.model.order (state_of self.old).view }
@@ -55,7 +53,7 @@ impl<E: Eviction, K: Key, V: Value, P: Properties, I: Finder<K>> Store<E, K, V, 
         self.entries = 0;
     }
 
-    // The records of these items leave the index and their slots, in the core of this number.
+    // Removes the records of these items from the index and their slots, in the core of this number.
     fn leave_all(
         index: &mut I,
         records: &mut Records<K, V, P>,
@@ -82,7 +80,7 @@ impl<E: Eviction, K: Key, V: Value, P: Properties, I: Finder<K>> Store<E, K, V, 
     }
 }
 
-// The record in a slot, to which its key leads, leaves the index and its slot, in the core of this number.
+// Removes the record in a slot, to which its key leads, from the index and the slot, in the core of this number.
 #[inline(always)]
 pub(super) fn leave_slot<K: Key, V: Drop, P: Drop, I: Finder<K>>(
     index: &mut I,

@@ -1,4 +1,4 @@
-//! The end of a shard's store: what is still in is told.
+//! The end of a store: its resident records are told.
 
 ghost use Rattle.std.specs.Prelude.{◌≡◌, ℕ, ◌<◌, Some, true};
 ghost use Rattle.foyer_policy.specs.Items.{count_of};
@@ -13,8 +13,8 @@ impl<E: Eviction, K: Key, V: Value, P: Properties, I: Finder<K>> Store<E, K, V, 
     ghost use Rattle.foyer_core.specs.Stores.{state_of};
     ghost use Rattle.foyer_core.specs.Questions.{IsTold, TellsResidents};
 
-    // Tells each record that is in the index, in the policy's order, or where there is no memory for that order, in
-    // the order of slots.
+    // Tells each resident record, in the policy's order, or in the order of slots if there is no memory for that
+    // order.
     pub(crate) fn tell_residents<F: Fn(&K, &V)>(&self, tell: &F)
         requires { F.IsAlwaysCallable tell.now }
         ensures { TellsResidents F.Fn tell.now (state_of self.now) }
@@ -25,7 +25,7 @@ impl<E: Eviction, K: Key, V: Value, P: Properties, I: Finder<K>> Store<E, K, V, 
         }
     }
 
-    // Tells the records of these items, which are all that are in.
+    // Tells the records of these items, which are all items.
     fn tell_in_order<F: Fn(&K, &V)>(&self, items: &[Item], tell: &F)
         requires callable { F.IsAlwaysCallable tell.now }
         requires all { items.now ≡ E.model.order (E.view self.now.eviction) }
@@ -51,7 +51,7 @@ impl<E: Eviction, K: Key, V: Value, P: Properties, I: Finder<K>> Store<E, K, V, 
         tell(found.key(), found.value());
     }
 
-    // Tells the records of the slots that are in the index. It takes no memory.
+    // Tells the resident records in the order of slots. Takes no memory.
     fn tell_by_slot<F: Fn(&K, &V)>(&self, tell: &F)
         requires callable { F.IsAlwaysCallable tell.now }
         ensures { (n : ℕ) (x : Kept K V P) → slot_in self.now.records n ≡ Some x → x.resident ≡ true → IsTold F.Fn tell.now x.kept.key x.kept.value }

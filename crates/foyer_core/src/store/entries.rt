@@ -1,4 +1,4 @@
-//! What a shard does with an entry that is its own.
+//! Calls on a shard's own entries.
 
 ghost use Rattle.std.specs.Prelude.{◌≡◌, ◌<◌, ◌↔◌, IsTrue};
 
@@ -12,9 +12,7 @@ impl<E: Eviction, K: Key, V: Value, P: Properties, I: Finder<K>> Store<E, K, V, 
     ghost use Rattle.foyer_core.specs.State.{handles_in};
     ghost use Rattle.foyer_core.specs.Steps.{ClonesHandle, IsOutdated};
 
-    /// One more entry of the same record, with the same source, which counts as a handle and not as a use. It
-    /// asks for an entry that is this shard's. Refused at the limit of handles (F9), or where the record could
-    /// not be shared (F7); then nothing has changed. It allocates nothing.
+    /// Returns one more entry of the same record, as `Shard::clone_handle` does.
     pub fn clone_handle(&mut self, entry: &CoreEntry<K, V, P>) -> Result<CoreEntry<K, V, P>>
         requires owned { (entry.now.number ≡ (state_of self.old).number) × (0 < handles_in (state_of self.old) entry.now.id) }
         ensures clones { ClonesHandle (state_of self.old) entry.now result (state_of self.new) }
@@ -33,7 +31,7 @@ impl<E: Eviction, K: Key, V: Value, P: Properties, I: Finder<K>> Store<E, K, V, 
         Ok(clone)
     }
 
-    /// How many handles an entry's record has. It asks for an entry that is this shard's, and takes no memory.
+    /// Returns how many handles an entry's record has. The entry must be this shard's.
     pub fn refs(&self, entry: &CoreEntry<K, V, P>) -> usize
         requires owned { (entry.now.number ≡ (state_of self.now).number) × (0 < handles_in (state_of self.now) entry.now.id) }
         ensures { result ≡ handles_in (state_of self.now) entry.now.id }
@@ -41,8 +39,7 @@ impl<E: Eviction, K: Key, V: Value, P: Properties, I: Finder<K>> Store<E, K, V, 
         self.handles(entry.id(), entry.slot())
     }
 
-    /// Whether an entry's record is in the index no more. It asks for an entry that is this shard's, and takes
-    /// no memory.
+    /// Returns whether an entry's record is no longer resident. The entry must be this shard's.
     pub fn is_outdated(&self, entry: &CoreEntry<K, V, P>) -> bool
         requires owned { (entry.now.number ≡ (state_of self.now).number) × (0 < handles_in (state_of self.now) entry.now.id) }
         ensures { IsTrue result ↔ IsOutdated (state_of self.now) entry.now.id }

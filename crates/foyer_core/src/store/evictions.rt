@@ -1,4 +1,4 @@
-//! Evictions of a shard's records.
+//! Evictions.
 
 ghost use Rattle.std.specs.Prelude.{◌≡◌, ◌<◌, Some, None, OnOk, OnErr, IfOk, IfErr, IfSome, IfNone, IsSome, vec_len, vec_capacity};
 ghost use Rattle.foyer_policy.specs.declared.error.Reason.TheVariants.{NoMemory};
@@ -16,7 +16,7 @@ impl<E: Eviction, K: Key, V: Value, P: Properties, I: Finder<K>> Store<E, K, V, 
     ghost use Rattle.foyer_core.specs.Steps.{Evicts, Evicting, EvictsOne};
     ghost use Rattle.foyer_core.specs.Bulk.{GoesOn, TakesRecordOut};
 
-    // One eviction at a moment: what is due first leaves, and where nothing is, what the policy pops.
+    // Evicts one record: the first that is due at `now`, or else the policy's victim.
     #[inline(always)]
     pub(super) fn evict_one(&mut self, now: u64) -> Result<Option<Left<K, V, P>>>
         ensures some { IfOk result (λ found. IfSome found (λ left.
@@ -28,7 +28,7 @@ impl<E: Eviction, K: Key, V: Value, P: Properties, I: Finder<K>> Store<E, K, V, 
         ensures places { HasPlaces self.old → HasPlaces self.new }
     {
         if let Some(place) = self.eviction.expired(now) {
-            // The answer is always yes, as in `pop_one`. All that changes when the record leaves is read here, at once.
+            // It always returns true, as in `pop_one`. All that changes when the record leaves is read here, at once.
             if !self.is_all_at(place) {
                 return Err(Error::new(Reason::NoMemory));
             }
@@ -37,7 +37,7 @@ impl<E: Eviction, K: Key, V: Value, P: Properties, I: Finder<K>> Store<E, K, V, 
         self.pop_one()
     }
 
-    // What stands at this place in the policy leaves.
+    // Evicts the record at this place in the policy.
     #[cold]
     #[inline(never)]
     fn leave_due(&mut self, place: Place) -> Left<K, V, P>
@@ -51,7 +51,7 @@ impl<E: Eviction, K: Key, V: Value, P: Properties, I: Finder<K>> Store<E, K, V, 
         self.take_out(item.id, place.number())
     }
 
-    // What the policy pops leaves.
+    // Evicts the record that the policy pops.
     #[inline(always)]
     fn pop_one(&mut self) -> Result<Option<Left<K, V, P>>>
         ensures some { IfOk result (λ found. IfSome found (λ left. EvictsOne (meaning_of self.old) (state_of self.old) left (state_of self.new))) }
@@ -60,8 +60,8 @@ impl<E: Eviction, K: Key, V: Value, P: Properties, I: Finder<K>> Store<E, K, V, 
         ensures room { HasRoom self.old.records → HasRoom self.new.records }
         ensures places { HasPlaces self.old → HasPlaces self.new }
     {
-        // Nothing is refused here: the answer is always yes, and the arm is never reached. It is asked so that what is
-        // read of the victim, and of the record behind it, is read before shares are counted (store/ahead.rt).
+        // It always returns true, and the arm is never reached. It is called so that the victim, and the record
+        // behind it, are read before shares are counted (store/ahead.rt).
         if !self.looks_ahead() {
             return Err(Error::new(Reason::NoMemory));
         }
@@ -78,9 +78,7 @@ impl<E: Eviction, K: Key, V: Value, P: Properties, I: Finder<K>> Store<E, K, V, 
         Ok(Some(self.records.leave(slot, self.number)))
     }
 
-    /// Evicts, at a moment, until the usage is at most the target, or nothing more leaves, and appends what leaves: what
-    /// is due first, and then what the policy pops. Refused for want of memory alone (F7); then some beginning of the
-    /// evictions has left, and stands in the list.
+    /// Evicts until the usage is at most the target, as `Shard::evict_onto` does.
     #[inline(always)]
     pub fn evict_onto(
         &mut self,

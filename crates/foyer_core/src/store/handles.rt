@@ -1,4 +1,4 @@
-//! Handles of a shard's records.
+//! Handles of records: `get` and `give_back`.
 
 ghost use Rattle.std.specs.Prelude.{◌≡◌, ◌≢◌, ◌⊎◌, Some, OnErr, IfOk, IfErr, IsSomeAnd, false, option_copied, option_map};
 ghost use Rattle.foyer_core.specs.Values.{Kept};
@@ -16,9 +16,7 @@ impl<E: Eviction, K: Key, V: Value, P: Properties, I: Finder<K>> Store<E, K, V, 
     ghost use Rattle.foyer_core.specs.State.{handles_in};
     ghost use Rattle.foyer_core.specs.Steps.{Gets, GivesBack};
 
-    /// An entry of the key's record, where it is in the index and not expired at a moment, which counts as a handle and as
-    /// a use. Refused at the limit of handles (F9), or where the record could not be shared (F7); then nothing
-    /// has changed. It allocates nothing.
+    /// Returns an entry of the key's record, as `Shard::get` does. Allocates nothing.
     #[inline(always)]
     pub fn get(&mut self, now: u64, hash: u64, key: &K) -> Result<Option<CoreEntry<K, V, P>>>
         ensures gets { Gets (meaning_of self.old) now (state_of self.old) (hash, key.now) result (state_of self.new) }
@@ -30,9 +28,9 @@ impl<E: Eviction, K: Key, V: Value, P: Properties, I: Finder<K>> Store<E, K, V, 
             return Err(Error::new(Reason::Handles));
         }
         let place = Place::at(slot);
-        // No veto: the answer is always yes, and the arm is never reached. It is asked so that the item's node and its
-        // neighbors are read before shares are counted (store/ahead.rt). An `unreachable!()` would let the compiler drop
-        // these reads.
+        // It always returns true, and the arm is never reached. It is called so that the item's node and its
+        // neighbors are read before shares are counted (store/ahead.rt). An `unreachable!()` would let the compiler
+        // drop these reads.
         if !self.eviction.look_ahead(place) {
             return Ok(None);
         }
@@ -42,9 +40,7 @@ impl<E: Eviction, K: Key, V: Value, P: Properties, I: Finder<K>> Store<E, K, V, 
         Ok(Some(entry))
     }
 
-    /// Takes an entry back: its record has one handle less. With its last handle a record in the index is
-    /// released, a phantom one leaves, and any other is forgotten. An entry of another core's number, or of
-    /// whose id there is no handle here, comes back, and nothing has changed. It takes no memory.
+    /// Gives an entry back and returns what left with it, as `Shard::give_back` does. Takes no memory.
     #[inline(always)]
     pub fn give_back(
         &mut self,
@@ -82,7 +78,7 @@ impl<E: Eviction, K: Key, V: Value, P: Properties, I: Finder<K>> Store<E, K, V, 
         Ok(None)
     }
 
-    // The last handle of a record that is not in the index is gone.
+    // Forgets a record that isn't resident, with its last handle.
     fn forget(&mut self, slot: usize) -> Option<Leave<K, V, P>>
         requires { IsSomeAnd (slot_in self.old.records slot) (λ s. (s.handles ≡ 1) × (s.resident ≡ false)) }
         ensures { (s : Kept K V P) → slot_in self.old.records slot ≡ Some s
@@ -102,8 +98,7 @@ impl<E: Eviction, K: Key, V: Value, P: Properties, I: Finder<K>> Store<E, K, V, 
         self.number
     }
 
-    // How many handles there are of an id, whose record may stand in the slot that is hinted. It takes no
-    // memory.
+    // How many handles there are of an id, whose record may be in the hinted slot. Takes no memory.
     pub(crate) fn handles(&self, id: u64, hint: usize) -> usize
         ensures { result ≡ handles_in (state_of self.now) id }
     {
@@ -116,7 +111,7 @@ impl<E: Eviction, K: Key, V: Value, P: Properties, I: Finder<K>> Store<E, K, V, 
         }
     }
 
-    // What is held under an id, whose record may stand in the slot that is hinted. It takes no memory.
+    // The record of an id, which may be in the hinted slot. Takes no memory.
     pub(crate) fn held(&self, id: u64, hint: usize) -> Option<&Slot<K, V, P>>
         ensures { option_map rec_of (option_copied result) ≡ (state_of self.now).records id }
     {

@@ -1,4 +1,4 @@
-//! Records that come into a shard.
+//! Inserts of new records.
 
 ghost use Rattle.std.specs.Prelude.{◌≡◌, ◌+◌, ◌<◌, ◌≤◌, ◌^◌, Some, None, OnOk, IfOk, MatchResult, replicate, true, false, vec_len, vec_capacity};
 ghost use Rattle.foyer_policy.specs.Properties.{is_phantom};
@@ -23,17 +23,8 @@ impl<E: Eviction, K: Key, V: Value, P: Properties, I: Finder<K>> Store<E, K, V, 
     ghost use Rattle.foyer_core.specs.Steps.{Inserts, RefusesInsert, RefusesPlain, MayBy, MayInsert, newcomer};
     ghost use Rattle.foyer_core.specs.Settled.{Settles, SettlesPlain};
 
-    /// Takes a new record in, and answers handles of it, with this source: one, and as many further ones as are said.
-    /// What leaves is appended to a list. A clone of the key must equal it.
-    ///
-    /// For a plain record others are evicted until the capacity has room for it, or nothing more leaves, those first that
-    /// are expired at the moment, and then the key's record gives way (`Replace`). For a phantom one, which its properties say, the key's
-    /// record gives way and nothing is evicted; it is told as `Remove`, is in the index at no time, and leaves
-    /// with its last handle.
-    ///
-    /// Refused, in this order, where no id is left (F10), the handles would pass the limit (F9), the weight of a
-    /// plain record and the pinned weight of other keys pass a `usize` (F8), and then nothing has changed; or
-    /// for want of memory (F7): then some beginning of the evictions has left.
+    /// Inserts a record as `Shard::emplace` does, and returns one handle and as many more as `further` says. Appends
+    /// what leaves.
     pub(crate) fn emplace(
         &mut self,
         alloc: Global,
@@ -64,7 +55,7 @@ impl<E: Eviction, K: Key, V: Value, P: Properties, I: Finder<K>> Store<E, K, V, 
         self.come(alloc, now, slot, source, further, leaves)
     }
 
-    /// The same with one entry alone, for which no list is made.
+    /// Inserts a record as `emplace` does, but returns a single handle and allocates no list for more.
     #[inline(always)]
     pub(crate) fn emplace_one(
         &mut self,
@@ -90,8 +81,7 @@ impl<E: Eviction, K: Key, V: Value, P: Properties, I: Finder<K>> Store<E, K, V, 
         self.arrive(now, slot, source, leaves)
     }
 
-    // A record comes in that is not refused but for want of memory, and handles of it are made. What leaves is appended
-    // to a list.
+    // Inserts a record that only F7 can refuse, and makes handles of it. Appends what leaves.
     #[inline(always)]
     pub(super) fn come(
         &mut self,
@@ -127,7 +117,7 @@ impl<E: Eviction, K: Key, V: Value, P: Properties, I: Finder<K>> Store<E, K, V, 
         }
     }
 
-    // The same with one entry alone.
+    // Inserts as `come` does, with a single entry.
     #[inline(always)]
     fn arrive(
         &mut self,
@@ -161,7 +151,8 @@ impl<E: Eviction, K: Key, V: Value, P: Properties, I: Finder<K>> Store<E, K, V, 
         }
     }
 
-    // The same with no entry: it answers the slot where the record is. An entry with any source would be of it.
+    // Inserts as `arrive` does, with no entry, and returns the record's slot. An entry with any source would be of
+    // it.
     #[inline(always)]
     fn settle(
         &mut self,
@@ -185,10 +176,10 @@ impl<E: Eviction, K: Key, V: Value, P: Properties, I: Finder<K>> Store<E, K, V, 
         self.bring_in(now, slot, leaves)
     }
 
-    // Brings a plain record in, which is not refused but for want of memory: one with a new id, or one that
-    // comes back under its own.
+    // Inserts a plain record that only F7 can refuse: one with a new id, or one that comes back under its own.
     //
-    // A call by intent, where little is handed over: in line with all that stands around it, it would be too large to be.
+    // Never inlined, at a place where little is handed over: inlined with all around it, the caller would be too
+    // large.
     #[inline(never)]
     fn bring_in(
         &mut self,
@@ -224,7 +215,8 @@ impl<E: Eviction, K: Key, V: Value, P: Properties, I: Finder<K>> Store<E, K, V, 
         }
     }
 
-    // Makes room for one record and for what leaves, and makes a clone of the record's key. The slot is to come in.
+    // Makes room for one record and for what leaves, and clones the record's key. The slot gets the share that it
+    // leaves with.
     #[inline(always)]
     fn prepare(&mut self, slot: &mut Slot<K, V, P>, leaves: &mut Vec<Leave<K, V, P>>) -> Result<K>
         ensures same { state_of self.new ≡ state_of self.old }

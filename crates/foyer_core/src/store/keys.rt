@@ -1,4 +1,4 @@
-//! What a shard does with a key, beside a `get`.
+//! Calls on a key, beside `get`.
 
 ghost use Rattle.std.specs.Prelude.{◌≡◌};
 
@@ -11,9 +11,7 @@ impl<E: Eviction, K: Key, V: Value, P: Properties, I: Finder<K>> Store<E, K, V, 
     ghost use Rattle.foyer_core.specs.Stores.{state_of, meaning_of};
     ghost use Rattle.foyer_core.specs.Steps.{Touches, Removes};
 
-    /// Whether the key's record is in the index and not expired at a moment; if so, that counts as a use, as a `get` does
-    /// whose entry is given back at once. Refused at the limit of handles alone (F9); then nothing has changed. It takes no
-    /// memory.
+    /// Returns whether a `get` at `now` finds the key, and if so counts a use of its record, as `Shard::touch` does.
     pub fn touch(&mut self, now: u64, hash: u64, key: &K) -> Result<bool>
         ensures touches { Touches (meaning_of self.old) now (state_of self.old) (hash, key.now) result (state_of self.new) }
     {
@@ -33,9 +31,7 @@ impl<E: Eviction, K: Key, V: Value, P: Properties, I: Finder<K>> Store<E, K, V, 
         Ok(true)
     }
 
-    /// Takes the key's record out, where it is in the index, and answers an entry of it, which counts as a
-    /// handle, and the record that left, as `Remove`. Refused at the limit of handles (F9), or where the record
-    /// could not be shared (F7); then nothing has changed. It allocates nothing.
+    /// Removes the key's record and returns an entry of it and the record as it left, as `Shard::remove` does.
     pub fn remove(
         &mut self,
         hash: u64,

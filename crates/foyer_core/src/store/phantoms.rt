@@ -1,4 +1,4 @@
-//! Phantom records, which are held and never in the index.
+//! Inserts of phantom records, which are never in the index.
 
 ghost use Rattle.std.specs.Prelude.{◌≡◌, ℕ, ◌+◌, ◌<◌, ◌≤◌, ◌^◌, Some, None, OnOk, IfOk, MatchResult, false, vec_len, vec_capacity};
 ghost use Rattle.foyer_policy.specs.declared.types.Source.{Source};
@@ -19,8 +19,8 @@ impl<E: Eviction, K: Key, V: Value, P: Properties, I: Finder<K>> Store<E, K, V, 
     ghost use Rattle.foyer_core.specs.Steps.{RefusesPhantom, GivesWay, MayHold, after_hold, replaced_leaves};
     ghost use Rattle.foyer_core.specs.Settled.{SettlesPhantom};
 
-    // Holds a phantom record, which is not refused but for want of memory: its key's record gives way, and it is
-    // held by its entries alone. It has a new id, or comes back under its own.
+    // Inserts a phantom record that only F7 can refuse: replaces its key's record, and is held by its entries alone.
+    // It has a new id, or comes back under its own.
     #[cold]
     #[inline(never)]
     pub(super) fn hold_in(
@@ -47,7 +47,7 @@ impl<E: Eviction, K: Key, V: Value, P: Properties, I: Finder<K>> Store<E, K, V, 
         Ok(self.hold(slot))
     }
 
-    // Makes room for one record that is not indexed and for two leaves, and makes what is told of it.
+    // Makes room for one record that isn't indexed and for two that leave, and returns what it is reported with.
     fn prepare_phantom(
         &mut self,
         slot: &Slot<K, V, P>,
@@ -64,7 +64,7 @@ impl<E: Eviction, K: Key, V: Value, P: Properties, I: Finder<K>> Store<E, K, V, 
         slot.left(self.number)
     }
 
-    // The key's record, where it has one, gives way.
+    // Removes the key's record, if it has one.
     fn make_way(&mut self, hash: u64, key: &K) -> Option<Left<K, V, P>>
         ensures gives_way { GivesWay (meaning_of self.old) ((state_of self.old).index (hash, key.now))
             (state_of self.old) (replaced_leaves result) (state_of self.new) }
@@ -80,8 +80,7 @@ impl<E: Eviction, K: Key, V: Value, P: Properties, I: Finder<K>> Store<E, K, V, 
         Some(self.take_out(id, slot))
     }
 
-    // Holds a record that is not to be indexed, in place of what is held under its id, and answers its slot. It
-    // asks for room.
+    // Holds a record that isn't indexed, in place of what is held under its id, and returns its slot. Needs room.
     fn hold(&mut self, slot: Slot<K, V, P>) -> usize
         requires room { HasRoom self.old.records }
         requires apart { slot ≡ record slot { resident = false } }

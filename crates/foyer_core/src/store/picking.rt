@@ -1,4 +1,4 @@
-//! Records of a shard that leave by a predicate.
+//! Evictions of records that a predicate picks.
 
 ghost use Rattle.std.specs.Prelude.{◌≡◌, ◌+◌, ◌<◌, ◌≤◌, IfOk, IfErr, length, vec_len, vec_capacity};
 ghost use Rattle.foyer_policy.specs.Items.{count_of, IsWithin};
@@ -17,8 +17,7 @@ impl<E: Eviction, K: Key, V: Value, P: Properties, I: Finder<K>> Store<E, K, V, 
     ghost use Rattle.foyer_core.specs.Stores.{state_of, meaning_of, HasPlaces};
     ghost use Rattle.foyer_core.specs.Bulk.{GoesOn, TakesRecordOut, TakesOut, Picks, Says, Answers};
 
-    /// The items of the records of which the predicate says yes, pinned or not, in the policy's order. It is
-    /// asked once of each. Only memory can be missing (F7); nothing changes.
+    /// Returns the items that the predicate picks, as `Shard::pick` does.
     pub fn pick<F: Fn(&K, &V) -> bool>(&self, alloc: Global, predicate: &F) -> Result<Vec<Item>>
         requires { F.IsAlwaysCallable predicate.now }
         ensures picks { IfOk result (λ picked. Picks (meaning_of self.now) (Says F.Fn predicate.now) (state_of self.now) picked.items) }
@@ -38,7 +37,7 @@ impl<E: Eviction, K: Key, V: Value, P: Properties, I: Finder<K>> Store<E, K, V, 
         Ok(picked)
     }
 
-    // What the predicate says of an id's record.
+    // What the predicate returns for an id's record.
     fn says<F: Fn(&K, &V) -> bool>(&self, id: u64, predicate: &F) -> bool
         requires callable { F.IsAlwaysCallable predicate.now }
         requires there { 0 < count_of id (E.model.order (E.view self.now.eviction)) }
@@ -53,8 +52,7 @@ impl<E: Eviction, K: Key, V: Value, P: Properties, I: Finder<K>> Store<E, K, V, 
         predicate(found.key(), found.value())
     }
 
-    /// Takes the records of these items out, as `Evict`, in this order, and appends what leaves. It asks for
-    /// items that are in, each once, as `pick` gives them, and for room in the list; it takes no memory.
+    /// Evicts the records of these items, as `Shard::evict_picked` does.
     pub fn evict_picked(&mut self, picked: &[Item], leaves: &mut Vec<Leave<K, V, P>>)
         requires within { IsWithin picked.now (E.model.order (state_of self.old).view) }
         requires room { vec_len leaves.old + length picked.now ≤ vec_capacity leaves.old }
@@ -69,7 +67,7 @@ impl<E: Eviction, K: Key, V: Value, P: Properties, I: Finder<K>> Store<E, K, V, 
         }
     }
 
-    // The record of an id leaves, which may stand in the slot that is hinted.
+    // Evicts the record of an id, which may be in the hinted slot.
     #[inline(always)]
     pub(super) fn take_out(&mut self, id: u64, hint: usize) -> Left<K, V, P>
         requires { 0 < count_of id (E.model.order (E.view self.old.eviction)) }

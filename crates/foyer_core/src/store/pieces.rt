@@ -1,4 +1,4 @@
-//! Records that come into a shard by a piece.
+//! Inserts of pieces.
 
 ghost use Rattle.std.specs.Prelude.{◌≡◌, [], ◌+◌, ◌<◌, ◌≤◌, ◌^◌, Some, IfOk, IsSomeAnd, MatchResult, replicate, true, false, vec_len, vec_capacity};
 ghost use Rattle.foyer_policy.specs.declared.types.Source.TheVariants.{Memory};
@@ -22,16 +22,15 @@ impl<E: Eviction, K: Key, V: Value, P: Properties, I: Finder<K>> Store<E, K, V, 
     ghost use Rattle.foyer_core.specs.Steps.{Inserts, RefusesHandles, RefusesInsert};
     ghost use Rattle.foyer_core.specs.Pieces.{GainsHandles, InsertsPiece, Returns, RefusesReturn, coming_under, is_known};
 
-    /// Whether a piece, whose key has this hash, stands for a record of this shard: the piece has its core's
-    /// number and this hash, and its id was given. It takes no memory.
+    /// Returns whether a piece, whose key has this hash, stands for a record of this shard, as `Shard::knows` does.
     pub(crate) fn knows(&self, hash: u64, piece: &Piece<K, V, P>) -> bool
         ensures { result ≡ is_known (state_of self.now) hash piece.now }
     {
         piece.number() == self.number && piece.hash() == hash && piece.id() < self.next
     }
 
-    /// The hash and the key under which a piece comes in, whose key has this hash: those of the record for which it
-    /// stands, where the store knows it. It takes no memory.
+    /// Returns the hash and the key under which a piece is inserted, whose key has this hash: those of its record, if
+    /// the store knows that. Takes no memory.
     pub(crate) fn key_under<'a>(&'a self, hash: u64, piece: &'a Piece<K, V, P>) -> (u64, &'a K)
         ensures hash { result.0 ≡ (coming_under (state_of self.now) hash piece.now).0 }
         ensures key { result.1.now ≡ (coming_under (state_of self.now) hash piece.now).1 }
@@ -45,13 +44,8 @@ impl<E: Eviction, K: Key, V: Value, P: Properties, I: Finder<K>> Store<E, K, V, 
         }
     }
 
-    /// Takes a piece's record in, whose key has this hash, and answers handles of it, as `emplace` does. What leaves is
-    /// appended to a list. A clone of the key must equal it.
-    ///
-    /// A piece that the store knows stands for its record. One in the index has these handles more, and nothing else
-    /// happens. Any other comes in under its id: with the data that are held of it, or else with the piece's. A piece
-    /// that it does not know makes a new record, of this hash and this weight, which shares the piece's data. Each is
-    /// refused as an insert is; a record that has an id needs no other (F10).
+    /// Inserts the record of a piece as `Shard::emplace_piece` does, and returns one handle and as many more as
+    /// `further` says.
     pub(crate) fn emplace_piece(
         &mut self,
         alloc: Global,
@@ -84,7 +78,7 @@ impl<E: Eviction, K: Key, V: Value, P: Properties, I: Finder<K>> Store<E, K, V, 
         }
     }
 
-    // The record that a slot holds has more handles, and comes in where it is not in the index.
+    // Gives more handles to the record of a slot, and inserts it if it isn't resident.
     fn come_back(
         &mut self,
         alloc: Global,
@@ -112,7 +106,7 @@ impl<E: Eviction, K: Key, V: Value, P: Properties, I: Finder<K>> Store<E, K, V, 
         self.come_again(alloc, now, slot, further, leaves)
     }
 
-    // A record that is in the index has more handles.
+    // Gives more handles to a resident record.
     fn hand_out(&mut self, alloc: Global, slot: usize, further: Further) -> Result<Handles<K, V, P>>
         requires there { IsSomeAnd (slot_in self.old.records slot) (λ s. s.resident ≡ true) }
         requires listed { further.count + further.room < 2 ^ 64 }
@@ -139,7 +133,7 @@ impl<E: Eviction, K: Key, V: Value, P: Properties, I: Finder<K>> Store<E, K, V, 
         Ok(Handles { entry, others })
     }
 
-    // The record that a slot holds, which is not in the index, comes in, or is refused.
+    // Inserts the record of a slot that isn't resident, or refuses it.
     fn come_again(
         &mut self,
         alloc: Global,
@@ -175,7 +169,7 @@ impl<E: Eviction, K: Key, V: Value, P: Properties, I: Finder<K>> Store<E, K, V, 
         self.come(alloc, now, slot, Source::Memory, further, leaves)
     }
 
-    // A record that is in nothing comes in, or is refused.
+    // Inserts a record that the store doesn't hold, or refuses it.
     fn come_in(
         &mut self,
         alloc: Global,

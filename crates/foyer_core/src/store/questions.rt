@@ -1,4 +1,4 @@
-//! What a shard's store is asked that changes nothing.
+//! Why a `get` would fail whatever memory there is.
 
 ghost use Rattle.std.specs.Prelude.{◌≡◌, Err, IfSome, IfNone};
 ghost use Rattle.foyer_policy.specs.declared.error.Reason.TheVariants.{Handles};
@@ -12,7 +12,7 @@ impl<E: Eviction, K: Key, V: Value, P: Properties, I: Finder<K>> Store<E, K, V, 
     ghost use Rattle.foyer_core.specs.Steps.{Gets};
     ghost use Rattle.foyer_core.specs.Questions.{MayGet};
 
-    // Why the record that a key hits at a moment cannot have a handle more, whatever memory there is.
+    // Why the record that a key hits at `now` can't have one more handle, whatever memory there is.
     pub(crate) fn get_refusal(&self, now: u64, hash: u64, key: &K) -> Option<Reason>
         ensures some { IfSome result (λ reason. (reason ≡ Handles)
             × Gets (meaning_of self.now) now (state_of self.now) (hash, key.now) (Err Handles) (state_of self.now)) }

@@ -1,4 +1,4 @@
-//! Why a shard takes a record not in.
+//! Why an insert fails whatever memory there is: F10, F9 and F8.
 
 ghost use Rattle.std.specs.Prelude.{◌≡◌, [], ◌⊎◌, ◌↔◌, ◌+◌, ◌<◌, ◌≤◌, ◌^◌, false, Some, IfSome, IfNone, IsTrue};
 ghost use Rattle.foyer_policy.specs.declared.error.Reason.TheVariants.{Ids, Handles, Weight};
@@ -17,7 +17,7 @@ impl<E: Eviction, K: Key, V: Value, P: Properties, I: Finder<K>> Store<E, K, V, 
     ghost use Rattle.foyer_core.specs.State.{is_phantom_record, pinned_beside};
     ghost use Rattle.foyer_core.specs.Steps.{HasId, LacksId, MayBy, RefusesInsert, newcomer};
 
-    // Why a new record cannot come in, with so many handles beside the first, whatever memory there is.
+    // Why a new record can't be inserted, with so many handles beside the first, whatever memory there is.
     #[inline(always)]
     pub(super) fn data_refusal(&self, kept: &Data<K, V, P>, further: usize) -> Option<Reason>
         ensures some { IfSome result (λ reason. RefusesInsert (meaning_of self.now) (state_of self.now)
@@ -30,7 +30,7 @@ impl<E: Eviction, K: Key, V: Value, P: Properties, I: Finder<K>> Store<E, K, V, 
         self.new_refusal(kept.hash, &kept.key, &kept.properties, kept.weight, further)
     }
 
-    // The same of a new record by its parts, whatever its value is.
+    // Why a new record with these parts can't be inserted, whatever its value is.
     #[inline(always)]
     pub(crate) fn new_refusal(
         &self,
@@ -62,7 +62,7 @@ impl<E: Eviction, K: Key, V: Value, P: Properties, I: Finder<K>> Store<E, K, V, 
         }
     }
 
-    // Why what a slot keeps cannot come in, with a handle more than these and so many further ones, whatever
+    // Why the record of a slot can't be inserted, with one handle more than these and so many further ones, whatever
     // memory there is.
     pub(super) fn slot_refusal(
         &self,
@@ -92,7 +92,7 @@ impl<E: Eviction, K: Key, V: Value, P: Properties, I: Finder<K>> Store<E, K, V, 
         }
     }
 
-    // Why a record cannot come in whatever memory there is.
+    // Why a plain record can't be inserted, whatever memory there is.
     #[inline(always)]
     fn refusal(
         &self,
@@ -121,7 +121,7 @@ impl<E: Eviction, K: Key, V: Value, P: Properties, I: Finder<K>> Store<E, K, V, 
         None
     }
 
-    // Why a record cannot be held whatever memory there is.
+    // Why a record can't have these handles, whatever memory there is.
     #[inline(always)]
     fn hold_refusal(&self, id: u64, held: usize, further: usize) -> Option<Reason>
         ensures ids { result ≡ Some Ids ↔ LacksId (state_of self.now) id }
@@ -139,8 +139,8 @@ impl<E: Eviction, K: Key, V: Value, P: Properties, I: Finder<K>> Store<E, K, V, 
         None
     }
 
-    // Whether one handle more than these, and so many further ones, pass the limit. Their number may pass a
-    // `usize`, which the limit does not.
+    // Whether one handle more than these, and so many further ones, pass the limit. Their sum may pass a `usize`,
+    // which the limit doesn't.
     #[inline(always)]
     pub(super) fn passes_limit(&self, held: usize, further: usize) -> bool
         ensures passes { IsTrue result ↔ (self.now.limits.handles < held + 1 + further) }
@@ -164,7 +164,7 @@ impl<E: Eviction, K: Key, V: Value, P: Properties, I: Finder<K>> Store<E, K, V, 
             || weight <= usize::MAX - (pinned - self.own_pinned(hash, key))
     }
 
-    // The weight of a key's record, where that is pinned.
+    // The weight of a key's record, if that is pinned.
     fn own_pinned(&self, hash: u64, key: &K) -> usize
         ensures { result + pinned_beside (meaning_of self.now) (state_of self.now) (hash, key.now) ≡ weight_of (E.model.pinned (E.view self.now.eviction)) }
     {

@@ -8,16 +8,16 @@ use std::alloc::{AllocError, Global};
 // 2^64 divided by the golden ratio, and odd: its multiples spread evenly in their upper bits.
 const GOLDEN: u64 = 0x9e37_79b9_7f4a_7c15;
 
-/// A slot that a hash may have, with a part of the hash.
+/// A slot, with the fingerprint of its hash.
 #[derive(Clone, Copy)]
 pub(crate) struct Tag {
     pub(crate) fingerprint: u32,
-    // the greatest number where there is no slot
+    // the largest number if there is no slot
     slot: u32,
 }
 
 impl Tag {
-    /// The tag of a slot below the greatest number.
+    /// Creates the tag of a slot below 2^32 - 1.
     #[inline(always)]
     pub(crate) fn new(fingerprint: u32, slot: usize) -> Self
         requires { slot < 2 ^ 32 - 1 }
@@ -50,7 +50,7 @@ pub(crate) struct Found {
     pub(crate) slot: usize,
 }
 
-/// The part of a hash that a tag keeps.
+/// Returns the fingerprint of a hash.
 #[inline(always)]
 pub(crate) fn fingerprint_of(hash: u64) -> u32
     ensures { result ≡ fingerprint hash }
@@ -58,7 +58,7 @@ pub(crate) fn fingerprint_of(hash: u64) -> u32
     (hash.wrapping_mul(GOLDEN) >> 32) as u32
 }
 
-/// The bucket at which the probe for a fingerprint begins, where there are 2^bits of these.
+/// Returns the home of a fingerprint: the bucket at which its probe begins, of 2^bits.
 #[inline(always)]
 pub(crate) fn home_of(fingerprint: u32, bits: u32) -> usize
     requires { bits ≤ 32 }
@@ -68,14 +68,14 @@ pub(crate) fn home_of(fingerprint: u32, bits: u32) -> usize
     (u64::from(fingerprint) >> (32 - bits)) as usize
 }
 
-/// Buckets, each with a tag or empty. Their number grows by `reserve` alone.
+/// Buckets, each with a tag or empty. Only `reserve` adds some.
 #[derive(Drop)]
 pub(crate) struct Buckets {
     tags: Vec<Tag>,
 }
 
 impl Buckets {
-    /// No buckets.
+    /// Creates no buckets.
     pub(crate) fn new(alloc: Global) -> Self
         ensures tags { (i : ℕ) → tag_in result i ≡ None }
         ensures size { size_of result ≡ 0 }
@@ -85,7 +85,7 @@ impl Buckets {
         }
     }
 
-    /// How many buckets there are.
+    /// Returns the number of buckets.
     #[inline(always)]
     pub(crate) fn len(&self) -> usize
         ensures { result ≡ size_of self.now }
@@ -113,7 +113,7 @@ impl Buckets {
         self.tags.fill(Tag::empty());
     }
 
-    /// The tag in a bucket, or `None` where it is empty.
+    /// Returns the tag in a bucket, or `None` if it is empty.
     #[inline(always)]
     pub(crate) fn get(&self, bucket: usize) -> Option<Tag>
         requires { bucket < size_of self.now }
@@ -147,7 +147,7 @@ impl Buckets {
         self.put(bucket, Tag::empty());
     }
 
-    /// The first tag of a fingerprint, from its home on, to whose slot the question says yes.
+    /// Returns the first tag of a fingerprint, from its home on, for whose slot `is_it` returns true.
     #[inline(always)]
     pub(crate) fn find<F: Fn(usize) -> bool>(
         &self,
@@ -172,7 +172,7 @@ impl Buckets {
         None
     }
 
-    /// The first empty bucket from one on, up to one that is empty.
+    /// Returns the first empty bucket from one on, before `end`, which is empty.
     #[inline(always)]
     pub(crate) fn first_empty(&self, from: usize, end: usize) -> usize
         requires order { from ≤ end }

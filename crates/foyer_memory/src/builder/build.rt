@@ -42,16 +42,21 @@ where
         ensures refused { IfSome (build_fault self.config) (λ reason. result ≡ Err reason) }
         ensures memory { IfErr result (λ e. build_fault self.config ≡ None → e ≡ NoMemory) }
         ensures kind { IfOk result (λ cache. cache.kind ≡ kind_of_config self.config.eviction_config) }
+        ensures time_to_live { IfOk result (λ cache. cache.cache.time_to_live ≡ self.time_to_live) }
     {
         let CacheBuilder {
             config,
             listener,
+            time_to_live,
             keys: _,
         } = self;
         warn_of(log, config.capacity, config.shards);
         let kind = Kind::of(&config.eviction_config);
         match RawCache::new(rt, alloc, config, listener) {
-            Ok(cache) => Ok(Cache { cache, kind }),
+            Ok(cache) => Ok(Cache {
+                cache: cache.with_time_to_live(time_to_live),
+                kind,
+            }),
             Err(error) => Err(error),
         }
     }

@@ -1,4 +1,4 @@
-//! The dates of all items that are in lists.
+//! Looking up the dates of all items in lists.
 
 ghost use Rattle.std.specs.Prelude.{◌≡◌, ℕ, ◌≢◌, ◌+◌, ◌<◌, ◌≤◌, [], IfErr, IfOk, IsTrue};
 ghost use Rattle.foyer_policy.specs.DatedLists.{Builds, Knows, dates_at};
@@ -40,7 +40,7 @@ fn count_all<T: HasItem, const N: usize>(lists: &Lists<T, N>) -> usize
     count
 }
 
-// Puts the dates of a list behind those of the lists before it, or answers no where there is no room for one.
+// Enters the dates of a list, and returns false if there is no room for one.
 fn push_dates<T: HasItem, const N: usize>(
     dates: &mut Dates,
     lists: &mut Lists<T, N>,
@@ -65,8 +65,10 @@ fn push_dates<T: HasItem, const N: usize>(
     true
 }
 
-/// What is known once all dates are looked up, where the first lists are searched, `searched` of them. Only memory can be
-/// missing (F7).
+/// Looks up all dates of the first `searched` lists.
+///
+/// # Errors
+/// F7 if memory runs out.
 #[cold]
 #[inline(never)]
 pub(super) fn built<T: HasItem, const N: usize>(

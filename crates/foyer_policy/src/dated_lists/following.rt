@@ -1,4 +1,4 @@
-//! How what is known of dates follows each change of the lists, before that is made.
+//! Keeps the dates up to date with each change of the lists, before the change is made.
 
 ghost use Rattle.std.specs.Prelude.{◌≡◌, ◌<◌, ◌∷◌, ◌++◌, [], None, IfErr, IsSome, map, slice_set};
 ghost use Rattle.foyer_policy.specs.DatedLists.{Knows, dates_at};
@@ -15,8 +15,7 @@ use crate::lists::{Lists, Place};
 use crate::queued::HasItem;
 use std::alloc::Global;
 
-// Puts the date of an item that comes to the end of a list behind the others there, and answers what is to be noted
-// beside the item.
+// Enters the date of an item that is appended to a list, and returns what is to be noted beside the item.
 #[cold]
 #[inline(never)]
 fn push_date<T: HasItem, const N: usize>(
@@ -35,7 +34,7 @@ fn push_date<T: HasItem, const N: usize>(
     dates.push(lists, list, place, date)
 }
 
-/// Follows a value that comes to the end of a list.
+/// Follows a value that is appended to a list.
 #[inline(always)]
 pub(super) fn follow_push<T: HasItem, const N: usize>(
     dates: &mut Tracking,
@@ -60,7 +59,7 @@ pub(super) fn follow_push<T: HasItem, const N: usize>(
     }
 }
 
-// The list of the value at a place, and what is known of its date, which goes.
+// The list of the value at a place, and what is known of its date, which is removed.
 #[inline(always)]
 fn going<T: HasItem, const N: usize>(lists: &Lists<T, N>, place: Place, date: u64) -> (usize, Gone)
     requires { IsSome (find place lists.now.lists) }
@@ -76,7 +75,7 @@ fn going<T: HasItem, const N: usize>(lists: &Lists<T, N>, place: Place, date: u6
     (list, gone)
 }
 
-// Takes the date of the item at a place away, where it has one.
+// Removes the date of the item at a place, if it has one.
 #[cold]
 #[inline(never)]
 fn remove_date<T: HasItem, const N: usize>(dates: &mut Tracking, lists: &Lists<T, N>, place: Place)
@@ -90,7 +89,7 @@ fn remove_date<T: HasItem, const N: usize>(dates: &mut Tracking, lists: &Lists<T
     }
 }
 
-/// Follows a value that goes.
+/// Follows a value that is removed.
 #[inline(always)]
 pub(super) fn follow_remove<T: HasItem, const N: usize>(
     dates: &mut Tracking,
@@ -107,7 +106,7 @@ pub(super) fn follow_remove<T: HasItem, const N: usize>(
     }
 }
 
-// Takes the date of the first item of a list away, where there is one and it has one.
+// Removes the date of the first item of a list, if there is one.
 #[cold]
 #[inline(never)]
 fn pop_date<T: HasItem, const N: usize>(dates: &mut Tracking, lists: &Lists<T, N>, list: usize)
@@ -121,7 +120,7 @@ fn pop_date<T: HasItem, const N: usize>(dates: &mut Tracking, lists: &Lists<T, N
     }
 }
 
-/// Follows the first value of a list, which goes where there is one.
+/// Follows the first value of a list, if there is one, which is removed.
 #[inline(always)]
 pub(super) fn follow_pop<T: HasItem, const N: usize>(
     dates: &mut Tracking,
@@ -141,7 +140,7 @@ pub(super) fn follow_pop<T: HasItem, const N: usize>(
     }
 }
 
-// Moves the date of the item at a place to the end of a list, where it has one.
+// Moves the date of the item at a place to the end of a list, if it has one.
 #[cold]
 #[inline(never)]
 fn move_date<T: HasItem, const N: usize>(
@@ -186,8 +185,7 @@ pub(super) fn follow_move<T: HasItem, const N: usize>(
     }
 }
 
-// Makes room for the date of one more item. Where it was not known when items expire, it is from now on. Only memory can
-// be missing (F7).
+// Makes room for the date of one more item, and looks up all dates if they weren't known. F7 if memory runs out.
 #[cold]
 #[inline(never)]
 fn make_room<T: HasItem, const N: usize>(
@@ -217,7 +215,7 @@ fn make_room<T: HasItem, const N: usize>(
     }
 }
 
-// The same, where there often is such room.
+// Makes room for the date of one more item. Often there is some already.
 #[cold]
 #[inline(never)]
 fn reserve_dates<T: HasItem, const N: usize>(
@@ -239,7 +237,10 @@ fn reserve_dates<T: HasItem, const N: usize>(
     make_room(dates, lists, searched, alloc)
 }
 
-/// Makes room for the date of one more item. Only memory can be missing (F7).
+/// Makes room for the date of one more item.
+///
+/// # Errors
+/// F7 if memory runs out.
 #[inline(always)]
 pub(super) fn follow_reserve<T: HasItem, const N: usize>(
     dates: &mut Tracking,

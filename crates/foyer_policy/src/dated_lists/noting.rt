@@ -1,4 +1,4 @@
-//! Where the dates of values stand, noted beside the values.
+//! The slots of dates, noted beside the values.
 
 ghost use Rattle.std.specs.Prelude.{◌≡◌, IsSome};
 ghost use Rattle.foyer_policy.specs.Lists.{find};
@@ -6,7 +6,7 @@ ghost use Rattle.foyer_policy.specs.Lists.{find};
 use crate::lists::{Lists, Place};
 use crate::queued::HasItem;
 
-/// Notes the slot of a value's date beside it, where there is a value at this place. No contract sees it.
+/// Notes the slot of a value's date beside it, if there is a value at this place. No contract sees it.
 #[inline(always)]
 pub(crate) fn note_slot<T: HasItem, const N: usize>(
     lists: &mut Lists<T, N>,
@@ -20,7 +20,7 @@ pub(crate) fn note_slot<T: HasItem, const N: usize>(
     }
 }
 
-/// The same where the place holds a value, which it must.
+/// Notes the slot of a value's date beside it. The place must have a value. No contract sees it.
 #[inline(always)]
 pub(super) fn note_slot_at<T: HasItem, const N: usize>(
     lists: &mut Lists<T, N>,

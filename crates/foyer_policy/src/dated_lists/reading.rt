@@ -1,4 +1,4 @@
-//! What is in lists of items, and where, and which is due first.
+//! Reading lists of items, and finding the first that is due.
 
 ghost use Rattle.std.specs.Prelude.{◌≡◌, ℕ, ◌^◌, ◌<◌, ◌∷◌, ◌++◌, [], Some, None, IfSome, IsSome, IsTrue, length, map, option_and_then, option_map, sum_by};
 ghost use Rattle.std.specs.List.{filter};
@@ -14,7 +14,7 @@ use crate::lists::Place;
 use crate::queued::HasItem;
 
 impl<T: HasItem, const N: usize> DatedLists<T, N> {
-    /// The place of a list's first value, or `None` where the list is empty. `list` is below `N`.
+    /// Returns the place of a list's first value, or `None` if it is empty. `list` is below `N`.
     #[inline(always)]
     pub(crate) fn front(&self, list: usize) -> Option<Place>
         requires { list < N }
@@ -26,8 +26,7 @@ impl<T: HasItem, const N: usize> DatedLists<T, N> {
         self.lists.front(list)
     }
 
-    /// The place of the value behind the one at `place` in its list, or `None` at the list's end.
-    /// The place must hold a value.
+    /// Returns the place of the next value in the same list, or `None` at its end. The place must have a value.
     #[inline(always)]
     pub(crate) fn next(&self, place: Place) -> Option<Place>
         requires { IsSome (find place self.now.lists) }
@@ -40,7 +39,7 @@ impl<T: HasItem, const N: usize> DatedLists<T, N> {
         self.lists.next(place)
     }
 
-    /// The number of the list in which the value at a place stands. The place must hold a value.
+    /// Returns the number of the list that has the value at a place. The place must have a value.
     #[inline(always)]
     pub(crate) fn list_of(&self, place: Place) -> usize
         requires { IsSome (find place self.now.lists) }
@@ -51,7 +50,7 @@ impl<T: HasItem, const N: usize> DatedLists<T, N> {
         self.lists.list_of(place)
     }
 
-    /// The value at a place, which must hold one.
+    /// Returns the value at a place. The place must have a value.
     #[inline(always)]
     pub(crate) fn get(&self, place: Place) -> &T
         requires { IsSome (find place self.now.lists) }
@@ -62,7 +61,7 @@ impl<T: HasItem, const N: usize> DatedLists<T, N> {
         self.lists.get(place)
     }
 
-    /// How many nodes there are, with values or free. Each place is below it.
+    /// Returns the number of nodes, with values or free. Each place is below it.
     #[inline(always)]
     pub(crate) fn span(&self) -> usize
         ensures span { result ≡ self.now.span }
@@ -71,8 +70,8 @@ impl<T: HasItem, const N: usize> DatedLists<T, N> {
         self.lists.span()
     }
 
-    /// Whether the value at a place has neighbors in its list where it is linked to some, which is so. To ask
-    /// reads what `move_back` and `remove` are to write. The place must hold a value.
+    /// Reads the neighbors of the value at a place, which `move_back` and `remove` will write, and returns true. The
+    /// place must have a value.
     #[inline(always)]
     pub(crate) fn has_neighbors(&self, place: Place) -> bool
         requires { IsSome (find place self.now.lists) }
@@ -81,8 +80,7 @@ impl<T: HasItem, const N: usize> DatedLists<T, N> {
         self.lists.has_neighbors(place)
     }
 
-    /// The places of the first value of a list and of the one behind it, where there are some. `list` is below
-    /// `N`.
+    /// Returns the places of the first two values of a list, if there are some. `list` is below `N`.
     #[inline(always)]
     pub(crate) fn first_two(&self, list: usize) -> (Option<Place>, Option<Place>)
         requires { list < N }
@@ -92,7 +90,7 @@ impl<T: HasItem, const N: usize> DatedLists<T, N> {
         self.lists.first_two(list)
     }
 
-    /// Whether it's known that no item expires, without a look at them.
+    /// Returns whether no item expires, as far as that is known without looking at them.
     #[inline(always)]
     pub(crate) fn is_plain(&self) -> bool
         ensures { IsTrue result → (k : ℕ) → k < N → dates_at T.item_of self.now.lists k ≡ [] }
@@ -100,7 +98,7 @@ impl<T: HasItem, const N: usize> DatedLists<T, N> {
         matches!(self.dates, Tracking::Plain)
     }
 
-    /// The place of the first item of a list that is due at a moment, or `None` where none is. `list` is below `N`.
+    /// Returns the place of the first item of a list that is due at `now`, or `None`. `list` is below `N`.
     pub(crate) fn first_due(&self, list: usize, now: u64) -> Option<Place>
         requires { list < N }
         ensures there { IfSome result (λ p. IsSome (find p self.now.lists)) }
@@ -118,7 +116,7 @@ impl<T: HasItem, const N: usize> DatedLists<T, N> {
                 if dates.are_behind(list, now) {
                     return None;
                 }
-                // Where all live equally long, the front is often the first that is due.
+                // If all records live equally long, the front is often the first that is due.
                 if due_at(self.lists.get(front).item(), now) {
                     return Some(front);
                 }

@@ -1,4 +1,4 @@
-//! What policies keep beside the items of lists.
+//! The states that policies keep beside the items of lists.
 
 ghost use Rattle.std.specs.Prelude.{◌≡◌, ℕ, ◌^◌, ◌<◌, Some, IsSome, length, map, sum_by};
 ghost use Rattle.foyer_policy.specs.Lists.{find, with_value, AreLists};
@@ -8,7 +8,7 @@ use crate::lists::Place;
 use crate::queued::Queued;
 
 impl<S: Copy, const N: usize> DatedLists<Queued<S>, N> {
-    /// Gives the value at a place another state; its item stays. The place must hold a value.
+    /// Sets the state of the value at a place; its item stays. The place must have a value.
     #[inline(always)]
     pub(crate) fn set_state(&mut self, place: Place, state: S)
         requires { IsSome (find place self.old.lists) }

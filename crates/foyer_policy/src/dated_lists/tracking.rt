@@ -14,15 +14,15 @@ use crate::queued::HasItem;
 pub(super) enum Tracking {
     /// No item expires.
     Plain,
-    /// Some item may expire, and a search walks along its list.
+    /// Some items may expire; a search walks along its list.
     Untracked,
-    /// These are the dates of all that expire.
+    /// The dates of all items that expire.
     Tracked(Dates),
 }
 
 impl Tracking {
-    /// Takes account of an item that expires and comes to the end of a list. It answers what is to be noted beside the
-    /// item, and takes no memory.
+    /// Enters the date of an item that expires and is appended to a list. Returns what is to be noted beside the
+    /// item. Takes no memory.
     #[inline(always)]
     pub(super) fn push<T: HasItem, const N: usize>(
         &mut self,
@@ -49,7 +49,7 @@ impl Tracking {
         }
     }
 
-    /// Takes account of an item that expires and goes from a list. It takes no memory.
+    /// Removes the date of an item that expires and leaves a list. Takes no memory.
     #[inline(always)]
     pub(super) fn remove(&mut self, list: usize, place: Place, gone: Gone)
         requires { CanRemove list place self.old }

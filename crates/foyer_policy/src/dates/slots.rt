@@ -21,18 +21,18 @@ mod row;
 use leaves::{lower, raise, refresh_all};
 use row::{PLACES, Row};
 
-// How many slots have one leaf of the tree.
+// The number of slots in a block, which has one leaf of the tree.
 const BLOCK: usize = 32;
 
-/// Places of a list with their dates, in slots: each stands behind those that came before it. A date that goes leaves its
-/// slot empty, until the slots close up.
+/// Places of a list with their dates, in slots, in the order in which they came. A date that is removed leaves its
+/// slot empty until the empty slots are dropped.
 #[derive(Drop)]
 pub(super) struct Slots {
     row: Row,
-    // How many slots there may be.
+    // The largest number of slots.
     limit: usize,
-    // For every few slots, a number that no date in these is below: the least, but for the slots that are marked, where
-    // it may be less.
+    // For each block, a number that none of its dates is below: the least, but in the marked block, where it may be
+    // less.
     tree: MinTree,
 }
 
@@ -47,7 +47,7 @@ impl Model for Slots {
     ghost invariant = { λ s. AreDates s.limit s.row s.tree };
 }
 
-/// What is known of a date that goes.
+/// What is known of a date that is removed.
 #[derive(Clone, Copy)]
 pub(crate) struct Gone {
     pub(crate) date: u64,
@@ -57,7 +57,7 @@ pub(crate) struct Gone {
     pub(crate) was_first: bool,
 }
 
-// Moves the slots that are taken to the front, in order, and answers how many these are. Each is noted beside its value.
+// Moves the taken slots to the front, in order, and returns how many they are. Each is noted beside its value.
 fn gather<T: HasItem, const N: usize>(row: &mut Row, lists: &mut Lists<T, N>) -> usize
     requires { AreApart row.old.slots }
     ensures apart { AreApart row.new.slots }
@@ -79,7 +79,7 @@ fn gather<T: HasItem, const N: usize>(row: &mut Row, lists: &mut Lists<T, N>) ->
     to
 }
 
-// The place of the first slot from one on and before another whose date is not behind a moment.
+// The place of the first slot, from one on and before another, whose date is due at `now`.
 fn first_between(row: &Row, start: usize, end: usize, now: u64) -> Option<Place>
     ensures some { IfSome result (λ p. first_by now (on_of (drop start row.now.slots)) ≡ Some p) }
     ensures none { IfNone result ((j : ℕ) (e : ℕ × ℕ) → slice_get row.now.slots j ≡ Some (Some e) → start ≤ j → j < end
@@ -95,7 +95,7 @@ fn first_between(row: &Row, start: usize, end: usize, now: u64) -> Option<Place>
     None
 }
 
-// The slot of a place that has one, sought where it was noted first.
+// The slot of a place that has one: the noted slot, if it is that, or else by a search.
 #[inline(always)]
 fn find(row: &Row, place: Place, noted: usize) -> usize
     requires { IsSome (find_in place (on_of row.now.slots)) }
@@ -111,7 +111,8 @@ fn find(row: &Row, place: Place, noted: usize) -> usize
     search(row, place)
 }
 
-// The same, sought from the first slot on. It isn't called where each slot is noted beside its value.
+// The slot of a place that has one, by a search from the first slot on. Never called if each slot is noted beside its
+// value.
 #[cold]
 #[inline(never)]
 fn search(row: &Row, place: Place) -> usize
@@ -129,7 +130,10 @@ fn search(row: &Row, place: Place) -> usize
 }
 
 impl Slots {
-    /// No slots, and room for so many or for 2^32 - 1. Only memory can be missing (F7).
+    /// Creates no slots, with room for so many, at most 2^32 - 1.
+    ///
+    /// # Errors
+    /// F7 if memory runs out.
     pub(super) fn new(alloc: Global, limit: usize) -> Result<Self>
         ensures none { IfOk result (λ s. s ≡ []) }
         ensures refused { IfErr result (λ e. e ≡ NoMemory) }
@@ -140,13 +144,16 @@ impl Slots {
         Ok(Slots { row, limit, tree })
     }
 
-    /// How many slots there may be.
+    /// Returns how many slots there may be.
     #[inline(always)]
     pub(super) fn limit(&self) -> usize {
         self.limit
     }
 
-    /// Makes room for so many slots, or for 2^32 - 1. Only memory can be missing (F7); nothing else changes.
+    /// Makes room for so many slots, at most 2^32 - 1.
+    ///
+    /// # Errors
+    /// F7 if memory runs out; nothing else has changed.
     pub(super) fn grow<T: HasItem, const N: usize>(
         &mut self,
         alloc: Global,
@@ -169,7 +176,7 @@ impl Slots {
         Ok(())
     }
 
-    /// Drops the empty slots. It takes no memory.
+    /// Drops the empty slots. Takes no memory.
     pub(super) fn close_up<T: HasItem, const N: usize>(&mut self, lists: &mut Lists<T, N>)
         ensures same { self.new ≡ self.old }
         ensures lists { lists.new ≡ lists.old }
@@ -180,8 +187,8 @@ impl Slots {
         refresh_all(&mut self.tree, &self.row, blocks);
     }
 
-    /// Puts a place that has no slot with its date behind the others, and answers the number of its slot, or nothing where
-    /// no slot is left. It takes no memory.
+    /// Appends a place that has no slot, with its date, and returns the number of its slot, or `None` if there is no
+    /// room. Takes no memory.
     #[inline(always)]
     pub(super) fn push(&mut self, place: Place, date: u64) -> Option<usize>
         requires { find_in place self.old ≡ None }
@@ -196,7 +203,7 @@ impl Slots {
         Some(index)
     }
 
-    /// Empties the slot of a place, which must have one. It takes no memory.
+    /// Empties the slot of a place, which must have one. Takes no memory.
     #[inline(always)]
     pub(super) fn take_out(&mut self, place: Place, gone: Gone)
         requires { IsSome (find_in place self.old) }
@@ -207,7 +214,7 @@ impl Slots {
         raise(&mut self.tree, &self.row, index / BLOCK, gone);
     }
 
-    /// Whether it's known, without a look at them, that all dates are behind a moment.
+    /// Returns whether no date is due, as far as that is known without looking at them.
     #[inline(always)]
     pub(super) fn are_behind(&self, now: u64) -> bool
         ensures { IsTrue result → first_by now self.now ≡ None }
@@ -215,7 +222,7 @@ impl Slots {
         self.tree.least() > now
     }
 
-    /// The first place whose date is not behind a moment.
+    /// Returns the first place whose date is due at `now`.
     pub(super) fn first(&self, now: u64) -> Option<Place>
         ensures { result ≡ first_by now self.now }
     {

@@ -9,16 +9,16 @@ use crate::dated_lists::DatedLists;
 use crate::kept::Kept;
 use crate::sketch::Sketch;
 
-/// The list of what came in lately.
+/// The list of new records.
 pub(super) const WINDOW: usize = 0;
 
-/// The list of what was not used since it left another list.
+/// The list of records that weren't used since they left another list.
 pub(super) const PROBATION: usize = 1;
 
-/// The list of what was used while it was in probation.
+/// The list of records that were used in probation.
 pub(super) const PROTECTED: usize = 2;
 
-/// A weight, where it counts, and else 0.
+/// Returns a weight if it counts, and otherwise 0.
 #[inline]
 pub(super) fn weight_if(counts: bool, weight: usize) -> usize
     ensures { result ≡ (if counts then weight else 0) }
@@ -26,8 +26,8 @@ pub(super) fn weight_if(counts: bool, weight: usize) -> usize
     if counts { weight } else { 0 }
 }
 
-/// Moves the first item of a list to the end of probation, and answers its weight. The list is not
-/// probation, and must not be empty.
+/// Moves the first item of a list to the end of probation, and returns its weight. The list isn't probation, and not
+/// empty.
 fn demote(lists: &mut DatedLists<Kept, 3>, from: usize) -> usize
     requires list { from < 3 }
     requires other { from ≢ 1 }
@@ -51,8 +51,8 @@ fn demote(lists: &mut DatedLists<Kept, 3>, from: usize) -> usize
     }
 }
 
-/// Moves the first items of a list, which weighs `weight`, to the end of probation until the rest is
-/// within a limit, and answers the weight of the rest. The list is not probation.
+/// Moves the first items of a list, which weighs `weight`, to the end of probation until the rest is within a limit,
+/// and returns the weight of the rest. The list isn't probation.
 pub(super) fn settle(
     lists: &mut DatedLists<Kept, 3>,
     from: usize,
@@ -87,7 +87,7 @@ fn first_hash(lists: &DatedLists<Kept, 3>, list: usize) -> Option<u64>
     Some(lists.get(place).whole().hash)
 }
 
-/// The list whose first item leaves next, where there is one.
+/// Returns the list whose first item leaves next, if there is one.
 pub(super) fn next_list(lists: &DatedLists<Kept, 3>, sketch: &Sketch) -> usize
     ensures list { result ≡ victim_list sketch.now (items_in lists.now.lists 0) (items_in lists.now.lists 1) }
     ensures within { result < 3 }
@@ -106,7 +106,7 @@ pub(super) fn next_list(lists: &DatedLists<Kept, 3>, sketch: &Sketch) -> usize
     }
 }
 
-/// Takes every item of a list out.
+/// Removes all items of a list.
 pub(super) fn drain(lists: &mut DatedLists<Kept, 3>, list: usize)
     requires { list < 3 }
     ensures lists { lists.new.lists ≡ slice_set lists.old.lists list [] }

@@ -1,4 +1,4 @@
-//! What is read ahead of a change: values that may be taken out next, and the neighbors of one.
+//! Reads ahead of a change: of values that may be removed next, and of neighbors.
 
 ghost use Rattle.std.specs.Prelude.{◌<◌, IfSome, IsSome, IsTrue};
 ghost use Rattle.foyer_policy.specs.Lists.{find};
@@ -7,8 +7,8 @@ use crate::lists::linking::has_neighbors;
 use crate::lists::{Lists, Place};
 
 impl<T, const N: usize> Lists<T, N> {
-    /// Whether the value at a place has neighbors in its list where it is linked to some, which is so. To ask
-    /// reads what `move_back` and `remove` are to write. The place must hold a value.
+    /// Reads the neighbors of the value at a place, which `move_back` and `remove` will write, and returns true. The
+    /// place must have a value.
     #[inline(always)]
     pub fn has_neighbors(&self, place: Place) -> bool
         requires { IsSome (find place self.now.lists) }
@@ -22,8 +22,7 @@ impl<T, const N: usize> Lists<T, N> {
         has_neighbors(nodes, heads, tails, place.node)
     }
 
-    /// The places of the first value of a list and of the one behind it, where there are some. `list` is below
-    /// `N`.
+    /// Returns the places of the first two values of a list, if there are some. `list` is below `N`.
     #[inline(always)]
     pub fn first_two(&self, list: usize) -> (Option<Place>, Option<Place>)
         requires { list < N }

@@ -13,8 +13,8 @@ use std::alloc::{AllocError, Global};
 use std::mem;
 use std_alloc::room::may_hold;
 
-/// The number of a node's list, and where the list goes on at both sides. The free nodes are a list
-/// too, of the number that no list of values has.
+/// The number of a node's list, and where the list goes on at both sides. The free nodes are a list too, whose number
+/// no list of values has.
 #[derive(Clone, Copy)]
 pub(crate) struct Links {
     pub(crate) list: usize,
@@ -22,8 +22,7 @@ pub(crate) struct Links {
     pub(crate) after: Link,
 }
 
-/// A block of nodes, of which each is in one of `N` lists with a value, or is free. A node keeps
-/// its number also where the block grows.
+/// A block of nodes, each in one of `N` lists with a value, or free. A node keeps its number when the block grows.
 pub(crate) struct Arena<T, const N: usize> {
     pub(crate) base: Base<Links, T>,
     pub(crate) len: usize,
@@ -35,7 +34,7 @@ pub(crate) struct Arena<T, const N: usize> {
 }
 
 impl<T, const N: usize> Arena<T, N> {
-    /// No nodes, which take no memory.
+    /// Creates an arena with no nodes. Takes no memory.
     pub(crate) fn new(alloc: Global) -> Self
         ensures arena { IsArena result }
         ensures counts { (result.len ≡ 0) × (result.used ≡ 0) }
@@ -55,7 +54,7 @@ impl<T, const N: usize> Arena<T, N> {
         }
     }
 
-    /// The first free node.
+    /// Returns the first free node.
     #[inline(always)]
     pub(crate) fn first_free(&self) -> usize
         requires arena { IsArena self.now }
@@ -87,7 +86,7 @@ impl<T, const N: usize> Arena<T, N> {
         self.used += 1;
     }
 
-    /// Takes the value out of a node, which is the first free one then.
+    /// Removes the value of a node, which is the first free one then.
     #[inline(always)]
     pub(crate) fn remove(&mut self, place: usize) -> T
         requires arena { IsArena self.old }
@@ -105,7 +104,7 @@ impl<T, const N: usize> Arena<T, N> {
         value
     }
 
-    /// The links of a node that has a value.
+    /// Returns the links of a node that has a value.
     #[inline(always)]
     pub(crate) fn links(&self, place: usize) -> Links
         requires arena { IsArena self.now }
@@ -129,7 +128,7 @@ impl<T, const N: usize> Arena<T, N> {
         self.nodes.set_links(self.base, place, links);
     }
 
-    /// The value of a node, which has one.
+    /// Returns the value of a node that has one.
     #[inline(always)]
     pub(crate) fn get(&self, place: usize) -> &T
         requires arena { IsArena self.now }
@@ -139,7 +138,7 @@ impl<T, const N: usize> Arena<T, N> {
         self.nodes.get(self.base, place)
     }
 
-    /// Whether a node has a value.
+    /// Returns whether a node has a value.
     #[inline(always)]
     pub(crate) fn has_value(&self, place: usize) -> bool
         requires arena { IsArena self.now }
@@ -148,8 +147,7 @@ impl<T, const N: usize> Arena<T, N> {
         place < self.len && self.nodes.links(self.base, place).list < N
     }
 
-    /// Makes room for `more` values beside those that are in. Where memory is refused the arena is
-    /// as it was.
+    /// Makes room for `more` values beside those in the arena. If memory runs out, nothing has changed.
     pub(crate) fn reserve(&mut self, more: usize) -> Result<(), AllocError>
         requires { IsArena self.old }
         ensures arena { IsArena self.new }
@@ -166,7 +164,7 @@ impl<T, const N: usize> Arena<T, N> {
         self.reserve_to(wanted)
     }
 
-    /// Makes nodes until there are so many. Where memory is refused the arena is as it was.
+    /// Makes nodes until there are so many. If memory runs out, nothing has changed.
     pub(crate) fn reserve_to(&mut self, wanted: usize) -> Result<(), AllocError>
         requires { IsArena self.old }
         ensures arena { IsArena self.new }
@@ -183,8 +181,8 @@ impl<T, const N: usize> Arena<T, N> {
         self.grow(wanted.max(2 * self.len).max(4))
     }
 
-    // Moves all nodes to a block of `len`, where each keeps its number. The free ones are linked by
-    // rising numbers.
+    // Moves all nodes to a block of `len`, in which each keeps its number. The free ones are linked by rising
+    // numbers.
     fn grow(&mut self, len: usize) -> Result<(), AllocError>
         requires arena { IsArena self.old }
         requires more { self.old.len < len }
@@ -215,7 +213,7 @@ impl<T, const N: usize> Arena<T, N> {
         Ok(())
     }
 
-    /// Gives the block back, in which no node has a value.
+    /// Frees the block, in which no node has a value.
     pub(crate) fn destroy_empty(self)
         requires arena { IsArena self }
         requires empty { self.used ≡ 0 }
@@ -233,7 +231,7 @@ impl<T, const N: usize> Arena<T, N> {
     }
 }
 
-// Moves the nodes of a block to a greater one, and answers the first free one there.
+// Moves the nodes of a block to a larger one, and returns the first free one there.
 fn hand_over_all<T, const N: usize>(
     from: &mut Nodes<Links, T>,
     from_base: Base<Links, T>,
@@ -262,8 +260,8 @@ fn hand_over_all<T, const N: usize>(
     free
 }
 
-// Moves a node with its links and its value to the same number of another block. Where it has none,
-// it is free there, before `free`. Answers the first free one then.
+// Moves a node with its links and its value to the same number of another block. If it has no value, it is free
+// there, before `free`. Returns the first free one then.
 #[inline(always)]
 fn hand_over<T, const N: usize>(
     from: &mut Nodes<Links, T>,

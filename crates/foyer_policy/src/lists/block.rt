@@ -8,7 +8,7 @@ use std::alloc::{AllocError, Allocator};
 use std::marker::{Model, PhantomData, Send, Sync};
 use std::mem::{align_of, size_of};
 
-/// One node: what leads on from it, and room for a value.
+/// One node: its links, and room for a value.
 pub(crate) struct Node<L, T> {
     links: L,
     value: T,
@@ -35,7 +35,7 @@ unsafe impl<L, T> Send for Base<L, T> {}
 
 unsafe impl<L, T> Sync for Base<L, T> {}
 
-/// The owner of the nodes. It takes no space: who holds it holds the base and the length too.
+/// The owner of the nodes. It takes no space: its holder has the base and the length too.
 pub(crate) struct Nodes<L, T> {
     mark: PhantomData<*const (L, T)>,
     ghost at: { Ptr },
@@ -79,7 +79,7 @@ unsafe impl<L, T, A: Allocator> Sync for Deed<L, T, A> {}
 
 ghost use Rattle.foyer_policy.specs.Block.{FitsBlock};
 
-/// `len` nodes with neither links nor values. It takes memory, where `len` is not 0.
+/// Allocates `len` nodes with neither links nor values. Takes memory only if `len` isn't 0.
 pub(crate) fn allocate<L, T, A: Allocator>(
     alloc: &A,
     len: usize,
@@ -116,7 +116,7 @@ pub(crate) fn allocate<L, T, A: Allocator>(
     }
 }
 
-/// Gives a block back, in which no node has a value.
+/// Frees a block in which no node has a value.
 pub(crate) fn deallocate<L, T, A: Allocator>(
     alloc: &A,
     base: Base<L, T>,
@@ -144,7 +144,7 @@ impl<L, T> Nodes<L, T> {
     ghost use Rattle.foyer_policy.specs.Block.{IsFilled};
     ghost use Rattle.foyer_policy.specs.BlockLends.{lends_slot};
 
-    /// The links of a node.
+    /// Returns the links of a node.
     #[inline(always)]
     pub(crate) fn links(&self, base: Base<L, T>, index: usize) -> &L
         requires { (base.ptr ≡ self.now.at) × IsFilled self.now.links index }
@@ -174,7 +174,7 @@ impl<L, T> Nodes<L, T> {
         unsafe { (&raw mut (*base.ptr.add(index)).value).write(value) }
     }
 
-    /// Takes the value of a node out.
+    /// Moves the value out of a node.
     #[inline(always)]
     pub(crate) fn read(&mut self, base: Base<L, T>, index: usize) -> T
         requires { (base.ptr ≡ self.old.at) × IsFilled self.old.values index }
@@ -185,7 +185,7 @@ impl<L, T> Nodes<L, T> {
         unsafe { (&raw const (*base.ptr.add(index)).value).read() }
     }
 
-    /// The value of a node.
+    /// Returns the value of a node.
     #[inline(always)]
     pub(crate) fn get(&self, base: Base<L, T>, index: usize) -> &T
         requires { (base.ptr ≡ self.now.at) × IsFilled self.now.values index }
@@ -194,7 +194,7 @@ impl<L, T> Nodes<L, T> {
         unsafe { &(*base.ptr.add(index)).value }
     }
 
-    /// The value of a node for writing.
+    /// Returns the value of a node for writing.
     #[inline(always)]
     pub(crate) fn get_mut(&mut self, base: Base<L, T>, index: usize) -> &mut T
         requires { (base.ptr ≡ self.old.at) × IsFilled self.old.values index }

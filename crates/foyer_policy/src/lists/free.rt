@@ -1,4 +1,4 @@
-//! The free nodes of a block, as a list of their own: a node comes in at its front, and any leaves it.
+//! The free nodes of a block, as a list of their own: nodes are added in front, and any one may be taken.
 
 ghost use Rattle.std.specs.Prelude.{◌≡◌, ◌^◌, ◌<◌, None, length, slice_index_or};
 ghost use Rattle.std.specs.Option.{ForSome};
@@ -9,7 +9,7 @@ use crate::link::Link;
 use crate::lists::arena::Links;
 use crate::lists::block::{Base, Nodes};
 
-// Sets what comes before the node `at`, where there is such a node.
+// Sets what comes before the node `at`, if there is such a node.
 #[inline(always)]
 fn set_before<T>(nodes: &mut Nodes<Links, T>, base: Base<Links, T>, at: Link, to: Link)
     requires base { base.ptr ≡ nodes.old.at }
@@ -25,7 +25,7 @@ fn set_before<T>(nodes: &mut Nodes<Links, T>, base: Base<Links, T>, at: Link, to
     }
 }
 
-// Sets what comes after the node `at`, where there is such a node.
+// Sets what comes after the node `at`, if there is such a node.
 #[inline(always)]
 fn set_after<T>(nodes: &mut Nodes<Links, T>, base: Base<Links, T>, at: Link, to: Link)
     requires base { base.ptr ≡ nodes.old.at }
@@ -41,7 +41,7 @@ fn set_after<T>(nodes: &mut Nodes<Links, T>, base: Base<Links, T>, at: Link, to:
     }
 }
 
-/// Puts a node without a value before the free ones, of which `free` is the first.
+/// Adds a node without a value in front of the free ones, of which `free` is the first.
 #[inline(always)]
 pub(super) fn put_free<T, const N: usize>(
     nodes: &mut Nodes<Links, T>,
@@ -66,7 +66,7 @@ pub(super) fn put_free<T, const N: usize>(
     nodes.set_links(base, place, links);
 }
 
-/// Takes a node out of the free ones, of which `free` is the first, and answers the first that is left.
+/// Takes a node from the free ones, of which `free` is the first, and returns the first that is left.
 #[inline(always)]
 pub(super) fn take_free<T>(
     nodes: &mut Nodes<Links, T>,

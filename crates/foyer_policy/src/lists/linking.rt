@@ -1,4 +1,4 @@
-//! Steps of linked lists over the nodes of an arena: a node is linked in, out of its list, or taken out.
+//! Steps of linked lists over the nodes of an arena: linking a node in, out of its list, and removing it.
 
 ghost use Rattle.std.specs.Prelude.{◌≡◌, ℕ, ◌+◌, ◌<◌, ◌∷◌, ◌++◌, [], Some, None, IsSome, IsTrue, length, map, slice_index_or, slice_set, if◌then◌else◌};
 ghost use Rattle.std.specs.Option.{ForSome};
@@ -9,7 +9,7 @@ ghost use Rattle.foyer_policy.specs.Chain.{is_at, after_set, before_set, end_set
 use crate::link::Link;
 use crate::lists::arena::{Arena, Links};
 
-// Sets what comes after the node `at`, or the list's head where there is no such node.
+// Sets what comes after the node `at`, or the list's head if there is no such node.
 #[inline(always)]
 fn set_after<T, const N: usize>(
     nodes: &mut Arena<T, N>,
@@ -38,7 +38,7 @@ fn set_after<T, const N: usize>(
     }
 }
 
-// Sets what comes before the node `at`, or the list's tail where there is no such node.
+// Sets what comes before the node `at`, or the list's tail if there is no such node.
 #[inline(always)]
 fn set_before<T, const N: usize>(
     nodes: &mut Arena<T, N>,
@@ -67,7 +67,7 @@ fn set_before<T, const N: usize>(
     }
 }
 
-// Puts a value at the end of a list, into a node that has none.
+// Appends a value to a list, in a node that has none.
 #[inline(always)]
 pub(super) fn link_back<T, const N: usize>(
     nodes: &mut Arena<T, N>,
@@ -100,7 +100,7 @@ pub(super) fn link_back<T, const N: usize>(
     tails[list] = Link::to(node);
 }
 
-// Takes a node out of its list. It keeps its value, and stands in no list.
+// Unlinks a node from its list. It keeps its value, and is in no list.
 #[inline(always)]
 pub(super) fn unlink<T, const N: usize>(
     nodes: &mut Arena<T, N>,
@@ -122,7 +122,7 @@ pub(super) fn unlink<T, const N: usize>(
     set_before(nodes, tails, links.list, links.after, links.before);
 }
 
-// Puts a node that is in no list at the end of one.
+// Appends a node that is in no list to one.
 #[inline(always)]
 pub(super) fn relink<T, const N: usize>(
     nodes: &mut Arena<T, N>,
@@ -156,7 +156,7 @@ pub(super) fn relink<T, const N: usize>(
     nodes.set_links(place, links);
 }
 
-// Takes the value of a node out of its list, and frees its node.
+// Removes the value of a node from its list, and frees the node.
 #[inline(always)]
 pub(super) fn take_out<T, const N: usize>(
     nodes: &mut Arena<T, N>,
@@ -177,7 +177,7 @@ pub(super) fn take_out<T, const N: usize>(
     nodes.remove(place)
 }
 
-// Whether the nodes at both sides of a node are in lists, as they are: what to move the node would write is read.
+// Reads what moving a node will write: the nodes at both sides. Returns true.
 #[inline(always)]
 pub(super) fn has_neighbors<T, const N: usize>(
     nodes: &Arena<T, N>,
@@ -193,7 +193,7 @@ pub(super) fn has_neighbors<T, const N: usize>(
     is_listed(nodes, links.before) && is_listed(nodes, links.after)
 }
 
-// Whether the node that a link leads to is in a list, where there is one.
+// Reads the node that a link leads to, if there is one. Returns true.
 #[inline(always)]
 fn is_listed<T, const N: usize>(nodes: &Arena<T, N>, at: Link) -> bool
     requires arena { IsArena nodes.now }

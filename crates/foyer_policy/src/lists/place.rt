@@ -4,7 +4,7 @@ ghost use Rattle.std.specs.Prelude.{◌≡◌};
 
 use std::marker::Model;
 
-/// Names a value of a [`Lists`](super::Lists) while it is in.
+/// Names a value of a [`Lists`](super::Lists) until it is removed.
 #[derive(Clone, Copy, Debug, PartialEq, Eq, Hash)]
 pub struct Place {
     pub(super) node: usize,
@@ -21,8 +21,8 @@ impl Model for Place {
 }
 
 impl Place {
-    /// The number of its node, by which a caller may keep something beside the value. It is below the
-    /// span of the lists.
+    /// Returns the number of its node, below the span of the lists. A caller may keep something else under the same
+    /// number.
     #[inline(always)]
     pub fn number(self) -> usize
         ensures { result ≡ self }
@@ -30,7 +30,7 @@ impl Place {
         self.node
     }
 
-    /// The place that has this number.
+    /// Returns the place with this number.
     #[inline(always)]
     pub fn at(number: usize) -> Place
         ensures { result ≡ number }

@@ -1,4 +1,4 @@
-//! What is in lists, and where.
+//! Reading lists.
 
 ghost use Rattle.std.specs.Prelude.{◌≡◌, ℕ, ◌^◌, ◌<◌, ◌∷◌, ◌++◌, Some, None, IfSome, IsSome, IsTrue, length, sum_by};
 ghost use Rattle.foyer_policy.specs.Lists.{list_at, first_or, find, find_in, AreLists};
@@ -6,7 +6,7 @@ ghost use Rattle.foyer_policy.specs.Lists.{list_at, first_or, find, find_in, Are
 use crate::lists::{Lists, Place};
 
 impl<T, const N: usize> Lists<T, N> {
-    /// The place of a list's first value, or `None` where the list is empty. `list` is below `N`.
+    /// Returns the place of a list's first value, or `None` if it is empty. `list` is below `N`.
     #[inline(always)]
     pub fn front(&self, list: usize) -> Option<Place>
         requires { list < N }
@@ -19,8 +19,7 @@ impl<T, const N: usize> Lists<T, N> {
         Some(Place { node })
     }
 
-    /// The place of the value behind the one at `place` in its list, or `None` at the list's end.
-    /// The place must hold a value.
+    /// Returns the place of the next value in the same list, or `None` at its end. The place must have a value.
     #[inline(always)]
     pub fn next(&self, place: Place) -> Option<Place>
         requires { IsSome (find place self.now.lists) }
@@ -34,7 +33,7 @@ impl<T, const N: usize> Lists<T, N> {
         Some(Place { node })
     }
 
-    /// The number of the list in which the value at a place stands. The place must hold a value.
+    /// Returns the number of the list that has the value at a place. The place must have a value.
     #[inline(always)]
     pub fn list_of(&self, place: Place) -> usize
         requires { IsSome (find place self.now.lists) }
@@ -45,7 +44,7 @@ impl<T, const N: usize> Lists<T, N> {
         self.nodes.links(place.node).list
     }
 
-    /// Whether a value stands at a place.
+    /// Returns whether a place has a value.
     #[inline(always)]
     pub(crate) fn holds(&self, place: Place) -> bool
         ensures { IsTrue result → IsSome (find place self.now.lists) }
@@ -53,7 +52,7 @@ impl<T, const N: usize> Lists<T, N> {
         self.nodes.has_value(place.node)
     }
 
-    /// The value at a place, which must hold one.
+    /// Returns the value at a place. The place must have a value.
     #[inline(always)]
     pub fn get(&self, place: Place) -> &T
         requires { IsSome (find place self.now.lists) }
@@ -64,7 +63,7 @@ impl<T, const N: usize> Lists<T, N> {
         self.nodes.get(place.node)
     }
 
-    /// How many nodes there are, with values or free. Each place is below it.
+    /// Returns the number of nodes, with values or free. Each place is below it.
     #[inline(always)]
     pub fn span(&self) -> usize
         ensures span { result ≡ self.now.span }

@@ -11,19 +11,19 @@ use crate::dated_lists::DatedLists;
 use crate::lists::Place;
 use crate::queued::Queued;
 
-/// The list of what leaves first.
+/// The list of low priority, which leaves first.
 pub(super) const LOW: usize = 0;
 
 /// The list of the pool of high priority.
 pub(super) const HIGH: usize = 1;
 
-/// The list of what is pinned.
+/// The list of pinned items.
 pub(super) const PIN: usize = 2;
 
 pub(super) type Node = Queued<LruState>;
 
-/// Moves the first node of the pool to the end of the low list, without its high bit, and answers its
-/// weight. The pool must not be empty.
+/// Moves the first node of the pool to the end of the low list, clears its high bit, and returns its weight. The pool
+/// must not be empty.
 #[inline(always)]
 fn lower(lists: &mut DatedLists<Node, 3>) -> usize
     requires { 0 < length (list_at lists.old.lists 1) }
@@ -51,7 +51,7 @@ fn lower(lists: &mut DatedLists<Node, 3>) -> usize
     }
 }
 
-/// Lowers nodes of the pool, which weighs `weight`, until it is within a limit, and answers its weight.
+/// Lowers nodes of the pool, which weighs `weight`, until it is within a limit, and returns its weight.
 #[inline(always)]
 pub(super) fn settle(lists: &mut DatedLists<Node, 3>, weight: usize, limit: usize) -> usize
     requires { weight ≡ sum_by weight_at (list_at lists.old.lists 1) }
@@ -71,7 +71,7 @@ pub(super) fn settle(lists: &mut DatedLists<Node, 3>, weight: usize, limit: usiz
     left
 }
 
-/// Gives a node another state, and moves it to the end of a list. The place must hold a node.
+/// Sets a node's state and moves it to the end of a list. The place must have a node.
 #[inline(always)]
 pub(super) fn relist(lists: &mut DatedLists<Node, 3>, place: Place, state: LruState, list: usize)
     requires list { list < 3 }
@@ -87,7 +87,7 @@ pub(super) fn relist(lists: &mut DatedLists<Node, 3>, place: Place, state: LruSt
     lists.move_back(place, list);
 }
 
-/// Takes every node of a list out.
+/// Removes all nodes of a list.
 pub(super) fn drain(lists: &mut DatedLists<Node, 3>, list: usize)
     requires { list < 3 }
     ensures lists { lists.new.lists ≡ slice_set lists.old.lists list [] }

@@ -19,11 +19,10 @@ pub(super) const SMALL: usize = 0;
 
 pub(super) const MAIN: usize = 1;
 
-// No frequency passes this.
+// The largest frequency.
 pub(super) const MOST: u8 = 3;
 
-/// What an [`S3Fifo`](super::S3Fifo) keeps beside an item: its frequency, from 0 to 3, and which queue it
-/// is in.
+/// What an [`S3Fifo`](super::S3Fifo) keeps beside an item: its frequency, from 0 to 3, and its queue.
 #[derive(Clone, Copy, Debug, Default)]
 pub struct S3FifoState {
     pub(super) frequency: u8,
@@ -32,7 +31,7 @@ pub struct S3FifoState {
 
 pub(super) type Node = Queued<S3FifoState>;
 
-// A victim, the place that it had, and how many frequencies of the main queue were read.
+// A victim, its place, and how many frequencies of the main queue were read.
 #[derive(Clone, Copy)]
 pub(super) struct Victim {
     pub(super) item: Item,
@@ -40,8 +39,8 @@ pub(super) struct Victim {
     pub(super) looks: u128,
 }
 
-// Takes the first record below a threshold out of the small queue; those before it, or all where there is
-// none, go to the end of the main queue. `weight` is the small queue's.
+// Removes the first record below a threshold from the small queue. Those before it, or all if there is none, move to
+// the end of the main queue. `weight` is the small queue's.
 pub(super) fn take_small(
     queues: &mut DatedLists<Node, 2>,
     weight: &mut usize,
@@ -81,8 +80,8 @@ pub(super) fn take_small(
     None
 }
 
-// Reads the frequency of the node at a place, lowers it by one where it is above 0, and says whether it
-// was. This is the only reading of a frequency in the main queue, and it counts as one look.
+// Reads the frequency of the node at a place, lowers it by 1 if it is above 0, and returns whether it was. This is
+// the only reading of a frequency in the main queue, and it counts as one look.
 fn lower(queues: &mut DatedLists<Node, 2>, place: Place, looks: &mut u128) -> bool
     requires there { IsSome (find place queues.old.lists) }
     requires few { looks.old < 2 ^ 127 }
@@ -103,8 +102,8 @@ fn lower(queues: &mut DatedLists<Node, 2>, place: Place, looks: &mut u128) -> bo
     state.frequency > 0
 }
 
-// Takes the victim of the main queue out: each record at the front goes to the back, its frequency
-// lowered by one, until the first of frequency 0 leaves.
+// Removes the victim of the main queue: each record at the front goes to the back, its frequency lowered by 1, until
+// the first of frequency 0 leaves.
 pub(super) fn take_main(queues: &mut DatedLists<Node, 2>) -> Option<Victim>
     requires queues { AreQueues queues.old.lists }
     ensures takes { TakesMain queues.old.lists (option_map (λ v. (v.item, v.looks)) result) queues.new.lists }
@@ -129,8 +128,7 @@ pub(super) fn take_main(queues: &mut DatedLists<Node, 2>) -> Option<Victim>
     None
 }
 
-// Takes the victim of the main queue, or else the first record of the small one. `weight` is the small
-// queue's.
+// Removes the victim of the main queue, or else the first record of the small one. `weight` is the small queue's.
 fn pop_main(queues: &mut DatedLists<Node, 2>, weight: &mut usize) -> Option<Victim>
     requires queues { AreQueues queues.old.lists }
     requires weight { weight.old ≡ weight_of (items (small_of queues.old.lists)) }
@@ -158,8 +156,8 @@ fn pop_main(queues: &mut DatedLists<Node, 2>, weight: &mut usize) -> Option<Vict
     })
 }
 
-// Takes the victim out, and tells the ghost queue of one that leaves from the small queue. There must be
-// room for that in the ghost queue. `weight` is the small queue's.
+// Removes the victim, and enters it in the ghost queue if it leaves the small queue. Needs room there. `weight` is
+// the small queue's.
 pub(super) fn pop_victim(
     queues: &mut DatedLists<Node, 2>,
     weight: &mut usize,
@@ -199,7 +197,7 @@ pub(super) fn pop_victim(
     }
 }
 
-// How many records a queue holds.
+// The number of records in a queue.
 pub(super) fn count(queues: &DatedLists<Node, 2>, list: usize) -> usize
     requires { list < 2 }
     ensures count { result ≡ length (list_at queues.now.lists list) }

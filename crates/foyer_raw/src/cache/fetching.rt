@@ -9,7 +9,7 @@ use crate::fetch::{
     RequiredFetch, Spawner,
 };
 use crate::pipe::Pipe;
-use crate::shares::Shares;
+use crate::shares::{Fetch, Shares};
 use crate::ticket::{Answer, Notifier, Waiter};
 use foyer_core::{Filter, Finder, Lookup, Weighter};
 use foyer_policy::{EventListener, Eviction, HashBuilder, Key, Properties, Result, Value};
@@ -19,13 +19,13 @@ use std::sync::Wait;
 /// What a look-up takes along that may have to wait: shares of the cache for an entry or a wait and for a task, the key's
 /// hash and a clone of it, and both ends of a channel.
 #[derive(Drop)]
-struct Asking<C, K: Drop, V: Drop, P: Drop> {
-    shares: C,
-    task: C,
-    hash: u64,
-    own: K,
-    notifier: Notifier<Answer<K, V, P>>,
-    waiter: Waiter<Answer<K, V, P>>,
+pub(super) struct Asking<C, K: Drop, V: Drop, P: Drop> {
+    pub(super) shares: C,
+    pub(super) task: C,
+    pub(super) hash: u64,
+    pub(super) own: K,
+    pub(super) notifier: Notifier<Answer<K, V, P>>,
+    pub(super) waiter: Waiter<Answer<K, V, P>>,
 }
 
 impl<H, E, K, V, S, P, W, A, L, Q, T, I> RawCache<H, E, K, V, S, P, W, A, L, Q, T, I>
@@ -71,21 +71,22 @@ where
         ensures key { IfOk result (elim [ Hit entry ↦ IfSome entry (λ e. K.eq key.now e.kept.key ≡ true) | Miss _ ↦ Unit {0} ]) }
         ensures live { IfOk result (elim [ Hit entry ↦ IfSome entry (λ e. is_expired now (P.expiry_of e.kept.properties) ≡ false) | Miss _ ↦ Unit {0} ]) }
     {
-        if let Some(entry) = self.get(now, key)? {
+        let hash = self.hash(key);
+        if let Some(entry) = self.get_first(now, hash, key)? {
             return Ok(RawGetOrFetch::Hit(Some(entry)));
         }
         spawner.reserve()?;
-        let asking = self.asking(key)?;
+        let asking = self.asking(hash, key)?;
         self.ask(now, key, asking, fr(), fo, context, spawner)
     }
 
     // What a look-up of a key takes along. Only memory can be missing (F7).
-    fn asking(
+    pub(super) fn asking(
         &self,
+        hash: u64,
         key: &K,
     ) -> Result<Asking<Shares<H, E, K, V, S, P, W, A, L, Q, T::Required, I>, K, V, P>> {
         let (notifier, waiter) = oneshot::channel(self.shares.shared.shards.alloc)?;
-        let hash = self.hash(key);
         Ok(Asking {
             own: key.clone()?,
             task: self.shares_of(hash)?,
@@ -137,9 +138,12 @@ where
                 required,
             } => {
                 let begin = Begin {
-                    id: fetch,
-                    moment: now,
-                    hash,
+                    fetch: Fetch {
+                        id: fetch,
+                        now,
+                        hash,
+                        time_to_live: self.time_to_live,
+                    },
                     key: own,
                     context,
                     optional: fo(),
@@ -204,11 +208,12 @@ where
         let given = Given {
             fetch: Pollable::new(fetch()),
         };
-        if let Some(entry) = self.get(now, key)? {
+        let hash = self.hash(key);
+        if let Some(entry) = self.get_first(now, hash, key)? {
             return Ok(RawGetOrFetch::Hit(Some(entry)));
         }
         spawner.reserve()?;
-        let asking = self.asking(key)?;
+        let asking = self.asking(hash, key)?;
         self.ask(
             now,
             key,

@@ -4,6 +4,7 @@ ghost use Rattle.std.specs.Prelude.{◌≡◌, IfOk, true};
 
 use super::RawCache;
 use crate::entry::RawCacheEntry;
+use crate::expiry::expiring;
 use crate::fetch::FetchTypes;
 use crate::pipe::Pipe;
 use crate::shards::RawInserted;
@@ -61,11 +62,12 @@ where
     {
         let hash = self.hash(&key);
         let shares = self.shares_of(hash);
+        let properties = expiring(properties, now, self.time_to_live);
         let kept = self.shares.shared.data(hash, key, value, properties);
         let shares = match shares {
             Ok(shares) => shares,
             Err(refused) => return Err(first_of(
-                self.shares.shared.shards.refuses_insert(&kept),
+                self.shares.shared.shards.refuse_insert(&kept),
                 refused,
             )),
         };
@@ -93,7 +95,7 @@ where
         let shares = match shares {
             Ok(shares) => shares,
             Err(refused) => {
-                let reason = shared.shards.refuses_piece(hash, weight, &piece);
+                let reason = shared.shards.refuse_piece(hash, weight, &piece);
                 return Err(first_of(reason, refused));
             }
         };

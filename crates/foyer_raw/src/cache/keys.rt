@@ -9,7 +9,7 @@ use crate::fetch::FetchTypes;
 use crate::pipe::Pipe;
 use crate::shards::FIRST;
 use crate::shares::Shares;
-use foyer_core::Finder;
+use foyer_core::{CoreEntry, Finder};
 use foyer_policy::{
     Error, Event, EventListener, Eviction, HashBuilder, Key, Properties, Result, Value,
 };
@@ -46,10 +46,43 @@ where
         ensures live { IfOk result (λ found. IfSome found (λ e. is_expired now (P.expiry_of e.kept.properties) ≡ false)) }
     {
         let hash = self.hash(key);
-        let shares = self.shares_for(now, hash, key)?;
         match self.shares.shared.shards.get(now, hash, key)? {
-            Some(core) => Ok(Some(shares.entry(core))),
+            Some(core) => Ok(Some(self.entry_of(hash, core)?)),
             None => Ok(None),
+        }
+    }
+
+    // An entry as `get` returns it. A miss is not counted, since another look-up follows it.
+    pub(super) fn get_first(
+        &self,
+        now: u64,
+        hash: u64,
+        key: &K,
+    ) -> Result<Option<RawCacheEntry<H, E, K, V, S, P, W, A, L, Q, T::Required, I>>>
+        ensures key { IfOk result (λ found. IfSome found (λ e. K.eq key.now e.kept.key ≡ true)) }
+        ensures live { IfOk result (λ found. IfSome found (λ e. is_expired now (P.expiry_of e.kept.properties) ≡ false)) }
+    {
+        match self.shares.shared.shards.get_first(now, hash, key)? {
+            Some(core) => Ok(Some(self.entry_of(hash, core)?)),
+            None => Ok(None),
+        }
+    }
+
+    // The entry of a handle of a key with this hash. The handle is given back if the cache can't be shared once more (F7).
+    #[inline(always)]
+    fn entry_of(
+        &self,
+        hash: u64,
+        core: CoreEntry<K, V, P>,
+    ) -> Result<RawCacheEntry<H, E, K, V, S, P, W, A, L, Q, T::Required, I>>
+        ensures { IfOk result (λ e. e ≡ core) }
+    {
+        match self.shares_of(hash) {
+            Ok(shares) => Ok(shares.entry(core)),
+            Err(refused) => {
+                self.shares.give_back(core);
+                Err(refused)
+            }
         }
     }
 
@@ -62,7 +95,7 @@ where
         ensures { IfOk result (λ found. IfSome found (λ e. K.eq key.now e.kept.key ≡ true)) }
     {
         let hash = self.hash(key);
-        let shares = self.shares_for(FIRST, hash, key)?;
+        let shares = self.shares_for(hash, key)?;
         match self.shares.shared.shards.remove(hash, key)? {
             Some((core, left)) => {
                 self.shares.tell((Event::Remove, left));
@@ -72,11 +105,9 @@ where
         }
     }
 
-    // Shares for an entry of what a get of the key finds at a moment. Where they can't be had (F7), F9 goes first, which the
-    // shard is asked for.
+    // Shares for an entry of the key's record. If they can't be had (F7), F9 goes first, which the shard is asked for.
     fn shares_for(
         &self,
-        now: u64,
         hash: u64,
         key: &K,
     ) -> Result<Shares<H, E, K, V, S, P, W, A, L, Q, T::Required, I>> {
@@ -84,7 +115,7 @@ where
             Ok(shares) => return Ok(shares),
             Err(refused) => refused,
         };
-        match self.shares.shared.shards.refuses_get(now, hash, key) {
+        match self.shares.shared.shards.refuses_get(FIRST, hash, key) {
             Some(reason) => Err(Error::new(reason)),
             None => Err(refused),
         }

@@ -1,7 +1,7 @@
 //! What runs the tasks of fetches.
 
 ghost use Rattle.std.specs.Prelude.{◌≡◌, ◌<◌, ◌-◌, ℕ, OnOk, vec_len, vec_capacity};
-ghost use Rattle.futures.specs.Task.{Keeps};
+ghost use Rattle.futures.specs.Task.{IsArmed, Keeps};
 
 use foyer_policy::Result;
 use futures::Future;
@@ -41,6 +41,7 @@ impl<X: Future<Output = ()>> ListSpawner<X> {
     /// Polls each task once, drops those that have ended, and answers how many remain.
     pub fn poll_all(&mut self, cx: &mut Context<'_>) -> usize
         ensures remain { result ≡ vec_len self.new.tasks }
+        ensures armed { 0 < result → IsArmed cx.new }
         ensures kept { Keeps cx.old cx.new }
     {
         let mut place = 0;
@@ -66,5 +67,30 @@ impl<X: Future<Output = ()>> Spawner<X> for ListSpawner<X> {
         if self.tasks.push(Spawned::new(task)).is_err() {
             unreachable!()
         }
+    }
+}
+
+/// A future of the end of all tasks of a list. Only a task that is woken, and those with it, are polled again.
+#[derive(Drop)]
+pub struct AllTasks<X: Future<Output = ()>> {
+    tasks: ListSpawner<X>,
+}
+
+impl<X: Future<Output = ()>> AllTasks<X> {
+    /// Returns a future that is ready once each of these tasks has ended.
+    pub fn new(tasks: ListSpawner<X>) -> Self {
+        AllTasks { tasks }
+    }
+}
+
+impl<X: Future<Output = ()>> Future for AllTasks<X> {
+    type Output = ();
+
+    /// Polls each task that has not ended.
+    fn poll(&mut self, cx: &mut Context<'_>) -> Poll<()> {
+        if self.tasks.poll_all(cx) > 0 {
+            return Poll::Pending;
+        }
+        Poll::Ready(())
     }
 }

@@ -8,7 +8,7 @@ ghost use Rattle.foyer_raw.specs.Steps.{next_state, Leads};
 use super::state::{RawFetchState, TaskEvent};
 use super::types::{FetchTypes, OptionalFuture, RequiredFuture};
 use crate::pipe::Pipe;
-use crate::shares::Shares;
+use crate::shares::{Fetch, Shares};
 use foyer_core::{Finder, TagFinder};
 use foyer_policy::{Error, EventListener, Eviction, Fault, Key, Properties, Reason, Value};
 use futures::Future;
@@ -37,10 +37,7 @@ where
     T: FetchTypes<K, V, P>,
 {
     state: RawFetchState,
-    id: u64,
-    // When its leader asked: what is fetched comes in at this moment.
-    moment: u64,
-    hash: u64,
+    fetch: Fetch,
     // Until the key comes in.
     key: Option<K>,
     shares: Shares<H, E, K, V, S, P, W, A, L, Q, T::Required, I>,
@@ -59,11 +56,7 @@ where
 /// With what a task begins.
 pub(crate) struct Begin<K, C, O, F> {
     /// The fetch.
-    pub(crate) id: u64,
-    /// The moment at which its leader asked.
-    pub(crate) moment: u64,
-    /// The key's hash.
-    pub(crate) hash: u64,
+    pub(crate) fetch: Fetch,
     /// The key.
     pub(crate) key: K,
     /// What the builders are given.
@@ -97,12 +90,10 @@ where
         requires clones { (k c : K) → K.is_clone k c → K.eq c k ≡ true }
         ensures state { result.state ≡ RawFetchState.Init }
         ensures idle { IsNone result.optional_fetch × IsNone result.required_fetch }
-        ensures moment { result.moment ≡ begin.moment }
+        ensures fetch { result.fetch ≡ begin.fetch }
     {
         let Begin {
-            id,
-            moment,
-            hash,
+            fetch,
             key,
             context,
             optional,
@@ -110,9 +101,7 @@ where
         } = begin;
         RawFetch {
             state: RawFetchState::Init,
-            id,
-            moment,
-            hash,
+            fetch,
             key: Some(key),
             shares,
             context,
@@ -166,9 +155,7 @@ where
     fn drop(self) {
         let RawFetch {
             state,
-            id,
-            moment: _,
-            hash,
+            fetch,
             key,
             shares,
             context: _,
@@ -183,7 +170,12 @@ where
         }
         if let Some(key) = key {
             let error = Error::new(Reason::TaskCancelled);
-            shares.ended(shares.shared.shards.end(hash, &key, id, error));
+            shares.ended(
+                shares
+                    .shared
+                    .shards
+                    .end(fetch.hash, &key, fetch.id, error),
+            );
         }
     }
 }
@@ -206,8 +198,8 @@ where
     fn fmt<X: fmt::Write>(&self, f: &mut fmt::Formatter<X>) -> fmt::Result {
         f.debug_struct("RawFetch")
             .field("state", &self.state)
-            .field("id", &self.id)
-            .field("hash", &self.hash)
+            .field("id", &self.fetch.id)
+            .field("hash", &self.fetch.hash)
             .finish()
     }
 }

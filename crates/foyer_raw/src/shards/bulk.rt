@@ -2,8 +2,8 @@
 
 ghost use Rattle.std.specs.Prelude.{◌≡◌, IsTrue, None};
 
-use super::Shards;
-use foyer_core::{Finder, Leave, Piece, shard_capacity};
+use super::{FIRST, Shards};
+use foyer_core::{Finder, Leave, Piece, Stats, shard_capacity};
 use foyer_policy::{Eviction, Key, Properties, Result, Value};
 use std::sync::Wait;
 
@@ -26,7 +26,7 @@ where
     pub(crate) fn usage(&self) -> u128 {
         let mut sum = 0u128;
         for shard in self.all.as_slice() {
-            let usage = shard.lock(&self.rt).usage();
+            let usage = shard.lock(&self.rt).shard.usage();
             sum = sum.saturating_add(usage as u128);
         }
         sum
@@ -36,16 +36,35 @@ where
     pub(crate) fn entries(&self) -> u128 {
         let mut sum = 0u128;
         for shard in self.all.as_slice() {
-            let entries = shard.lock(&self.rt).entries();
+            let entries = shard.lock(&self.rt).shard.entries();
             sum = sum.saturating_add(entries as u128);
         }
         sum
     }
 
+    // What all shards counted.
+    pub(crate) fn stats(&self) -> Stats {
+        let mut sum = Stats::default();
+        for shard in self.all.as_slice() {
+            sum.add(&shard.lock(&self.rt).stats);
+        }
+        sum
+    }
+
+    // Counts from 0 again.
+    pub(crate) fn reset_stats(&self) {
+        for shard in self.all.as_slice() {
+            shard.lock(&self.rt).stats = Stats::default();
+        }
+    }
+
     // Takes everything out.
     pub(crate) fn clear(&self, leaves: &mut Vec<Leave<K, V, P>>) -> Result<()> {
         for shard in self.all.as_slice() {
-            shard.lock(&self.rt).clear_onto(leaves)?;
+            let (mut locked, told) = (shard.lock(&self.rt), leaves.len());
+            let done = locked.shard.clear_onto(leaves);
+            locked.count_since(FIRST, leaves, told);
+            done?;
         }
         Ok(())
     }
@@ -53,7 +72,10 @@ where
     // Evicts, at a moment, all that is not pinned.
     pub(crate) fn evict_all(&self, now: u64, leaves: &mut Vec<Leave<K, V, P>>) -> Result<()> {
         for shard in self.all.as_slice() {
-            shard.lock(&self.rt).evict_unpinned(now, leaves)?;
+            let (mut locked, told) = (shard.lock(&self.rt), leaves.len());
+            let done = locked.shard.evict_unpinned(now, leaves);
+            locked.count_since(now, leaves, told);
+            done?;
         }
         Ok(())
     }
@@ -78,14 +100,17 @@ where
         let shards = self.all.as_slice();
         for (number, shard) in shards.iter().enumerate() {
             let part = shard_capacity(capacity, shards.len(), number);
-            shard.lock(&self.rt).set_capacity(part);
+            shard.lock(&self.rt).shard.set_capacity(part);
         }
     }
 
     // Evicts from each shard, at a moment, what is over its capacity.
     fn evict_to_capacity(&self, now: u64, leaves: &mut Vec<Leave<K, V, P>>) -> Result<()> {
         for shard in self.all.as_slice() {
-            shard.lock(&self.rt).evict_to_capacity(now, leaves)?;
+            let (mut locked, told) = (shard.lock(&self.rt), leaves.len());
+            let done = locked.shard.evict_to_capacity(now, leaves);
+            locked.count_since(now, leaves, told);
+            done?;
         }
         Ok(())
     }
@@ -95,7 +120,7 @@ where
         ensures { ((v : E.View) → IsTrue (E.model.takes v config.now)) → IsTrue result }
     {
         for shard in self.all.as_slice() {
-            if !shard.lock(&self.rt).takes(config) {
+            if !shard.lock(&self.rt).shard.takes(config) {
                 return false;
             }
         }
@@ -108,9 +133,9 @@ where
     {
         let resizing = self.capacity.lock(&self.rt);
         for shard in self.all.as_slice() {
-            let mut shard = shard.lock(&self.rt);
-            if shard.takes(config) {
-                shard.configure(config);
+            let mut locked = shard.lock(&self.rt);
+            if locked.shard.takes(config) {
+                locked.shard.configure(config);
             }
         }
         drop(resizing);
@@ -124,10 +149,12 @@ where
         pieces: &mut Vec<Piece<K, V, P>>,
     ) -> Result<()> {
         for shard in self.all.as_slice() {
-            let mut shard = shard.lock(&self.rt);
-            let room = leaves.len().saturating_add(shard.entries() as usize);
+            let (mut locked, told) = (shard.lock(&self.rt), leaves.len());
+            let room = told.saturating_add(locked.shard.entries() as usize);
             pieces.reserve(room)?;
-            shard.evict_unpinned(now, leaves)?;
+            let done = locked.shard.evict_unpinned(now, leaves);
+            locked.count_since(now, leaves, told);
+            done?;
         }
         Ok(())
     }
@@ -142,10 +169,12 @@ where
         requires { F.IsAlwaysCallable predicate.now }
     {
         for shard in self.all.as_slice() {
-            let mut shard = shard.lock(&self.rt);
-            let room = leaves.len().saturating_add(shard.entries() as usize);
+            let (mut locked, told) = (shard.lock(&self.rt), leaves.len());
+            let room = told.saturating_add(locked.shard.entries() as usize);
             pieces.reserve(room)?;
-            shard.evict_if(self.alloc, predicate, leaves)?;
+            let done = locked.shard.evict_if(self.alloc, predicate, leaves);
+            locked.count_since(FIRST, leaves, told);
+            done?;
         }
         Ok(())
     }

@@ -39,18 +39,24 @@ where
         ensures key { IfOk result (elim [ Hit e ↦ K.eq key.now e.kept.key ≡ true | Lead _ _ _ ↦ Unit {0} | Waits _ ↦ Unit {0} ]) }
         ensures live { IfOk result (elim [ Hit e ↦ is_expired now (P.expiry_of e.kept.properties) ≡ false | Lead _ _ _ ↦ Unit {0} | Waits _ ↦ Unit {0} ]) }
     {
-        self.lock(hash)
-            .get_or_enqueue(now, hash, key, required, waiter)
+        let mut locked = self.lock(hash);
+        let look = locked
+            .shard
+            .get_or_enqueue(now, hash, key, required, waiter);
+        locked.count_look_up(&look);
+        look
     }
 
     // Whether a fetch of a key is open.
     pub(crate) fn is_open(&self, hash: u64, key: &K, fetch: u64) -> bool {
-        self.lock(hash).is_open(hash, key, fetch)
+        self.lock(hash).shard.is_open(hash, key, fetch)
     }
 
     // Ends an open fetch of a key with a refusal.
     pub(crate) fn end(&self, hash: u64, key: &K, fetch: u64, error: Error) -> RawEnded<K, V, P> {
-        self.lock(hash).end(self.alloc, hash, key, fetch, error)
+        self.lock(hash)
+            .shard
+            .end(self.alloc, hash, key, fetch, error)
     }
 
     // The builder that is kept for a key, or those who wait for it, where its fetch is open.
@@ -60,7 +66,7 @@ where
         key: &K,
         fetch: u64,
     ) -> Option<Later<K, V, P, R>> {
-        self.lock(hash).fetch_or_take(hash, key, fetch)
+        self.lock(hash).shard.fetch_or_take(hash, key, fetch)
     }
 
     // Ends an open fetch, at a moment, with a record of its key.
@@ -74,7 +80,11 @@ where
         requires clones { (k c : K) → K.is_clone k c → K.eq c k ≡ true }
     {
         let hash = kept.hash;
-        self.lock(hash)
-            .complete(self.alloc, now, fetch, kept, source)
+        let mut locked = self.lock(hash);
+        let ended = locked
+            .shard
+            .complete(self.alloc, now, fetch, kept, source);
+        locked.count_ended(now, &ended);
+        ended
     }
 }

@@ -5,8 +5,8 @@ ghost use Rattle.foyer_policy.specs.Moments.{is_expired};
 
 use super::{FIRST, Shards};
 use crate::ticket::{Answer, Notifier};
-use foyer_core::{CoreEntry, Data, Finder, InsertedOnto, Leave, Left, Piece};
-use foyer_policy::{Error, Eviction, Key, Properties, Reason, Result, Source, Value};
+use foyer_core::{Counted, CoreEntry, Data, Finder, InsertedOnto, Leave, Left, Piece};
+use foyer_policy::{Error, Event, Eviction, Key, Properties, Reason, Result, Source, Value};
 use std::sync::Wait;
 
 /// What an insert answers that is not refused.
@@ -27,7 +27,32 @@ where
         ensures key { IfOk result (λ found. IfSome found (λ e. K.eq key.now e.kept.key ≡ true)) }
         ensures live { IfOk result (λ found. IfSome found (λ e. is_expired now (P.expiry_of e.kept.properties) ≡ false)) }
     {
-        self.lock(hash).get(now, hash, key)
+        let mut locked = self.lock(hash);
+        let found = locked.shard.get(now, hash, key);
+        match &found {
+            Ok(Some(_)) => locked.stats.count(Counted::Hit),
+            Ok(None) => locked.stats.count(Counted::Miss),
+            Err(_) => {}
+        }
+        found
+    }
+
+    // A `get` whose miss is not counted, since another look-up follows it.
+    pub(crate) fn get_first(
+        &self,
+        now: u64,
+        hash: u64,
+        key: &K,
+    ) -> Result<Option<CoreEntry<K, V, P>>>
+        ensures key { IfOk result (λ found. IfSome found (λ e. K.eq key.now e.kept.key ≡ true)) }
+        ensures live { IfOk result (λ found. IfSome found (λ e. is_expired now (P.expiry_of e.kept.properties) ≡ false)) }
+    {
+        let mut locked = self.lock(hash);
+        let found = locked.shard.get(now, hash, key);
+        if let Ok(Some(_)) = &found {
+            locked.stats.count(Counted::Hit);
+        }
+        found
     }
 
     pub(crate) fn remove(
@@ -37,15 +62,23 @@ where
     ) -> Result<Option<(CoreEntry<K, V, P>, Left<K, V, P>)>>
         ensures { IfOk result (λ taken. IfSome taken (λ out. K.eq key.now out.0.kept.key ≡ true)) }
     {
-        self.lock(hash).remove(hash, key)
+        let mut locked = self.lock(hash);
+        let taken = locked.shard.remove(hash, key)?;
+        if let Some((_, left)) = &taken {
+            locked.stats.count_left(FIRST, Event::Remove, left);
+        }
+        Ok(taken)
     }
 
     pub(crate) fn touch(&self, now: u64, hash: u64, key: &K) -> Result<bool> {
-        self.lock(hash).touch(now, hash, key)
+        let mut locked = self.lock(hash);
+        let found = locked.shard.touch(now, hash, key)?;
+        locked.stats.count(if found { Counted::Hit } else { Counted::Miss });
+        Ok(found)
     }
 
     pub(crate) fn contains(&self, now: u64, hash: u64, key: &K) -> bool {
-        self.lock(hash).contains(now, hash, key)
+        self.lock(hash).shard.contains(now, hash, key)
     }
 
     // Takes a record in at a moment, and appends what leaves.
@@ -61,8 +94,12 @@ where
         ensures { IfOk result (λ made. made.entry.kept ≡ kept) }
     {
         let hash = kept.hash;
-        self.lock(hash)
-            .emplace(self.alloc, now, kept, source, leaves)
+        let mut locked = self.lock(hash);
+        let made = locked
+            .shard
+            .emplace(self.alloc, now, kept, source, leaves);
+        locked.count_insert(now, &made, leaves);
+        made
     }
 
     // The same of a piece's record, whose key has this hash, and which has this weight if its shard does not know it.
@@ -76,30 +113,39 @@ where
     ) -> Result<RawInserted<K, V, P>>
         requires clones { (k c : K) → K.is_clone k c → K.eq c k ≡ true }
     {
-        let mut shard = self.lock(hash);
-        shard.emplace_piece(self.alloc, now, piece, hash, weight, leaves)
+        let mut locked = self.lock(hash);
+        let made = locked
+            .shard
+            .emplace_piece(self.alloc, now, piece, hash, weight, leaves);
+        locked.count_insert(now, &made, leaves);
+        made
     }
 
     // Why a handle of what a get finds at a moment would be refused, whatever memory there is.
     pub(crate) fn refuses_get(&self, now: u64, hash: u64, key: &K) -> Option<Reason> {
-        self.lock(hash).refuses_get(now, hash, key)
+        self.lock(hash).shard.refuses_get(now, hash, key)
     }
 
-    // Why this record would be refused now, whatever memory there is.
-    pub(crate) fn refuses_insert(&self, kept: &Data<K, V, P>) -> Option<Reason> {
-        self.lock(kept.hash)
+    // Counts an insert that is refused, and returns why it would be now, whatever memory there is.
+    pub(crate) fn refuse_insert(&self, kept: &Data<K, V, P>) -> Option<Reason> {
+        let mut locked = self.lock(kept.hash);
+        locked.stats.count(Counted::Refused);
+        locked
+            .shard
             .refuses_insert(kept.hash, &kept.key, &kept.properties, kept.weight)
     }
 
-    // Why the record of a piece would be refused now, whatever memory there is, as `emplace_piece` takes it. Of a piece that the
-    // shard knows this asks for a handle alone.
-    pub(crate) fn refuses_piece(
+    // Counts a piece that is refused, and returns why it would be now, whatever memory there is, as `emplace_piece` takes it. Of
+    // a piece that the shard knows this asks for a handle alone.
+    pub(crate) fn refuse_piece(
         &self,
         hash: u64,
         weight: usize,
         piece: &Piece<K, V, P>,
     ) -> Option<Reason> {
-        let shard = self.lock(hash);
+        let mut locked = self.lock(hash);
+        locked.stats.count(Counted::Refused);
+        let shard = &locked.shard;
         if shard.knows(hash, piece) {
             return shard.refuses_get(FIRST, hash, piece.key());
         }
@@ -110,7 +156,7 @@ where
     #[inline(always)]
     pub(crate) fn give_back(&self, core: CoreEntry<K, V, P>) -> Option<Leave<K, V, P>> {
         let hash = core.hash();
-        let answer = self.lock(hash).give_back(core);
+        let answer = self.lock(hash).shard.give_back(core);
         match answer {
             Ok(leave) => leave,
             Err(core) => {
@@ -124,28 +170,28 @@ where
     pub(crate) fn clone_handle(&self, core: &CoreEntry<K, V, P>) -> Result<CoreEntry<K, V, P>>
         ensures { IfOk result (λ e. e.kept ≡ core.now.kept) }
     {
-        let mut shard = self.lock(core.hash());
-        if !shard.owns(core) {
+        let mut locked = self.lock(core.hash());
+        if !locked.shard.owns(core) {
             return Err(Error::new(Reason::NoMemory));
         }
-        shard.clone_handle(core)
+        locked.shard.clone_handle(core)
     }
 
     // How many handles the record has: 0 where the shard does not know this one.
     pub(crate) fn refs(&self, core: &CoreEntry<K, V, P>) -> usize {
-        let shard = self.lock(core.hash());
-        if !shard.owns(core) {
+        let locked = self.lock(core.hash());
+        if !locked.shard.owns(core) {
             return 0;
         }
-        shard.refs(core)
+        locked.shard.refs(core)
     }
 
     // Whether a get does not find the record: also where the shard does not know the handle.
     pub(crate) fn is_outdated(&self, core: &CoreEntry<K, V, P>) -> bool {
-        let shard = self.lock(core.hash());
-        if !shard.owns(core) {
+        let locked = self.lock(core.hash());
+        if !locked.shard.owns(core) {
             return true;
         }
-        shard.is_outdated(core)
+        locked.shard.is_outdated(core)
     }
 }

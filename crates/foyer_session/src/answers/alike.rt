@@ -15,7 +15,7 @@ impl Clone for Answers {
 
     ghost is_clone = { SameAnswers };
 
-    /// The same answers. A fault is shared. Refused where memory is, or where the fault's count is full.
+    /// Clones the answers; a fault is shared. Fails if memory runs out or the fault's count is full.
     fn clone(&self) -> Result<Self, AllocError> {
         let waiters = self.waiters.as_slice().to_vec(*self.waiters.allocator())?;
         let gets = same_gets(&self.gets)?;
@@ -23,7 +23,7 @@ impl Clone for Answers {
     }
 }
 
-// The same once more.
+// Clones what the waiters get.
 fn same_gets(gets: &Gets) -> Result<Gets, AllocError>
     ensures { IfOk result (λ copy. SameGets gets.now copy) }
 {
@@ -42,21 +42,21 @@ impl PartialEq for Answers {
 
     ghost laws = { answers_eq_per laws-law };
 
-    /// Whether the same tokens got the same, in the same order.
+    /// Returns whether the same tokens got the same, in the same order.
     fn eq(&self, other: &Self) -> bool {
         same_tokens(&self.waiters, &other.waiters)
             && (self.is_empty() || equal_gets(&self.gets, &other.gets))
     }
 }
 
-// Whether the same tokens wait, in the same order.
+// Whether these are the same tokens, in the same order.
 fn same_tokens(waiters: &[Waiting<()>], others: &[Waiting<()>]) -> bool
     ensures { result ≡ pointwise nat_eq (numbers_of waiters.now) (numbers_of others.now) }
 {
     waiters == others
 }
 
-// Whether both give the same.
+// Whether both are the same.
 fn equal_gets(gets: &Gets, others: &Gets) -> bool
     ensures { result ≡ gets_eq ⟦<Reason as PartialEq>⟧.eq gets.now others.now }
 {

@@ -1,4 +1,4 @@
-//! Clones of what left, and when two of them are equal.
+//! Clones of removed records, and when two lists of them are equal.
 
 ghost use Rattle.std.specs.Prelude.{◌≡◌};
 
@@ -12,7 +12,7 @@ impl<K: Drop, V: Drop, P: Drop> Clone for Leaves<K, V, P> {
 
     ghost is_clone = { λ l c. c ≡ l };
 
-    /// The same leaves, with shares of their own. Refused where memory is, or where the count of shares is full.
+    /// Clones the list; the records are shared. Fails if memory runs out or a count of shares is full.
     fn clone(&self) -> Result<Self, AllocError> {
         let items = self.items.as_slice().to_vec(*self.items.allocator())?;
         Ok(Leaves { items })
@@ -30,7 +30,7 @@ impl<K: PartialEq, V: PartialEq, P: PartialEq> PartialEq for Leaves<K, V, P> {
     ghost laws = { lists_per (and_per (on_per (λ leave. leave.0) laws-law)
         (on_per (λ leave. leave.1) (gone_eq_per K.laws V.laws P.laws))) };
 
-    /// Whether both are equal, one by one.
+    /// Returns whether both lists are equal, one by one.
     fn eq(&self, other: &Self) -> bool {
         self.items == other.items
     }

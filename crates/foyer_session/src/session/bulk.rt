@@ -1,4 +1,4 @@
-//! What a session does with all of its records.
+//! Commands on all records.
 
 ghost use Rattle.std.specs.Prelude.{◌≡◌, vec_len, vec_capacity};
 

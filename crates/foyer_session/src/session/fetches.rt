@@ -1,4 +1,4 @@
-//! What a session does with the fetches of a key.
+//! Commands on the fetches of a key.
 
 ghost use Rattle.std.specs.Prelude.{◌≡◌, ℕ, List, [], ◌+◌, ◌<◌, ◌≤◌, Some, option_map, slice_get, true, vec_len, vec_capacity};
 ghost use Rattle.foyer_policy.specs.declared.error.Reason.TheVariants.{Fetch};
@@ -34,7 +34,7 @@ impl<
     ghost use Rattle.foyer_session.specs.Step.{CompleteStep, CompletesPiece, CompletesWith, EndStep, FetchOrTakeStep, GetOrFetchStep, IsOpenStep};
     ghost use Rattle.foyer_session.specs.Terms.{terms_at};
 
-    // A handle of the key's record, or a token to wait with for its fetch.
+    // Looks a key up; on a miss, gives a token to wait with.
     pub(super) fn get_or_fetch(&mut self, now: u64, key: &K, later: Option<u64>) -> Reply<K, V, P>
         requires clones { (k c : K) → K.is_clone k c → K.eq c k ≡ true }
         requires room { taken self.old < vec_capacity self.old.handles }
@@ -67,7 +67,7 @@ impl<
         }
     }
 
-    // Ends a fetch of the key with a record of it.
+    // Ends a fetch of the key with a value, or with a piece.
     pub(super) fn complete(
         &mut self,
         now: u64,
@@ -90,7 +90,7 @@ impl<
         }
     }
 
-    // With a clone of the piece of a number, which stays held.
+    // Ends a fetch of the key with a clone of a held piece.
     fn complete_piece(&mut self, now: u64, key: &K, fetch: u64, number: u64) -> Reply<K, V, P>
         requires clones { (k c : K) → K.is_clone k c → K.eq c k ≡ true }
         ensures step { CompletesPiece (terms_at now (terms_of self.old)) (session_of self.old) key.now fetch
@@ -127,7 +127,7 @@ impl<
         tell_ended(&mut self.handles, &mut self.waiting, ended)
     }
 
-    // Ends a fetch of the key with the fault, or as one whose task was dropped.
+    // Ends a fetch of the key with the fault, or, without one, as if its task was dropped.
     pub(super) fn end(
         &mut self,
         key: &K,
@@ -183,7 +183,7 @@ impl<
     }
 }
 
-// Ends a fetch of the key with a record of it. Those who waited get entries that are all alike, or none.
+// Ends a fetch of the key with a record of it. The waiters get equal entries, or none.
 fn complete_in<
     E: Eviction,
     K: Key,
@@ -216,7 +216,7 @@ fn complete_in<
     core.complete(now, key, fetch, target, source)
 }
 
-// Ends a fetch of the key with the fault, or as one whose task was dropped. Nobody gets an entry.
+// Ends a fetch of the key with the fault, or, without one, as if its task was dropped. Nobody gets an entry.
 fn end_in<
     E: Eviction,
     K: Key,
@@ -245,7 +245,7 @@ fn end_in<
     }
 }
 
-// What those get who wait for a fetch that found nothing, or failed with the fault.
+// What the waiters get if their fetch found nothing, or failed with the fault.
 fn nothing(outcome: Option<Arc<Fault, Global>>) -> Gets
     ensures first { first_number result ≡ 0 }
     ensures got { (tokens : List ℕ) → got_by result tokens ≡ each_gets (nothing_by (option_map Fetch outcome)) tokens }

@@ -6,7 +6,7 @@ ghost use Rattle.foyer_session.specs.Step.{held_at, record_of};
 use foyer_core::{CoreEntry, Left};
 use std::marker::Model;
 
-/// A handle that was handed out. It may be gone.
+/// A handle that was handed out, or the place of one that was dropped.
 pub struct Handle<K: Drop, V: Drop, P: Drop> {
     entry: Option<CoreEntry<K, V, P>>,
 }
@@ -51,7 +51,7 @@ impl<K: Drop, V: Drop, P: Drop> Handle<K, V, P> {
     }
 }
 
-/// Hands a new entry out, where there is room: its number, and what tells its record.
+/// Hands out a new entry, for which there is room, and returns its number and its record.
 pub fn hand_out<K: Drop, V: Drop, P: Drop>(
     handles: &mut Vec<Handle<K, V, P>>,
     mut entry: CoreEntry<K, V, P>,
@@ -71,7 +71,7 @@ pub fn hand_out<K: Drop, V: Drop, P: Drop>(
     (number, told)
 }
 
-/// Takes the entry of a number, where it is held.
+/// Takes the entry of a number, if it is held.
 pub fn take<K: Drop, V: Drop, P: Drop>(
     handles: &mut Vec<Handle<K, V, P>>,
     number: u64,
@@ -88,7 +88,7 @@ pub fn take<K: Drop, V: Drop, P: Drop>(
     handles[at].take()
 }
 
-/// The entry of a number, where it is held.
+/// Returns the entry of a number, if it is held.
 pub fn held<K: Drop, V: Drop, P: Drop>(
     handles: &[Handle<K, V, P>],
     number: u64,

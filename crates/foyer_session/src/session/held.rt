@@ -1,4 +1,4 @@
-//! What a session does with a handle that it handed out.
+//! Commands on a handle.
 
 ghost use Rattle.std.specs.Prelude.{◌≡◌, ◌+◌, ◌<◌, ◌≤◌, vec_len, vec_capacity};
 ghost use Rattle.foyer_core.specs.Core.{AtShard, Owns};
@@ -24,7 +24,7 @@ impl<
     ghost use Rattle.foyer_session.specs.Sessions.{session_of, taken, terms_of};
     ghost use Rattle.foyer_session.specs.Step.{CloneStep, DropStep, TakePieceStep, RefsStep, OutdatedStep};
 
-    // Hands out one more handle of the record of a handle.
+    // Clones a held handle.
     pub(super) fn clone_handle(&mut self, number: u64) -> Reply<K, V, P>
         requires room { taken self.old < vec_capacity self.old.handles }
         ensures step { CloneStep (terms_of self.old) (session_of self.old) number result.answer result.leaves (session_of self.new) }
@@ -44,7 +44,7 @@ impl<
         }
     }
 
-    // Gives the handle of a number back, where it is held. Its leave has room in `leaves`.
+    // Gives the handle of a number back, if it is held. `leaves` has room for one removal.
     pub(super) fn give_back(
         &mut self,
         number: u64,
@@ -69,7 +69,7 @@ impl<
         }
     }
 
-    // Hands out a piece of the record of a handle.
+    // Hands out a piece of a held handle's record.
     pub(super) fn take_piece(&mut self, number: u64) -> Reply<K, V, P>
         requires room { vec_len self.old.pieces < vec_capacity self.old.pieces }
         ensures step { TakePieceStep (terms_of self.old) (session_of self.old) number result.answer result.leaves (session_of self.new) }
@@ -114,7 +114,7 @@ impl<
     }
 }
 
-// One more entry of the record of an entry.
+// Clones an entry that is held.
 fn clone_held<
     E: Eviction,
     K: Key,

@@ -1,4 +1,4 @@
-//! What a session takes in.
+//! Commands that insert.
 
 ghost use Rattle.std.specs.Prelude.{◌≡◌, ◌+◌, ◌<◌, ◌≤◌, ◌++◌, Some, length, replicate, true, vec_len, vec_capacity};
 ghost use Rattle.foyer_core.specs.Waited.{entries_in};
@@ -44,7 +44,7 @@ impl<
         }
     }
 
-    // Inserts a clone of the piece of a number, which stays held.
+    // Inserts a clone of a held piece.
     pub(super) fn insert_piece(&mut self, now: u64, number: u64) -> Reply<K, V, P>
         requires clones { (k c : K) → K.is_clone k c → K.eq c k ≡ true }
         requires room { taken self.old < vec_capacity self.old.handles }
@@ -67,7 +67,7 @@ impl<
     }
 }
 
-// Hands out the entry of a record that came in, after those of who waited for its key.
+// Hands out the entries of the key's waiters, and then that of the inserted record.
 fn tell_inserted<K: Drop, V: Drop, P: Drop>(
     handles: &mut Vec<Handle<K, V, P>>,
     waiting: &mut usize,
@@ -99,7 +99,7 @@ fn tell_inserted<K: Drop, V: Drop, P: Drop>(
     Reply::new(answer, leaves)
 }
 
-// Tells why nothing came in, and what left.
+// Replies with the reason why nothing was inserted, and with what was evicted.
 fn tell_refused<K: Drop, V: Drop, P: Drop>(refused: Refused<K, V, P>) -> Reply<K, V, P>
     ensures answer { result.answer ≡ RefusedAnswer refused.error }
     ensures leaves { result.leaves ≡ refused.leaves.items }

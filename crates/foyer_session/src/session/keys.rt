@@ -1,4 +1,4 @@
-//! What a session does with a key.
+//! Commands on a key.
 
 ghost use Rattle.std.specs.Prelude.{◌≡◌, ◌+◌, ◌<◌, ◌≤◌, true, vec_len, vec_capacity};
 
@@ -62,7 +62,7 @@ impl<
         }
     }
 
-    // Takes the key's record out, where there is one. Its leave has room in `leaves`.
+    // Removes the key's record, if there is one. `leaves` has room for one removal.
     pub(super) fn remove(&mut self, key: &K, leaves: Vec<(Event, Left<K, V, P>)>) -> Reply<K, V, P>
         requires room { taken self.old < vec_capacity self.old.handles }
         requires empty { vec_len leaves ≡ 0 }

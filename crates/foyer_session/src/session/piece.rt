@@ -4,7 +4,7 @@ ghost use Rattle.std.specs.Prelude.{◌≡◌, ◌<◌, ◌++◌, ◌∷◌, [],
 
 use foyer_core::Piece;
 
-/// Hands a new piece out, where there is room: its number.
+/// Hands out a new piece, for which there is room, and returns its number.
 pub fn hand_out<K: Drop, V: Drop, P: Drop>(
     pieces: &mut Vec<Piece<K, V, P>>,
     piece: Piece<K, V, P>,
@@ -19,7 +19,7 @@ pub fn hand_out<K: Drop, V: Drop, P: Drop>(
     number
 }
 
-/// The piece of a number, where it is held.
+/// Returns the piece of a number, if it is held.
 pub fn held<K: Drop, V: Drop, P: Drop>(
     pieces: &[Piece<K, V, P>],
     number: u64,

@@ -1,4 +1,4 @@
-//! Commands whose room is made.
+//! Commands with the room that they need.
 
 ghost use Rattle.std.specs.Prelude.{◌≡◌, ℕ, ◌<◌, IfOk, IfErr, map, vec_len, vec_capacity};
 ghost use Rattle.foyer_policy.specs.declared.error.Reason.TheVariants.{NoMemory};
@@ -10,8 +10,7 @@ use foyer_core::Left;
 use foyer_policy::{Error, Event, Reason, Result};
 use std::alloc::Global;
 
-/// A command, with room for the leave that it may have: of a handle that is given back, or of a record that
-/// is taken out.
+/// A command, with room for the one removal that it may report: a `Drop` or a `Remove`.
 #[derive(Drop)]
 pub struct Ready<K: Drop, V: Drop, P: Drop, Q: Drop, C: Drop> {
     pub command: Command<K, V, P, Q, C>,
@@ -22,7 +21,7 @@ pub struct Ready<K: Drop, V: Drop, P: Drop, Q: Drop, C: Drop> {
 }
 
 impl<K: Drop, V: Drop, P: Drop, Q: Drop, C: Drop> Ready<K, V, P, Q, C> {
-    /// Makes the room. Only memory can be missing (F7).
+    /// Makes the room. Fails only with F7.
     pub fn new(alloc: Global, command: Command<K, V, P, Q, C>) -> Result<Self>
         ensures command { IfOk result (λ ready. ready.command ≡ command) }
         ensures refused { IfErr result (λ e. e ≡ NoMemory) }
@@ -32,7 +31,7 @@ impl<K: Drop, V: Drop, P: Drop, Q: Drop, C: Drop> Ready<K, V, P, Q, C> {
     }
 }
 
-// An empty list, with room for the leave that the command may have.
+// An empty list, with room for the removal that the command may report.
 fn room_for<K: Drop, V: Drop, P: Drop, Q: Drop, C: Drop>(
     alloc: Global,
     command: &Command<K, V, P, Q, C>,
@@ -73,7 +72,7 @@ fn room_for<K: Drop, V: Drop, P: Drop, Q: Drop, C: Drop>(
     }
 }
 
-/// Makes the room for each of the commands. Only memory can be missing (F7).
+/// Makes the room for each command. Fails only with F7.
 pub fn ready_all<K: Drop, V: Drop, P: Drop, Q: Drop, C: Drop>(
     alloc: Global,
     commands: Vec<Command<K, V, P, Q, C>>,
@@ -93,7 +92,7 @@ pub fn ready_all<K: Drop, V: Drop, P: Drop, Q: Drop, C: Drop>(
     Ok(all)
 }
 
-/// The leave in the list, where there is one.
+/// Appends the removal, if there is one, to an empty list with room for it.
 pub fn with_leave<K: Drop, V: Drop, P: Drop>(
     mut leaves: Vec<(Event, Left<K, V, P>)>,
     leave: Option<(Event, Left<K, V, P>)>,

@@ -1,4 +1,4 @@
-//! What those get from a session who waited.
+//! The results of waiters.
 
 ghost use Rattle.std.specs.Prelude.{◌≡◌, ℕ, ◌+◌, ◌≤◌, ◌++◌, false, length, map, reverse, true, vec_len, vec_capacity};
 ghost use Rattle.foyer_core.specs.Waited.{ending_of, got_of as outcome_of};
@@ -11,7 +11,7 @@ use crate::answers::{Answers, Gets};
 use crate::command::{Answer, Reply};
 use foyer_core::{Answers as CoreAnswers, CoreEntry, Ended, Left, Outcome};
 
-/// Tells the end of a fetch: those who waited do so no more, and get what there is for them.
+/// Replies with the end of a fetch: its waiters get their results, and wait no longer.
 pub fn tell_ended<K: Drop, V: Drop, P: Drop>(
     handles: &mut Vec<Handle<K, V, P>>,
     waiting: &mut usize,
@@ -44,7 +44,7 @@ pub fn tell_ended<K: Drop, V: Drop, P: Drop>(
     Reply::new(answer, leaves)
 }
 
-/// Answers all who waited: what each gets, and what tells the record of their handles, where there are some.
+/// Returns what each waiter gets, and the record of their handles, if they get any.
 pub fn answer_all<K: Drop, V: Drop, P: Drop>(
     handles: &mut Vec<Handle<K, V, P>>,
     waiting: &mut usize,
@@ -73,7 +73,7 @@ pub fn answer_all<K: Drop, V: Drop, P: Drop>(
     }
 }
 
-// Hands out entries, from the last to the first: what tells the record of the first, where there is one.
+// Hands out entries, from the last to the first, and returns the record of the first, if there is one.
 fn hand_out_all<K: Drop, V: Drop, P: Drop>(
     handles: &mut Vec<Handle<K, V, P>>,
     mut entries: Vec<CoreEntry<K, V, P>>,

@@ -1,4 +1,4 @@
-//! The arguments of the program.
+//! The arguments of `foyer-sim`.
 
 ghost use Rattle.std.specs.Prelude.{◌≡◌, map, string_bytes};
 ghost use Rattle.foyer_session.specs.Args.{args_of, config_of, policy_of};
@@ -6,7 +6,7 @@ ghost use Rattle.foyer_session.specs.Args.{args_of, config_of, policy_of};
 use crate::text::{is_word, number_of};
 use foyer_policy::{EvictionConfig, FifoConfig, LfuConfig, LruConfig, S3FifoConfig, SieveConfig};
 
-/// The policy that a program's cache has.
+/// A policy.
 #[derive(Clone, Copy, Debug, PartialEq, Eq)]
 pub enum SimPolicy {
     /// First in, first out.
@@ -22,7 +22,7 @@ pub enum SimPolicy {
 }
 
 impl SimPolicy {
-    /// The policy's default configuration.
+    /// Returns the policy's default configuration.
     pub fn config(self) -> EvictionConfig
         ensures { result ≡ config_of self }
     {
@@ -36,19 +36,18 @@ impl SimPolicy {
     }
 }
 
-/// What a program is asked for.
+/// The arguments.
 #[derive(Clone, Copy, Debug, PartialEq, Eq)]
 pub struct SimArgs {
     /// The policy, in its default configuration.
     pub policy: SimPolicy,
-    /// The weight that the records may have together.
+    /// The capacity.
     pub capacity: usize,
-    /// How many shards there are.
+    /// The number of shards.
     pub shards: usize,
 }
 
-/// The arguments that these words are: the name of a policy, a capacity and a number of shards,
-/// which is not 0.
+/// Parses the arguments: the name of a policy, a capacity, and a number of shards that isn't 0.
 pub fn sim_args(words: &[String]) -> Option<SimArgs>
     ensures { result ≡ args_of (map string_bytes words.now) }
 {

@@ -44,14 +44,14 @@ pub fn write_answer<W: Write, P>(
     }
 }
 
-/// Writes a refusal as `F` and its number.
+/// Writes an error as `F` and its number.
 pub fn write_refusal<W: Write>(writer: &mut W, error: &Error) -> io::Result<()>
     ensures { WritesText (W.contents writer.old) (W.contents writer.new) result (refusal_text (number_of error.now)) }
 {
     write_numbered(writer, b"F", u64::from(error.number()))
 }
 
-/// Writes what comes after an answer: what left, and the usage and the entries then.
+/// Writes what follows an answer: the removals, the usage and the entries.
 pub fn write_rest<W: Write, P>(
     writer: &mut W,
     leaves: &[(Event, Left<u64, SimValue, P>)],
@@ -121,7 +121,7 @@ fn write_pairs<W: Write>(writer: &mut W, answers: &Answers) -> io::Result<()>
     write_pairs_from(writer, answers, 1)
 }
 
-// Writes the tokens from a place on, each after a space, with what they get.
+// Writes the tokens from a position on, each after a space, with what it gets.
 fn write_pairs_from<W: Write>(writer: &mut W, answers: &Answers, from: usize) -> io::Result<()>
     ensures { WritesText (W.contents writer.old) (W.contents writer.new) result (more_pairs_text (drop from answers.now)) }
 {
@@ -151,7 +151,7 @@ fn write_pair<W: Write>(writer: &mut W, answers: &Answers, at: usize) -> io::Res
     write_got(writer, answers, at)
 }
 
-// Writes what the token at a place gets.
+// Writes what the token at a position gets.
 fn write_got<W: Write>(writer: &mut W, answers: &Answers, at: usize) -> io::Result<()>
     requires { at < length answers.now }
     ensures { IfSome (slice_get answers.now at) (λ pair. WritesText (W.contents writer.old) (W.contents writer.new) result (got_text pair.1)) }
@@ -178,7 +178,7 @@ fn write_leaves<W: Write, P>(
     write_more(writer, more)
 }
 
-// Writes more leaves, each after a comma.
+// Writes more removals, each after a comma.
 fn write_more<W: Write, P>(
     writer: &mut W,
     leaves: &[(Event, Left<u64, SimValue, P>)],
@@ -215,7 +215,7 @@ fn write_leave<W: Write, P>(
     write_number(writer, left.value().value)
 }
 
-/// The word for why a record left, with a space behind it.
+/// Returns the word for an event, with a space after it.
 pub fn event_name(event: Event) -> &'static [u8]
     ensures { result.now ≡ event_text event }
 {

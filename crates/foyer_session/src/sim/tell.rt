@@ -1,4 +1,4 @@
-//! What is printed for a line.
+//! Carrying out one line.
 
 ghost use Rattle.std.specs.Prelude.{◌≡◌, ℕ, List, None, [], ◌++◌};
 ghost use Rattle.std.specs.Hash.{u64 as u64_input};
@@ -32,15 +32,15 @@ type SimCommand = Command<u64, SimValue, CacheProperties, NoPredicate, EvictionC
 pub enum Asked {
     /// Nothing, and nothing is printed.
     Nothing,
-    /// Nothing that there is.
+    /// It is a bad line.
     NoLine,
-    /// That the lines after it have this moment.
+    /// To set the time of the lines after it.
     Moment(u64),
-    /// That a command be carried out.
+    /// To carry out a command.
     Carry(SimCommand),
 }
 
-/// Carries out a line at the moment, which it may set, counts it, and writes what is printed for it.
+/// Carries out a line at the current time, which it may set, counts it, and writes its text.
 pub fn tell<W: Write, S: HashBuilder, I: Finder<u64>>(
     writer: &mut W,
     session: &mut SimSession<S, I>,
@@ -65,7 +65,7 @@ pub fn tell<W: Write, S: HashBuilder, I: Finder<u64>>(
     }
 }
 
-// What a line asks for at a moment.
+// What a line asks for at a time.
 fn asked_by(now: u64, line: Line) -> Asked
     ensures { result ≡ asked_by now line }
 {
@@ -97,7 +97,7 @@ fn asked_by(now: u64, line: Line) -> Asked
     }
 }
 
-// The insert of a plain record, which may expire.
+// Inserts a plain record, which may expire.
 fn plain_insert(now: u64, key: u64, value: u64, weight: usize, expires: Option<u64>) -> SimCommand
     ensures { result ≡ Insert now key (record { value = value; weight = weight }) (plain expires) }
 {
@@ -105,7 +105,7 @@ fn plain_insert(now: u64, key: u64, value: u64, weight: usize, expires: Option<u
     Command::Insert(now, key, SimValue { value, weight }, properties)
 }
 
-// The insert of a phantom record.
+// Inserts a phantom record.
 fn phantom_insert(now: u64, key: u64, value: u64, weight: usize) -> SimCommand
     ensures { result ≡ Insert now key (record { value = value; weight = weight }) phantom }
 {
@@ -113,7 +113,7 @@ fn phantom_insert(now: u64, key: u64, value: u64, weight: usize) -> SimCommand
     Command::Insert(now, key, SimValue { value, weight }, properties)
 }
 
-// The configuration of LRU whose pool of high priority has this share.
+// Gives LRU's high-priority pool this share.
 fn reconfiguration(ratio: Ratio) -> SimCommand
     ensures { result ≡ Reconfigure (Lru (record { high_priority_pool_ratio = ratio })) }
 {
@@ -123,7 +123,7 @@ fn reconfiguration(ratio: Ratio) -> SimCommand
     Command::Reconfigure(EvictionConfig::Lru(config))
 }
 
-// The end of a fetch with a plain record of the weight 1, which comes from outside.
+// Completes a fetch with a plain record of weight 1 and the source `Outer`.
 fn completion(now: u64, key: u64, fetch: u64, value: u64) -> SimCommand
     ensures { result ≡ Complete now key fetch (Value (record { value = value; weight = 1 }) (plain None) Outer) }
 {
@@ -136,7 +136,7 @@ fn completion(now: u64, key: u64, fetch: u64, value: u64) -> SimCommand
     )
 }
 
-// Carries out a command of this moment, and counts it. Where memory was missing for it, nothing has changed.
+// Carries out a command at this time, and counts it. If memory ran out before it, nothing has changed.
 fn tell_command<W: Write, S: HashBuilder, I: Finder<u64>>(
     writer: &mut W,
     session: &mut SimSession<S, I>,
@@ -160,7 +160,7 @@ fn tell_command<W: Write, S: HashBuilder, I: Finder<u64>>(
     }
 }
 
-// Prints a reply, with the usage and the entries after it.
+// Writes a reply, and then the usage and the entries.
 fn tell_reply<W: Write>(
     writer: &mut W,
     reply: &Reply<u64, SimValue, CacheProperties>,
@@ -173,7 +173,7 @@ fn tell_reply<W: Write>(
     write_rest(writer, reply.leaves.as_slice(), usage, entries)
 }
 
-// Prints a refusal, with the usage and the entries after it.
+// Writes an error, and then the usage and the entries.
 fn tell_refusal<W: Write>(
     writer: &mut W,
     error: &Error,
@@ -187,7 +187,7 @@ fn tell_refusal<W: Write>(
     write_rest::<W, CacheProperties>(writer, &[], usage, entries)
 }
 
-// Writes words that are no answer, with the usage and the entries after them.
+// Writes words, and then the usage and the entries.
 fn tell_words<W: Write, S: HashBuilder, I: Finder<u64>>(
     writer: &mut W,
     session: &SimSession<S, I>,

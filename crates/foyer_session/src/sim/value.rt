@@ -1,17 +1,17 @@
-//! The values of a program's records.
+//! The values of `foyer-sim`.
 
 use foyer_core::Weighter;
 
-/// What a program keeps under a key.
+/// A value with its weight.
 #[derive(Clone, Copy, Debug, PartialEq, Eq)]
 pub struct SimValue {
     /// The value that is printed.
     pub value: u64,
-    /// What the record counts against the capacity.
+    /// The weight of its record.
     pub weight: usize,
 }
 
-/// Each record weighs what its value says.
+/// Gives each record the weight that its value has.
 #[derive(Clone, Copy, Debug, Default)]
 pub struct SimWeighter;
 

@@ -1,4 +1,4 @@
-//! A line that the reader's buffer ends within.
+//! The beginning of a line that goes on after the reader's buffer.
 
 ghost use Rattle.std.specs.Prelude.{◌≡◌, ◌∷◌, ◌++◌, []};
 ghost use Rattle.foyer_session.specs.Text.{line_of};
@@ -8,12 +8,12 @@ use super::Line;
 use super::parse::line_of;
 use std::marker::Model;
 
-// A line of this many bytes in which no space follows a space, and none comes first, is bad whatever
-// follows: it has a sixth word or a word of more than 20 bytes.
+// A line of this many bytes, without double or leading spaces, is a bad line whatever follows: it has a sixth word or
+// a word of more than 20 bytes.
 const MOST: usize = 106;
 
-/// What is needed of the beginning of a line: its bytes without the spaces that part no words, and of
-/// those as many as can matter.
+/// What has to be kept of the beginning of a line: its bytes without double and leading spaces, as many as can
+/// matter.
 #[derive(Drop)]
 pub(super) struct Kept {
     bytes: [u8; MOST],
@@ -67,7 +67,7 @@ impl Kept {
         }
     }
 
-    /// The line, where nothing follows.
+    /// Parses the line, if nothing follows.
     pub(super) fn line(&self) -> Line
         ensures { result ≡ line_of self.now }
     {

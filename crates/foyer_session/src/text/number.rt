@@ -4,11 +4,10 @@ ghost use Rattle.std.specs.Prelude.{◌≡◌, ◌+◌, ◌-◌, ◌*◌, ◌^�
 ghost use Rattle.std.specs.Int.{IsInRange};
 ghost use Rattle.foyer_session.specs.Text.{number_of};
 
-/// The most digits that a number has.
+/// The largest number of digits.
 const MOST_DIGITS: usize = 20;
 
-/// The number that a word is: 1 to 20 decimal digits with a value below 2^64. Leading zeros are fine,
-/// a sign is not.
+/// Parses a number: 1 to 20 decimal digits with a value below 2^64. Leading zeros are allowed, a sign isn't.
 pub fn number_of(word: &[u8]) -> Option<u64>
     ensures { result ≡ number_of word.now }
 {
@@ -28,7 +27,7 @@ pub fn number_of(word: &[u8]) -> Option<u64>
     Some(value)
 }
 
-// The number that the digits of `value` and one more write.
+// Appends a digit to `value`, if the result is below 2^64.
 fn with_digit(value: u64, digit: u8) -> Option<u64>
     ensures { SomeIff result (IsInRange 48 57 digit × (value * 10 + (digit - 48) < 2 ^ 64))
         (value * 10 + (digit - 48)) }

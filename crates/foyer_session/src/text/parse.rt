@@ -1,4 +1,4 @@
-//! A line as a command.
+//! Parsing a line.
 
 ghost use Rattle.std.specs.Prelude.{◌≡◌, ◌≢◌, ◌<◌, ◌≤◌, ◌∷◌, [], All, IfSome, IfNone, bytes_eq, length, slice_index, take};
 ghost use Rattle.foyer_session.specs.Text.{words, line_of, line_with_none, line_with_one, line_with_two, line_with_three, line_with_four, high_line, insert_line};
@@ -7,7 +7,7 @@ use super::Line;
 use super::number::number_of;
 use foyer_policy::Ratio;
 
-/// The line that these bytes are; they do not have the byte 10 that ended it.
+/// Parses a line, without the byte 10 that ended it.
 pub fn line_of(line: &[u8]) -> Line
     ensures { result ≡ line_of line.now }
 {
@@ -44,7 +44,7 @@ pub fn line_of(line: &[u8]) -> Line
     }
 }
 
-// The line of a first word alone.
+// A line of one word.
 #[tactic(auto, unfolding(crate::specs::Text::line_with_none))]
 fn with_none(verb: &[u8]) -> Line
     ensures { result ≡ line_with_none verb.now }
@@ -58,7 +58,7 @@ fn with_none(verb: &[u8]) -> Line
     }
 }
 
-// The line of a first word and one number.
+// A line of a word and one number.
 #[tactic(auto, unfolding(crate::specs::Text::line_with_one))]
 fn with_one(verb: &[u8], number: u64) -> Line
     ensures { result ≡ line_with_one verb.now number }
@@ -84,7 +84,7 @@ fn with_one(verb: &[u8], number: u64) -> Line
     }
 }
 
-// The line of a first word and two numbers. A weight that is left out is 1.
+// A line of a word and two numbers. A weight that is left out is 1.
 #[tactic(auto, unfolding(crate::specs::Text::line_with_two))]
 fn with_two(verb: &[u8], first: u64, second: u64) -> Line
     ensures { result ≡ line_with_two verb.now first second }
@@ -101,7 +101,7 @@ fn with_two(verb: &[u8], first: u64, second: u64) -> Line
     }
 }
 
-// The line of a share, whose numbers are below 2^32.
+// A line with a share, whose numbers are below 2^32.
 fn high(num: u64, den: u64) -> Line
     ensures { result ≡ high_line num den }
 {
@@ -111,7 +111,7 @@ fn high(num: u64, den: u64) -> Line
     }
 }
 
-// The line of a first word and three numbers.
+// A line of a word and three numbers.
 #[tactic(auto, unfolding(crate::specs::Text::line_with_three))]
 fn with_three(verb: &[u8], first: u64, second: u64, third: u64) -> Line
     ensures { result ≡ line_with_three verb.now first second third }
@@ -127,7 +127,7 @@ fn with_three(verb: &[u8], first: u64, second: u64, third: u64) -> Line
     }
 }
 
-// The line of a first word and four numbers, of which the last one is when a record expires.
+// A line of a word and four numbers, the last of which is the expiry.
 #[tactic(auto, unfolding(crate::specs::Text::line_with_four))]
 fn with_four(verb: &[u8], key: u64, value: u64, weight: u64, expires: u64) -> Line
     ensures { result ≡ line_with_four verb.now key value weight expires }
@@ -144,7 +144,7 @@ fn with_four(verb: &[u8], key: u64, value: u64, weight: u64, expires: u64) -> Li
     }
 }
 
-// The line of a record that is to come in.
+// A line that inserts.
 #[tactic(auto, unfolding(crate::specs::Text::insert_line))]
 fn insert(verb: &[u8], key: u64, value: u64, weight: usize) -> Line
     ensures { result ≡ insert_line verb.now key value weight }
@@ -163,14 +163,14 @@ fn insert(verb: &[u8], key: u64, value: u64, weight: usize) -> Line
     }
 }
 
-/// Whether a word is this name.
+/// Returns whether a word is this name.
 pub fn is_word(word: &[u8], name: &[u8]) -> bool
     ensures { result ≡ bytes_eq word.now name.now }
 {
     word == name
 }
 
-// The first word, and what follows it.
+// Splits off the first word.
 fn next_word(bytes: &[u8]) -> Option<(&[u8], &[u8])>
     ensures none { IfNone result (words bytes.now ≡ []) }
     ensures some { IfSome result (λ r. words bytes.now ≡ r.0.now ∷ words r.1.now) }
@@ -182,7 +182,7 @@ fn next_word(bytes: &[u8]) -> Option<(&[u8], &[u8])>
     Some(bytes.split_at(len_before(bytes, b' ')))
 }
 
-// How many spaces the bytes begin with.
+// The number of leading spaces.
 fn spaces_len(bytes: &[u8]) -> usize
     ensures within { result ≤ length bytes.now }
     ensures spaces { All (λ b. b ≡ 32) (take result bytes.now) }
@@ -196,7 +196,7 @@ fn spaces_len(bytes: &[u8]) -> usize
     bytes.len()
 }
 
-/// How many bytes come before the first `byte`, or before the end.
+/// Returns the number of bytes before the first `byte`, or before the end.
 pub(super) fn len_before(bytes: &[u8], byte: u8) -> usize
     ensures within { result ≤ length bytes.now }
     ensures before { All (λ b. b ≢ byte) (take result bytes.now) }

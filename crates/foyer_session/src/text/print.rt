@@ -1,4 +1,4 @@
-//! Texts and numbers for a writer.
+//! Writing texts and numbers.
 
 ghost use Rattle.std.specs.Prelude.{◌≡◌, ◌≢◌, ◌≤◌, IfErr, decimal, drop, length};
 ghost use Rattle.std.specs.IoError.{error_kind};
@@ -9,10 +9,10 @@ ghost use Rattle.foyer_session.specs.Print.{WritesText};
 use std::io;
 use std::io::{ErrorKind, Write};
 
-/// Writes a text. At `Err` a beginning of it was written.
+/// Writes a text. It goes on after an interruption.
 ///
-/// It goes on after an interruption, and fails only where the writer fails or takes no byte, or after
-/// 2^64 calls.
+/// # Errors
+/// That of the writer, or if the writer takes no byte, or after 2^64 calls. A beginning of the text was written.
 pub fn write_out<W: Write>(writer: &mut W, text: &[u8]) -> io::Result<()>
     ensures text { WritesText (W.contents writer.old) (W.contents writer.new) result text.now }
     ensures retried { IfErr result (λ e. error_kind e ≢ ErrorKind.Interrupted) }
@@ -35,8 +35,10 @@ pub fn write_out<W: Write>(writer: &mut W, text: &[u8]) -> io::Result<()>
     Err(io::Error::from(ErrorKind::Other))
 }
 
-/// Hands on what the writer holds back. It goes on after an interruption, and fails only where the writer
-/// does, or after 2^64 calls.
+/// Flushes the writer. It goes on after an interruption.
+///
+/// # Errors
+/// That of the writer, or after 2^64 calls.
 pub fn flush_out<W: Write>(writer: &mut W) -> io::Result<()>
     ensures kept { Keeps (W.contents writer.old) (W.contents writer.new) }
     ensures retried { IfErr result (λ e. error_kind e ≢ ErrorKind.Interrupted) }
@@ -54,8 +56,7 @@ pub fn flush_out<W: Write>(writer: &mut W) -> io::Result<()>
     Err(io::Error::from(ErrorKind::Other))
 }
 
-/// Writes a number in decimal, with no leading zeros, so that `number_of` reads it back. It fails as
-/// `write_out` does.
+/// Writes a number in decimal, without leading zeros, so that `number_of` reads it back. It fails like `write_out`.
 pub fn write_number<W: Write>(writer: &mut W, number: u64) -> io::Result<()>
     ensures text { WritesText (W.contents writer.old) (W.contents writer.new) result (decimal number) }
     ensures retried { IfErr result (λ e. error_kind e ≢ ErrorKind.Interrupted) }
@@ -66,7 +67,7 @@ pub fn write_number<W: Write>(writer: &mut W, number: u64) -> io::Result<()>
     write_out(writer, &digits[start..])
 }
 
-/// Writes a number of up to 128 bits, as `write_number` does.
+/// Writes a number of up to 128 bits, like `write_number`.
 pub fn write_wide_number<W: Write>(writer: &mut W, number: u128) -> io::Result<()>
     ensures text { WritesText (W.contents writer.old) (W.contents writer.new) result (decimal number) }
     ensures retried { IfErr result (λ e. error_kind e ≢ ErrorKind.Interrupted) }
@@ -97,7 +98,7 @@ fn fill_digits(buffer: &mut [u8], number: u64) -> usize
     start
 }
 
-// The same at 128 bits.
+// Writes the digits of a number of up to 128 bits at the end of the buffer, and returns where they begin.
 fn fill_wide_digits(buffer: &mut [u8], number: u128) -> usize
     requires { length (decimal number) ≤ length buffer.old }
     ensures within { result ≤ length buffer.new }

@@ -1,4 +1,4 @@
-//! Lines from a reader.
+//! Reading lines.
 
 ghost use Rattle.std.specs.Prelude.{◌≡◌, ◌≢◌, IfOk, IfErr, IfSome, OnOk, OnErr};
 ghost use Rattle.std.specs.IoError.{error_kind};
@@ -14,23 +14,25 @@ use super::print::flush_out;
 use std::io;
 use std::io::{BufRead, ErrorKind, Write};
 
-/// Reads lines, one after another. Before each read that may wait, what was written is handed on: when the
-/// bytes are used up that the reader gave before.
+/// Reads lines, one after another. Before each read that may wait, when the reader's buffer is used up, the output is
+/// flushed.
 #[derive(Drop)]
 pub struct Lines {
     is_used_up: bool,
 }
 
 impl Lines {
-    /// Of a reader that gave nothing so far.
+    /// Starts with a reader that gave nothing so far.
     pub fn new() -> Self {
         Lines { is_used_up: true }
     }
 
-    /// Reads the next line, which a byte 10 or the end of the input ends. At the end it gives `None`.
+    /// Reads the next line, which ends at a byte 10 or at the end of the input, or returns `None` at the end. It goes
+    /// on after an interruption.
     ///
-    /// It goes on after an interruption, and fails only where the reader fails, the writer fails to hand on
-    /// what it holds, or after 2^64 calls. At `Err` some bytes of the line may have been taken, but not its end.
+    /// # Errors
+    /// That of the reader, or of the writer's flush, or after 2^64 calls. Some bytes of the line may have been read,
+    /// but not its end.
     pub fn read<R: BufRead, W: Write>(
         &mut self,
         reader: &mut R,
@@ -68,7 +70,7 @@ impl Lines {
         Ok(Some(line))
     }
 
-    // Hands on what was written, where the next read may wait.
+    // Flushes the output, if the next read may wait.
     fn hand_on<W: Write>(&self, writer: &mut W) -> io::Result<()>
         ensures written { Keeps (W.contents writer.old) (W.contents writer.new) }
         ensures retried { IfErr result (λ e. error_kind e ≢ ErrorKind.Interrupted) }
@@ -79,7 +81,7 @@ impl Lines {
         Ok(())
     }
 
-    // Reads the next line as `read` does, by one part after another.
+    // Reads the next line, like `read`, part by part.
     #[cold]
     #[inline(never)]
     fn read_by_parts<R: BufRead, W: Write>(
@@ -154,7 +156,7 @@ impl Lines {
     }
 }
 
-// What was taken of a line.
+// What was read of a line.
 enum Part {
     // The reader was interrupted.
     Nothing,

@@ -3,7 +3,7 @@
 use std::io;
 use std::io::{ErrorKind, Write};
 
-/// Writes as another writer does, and knows afterwards whether that has failed.
+/// Passes everything to another writer, and remembers whether that has failed.
 #[derive(Drop)]
 pub struct Watched<W: Write + Drop> {
     inner: W,
@@ -11,7 +11,7 @@ pub struct Watched<W: Write + Drop> {
 }
 
 impl<W: Write + Drop> Watched<W> {
-    /// A writer that has not failed yet.
+    /// Wraps a writer that hasn't failed yet.
     pub fn new(inner: W) -> Self {
         Watched {
             inner,
@@ -19,7 +19,7 @@ impl<W: Write + Drop> Watched<W> {
         }
     }
 
-    /// Whether a call failed, or took no byte of some. An interruption is no failure.
+    /// Returns whether a call failed, or took none of some bytes. An interruption is no failure.
     pub fn has_failed(&self) -> bool {
         self.has_failed
     }

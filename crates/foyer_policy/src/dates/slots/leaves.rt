@@ -1,4 +1,4 @@
-//! Leaves of a tree over slots: for every few slots, a number that no date in these is below.
+//! The leaves of a tree over slots: for each block of slots, a number that none of its dates is below.
 
 ghost use Rattle.std.specs.Prelude.{◌≡◌, ◌≢◌, ℕ, ◌+◌, ◌*◌, ◌/◌, ◌<◌, ◌≤◌, Some, length, slice_get, slice_index};
 ghost use Rattle.foyer_policy.specs.DateSlots.{AreAbove};
@@ -7,7 +7,7 @@ use super::row::Row;
 use super::{BLOCK, Gone};
 use crate::min_tree::MinTree;
 
-// The least date in a block, or the greatest number where there is none.
+// The least date in a block, or the largest number if there is none.
 fn least_date(row: &Row, block: usize) -> u64
     ensures { (j : ℕ) (e : ℕ × ℕ) → slice_get row.now.slots j ≡ Some (Some e) → j / 32 ≡ block → result ≤ e.1 }
 {
@@ -24,7 +24,8 @@ fn least_date(row: &Row, block: usize) -> u64
     least
 }
 
-// Sets the leaf of a block to the least date there. It stands apart, so that what seldom needs it stays short.
+// Sets the leaf of a block to its least date. A function of its own, so that its callers, which rarely need it, stay
+// short.
 #[inline(never)]
 fn refresh(tree: &mut MinTree, row: &Row, block: usize)
     requires { block < length tree.old }
@@ -36,7 +37,7 @@ fn refresh(tree: &mut MinTree, row: &Row, block: usize)
     tree.set(block, least_date(row, block));
 }
 
-// Sets so many leaves, the first ones, which must be those of all slots.
+// Sets the first `count` leaves, which must be those of all slots.
 pub(super) fn refresh_all(tree: &mut MinTree, row: &Row, count: usize)
     requires leaves { count ≤ length tree.old }
     requires within { length row.now.slots ≤ 32 * count }
@@ -48,8 +49,9 @@ pub(super) fn refresh_all(tree: &mut MinTree, row: &Row, count: usize)
     }
 }
 
-// Sets the leaf of a block anew, where a date that went may have been the least. Where its place was the first of its
-// list, the next to go is often beside it: then the block is marked, and its leaf set once another is.
+// Sets the leaf of a block anew, if the date that was removed may have been the least. If its place was the first of
+// its list, the next to be removed is often beside it: then the block is marked, and its leaf is set when another
+// block is marked.
 #[inline(always)]
 pub(super) fn raise(tree: &mut MinTree, row: &Row, block: usize, gone: Gone)
     requires leaf { block < length tree.old }
@@ -71,7 +73,7 @@ pub(super) fn raise(tree: &mut MinTree, row: &Row, block: usize, gone: Gone)
     }
 }
 
-// Lowers the leaf of a block to a date that came.
+// Lowers the leaf of a block to a new date.
 #[inline(always)]
 pub(super) fn lower(tree: &mut MinTree, block: usize, date: u64)
     requires { block < length tree.old }

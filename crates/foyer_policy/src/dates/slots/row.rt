@@ -8,11 +8,11 @@ use crate::lists::Place;
 use std::alloc::Global;
 use std::marker::Model;
 
-/// What the numbers of places in slots are below. An empty slot has this number.
+/// The bound of the places in slots. An empty slot has this number.
 pub(super) const PLACES: u32 = u32::MAX;
 
-/// Slots, one behind the other, each with a place and its date or empty. The places stand apart from the dates, so that to
-/// find and to empty a slot reads and writes one word of four bytes.
+/// Slots in a row, each with a place and its date, or empty. The places are apart from the dates, so that finding and
+/// emptying a slot reads and writes four bytes.
 #[derive(Drop)]
 pub(super) struct Row {
     dates: Vec<u64>,
@@ -35,7 +35,10 @@ impl Model for Row {
 }
 
 impl Row {
-    /// No slots, with room for so many. Only memory can be missing (F7).
+    /// Creates no slots, with room for so many.
+    ///
+    /// # Errors
+    /// F7 if memory runs out.
     pub(super) fn with_capacity(alloc: Global, count: usize) -> Result<Self>
         ensures none { IfOk result (λ r. r.slots ≡ []) }
         ensures capacity { IfOk result (λ r. count ≤ r.capacity) }
@@ -46,7 +49,10 @@ impl Row {
         Ok(Row { dates, places })
     }
 
-    /// The same slots, with room for so many. Only memory can be missing (F7).
+    /// Copies the slots, with room for so many.
+    ///
+    /// # Errors
+    /// F7 if memory runs out.
     pub(super) fn with_room(&self, alloc: Global, count: usize) -> Result<Self>
         ensures slots { IfOk result (λ r. r.slots ≡ self.now.slots) }
         ensures capacity { IfOk result (λ r. count ≤ r.capacity) }
@@ -60,7 +66,7 @@ impl Row {
         Ok(Row { dates, places })
     }
 
-    /// How many slots there may be.
+    /// Returns how many slots there may be.
     #[inline(always)]
     pub(super) fn capacity(&self) -> usize
         ensures { result ≡ self.now.capacity }
@@ -68,7 +74,7 @@ impl Row {
         self.dates.capacity().min(self.places.capacity())
     }
 
-    /// How many slots there are.
+    /// Returns how many slots there are.
     #[inline(always)]
     pub(super) fn len(&self) -> usize
         ensures { result ≡ length self.now.slots }
@@ -76,7 +82,7 @@ impl Row {
         self.dates.len()
     }
 
-    /// The place and the date of the slot at an index below their number, or none where it is empty.
+    /// Returns the place and the date of the slot at an index below their number, or `None` if it is empty.
     #[inline(always)]
     pub(super) fn get(&self, index: usize) -> Option<(Place, u64)>
         requires { index < length self.now.slots }
@@ -113,7 +119,7 @@ impl Row {
         self.places[index] = PLACES;
     }
 
-    /// Puts a slot behind the others, for which there must be room.
+    /// Appends a slot. Needs room.
     #[inline(always)]
     pub(super) fn push_reserved(&mut self, place: Place, date: u64)
         requires room { length self.old.slots < self.old.capacity }
@@ -125,7 +131,7 @@ impl Row {
         self.places.push_reserved(place.number() as u32);
     }
 
-    /// Drops all slots but so many, the first ones.
+    /// Drops all slots but the first `count`.
     pub(super) fn truncate(&mut self, count: usize)
         ensures slots { self.new.slots ≡ take count self.old.slots }
         ensures capacity { self.new.capacity ≡ self.old.capacity }

@@ -6,12 +6,13 @@ use super::RawFetch;
 use crate::fetch::FetchTypes;
 use crate::pipe::Pipe;
 use crate::shards::Later;
+use crate::shares::Fetch;
 use crate::ticket::{Waiters, refuse, tell_none};
 use foyer_core::{FetchOrTake, FetchTarget, Filter, Finder, Piece, Weighter};
 use foyer_policy::{
-    Error, EventListener, Eviction, Fault, HashBuilder, Key, Properties, Reason, Source, Value,
+    EventListener, Eviction, Fault, HashBuilder, Key, Properties, Source, Value,
 };
-use std::sync::{Arc, Wait};
+use std::sync::Wait;
 
 impl<H, E, K, V, S, P, W, A, L, Q, T, I> RawFetch<H, E, K, V, S, P, W, A, L, Q, T, I>
 where
@@ -31,78 +32,57 @@ where
     // Whether the fetch is open.
     pub(super) fn is_open(&self) -> bool {
         match &self.key {
-            Some(key) => self.shares.shared.shards.is_open(self.hash, key, self.id),
+            Some(key) => self.is_open_for(key),
             None => false,
         }
     }
 
-    // Ends the fetch, at its leader's moment, with what was fetched, and answers those who wait. Where the fetch is not open, nothing happens, and
-    // neither the weighter nor the filter is asked.
+    // Whether the fetch is open under this key, its own.
+    fn is_open_for(&self, key: &K) -> bool {
+        let Fetch { id, hash, .. } = self.fetch;
+        self.shares.shared.shards.is_open(hash, key, id)
+    }
+
+    // Ends the fetch, at its leader's time, with what was fetched, and answers those who wait. If the fetch is not open,
+    // nothing happens, and neither the weighter nor the filter is asked.
     pub(super) fn complete(&self, key: Option<K>, target: FetchTarget<K, V, P>, source: Source) {
         let Some(key) = key else {
             return;
         };
-        if !self.shares.shared.shards.is_open(self.hash, &key, self.id) {
+        if !self.is_open_for(&key) {
             return;
         }
         match target {
             FetchTarget::Entry { value, properties } => {
-                self.complete_value(key, value, properties, source)
+                self.shares
+                    .complete(self.fetch, key, value, properties, source)
             }
             FetchTarget::Piece(piece) => self.complete_piece(&key, piece),
         }
     }
 
-    // Ends the fetch with a value.
-    fn complete_value(&self, key: K, value: V, properties: P, source: Source) {
-        let kept = self.shares.shared.data(self.hash, key, value, properties);
-        let ended = self
-            .shares
-            .shared
-            .shards
-            .complete(self.moment, self.id, kept, source);
-        self.shares.ended(ended);
-    }
-
     // Ends the fetch with a piece.
     fn complete_piece(&self, key: &K, piece: Piece<K, V, P>) {
+        let Fetch { id, now, hash, .. } = self.fetch;
         let ended = self
             .shares
             .shared
-            .complete_piece(self.moment, self.hash, key, self.id, piece);
+            .complete_piece(now, hash, key, id, piece);
         self.shares.ended(ended);
     }
 
     // Ends the fetch with a fault.
     pub(super) fn fail(&self, fault: Fault) {
-        let Some(key) = &self.key else {
-            return;
-        };
-        let error = self.refusal(fault);
-        let ended = self
-            .shares
-            .shared
-            .shards
-            .end(self.hash, key, self.id, error);
-        self.shares.ended(ended);
-    }
-
-    // The refusal of a fault, which all who wait share.
-    fn refusal(&self, fault: Fault) -> Error {
-        match Arc::new(self.shares.shared.shards.alloc, fault) {
-            Ok(fault) => Error::new(Reason::Fetch(fault)),
-            Err(refused) => Error::from(refused),
+        if let Some(key) = &self.key {
+            self.shares.fail(self.fetch, key, fault);
         }
     }
 
-    // A builder that one who waits brought, or those who wait. None where the fetch is not open.
+    // A builder that one who waits brought, or those who wait. None if the fetch is not open.
     pub(super) fn later(&self) -> Option<Later<K, V, P, T::Required>> {
+        let Fetch { id, hash, .. } = self.fetch;
         match &self.key {
-            Some(key) => self
-                .shares
-                .shared
-                .shards
-                .fetch_or_take(self.hash, key, self.id),
+            Some(key) => self.shares.shared.shards.fetch_or_take(hash, key, id),
             None => None,
         }
     }
@@ -110,7 +90,7 @@ where
     // Answers those who wait with the fault, or with none.
     pub(super) fn tell_nothing(&self, waiters: Waiters<K, V, P>, fault: Option<Fault>) {
         match fault {
-            Some(fault) => refuse(waiters, self.refusal(fault)),
+            Some(fault) => refuse(waiters, self.shares.refusal(fault)),
             None => tell_none(waiters),
         }
     }

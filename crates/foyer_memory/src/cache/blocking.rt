@@ -1,0 +1,89 @@
+//! Look-ups that make or fetch what is missing, and block until it is there.
+
+ghost use Rattle.std.specs.Prelude.{◌≡◌, IfOk, true};
+
+use super::Cache;
+use crate::entry::CacheEntry;
+use foyer_core::{Filter, Finder, Weighter};
+use foyer_policy::{EventListener, Fault, HashBuilder, Key, Properties, Result, Value};
+use foyer_raw::{Direct, FetchTypes, Pipe, RequiredFetch, Runtime};
+
+impl<H, K, V, S, P, W, A, L, Q, T, I> Cache<H, K, V, S, P, W, A, L, Q, T, I>
+where
+    H: Runtime,
+    K: Key,
+    V: Value,
+    S: HashBuilder,
+    P: Properties,
+    W: Weighter<K, V>,
+    A: Filter<K, V>,
+    L: EventListener<Key = K, Value = V>,
+    I: Finder<K>,
+    Q: Pipe<Key = K, Value = V, Properties = P>,
+    T: FetchTypes<K, V, P>,
+{
+    /// Returns an entry of the key's record; if a `get` at this time finds none, makes the value and inserts it.
+    ///
+    /// If several callers miss the same key, the first one calls its closure, with no lock held, and the others block until
+    /// it is done. The closure may use the cache under other keys; if it asks for its own key by a call that waits, it never
+    /// returns. If a fetch by `get_or_fetch` is open for the key, the call blocks until that fetch's task has ended.
+    ///
+    /// # Errors
+    /// F11 with the fault, for all who wait, if the closure fails. F9, F7 as `get`; F10, F7 on a miss; what the insert is
+    /// refused with (F7 to F10).
+    pub fn get_or_insert_with<F>(
+        &self,
+        now: u64,
+        key: &K,
+        make: F,
+    ) -> Result<CacheEntry<H, K, V, S, P, W, A, L, Q, T, I>>
+    where
+        F: FnOnce() -> std::result::Result<V, Fault>,
+        requires clones { (k c : K) → K.is_clone k c → K.eq c k ≡ true }
+        requires callable { F.IsAlwaysCallable make }
+        ensures kind { IfOk result (λ e. e.kind ≡ self.now.kind) }
+    {
+        Ok(CacheEntry {
+            entry: self.cache.get_or_insert_with(now, key, make)?,
+            kind: self.kind,
+        })
+    }
+}
+
+impl<H, K, V, S, P, W, A, L, Q, R, I> Cache<H, K, V, S, P, W, A, L, Q, Direct<R>, I>
+where
+    H: Runtime,
+    K: Key,
+    V: Value,
+    S: HashBuilder,
+    P: Properties,
+    W: Weighter<K, V>,
+    A: Filter<K, V>,
+    L: EventListener<Key = K, Value = V>,
+    I: Finder<K>,
+    Q: Pipe<Key = K, Value = V, Properties = P>,
+    R: RequiredFetch<K, V, P>,
+{
+    /// Returns an entry of the key's record; if a `get` at this time finds none, fetches it as `get_or_fetch` does, drives the
+    /// fetch's task on this thread, and blocks until it is done. If another caller leads the fetch, the call blocks until that
+    /// caller's task has ended, and this future is dropped.
+    ///
+    /// # Errors
+    /// F11 with the fault if the fetch fails. F9, F7 as `get`; F10, F7 on a miss; what the insert is refused with (F7 to F10,
+    /// F12).
+    pub fn get_or_fetch_blocking(
+        &self,
+        now: u64,
+        key: &K,
+        fetch: R,
+    ) -> Result<CacheEntry<H, K, V, S, P, W, A, L, Q, Direct<R>, I>>
+        requires clones { (k c : K) → K.is_clone k c → K.eq c k ≡ true }
+        requires future { R.can_poll fetch }
+        ensures kind { IfOk result (λ e. e.kind ≡ self.now.kind) }
+    {
+        Ok(CacheEntry {
+            entry: self.cache.get_or_fetch_blocking(now, key, fetch)?,
+            kind: self.kind,
+        })
+    }
+}

@@ -1,0 +1,147 @@
+//! Look-ups that make or fetch what is missing, and block until it is there.
+
+ghost use Rattle.std.specs.Prelude.{◌≡◌, true};
+
+use super::RawCache;
+use super::fetching::Asking;
+use crate::entry::RawCacheEntry;
+use crate::fetch::{AllTasks, Direct, FetchTypes, Given, ListSpawner, RawWait, RequiredFetch};
+use crate::pipe::Pipe;
+use crate::runtime::Runtime;
+use crate::shares::Fetch;
+use foyer_core::{Filter, Finder, Lookup, Weighter};
+use foyer_policy::{
+    Error, EventListener, Eviction, Fault, HashBuilder, Key, Properties, Reason, Result, Source,
+    Value,
+};
+use futures::Future;
+use futures::executor::block_on;
+
+impl<H, E, K, V, S, P, W, A, L, Q, T, I> RawCache<H, E, K, V, S, P, W, A, L, Q, T, I>
+where
+    H: Runtime,
+    E: Eviction,
+    K: Key,
+    V: Value,
+    S: HashBuilder,
+    P: Properties,
+    W: Weighter<K, V>,
+    A: Filter<K, V>,
+    L: EventListener<Key = K, Value = V>,
+    I: Finder<K>,
+    Q: Pipe<Key = K, Value = V, Properties = P>,
+    T: FetchTypes<K, V, P>,
+{
+    /// Returns an entry of the key's record; if a `get` at this time finds none, makes the value and inserts it.
+    ///
+    /// If several callers miss the same key, the first one calls its closure, with no lock held, and the others block until
+    /// it is done. The closure may use the cache under other keys; if it asks for its own key by a call that waits, it never
+    /// returns. If a fetch by `get_or_fetch` is open for the key, the call blocks until that fetch's task has ended.
+    ///
+    /// # Errors
+    /// F11 with the fault, for all who wait, if the closure fails. F9, F7 as `get`; F10, F7 on a miss; what the insert is
+    /// refused with (F7 to F10).
+    pub fn get_or_insert_with<F>(
+        &self,
+        now: u64,
+        key: &K,
+        make: F,
+    ) -> Result<RawCacheEntry<H, E, K, V, S, P, W, A, L, Q, T::Required, I>>
+    where
+        F: FnOnce() -> std::result::Result<V, Fault>,
+        requires clones { (k c : K) → K.is_clone k c → K.eq c k ≡ true }
+        requires callable { F.IsAlwaysCallable make }
+    {
+        let hash = self.hash(key);
+        if let Some(entry) = self.get_first(now, hash, key)? {
+            return Ok(entry);
+        }
+        let Asking {
+            shares,
+            task,
+            hash: _,
+            own,
+            notifier,
+            waiter,
+        } = self.asking(hash, key)?;
+        let shards = &self.shares.shared.shards;
+        match shards.get_or_enqueue(now, hash, key, None, notifier)? {
+            Lookup::Hit(core) => return Ok(shares.entry(core)),
+            Lookup::Wait { token: _ } => {}
+            Lookup::Lead {
+                fetch: id,
+                token: _,
+                required: _,
+            } => {
+                let fetch = Fetch {
+                    id,
+                    now,
+                    hash,
+                    time_to_live: self.time_to_live,
+                };
+                match make() {
+                    Ok(value) => task.complete(fetch, own, value, P::default(), Source::Outer),
+                    Err(fault) => task.fail(fetch, &own, fault),
+                }
+            }
+        }
+        waited(&shards.rt, RawWait::new(shares, waiter))
+    }
+}
+
+impl<H, E, K, V, S, P, W, A, L, Q, R, I> RawCache<H, E, K, V, S, P, W, A, L, Q, Direct<R>, I>
+where
+    H: Runtime,
+    E: Eviction,
+    K: Key,
+    V: Value,
+    S: HashBuilder,
+    P: Properties,
+    W: Weighter<K, V>,
+    A: Filter<K, V>,
+    L: EventListener<Key = K, Value = V>,
+    I: Finder<K>,
+    Q: Pipe<Key = K, Value = V, Properties = P>,
+    R: RequiredFetch<K, V, P>,
+{
+    /// Returns an entry of the key's record; if a `get` at this time finds none, fetches it as `get_or_fetch` does, drives the
+    /// fetch's task on this thread, and blocks until it is done. If another caller leads the fetch, the call blocks until that
+    /// caller's task has ended, and this future is dropped.
+    ///
+    /// # Errors
+    /// F11 with the fault if the fetch fails. F9, F7 as `get`; F10, F7 on a miss; what the insert is refused with (F7 to F10,
+    /// F12).
+    pub fn get_or_fetch_blocking(
+        &self,
+        now: u64,
+        key: &K,
+        fetch: R,
+    ) -> Result<RawCacheEntry<H, E, K, V, S, P, W, A, L, Q, Given<R>, I>>
+        requires clones { (k c : K) → K.is_clone k c → K.eq c k ≡ true }
+        requires future { R.can_poll fetch }
+    {
+        let shards = &self.shares.shared.shards;
+        let mut tasks = ListSpawner::new(shards.alloc);
+        let look = self.get_or_fetch(now, key, || fetch, &mut tasks)?;
+        if block_on(&shards.rt, AllTasks::new(tasks)).is_err() {
+            return Err(Error::new(Reason::NoMemory));
+        }
+        waited(&shards.rt, look)
+    }
+}
+
+// What a wait ends with. This thread is parked meanwhile.
+fn waited<H, X, F>(rt: &H, wait: F) -> Result<X>
+where
+    H: Runtime,
+    F: Future<Output = Result<Option<X>>>,
+    requires { F.can_poll wait }
+{
+    let Ok(answer) = block_on(rt, wait) else {
+        return Err(Error::new(Reason::NoMemory));
+    };
+    match answer? {
+        Some(entry) => Ok(entry),
+        None => Err(Error::new(Reason::NoValue)),
+    }
+}

@@ -1,0 +1,20 @@
+//! A cache's time to live.
+
+ghost use Rattle.std.specs.Prelude.{◌≡◌, IsSome, None};
+
+use foyer_policy::Properties;
+
+/// These properties, with an expiry at `now + time_to_live` (at most 2^64 - 1) if they have none of their own.
+#[inline(always)]
+pub(crate) fn expiring<P: Properties>(properties: P, now: u64, time_to_live: Option<u64>) -> P
+    ensures plain { time_to_live ≡ None → result ≡ properties }
+    ensures own { IsSome (P.expiry_of properties) → result ≡ properties }
+{
+    let Some(time_to_live) = time_to_live else {
+        return properties;
+    };
+    if properties.expiry().is_some() {
+        return properties;
+    }
+    properties.with_expiry(Some(now.saturating_add(time_to_live)))
+}

@@ -1,0 +1,79 @@
+//! Counts of what a shard's calls did.
+
+use super::{RawEnded, RawInserted, RawShard};
+use foyer_core::{Counted, Finder, Leave, Lookup, Outcome, Stats};
+use foyer_policy::{Eviction, Key, Properties, Result, Value};
+
+/// A shard, and the counts of what its calls did, under one lock.
+#[derive(Drop)]
+pub(crate) struct Counting<E: Eviction, K: Key, V: Value, P: Properties, R: Drop, I: Finder<K>> {
+    /// The shard.
+    pub(crate) shard: RawShard<E, K, V, P, R, I>,
+    /// The counts.
+    pub(crate) stats: Stats,
+}
+
+impl<E: Eviction, K: Key, V: Value, P: Properties, R: Drop, I: Finder<K>> Counting<E, K, V, P, R, I> {
+    // A shard of which nothing was counted yet.
+    pub(crate) fn new(shard: RawShard<E, K, V, P, R, I>) -> Self {
+        Counting {
+            shard,
+            stats: Stats::default(),
+        }
+    }
+
+    // Counts a look-up that may begin a fetch.
+    pub(crate) fn count_look_up<X>(&mut self, look: &Result<Lookup<K, V, P, X>>) {
+        match look {
+            Ok(Lookup::Hit(_)) => self.stats.count(Counted::Hit),
+            Ok(Lookup::Lead { .. }) => self.stats.count(Counted::Fetch),
+            Ok(Lookup::Wait { .. }) => self.stats.count(Counted::Wait),
+            Err(_) => {}
+        }
+    }
+
+    // Counts an insert at this time, and what left for it.
+    pub(crate) fn count_insert(
+        &mut self,
+        now: u64,
+        made: &Result<RawInserted<K, V, P>>,
+        leaves: &[Leave<K, V, P>],
+    ) {
+        match made {
+            Ok(made) => self.stats.count_insert(made.entry.properties()),
+            Err(_) => self.stats.count(Counted::Refused),
+        }
+        self.count_left(now, leaves);
+    }
+
+    // Counts the insert that a fetch ended with at this time, and what left for it.
+    pub(crate) fn count_ended(&mut self, now: u64, ended: &RawEnded<K, V, P>) {
+        if !ended.found {
+            return;
+        }
+        match &ended.answers.outcome {
+            Outcome::Entries(entries) => {
+                if let Some(entry) = entries.first() {
+                    self.stats.count_insert(entry.properties());
+                }
+            }
+            Outcome::Fault(_) => self.stats.count(Counted::Refused),
+            Outcome::None => {}
+        }
+        self.count_left(now, &ended.leaves);
+    }
+
+    // Counts what left at this time since so many records were in the list.
+    pub(crate) fn count_since(&mut self, now: u64, leaves: &[Leave<K, V, P>], told: usize) {
+        for (event, left) in leaves.iter().skip(told) {
+            self.stats.count_left(now, *event, left);
+        }
+    }
+
+    // Counts what left at this time.
+    pub(crate) fn count_left(&mut self, now: u64, leaves: &[Leave<K, V, P>]) {
+        for (event, left) in leaves {
+            self.stats.count_left(now, *event, left);
+        }
+    }
+}
