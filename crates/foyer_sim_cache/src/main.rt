@@ -1,4 +1,4 @@
-//! `foyer-sim --cache POLICY CAPACITY SHARDS`: carries out the lines of `foyer-sim` over a `Cache`, which stands behind
+//! `foyer-sim --cache [--stats] POLICY CAPACITY SHARDS`: carries out the lines of `foyer-sim` over a `Cache`, which stands behind
 //! locks, and prints what `foyer-sim` prints for them. Given the word `threads`
 //! alone it lets threads fill caches. It is a program for tests.
 #![tactic(auto)]
@@ -43,7 +43,8 @@ fn run<H: Wait + Threads + Send + Sync + Copy + Drop>(
     if words.len() == 1 && words[0].as_str() == "threads" {
         return of_threads(rt, handle);
     }
-    let args = sim_args(words.as_slice()).ok_or(Failure::Arguments)?;
+    let shows_stats = words.first().is_some_and(|word| word.as_str() == "--stats");
+    let args = sim_args(&words[usize::from(shows_stats)..]).ok_or(Failure::Arguments)?;
     let config = config_of(args.policy);
     let mut runner = Runner::new(*rt, handle, args.capacity, args.shards, config)?;
     let mut reader = BufReader::with_capacity(rt.alloc(), BUFFER, rt.stdin()).map_err(
@@ -62,6 +63,11 @@ fn run<H: Wait + Threads + Send + Sync + Copy + Drop>(
         let (count, first) = (bad.count, bad.first);
         // The replies say it where standard error can't.
         let _ = eprintln!(rt; "foyer-sim: bad lines: {count}, the first of them line {first}");
+    }
+    if shows_stats {
+        for (name, count) in runner.stats().named() {
+            let _ = eprintln!(rt; "{name} {count}");
+        }
     }
     match done {
         Ok(()) => flushed.map_err(Failure::Writing),
