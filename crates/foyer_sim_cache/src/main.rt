@@ -115,6 +115,7 @@ fn config_of(policy: SimPolicy) -> EvictionConfig {
 }
 
 // How many lines were bad, and the number of the first, from 1.
+#[derive(Drop)]
 struct Bad {
     count: u64,
     first: u64,
