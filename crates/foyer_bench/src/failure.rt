@@ -5,22 +5,22 @@ use std::alloc::{AllocError, AllocFailed};
 use std::io;
 
 /// Why the program ends before it is done.
-#[derive(Clone, Copy, Debug, PartialEq, Eq)]
+#[derive(Debug, Drop)]
 pub enum Failure {
     /// Bad arguments.
     Arguments,
     /// Memory is missing.
     Memory,
-    /// The clock or standard output failed.
-    InputOrOutput,
+    /// The clock or standard output failed, for the system's reason.
+    InputOrOutput(io::Error),
 }
 
 impl Failure {
     /// The status that the program ends with.
-    pub fn status(self) -> u8 {
+    pub fn status(&self) -> u8 {
         match self {
             Failure::Arguments => 2,
-            Failure::Memory | Failure::InputOrOutput => 1,
+            Failure::Memory | Failure::InputOrOutput(_) => 1,
         }
     }
 }
@@ -38,8 +38,8 @@ impl<T: Drop> From<AllocFailed<T>> for Failure {
 }
 
 impl From<io::Error> for Failure {
-    fn from(_error: io::Error) -> Failure {
-        Failure::InputOrOutput
+    fn from(error: io::Error) -> Failure {
+        Failure::InputOrOutput(error)
     }
 }
 

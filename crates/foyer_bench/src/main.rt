@@ -76,10 +76,12 @@ fn answer<R: AllocGlobal + Clock + Print + Eprint + Threads + Wait + Sync>(
 // Says on standard error why the program ends, and how it is called where its arguments are bad.
 fn fail<R: Eprint>(rt: &R, failure: Failure, locked: &str) -> ExitCode {
     // The status says it where standard error can't.
-    let _ = match failure {
+    let _ = match &failure {
         Failure::Arguments => eprintln!(rt; "usage: foyer-bench {locked}{WORDS}"),
         Failure::Memory => eprintln!(rt; "foyer-bench: out of memory"),
-        Failure::InputOrOutput => eprintln!(rt; "foyer-bench: input or output failed"),
+        Failure::InputOrOutput(error) => {
+            eprintln!(rt; "foyer-bench: input or output failed: {error}")
+        }
     };
     ExitCode::from(failure.status())
 }

@@ -1,5 +1,5 @@
 -- What counts come to.
-use Rattle.std.specs.Prelude.{ℕ, ◌+◌, ◌%◌, ◌^◌, Bool, true, false, if◌then◌else◌}
+use Rattle.std.specs.Prelude.{ℕ, List, [], ◌∷◌, ◌+◌, ◌%◌, ◌^◌, Bool, true, false, if◌then◌else◌}
 use Rattle.foyer_policy.specs.declared.types.Event.{Event}
 use Rattle.foyer_policy.specs.declared.types.Event.TheVariants.{Evict, Replace, Remove, Clear}
 use Rattle.foyer_core.specs.declared.stats.Stats.{Stats}
@@ -38,6 +38,11 @@ plain_left_counted _ Clear s = record s { cleared = next s.cleared }
 -- the counts after a record left, a phantom or not, that was expired or not
 abbrev pub left_counted : Bool → Bool → Event → Stats → Stats
 left_counted phantom expired event s = if phantom then s else plain_left_counted expired event s
+
+-- the counts, in the order of the fields
+abbrev pub counts_of : Stats → List ℕ
+counts_of s = s.hits ∷ s.misses ∷ s.inserts ∷ s.evictions ∷ s.expired ∷ s.replaced ∷ s.removed ∷ s.cleared ∷ s.fetches
+    ∷ s.waits ∷ s.refused ∷ []
 
 -- the sums of counts
 abbrev pub sum : Stats → Stats → Stats

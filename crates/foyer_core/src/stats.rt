@@ -1,6 +1,6 @@
 //! Counts of what the calls of a cache came to.
 
-ghost use Rattle.std.specs.Prelude.{◌≡◌};
+ghost use Rattle.std.specs.Prelude.{◌≡◌, map};
 ghost use Rattle.foyer_policy.specs.Moments.{is_expired};
 ghost use Rattle.foyer_policy.specs.Properties.{is_phantom};
 ghost use Rattle.foyer_core.specs.Stats.{next};
@@ -58,7 +58,7 @@ pub enum Counted {
 }
 
 impl Stats {
-    ghost use Rattle.foyer_core.specs.Stats.{counted, insert_counted, left_counted, sum};
+    ghost use Rattle.foyer_core.specs.Stats.{counted, counts_of, insert_counted, left_counted, sum};
 
     /// Counts a call.
     #[inline(always)]
@@ -110,6 +110,25 @@ impl Stats {
             Event::Remove => add_one(&mut self.removed),
             Event::Clear => add_one(&mut self.cleared),
         }
+    }
+
+    /// Returns each count with its name, in the order of the fields.
+    pub fn named(&self) -> [(&'static str, u64); 11]
+        ensures { map (λ named. named.1) result ≡ counts_of self.now }
+    {
+        [
+            ("hits", self.hits),
+            ("misses", self.misses),
+            ("inserts", self.inserts),
+            ("evictions", self.evictions),
+            ("expired", self.expired),
+            ("replaced", self.replaced),
+            ("removed", self.removed),
+            ("cleared", self.cleared),
+            ("fetches", self.fetches),
+            ("waits", self.waits),
+            ("refused", self.refused),
+        ]
     }
 
     /// Adds the counts of others to these.

@@ -2,6 +2,7 @@
 
 use crate::sessions::{Simulated, empty};
 use crate::word::Shown;
+use foyer_core::Stats;
 use foyer_policy::{AnyEviction, Eviction, EvictionConfig};
 use foyer_session::simulate;
 use std::alloc::Global;
@@ -72,7 +73,7 @@ where
 
 fn run(session: &mut Simulated<AnyEviction>, written: &mut Vec<u8>) -> Shown {
     let mut lines = LINES;
-    if simulate(&mut lines, written, session).is_err() {
+    if simulate(&mut lines, written, session, &mut Stats::default()).is_err() {
         return Shown::Wrong("the run");
     }
     if written.as_slice() == REPLIES {

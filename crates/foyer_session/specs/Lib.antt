@@ -1,6 +1,7 @@
 pub mod Alike
 pub mod Answering
 pub mod Args
+pub mod Counting
 pub mod Kept
 pub mod Ledger
 pub mod Observed

@@ -8,7 +8,7 @@ ghost use Rattle.foyer_session.specs.Told.{TellsAll, TellsPart};
 
 use crate::session::Session;
 use crate::text::Lines;
-use foyer_core::{AdmitAll, CacheProperties, Finder, TagFinder};
+use foyer_core::{AdmitAll, CacheProperties, Finder, Stats, TagFinder};
 use foyer_policy::{AnyEviction, HashBuilder};
 use std::io;
 use std::io::{BufRead, ErrorKind, Write};
@@ -34,8 +34,8 @@ pub type SimSession<S, I = TagFinder<u64>> = Session<
     I,
 >;
 
-/// Carries out each line of a reader as a command, until the end of the input, and writes its reply, the removals,
-/// the usage and the entries.
+/// Carries out each line of a reader as a command, until the end of the input, counts it, and writes its reply, the
+/// removals, the usage and the entries.
 ///
 /// If a command fails, its reply says so, and the next line is carried out. The line `at N` sets the time of the
 /// lines after it, which is 0 at the start and may go back. The output is flushed before each read that may wait.
@@ -47,6 +47,7 @@ pub fn simulate<R: BufRead, W: Write, S: HashBuilder, I: Finder<u64>>(
     reader: &mut R,
     writer: &mut W,
     session: &mut SimSession<S, I>,
+    stats: &mut Stats,
 ) -> io::Result<()>
     ensures all { OnOk result ((last : ℕ) × TellsAll (LineTold (meaning_of_session session.old) (λ builder key. S.hash_of builder (u64_input key)))
         (record { now = 0; session = session_of session.old }) (record { now = last; session = session_of session.new }) (R.remaining reader.old) (W.contents writer.old) (W.contents writer.new)) }
@@ -60,7 +61,7 @@ pub fn simulate<R: BufRead, W: Write, S: HashBuilder, I: Finder<u64>>(
         let Some(line) = lines.read(reader, writer)? else {
             return Ok(());
         };
-        tell::tell(writer, session, &mut moment, line)?;
+        tell::tell(writer, session, &mut moment, stats, line)?;
     }
     Err(io::Error::from(ErrorKind::Other))
 }

@@ -2,6 +2,7 @@
 
 use crate::sim::{PRINTED, SCRIPT, session_of_two};
 use crate::streams::{Parts, Slow};
+use foyer_core::Stats;
 use foyer_session::simulate;
 use foyer_session::text::{flush_out, write_number, write_out};
 use std::alloc::Global;
@@ -18,7 +19,12 @@ fn run_with_failed_read(alloc: Global, at: u64, kind: ErrorKind) -> Result<Run, 
     reader.kind = kind;
     let mut written = Vec::new(alloc);
     let mut session = session_of_two(alloc)?;
-    let ended = simulate(&mut reader, &mut written, &mut session);
+    let ended = simulate(
+        &mut reader,
+        &mut written,
+        &mut session,
+        &mut Stats::default(),
+    );
     Ok((written, ended.map_err(|e| e.kind())))
 }
 
@@ -29,7 +35,7 @@ fn run_with_failed_write(alloc: Global, at: u64, kind: ErrorKind) -> Result<Run,
     writer.fails_at = at;
     writer.kind = kind;
     let mut session = session_of_two(alloc)?;
-    let ended = simulate(&mut lines, &mut writer, &mut session);
+    let ended = simulate(&mut lines, &mut writer, &mut session, &mut Stats::default());
     Ok((writer.taken, ended.map_err(|e| e.kind())))
 }
 

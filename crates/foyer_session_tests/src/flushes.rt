@@ -2,6 +2,7 @@
 
 use crate::sim::session_of_two;
 use crate::streams::{Parts, Slow};
+use foyer_core::Stats;
 use foyer_session::simulate;
 use std::alloc::Global;
 use std::io::{BufRead, BufReader, ErrorKind};
@@ -16,7 +17,7 @@ const ENDS: [usize; 4] = [0, 27, 54, 82];
 fn flushes<R: BufRead>(alloc: Global, reader: &mut R) -> Result<Vec<usize>, Fail> {
     let mut writer = Slow::new(alloc, usize::MAX);
     let mut session = session_of_two(alloc)?;
-    simulate(reader, &mut writer, &mut session)?;
+    simulate(reader, &mut writer, &mut session, &mut Stats::default())?;
     Ok(writer.handed)
 }
 
@@ -54,7 +55,12 @@ fn run_with_failed_flush(
     writer.flush_fails_at = at;
     writer.kind = kind;
     let mut session = session_of_two(alloc)?;
-    let ended = simulate(&mut reader, &mut writer, &mut session);
+    let ended = simulate(
+        &mut reader,
+        &mut writer,
+        &mut session,
+        &mut Stats::default(),
+    );
     Ok(ended.map_err(|e| e.kind()))
 }
 

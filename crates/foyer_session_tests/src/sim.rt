@@ -1,7 +1,7 @@
 //! Texts that a script of the program can't bring about, or that no contract makes sure of.
 
 use crate::streams::Parts;
-use foyer_core::{AdmitAll, CacheCore, CacheProperties, Limits, RawCacheConfig};
+use foyer_core::{AdmitAll, CacheCore, CacheProperties, Limits, RawCacheConfig, Stats};
 use foyer_policy::{EvictionConfig, ModHasher};
 use foyer_session::sim::write_answer;
 use foyer_session::{
@@ -47,7 +47,12 @@ fn assert_prints<R: BufRead + Drop>(
     wanted: &[u8],
 ) -> Result<(), Fail> {
     let mut written = Vec::new(alloc);
-    simulate(&mut lines, &mut written, &mut session)?;
+    simulate(
+        &mut lines,
+        &mut written,
+        &mut session,
+        &mut Stats::default(),
+    )?;
     assert_eq!(rt; written.as_slice(), wanted);
     Ok(())
 }
@@ -66,6 +71,59 @@ ok | evict 1=100 | usage 1 entries 1
 not held | - | usage 1 entries 1
 bad line | - | usage 1 entries 1
 ";
+
+// Two records have room in the order of arrival. At 9 the record of the key 3, which came in last and expires at 9,
+// is evicted first.
+#[test]
+fn lines_are_counted(rt: HostRuntime) -> Result<(), Fail> {
+    let mut lines =
+        b"insert 1 10\ninsert 2 20\ninsert 2 21\nget 2\nget 1\ntouch 2\ntouch 7\ncontains 2\nphantom 5 50\n\
+insert 3 30 1 9\nat 9\nget 3\ninsert 4 40\nfetch 4\nfetch 6\nfetch 6\nfetch 6\ndone 6 0 60\nremove 6\ninsert 8 80\nclear\n\
+fetch 9\ncancel 9 1\ndone 9 1 90\ndrop 0\nsteal 1\n"
+            .as_slice();
+    let mut session = session_of_two(rt.alloc())?;
+    let mut stats = Stats::default();
+    let mut written = Vec::new(rt.alloc());
+    simulate(&mut lines, &mut written, &mut session, &mut stats)?;
+    let counts = Stats {
+        hits: 3,
+        misses: 7,
+        inserts: 7,
+        evictions: 3,
+        expired: 1,
+        replaced: 1,
+        removed: 1,
+        cleared: 2,
+        fetches: 2,
+        waits: 2,
+        refused: 0,
+    };
+    assert!(rt; stats == counts, "{stats:?}");
+    Ok(())
+}
+
+// The third handle would pass the limit of two, and the fourth id that of three.
+#[test]
+fn refused_inserts_are_counted(rt: HostRuntime) -> Result<(), Fail> {
+    let limits = Limits { handles: 2, ids: 3 };
+    let mut lines =
+        b"insert 1 10\nget 1\nget 1\nfetch 2\nfetch 2\nfetch 2\ndone 2 0 20\ninsert 3 30\ninsert 4 40\ninsert 5 50\n".as_slice();
+    let mut session = session_under(rt.alloc(), SimPolicy::Fifo, 9, 1, limits)?;
+    let mut stats = Stats::default();
+    let mut written = Vec::new(rt.alloc());
+    simulate(&mut lines, &mut written, &mut session, &mut stats)?;
+    let counts = Stats {
+        hits: 1,
+        misses: 3,
+        inserts: 3,
+        fetches: 1,
+        waits: 2,
+        refused: 2,
+        ..Stats::default()
+    };
+    assert!(rt; stats == counts, "{stats:?}");
+    Ok(())
+}
 
 #[test]
 fn lines_may_come_in_parts_of_any_length(rt: HostRuntime) -> Result<(), Fail> {

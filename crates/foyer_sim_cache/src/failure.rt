@@ -29,7 +29,9 @@ impl Failure {
     /// Says on standard error what failed, as `foyer-sim` does.
     pub fn print(&self, rt: &HostRuntime) -> io::Result<()> {
         match self {
-            Failure::Arguments => eprintln!(rt; "usage: foyer-sim POLICY CAPACITY SHARDS"),
+            Failure::Arguments => eprintln!(rt;
+                "usage: foyer-sim --cache [--stats] POLICY CAPACITY SHARDS"
+            ),
             Failure::Memory => eprintln!(rt; "foyer-sim: out of memory"),
             Failure::Reading(error) => {
                 eprintln!(rt; "foyer-sim: input or output failed")?;

@@ -1,11 +1,11 @@
-//! `foyer-sim --cache POLICY CAPACITY SHARDS`: carries out the lines of `foyer-sim` over a `Cache`, which stands behind
+//! `foyer-sim --cache [--stats] POLICY CAPACITY SHARDS`: carries out the lines of `foyer-sim` over a `Cache`, which stands behind
 //! locks, and prints what `foyer-sim` prints for them. Given the word `threads`
 //! alone it lets threads fill caches. It is a program for tests.
 #![tactic(auto)]
 
 use failure::Failure;
 use foyer_memory::{EvictionConfig, FifoConfig, LfuConfig, LruConfig, S3FifoConfig, SieveConfig};
-use foyer_session::text::{Lines, Watched};
+use foyer_session::text::{Line, Lines, Watched};
 use foyer_session::{SimPolicy, sim_args};
 use runner::Runner;
 use std::io::{BufRead, BufReader, BufWriter, ErrorKind, Write};
@@ -43,7 +43,8 @@ fn run<H: Wait + Threads + Send + Sync + Copy + Drop>(
     if words.len() == 1 && words[0].as_str() == "threads" {
         return of_threads(rt, handle);
     }
-    let args = sim_args(words.as_slice()).ok_or(Failure::Arguments)?;
+    let shows_stats = words.first().is_some_and(|word| word.as_str() == "--stats");
+    let args = sim_args(&words[usize::from(shows_stats)..]).ok_or(Failure::Arguments)?;
     let config = config_of(args.policy);
     let mut runner = Runner::new(*rt, handle, args.capacity, args.shards, config)?;
     let mut reader = BufReader::with_capacity(rt.alloc(), BUFFER, rt.stdin()).map_err(
@@ -54,9 +55,20 @@ fn run<H: Wait + Threads + Send + Sync + Copy + Drop>(
         BUFFER,
         Watched::new(rt.stdout()),
     ).map_err(|_| Failure::Memory)?;
-    let done = carry_out_all(&mut reader, &mut writer, &mut runner);
+    let mut bad = Bad { count: 0, first: 0 };
+    let done = carry_out_all(&mut reader, &mut writer, &mut runner, &mut bad);
     let has_failed = writer.get_ref().has_failed();
     let flushed = writer.flush();
+    if bad.count > 0 {
+        let (count, first) = (bad.count, bad.first);
+        // The replies say it where standard error can't.
+        let _ = eprintln!(rt; "foyer-sim: bad lines: {count}, the first of them line {first}");
+    }
+    if shows_stats {
+        for (name, count) in runner.stats().named() {
+            let _ = eprintln!(rt; "{name} {count}");
+        }
+    }
     match done {
         Ok(()) => flushed.map_err(Failure::Writing),
         // A read hands on first what was written.
@@ -102,17 +114,29 @@ fn config_of(policy: SimPolicy) -> EvictionConfig {
     }
 }
 
+// How many lines were bad, and the number of the first, from 1.
+#[derive(Drop)]
+struct Bad {
+    count: u64,
+    first: u64,
+}
+
 // Carries out each line, and writes what is printed for it.
 fn carry_out_all<R: BufRead, W: Write, H: Wait + Drop>(
     reader: &mut R,
     writer: &mut W,
     runner: &mut Runner<H>,
+    bad: &mut Bad,
 ) -> Result<(), Failure> {
     let mut lines = Lines::new();
-    for _turn in 0..u64::MAX {
+    for number in 1..=u64::MAX {
         let Some(line) = lines.read(reader, writer).map_err(Failure::Reading)? else {
             return Ok(());
         };
+        if line == Line::Bad {
+            bad.first = if bad.count == 0 { number } else { bad.first };
+            bad.count += 1;
+        }
         if let Some(told) = runner.carry_out(line)? {
             runner.write(writer, &told).map_err(Failure::Writing)?;
         }

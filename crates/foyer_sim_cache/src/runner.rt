@@ -6,7 +6,7 @@ use crate::fetch::Promise;
 use crate::heard::{Ear, Heard};
 use crate::told::{Told, write_rest, write_told};
 use foyer_core::CacheProperties;
-use foyer_memory::{CacheBuilder, EvictionConfig, LruConfig};
+use foyer_memory::{CacheBuilder, EvictionConfig, LruConfig, Stats};
 use foyer_policy::{ModHasher, Properties};
 use foyer_session::text::Line;
 use foyer_session::{Answer, SimValue, SimWeighter};
@@ -153,6 +153,11 @@ impl<H: Wait + Drop> Runner<H> {
             self.cache.usage(),
             self.cache.entries(),
         )
+    }
+
+    /// What the cache has counted.
+    pub fn stats(&self) -> Stats {
+        self.cache.stats()
     }
 
     // Puts a value in. Those who waited for the key get their handles first.

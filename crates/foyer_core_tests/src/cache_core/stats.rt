@@ -2,6 +2,7 @@
 
 use super::*;
 use foyer_core::{Counted, Stats};
+use std::fmt::Write;
 
 // Counts what left at a moment.
 fn count_leaves(stats: &mut Stats, now: u64, leaves: &Leaves) {
@@ -160,4 +161,16 @@ fn counts_are_added_and_go_on_from_0(rt: HostRuntime) {
     assert!(rt; stats == sums, "{stats:?}");
     stats.count(Counted::Insert);
     assert_eq!(rt; stats.inserts, 0);
+}
+
+#[test]
+fn each_count_has_its_name(rt: HostRuntime) -> Done {
+    let mut text = String::new(rt.alloc());
+    for (name, count) in from(1).named() {
+        write!(text, "{name} {count} ")?;
+    }
+    let wanted =
+        "hits 1 misses 2 inserts 3 evictions 4 expired 5 replaced 6 removed 7 cleared 8 fetches 9 waits 10 refused 11 ";
+    assert_eq!(rt; text.as_str(), wanted);
+    Ok(())
 }

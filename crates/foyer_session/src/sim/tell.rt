@@ -17,9 +17,10 @@ use super::SimSession;
 use super::reply::{write_answer, write_refusal, write_rest};
 use super::value::SimValue;
 use crate::command::{Command, End, Reply};
+use crate::counting::Counting;
 use crate::predicate::NoPredicate;
 use crate::text::{Line, write_out};
-use foyer_core::{CacheProperties, Finder};
+use foyer_core::{CacheProperties, Finder, Stats};
 use foyer_policy::{Error, EvictionConfig, HashBuilder, LruConfig, Properties, Ratio, Source};
 use std::io;
 use std::io::Write;
@@ -39,11 +40,12 @@ pub enum Asked {
     Carry(SimCommand),
 }
 
-/// Carries out a line at the current time, which it may set, and writes its text.
+/// Carries out a line at the current time, which it may set, counts it, and writes its text.
 pub fn tell<W: Write, S: HashBuilder, I: Finder<u64>>(
     writer: &mut W,
     session: &mut SimSession<S, I>,
     now: &mut u64,
+    stats: &mut Stats,
     line: Line,
 ) -> io::Result<()>
     ensures { (text : List ℕ)
@@ -59,7 +61,7 @@ pub fn tell<W: Write, S: HashBuilder, I: Finder<u64>>(
             *now = moment;
             tell_words(writer, session, b"ok")
         }
-        Asked::Carry(command) => tell_command(writer, session, command),
+        Asked::Carry(command) => tell_command(writer, session, *now, stats, command),
     }
 }
 
@@ -134,10 +136,12 @@ fn completion(now: u64, key: u64, fetch: u64, value: u64) -> SimCommand
     )
 }
 
-// Carries out a command. If memory ran out before it, nothing has changed.
+// Carries out a command at this time, and counts it. If memory ran out before it, nothing has changed.
 fn tell_command<W: Write, S: HashBuilder, I: Finder<u64>>(
     writer: &mut W,
     session: &mut SimSession<S, I>,
+    now: u64,
+    stats: &mut Stats,
     command: SimCommand,
 ) -> io::Result<()>
     ensures { (text : List ℕ)
@@ -145,7 +149,9 @@ fn tell_command<W: Write, S: HashBuilder, I: Finder<u64>>(
         (session_of session.old) command text (session_of session.new)
         × WritesText (W.contents writer.old) (W.contents writer.new) result text }
 {
+    let counting = Counting::of(&command);
     let stepped = session.step(command);
+    counting.count(stats, now, &stepped);
     let usage = session.usage();
     let entries = session.entries();
     match stepped {
