@@ -3,7 +3,7 @@
 use crate::case::{Outcome, Runtime};
 use crate::heard::{Ear, Heard, Tube};
 use foyer_core::{AdmitAll, CacheProperties, FetchTarget, Weighter};
-use foyer_memory::{Cache, CacheBuilder, CacheEntry, EvictionConfig, FetchTask, GetOrFetch};
+use foyer_memory::{Cache as CacheOf, CacheBuilder, CacheEntry, EvictionConfig, FetchTask};
 use foyer_policy::{Fault, ModHasher, Result};
 use foyer_raw::{Direct, Spawner};
 use futures::Future;
@@ -83,7 +83,7 @@ pub fn target(value: u64) -> FetchTarget<u64, u64, CacheProperties> {
 }
 
 /// Such a cache.
-pub type Sized<H> = Cache<
+pub type Cache<H> = CacheOf<
     H,
     u64,
     u64,
@@ -98,20 +98,6 @@ pub type Sized<H> = Cache<
 
 /// An entry of it.
 pub type Entry<H> = CacheEntry<
-    H,
-    u64,
-    u64,
-    Seeded,
-    CacheProperties,
-    ByValue,
-    AdmitAll,
-    Ear,
-    Tube,
-    Direct<Fetch>,
->;
-
-/// A look-up in it.
-pub type Look<H> = GetOrFetch<
     H,
     u64,
     u64,
@@ -145,8 +131,8 @@ pub fn cache<H: Runtime>(
     shards: usize,
     config: EvictionConfig,
     heard: &Heard,
-) -> Outcome<Sized<H>> {
-    let made: Sized<H> = CacheBuilder::new(capacity)
+) -> Outcome<Cache<H>> {
+    let made: Cache<H> = CacheBuilder::new(capacity)
         .with_shards(shards)
         .with_eviction_config(config)
         .with_hash_builder(Seeded { seed: SEED })
@@ -158,7 +144,7 @@ pub fn cache<H: Runtime>(
 }
 
 /// Puts the keys below a number in, each of weight 1.
-pub fn fill<H: Runtime>(cache: &Sized<H>, keys: u64) -> Outcome {
+pub fn fill<H: Runtime>(cache: &Cache<H>, keys: u64) -> Outcome {
     for key in 0..keys {
         drop(cache.insert(0, key, 1)?);
     }

@@ -2,7 +2,7 @@
 
 use crate::cache::{ByValue, Fetch, SEED, Seeded};
 use crate::case::{Cases, Failure, Outcome, Runtime, same};
-use crate::records::NOW;
+use crate::moments::NOW;
 use foyer_core::{AdmitAll, CacheCore, CacheProperties, Inserted, Leave, Limits, RawCacheConfig};
 use foyer_memory::EvictionConfig;
 use foyer_policy::AnyEviction;

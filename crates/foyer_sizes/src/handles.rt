@@ -1,12 +1,12 @@
 //! Thousands of handles of one record, and of those who wait for one.
 
-use crate::cache::{Entry, Fetch, Led, Sized, cache, fill, target};
+use crate::cache::{Cache, Entry, Fetch, Led, cache, target};
+use crate::calls::at_once;
 use crate::case::{Cases, Failure, Outcome, Runtime, same};
 use crate::heard::{Heard, Told};
 use foyer_core::CacheProperties;
 use foyer_memory::{EvictionConfig, LruConfig};
 use foyer_policy::Properties;
-use futures::future::FutureExt;
 
 // More than 2^16.
 const HANDLES: usize = 70_000;
@@ -37,7 +37,7 @@ pub fn run<H: Runtime>(cases: &mut Cases<H>) -> Outcome {
 }
 
 // As many handles of the record of an entry, each by a get or a clone.
-fn more<H: Runtime>(rt: H, cache: &Sized<H>, entry: &Entry<H>) -> Outcome<Vec<Entry<H>>> {
+fn more<H: Runtime>(rt: H, cache: &Cache<H>, entry: &Entry<H>) -> Outcome<Vec<Entry<H>>> {
     let mut entries = Vec::new(rt.alloc());
     while entries.len() < HANDLES {
         entries.push(entry.try_clone()?)?;
@@ -102,7 +102,6 @@ fn keeps_its_pin<H: Runtime>(rt: H) -> Outcome {
     }
     same(rt, "is pinned", &cache.contains(0, &KEY), &true)?;
     drop(first);
-    fill(&cache, KEY)?;
     for key in 300..500 {
         drop(cache.insert(0, key, 1)?);
     }
@@ -121,7 +120,7 @@ fn answers_each<H: Runtime>(rt: H, config: EvictionConfig, is_fetched: bool) -> 
     }
     let task = led.task.ok_or(Failure::Differs)?;
     if is_fetched {
-        task.now_or_never(&rt)?.ok_or(Failure::Differs)?;
+        at_once(rt, task)?;
     } else {
         drop(cache.insert(0, KEY, 1)?);
         drop(task);
@@ -130,10 +129,7 @@ fn answers_each<H: Runtime>(rt: H, config: EvictionConfig, is_fetched: bool) -> 
     same(rt, "handles", &first.refs(), &(HANDLES + 1))?;
     let half = HANDLES / 2;
     for look in looks.drain(half..) {
-        match look.now_or_never(&rt)? {
-            Some(entry) => same(rt, "value", &*entry?, &1)?,
-            None => return same(rt, "is answered", &false, &true),
-        }
+        same(rt, "value", &*at_once(rt, look)??, &1)?;
     }
     same(rt, "handles", &first.refs(), &(half + 1))?;
     drop(looks);

@@ -57,6 +57,8 @@ struct Tally {
     removed: AtomicU64,
     cleared: AtomicU64,
     pieces: AtomicU64,
+    // When it was told last, by the number of what was told.
+    turn: AtomicU64,
 }
 
 impl Tally {
@@ -67,20 +69,31 @@ impl Tally {
             removed: AtomicU64::new(0),
             cleared: AtomicU64::new(0),
             pieces: AtomicU64::new(0),
+            turn: AtomicU64::new(u64::MAX),
         }
     }
 }
 
+// How often each key was told, and how much was told together.
+#[derive(Drop)]
+struct Tallies {
+    keys: Vec<Tally>,
+    turns: AtomicU64,
+}
+
 /// How often each key was told, for all who have a share of it.
 #[derive(Drop)]
-pub struct Heard(Arc<Vec<Tally>, Global>);
+pub struct Heard(Arc<Tallies, Global>);
 
 impl Heard {
     /// Nothing was told yet of the keys below this number. Of others nothing is counted.
     pub fn new(alloc: Global, keys: u64) -> Result<Self, AllocError> {
-        let mut tallies = Vec::new(alloc);
+        let mut tallies = Tallies {
+            keys: Vec::new(alloc),
+            turns: AtomicU64::new(0),
+        };
         for _ in 0..keys {
-            tallies.push(Tally::new()).map_err(|_| AllocError)?;
+            tallies.keys.push(Tally::new()).map_err(|_| AllocError)?;
         }
         Ok(Heard(Arc::new(alloc, tallies).map_err(|_| AllocError)?))
     }
@@ -93,13 +106,16 @@ impl Heard {
     /// What was told since this was asked last.
     pub fn take(&self) -> Told {
         let mut told = Told::default();
-        for tally in self.0.iter() {
+        self.0.turns.store(0, Ordering::SeqCst);
+        for tally in self.0.keys.iter() {
+            tally.turn.store(u64::MAX, Ordering::SeqCst);
             let Tally {
                 evicted,
                 replaced,
                 removed,
                 cleared,
                 pieces,
+                turn: _,
             } = tally;
             for (count, keys) in [
                 (evicted, &mut told.evicted),
@@ -116,8 +132,26 @@ impl Heard {
         told
     }
 
+    /// How many even keys left before the first odd one.
+    pub fn evens_first(&self) -> u64 {
+        let turn = |key: &usize| match self.0.keys.get(*key) {
+            Some(tally) => tally.turn.load(Ordering::SeqCst),
+            None => u64::MAX,
+        };
+        let keys = self.0.keys.len();
+        let first_odd = (1..keys)
+            .step_by(2)
+            .map(|key| turn(&key))
+            .min()
+            .unwrap_or(u64::MAX);
+        (0..keys)
+            .step_by(2)
+            .filter(|key| turn(key) < first_odd)
+            .count() as u64
+    }
+
     fn of(&self, key: u64) -> Option<&Tally> {
-        self.0.get(key as usize)
+        self.0.keys.get(key as usize)
     }
 
     fn piece(&self, key: u64) {
@@ -147,6 +181,8 @@ impl EventListener for Ear {
             Event::Clear => &tally.cleared,
         };
         count.fetch_add(1, Ordering::SeqCst);
+        let turn = self.0.0.turns.fetch_add(1, Ordering::SeqCst);
+        tally.turn.store(turn, Ordering::SeqCst);
     }
 }
 

@@ -7,12 +7,14 @@
 #![tactic(auto)]
 
 mod cache;
+mod calls;
 mod case;
 mod cores;
 mod departures;
 mod handles;
 mod hashes;
 mod heard;
+mod moments;
 mod records;
 mod shards;
 mod waits;
@@ -31,6 +33,7 @@ fn main(rt: HostRuntime) -> ExitCode {
 
 fn run<H: Runtime>(cases: &mut Cases<H>) -> Outcome {
     weights::run(cases)?;
+    moments::run(cases)?;
     records::run(cases)?;
     handles::run(cases)?;
     departures::run(cases)?;

@@ -3,13 +3,11 @@
 use crate::cache::{cache, fill};
 use crate::case::{Cases, Outcome, Runtime, same};
 use crate::heard::{Heard, Told};
+use crate::moments::NOW;
 use foyer_core::CacheProperties;
 use foyer_memory::EvictionConfig;
 
 const RECORDS: u64 = 200_000;
-
-/// A moment in November 2026. Its lower 32 bits are 0, so that the moment before it differs from it in all of them.
-pub const NOW: u64 = 418_000_000 << 32;
 
 pub fn run<H: Runtime>(cases: &mut Cases<H>) -> Outcome {
     let rt = cases.rt;

@@ -1,6 +1,6 @@
 //! Threads that sleep until a fetch ends: none is polled meanwhile.
 
-use crate::cache::{Fetch, Led, Sized, cache};
+use crate::cache::{Cache, Fetch, Led, cache};
 use crate::case::{Cases, Failure, Outcome, Runtime, same};
 use crate::heard::Heard;
 use foyer_memory::EvictionConfig;
@@ -49,13 +49,13 @@ impl<F: Future> Future for Counted<F> {
     }
 }
 
-// Waits until both were polled, ten seconds at most, and then so long that they are asleep. How often they were polled.
+// Waits until both were polled, a minute at most, and then so long that they are asleep. How often they were polled.
 fn asleep<H: Runtime>(rt: &H, polls: &[&Polls; 2]) -> [u64; 2] {
     let seen = || [
         polls[0].load(Ordering::SeqCst),
         polls[1].load(Ordering::SeqCst),
     ];
-    for _ in 0..10_000u64 {
+    for _ in 0..60_000u64 {
         if seen()[0] > 0 && seen()[1] > 0 {
             break;
         }
