@@ -11,8 +11,9 @@ use std::alloc::Global;
 use std::random::RandomSource;
 use std::sync::Wait;
 
-/// When records expire that do.
-const EXPIRY: u64 = 10;
+/// When records expire that do: nanoseconds since 1970, in November 2026. The lower 32 bits are 0, so that the moment
+/// before it differs from it in all of them.
+const EXPIRY: u64 = 418_000_000 << 32;
 
 /// The last moment before that.
 const BEFORE: u64 = EXPIRY - 1;

@@ -23,3 +23,5 @@ mod policies;
 mod sketch;
 #[cfg(test)]
 mod victims;
+#[cfg(test)]
+mod weights;

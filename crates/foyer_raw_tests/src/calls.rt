@@ -14,7 +14,7 @@ fn an_entry_is_found(rt: HostRuntime) -> Outcome {
     let (cache, _notes) = heard(rt, fifo(4, 2))?;
     let entry = cache.insert(0, 7, 70)?;
     assert_eq!(rt; (entry.source(), entry.weight()), (Source::Outer, 1));
-    assert_eq!(rt; entry.hash(), cache.hash(&7));
+    assert_eq!(rt; (entry.hash(), cache.hash(&7)), (7, 7));
     let found = cache.get(0, &7)?.ok_or("none")?;
     assert_eq!(rt; (*found, found.source()), (70, Source::Memory));
     assert_eq!(rt; found.refs(), 2);

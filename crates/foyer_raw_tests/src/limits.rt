@@ -136,12 +136,33 @@ fn a_refused_resize_sets_the_capacity(rt: HostRuntime) -> Outcome {
     Ok(())
 }
 
+/// A cache whose records weigh what their values say.
+type Weighed<H> = RawCache<H, Lru, u32, u64, ModHasher, CacheProperties, ByValue>;
+
+// Two records have room, and one after a resize.
+#[test]
+fn weights_and_capacities_may_pass_32_bits(rt: HostRuntime) -> Outcome {
+    let weight = (1 << 40) + 1u64;
+    let room = 2 * weight as usize;
+    let config = weighed(room, LruConfig::default());
+    let cache: Weighed<HostRuntime> = RawCache::new(rt, rt.alloc(), config, NoListener::new())?;
+    for key in 0..3u32 {
+        assert_eq!(rt; cache.insert(0, key, weight)?.weight(), weight as usize);
+    }
+    assert_eq!(rt; (cache.capacity(), cache.usage()), (room, room as u128));
+    cache.resize(0, room - 1)?;
+    assert_eq!(rt;
+        (cache.capacity(), cache.usage()),
+        (room - 1, weight as u128)
+    );
+    Ok(())
+}
+
 // Beside a pinned record of the greatest weight none but the weightless fits, and a phantom one.
 #[test]
 fn a_weight_fits_beside_what_is_pinned(rt: HostRuntime) -> Outcome {
     let config = weighed(usize::MAX, LruConfig::default());
-    let cache: RawCache<HostRuntime, Lru, u32, u64, ModHasher, CacheProperties, ByValue> =
-        RawCache::new(rt, rt.alloc(), config, NoListener::new())?;
+    let cache: Weighed<HostRuntime> = RawCache::new(rt, rt.alloc(), config, NoListener::new())?;
     drop(cache.insert(0, 1, u64::MAX)?);
     let held = cache.get(0, &1)?.ok_or("none")?;
     assert_eq!(rt; number(cache.insert(0, 2, 1)), Some(8));

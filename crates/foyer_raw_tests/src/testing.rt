@@ -36,8 +36,9 @@ pub(crate) fn limited(capacity: usize, limits: Limits) -> Config {
     }
 }
 
-/// When records expire that do.
-pub(crate) const EXPIRY: u64 = 10;
+/// When records expire that do: nanoseconds since 1970, in November 2026. The lower 32 bits are 0, so that the moment
+/// before it differs from it in all of them.
+pub(crate) const EXPIRY: u64 = 418_000_000 << 32;
 
 /// The last moment before that.
 pub(crate) const BEFORE: u64 = EXPIRY - 1;

@@ -1,0 +1,117 @@
+//! Moments of a real clock: nanoseconds since 1970.
+
+use crate::cache::{Cache, Fetch, Led, cache, target};
+use crate::calls::{Call, Removed};
+use crate::case::{Cases, Outcome, Runtime, same};
+use crate::heard::Heard;
+use foyer_core::CacheProperties;
+use foyer_memory::EvictionConfig;
+
+/// A moment in November 2026. Its lower 32 bits are 0, so that the moment before it differs from it in all of them.
+pub const NOW: u64 = 418_000_000 << 32;
+
+const RECORDS: u64 = 2_000;
+
+// The key of a record as heavy as half of them.
+const HEAVY: u64 = RECORDS;
+
+// A look-up of a key.
+#[derive(Clone, Copy)]
+enum Query {
+    Contains,
+    Get,
+    Touch,
+    Fetch,
+}
+
+pub fn run<H: Runtime>(cases: &mut Cases<H>) -> Outcome {
+    let rt = cases.rt;
+    for (name, call) in [
+        ("an insert evicts what is expired first", Call::Insert),
+        ("a piece evicts what is expired first", Call::InsertPiece),
+        ("a fetch evicts what is expired first", Call::Fetch),
+        (
+            "a resize evicts what is expired first",
+            Call::Resize(RECORDS as usize / 2),
+        ),
+        ("evict_all evicts what is expired first", Call::EvictAll),
+        ("a flush evicts what is expired first", Call::Flush),
+    ] {
+        cases.of_each_policy(name, |config| evicts(rt, config, call))?;
+    }
+    for (name, query) in [
+        ("contains misses what is expired", Query::Contains),
+        ("get misses what is expired", Query::Get),
+        ("touch misses what is expired", Query::Touch),
+        ("get_or_fetch misses what is expired", Query::Fetch),
+    ] {
+        cases.of_each_policy(name, |config| misses(rt, config, query))?;
+    }
+    Ok(())
+}
+
+// A shard full of records, of which those with even keys expire, and a removed one.
+fn half_expiring<H: Runtime>(
+    rt: H,
+    config: EvictionConfig,
+    heard: &Heard,
+) -> Outcome<(Cache<H>, Removed)> {
+    let cache = cache(rt, RECORDS as usize, 1, config, heard)?;
+    let piece = cache.insert(0, HEAVY, RECORDS / 2)?.piece()?;
+    drop(cache.remove(&HEAVY)?);
+    for key in 0..RECORDS {
+        let expiry = if key % 2 == 0 { Some(NOW) } else { None };
+        let properties = CacheProperties::default().with_expiry(expiry);
+        drop(cache.insert_with_properties(NOW - 1, key, 1, properties)?);
+    }
+    heard.take();
+    Ok((cache, piece))
+}
+
+// What is expired leaves first, and else what the policy gives.
+fn evicts<H: Runtime>(rt: H, config: EvictionConfig, call: Call) -> Outcome {
+    let heard = Heard::new(rt.alloc(), RECORDS)?;
+    let (cache, piece) = half_expiring(rt, config.clone()?, &heard)?;
+    call.make(rt, &cache, NOW, piece)?;
+    same(
+        rt,
+        "expired ones leave first",
+        &heard.evens_first(),
+        &(RECORDS / 2),
+    )?;
+    let (cache, piece) = half_expiring(rt, config, &heard)?;
+    call.make(rt, &cache, NOW - 1, piece)?;
+    let evens = heard.evens_first();
+    same(rt, "the policy's victims leave first", &(evens < 10), &true)
+}
+
+fn misses<H: Runtime>(rt: H, config: EvictionConfig, query: Query) -> Outcome {
+    let heard = Heard::new(rt.alloc(), RECORDS)?;
+    let (cache, _piece) = half_expiring(rt, config, &heard)?;
+    for (now, key, is_found) in [
+        (NOW - 1, 0, true),
+        (NOW, 0, false),
+        (NOW + 1, 0, false),
+        (NOW, 1, true),
+        (u64::MAX, 1, true),
+        (NOW - 1, 0, true),
+    ] {
+        same(rt, "is found", &query.finds(&cache, now, key)?, &is_found)?;
+    }
+    Ok(())
+}
+
+impl Query {
+    fn finds<H: Runtime>(self, cache: &Cache<H>, now: u64, key: u64) -> Outcome<bool> {
+        Ok(match self {
+            Query::Contains => cache.contains(now, &key),
+            Query::Get => cache.get(now, &key)?.is_some(),
+            Query::Touch => cache.touch(now, &key)?,
+            Query::Fetch => {
+                let fetch = || Fetch::Now(Some(target(1)));
+                let mut led = Led { task: None };
+                !cache.get_or_fetch(now, &key, fetch, &mut led)?.need_await()
+            }
+        })
+    }
+}
