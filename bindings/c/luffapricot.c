@@ -332,8 +332,11 @@ static luffa_status lead(struct slot *slot, uint64_t now, uint64_t hash, const v
     if (is_made)
         status =
             luffa_shard_complete(&slot->shard, made.now, hash, key, key_len, fetch, made.value, made.value_len, &terms);
-    while (status == LUFFA_UNTOLD && unlock_and_tell(slot) == LUFFA_OK) {
+    while (status == LUFFA_UNTOLD) {
+        luffa_status told = unlock_and_tell(slot);
         pthread_mutex_lock(&slot->lock);
+        if (told != LUFFA_OK)
+            break;
         status =
             luffa_shard_complete(&slot->shard, made.now, hash, key, key_len, fetch, made.value, made.value_len, &terms);
     }
