@@ -225,65 +225,59 @@ static void give(struct slot *slot, const luffa_record *record, luffa_entry *ent
                            slot,        record->number};
 }
 
-static luffa_status insert(luffa_cache *cache, uint64_t now, const void *key, size_t key_len, const void *value,
-                           size_t value_len, const luffa_terms *terms, luffa_entry *entry) {
-    luffa_record record;
-    uint64_t hash = hash_of(cache, key, key_len);
-    struct slot *slot = slot_of(cache, hash);
-    pthread_mutex_lock(&slot->lock);
-    luffa_status status = luffa_shard_insert(&slot->shard, now, hash, key, key_len, value, value_len, terms, &record);
-    if (status == LUFFA_OK) {
-        if (slot->waiting > 0)
-            pthread_cond_broadcast(&slot->answered);
-        give(slot, &record, entry);
-    }
+/* Ends an insert. The lock is held when it begins. */
+static luffa_status inserted(struct slot *slot, luffa_status status) {
+    if (slot->waiting > 0 && status == LUFFA_OK)
+        pthread_cond_broadcast(&slot->answered);
     unlock_and_tell(slot);
     return status;
 }
 
 luffa_status luffa_insert(luffa_cache *cache, uint64_t now, const void *key, size_t key_len, const void *value,
                           size_t value_len, size_t weight, uint64_t expires) {
-    luffa_terms terms = {weight, expires, expires != 0 ? LUFFA_EXPIRES : 0};
-    return insert(cache, now, key, key_len, value, value_len, &terms, NULL);
+    uint64_t hash = hash_of(cache, key, key_len);
+    struct slot *slot = slot_of(cache, hash);
+    pthread_mutex_lock(&slot->lock);
+    return inserted(slot, luffa_shard_insert(&slot->shard, now, hash, key, key_len, value, value_len, weight, expires));
 }
 
 luffa_status luffa_insert_entry(luffa_cache *cache, uint64_t now, const void *key, size_t key_len, const void *value,
                                 size_t value_len, const luffa_terms *terms, luffa_entry *entry) {
-    return insert(cache, now, key, key_len, value, value_len, terms, entry);
+    luffa_record record;
+    uint64_t hash = hash_of(cache, key, key_len);
+    struct slot *slot = slot_of(cache, hash);
+    pthread_mutex_lock(&slot->lock);
+    luffa_status status =
+        luffa_shard_insert_entry(&slot->shard, now, hash, key, key_len, value, value_len, terms, &record);
+    if (status == LUFFA_OK)
+        give(slot, &record, entry);
+    return inserted(slot, status);
 }
 
-/* Looks a key up under the lock, which is held when it returns. */
-static luffa_status get(luffa_cache *cache, uint64_t now, const void *key, size_t key_len, struct slot **slot,
-                        luffa_record *record) {
-    uint64_t hash = hash_of(cache, key, key_len);
-    *slot = slot_of(cache, hash);
-    pthread_mutex_lock(&(*slot)->lock);
-    luffa_status status = luffa_shard_get(&(*slot)->shard, now, hash, key, key_len, record);
-    (*slot)->hits += status == LUFFA_OK;
-    (*slot)->misses += status == LUFFA_MISSING;
-    return status;
+/* Counts a lookup. The lock is held. */
+static void count(struct slot *slot, luffa_status status) {
+    slot->hits += status == LUFFA_OK;
+    slot->misses += status == LUFFA_MISSING;
 }
 
 luffa_status luffa_get(luffa_cache *cache, uint64_t now, const void *key, size_t key_len, void *buffer,
                        size_t buffer_len, size_t *value_len) {
-    luffa_record record;
-    struct slot *slot;
-    luffa_status status = get(cache, now, key, key_len, &slot, &record);
-    if (status == LUFFA_OK) {
-        size_t len = record.value_len < buffer_len ? record.value_len : buffer_len;
-        if (len > 0)
-            memcpy(buffer, record.value, len);
-        *value_len = record.value_len;
-        release(slot, record.number);
-    }
+    uint64_t hash = hash_of(cache, key, key_len);
+    struct slot *slot = slot_of(cache, hash);
+    pthread_mutex_lock(&slot->lock);
+    luffa_status status = luffa_shard_get(&slot->shard, now, hash, key, key_len, buffer, buffer_len, value_len);
+    count(slot, status);
     pthread_mutex_unlock(&slot->lock);
     return status;
 }
 
 luffa_status luffa_get_entry(luffa_cache *cache, uint64_t now, const void *key, size_t key_len, luffa_entry *entry) {
     luffa_record record;
-    struct slot *slot;
-    luffa_status status = get(cache, now, key, key_len, &slot, &record);
+    uint64_t hash = hash_of(cache, key, key_len);
+    struct slot *slot = slot_of(cache, hash);
+    pthread_mutex_lock(&slot->lock);
+    luffa_status status = luffa_shard_get_entry(&slot->shard, now, hash, key, key_len, &record);
+    count(slot, status);
     if (status == LUFFA_OK)
         give(slot, &record, entry);
     pthread_mutex_unlock(&slot->lock);
@@ -401,8 +395,7 @@ luffa_status luffa_touch(luffa_cache *cache, uint64_t now, const void *key, size
     struct slot *slot = slot_of(cache, hash);
     pthread_mutex_lock(&slot->lock);
     luffa_status status = luffa_shard_touch(&slot->shard, now, hash, key, key_len);
-    slot->hits += status == LUFFA_OK;
-    slot->misses += status == LUFFA_MISSING;
+    count(slot, status);
     pthread_mutex_unlock(&slot->lock);
     return status;
 }

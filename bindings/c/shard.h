@@ -49,9 +49,13 @@ enum {
 uint32_t luffa_shard_create(luffa_shard *, const luffa_policy *, size_t capacity, bool has_listener);
 uint32_t luffa_shard_destroy(luffa_shard *);
 uint32_t luffa_shard_insert(luffa_shard *, uint64_t now, uint64_t hash, const uint8_t *key, size_t key_len,
-                            const uint8_t *value, size_t value_len, const luffa_terms *, luffa_record *);
-uint32_t luffa_shard_get(luffa_shard *, uint64_t now, uint64_t hash, const uint8_t *key, size_t key_len,
-                         luffa_record *);
+                            const uint8_t *value, size_t value_len, size_t weight, uint64_t expires);
+uint32_t luffa_shard_insert_entry(luffa_shard *, uint64_t now, uint64_t hash, const uint8_t *key, size_t key_len,
+                                  const uint8_t *value, size_t value_len, const luffa_terms *, luffa_record *);
+uint32_t luffa_shard_get(luffa_shard *, uint64_t now, uint64_t hash, const uint8_t *key, size_t key_len, uint8_t *out,
+                         size_t out_len, size_t *len);
+uint32_t luffa_shard_get_entry(luffa_shard *, uint64_t now, uint64_t hash, const uint8_t *key, size_t key_len,
+                               luffa_record *);
 uint32_t luffa_shard_remove(luffa_shard *, uint64_t hash, const uint8_t *key, size_t key_len, luffa_record *);
 uint32_t luffa_shard_contains(luffa_shard *, uint64_t now, uint64_t hash, const uint8_t *key, size_t key_len);
 uint32_t luffa_shard_touch(luffa_shard *, uint64_t now, uint64_t hash, const uint8_t *key, size_t key_len);

@@ -1,6 +1,6 @@
 //! The cache behind the address that C holds: of bytes by bytes, of one shard, of any of the five policies.
 
-use crate::hold::{Gone, Hold};
+use crate::hold::{Entry, Gone, Hold};
 use crate::key::{Key, copied};
 use crate::record::LuffaRecord;
 use crate::value::{GivenWeight, Value};
@@ -108,8 +108,26 @@ impl ByteCache {
         })
     }
 
-    /// Inserts a record and holds a handle to it.
+    /// Inserts a record. It never expires if `expires` is 0.
     pub(crate) fn insert(
+        &mut self,
+        now: u64,
+        hash: u64,
+        key: &[u8],
+        bytes: &[u8],
+        weight: usize,
+        expires: u64,
+    ) -> Result<()> {
+        let expiry = if expires == 0 { None } else { Some(expires) };
+        let properties = CacheProperties::default().with_expiry(expiry);
+        let entry = self.insert_with(now, hash, key, bytes, weight, properties)?;
+        // A record that is not phantom stays when its handle is dropped.
+        drop(self.core.drop_entry(entry));
+        Ok(())
+    }
+
+    /// Inserts a record and holds a handle to it.
+    pub(crate) fn insert_entry(
         &mut self,
         now: u64,
         hash: u64,
@@ -119,28 +137,60 @@ impl ByteCache {
         record: &mut LuffaRecord,
     ) -> Result<()> {
         self.holds.reserve(1)?;
+        let entry = self.insert_with(now, hash, key, bytes, terms.weight, terms.properties())?;
+        self.hold(entry, record);
+        Ok(())
+    }
+
+    #[inline(always)]
+    fn insert_with(
+        &mut self,
+        now: u64,
+        hash: u64,
+        key: &[u8],
+        bytes: &[u8],
+        weight: usize,
+        properties: CacheProperties,
+    ) -> Result<Entry> {
         let key = Key::new(self.alloc, hash, key)?;
         let value = Value {
             bytes: copied(self.alloc, bytes)?,
-            weight: terms.weight,
+            weight,
         };
-        let made = self.core.insert_with_properties_onto(
-            now,
-            key,
-            value,
-            terms.properties(),
-            &mut self.left,
-        );
+        let made =
+            self.core
+                .insert_with_properties_onto(now, key, value, properties, &mut self.left);
         self.forget_left();
         let InsertedOnto { entry, answers } = made?;
-        self.hold(entry, record);
         self.answer(answers);
-        Ok(())
+        Ok(entry)
+    }
+
+    /// Looks a record up and copies its value, or the part of it that fits. The length of the value, if there is one.
+    #[inline(always)]
+    pub(crate) fn get(
+        &mut self,
+        now: u64,
+        hash: u64,
+        key: &[u8],
+        out: &mut [u8],
+    ) -> Result<Option<usize>> {
+        self.asked.set(hash, key)?;
+        match self.core.get(now, &self.asked)? {
+            Some(entry) => {
+                let bytes = entry.value().bytes.as_slice();
+                let len = bytes.len();
+                copy_part(bytes, out);
+                drop(self.core.drop_entry(entry));
+                Ok(Some(len))
+            }
+            None => Ok(None),
+        }
     }
 
     /// Looks a record up and holds a handle to it. Whether there is one.
     #[inline(always)]
-    pub(crate) fn get(
+    pub(crate) fn get_entry(
         &mut self,
         now: u64,
         hash: u64,
@@ -197,5 +247,16 @@ impl ByteCache {
 
     pub(crate) fn entries(&self) -> u128 {
         self.core.entries()
+    }
+}
+
+// Copies bytes, or the first ones that fit.
+#[inline(always)]
+fn copy_part(bytes: &[u8], out: &mut [u8]) {
+    if bytes.len() <= out.len() {
+        out[..bytes.len()].copy_from_slice(bytes);
+    } else {
+        let room = out.len();
+        out.copy_from_slice(&bytes[..room]);
     }
 }

@@ -4,18 +4,22 @@ ghost use Rattle.std.specs.Prelude.{◌≡◌, IfOk, IfErr};
 ghost use Rattle.foyer_policy.specs.declared.error.Reason.TheVariants.{NoMemory};
 
 use foyer_policy::{Error, Reason, Result};
+use smallvec::SmallVec;
 use std::alloc::Global;
 use std::hash::{Hash, Hasher};
+
+/// How many bytes a key may have that allocates nothing.
+const IN_PLACE: usize = 22;
 
 /// A key. Equal keys have equal bytes and equal hashes, so the caller gives equal bytes the same hash.
 #[derive(Clone, Drop, PartialEq, Eq)]
 pub struct Key {
     pub(crate) hash: u64,
-    pub(crate) bytes: Vec<u8>,
+    pub(crate) bytes: SmallVec<u8, IN_PLACE>,
 }
 
 impl Hash for Key {
-    ghost use Rattle.core.specs.Hash as fed;
+    ghost use Rattle.std.specs.Hash as fed;
     ghost use borrow.Author.Rules.{rules};
 
     ghost hash_input = { λ k. fed.u64 k.hash };
@@ -34,7 +38,7 @@ impl Key {
     pub(crate) fn empty(alloc: Global) -> Key {
         Key {
             hash: 0,
-            bytes: Vec::new(alloc),
+            bytes: SmallVec::new(alloc),
         }
     }
 
@@ -46,7 +50,7 @@ impl Key {
     {
         Ok(Key {
             hash,
-            bytes: copied(alloc, bytes)?,
+            bytes: SmallVec::from_slice(alloc, bytes)?,
         })
     }
 

@@ -117,9 +117,29 @@ pub extern "C" fn luffa_shard_destroy(shard: &mut LuffaShard, alloc: Global) -> 
     }
 }
 
-/// Inserts a record and holds a handle to it, which the record names. 0, NOT_OPEN, or 7 to 10 for F7 to F10.
+/// Inserts a record. It never expires if `expires` is 0. 0, NOT_OPEN, or 7 to 10 for F7 to F10.
 #[unsafe(no_mangle)]
 pub extern "C" fn luffa_shard_insert(
+    shard: &mut LuffaShard,
+    alloc: Global,
+    now: u64,
+    hash: u64,
+    key: &[u8],
+    value: &[u8],
+    weight: usize,
+    expires: u64,
+) -> u32 {
+    let Some(mut cache) = shard.take(alloc) else {
+        return status::NOT_OPEN;
+    };
+    let status = status::done(cache.insert(now, hash, key, value, weight, expires));
+    *shard = LuffaShard::of(cache);
+    status
+}
+
+/// Inserts a record and holds a handle to it, which the record names. 0, NOT_OPEN, or 7 to 10 for F7 to F10.
+#[unsafe(no_mangle)]
+pub extern "C" fn luffa_shard_insert_entry(
     shard: &mut LuffaShard,
     alloc: Global,
     now: u64,
@@ -132,14 +152,40 @@ pub extern "C" fn luffa_shard_insert(
     let Some(mut cache) = shard.take(alloc) else {
         return status::NOT_OPEN;
     };
-    let status = status::done(cache.insert(now, hash, key, value, terms, record));
+    let status = status::done(cache.insert_entry(now, hash, key, value, terms, record));
+    *shard = LuffaShard::of(cache);
+    status
+}
+
+/// Copies a value, or the part of it that fits, and writes its length. 0, MISSING, NOT_OPEN, or 7 or 9 for F7 or F9.
+#[unsafe(no_mangle)]
+pub extern "C" fn luffa_shard_get(
+    shard: &mut LuffaShard,
+    alloc: Global,
+    now: u64,
+    hash: u64,
+    key: &[u8],
+    out: &mut [u8],
+    len: &mut usize,
+) -> u32 {
+    let Some(mut cache) = shard.take(alloc) else {
+        return status::NOT_OPEN;
+    };
+    let status = match cache.get(now, hash, key, out) {
+        Ok(Some(found)) => {
+            *len = found;
+            status::OK
+        }
+        Ok(None) => status::MISSING,
+        Err(error) => status::refusal(error),
+    };
     *shard = LuffaShard::of(cache);
     status
 }
 
 /// Looks a record up and holds a handle to it. 0, MISSING, NOT_OPEN, or 7 or 9 for F7 or F9.
 #[unsafe(no_mangle)]
-pub extern "C" fn luffa_shard_get(
+pub extern "C" fn luffa_shard_get_entry(
     shard: &mut LuffaShard,
     alloc: Global,
     now: u64,
@@ -150,7 +196,7 @@ pub extern "C" fn luffa_shard_get(
     let Some(mut cache) = shard.take(alloc) else {
         return status::NOT_OPEN;
     };
-    let status = status::found(cache.get(now, hash, key, record));
+    let status = status::found(cache.get_entry(now, hash, key, record));
     *shard = LuffaShard::of(cache);
     status
 }

@@ -19,7 +19,7 @@ impl LuffaRecord {
     /// Shows the record of a handle.
     #[inline(always)]
     pub(crate) fn show(&mut self, entry: &Entry) {
-        let key = &entry.key().bytes;
+        let key = entry.key().bytes.as_slice();
         let value = &entry.value().bytes;
         self.key = key.as_ptr();
         self.key_len = key.len();
@@ -31,7 +31,7 @@ impl LuffaRecord {
     /// Shows a record that left.
     pub(crate) fn show_gone(&mut self, gone: &Gone) {
         let (event, left) = gone;
-        let key = &left.key().bytes;
+        let key = left.key().bytes.as_slice();
         let value = &left.value().bytes;
         self.key = key.as_ptr();
         self.key_len = key.len();
