@@ -7,6 +7,7 @@ use std::alloc::Global;
 
 /// What a shard holds. The usage is the sum of weights that each fit a word, so it may take two.
 #[repr(C)]
+#[derive(Drop)]
 pub struct LuffaLoad {
     pub usage: u64,
     pub usage_high: u64,

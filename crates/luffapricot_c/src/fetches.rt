@@ -7,6 +7,7 @@ use std::alloc::Global;
 
 /// A fetch, as C names it.
 #[repr(C)]
+#[derive(Drop)]
 pub struct LuffaFetch {
     /// The number of the fetch, for the caller that leads it.
     pub fetch: u64,

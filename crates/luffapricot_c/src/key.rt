@@ -45,7 +45,7 @@ impl Key {
     /// A key of these bytes.
     pub(crate) fn new(alloc: Global, hash: u64, bytes: &[u8]) -> Result<Key>
         ensures hash { IfOk result (λ key. key.hash ≡ hash) }
-        ensures bytes { IfOk result (λ key. key.bytes.items ≡ bytes.now) }
+        ensures bytes { IfOk result (λ key. (key.bytes).items ≡ bytes.now) }
         ensures refused { IfErr result (λ e. e ≡ NoMemory) }
     {
         Ok(Key {

@@ -3,7 +3,7 @@
 //! Nothing here locks. C makes one call at a time for a shard, and overlaps no buffers that it lends to a call.
 #![tactic(auto)]
 
-ghost use Rattle.std.specs.Prelude.{◌≡◌, ℕ, ◌+◌, ◌-◌, ◌*◌, ◌^◌, ◌<◌, ◌≤◌, length, is_some, Some, None, true};
+ghost use Rattle.std.specs.Prelude.{◌≡◌, ℕ, ◌+◌, ◌-◌, ◌*◌, ◌^◌, ◌<◌, ◌≤◌, length, is_some, IfNone, IfSome, Some, None, true};
 
 use address::Address;
 use cache::ByteCache;
@@ -64,7 +64,11 @@ impl LuffaShard {
 
     // Takes the box out.
     #[inline(always)]
-    fn take(&mut self, alloc: Global) -> Option<Box<ByteCache>> {
+    fn take(&mut self, alloc: Global) -> Option<Box<ByteCache>>
+        ensures taken { IfSome result (λ cache. self.old.address.held ≡ Some cache.value) }
+        ensures none { IfNone result (self.old.address.held ≡ None) }
+        ensures empty { self.new.address.held ≡ None }
+    {
         if !self.is_open {
             return None;
         }
@@ -110,7 +114,9 @@ pub extern "C" fn luffa_shard_create(
 
 /// Frees the cache with all that C holds of it. 0 or NOT_OPEN.
 #[unsafe(no_mangle)]
-pub extern "C" fn luffa_shard_destroy(shard: &mut LuffaShard, alloc: Global) -> u32 {
+pub extern "C" fn luffa_shard_destroy(shard: &mut LuffaShard, alloc: Global) -> u32
+    ensures closed { shard.new.address.held ≡ None }
+{
     match shard.take(alloc) {
         Some(_cache) => status::OK,
         None => status::NOT_OPEN,

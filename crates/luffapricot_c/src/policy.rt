@@ -1,5 +1,8 @@
 //! Configurations of policies, as C writes them.
 
+ghost use Rattle.std.specs.Prelude.{◌≡◌};
+ghost use Rattle.luffapricot_c.specs.Policies.{config_of, ratio_of};
+
 use foyer_policy::{
     EvictionConfig, FifoConfig, LfuConfig, LruConfig, Ratio, S3FifoConfig, SieveConfig,
 };
@@ -34,7 +37,9 @@ const S3FIFO: u32 = 3;
 const SIEVE: u32 = 4;
 
 impl LuffaRatio {
-    fn ratio(&self) -> Ratio {
+    fn ratio(&self) -> Ratio
+        ensures { result ≡ ratio_of self.now }
+    {
         Ratio {
             num: self.num,
             den: self.den,
@@ -44,7 +49,9 @@ impl LuffaRatio {
 
 impl LuffaPolicy {
     /// The configuration, or `None` if no policy has the number.
-    pub(crate) fn config(&self) -> Option<EvictionConfig> {
+    pub(crate) fn config(&self) -> Option<EvictionConfig>
+        ensures { result ≡ config_of self.now }
+    {
         match self.kind {
             FIFO => Some(EvictionConfig::Fifo(FifoConfig {})),
             LRU => Some(EvictionConfig::Lru(LruConfig {

@@ -2,6 +2,7 @@
 
 ghost use Rattle.std.specs.Prelude.{◌≡◌};
 ghost use Rattle.foyer_policy.specs.Errors.{number_of};
+ghost use Rattle.luffapricot_c.specs.Statuses.{done_of, found_of};
 
 use foyer_policy::{Error, Event, Result};
 
@@ -42,7 +43,9 @@ pub(crate) fn event(event: Event) -> u32 {
 }
 
 /// The number of a result.
-pub(crate) fn done(answer: Result<()>) -> u32 {
+pub(crate) fn done(answer: Result<()>) -> u32
+    ensures { result ≡ done_of answer }
+{
     match answer {
         Ok(()) => OK,
         Err(error) => refusal(error),
@@ -50,7 +53,9 @@ pub(crate) fn done(answer: Result<()>) -> u32 {
 }
 
 /// The number of a result that says whether there was something.
-pub(crate) fn found(answer: Result<bool>) -> u32 {
+pub(crate) fn found(answer: Result<bool>) -> u32
+    ensures { result ≡ found_of answer }
+{
     match answer {
         Ok(true) => OK,
         Ok(false) => MISSING,
