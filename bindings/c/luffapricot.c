@@ -6,6 +6,8 @@
 #include "luffapricot.h"
 #include "shard.h"
 #include <pthread.h>
+#include <sched.h>
+#include <stdatomic.h>
 #include <stdlib.h>
 #include <string.h>
 #include <time.h>
@@ -15,17 +17,23 @@
 #define LUFFA_PROOF "unproved"
 #endif
 
-enum { LINE = 128, BATCH = 16 };
+enum { LINE = 128, BATCH = 16, SPINS = 100 };
 
-/* A shard and its lock, on lines of their own. `waiting` counts the callers that wait for a fetch. */
+/*
+ * A shard and its lock, on lines of their own. A call holds the lock for less than a microsecond mostly, so whoever
+ * finds it taken spins for a while and then yields. Callers that wait for a fetch sleep: `waiting` counts them, and
+ * `ends` the times that fetches ended while they waited, which changes under both locks.
+ */
 struct slot {
-    _Alignas(LINE) pthread_mutex_t lock;
-    pthread_cond_t answered;
+    _Alignas(LINE) atomic_int is_locked;
     luffa_shard shard;
     luffa_cache *cache;
     uint64_t hits;
     uint64_t misses;
     size_t waiting;
+    uint64_t ends;
+    pthread_mutex_t sleep;
+    pthread_cond_t ended;
 };
 
 struct luffa_cache {
@@ -36,7 +44,7 @@ struct luffa_cache {
     luffa_listener listener;
     void *listener_context;
     uint64_t seeds[2];
-    _Atomic size_t capacity;
+    atomic_size_t capacity;
 };
 
 /* What left by a call, which the shard holds under a number. */
@@ -63,12 +71,34 @@ luffa_config luffa_config_default(uint32_t policy) {
     return config;
 }
 
-static uint64_t folded(uint64_t a, uint64_t b) {
+static void lock(struct slot *slot) {
+    unsigned turns = 0;
+    while (atomic_exchange_explicit(&slot->is_locked, 1, memory_order_acquire) != 0)
+        while (atomic_load_explicit(&slot->is_locked, memory_order_relaxed) != 0)
+            if (++turns % SPINS == 0)
+                sched_yield();
+            else
+                __builtin_ia32_pause();
+}
+
+static void unlock(struct slot *slot) { atomic_store_explicit(&slot->is_locked, 0, memory_order_release); }
+
+/* Wakes the callers that wait for a fetch. The lock is held. */
+static void wake(struct slot *slot) {
+    if (slot->waiting == 0)
+        return;
+    pthread_mutex_lock(&slot->sleep);
+    slot->ends++;
+    pthread_cond_broadcast(&slot->ended);
+    pthread_mutex_unlock(&slot->sleep);
+}
+
+static inline uint64_t folded(uint64_t a, uint64_t b) {
     unsigned __int128 product = (unsigned __int128)a * b;
     return (uint64_t)product ^ (uint64_t)(product >> 64);
 }
 
-static uint64_t word_at(const uint8_t *bytes, size_t len) {
+static inline uint64_t word_at(const uint8_t *bytes, size_t len) {
     uint64_t word = 0;
     memcpy(&word, bytes, len);
     return word;
@@ -76,7 +106,7 @@ static uint64_t word_at(const uint8_t *bytes, size_t len) {
 
 /* A hash by folded products of 64 bits, as foldhash and wyhash have. Whoever doesn't know the seeds can't make keys
  * collide. */
-static uint64_t default_hash(const luffa_cache *cache, const uint8_t *key, size_t len) {
+static inline uint64_t default_hash(const luffa_cache *cache, const uint8_t *key, size_t len) {
     uint64_t state = cache->seeds[0] ^ len;
     size_t at = 0;
     for (; len - at > 16; at += 16)
@@ -92,11 +122,11 @@ static uint64_t default_hash(const luffa_cache *cache, const uint8_t *key, size_
     return folded(state, 0x9E3779B97F4A7C15u);
 }
 
-static uint64_t hash_of(const luffa_cache *cache, const void *key, size_t len) {
+static inline uint64_t hash_of(const luffa_cache *cache, const void *key, size_t len) {
     return cache->hash ? cache->hash(cache->hash_context, key, len) : default_hash(cache, key, len);
 }
 
-static struct slot *slot_of(const luffa_cache *cache, uint64_t hash) {
+static inline struct slot *slot_of(const luffa_cache *cache, uint64_t hash) {
     size_t shards = cache->shards;
     return &cache->slots[(shards & (shards - 1)) == 0 ? hash & (shards - 1) : hash % shards];
 }
@@ -117,8 +147,8 @@ static void seed(uint64_t seeds[2]) {
 static void free_cache(luffa_cache *cache, size_t made) {
     for (size_t i = 0; i < made; i++) {
         luffa_shard_destroy(&cache->slots[i].shard);
-        pthread_cond_destroy(&cache->slots[i].answered);
-        pthread_mutex_destroy(&cache->slots[i].lock);
+        pthread_cond_destroy(&cache->slots[i].ended);
+        pthread_mutex_destroy(&cache->slots[i].sleep);
     }
     free(cache->slots);
     free(cache);
@@ -131,12 +161,8 @@ static luffa_status create_slot(luffa_cache *cache, const luffa_config *config, 
     luffa_status status = luffa_shard_create(
         &slot->shard, &config->policy, share_of(config->capacity, config->shards, index), config->listener != NULL);
     if (status == LUFFA_OK) {
-        pthread_mutexattr_t kind;
-        pthread_mutexattr_init(&kind);
-        pthread_mutexattr_settype(&kind, PTHREAD_MUTEX_ADAPTIVE_NP);
-        pthread_mutex_init(&slot->lock, &kind);
-        pthread_mutexattr_destroy(&kind);
-        pthread_cond_init(&slot->answered, NULL);
+        pthread_mutex_init(&slot->sleep, NULL);
+        pthread_cond_init(&slot->ended, NULL);
     }
     return status;
 }
@@ -184,9 +210,9 @@ static void release(struct slot *slot, size_t number) {
     if (luffa_shard_release(&slot->shard, number) != LUFFA_LEFT)
         return;
     luffa_shard_show_left(&slot->shard, number, 0, &record);
-    pthread_mutex_unlock(&slot->lock);
+    unlock(slot);
     tell_record(slot->cache, &record);
-    pthread_mutex_lock(&slot->lock);
+    lock(slot);
     luffa_shard_release(&slot->shard, number);
 }
 
@@ -204,14 +230,14 @@ static luffa_status unlock_and_tell(struct slot *slot) {
             size_t some = count - from < BATCH ? count - from : BATCH;
             for (size_t i = 0; i < some; i++)
                 luffa_shard_show_left(&slot->shard, number, from + i, &records[i]);
-            pthread_mutex_unlock(&slot->lock);
+            unlock(slot);
             for (size_t i = 0; i < some; i++)
                 tell_record(cache, &records[i]);
-            pthread_mutex_lock(&slot->lock);
+            lock(slot);
         }
         luffa_shard_release(&slot->shard, number);
     }
-    pthread_mutex_unlock(&slot->lock);
+    unlock(slot);
     return status == LUFFA_NO_MEMORY ? status : LUFFA_OK;
 }
 
@@ -227,8 +253,8 @@ static void give(struct slot *slot, const luffa_record *record, luffa_entry *ent
 
 /* Ends an insert. The lock is held when it begins. */
 static luffa_status inserted(struct slot *slot, luffa_status status) {
-    if (slot->waiting > 0 && status == LUFFA_OK)
-        pthread_cond_broadcast(&slot->answered);
+    if (status == LUFFA_OK)
+        wake(slot);
     unlock_and_tell(slot);
     return status;
 }
@@ -237,7 +263,7 @@ luffa_status luffa_insert(luffa_cache *cache, uint64_t now, const void *key, siz
                           size_t value_len, size_t weight, uint64_t expires) {
     uint64_t hash = hash_of(cache, key, key_len);
     struct slot *slot = slot_of(cache, hash);
-    pthread_mutex_lock(&slot->lock);
+    lock(slot);
     return inserted(slot, luffa_shard_insert(&slot->shard, now, hash, key, key_len, value, value_len, weight, expires));
 }
 
@@ -246,7 +272,7 @@ luffa_status luffa_insert_entry(luffa_cache *cache, uint64_t now, const void *ke
     luffa_record record;
     uint64_t hash = hash_of(cache, key, key_len);
     struct slot *slot = slot_of(cache, hash);
-    pthread_mutex_lock(&slot->lock);
+    lock(slot);
     luffa_status status =
         luffa_shard_insert_entry(&slot->shard, now, hash, key, key_len, value, value_len, terms, &record);
     if (status == LUFFA_OK)
@@ -264,10 +290,10 @@ luffa_status luffa_get(luffa_cache *cache, uint64_t now, const void *key, size_t
                        size_t buffer_len, size_t *value_len) {
     uint64_t hash = hash_of(cache, key, key_len);
     struct slot *slot = slot_of(cache, hash);
-    pthread_mutex_lock(&slot->lock);
+    lock(slot);
     luffa_status status = luffa_shard_get(&slot->shard, now, hash, key, key_len, buffer, buffer_len, value_len);
     count(slot, status);
-    pthread_mutex_unlock(&slot->lock);
+    unlock(slot);
     return status;
 }
 
@@ -275,12 +301,12 @@ luffa_status luffa_get_entry(luffa_cache *cache, uint64_t now, const void *key, 
     luffa_record record;
     uint64_t hash = hash_of(cache, key, key_len);
     struct slot *slot = slot_of(cache, hash);
-    pthread_mutex_lock(&slot->lock);
+    lock(slot);
     luffa_status status = luffa_shard_get_entry(&slot->shard, now, hash, key, key_len, &record);
     count(slot, status);
     if (status == LUFFA_OK)
         give(slot, &record, entry);
-    pthread_mutex_unlock(&slot->lock);
+    unlock(slot);
     return status;
 }
 
@@ -288,9 +314,9 @@ void luffa_release(luffa_entry *entry) {
     struct slot *slot = entry->shard;
     if (slot == NULL)
         return;
-    pthread_mutex_lock(&slot->lock);
+    lock(slot);
     release(slot, entry->number);
-    pthread_mutex_unlock(&slot->lock);
+    unlock(slot);
     *entry = (luffa_entry){0};
 }
 
@@ -305,13 +331,21 @@ static luffa_status take_answer(struct slot *slot, size_t number, luffa_entry *e
     return status;
 }
 
+/* Waits for the answer of a number. The lock is held when it begins, and not when it returns. */
 static luffa_status wait_for(struct slot *slot, size_t number, luffa_entry *entry) {
     luffa_status status;
     slot->waiting++;
-    while ((status = take_answer(slot, number, entry)) == LUFFA_WAIT)
-        pthread_cond_wait(&slot->answered, &slot->lock);
+    while ((status = take_answer(slot, number, entry)) == LUFFA_WAIT) {
+        uint64_t ends = slot->ends;
+        unlock(slot);
+        pthread_mutex_lock(&slot->sleep);
+        while (slot->ends == ends)
+            pthread_cond_wait(&slot->ended, &slot->sleep);
+        pthread_mutex_unlock(&slot->sleep);
+        lock(slot);
+    }
     slot->waiting--;
-    pthread_mutex_unlock(&slot->lock);
+    unlock(slot);
     return status;
 }
 
@@ -321,14 +355,14 @@ static luffa_status lead(struct slot *slot, uint64_t now, uint64_t hash, const v
     luffa_made made = {.weight = 1, .now = now};
     bool is_made = make(context, key, key_len, &made) == 0;
     luffa_terms terms = {made.weight, made.expires, made.expires != 0 ? LUFFA_EXPIRES : 0};
-    pthread_mutex_lock(&slot->lock);
+    lock(slot);
     luffa_status status = LUFFA_NO_MEMORY;
     if (is_made)
         status =
             luffa_shard_complete(&slot->shard, made.now, hash, key, key_len, fetch, made.value, made.value_len, &terms);
     while (status == LUFFA_UNTOLD) {
         luffa_status told = unlock_and_tell(slot);
-        pthread_mutex_lock(&slot->lock);
+        lock(slot);
         if (told != LUFFA_OK)
             break;
         status =
@@ -336,8 +370,7 @@ static luffa_status lead(struct slot *slot, uint64_t now, uint64_t hash, const v
     }
     if (status != LUFFA_OK && status != LUFFA_MISSING)
         luffa_shard_cancel(&slot->shard, hash, key, key_len, fetch);
-    if (slot->waiting > 0)
-        pthread_cond_broadcast(&slot->answered);
+    wake(slot);
     status = take_answer(slot, number, entry);
     unlock_and_tell(slot);
     if (made.free_value != NULL)
@@ -351,7 +384,7 @@ luffa_status luffa_get_or_insert(luffa_cache *cache, uint64_t now, const void *k
     luffa_fetch fetch;
     uint64_t hash = hash_of(cache, key, key_len);
     struct slot *slot = slot_of(cache, hash);
-    pthread_mutex_lock(&slot->lock);
+    lock(slot);
     luffa_status status = luffa_shard_fetch(&slot->shard, now, hash, key, key_len, &record, &fetch);
     slot->hits += status == LUFFA_OK;
     slot->misses += status == LUFFA_LEAD || status == LUFFA_WAIT;
@@ -359,7 +392,7 @@ luffa_status luffa_get_or_insert(luffa_cache *cache, uint64_t now, const void *k
         return wait_for(slot, record.number, entry);
     if (status == LUFFA_OK)
         give(slot, &record, entry);
-    pthread_mutex_unlock(&slot->lock);
+    unlock(slot);
     if (status == LUFFA_LEAD)
         return lead(slot, now, hash, key, key_len, fetch.fetch, record.number, make, context, entry);
     return status;
@@ -369,7 +402,7 @@ luffa_status luffa_remove_entry(luffa_cache *cache, const void *key, size_t key_
     luffa_record record;
     uint64_t hash = hash_of(cache, key, key_len);
     struct slot *slot = slot_of(cache, hash);
-    pthread_mutex_lock(&slot->lock);
+    lock(slot);
     luffa_status status = luffa_shard_remove(&slot->shard, hash, key, key_len, &record);
     if (status == LUFFA_OK)
         give(slot, &record, entry);
@@ -384,19 +417,19 @@ luffa_status luffa_remove(luffa_cache *cache, const void *key, size_t key_len) {
 luffa_status luffa_contains(luffa_cache *cache, uint64_t now, const void *key, size_t key_len) {
     uint64_t hash = hash_of(cache, key, key_len);
     struct slot *slot = slot_of(cache, hash);
-    pthread_mutex_lock(&slot->lock);
+    lock(slot);
     luffa_status status = luffa_shard_contains(&slot->shard, now, hash, key, key_len);
-    pthread_mutex_unlock(&slot->lock);
+    unlock(slot);
     return status;
 }
 
 luffa_status luffa_touch(luffa_cache *cache, uint64_t now, const void *key, size_t key_len) {
     uint64_t hash = hash_of(cache, key, key_len);
     struct slot *slot = slot_of(cache, hash);
-    pthread_mutex_lock(&slot->lock);
+    lock(slot);
     luffa_status status = luffa_shard_touch(&slot->shard, now, hash, key, key_len);
     count(slot, status);
-    pthread_mutex_unlock(&slot->lock);
+    unlock(slot);
     return status;
 }
 
@@ -405,7 +438,7 @@ enum bulk { CLEAR, EVICT_ALL, RESIZE };
 
 static luffa_status bulk_in(struct slot *slot, enum bulk call, uint64_t now, size_t capacity) {
     for (;;) {
-        pthread_mutex_lock(&slot->lock);
+        lock(slot);
         luffa_status status = call == CLEAR       ? luffa_shard_clear(&slot->shard)
                               : call == EVICT_ALL ? luffa_shard_evict_all(&slot->shard, now)
                                                   : luffa_shard_resize(&slot->shard, now, capacity);
@@ -441,9 +474,9 @@ luffa_status luffa_reconfigure(luffa_cache *cache, const luffa_policy *policy) {
     luffa_status status = LUFFA_OK;
     /* A shard refuses a configuration by itself alone, so the first one speaks for all. */
     for (size_t i = 0; i < cache->shards && status == LUFFA_OK; i++) {
-        pthread_mutex_lock(&cache->slots[i].lock);
+        lock(&cache->slots[i]);
         status = luffa_shard_reconfigure(&cache->slots[i].shard, policy);
-        pthread_mutex_unlock(&cache->slots[i].lock);
+        unlock(&cache->slots[i]);
     }
     return status;
 }
@@ -453,11 +486,11 @@ luffa_stats luffa_get_stats(luffa_cache *cache) {
     for (size_t i = 0; i < cache->shards; i++) {
         struct slot *slot = &cache->slots[i];
         luffa_load load;
-        pthread_mutex_lock(&slot->lock);
+        lock(slot);
         luffa_shard_load(&slot->shard, &load);
         stats.hits += slot->hits;
         stats.misses += slot->misses;
-        pthread_mutex_unlock(&slot->lock);
+        unlock(slot);
         bool is_more = load.usage_high != 0 || load.usage > UINT64_MAX - stats.usage;
         stats.usage = is_more ? UINT64_MAX : stats.usage + load.usage;
         stats.entries += load.entries;

@@ -86,9 +86,9 @@ static void collect_answers(uint64_t key, const char *before) {
         luffa_status status = LUFFA_WAIT;
         luffa_entry entry;
         if (it.key == key) {
-            pthread_mutex_lock(&slot_at(key)->lock);
+            lock(slot_at(key));
             status = take_answer(slot_at(key), it.number, &entry);
-            pthread_mutex_unlock(&slot_at(key)->lock);
+            unlock(slot_at(key));
         }
         if (status == LUFFA_WAIT) {
             waiting[kept++] = it;
@@ -131,11 +131,11 @@ static void fetch_line(uint64_t key) {
     luffa_record record;
     luffa_fetch fetch;
     luffa_entry entry;
-    pthread_mutex_lock(&slot->lock);
+    lock(slot);
     luffa_status status = luffa_shard_fetch(&slot->shard, now, key, (const uint8_t *)&key, sizeof key, &record, &fetch);
     if (status == LUFFA_OK)
         give(slot, &record, &entry);
-    pthread_mutex_unlock(&slot->lock);
+    unlock(slot);
     if (status != LUFFA_LEAD && status != LUFFA_WAIT) {
         print_found(status, &entry);
         return;
@@ -151,7 +151,7 @@ static void end_line(uint64_t key, uint64_t fetch, const uint64_t *value) {
     struct slot *slot = slot_at(key);
     const luffa_terms terms = {.weight = 1};
     const uint8_t *bytes = (const uint8_t *)&key;
-    pthread_mutex_lock(&slot->lock);
+    lock(slot);
     luffa_status status = value == NULL ? luffa_shard_cancel(&slot->shard, key, bytes, sizeof key, fetch)
                                         : luffa_shard_complete(&slot->shard, now, key, bytes, sizeof key, fetch,
                                                                (const uint8_t *)value, 8, &terms);
