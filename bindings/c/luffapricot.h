@@ -194,8 +194,8 @@ luffa_status luffa_contains(luffa_cache *cache, uint64_t now, const void *key, s
 luffa_status luffa_touch(luffa_cache *cache, uint64_t now, const void *key, size_t key_len);
 
 /*
- * Sets the capacity and evicts down to it. F7: some shards may still hold more than their share. Two resizes at the same
- * time may leave some shards with a share of the one and some with a share of the other.
+ * Sets the capacity and evicts down to it. F7: some shards may still hold more than their share. Two resizes at the
+ * same time may leave some shards with a share of the one and some with a share of the other.
  */
 luffa_status luffa_resize(luffa_cache *cache, uint64_t now, size_t capacity);
 
