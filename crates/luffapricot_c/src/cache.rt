@@ -4,9 +4,7 @@ use crate::hold::{Entry, Gone, Hold};
 use crate::key::{Key, copied};
 use crate::record::LuffaRecord;
 use crate::value::{GivenWeight, Value};
-use foyer_core::{
-    AdmitAll, CacheCore, CacheProperties, InsertedOnto, Limits, RawCacheConfig,
-};
+use foyer_core::{AdmitAll, CacheCore, CacheProperties, InsertedOnto, Limits, RawCacheConfig};
 use foyer_policy::{AnyEviction, Event, EvictionConfig, Hint, ModHasher, Properties, Result};
 use slab::Slab;
 use std::alloc::Global;
@@ -40,7 +38,9 @@ pub struct LuffaTerms {
 }
 
 const EXPIRES: u32 = 1;
+
 const LOW: u32 = 2;
+
 const PHANTOM: u32 = 4;
 
 /// A cache of bytes by bytes, and what C holds of it.
@@ -69,7 +69,9 @@ impl LuffaTerms {
         } else {
             Hint::Normal
         };
-        let properties = CacheProperties::default().with_expiry(expiry).with_hint(hint);
+        let properties = CacheProperties::default()
+            .with_expiry(expiry)
+            .with_hint(hint);
         if self.flags & PHANTOM != 0 {
             properties.with_phantom(true)
         } else {
@@ -157,9 +159,9 @@ impl ByteCache {
             bytes: copied(self.alloc, bytes)?,
             weight,
         };
-        let made =
-            self.core
-                .insert_with_properties_onto(now, key, value, properties, &mut self.left);
+        let made = self
+            .core
+            .insert_with_properties_onto(now, key, value, properties, &mut self.left);
         self.forget_left();
         let InsertedOnto { entry, answers } = made?;
         self.answer(answers);

@@ -6,6 +6,7 @@ use crate::value::Value;
 use foyer_core::{CacheProperties, CoreEntry, Leave};
 
 pub(crate) type Entry = CoreEntry<Key, Value, CacheProperties>;
+
 pub(crate) type Gone = Leave<Key, Value, CacheProperties>;
 
 /// What a number names.

@@ -31,9 +31,13 @@ pub struct LuffaPolicy {
 }
 
 const FIFO: u32 = 0;
+
 const LRU: u32 = 1;
+
 const LFU: u32 = 2;
+
 const S3FIFO: u32 = 3;
+
 const SIEVE: u32 = 4;
 
 impl LuffaRatio {

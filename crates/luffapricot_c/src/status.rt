@@ -7,6 +7,7 @@ ghost use Rattle.luffapricot_c.specs.Statuses.{done_of, found_of};
 use foyer_policy::{Error, Event, Result};
 
 pub(crate) const OK: u32 = 0;
+
 pub(crate) const NO_MEMORY: u32 = 7;
 /// The key has no record, or the number names nothing.
 pub(crate) const MISSING: u32 = 101;

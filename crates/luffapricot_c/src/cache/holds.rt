@@ -2,14 +2,13 @@
 
 use super::ByteCache;
 use crate::hold::{Entry, Gone, Held, Hold};
+use crate::key::Key;
 use crate::record::LuffaRecord;
 use crate::status;
+use crate::value::Value;
 use foyer_core::{Answers, CacheProperties, Outcome, Waiting};
 use foyer_policy::Result;
 use std::mem;
-
-use crate::key::Key;
-use crate::value::Value;
 
 impl ByteCache {
     // Holds a handle under a new number, for which there is room, and shows its record.
