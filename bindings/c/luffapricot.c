@@ -1,0 +1,515 @@
+/*
+ * luffapricot.c: shards behind locks, a hash, and waiting for a fetch. This file is not proved; what it decides is
+ * which shard a key belongs to and who calls when. All that a shard does is in the proved calls of shard.h.
+ */
+#define _GNU_SOURCE
+#include "luffapricot.h"
+#include "shard.h"
+#include <pthread.h>
+#include <sched.h>
+#include <stdatomic.h>
+#include <stdlib.h>
+#include <string.h>
+#include <time.h>
+#include <unistd.h>
+
+#ifndef LUFFA_PROOF
+#define LUFFA_PROOF "unproved"
+#endif
+
+enum { LINE = 128, BATCH = 16, SPINS = 100 };
+
+/*
+ * A shard and its lock, on lines of their own. A call holds the lock for less than a microsecond mostly, so whoever
+ * finds it taken spins for a while and then yields. Callers that wait for a fetch sleep: `waiting` counts them, and
+ * `ends` the times that fetches ended while they waited, which changes under both locks.
+ */
+struct slot {
+    _Alignas(LINE) atomic_int is_locked;
+    luffa_shard shard;
+    luffa_cache *cache;
+    uint64_t hits;
+    uint64_t misses;
+    size_t waiting;
+    uint64_t ends;
+    pthread_mutex_t sleep;
+    pthread_cond_t ended;
+};
+
+struct luffa_cache {
+    struct slot *slots;
+    size_t shards;
+    luffa_hash hash;
+    void *hash_context;
+    luffa_listener listener;
+    void *listener_context;
+    uint64_t seeds[2];
+    atomic_size_t capacity;
+};
+
+/* What left by a call, which the shard holds under a number. */
+struct told {
+    size_t number;
+    size_t count;
+};
+
+const char *luffa_version(void) { return "0.1.0 (" LUFFA_PROOF ")"; }
+
+luffa_config luffa_config_default(uint32_t policy) {
+    luffa_config config = {.shards = 8};
+    config.policy = (luffa_policy){
+        .kind = policy,
+        .high_priority_pool = {9, 10},
+        .window = {1, 10},
+        .protected_ = {8, 10},
+        .sketch_buckets = 2719,
+        .sketch_rows = 3,
+        .small_to_main = 1,
+        .small_queue = {1, 10},
+        .ghost_queue = {1, 1},
+    };
+    return config;
+}
+
+static void lock(struct slot *slot) {
+    unsigned turns = 0;
+    while (atomic_exchange_explicit(&slot->is_locked, 1, memory_order_acquire) != 0)
+        while (atomic_load_explicit(&slot->is_locked, memory_order_relaxed) != 0)
+            if (++turns % SPINS == 0)
+                sched_yield();
+            else
+                __builtin_ia32_pause();
+}
+
+static void unlock(struct slot *slot) { atomic_store_explicit(&slot->is_locked, 0, memory_order_release); }
+
+/* Wakes the callers that wait for a fetch. The lock is held. */
+static void wake(struct slot *slot) {
+    if (slot->waiting == 0)
+        return;
+    pthread_mutex_lock(&slot->sleep);
+    slot->ends++;
+    pthread_cond_broadcast(&slot->ended);
+    pthread_mutex_unlock(&slot->sleep);
+}
+
+static inline uint64_t folded(uint64_t a, uint64_t b) {
+    unsigned __int128 product = (unsigned __int128)a * b;
+    return (uint64_t)product ^ (uint64_t)(product >> 64);
+}
+
+static inline uint64_t word_at(const uint8_t *bytes, size_t len) {
+    uint64_t word = 0;
+    memcpy(&word, bytes, len);
+    return word;
+}
+
+/* A hash by folded products of 64 bits, as foldhash and wyhash have. Whoever doesn't know the seeds can't make keys
+ * collide. */
+static inline uint64_t default_hash(const luffa_cache *cache, const uint8_t *key, size_t len) {
+    uint64_t state = cache->seeds[0] ^ len;
+    size_t at = 0;
+    for (; len - at > 16; at += 16)
+        state = folded(word_at(key + at, 8) ^ state, word_at(key + at + 8, 8) ^ cache->seeds[1]);
+    uint64_t first = 0, second = 0;
+    if (len - at >= 8) {
+        first = word_at(key + at, 8);
+        second = word_at(key + len - 8, 8);
+    } else if (len - at > 0) {
+        first = word_at(key + at, len - at);
+    }
+    state = folded(first ^ state, second ^ cache->seeds[1]);
+    return folded(state, 0x9E3779B97F4A7C15u);
+}
+
+static inline uint64_t hash_of(const luffa_cache *cache, const void *key, size_t len) {
+    return cache->hash ? cache->hash(cache->hash_context, key, len) : default_hash(cache, key, len);
+}
+
+static inline struct slot *slot_of(const luffa_cache *cache, uint64_t hash) {
+    size_t shards = cache->shards;
+    return &cache->slots[(shards & (shards - 1)) == 0 ? hash & (shards - 1) : hash % shards];
+}
+
+/* What a shard gets of a capacity: an equal part, and the first ones one more if some is left over. */
+static size_t share_of(size_t capacity, size_t shards, size_t index) {
+    return capacity / shards + (index < capacity % shards);
+}
+
+static void seed(uint64_t seeds[2]) {
+    if (getentropy(seeds, 2 * sizeof *seeds) != 0) {
+        seeds[0] = (uint64_t)(uintptr_t)seeds ^ (uint64_t)time(NULL) << 20;
+        seeds[1] = folded(seeds[0] ^ (uint64_t)getpid(), 0xD1342543DE82EF95u);
+    }
+    seeds[1] |= 1;
+}
+
+static void free_cache(luffa_cache *cache, size_t made) {
+    for (size_t i = 0; i < made; i++) {
+        luffa_shard_destroy(&cache->slots[i].shard);
+        pthread_cond_destroy(&cache->slots[i].ended);
+        pthread_mutex_destroy(&cache->slots[i].sleep);
+    }
+    free(cache->slots);
+    free(cache);
+}
+
+static luffa_status create_slot(luffa_cache *cache, const luffa_config *config, size_t index) {
+    struct slot *slot = &cache->slots[index];
+    memset(slot, 0, sizeof *slot);
+    slot->cache = cache;
+    luffa_status status = luffa_shard_create(
+        &slot->shard, &config->policy, share_of(config->capacity, config->shards, index), config->listener != NULL);
+    if (status == LUFFA_OK) {
+        pthread_mutex_init(&slot->sleep, NULL);
+        pthread_cond_init(&slot->ended, NULL);
+    }
+    return status;
+}
+
+luffa_status luffa_create(const luffa_config *config, luffa_cache **made) {
+    *made = NULL;
+    if (config->shards == 0)
+        return LUFFA_NO_SHARDS;
+    luffa_cache *cache = calloc(1, sizeof *cache);
+    if (cache == NULL || config->shards > SIZE_MAX / sizeof(struct slot)) {
+        free(cache);
+        return LUFFA_NO_MEMORY;
+    }
+    cache->slots = aligned_alloc(LINE, config->shards * sizeof(struct slot));
+    if (cache->slots == NULL) {
+        free(cache);
+        return LUFFA_NO_MEMORY;
+    }
+    cache->shards = config->shards;
+    cache->capacity = config->capacity;
+    cache->hash = config->hash;
+    cache->hash_context = config->hash_context;
+    cache->listener = config->listener;
+    cache->listener_context = config->listener_context;
+    seed(cache->seeds);
+    for (size_t i = 0; i < cache->shards; i++) {
+        luffa_status status = create_slot(cache, config, i);
+        if (status != LUFFA_OK) {
+            free_cache(cache, i);
+            return status;
+        }
+    }
+    *made = cache;
+    return LUFFA_OK;
+}
+
+static void tell_record(const luffa_cache *cache, const luffa_record *record) {
+    cache->listener(cache->listener_context, (int)record->event, record->key, record->key_len, record->value,
+                    record->value_len);
+}
+
+/* Ends what a number names. The lock is held when it begins and when it returns. */
+static void release(struct slot *slot, size_t number) {
+    luffa_record record;
+    if (luffa_shard_release(&slot->shard, number) != LUFFA_LEFT)
+        return;
+    luffa_shard_show_left(&slot->shard, number, 0, &record);
+    unlock(slot);
+    tell_record(slot->cache, &record);
+    lock(slot);
+    luffa_shard_release(&slot->shard, number);
+}
+
+/*
+ * Tells what left, if there is a listener. The lock is held when it begins, and not when it returns. Without memory for
+ * that (F7) what left stays to be told by a later call.
+ */
+static luffa_status unlock_and_tell(struct slot *slot) {
+    const luffa_cache *cache = slot->cache;
+    size_t number, count;
+    luffa_status status = LUFFA_MISSING;
+    while (cache->listener != NULL && (status = luffa_shard_take_left(&slot->shard, &number, &count)) == LUFFA_OK) {
+        luffa_record records[BATCH];
+        for (size_t from = 0; from < count; from += BATCH) {
+            size_t some = count - from < BATCH ? count - from : BATCH;
+            for (size_t i = 0; i < some; i++)
+                luffa_shard_show_left(&slot->shard, number, from + i, &records[i]);
+            unlock(slot);
+            for (size_t i = 0; i < some; i++)
+                tell_record(cache, &records[i]);
+            lock(slot);
+        }
+        luffa_shard_release(&slot->shard, number);
+    }
+    unlock(slot);
+    return status == LUFFA_NO_MEMORY ? status : LUFFA_OK;
+}
+
+/* Hands a record out as an entry, or ends its handle if nobody wants it. */
+static void give(struct slot *slot, const luffa_record *record, luffa_entry *entry) {
+    if (entry == NULL) {
+        release(slot, record->number);
+        return;
+    }
+    *entry = (luffa_entry){record->key, record->key_len, record->value, record->value_len, record->weight,
+                           slot,        record->number};
+}
+
+/* Ends an insert. The lock is held when it begins. */
+static luffa_status inserted(struct slot *slot, luffa_status status) {
+    if (status == LUFFA_OK)
+        wake(slot);
+    unlock_and_tell(slot);
+    return status;
+}
+
+luffa_status luffa_insert(luffa_cache *cache, uint64_t now, const void *key, size_t key_len, const void *value,
+                          size_t value_len, size_t weight, uint64_t expires) {
+    uint64_t hash = hash_of(cache, key, key_len);
+    struct slot *slot = slot_of(cache, hash);
+    lock(slot);
+    return inserted(slot, luffa_shard_insert(&slot->shard, now, hash, key, key_len, value, value_len, weight, expires));
+}
+
+luffa_status luffa_insert_entry(luffa_cache *cache, uint64_t now, const void *key, size_t key_len, const void *value,
+                                size_t value_len, const luffa_terms *terms, luffa_entry *entry) {
+    luffa_record record;
+    uint64_t hash = hash_of(cache, key, key_len);
+    struct slot *slot = slot_of(cache, hash);
+    lock(slot);
+    luffa_status status =
+        luffa_shard_insert_entry(&slot->shard, now, hash, key, key_len, value, value_len, terms, &record);
+    if (status == LUFFA_OK)
+        give(slot, &record, entry);
+    return inserted(slot, status);
+}
+
+/* Counts a lookup. The lock is held. */
+static void count(struct slot *slot, luffa_status status) {
+    slot->hits += status == LUFFA_OK;
+    slot->misses += status == LUFFA_MISSING;
+}
+
+luffa_status luffa_get(luffa_cache *cache, uint64_t now, const void *key, size_t key_len, void *buffer,
+                       size_t buffer_len, size_t *value_len) {
+    uint64_t hash = hash_of(cache, key, key_len);
+    struct slot *slot = slot_of(cache, hash);
+    lock(slot);
+    luffa_status status = luffa_shard_get(&slot->shard, now, hash, key, key_len, buffer, buffer_len, value_len);
+    count(slot, status);
+    unlock(slot);
+    return status;
+}
+
+luffa_status luffa_get_entry(luffa_cache *cache, uint64_t now, const void *key, size_t key_len, luffa_entry *entry) {
+    luffa_record record;
+    uint64_t hash = hash_of(cache, key, key_len);
+    struct slot *slot = slot_of(cache, hash);
+    lock(slot);
+    luffa_status status = luffa_shard_get_entry(&slot->shard, now, hash, key, key_len, &record);
+    count(slot, status);
+    if (status == LUFFA_OK)
+        give(slot, &record, entry);
+    unlock(slot);
+    return status;
+}
+
+void luffa_release(luffa_entry *entry) {
+    struct slot *slot = entry->shard;
+    if (slot == NULL)
+        return;
+    lock(slot);
+    release(slot, entry->number);
+    unlock(slot);
+    *entry = (luffa_entry){0};
+}
+
+/* Takes the answer of a number out, once there is one. The lock is held. */
+static luffa_status take_answer(struct slot *slot, size_t number, luffa_entry *entry) {
+    luffa_record record;
+    luffa_status status = luffa_shard_answered(&slot->shard, number, &record);
+    if (status == LUFFA_OK)
+        give(slot, &record, entry);
+    else if (status != LUFFA_WAIT)
+        release(slot, number);
+    return status;
+}
+
+/* Waits for the answer of a number. The lock is held when it begins, and not when it returns. */
+static luffa_status wait_for(struct slot *slot, size_t number, luffa_entry *entry) {
+    luffa_status status;
+    slot->waiting++;
+    while ((status = take_answer(slot, number, entry)) == LUFFA_WAIT) {
+        uint64_t ends = slot->ends;
+        unlock(slot);
+        pthread_mutex_lock(&slot->sleep);
+        while (slot->ends == ends)
+            pthread_cond_wait(&slot->ended, &slot->sleep);
+        pthread_mutex_unlock(&slot->sleep);
+        lock(slot);
+    }
+    slot->waiting--;
+    unlock(slot);
+    return status;
+}
+
+/* Makes the value of a key and ends its fetch with it. */
+static luffa_status lead(struct slot *slot, uint64_t now, uint64_t hash, const void *key, size_t key_len,
+                         uint64_t fetch, size_t number, luffa_make make, void *context, luffa_entry *entry) {
+    luffa_made made = {.weight = 1, .now = now};
+    bool is_made = make(context, key, key_len, &made) == 0;
+    luffa_terms terms = {made.weight, made.expires, made.expires != 0 ? LUFFA_EXPIRES : 0};
+    lock(slot);
+    luffa_status status = LUFFA_NO_MEMORY;
+    if (is_made)
+        status =
+            luffa_shard_complete(&slot->shard, made.now, hash, key, key_len, fetch, made.value, made.value_len, &terms);
+    while (status == LUFFA_UNTOLD) {
+        luffa_status told = unlock_and_tell(slot);
+        lock(slot);
+        if (told != LUFFA_OK)
+            break;
+        status =
+            luffa_shard_complete(&slot->shard, made.now, hash, key, key_len, fetch, made.value, made.value_len, &terms);
+    }
+    if (status != LUFFA_OK && status != LUFFA_MISSING)
+        luffa_shard_cancel(&slot->shard, hash, key, key_len, fetch);
+    wake(slot);
+    status = take_answer(slot, number, entry);
+    unlock_and_tell(slot);
+    if (made.free_value != NULL)
+        made.free_value((void *)(uintptr_t)made.value);
+    return status;
+}
+
+luffa_status luffa_get_or_insert(luffa_cache *cache, uint64_t now, const void *key, size_t key_len, luffa_make make,
+                                 void *context, luffa_entry *entry) {
+    luffa_record record;
+    luffa_fetch fetch;
+    uint64_t hash = hash_of(cache, key, key_len);
+    struct slot *slot = slot_of(cache, hash);
+    lock(slot);
+    luffa_status status = luffa_shard_fetch(&slot->shard, now, hash, key, key_len, &record, &fetch);
+    slot->hits += status == LUFFA_OK;
+    slot->misses += status == LUFFA_LEAD || status == LUFFA_WAIT;
+    if (status == LUFFA_WAIT)
+        return wait_for(slot, record.number, entry);
+    if (status == LUFFA_OK)
+        give(slot, &record, entry);
+    unlock(slot);
+    if (status == LUFFA_LEAD)
+        return lead(slot, now, hash, key, key_len, fetch.fetch, record.number, make, context, entry);
+    return status;
+}
+
+luffa_status luffa_remove_entry(luffa_cache *cache, const void *key, size_t key_len, luffa_entry *entry) {
+    luffa_record record;
+    uint64_t hash = hash_of(cache, key, key_len);
+    struct slot *slot = slot_of(cache, hash);
+    lock(slot);
+    luffa_status status = luffa_shard_remove(&slot->shard, hash, key, key_len, &record);
+    if (status == LUFFA_OK)
+        give(slot, &record, entry);
+    unlock_and_tell(slot);
+    return status;
+}
+
+luffa_status luffa_remove(luffa_cache *cache, const void *key, size_t key_len) {
+    return luffa_remove_entry(cache, key, key_len, NULL);
+}
+
+luffa_status luffa_contains(luffa_cache *cache, uint64_t now, const void *key, size_t key_len) {
+    uint64_t hash = hash_of(cache, key, key_len);
+    struct slot *slot = slot_of(cache, hash);
+    lock(slot);
+    luffa_status status = luffa_shard_contains(&slot->shard, now, hash, key, key_len);
+    unlock(slot);
+    return status;
+}
+
+luffa_status luffa_touch(luffa_cache *cache, uint64_t now, const void *key, size_t key_len) {
+    uint64_t hash = hash_of(cache, key, key_len);
+    struct slot *slot = slot_of(cache, hash);
+    lock(slot);
+    luffa_status status = luffa_shard_touch(&slot->shard, now, hash, key, key_len);
+    count(slot, status);
+    unlock(slot);
+    return status;
+}
+
+/* What a call for all records does in each shard, under its lock. */
+enum bulk { CLEAR, EVICT_ALL, RESIZE };
+
+static luffa_status bulk_in(struct slot *slot, enum bulk call, uint64_t now, size_t capacity) {
+    for (;;) {
+        lock(slot);
+        luffa_status status = call == CLEAR       ? luffa_shard_clear(&slot->shard)
+                              : call == EVICT_ALL ? luffa_shard_evict_all(&slot->shard, now)
+                                                  : luffa_shard_resize(&slot->shard, now, capacity);
+        luffa_status told = unlock_and_tell(slot);
+        if (status != LUFFA_UNTOLD)
+            return status;
+        if (told != LUFFA_OK)
+            return told;
+    }
+}
+
+/* The first refusal counts, and the other shards are done all the same. */
+static luffa_status bulk(luffa_cache *cache, enum bulk call, uint64_t now, size_t capacity) {
+    luffa_status first = LUFFA_OK;
+    for (size_t i = 0; i < cache->shards; i++) {
+        luffa_status status = bulk_in(&cache->slots[i], call, now, share_of(capacity, cache->shards, i));
+        if (first == LUFFA_OK)
+            first = status;
+    }
+    return first;
+}
+
+luffa_status luffa_clear(luffa_cache *cache) { return bulk(cache, CLEAR, 0, 0); }
+
+luffa_status luffa_evict_all(luffa_cache *cache, uint64_t now) { return bulk(cache, EVICT_ALL, now, 0); }
+
+luffa_status luffa_resize(luffa_cache *cache, uint64_t now, size_t capacity) {
+    cache->capacity = capacity;
+    return bulk(cache, RESIZE, now, capacity);
+}
+
+luffa_status luffa_reconfigure(luffa_cache *cache, const luffa_policy *policy) {
+    luffa_status status = LUFFA_OK;
+    /* A shard refuses a configuration by itself alone, so the first one speaks for all. */
+    for (size_t i = 0; i < cache->shards && status == LUFFA_OK; i++) {
+        lock(&cache->slots[i]);
+        status = luffa_shard_reconfigure(&cache->slots[i].shard, policy);
+        unlock(&cache->slots[i]);
+    }
+    return status;
+}
+
+luffa_stats luffa_get_stats(luffa_cache *cache) {
+    luffa_stats stats = {0};
+    for (size_t i = 0; i < cache->shards; i++) {
+        struct slot *slot = &cache->slots[i];
+        luffa_load load;
+        lock(slot);
+        luffa_shard_load(&slot->shard, &load);
+        stats.hits += slot->hits;
+        stats.misses += slot->misses;
+        unlock(slot);
+        bool is_more = load.usage_high != 0 || load.usage > UINT64_MAX - stats.usage;
+        stats.usage = is_more ? UINT64_MAX : stats.usage + load.usage;
+        stats.entries += load.entries;
+    }
+    return stats;
+}
+
+uint64_t luffa_usage(luffa_cache *cache) { return luffa_get_stats(cache).usage; }
+
+uint64_t luffa_entries(luffa_cache *cache) { return luffa_get_stats(cache).entries; }
+
+size_t luffa_capacity(const luffa_cache *cache) { return cache->capacity; }
+
+size_t luffa_shards(const luffa_cache *cache) { return cache->shards; }
+
+void luffa_destroy(luffa_cache *cache) {
+    if (cache == NULL)
+        return;
+    if (cache->listener != NULL)
+        luffa_clear(cache);
+    free_cache(cache, cache->shards);
+}

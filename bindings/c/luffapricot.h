@@ -1,0 +1,221 @@
+/*
+ * luffapricot.h: an in-memory cache of bytes by bytes, for any number of threads.
+ *
+ * The records, the policies and all that a shard does are proved (see bindings/README.md); the file luffapricot.c,
+ * which has the locks, the hash and the calls below, is not.
+ *
+ * Times. `now` and `expires` are in a unit of the caller's choice. Pass 0 as `now` if nothing expires. Time may go
+ * back. Weights. A record counts its weight against the capacity: 1, the bytes of its value, or any other number. Keys
+ * and values. Any bytes of any length, 0 included; a pointer may be NULL if its length is 0. Both are copied. Threads.
+ * Any thread may make any call at any time, except luffa_destroy, which must be the last call for a cache. Undefined: a
+ * cache or an entry that is used after luffa_destroy, an entry that is copied and released twice, and a call from a
+ * signal handler or from the child of a fork in a process with threads.
+ *
+ * Nothing here aborts. A call that returns a status changes nothing unless it returns LUFFA_OK or says otherwise.
+ */
+#ifndef LUFFAPRICOT_H
+#define LUFFAPRICOT_H
+
+#include <stddef.h>
+#include <stdint.h>
+
+#ifdef __cplusplus
+extern "C" {
+#endif
+
+/* What a call did. The numbers from 1 to 17 are the refusals F1 to F17 of the cache. */
+typedef uint32_t luffa_status;
+
+enum {
+    LUFFA_OK = 0,
+    LUFFA_NO_SHARDS = 1,        /* F1: the cache has no shards */
+    LUFFA_ZERO_DENOMINATOR = 2, /* F2: a ratio has the denominator 0 */
+    LUFFA_RATIO_RANGE = 3,      /* F3: a ratio is out of its range */
+    LUFFA_RATIO_SUM = 4,        /* F4: window and protected leave nothing to probation */
+    LUFFA_NO_ROWS = 5,          /* F5: the sketch has no rows */
+    LUFFA_NO_BUCKETS = 6,       /* F6: the sketch has no buckets */
+    LUFFA_NO_MEMORY = 7,        /* F7: out of memory; what an insert or a resize had evicted by then stays evicted */
+    LUFFA_WEIGHT = 8,           /* F8: the weights would overflow */
+    LUFFA_HANDLES = 9,          /* F9: too many entries of a record */
+    LUFFA_IDS = 10,             /* F10: no number is left for a record or a fetch */
+    LUFFA_CANCELLED = 15,       /* F15: the callback of luffa_get_or_insert made no value */
+    LUFFA_WRONG_POLICY = 17,    /* F17: the configuration is of another policy */
+    LUFFA_MISSING = 101,        /* the cache has no such record */
+    LUFFA_NO_POLICY = 105       /* no policy has this number */
+};
+
+/* The policies, which decide what is evicted. */
+enum { LUFFA_FIFO, LUFFA_LRU, LUFFA_LFU, LUFFA_S3FIFO, LUFFA_SIEVE };
+
+/* Why a record left. */
+enum { LUFFA_EVICT, LUFFA_REPLACE, LUFFA_REMOVE, LUFFA_CLEAR };
+
+/* A share of the capacity: num / den. */
+typedef struct luffa_ratio {
+    uint32_t num;
+    uint32_t den;
+} luffa_ratio;
+
+/* A policy and its configuration. Only the fields of its kind are read. */
+typedef struct luffa_policy {
+    uint32_t kind;                  /* LUFFA_FIFO to LUFFA_SIEVE */
+    luffa_ratio high_priority_pool; /* LRU: 0 to 1 */
+    luffa_ratio window;             /* LFU: above 0, below 1 */
+    luffa_ratio protected_;         /* LFU: above 0, below 1; with window below 1 */
+    uint32_t sketch_buckets;        /* LFU: above 0 */
+    uint8_t sketch_rows;            /* LFU: above 0 */
+    uint8_t small_to_main;          /* S3-FIFO: uses that move a record to the main queue */
+    luffa_ratio small_queue;        /* S3-FIFO: above 0, below 1 */
+    luffa_ratio ghost_queue;        /* S3-FIFO: any */
+} luffa_policy;
+
+/* Gives a key its hash. Equal keys must have equal hashes. It is called with no lock held. */
+typedef uint64_t (*luffa_hash)(void *context, const void *key, size_t key_len);
+
+/*
+ * Is told of a record that left, by the thread whose call made it leave, before that call returns and with no lock
+ * held, so it may call the cache. If there was no memory to tell it, it is told after a later call of any thread.
+ */
+typedef void (*luffa_listener)(void *context, int event, const void *key, size_t key_len, const void *value,
+                               size_t value_len);
+
+typedef struct luffa_config {
+    luffa_policy policy;
+    size_t capacity; /* the weight that the records may have together */
+    size_t shards;   /* each has its own lock and an equal share of the capacity */
+    luffa_hash hash; /* NULL: a fast hash whose seed is random for each cache */
+    void *hash_context;
+    luffa_listener listener; /* NULL: nobody is told */
+    void *listener_context;
+} luffa_config;
+
+typedef struct luffa_cache luffa_cache;
+
+/*
+ * A record that is held: its key and value stay readable and in place, even after an eviction, until luffa_release.
+ * LRU doesn't evict a record that was looked up and is held.
+ */
+typedef struct luffa_entry {
+    const void *key;
+    size_t key_len;
+    const void *value;
+    size_t value_len;
+    size_t weight;
+    void *shard;   /* private */
+    size_t number; /* private */
+} luffa_entry;
+
+/* How a record is inserted. */
+typedef struct luffa_terms {
+    size_t weight;
+    uint64_t expires; /* from this time on no lookup finds the record, if the flags have LUFFA_EXPIRES */
+    uint32_t flags;   /* a sum of these */
+} luffa_terms;
+
+enum {
+    LUFFA_EXPIRES = 1,
+    LUFFA_LOW_PRIORITY = 2, /* LRU: the record is among the first to be evicted */
+    LUFFA_PHANTOM = 4       /* no lookup finds the record: it leaves with its last entry */
+};
+
+/* What the callback of luffa_get_or_insert makes. */
+typedef struct luffa_made {
+    const void *value; /* copied after the callback has returned */
+    size_t value_len;
+    size_t weight;              /* 1 if the callback leaves it */
+    uint64_t expires;           /* 0, never, if the callback leaves it */
+    uint64_t now;               /* that of the call if the callback leaves it */
+    void (*free_value)(void *); /* called with `value` after it was copied, unless NULL */
+} luffa_made;
+
+/* Makes the value of a key, with no lock held. Returns 0, or another number if there is no value. */
+typedef int (*luffa_make)(void *context, const void *key, size_t key_len, luffa_made *made);
+
+typedef struct luffa_stats {
+    uint64_t usage;   /* the sum of the weights, or UINT64_MAX if it is more */
+    uint64_t entries; /* how many records there are */
+    uint64_t hits;    /* lookups that found their key */
+    uint64_t misses;
+} luffa_stats;
+
+/* The version, and whether the library was made of the proved archive: "0.1.0 (proved)" or "0.1.0 (unproved)". */
+const char *luffa_version(void);
+
+/* A configuration of this policy with its defaults, 8 shards and the capacity 0. */
+luffa_config luffa_config_default(uint32_t policy);
+
+/* Creates a cache. F1 to F7, or LUFFA_NO_POLICY; then *cache is NULL. */
+luffa_status luffa_create(const luffa_config *config, luffa_cache **cache);
+
+/* Tells the listener that all records leave (LUFFA_CLEAR), and frees the cache. NULL is allowed. No entry is left held.
+ */
+void luffa_destroy(luffa_cache *cache);
+
+/* Inserts a record, which replaces that of its key. It never expires if `expires` is 0. F7 to F10. */
+luffa_status luffa_insert(luffa_cache *cache, uint64_t now, const void *key, size_t key_len, const void *value,
+                          size_t value_len, size_t weight, uint64_t expires);
+
+/* Like luffa_insert, and returns an entry of the record. */
+luffa_status luffa_insert_entry(luffa_cache *cache, uint64_t now, const void *key, size_t key_len, const void *value,
+                                size_t value_len, const luffa_terms *terms, luffa_entry *entry);
+
+/*
+ * Copies a value, or the part of it that fits the buffer, and writes its whole length. LUFFA_MISSING, F7 or F9.
+ * If *value_len is more than buffer_len, call again with a larger buffer, or use luffa_get_entry.
+ */
+luffa_status luffa_get(luffa_cache *cache, uint64_t now, const void *key, size_t key_len, void *buffer,
+                       size_t buffer_len, size_t *value_len);
+
+/* Returns an entry of the key's record. LUFFA_MISSING, F7 or F9. */
+luffa_status luffa_get_entry(luffa_cache *cache, uint64_t now, const void *key, size_t key_len, luffa_entry *entry);
+
+/* Releases an entry and zeroes it. An entry of zeros is allowed. */
+void luffa_release(luffa_entry *entry);
+
+/*
+ * Returns an entry of the key's record, or lets `make` make its value and inserts it. Of several callers that ask for
+ * the same missing key one runs `make`, and the others wait for its result. `make` must not ask for the same key
+ * itself. LUFFA_CANCELLED for all of them if `make` returned another number than 0, or there was no memory for its
+ * value; F7 to F10.
+ */
+luffa_status luffa_get_or_insert(luffa_cache *cache, uint64_t now, const void *key, size_t key_len, luffa_make make,
+                                 void *context, luffa_entry *entry);
+
+/* Removes the key's record. LUFFA_MISSING, F7 or F9. */
+luffa_status luffa_remove(luffa_cache *cache, const void *key, size_t key_len);
+
+/* Removes the key's record and returns an entry of it. LUFFA_MISSING, F7 or F9. */
+luffa_status luffa_remove_entry(luffa_cache *cache, const void *key, size_t key_len, luffa_entry *entry);
+
+/* LUFFA_OK if a lookup would find the key. It doesn't count as a use. LUFFA_MISSING or F7. */
+luffa_status luffa_contains(luffa_cache *cache, uint64_t now, const void *key, size_t key_len);
+
+/* Counts as a use of the key's record, as a lookup does. LUFFA_MISSING, F7 or F9. */
+luffa_status luffa_touch(luffa_cache *cache, uint64_t now, const void *key, size_t key_len);
+
+/*
+ * Sets the capacity and evicts down to it. F7: some shards may still hold more than their share. Two resizes at the
+ * same time may leave some shards with a share of the one and some with a share of the other.
+ */
+luffa_status luffa_resize(luffa_cache *cache, uint64_t now, size_t capacity);
+
+/* Sets the configuration of the policy, whose kind can't change. F2 to F6, F17 or LUFFA_NO_POLICY. */
+luffa_status luffa_reconfigure(luffa_cache *cache, const luffa_policy *policy);
+
+/* Removes all records. F7: some shards may be left. */
+luffa_status luffa_clear(luffa_cache *cache);
+
+/* Evicts all records, except those that LRU pins. F7: some may be left. */
+luffa_status luffa_evict_all(luffa_cache *cache, uint64_t now);
+
+/* What the cache holds, shard by shard, so it is no single moment's while other threads change the cache. */
+luffa_stats luffa_get_stats(luffa_cache *cache);
+uint64_t luffa_usage(luffa_cache *cache);
+uint64_t luffa_entries(luffa_cache *cache);
+size_t luffa_capacity(const luffa_cache *cache);
+size_t luffa_shards(const luffa_cache *cache);
+
+#ifdef __cplusplus
+}
+#endif
+#endif

@@ -1,0 +1,264 @@
+/*
+ * sim POLICY CAPACITY SHARDS: carries out the lines of foyer-sim over a luffa_cache, whose hash of a key is the key,
+ * and prints the same. tests/replay has the lines with their answers. It takes the file luffapricot.c whole, since a
+ * fetch that stays open from line to line is a call of shard.h.
+ */
+#include "../luffapricot.c"
+#include <stdio.h>
+
+enum { MOST = 1 << 16 };
+
+struct waiting {
+    uint64_t key;
+    uint64_t token;
+    size_t number;
+};
+
+static luffa_cache *cache;
+static luffa_entry handles[MOST];
+static size_t handed_out;
+static struct waiting waiting[MOST];
+static size_t waits;
+static char left[1 << 16];
+static size_t left_len;
+static char answers[1 << 16];
+static uint64_t now;
+
+static uint64_t key_is_hash(void *context, const void *key, size_t key_len) {
+    (void)context;
+    uint64_t number;
+    memcpy(&number, key, key_len);
+    return number;
+}
+
+static void hear(void *context, int event, const void *key, size_t key_len, const void *value, size_t value_len) {
+    static const char *const EVENTS[] = {"evict", "replace", "remove", "clear"};
+    uint64_t numbers[2];
+    (void)context;
+    memcpy(&numbers[0], key, key_len);
+    memcpy(&numbers[1], value, value_len);
+    left_len += (size_t)snprintf(left + left_len, sizeof left - left_len, "%s%s %llu=%llu", left_len ? ", " : "",
+                                 EVENTS[event], (unsigned long long)numbers[0], (unsigned long long)numbers[1]);
+}
+
+static uint64_t value_of(const luffa_entry *entry) {
+    uint64_t value;
+    memcpy(&value, entry->value, sizeof value);
+    return value;
+}
+
+static void print_refusal(luffa_status status) { printf("F%u", status); }
+
+/* What a lookup or a removal returned. */
+static void print_found(luffa_status status, const luffa_entry *entry) {
+    if (status == LUFFA_OK) {
+        handles[handed_out] = *entry;
+        printf("h%zu %llu", handed_out++, (unsigned long long)value_of(entry));
+    } else if (status == LUFFA_MISSING) {
+        printf("none");
+    } else {
+        print_refusal(status);
+    }
+}
+
+static void print_done(luffa_status status) {
+    if (status == LUFFA_OK)
+        printf("ok");
+    else
+        print_refusal(status);
+}
+
+static void print_yes(luffa_status status) {
+    if (status == LUFFA_OK || status == LUFFA_MISSING)
+        printf(status == LUFFA_OK ? "yes" : "no");
+    else
+        print_refusal(status);
+}
+
+static struct slot *slot_at(uint64_t key) { return slot_of(cache, key); }
+
+/* The tokens of a key that were answered, each with what it got, into `answers`. */
+static void collect_answers(uint64_t key, const char *before) {
+    size_t kept = 0, len = 0;
+    answers[0] = 0;
+    for (size_t i = 0; i < waits; i++) {
+        struct waiting it = waiting[i];
+        luffa_status status = LUFFA_WAIT;
+        luffa_entry entry;
+        if (it.key == key) {
+            lock(slot_at(key));
+            status = take_answer(slot_at(key), it.number, &entry);
+            unlock(slot_at(key));
+        }
+        if (status == LUFFA_WAIT) {
+            waiting[kept++] = it;
+            continue;
+        }
+        bool is_entry = status == LUFFA_OK;
+        if (is_entry)
+            handles[handed_out] = entry;
+        len += (size_t)snprintf(answers + len, sizeof answers - len, "%st%llu=%c%zu", before,
+                                (unsigned long long)it.token, is_entry ? 'h' : 'F', is_entry ? handed_out++ : status);
+        before = " ";
+    }
+    waits = kept;
+}
+
+static void insert_line(const uint64_t *n, size_t count, uint32_t flags) {
+    luffa_terms terms = {count > 2 ? n[2] : 1, count > 3 ? n[3] : 0, flags | (count > 3 ? LUFFA_EXPIRES : 0)};
+    luffa_entry entry;
+    luffa_status status = luffa_insert_entry(cache, now, &n[0], 8, &n[1], 8, &terms, &entry);
+    if (status != LUFFA_OK) {
+        print_refusal(status);
+        return;
+    }
+    collect_answers(n[0], " "); /* whoever waited has the lower numbers */
+    handles[handed_out] = entry;
+    printf("h%zu%s", handed_out++, answers);
+}
+
+static void drop_line(uint64_t number) {
+    if (number >= handed_out || handles[number].shard == NULL) {
+        printf("not held");
+        return;
+    }
+    luffa_release(&handles[number]);
+    printf("ok");
+}
+
+static void fetch_line(uint64_t key) {
+    struct slot *slot = slot_at(key);
+    luffa_record record;
+    luffa_fetch fetch;
+    luffa_entry entry;
+    lock(slot);
+    luffa_status status = luffa_shard_fetch(&slot->shard, now, key, (const uint8_t *)&key, sizeof key, &record, &fetch);
+    if (status == LUFFA_OK)
+        give(slot, &record, &entry);
+    unlock(slot);
+    if (status != LUFFA_LEAD && status != LUFFA_WAIT) {
+        print_found(status, &entry);
+        return;
+    }
+    waiting[waits++] = (struct waiting){key, fetch.token, record.number};
+    if (status == LUFFA_LEAD)
+        printf("lead t%llu f%llu", (unsigned long long)fetch.token, (unsigned long long)fetch.fetch);
+    else
+        printf("wait t%llu", (unsigned long long)fetch.token);
+}
+
+static void end_line(uint64_t key, uint64_t fetch, const uint64_t *value) {
+    struct slot *slot = slot_at(key);
+    const luffa_terms terms = {.weight = 1};
+    const uint8_t *bytes = (const uint8_t *)&key;
+    lock(slot);
+    luffa_status status = value == NULL ? luffa_shard_cancel(&slot->shard, key, bytes, sizeof key, fetch)
+                                        : luffa_shard_complete(&slot->shard, now, key, bytes, sizeof key, fetch,
+                                                               (const uint8_t *)value, 8, &terms);
+    unlock_and_tell(slot);
+    if (status == LUFFA_MISSING)
+        printf("lost");
+    else if (status != LUFFA_OK)
+        print_refusal(status);
+    else {
+        collect_answers(key, "");
+        printf("%s", answers);
+    }
+}
+
+static void high_line(uint64_t num, uint64_t den) {
+    luffa_policy policy = luffa_config_default(LUFFA_LRU).policy;
+    policy.high_priority_pool = (luffa_ratio){(uint32_t)num, (uint32_t)den};
+    print_done(luffa_reconfigure(cache, &policy));
+}
+
+/* Carries a line out. Returns whether it is one. */
+static bool carry_out(const char *word, const uint64_t *n, size_t count) {
+    luffa_entry entry;
+    if (strcmp(word, "insert") == 0 && count >= 2 && count <= 4)
+        insert_line(n, count, 0);
+    else if (strcmp(word, "phantom") == 0 && (count == 2 || count == 3))
+        insert_line(n, count, LUFFA_PHANTOM);
+    else if (strcmp(word, "get") == 0 && count == 1)
+        print_found(luffa_get_entry(cache, now, n, 8, &entry), &entry);
+    else if (strcmp(word, "remove") == 0 && count == 1)
+        print_found(luffa_remove_entry(cache, n, 8, &entry), &entry);
+    else if (strcmp(word, "contains") == 0 && count == 1)
+        print_yes(luffa_contains(cache, now, n, 8));
+    else if (strcmp(word, "touch") == 0 && count == 1)
+        print_yes(luffa_touch(cache, now, n, 8));
+    else if (strcmp(word, "drop") == 0 && count == 1)
+        drop_line(n[0]);
+    else if (strcmp(word, "clear") == 0 && count == 0)
+        print_done(luffa_clear(cache));
+    else if (strcmp(word, "evict") == 0 && count == 0)
+        print_done(luffa_evict_all(cache, now));
+    else if (strcmp(word, "resize") == 0 && count == 1)
+        print_done(luffa_resize(cache, now, n[0]));
+    else if (strcmp(word, "high") == 0 && count == 2 && n[0] <= UINT32_MAX && n[1] <= UINT32_MAX)
+        high_line(n[0], n[1]);
+    else if (strcmp(word, "fetch") == 0 && count == 1)
+        fetch_line(n[0]);
+    else if (strcmp(word, "done") == 0 && count == 3)
+        end_line(n[0], n[1], &n[2]);
+    else if (strcmp(word, "cancel") == 0 && count == 2)
+        end_line(n[0], n[1], NULL);
+    else if (strcmp(word, "at") == 0 && count == 1) {
+        now = n[0];
+        printf("ok");
+    } else
+        return false;
+    return true;
+}
+
+/* Reads a number of digits alone that fits 64 bits. */
+static bool number_of(const char *word, uint64_t *number) {
+    *number = 0;
+    for (; *word >= '0' && *word <= '9'; word++)
+        if (__builtin_mul_overflow(*number, 10, number) || __builtin_add_overflow(*number, *word - '0', number))
+            return false;
+    return *word == 0;
+}
+
+static void tell_line(char *line) {
+    const char *words[8];
+    uint64_t numbers[8];
+    size_t count = 0;
+    bool is_well = true;
+    for (char *at = line, *word; is_well && (word = strtok_r(at, " ", &at)) != NULL; count++) {
+        if (count < 8)
+            words[count] = word;
+        is_well = count == 0 || (count < 8 && number_of(word, &numbers[count - 1]));
+    }
+    if (count == 0)
+        return;
+    left_len = 0;
+    if (!is_well || !carry_out(words[0], numbers, count - 1))
+        printf("bad line");
+    luffa_stats stats = luffa_get_stats(cache);
+    printf(" | %.*s | usage %llu entries %llu\n", left_len ? (int)left_len : 1, left_len ? left : "-",
+           (unsigned long long)stats.usage, (unsigned long long)stats.entries);
+}
+
+int main(int argc, char **argv) {
+    static const char *const POLICIES[] = {"fifo", "lru", "lfu", "s3fifo", "sieve"};
+    char line[4096];
+    uint32_t policy = 0;
+    if (argc != 4)
+        return 2;
+    while (policy < 5 && strcmp(argv[1], POLICIES[policy]) != 0)
+        policy++;
+    luffa_config config = luffa_config_default(policy);
+    config.capacity = strtoull(argv[2], NULL, 10);
+    config.shards = strtoull(argv[3], NULL, 10);
+    config.hash = key_is_hash;
+    config.listener = hear;
+    if (luffa_create(&config, &cache) != LUFFA_OK)
+        return 1;
+    while (fgets(line, sizeof line, stdin) != NULL) {
+        line[strcspn(line, "\n")] = 0;
+        tell_line(line);
+    }
+    luffa_destroy(cache);
+    return 0;
+}

@@ -1,0 +1,167 @@
+/*
+ * threads [THREADS SECONDS]: threads insert, look up, hold, make, remove, resize and clear at random. Each value has
+ * its key and a checksum, so a value of another key or of two writers is seen. Of the callers of luffa_get_or_insert
+ * that ask for one key at the same time, one makes it.
+ */
+#define _GNU_SOURCE
+#include "check.h"
+#include <pthread.h>
+#include <stdatomic.h>
+#include <time.h>
+
+enum { KEYS = 3000, HELD = 16, MOST_THREADS = 64, LONGEST = 400 };
+
+static luffa_cache *cache;
+static atomic_int is_over;
+static atomic_ulong wrong, calls, made, left;
+static atomic_int is_making[KEYS + 1];
+
+struct value {
+    uint32_t key;
+    uint32_t len;
+    uint32_t sum;
+    unsigned char bytes[LONGEST];
+};
+
+static uint32_t sum_of(const unsigned char *bytes, size_t len, uint32_t sum) {
+    for (size_t i = 0; i < len; i++)
+        sum = (sum ^ bytes[i]) * 16777619u;
+    return sum;
+}
+
+static size_t write_value(struct value *value, uint32_t key, uint32_t noise) {
+    value->key = key;
+    value->len = noise % LONGEST;
+    for (size_t i = 0; i < value->len; i++)
+        value->bytes[i] = (unsigned char)(noise >> i % 24);
+    value->sum = sum_of(value->bytes, value->len, key);
+    return offsetof(struct value, bytes) + value->len;
+}
+
+static void look_at(uint32_t key, const void *bytes, size_t len) {
+    struct value value;
+    if (len < offsetof(struct value, bytes) || len > sizeof value) {
+        wrong++;
+        return;
+    }
+    memcpy(&value, bytes, len);
+    wrong += value.key != key || len != offsetof(struct value, bytes) + value.len ||
+             value.sum != sum_of(value.bytes, value.len, key);
+}
+
+static int make(void *context, const void *key, size_t key_len, luffa_made *out) {
+    uint32_t number;
+    memcpy(&number, key, key_len);
+    wrong += atomic_fetch_add(&is_making[number], 1) != 0;
+    out->value_len = write_value(context, number, number * 2654435761u);
+    out->value = context;
+    made++;
+    if (number % 64 == 0)
+        nanosleep(&(struct timespec){0, 100000}, NULL);
+    atomic_fetch_sub(&is_making[number], 1);
+    return number % 97 == 0;
+}
+
+static void hear(void *context, int event, const void *key, size_t key_len, const void *value, size_t value_len) {
+    uint32_t number;
+    (void)context;
+    memcpy(&number, key, key_len);
+    look_at(number, value, value_len);
+    wrong += event > LUFFA_CLEAR;
+    left++;
+}
+
+static uint32_t next(uint32_t *state) {
+    *state ^= *state << 13;
+    *state ^= *state >> 17;
+    *state ^= *state << 5;
+    return *state;
+}
+
+static void hold(luffa_entry *held, luffa_entry entry, uint32_t key) {
+    look_at(key, entry.value, entry.value_len);
+    if (held->shard != NULL) {
+        uint32_t number;
+        memcpy(&number, held->key, held->key_len);
+        look_at(number, held->value, held->value_len);
+    }
+    luffa_release(held);
+    *held = entry;
+}
+
+static void *work(void *context) {
+    uint32_t state = *(uint32_t *)context;
+    luffa_entry held[HELD] = {{0}}, entry;
+    struct value value;
+    while (!is_over) {
+        uint32_t noise = next(&state), key = noise % KEYS, call = next(&state) % 1000;
+        size_t len;
+        key = next(&state) % (key + 1); /* low keys more often */
+        if (call < 500) {
+            key |= 1;
+            luffa_status status = luffa_get(cache, 0, &key, sizeof key, &value, sizeof value, &len);
+            if (status == LUFFA_OK)
+                look_at(key, &value, len);
+            else if (status == LUFFA_MISSING)
+                wrong +=
+                    luffa_insert(cache, 0, &key, sizeof key, &value, write_value(&value, key, noise), 1, 0) != LUFFA_OK;
+        } else if (call < 700) {
+            if (luffa_get_entry(cache, 0, &key, sizeof key, &entry) == LUFFA_OK)
+                hold(&held[noise % HELD], entry, key);
+        } else if (call < 900) {
+            key &= ~1u;
+            luffa_status status = luffa_get_or_insert(cache, 0, &key, sizeof key, make, &value, &entry);
+            if (status == LUFFA_OK)
+                hold(&held[noise % HELD], entry, key);
+            else
+                wrong += status != LUFFA_CANCELLED;
+        } else if (call < 960) {
+            luffa_remove(cache, &key, sizeof key);
+        } else if (call < 990) {
+            luffa_touch(cache, 0, &key, sizeof key);
+            luffa_contains(cache, 0, &key, sizeof key);
+        } else if (call < 995) {
+            luffa_resize(cache, 0, 200 + noise % 2000);
+        } else if (call < 997) {
+            luffa_evict_all(cache, 0);
+        } else if (call < 998) {
+            luffa_clear(cache);
+        } else {
+            wrong += luffa_get_stats(cache).entries > KEYS;
+        }
+        calls++;
+    }
+    for (int i = 0; i < HELD; i++)
+        luffa_release(&held[i]);
+    return NULL;
+}
+
+static void run(uint32_t policy, long threads, double seconds, int is_heard) {
+    luffa_config config = luffa_config_default(policy);
+    pthread_t ids[MOST_THREADS];
+    uint32_t seeds[MOST_THREADS];
+    config.capacity = 1000;
+    config.listener = is_heard ? hear : NULL;
+    CHECK(luffa_create(&config, &cache) == LUFFA_OK);
+    is_over = 0;
+    for (long i = 0; i < threads; i++) {
+        seeds[i] = (uint32_t)(i * 2654435761u + policy + 1);
+        CHECK(pthread_create(&ids[i], NULL, work, &seeds[i]) == 0);
+    }
+    nanosleep(&(struct timespec){(time_t)seconds, (long)((seconds - (double)(time_t)seconds) * 1e9)}, NULL);
+    is_over = 1;
+    for (long i = 0; i < threads; i++)
+        pthread_join(ids[i], NULL);
+    CHECK(luffa_clear(cache) == LUFFA_OK && luffa_usage(cache) == 0);
+    luffa_destroy(cache);
+}
+
+int main(int argc, char **argv) {
+    long threads = argc > 1 ? strtol(argv[1], NULL, 10) : 8;
+    double seconds = argc > 2 ? strtod(argv[2], NULL) : 10;
+    for (uint32_t policy = LUFFA_FIFO; policy <= LUFFA_SIEVE; policy++)
+        run(policy, threads < MOST_THREADS ? threads : MOST_THREADS, seconds / 5, policy % 2 == 0);
+    CHECK(wrong == 0 && made > 0 && left > 0);
+    printf("%lu calls, %lu values made, %lu records told, %lu wrong\n", calls, made, left, wrong);
+    return ended("threads");
+}

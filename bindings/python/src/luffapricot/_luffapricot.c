@@ -1,0 +1,757 @@
+/*
+ * _luffapricot: a cache of Python objects, and the wrapper of a cached function.
+ *
+ * A dict maps each key to its node, which holds the key and the value. The luffa_cache decides what leaves: its key is
+ * the node's address and the hash of the Python key, by which the policies remember keys, and its values are empty. A
+ * node stays in the dict while the cache has a record of it, or a call uses it; what the listener hears is taken out of
+ * the dict after the call, since that may run Python code.
+ */
+#define PY_SSIZE_T_CLEAN
+#include <Python.h>
+#include <stddef.h>
+#include <structmember.h>
+#include <time.h>
+
+#include "luffapricot.h"
+
+typedef struct node {
+    PyObject_HEAD PyObject *key;
+    PyObject *value; /* NULL while it is being made */
+    uint64_t hash;
+    size_t records;    /* how many records of it the cache has: 2 for a moment when one replaces another */
+    size_t uses;       /* calls that use it */
+    struct node *next; /* the next one of those that are to leave the dict */
+    char is_leaving;
+} node;
+
+typedef struct {
+    PyObject_HEAD PyObject *nodes; /* dict: key to node */
+    luffa_cache *cache;
+    node *leaving;
+    uint64_t ttl; /* nanoseconds, or 0 */
+    uint64_t hits;
+    uint64_t misses;
+    char has_expiry; /* a record may expire, so the time matters */
+} cache_object;
+
+/* The key of a node in the luffa_cache. */
+struct id {
+    uint64_t hash;
+    node *node;
+};
+
+static PyObject *refusal; /* luffapricot.Error */
+
+static int node_traverse(node *self, visitproc visit, void *arg) {
+    Py_VISIT(self->key);
+    Py_VISIT(self->value);
+    return 0;
+}
+
+static int node_clear(node *self) {
+    Py_CLEAR(self->value);
+    return 0;
+}
+
+static void node_dealloc(node *self) {
+    PyObject_GC_UnTrack(self);
+    Py_CLEAR(self->key);
+    Py_CLEAR(self->value);
+    PyObject_GC_Del(self);
+}
+
+static PyTypeObject node_type = {
+    PyVarObject_HEAD_INIT(NULL, 0).tp_name = "luffapricot._Node",
+    .tp_basicsize = sizeof(node),
+    .tp_flags = Py_TPFLAGS_DEFAULT | Py_TPFLAGS_HAVE_GC,
+    .tp_dealloc = (destructor)node_dealloc,
+    .tp_traverse = (traverseproc)node_traverse,
+    .tp_clear = (inquiry)node_clear,
+};
+
+/* Spreads the hash of a Python object, which for an int is that int. */
+static uint64_t hash_id(void *context, const void *key, size_t key_len) {
+    uint64_t hash;
+    (void)context;
+    (void)key_len;
+    memcpy(&hash, key, sizeof hash);
+    hash = (hash ^ hash >> 32) * 0xD6E8FEB86659FD93u;
+    hash = (hash ^ hash >> 32) * 0xD6E8FEB86659FD93u;
+    return hash ^ hash >> 32;
+}
+
+static void hear(void *context, int event, const void *key, size_t key_len, const void *value, size_t value_len) {
+    cache_object *self = context;
+    struct id id;
+    (void)event;
+    (void)key_len;
+    (void)value;
+    (void)value_len;
+    PyGILState_STATE state = PyGILState_Ensure();
+    memcpy(&id, key, sizeof id);
+    if (--id.node->records == 0 && !id.node->is_leaving) {
+        id.node->is_leaving = 1;
+        id.node->next = self->leaving;
+        self->leaving = id.node;
+    }
+    PyGILState_Release(state);
+}
+
+/* Takes the nodes out of the dict that no record and no call needs. It may run Python code, and keeps an exception. */
+static void let_go(cache_object *self) {
+    if (self->leaving == NULL)
+        return;
+    PyObject *type, *value, *trace;
+    PyErr_Fetch(&type, &value, &trace);
+    while (self->leaving != NULL) {
+        node *it = self->leaving;
+        self->leaving = it->next;
+        it->is_leaving = 0;
+        if (it->records > 0 || it->uses > 0)
+            continue;
+        Py_INCREF(it);
+        if (self->nodes != NULL && PyDict_DelItem(self->nodes, it->key) < 0)
+            PyErr_Clear();
+        Py_DECREF(it);
+    }
+    PyErr_Restore(type, value, trace);
+}
+
+/* A call is done with a node. */
+static void done_with(cache_object *self, node *it) {
+    if (--it->uses == 0 && it->records == 0 && !it->is_leaving) {
+        it->is_leaving = 1;
+        it->next = self->leaving;
+        self->leaving = it;
+    }
+    Py_DECREF(it);
+    let_go(self);
+}
+
+static PyObject *refused(luffa_status status) {
+    if (status == LUFFA_NO_MEMORY)
+        return PyErr_NoMemory();
+    return PyErr_Format(refusal, "the cache refused the call: F%u", (unsigned)status);
+}
+
+static int is_closed(const cache_object *self) {
+    if (self->cache == NULL)
+        PyErr_SetString(PyExc_ValueError, "the cache is closed");
+    return self->cache == NULL;
+}
+
+static uint64_t now_of(const cache_object *self) {
+    struct timespec time;
+    if (!self->has_expiry)
+        return 0;
+    clock_gettime(CLOCK_MONOTONIC, &time);
+    return (uint64_t)time.tv_sec * 1000000000u + (uint64_t)time.tv_nsec;
+}
+
+static struct id id_of(node *it) { return (struct id){it->hash, it}; }
+
+/* Looks a key up, which counts as a use. Returns the value (a new reference), or NULL; then an exception may be set. */
+static PyObject *look_up(cache_object *self, PyObject *key) {
+    node *it = (node *)PyDict_GetItemWithError(self->nodes, key);
+    if (it != NULL && it->value != NULL && self->cache != NULL) {
+        struct id id = id_of(it);
+        luffa_status status = luffa_touch(self->cache, now_of(self), &id, sizeof id);
+        if (status == LUFFA_OK) {
+            self->hits++;
+            Py_INCREF(it->value);
+            return it->value;
+        }
+        if (status != LUFFA_MISSING)
+            return refused(status);
+    }
+    if (!PyErr_Occurred())
+        self->misses++;
+    return NULL;
+}
+
+/* The node of a key, which is made if there is none. It is used until done_with. */
+static node *use_node(cache_object *self, PyObject *key) {
+    Py_hash_t hash = PyObject_Hash(key);
+    if (hash == -1)
+        return NULL;
+    node *it = (node *)PyDict_GetItemWithError(self->nodes, key);
+    if (it != NULL) {
+        Py_INCREF(it);
+    } else {
+        if (PyErr_Occurred() || (it = PyObject_GC_New(node, &node_type)) == NULL)
+            return NULL;
+        Py_INCREF(key);
+        it->key = key;
+        it->value = NULL;
+        it->hash = (uint64_t)hash;
+        it->records = it->uses = 0;
+        it->next = NULL;
+        it->is_leaving = 0;
+        PyObject_GC_Track(it);
+        if (PyDict_SetItem(self->nodes, key, (PyObject *)it) < 0) {
+            Py_DECREF(it);
+            return NULL;
+        }
+    }
+    it->uses++;
+    return it;
+}
+
+/* The time from which on a record is expired. 0, never, without a time to live. */
+static uint64_t expiry_of(cache_object *self, uint64_t ttl) {
+    if (ttl == 0)
+        return 0;
+    self->has_expiry = 1;
+    uint64_t now = now_of(self);
+    return ttl > UINT64_MAX - now ? UINT64_MAX : now + ttl;
+}
+
+/* Inserts a value. Returns 0, or -1 and an exception. */
+static int insert(cache_object *self, PyObject *key, PyObject *value, size_t weight, uint64_t ttl) {
+    node *it = use_node(self, key);
+    if (it == NULL)
+        return -1;
+    struct id id = id_of(it);
+    uint64_t expires = expiry_of(self, ttl);
+    it->records++;
+    luffa_status status = luffa_insert(self->cache, now_of(self), &id, sizeof id, NULL, 0, weight, expires);
+    PyObject *old = NULL;
+    if (status == LUFFA_OK) {
+        Py_INCREF(value);
+        old = it->value;
+        it->value = value;
+    } else {
+        it->records--;
+        refused(status);
+    }
+    done_with(self, it);
+    Py_XDECREF(old);
+    return status == LUFFA_OK ? 0 : -1;
+}
+
+/* Seconds, as an int or a float above 0, in nanoseconds; None and NULL are 0. Returns -1 and an exception for others.
+ */
+static int read_ttl(PyObject *seconds, uint64_t *ttl) {
+    *ttl = 0;
+    if (seconds == NULL || seconds == Py_None)
+        return 0;
+    double number = PyFloat_AsDouble(seconds);
+    if (number == -1 && PyErr_Occurred())
+        return -1;
+    if (!(number > 0)) {
+        PyErr_SetString(PyExc_ValueError, "a time to live must be more than 0 seconds");
+        return -1;
+    }
+    *ttl = number >= 9e9 ? UINT64_MAX : number * 1e9 < 1 ? 1 : (uint64_t)(number * 1e9);
+    return 0;
+}
+
+static int read_size(PyObject *number, size_t *size) {
+    *size = PyLong_AsSize_t(number);
+    return *size == (size_t)-1 && PyErr_Occurred() ? -1 : 0;
+}
+
+static PyObject *cache_new(PyTypeObject *type, PyObject *args, PyObject *words) {
+    (void)args;
+    (void)words;
+    cache_object *self = (cache_object *)type->tp_alloc(type, 0);
+    if (self != NULL && (self->nodes = PyDict_New()) == NULL)
+        Py_CLEAR(self);
+    return (PyObject *)self;
+}
+
+static int cache_init(cache_object *self, PyObject *args, PyObject *words) {
+    static char *names[] = {"capacity", "policy", "shards", "ttl", NULL};
+    static const char *const POLICIES[] = {"fifo", "lru", "lfu", "s3fifo", "sieve"};
+    PyObject *capacity, *shards = NULL, *ttl = NULL;
+    const char *policy = "s3fifo";
+    if (!PyArg_ParseTupleAndKeywords(args, words, "O|sOO", names, &capacity, &policy, &shards, &ttl))
+        return -1;
+    if (self->cache != NULL) {
+        PyErr_SetString(PyExc_RuntimeError, "the cache was made before");
+        return -1;
+    }
+    uint32_t kind = 0;
+    while (kind < 5 && strcmp(policy, POLICIES[kind]) != 0)
+        kind++;
+    if (kind == 5) {
+        PyErr_Format(PyExc_ValueError, "unknown policy '%s' (one of fifo, lru, lfu, s3fifo, sieve)", policy);
+        return -1;
+    }
+    luffa_config config = luffa_config_default(kind);
+    config.shards = 1;
+    config.policy.high_priority_pool = (luffa_ratio){1, 1}; /* no record has low priority, so this is plain LRU */
+    if (read_size(capacity, &config.capacity) < 0 || (shards != NULL && read_size(shards, &config.shards) < 0) ||
+        read_ttl(ttl, &self->ttl) < 0)
+        return -1;
+    config.hash = hash_id;
+    config.listener = hear;
+    config.listener_context = self;
+    luffa_status status = luffa_create(&config, &self->cache);
+    if (status == LUFFA_NO_SHARDS)
+        PyErr_SetString(PyExc_ValueError, "the number of shards must be at least 1");
+    else if (status != LUFFA_OK)
+        refused(status);
+    return status == LUFFA_OK ? 0 : -1;
+}
+
+static int cache_traverse(cache_object *self, visitproc visit, void *arg) {
+    Py_VISIT(self->nodes);
+    return 0;
+}
+
+/* Frees the cache, whose records leave, and then what the dict holds. */
+static int cache_clear_all(cache_object *self) {
+    luffa_cache *cache = self->cache;
+    self->cache = NULL;
+    luffa_destroy(cache);
+    let_go(self);
+    return 0;
+}
+
+static int cache_gc_clear(cache_object *self) {
+    cache_clear_all(self);
+    Py_CLEAR(self->nodes);
+    return 0;
+}
+
+static void cache_dealloc(cache_object *self) {
+    PyObject_GC_UnTrack(self);
+    cache_gc_clear(self);
+    Py_TYPE(self)->tp_free((PyObject *)self);
+}
+
+static PyObject *cache_subscript(cache_object *self, PyObject *key) {
+    if (is_closed(self))
+        return NULL;
+    PyObject *value = look_up(self, key);
+    if (value == NULL && !PyErr_Occurred())
+        PyErr_SetObject(PyExc_KeyError, key);
+    return value;
+}
+
+/* Removes a key. Returns 1, 0 if it is missing, or -1 and an exception; its value if that is wanted. */
+static int take_out(cache_object *self, PyObject *key, PyObject **value) {
+    node *it = (node *)PyDict_GetItemWithError(self->nodes, key);
+    if (it == NULL)
+        return PyErr_Occurred() ? -1 : 0;
+    struct id id = id_of(it);
+    int is_there = luffa_contains(self->cache, now_of(self), &id, sizeof id) == LUFFA_OK && it->value != NULL;
+    Py_INCREF(it);
+    it->uses++;
+    luffa_status status = luffa_remove(self->cache, &id, sizeof id);
+    if (is_there && status == LUFFA_OK && value != NULL) {
+        Py_INCREF(it->value);
+        *value = it->value;
+    }
+    done_with(self, it);
+    if (status != LUFFA_OK && status != LUFFA_MISSING) {
+        refused(status);
+        return -1;
+    }
+    return is_there && status == LUFFA_OK;
+}
+
+static int cache_ass_subscript(cache_object *self, PyObject *key, PyObject *value) {
+    if (is_closed(self))
+        return -1;
+    if (value != NULL)
+        return insert(self, key, value, 1, self->ttl);
+    int found = take_out(self, key, NULL);
+    if (found == 0)
+        PyErr_SetObject(PyExc_KeyError, key);
+    return found == 1 ? 0 : -1;
+}
+
+static int cache_contains(cache_object *self, PyObject *key) {
+    if (is_closed(self))
+        return -1;
+    node *it = (node *)PyDict_GetItemWithError(self->nodes, key);
+    if (it == NULL || it->value == NULL)
+        return PyErr_Occurred() ? -1 : 0;
+    struct id id = id_of(it);
+    return luffa_contains(self->cache, now_of(self), &id, sizeof id) == LUFFA_OK;
+}
+
+static Py_ssize_t cache_length(cache_object *self) {
+    return is_closed(self) ? -1 : (Py_ssize_t)luffa_entries(self->cache);
+}
+
+static PyObject *cache_get(cache_object *self, PyObject *const *args, Py_ssize_t count) {
+    if (count < 1 || count > 2) {
+        PyErr_SetString(PyExc_TypeError, "get() takes a key and perhaps a default");
+        return NULL;
+    }
+    if (is_closed(self))
+        return NULL;
+    PyObject *value = look_up(self, args[0]);
+    if (value == NULL && !PyErr_Occurred()) {
+        value = count == 2 ? args[1] : Py_None;
+        Py_INCREF(value);
+    }
+    return value;
+}
+
+static PyObject *cache_insert(cache_object *self, PyObject *args, PyObject *words) {
+    static char *names[] = {"key", "value", "weight", "ttl", NULL};
+    PyObject *key, *value, *weight = NULL, *seconds = NULL;
+    size_t size = 1;
+    uint64_t ttl;
+    if (!PyArg_ParseTupleAndKeywords(args, words, "OO|OO", names, &key, &value, &weight, &seconds) || is_closed(self))
+        return NULL;
+    if ((weight != NULL && read_size(weight, &size) < 0) || read_ttl(seconds, &ttl) < 0)
+        return NULL;
+    if (insert(self, key, value, size, seconds == NULL || seconds == Py_None ? self->ttl : ttl) < 0)
+        return NULL;
+    Py_RETURN_NONE;
+}
+
+/* What make() needs to make a value without the lock of the interpreter. */
+struct making {
+    cache_object *self;
+    node *node;
+    PyObject *make;
+    PyThreadState *thread;
+    int has_run;
+    int has_failed;
+};
+
+static int make_value(void *context, const void *key, size_t key_len, luffa_made *made) {
+    struct making *making = context;
+    (void)key;
+    (void)key_len;
+    PyEval_RestoreThread(making->thread);
+    making->has_run = 1;
+    PyObject *value = PyObject_CallFunctionObjArgs(making->make, making->node->key, NULL);
+    making->has_failed = value == NULL;
+    if (value != NULL) {
+        PyObject *old = making->node->value;
+        making->node->value = value;
+        making->node->records++;
+        made->expires = expiry_of(making->self, making->self->ttl);
+        made->now = now_of(making->self);
+        Py_XDECREF(old);
+    }
+    making->thread = PyEval_SaveThread();
+    return value == NULL;
+}
+
+static PyObject *cache_get_or_insert(cache_object *self, PyObject *const *args, Py_ssize_t count) {
+    if (count != 2) {
+        PyErr_SetString(PyExc_TypeError, "get_or_insert() takes a key and a function that makes its value");
+        return NULL;
+    }
+    if (is_closed(self))
+        return NULL;
+    node *it = use_node(self, args[0]);
+    if (it == NULL)
+        return NULL;
+    struct id id = id_of(it);
+    struct making making = {self, it, args[1], NULL, 0, 0};
+    luffa_cache *cache = self->cache;
+    luffa_status status;
+    do { /* whoever waited for a call that failed tries by itself */
+        making.has_run = making.has_failed = 0;
+        uint64_t now = now_of(self);
+        making.thread = PyEval_SaveThread();
+        status = luffa_get_or_insert(cache, now, &id, sizeof id, make_value, &making, NULL);
+        PyEval_RestoreThread(making.thread);
+    } while (status == LUFFA_CANCELLED && !making.has_run);
+    if (making.has_run && !making.has_failed && status != LUFFA_OK)
+        it->records--;
+    self->hits += status == LUFFA_OK && !making.has_run;
+    self->misses += making.has_run;
+    PyObject *value = NULL;
+    if (status == LUFFA_OK && it->value != NULL) {
+        value = it->value;
+        Py_INCREF(value);
+    } else if (!making.has_failed) {
+        refused(status == LUFFA_CANCELLED ? LUFFA_NO_MEMORY : status);
+    }
+    done_with(self, it);
+    return value;
+}
+
+static PyObject *cache_pop(cache_object *self, PyObject *const *args, Py_ssize_t count) {
+    PyObject *value = NULL;
+    if (count < 1 || count > 2) {
+        PyErr_SetString(PyExc_TypeError, "pop() takes a key and perhaps a default");
+        return NULL;
+    }
+    if (is_closed(self))
+        return NULL;
+    int found = take_out(self, args[0], &value);
+    if (found == 0 && count == 2) {
+        Py_INCREF(args[1]);
+        return args[1];
+    }
+    if (found == 0)
+        PyErr_SetObject(PyExc_KeyError, args[0]);
+    return value;
+}
+
+static PyObject *cache_clear(cache_object *self, PyObject *unused) {
+    (void)unused;
+    if (is_closed(self))
+        return NULL;
+    luffa_status status = luffa_clear(self->cache);
+    let_go(self);
+    if (status != LUFFA_OK)
+        return refused(status);
+    Py_RETURN_NONE;
+}
+
+static PyObject *cache_resize(cache_object *self, PyObject *number) {
+    size_t capacity;
+    if (is_closed(self) || read_size(number, &capacity) < 0)
+        return NULL;
+    luffa_status status = luffa_resize(self->cache, now_of(self), capacity);
+    let_go(self);
+    if (status != LUFFA_OK)
+        return refused(status);
+    Py_RETURN_NONE;
+}
+
+/* The keys that a lookup would find, in a list. */
+static PyObject *cache_key_list(cache_object *self, PyObject *unused) {
+    PyObject *nodes, *keys;
+    (void)unused;
+    if (is_closed(self) || (nodes = PyDict_Values(self->nodes)) == NULL)
+        return NULL;
+    if ((keys = PyList_New(0)) != NULL) {
+        uint64_t now = now_of(self);
+        for (Py_ssize_t i = 0; i < PyList_GET_SIZE(nodes); i++) {
+            node *it = (node *)PyList_GET_ITEM(nodes, i);
+            struct id id = id_of(it);
+            if (it->value != NULL && luffa_contains(self->cache, now, &id, sizeof id) == LUFFA_OK &&
+                PyList_Append(keys, it->key) < 0) {
+                Py_CLEAR(keys);
+                break;
+            }
+        }
+    }
+    Py_DECREF(nodes);
+    return keys;
+}
+
+/* Hits, misses, usage, entries and capacity. */
+static PyObject *cache_counts(cache_object *self, PyObject *unused) {
+    (void)unused;
+    if (is_closed(self))
+        return NULL;
+    luffa_stats stats = luffa_get_stats(self->cache);
+    return Py_BuildValue("KKKKn", (unsigned long long)self->hits, (unsigned long long)self->misses,
+                         (unsigned long long)stats.usage, (unsigned long long)stats.entries,
+                         (Py_ssize_t)luffa_capacity(self->cache));
+}
+
+static PyObject *cache_reset_counts(cache_object *self, PyObject *unused) {
+    (void)unused;
+    self->hits = self->misses = 0;
+    Py_RETURN_NONE;
+}
+
+static PyObject *cache_close(cache_object *self, PyObject *unused) {
+    (void)unused;
+    cache_clear_all(self);
+    Py_RETURN_NONE;
+}
+
+static PyMethodDef cache_methods[] = {
+    {"get", (PyCFunction)(void (*)(void))cache_get, METH_FASTCALL, "The value of a key, or a default."},
+    {"insert", (PyCFunction)(void (*)(void))cache_insert, METH_VARARGS | METH_KEYWORDS,
+     "Inserts a value with a weight and a time to live."},
+    {"get_or_insert", (PyCFunction)(void (*)(void))cache_get_or_insert, METH_FASTCALL,
+     "The value of a key, which make(key) makes if it is missing; one thread makes it and the others wait."},
+    {"pop", (PyCFunction)(void (*)(void))cache_pop, METH_FASTCALL, "Removes a key and returns its value."},
+    {"clear", (PyCFunction)cache_clear, METH_NOARGS, "Removes all keys."},
+    {"resize", (PyCFunction)cache_resize, METH_O, "Sets the capacity and evicts down to it."},
+    {"close", (PyCFunction)cache_close, METH_NOARGS, "Frees the cache. Later calls raise ValueError."},
+    {"_key_list", (PyCFunction)cache_key_list, METH_NOARGS, NULL},
+    {"_counts", (PyCFunction)cache_counts, METH_NOARGS, NULL},
+    {"_reset_counts", (PyCFunction)cache_reset_counts, METH_NOARGS, NULL},
+    {NULL, NULL, 0, NULL},
+};
+
+static PyMappingMethods cache_mapping = {(lenfunc)cache_length, (binaryfunc)cache_subscript,
+                                         (objobjargproc)cache_ass_subscript};
+static PySequenceMethods cache_sequence = {.sq_length = (lenfunc)cache_length,
+                                           .sq_contains = (objobjproc)cache_contains};
+
+static PyTypeObject cache_type = {
+    PyVarObject_HEAD_INIT(NULL, 0).tp_name = "luffapricot._Cache",
+    .tp_basicsize = sizeof(cache_object),
+    .tp_flags = Py_TPFLAGS_DEFAULT | Py_TPFLAGS_BASETYPE | Py_TPFLAGS_HAVE_GC,
+    .tp_new = cache_new,
+    .tp_init = (initproc)cache_init,
+    .tp_dealloc = (destructor)cache_dealloc,
+    .tp_traverse = (traverseproc)cache_traverse,
+    .tp_clear = (inquiry)cache_gc_clear,
+    .tp_methods = cache_methods,
+    .tp_as_mapping = &cache_mapping,
+    .tp_as_sequence = &cache_sequence,
+};
+
+/* A function whose results a cache keeps. */
+typedef struct {
+    PyObject_HEAD PyObject *function;
+    cache_object *cache;
+    PyObject *dict;
+    PyObject *weak;
+    vectorcallfunc call;
+    char is_typed;
+} cached_object;
+
+static PyObject *keyword_mark; /* between the positional arguments of a key and the named ones */
+
+/* The key of a call: the argument itself if it is a single str or int, or else a tuple of all. */
+static PyObject *key_of(const cached_object *self, PyObject *const *args, Py_ssize_t count, PyObject *names) {
+    Py_ssize_t named = names == NULL ? 0 : PyTuple_GET_SIZE(names), at = 0;
+    if (count == 1 && named == 0 && !self->is_typed && (PyUnicode_CheckExact(args[0]) || PyLong_CheckExact(args[0]))) {
+        Py_INCREF(args[0]);
+        return args[0];
+    }
+    Py_ssize_t size = count + (named > 0 ? 1 + 2 * named : 0) + (self->is_typed ? count + named : 0);
+    PyObject *key = PyTuple_New(size);
+    if (key == NULL)
+        return NULL;
+#define ADD(OBJECT)                                                                                                    \
+    do {                                                                                                               \
+        PyObject *added = (OBJECT);                                                                                    \
+        Py_INCREF(added);                                                                                              \
+        PyTuple_SET_ITEM(key, at++, added);                                                                            \
+    } while (0)
+    for (Py_ssize_t i = 0; i < count; i++)
+        ADD(args[i]);
+    if (named > 0)
+        ADD(keyword_mark);
+    for (Py_ssize_t i = 0; i < named; i++) {
+        ADD(PyTuple_GET_ITEM(names, i));
+        ADD(args[count + i]);
+    }
+    for (Py_ssize_t i = 0; self->is_typed && i < count + named; i++)
+        ADD((PyObject *)Py_TYPE(args[i]));
+#undef ADD
+    return key;
+}
+
+static PyObject *cached_call(PyObject *callable, PyObject *const *args, size_t flags, PyObject *names) {
+    cached_object *self = (cached_object *)callable;
+    PyObject *key = key_of(self, args, PyVectorcall_NARGS(flags), names);
+    if (key == NULL)
+        return NULL;
+    PyObject *value = is_closed(self->cache) ? NULL : look_up(self->cache, key);
+    if (value == NULL && !PyErr_Occurred()) {
+        value = PyObject_Vectorcall(self->function, args, flags, names);
+        if (value != NULL && self->cache->cache != NULL && insert(self->cache, key, value, 1, self->cache->ttl) < 0)
+            Py_CLEAR(value);
+    }
+    Py_DECREF(key);
+    return value;
+}
+
+static PyObject *cached_new(PyTypeObject *type, PyObject *args, PyObject *words) {
+    static char *names[] = {"function", "cache", "typed", NULL};
+    PyObject *function, *cache;
+    int is_typed = 0;
+    if (!PyArg_ParseTupleAndKeywords(args, words, "OO!|p", names, &function, &cache_type, &cache, &is_typed))
+        return NULL;
+    if (!PyCallable_Check(function)) {
+        PyErr_SetString(PyExc_TypeError, "the first argument must be callable");
+        return NULL;
+    }
+    cached_object *self = (cached_object *)type->tp_alloc(type, 0);
+    if (self == NULL)
+        return NULL;
+    Py_INCREF(function);
+    Py_INCREF(cache);
+    self->function = function;
+    self->cache = (cache_object *)cache;
+    self->call = cached_call;
+    self->is_typed = (char)is_typed;
+    return (PyObject *)self;
+}
+
+static int cached_traverse(cached_object *self, visitproc visit, void *arg) {
+    Py_VISIT(self->function);
+    Py_VISIT(self->cache);
+    Py_VISIT(self->dict);
+    return 0;
+}
+
+static int cached_clear(cached_object *self) {
+    Py_CLEAR(self->function);
+    Py_CLEAR(self->cache);
+    Py_CLEAR(self->dict);
+    return 0;
+}
+
+static void cached_dealloc(cached_object *self) {
+    PyObject_GC_UnTrack(self);
+    if (self->weak != NULL)
+        PyObject_ClearWeakRefs((PyObject *)self);
+    cached_clear(self);
+    Py_TYPE(self)->tp_free((PyObject *)self);
+}
+
+/* A cached function of a class is a method. */
+static PyObject *cached_bound(PyObject *self, PyObject *instance, PyObject *type) {
+    (void)type;
+    if (instance == NULL || instance == Py_None) {
+        Py_INCREF(self);
+        return self;
+    }
+    return PyMethod_New(self, instance);
+}
+
+static PyMemberDef cached_members[] = {
+    {"__dictoffset__", T_PYSSIZET, offsetof(cached_object, dict), READONLY, NULL},
+    {"__weaklistoffset__", T_PYSSIZET, offsetof(cached_object, weak), READONLY, NULL},
+    {"_cache", T_OBJECT, offsetof(cached_object, cache), READONLY, NULL},
+    {NULL, 0, 0, 0, NULL},
+};
+
+static PyGetSetDef cached_getters[] = {
+    {"__dict__", PyObject_GenericGetDict, PyObject_GenericSetDict, NULL, NULL},
+    {NULL, NULL, NULL, NULL, NULL},
+};
+
+static PyTypeObject cached_type = {
+    PyVarObject_HEAD_INIT(NULL, 0).tp_name = "luffapricot._Cached",
+    .tp_basicsize = sizeof(cached_object),
+    .tp_flags = Py_TPFLAGS_DEFAULT | Py_TPFLAGS_BASETYPE | Py_TPFLAGS_HAVE_GC | Py_TPFLAGS_HAVE_VECTORCALL |
+                Py_TPFLAGS_METHOD_DESCRIPTOR,
+    .tp_new = cached_new,
+    .tp_dealloc = (destructor)cached_dealloc,
+    .tp_traverse = (traverseproc)cached_traverse,
+    .tp_clear = (inquiry)cached_clear,
+    .tp_call = PyVectorcall_Call,
+    .tp_vectorcall_offset = offsetof(cached_object, call),
+    .tp_dictoffset = offsetof(cached_object, dict),
+    .tp_weaklistoffset = offsetof(cached_object, weak),
+    .tp_descr_get = cached_bound,
+    .tp_members = cached_members,
+    .tp_getset = cached_getters,
+};
+
+static PyModuleDef module_def = {PyModuleDef_HEAD_INIT, .m_name = "luffapricot._luffapricot", .m_size = -1};
+
+PyMODINIT_FUNC PyInit__luffapricot(void) {
+    PyObject *module;
+    if (PyType_Ready(&node_type) < 0 || PyType_Ready(&cache_type) < 0 || PyType_Ready(&cached_type) < 0 ||
+        (keyword_mark = PyObject_CallNoArgs((PyObject *)&PyBaseObject_Type)) == NULL ||
+        (refusal = PyErr_NewException("luffapricot.Error", PyExc_RuntimeError, NULL)) == NULL ||
+        (module = PyModule_Create(&module_def)) == NULL)
+        return NULL;
+    Py_INCREF(refusal);
+    Py_INCREF(&cache_type);
+    Py_INCREF(&cached_type);
+    if (PyModule_AddObject(module, "Error", refusal) < 0 ||
+        PyModule_AddObject(module, "_Cache", (PyObject *)&cache_type) < 0 ||
+        PyModule_AddObject(module, "_Cached", (PyObject *)&cached_type) < 0 ||
+        PyModule_AddStringConstant(module, "version", luffa_version()) < 0) {
+        Py_DECREF(module);
+        return NULL;
+    }
+    return module;
+}

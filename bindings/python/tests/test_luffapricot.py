@@ -1,0 +1,341 @@
+"""The tests of the package: python -m unittest discover bindings/python/tests."""
+
+from __future__ import annotations
+
+import functools
+import gc
+import random
+import resource
+import sys
+import threading
+import time
+import unittest
+import weakref
+
+import luffapricot
+from luffapricot import Cache, cached
+
+POLICIES = ["fifo", "lru", "lfu", "s3fifo", "sieve"]
+
+
+class Value:
+    """An object that can be watched."""
+
+
+class Mapping(unittest.TestCase):
+    def test_mapping(self) -> None:
+        for policy in POLICIES:
+            cache = Cache(10, policy)
+            self.assertEqual((len(cache), list(cache), cache.get("a"), cache.get("a", 1)), (0, [], None, 1))
+            cache["a"] = 1
+            cache["b"] = [2]
+            cache["a"] = 3
+            self.assertEqual((cache["a"], cache["b"], len(cache), sorted(cache)), (3, [2], 2, ["a", "b"]))
+            self.assertEqual(sorted(cache.items(), key=str), [("a", 3), ("b", [2])])
+            self.assertTrue("a" in cache and "c" not in cache)
+            self.assertEqual((cache.pop("a"), cache.pop("a", None)), (3, None))
+            with self.assertRaises(KeyError):
+                cache["a"]
+            with self.assertRaises(KeyError):
+                del cache["a"]
+            with self.assertRaises(KeyError):
+                cache.pop("a")
+            self.assertEqual(cache.setdefault("d", 4), 4)
+            cache.update(e=5)
+            del cache["e"]
+            self.assertEqual(sorted(cache), ["b", "d"])
+            cache.clear()
+            self.assertEqual((len(cache), list(cache)), (0, []))
+
+    def test_keys_are_compared_as_in_a_dict(self) -> None:
+        cache = Cache(10)
+        cache[1] = "int"
+        self.assertEqual((cache[1.0], cache[True]), ("int", "int"))
+        cache[(1, "x")] = "tuple"
+        self.assertEqual(cache[(1, "x")], "tuple")
+        for unhashable in ([], {}):
+            with self.assertRaises(TypeError):
+                cache[unhashable] = 1
+            with self.assertRaises(TypeError):
+                cache.get(unhashable)
+
+    def test_capacity(self) -> None:
+        for policy in POLICIES:
+            cache = Cache(10, policy)
+            for key in range(1000):
+                cache[key] = key
+                self.assertLessEqual(len(cache), 10)
+                self.assertEqual(cache[key], key)
+            self.assertEqual(len(list(cache)), len(cache))
+            cache.resize(3)
+            self.assertLessEqual(len(cache), 3)
+            cache.insert("heavy", 1, weight=3)
+            self.assertEqual((list(cache), cache.stats().usage), (["heavy"], 3))
+
+    def test_bad_arguments(self) -> None:
+        for words in ((-1,), ("x",), (1, "unknown"), (1, "lru", 0), (1, "lru", 1, 0), (1, "lru", 1, float("nan"))):
+            with self.assertRaises((ValueError, TypeError, OverflowError)):
+                Cache(*words)
+        cache = Cache(1)
+        for call in (cache.get, cache.pop, cache.get_or_insert):
+            with self.assertRaises(TypeError):
+                call()
+        with self.assertRaises(RuntimeError):
+            cache.__init__(5)
+
+    def test_is_lru(self) -> None:
+        cache = Cache(100, "lru")
+        model: dict = {}
+        random.seed(1)
+        for _ in range(20000):
+            key = random.randrange(150)
+            value = cache.get(key)
+            self.assertEqual(value is not None, key in model)
+            if value is None:
+                cache[key] = key + 1
+            else:
+                del model[key]
+            model[key] = True
+            if len(model) > 100:
+                del model[next(iter(model))]
+
+    def test_time_to_live(self) -> None:
+        cache = Cache(10, ttl=0.05)
+        cache["a"] = 1
+        cache.insert("b", 2, ttl=1000)
+        self.assertEqual((cache["a"], cache["b"]), (1, 2))
+        time.sleep(0.06)
+        self.assertEqual((cache.get("a"), "a" in cache, cache["b"], list(cache)), (None, False, 2, ["b"]))
+        cache["a"] = 3
+        self.assertEqual(cache["a"], 3)
+
+    def test_close(self) -> None:
+        value = Value()
+        watched = weakref.ref(value)
+        with Cache(10) as cache:
+            cache["a"] = value
+            del value
+            self.assertIsNotNone(watched())
+        self.assertIsNone(watched())
+        for call in (lambda: cache["a"], lambda: len(cache), lambda: "a" in cache, cache.clear, lambda: cache.get("a")):
+            with self.assertRaises(ValueError):
+                call()
+        cache.close()
+
+    def test_stats(self) -> None:
+        cache = Cache(10)
+        cache["a"] = 1
+        cache.get("a"), cache.get("b")
+        self.assertEqual(cache.stats(), (1, 1, 1, 1, 10))
+        self.assertIn("proved", luffapricot.version)
+
+
+class References(unittest.TestCase):
+    def test_each_reference_is_given_back(self) -> None:
+        for policy in POLICIES:
+            value, key = Value(), "key of this test " + policy
+            before = sys.getrefcount(value), sys.getrefcount(key)
+            cache = Cache(4, policy)
+            for _ in range(100):
+                cache[key] = value
+                cache.get(key), cache.pop(key, None), cache.get_or_insert(key, lambda _: value)
+                for other in range(20):
+                    cache[other] = value
+                    cache.get(other)
+            self.assertEqual(sys.getrefcount(value), before[0] + len(cache) if key in cache else before[0] + len(cache))
+            cache.clear()
+            self.assertEqual((sys.getrefcount(value), sys.getrefcount(key)), before)
+            cache[key] = value
+            del cache
+            self.assertEqual((sys.getrefcount(value), sys.getrefcount(key)), before)
+
+    def test_cycles_are_collected(self) -> None:
+        cache = Cache(10)
+        value = Value()
+        value.cache = cache
+        watched = weakref.ref(value)
+        cache["a"] = value
+        del value, cache
+        gc.collect()
+        self.assertIsNone(watched())
+
+        @cached(10)
+        def function(_: int) -> object:
+            return function
+
+        function(1)
+        watched = weakref.ref(function)
+        del function
+        gc.collect()
+        self.assertIsNone(watched())
+
+    def test_values_that_use_the_cache_when_they_go(self) -> None:
+        cache = Cache(5, "lru")
+        gone = []
+
+        class Last:
+            def __del__(self) -> None:
+                gone.append(len(cache))
+                cache.get(1)
+                if len(gone) % 3 == 0:
+                    cache["from del"] = 1
+
+        for key in range(300):
+            cache[key] = Last()
+        cache.clear()
+        self.assertEqual(len(gone), 300)
+
+    def test_keys_whose_comparison_fails(self) -> None:
+        class Bad:
+            def __hash__(self) -> int:
+                return 1
+
+            def __eq__(self, other: object) -> bool:
+                raise RuntimeError("not comparable")
+
+        cache = Cache(10)
+        cache[Bad()] = 1
+        for call in (lambda: cache.get(Bad()), lambda: cache.pop(Bad(), 0), lambda: Bad() in cache):
+            with self.assertRaises(RuntimeError):
+                call()
+        with self.assertRaises(RuntimeError):
+            cache[Bad()] = 2
+        cache.clear()
+        self.assertEqual(len(cache), 0)
+
+    def test_memory_does_not_grow(self) -> None:
+        cache, sizes = Cache(1000), []
+        for turn in range(6):
+            for key in range(60000):
+                cache[key] = [key]
+                cache.get(key // 2)
+            sizes.append(resource.getrusage(resource.RUSAGE_SELF).ru_maxrss)
+        self.assertLess(sizes[-1] - sizes[1], 4096)
+
+
+class Making(unittest.TestCase):
+    def test_one_thread_makes(self) -> None:
+        cache, runs = Cache(100), []
+
+        def make(key: int) -> int:
+            runs.append(key)
+            time.sleep(0.05)
+            return key * 2
+
+        found: list = []
+        threads = [threading.Thread(target=lambda: found.append(cache.get_or_insert(7, make))) for _ in range(8)]
+        for it in threads:
+            it.start()
+        for it in threads:
+            it.join()
+        self.assertEqual((runs, found), ([7], [14] * 8))
+        self.assertEqual(cache.stats().hits, 7)
+
+    def test_failures(self) -> None:
+        cache = Cache(10)
+        with self.assertRaises(ZeroDivisionError):
+            cache.get_or_insert("a", lambda _: 1 // 0)
+        self.assertEqual((cache.get("a"), len(cache), list(cache)), (None, 0, []))
+        turns: list = []
+
+        def make(_: str) -> str:
+            turns.append(1)
+            time.sleep(0.01)
+            if len(turns) < 3:
+                raise LookupError
+            return "made"
+
+        found: list = []
+
+        def ask() -> None:
+            try:
+                found.append(cache.get_or_insert("b", make))
+            except LookupError:
+                found.append("failed")
+
+        threads = [threading.Thread(target=ask) for _ in range(6)]
+        for it in threads:
+            it.start()
+        for it in threads:
+            it.join()
+        self.assertEqual(sorted(found), ["failed"] * 2 + ["made"] * 4)
+
+    def test_threads(self) -> None:
+        cache, wrong = Cache(50, "lru", 2), []
+
+        def work(seed: int) -> None:
+            numbers = random.Random(seed)
+            for _ in range(4000):
+                key = numbers.randrange(100)
+                if numbers.random() < 0.5:
+                    value = cache.get_or_insert(key, lambda it: [it])
+                else:
+                    value = cache.get(key, [key])
+                    cache[key] = [key]
+                if value != [key]:
+                    wrong.append((key, value))
+
+        threads = [threading.Thread(target=work, args=(seed,)) for seed in range(8)]
+        for it in threads:
+            it.start()
+        for it in threads:
+            it.join()
+        self.assertEqual(wrong, [])
+        self.assertLessEqual(len(cache), 50)
+
+
+class Decorator(unittest.TestCase):
+    def test_as_lru_cache(self) -> None:
+        random.seed(2)
+        for typed in (False, True):
+            ours = cached(64, policy="lru", typed=typed)(lambda *args, **words: (args, tuple(words.items())))
+            theirs = functools.lru_cache(64, typed)(lambda *args, **words: (args, tuple(words.items())))
+            values: list = [*range(40), *map(str, range(20)), 1.0, True, None, (1, 2)]
+            for _ in range(20000):
+                args = random.choices(values, k=random.randrange(3))
+                words = {name: random.choice(values) for name in random.sample("xyz", random.randrange(2))}
+                self.assertEqual(ours(*args, **words), theirs(*args, **words))
+                self.assertEqual(ours.cache_info(), theirs.cache_info())
+            ours.cache_clear()
+            self.assertEqual(ours.cache_info(), (0, 0, 64, 0))
+
+    def test_attributes(self) -> None:
+        @cached
+        def function(number: int) -> int:
+            """Doubles a number."""
+            return 2 * number
+
+        self.assertEqual((function(4), function(4), function.__name__, function.__doc__), (8, 8, "function", "Doubles a number."))
+        self.assertEqual((function.__wrapped__(5), function.cache_info().hits), (10, 1))
+        self.assertEqual(function.cache_parameters()["maxsize"], 128)
+        with self.assertRaises(TypeError):
+            function([])
+
+    def test_methods_and_exceptions(self) -> None:
+        class Counter:
+            count = 0
+
+            @cached(10)
+            def next(self, number: int) -> int:
+                self.count += 1
+                if number < 0:
+                    raise ValueError(number)
+                return self.count
+
+        first, second = Counter(), Counter()
+        self.assertEqual((first.next(1), first.next(1), first.next(2), second.next(1)), (1, 1, 2, 1))
+        for _ in range(2):
+            with self.assertRaises(ValueError):
+                first.next(-1)
+        self.assertEqual(first.count, 4)
+
+    def test_recursion(self) -> None:
+        @cached(1000)
+        def fibonacci(number: int) -> int:
+            return number if number < 2 else fibonacci(number - 1) + fibonacci(number - 2)
+
+        self.assertEqual(fibonacci(90), 2880067194370816120)
+
+
+if __name__ == "__main__":
+    unittest.main()

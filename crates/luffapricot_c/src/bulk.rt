@@ -1,0 +1,127 @@
+//! Calls for all records of a shard.
+
+use crate::policy::LuffaPolicy;
+use crate::record::LuffaRecord;
+use crate::{LuffaShard, status};
+use std::alloc::Global;
+
+/// What a shard holds. The usage is the sum of weights that each fit a word, so it may take two.
+#[repr(C)]
+#[derive(Drop)]
+pub struct LuffaLoad {
+    pub usage: u64,
+    pub usage_high: u64,
+    pub entries: u64,
+}
+
+/// Sets the capacity and evicts down to it. 0, NOT_OPEN, UNTOLD, or 7 for F7.
+#[unsafe(no_mangle)]
+pub extern "C" fn luffa_shard_resize(
+    shard: &mut LuffaShard,
+    alloc: Global,
+    now: u64,
+    capacity: usize,
+) -> u32 {
+    let Some(mut cache) = shard.take(alloc) else {
+        return status::NOT_OPEN;
+    };
+    let status = cache.resize(now, capacity);
+    *shard = LuffaShard::of(cache);
+    status
+}
+
+/// Evicts all that is not pinned. 0, NOT_OPEN, UNTOLD, or 7 for F7.
+#[unsafe(no_mangle)]
+pub extern "C" fn luffa_shard_evict_all(shard: &mut LuffaShard, alloc: Global, now: u64) -> u32 {
+    let Some(mut cache) = shard.take(alloc) else {
+        return status::NOT_OPEN;
+    };
+    let status = cache.evict_all(now);
+    *shard = LuffaShard::of(cache);
+    status
+}
+
+/// Removes all. 0, NOT_OPEN, UNTOLD, or 7 for F7, and then nothing has changed.
+#[unsafe(no_mangle)]
+pub extern "C" fn luffa_shard_clear(shard: &mut LuffaShard, alloc: Global) -> u32 {
+    let Some(mut cache) = shard.take(alloc) else {
+        return status::NOT_OPEN;
+    };
+    let status = cache.clear();
+    *shard = LuffaShard::of(cache);
+    status
+}
+
+/// Sets the configuration of the policy. 0, NOT_OPEN, NO_POLICY, 2 to 6 for F2 to F6, or 17 for F17.
+#[unsafe(no_mangle)]
+pub extern "C" fn luffa_shard_reconfigure(
+    shard: &mut LuffaShard,
+    alloc: Global,
+    policy: &LuffaPolicy,
+) -> u32 {
+    let Some(config) = policy.config() else {
+        return status::NO_POLICY;
+    };
+    let Some(mut cache) = shard.take(alloc) else {
+        return status::NOT_OPEN;
+    };
+    let status = cache.reconfigure(&config);
+    *shard = LuffaShard::of(cache);
+    status
+}
+
+/// Writes what the shard holds. 0 or NOT_OPEN.
+#[unsafe(no_mangle)]
+pub extern "C" fn luffa_shard_load(
+    shard: &mut LuffaShard,
+    alloc: Global,
+    load: &mut LuffaLoad,
+) -> u32 {
+    let Some(cache) = shard.take(alloc) else {
+        return status::NOT_OPEN;
+    };
+    let usage = cache.usage();
+    load.usage = (usage % (1 << 64)) as u64;
+    load.usage_high = (usage / (1 << 64)) as u64;
+    load.entries = (cache.entries() % (1 << 64)) as u64;
+    *shard = LuffaShard::of(cache);
+    status::OK
+}
+
+/// Moves what left under a number, and writes how many records that names. 0, MISSING if nothing left, NOT_OPEN, or 7
+/// for F7, and then nothing has changed.
+#[unsafe(no_mangle)]
+pub extern "C" fn luffa_shard_take_left(
+    shard: &mut LuffaShard,
+    alloc: Global,
+    number: &mut usize,
+    count: &mut usize,
+) -> u32 {
+    let Some(mut cache) = shard.take(alloc) else {
+        return status::NOT_OPEN;
+    };
+    let status = status::found(cache.take_left(number, count));
+    *shard = LuffaShard::of(cache);
+    status
+}
+
+/// Shows a record that left, by its place among those that a number names. 0, MISSING or NOT_OPEN.
+#[unsafe(no_mangle)]
+pub extern "C" fn luffa_shard_show_left(
+    shard: &mut LuffaShard,
+    alloc: Global,
+    number: usize,
+    index: usize,
+    record: &mut LuffaRecord,
+) -> u32 {
+    let Some(cache) = shard.take(alloc) else {
+        return status::NOT_OPEN;
+    };
+    let status = if cache.show_left(number, index, record) {
+        status::OK
+    } else {
+        status::MISSING
+    };
+    *shard = LuffaShard::of(cache);
+    status
+}

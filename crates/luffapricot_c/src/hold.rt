@@ -1,0 +1,59 @@
+//! What C holds by a number.
+
+use crate::key::Key;
+use crate::record::LuffaRecord;
+use crate::value::Value;
+use foyer_core::{CacheProperties, CoreEntry, Leave};
+
+pub(crate) type Entry = CoreEntry<Key, Value, CacheProperties>;
+
+pub(crate) type Gone = Leave<Key, Value, CacheProperties>;
+
+/// What a number names.
+pub(crate) enum Held {
+    /// A handle of a record.
+    Entry(Entry),
+    /// Nothing yet: the fetch of a key is open.
+    Waiting,
+    /// The refusal with which a fetch ended.
+    Refused(u32),
+    /// A record that left with its last handle.
+    Gone(Gone),
+    /// Records that left, in order.
+    Left(Vec<Gone>),
+}
+
+/// What C holds by a number. If the cache ends first, a handle is discarded with it.
+pub(crate) struct Hold {
+    held: Held,
+}
+
+impl Drop for Hold {
+    fn drop(self) {
+        let Hold { held } = self;
+        match held {
+            Held::Entry(entry) => entry.discard(),
+            Held::Gone(gone) => drop(gone),
+            Held::Left(left) => drop(left),
+            Held::Waiting | Held::Refused(_) => (),
+        }
+    }
+}
+
+impl Hold {
+    #[inline(always)]
+    pub(crate) fn new(held: Held) -> Hold {
+        Hold { held }
+    }
+
+    #[inline(always)]
+    pub(crate) fn into_held(self) -> Held {
+        let Hold { held } = self;
+        held
+    }
+
+    #[inline(always)]
+    pub(crate) fn held(&self) -> &Held {
+        &self.held
+    }
+}

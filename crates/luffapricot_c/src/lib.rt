@@ -1,0 +1,271 @@
+//! A cache of bytes of one shard, which C holds by its address.
+//!
+//! Nothing here locks. C makes one call at a time for a shard, and overlaps no buffers that it lends to a call.
+#![tactic(auto)]
+
+ghost use Rattle.std.specs.Prelude.{◌≡◌, ℕ, ◌+◌, ◌-◌, ◌*◌, ◌^◌, ◌<◌, ◌≤◌, length, is_some, IfNone, IfSome, Some, None, true};
+
+use address::Address;
+use cache::ByteCache;
+use loose::Loose;
+use std::alloc::Global;
+use std::mem;
+use std::ptr::null_mut;
+
+mod address;
+mod bulk;
+mod cache;
+mod fetches;
+mod hold;
+mod key;
+mod loose;
+mod policy;
+mod record;
+mod status;
+mod value;
+
+pub use bulk::LuffaLoad;
+pub use cache::LuffaTerms;
+pub use fetches::LuffaFetch;
+pub use policy::{LuffaPolicy, LuffaRatio};
+pub use record::LuffaRecord;
+
+/// What C holds of a cache. It begins as zeros, and only the calls below change it.
+#[repr(C)]
+#[derive(Drop)]
+pub struct LuffaShard {
+    address: Address,
+    is_open: bool,
+    ghost told: { is_open ≡ is_some address.held },
+}
+
+impl LuffaShard {
+    // What C holds of a box.
+    #[inline(always)]
+    fn of(cache: Box<ByteCache>) -> LuffaShard
+        ensures { result.address.held ≡ Some cache.value }
+    {
+        LuffaShard {
+            address: Address::of(Loose::of(cache)),
+            is_open: true,
+        }
+    }
+
+    // What C holds of no box.
+    #[inline(always)]
+    fn empty(alloc: Global) -> LuffaShard
+        ensures { result.address.held ≡ None }
+    {
+        LuffaShard {
+            address: Address::none(no_address(), alloc),
+            is_open: false,
+        }
+    }
+
+    // Takes the box out.
+    #[inline(always)]
+    fn take(&mut self, alloc: Global) -> Option<Box<ByteCache>>
+        ensures taken { IfSome result (λ cache. self.old.address.held ≡ Some cache.value) }
+        ensures none { IfNone result (self.old.address.held ≡ None) }
+        ensures empty { self.new.address.held ≡ None }
+    {
+        if !self.is_open {
+            return None;
+        }
+        let LuffaShard {
+            address,
+            is_open: _,
+        } = mem::replace(self, LuffaShard::empty(alloc));
+        Some(address.into_loose().into_box())
+    }
+}
+
+// The null pointer.
+fn no_address() -> *mut u8 {
+    null_mut()
+}
+
+/// Creates a cache of this policy and capacity. 0, IS_OPEN, NO_POLICY, or 2 to 7 for F2 to F7.
+#[unsafe(no_mangle)]
+pub extern "C" fn luffa_shard_create(
+    shard: &mut LuffaShard,
+    alloc: Global,
+    policy: &LuffaPolicy,
+    capacity: usize,
+    has_listener: bool,
+) -> u32 {
+    if shard.is_open {
+        return status::IS_OPEN;
+    }
+    let Some(config) = policy.config() else {
+        return status::NO_POLICY;
+    };
+    match ByteCache::new(alloc, config, capacity, has_listener) {
+        Ok(cache) => match Box::new(alloc, cache) {
+            Ok(cache) => {
+                *shard = LuffaShard::of(cache);
+                status::OK
+            }
+            Err(_) => status::NO_MEMORY,
+        },
+        Err(error) => status::refusal(error),
+    }
+}
+
+/// Frees the cache with all that C holds of it. 0 or NOT_OPEN.
+#[unsafe(no_mangle)]
+pub extern "C" fn luffa_shard_destroy(shard: &mut LuffaShard, alloc: Global) -> u32
+    ensures closed { shard.new.address.held ≡ None }
+{
+    match shard.take(alloc) {
+        Some(_cache) => status::OK,
+        None => status::NOT_OPEN,
+    }
+}
+
+/// Inserts a record. It never expires if `expires` is 0. 0, NOT_OPEN, or 7 to 10 for F7 to F10.
+#[unsafe(no_mangle)]
+pub extern "C" fn luffa_shard_insert(
+    shard: &mut LuffaShard,
+    alloc: Global,
+    now: u64,
+    hash: u64,
+    key: &[u8],
+    value: &[u8],
+    weight: usize,
+    expires: u64,
+) -> u32 {
+    let Some(mut cache) = shard.take(alloc) else {
+        return status::NOT_OPEN;
+    };
+    let status = status::done(cache.insert(now, hash, key, value, weight, expires));
+    *shard = LuffaShard::of(cache);
+    status
+}
+
+/// Inserts a record and holds a handle to it, which the record names. 0, NOT_OPEN, or 7 to 10 for F7 to F10.
+#[unsafe(no_mangle)]
+pub extern "C" fn luffa_shard_insert_entry(
+    shard: &mut LuffaShard,
+    alloc: Global,
+    now: u64,
+    hash: u64,
+    key: &[u8],
+    value: &[u8],
+    terms: &LuffaTerms,
+    record: &mut LuffaRecord,
+) -> u32 {
+    let Some(mut cache) = shard.take(alloc) else {
+        return status::NOT_OPEN;
+    };
+    let status = status::done(cache.insert_entry(now, hash, key, value, terms, record));
+    *shard = LuffaShard::of(cache);
+    status
+}
+
+/// Copies a value, or the part of it that fits, and writes its length. 0, MISSING, NOT_OPEN, or 7 or 9 for F7 or F9.
+#[unsafe(no_mangle)]
+pub extern "C" fn luffa_shard_get(
+    shard: &mut LuffaShard,
+    alloc: Global,
+    now: u64,
+    hash: u64,
+    key: &[u8],
+    out: &mut [u8],
+    len: &mut usize,
+) -> u32 {
+    let Some(mut cache) = shard.take(alloc) else {
+        return status::NOT_OPEN;
+    };
+    let status = match cache.get(now, hash, key, out) {
+        Ok(Some(found)) => {
+            *len = found;
+            status::OK
+        }
+        Ok(None) => status::MISSING,
+        Err(error) => status::refusal(error),
+    };
+    *shard = LuffaShard::of(cache);
+    status
+}
+
+/// Looks a record up and holds a handle to it. 0, MISSING, NOT_OPEN, or 7 or 9 for F7 or F9.
+#[unsafe(no_mangle)]
+pub extern "C" fn luffa_shard_get_entry(
+    shard: &mut LuffaShard,
+    alloc: Global,
+    now: u64,
+    hash: u64,
+    key: &[u8],
+    record: &mut LuffaRecord,
+) -> u32 {
+    let Some(mut cache) = shard.take(alloc) else {
+        return status::NOT_OPEN;
+    };
+    let status = status::found(cache.get_entry(now, hash, key, record));
+    *shard = LuffaShard::of(cache);
+    status
+}
+
+/// Removes a record and holds a handle to it. 0, MISSING, NOT_OPEN, or 7 or 9 for F7 or F9.
+#[unsafe(no_mangle)]
+pub extern "C" fn luffa_shard_remove(
+    shard: &mut LuffaShard,
+    alloc: Global,
+    hash: u64,
+    key: &[u8],
+    record: &mut LuffaRecord,
+) -> u32 {
+    let Some(mut cache) = shard.take(alloc) else {
+        return status::NOT_OPEN;
+    };
+    let status = status::found(cache.remove(hash, key, record));
+    *shard = LuffaShard::of(cache);
+    status
+}
+
+/// Whether a lookup would find the key. 0, MISSING, NOT_OPEN, or 7 for F7.
+#[unsafe(no_mangle)]
+pub extern "C" fn luffa_shard_contains(
+    shard: &mut LuffaShard,
+    alloc: Global,
+    now: u64,
+    hash: u64,
+    key: &[u8],
+) -> u32 {
+    let Some(mut cache) = shard.take(alloc) else {
+        return status::NOT_OPEN;
+    };
+    let status = status::found(cache.contains(now, hash, key));
+    *shard = LuffaShard::of(cache);
+    status
+}
+
+/// Counts as a use of the key's record. 0, MISSING, NOT_OPEN, or 7 or 9 for F7 or F9.
+#[unsafe(no_mangle)]
+pub extern "C" fn luffa_shard_touch(
+    shard: &mut LuffaShard,
+    alloc: Global,
+    now: u64,
+    hash: u64,
+    key: &[u8],
+) -> u32 {
+    let Some(mut cache) = shard.take(alloc) else {
+        return status::NOT_OPEN;
+    };
+    let status = status::found(cache.touch(now, hash, key));
+    *shard = LuffaShard::of(cache);
+    status
+}
+
+/// Ends what a number names. 0; LEFT if a record left with it, which the number names now; MISSING; WAIT, and the
+/// number still waits; or NOT_OPEN.
+#[unsafe(no_mangle)]
+pub extern "C" fn luffa_shard_release(shard: &mut LuffaShard, alloc: Global, number: usize) -> u32 {
+    let Some(mut cache) = shard.take(alloc) else {
+        return status::NOT_OPEN;
+    };
+    let status = cache.release(number);
+    *shard = LuffaShard::of(cache);
+    status
+}

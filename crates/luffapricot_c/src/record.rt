@@ -1,0 +1,60 @@
+//! Records as C reads them.
+
+ghost use Rattle.std.specs.Prelude.{◌≡◌, length, vec_len};
+
+use crate::hold::{Entry, Gone};
+use crate::status;
+use std::ptr;
+
+/// A record in place. The addresses are good for as long as the number is held.
+#[repr(C)]
+#[derive(Drop)]
+pub struct LuffaRecord {
+    pub key: *const u8,
+    pub key_len: usize,
+    pub value: *const u8,
+    pub value_len: usize,
+    pub weight: usize,
+    pub number: usize,
+    pub event: u32,
+}
+
+// The address of bytes, or null if there are none.
+#[inline(always)]
+fn address(bytes: &[u8]) -> *const u8 {
+    match bytes.first() {
+        Some(first) => ptr::from_ref(first),
+        None => ptr::null(),
+    }
+}
+
+impl LuffaRecord {
+    /// Shows the record of a handle.
+    #[inline(always)]
+    pub(crate) fn show(&mut self, entry: &Entry)
+        ensures key_len { self.new.key_len ≡ length (entry.now.kept.key.bytes).items }
+        ensures value_len { self.new.value_len ≡ length (entry.now.kept.value.bytes).items }
+        ensures weight { self.new.weight ≡ entry.now.kept.weight }
+    {
+        let key = entry.key().bytes.as_slice();
+        let value = entry.value().bytes.as_slice();
+        self.key = address(key);
+        self.key_len = key.len();
+        self.value = address(value);
+        self.value_len = value.len();
+        self.weight = entry.weight();
+    }
+
+    /// Shows a record that left.
+    pub(crate) fn show_gone(&mut self, gone: &Gone) {
+        let (event, left) = gone;
+        let key = left.key().bytes.as_slice();
+        let value = left.value().bytes.as_slice();
+        self.key = address(key);
+        self.key_len = key.len();
+        self.value = address(value);
+        self.value_len = value.len();
+        self.weight = left.weight();
+        self.event = status::event(*event);
+    }
+}
