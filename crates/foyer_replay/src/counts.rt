@@ -1,5 +1,8 @@
 //! What a replay counts.
 
+ghost use Rattle.std.specs.Prelude.{◌≡◌, ◌+◌, ◌<◌, ◌^◌, [], ◌∷◌};
+ghost use Rattle.foyer_replay.specs.Replay.{hits_in, misses_in};
+
 use crate::request::Outcome;
 
 /// What a replay counts.
@@ -20,16 +23,21 @@ pub struct Counts {
 }
 
 impl Counts {
-    /// Counts the outcome of a request for so many bytes.
+    /// Counts the outcome of a request for so many bytes, which saturate.
     #[inline]
-    pub fn add_outcome(&mut self, outcome: Outcome, size: u64) {
+    pub fn add_outcome(&mut self, outcome: Outcome, size: u64)
+        requires hits { self.old.hits + 1 < 2 ^ 64 }
+        requires misses { self.old.misses + 1 < 2 ^ 64 }
+        ensures hits { self.new.hits ≡ self.old.hits + hits_in (outcome ∷ []) }
+        ensures misses { self.new.misses ≡ self.old.misses + misses_in (outcome ∷ []) }
+    {
         match outcome {
             Outcome::Hit => {
-                self.hits = self.hits.saturating_add(1);
+                self.hits += 1;
                 self.hit_bytes = self.hit_bytes.saturating_add(size as u128);
             }
             Outcome::Miss => {
-                self.misses = self.misses.saturating_add(1);
+                self.misses += 1;
                 self.miss_bytes = self.miss_bytes.saturating_add(size as u128);
             }
             Outcome::Done => {}

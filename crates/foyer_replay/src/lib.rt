@@ -2,9 +2,9 @@
 #![tactic(auto)]
 
 pub mod counts;
-pub mod replay;
 pub mod request;
+pub mod run;
 
 pub use counts::Counts;
-pub use replay::{Departures, ReplayCore, replay, serve};
 pub use request::{Operation, Outcome, Request, RequestWeighter};
+pub use run::{Departures, ReplayCore, replay, serve};

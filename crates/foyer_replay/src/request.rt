@@ -20,7 +20,7 @@ pub struct Request {
     /// The key.
     pub key: u64,
     /// The current time, in the trace's unit.
-    pub now: u64,
+    pub time: u64,
     /// What the record weighs if it is inserted.
     pub weight: u64,
     /// When the record expires if it is inserted, in the trace's unit.

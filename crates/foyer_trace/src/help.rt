@@ -36,7 +36,7 @@ What is written
   --svg FILE        the curves
   --html FILE       a page with the table, the curves and the command
   --title TEXT      a title in place of the trace's name
-  --quiet           no progress on standard error
+  --quiet           no progress on standard error, and no times below the table
 
 Examples
   foyer-trace examples/traces/sqlite.keys --svg curves.svg

@@ -1,6 +1,6 @@
 //! Keys as the core has them: 64 bits, mixed.
 
-use crate::number::decimal;
+use crate::number::{decimal, float};
 use std::num::saturating_f64_to_u64;
 
 /// A number, mixed by the finalizer of splitmix64. Distinct numbers stay distinct.
@@ -57,6 +57,9 @@ impl Sample {
 
     /// This part of the keys.
     pub fn first(rate: f64) -> Sample {
+        if rate >= 1.0 {
+            return Sample::ALL;
+        }
         Sample {
             first: 0,
             last: saturating_f64_to_u64(rate * 18446744073709551616.0).saturating_sub(1),
@@ -72,7 +75,7 @@ impl Sample {
         Sample {
             first: u64::try_from(place(number.saturating_sub(1))).unwrap_or(u64::MAX),
             last: u64::try_from(end).unwrap_or(u64::MAX),
-            rate: 1.0 / parts as f64,
+            rate: 1.0 / float(parts as u128),
         }
     }
 

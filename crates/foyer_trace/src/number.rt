@@ -94,9 +94,23 @@ pub fn ratio(word: &str) -> Option<Ratio> {
     })
 }
 
-/// A part of a whole number, rounded to the nearest.
+/// The float that is nearest to a number, or next to it.
+pub fn float(number: u128) -> f64 {
+    const HALF: u128 = 1 << 32;
+    let mut float = 0.0f64;
+    for place in [96u32, 64, 32, 0] {
+        // Each of these is below 2^32, which a float has exactly.
+        float = float * 4294967296.0 + ((number >> place & (HALF - 1)) as u64) as f64;
+    }
+    float
+}
+
+/// A part of a whole number, rounded to the nearest. The whole of it is the number itself.
 pub fn part_of(whole: u64, fraction: f64) -> u64 {
-    saturating_f64_to_u64(whole as f64 * fraction + 0.5)
+    if fraction == 1.0 {
+        return whole;
+    }
+    saturating_f64_to_u64(float(whole as u128) * fraction + 0.5)
 }
 
 /// A quotient, or 0 if the divisor is 0.
@@ -104,7 +118,7 @@ pub fn quotient(part: u128, whole: u128) -> f64 {
     if whole == 0 {
         return 0.0;
     }
-    part as f64 / whole as f64
+    float(part) / float(whole)
 }
 
 /// A number in groups of three digits, such as `12,345`.
@@ -122,7 +136,7 @@ pub fn grouped(alloc: Global, number: u128) -> Result<String, AllocError> {
 
 /// A number of bytes with a binary unit, such as `1.5 MiB`.
 pub fn bytes(alloc: Global, number: u128) -> Result<String, AllocError> {
-    let mut value = number as f64;
+    let mut value = float(number);
     let mut unit = "B";
     for next in ["KiB", "MiB", "GiB", "TiB", "PiB"] {
         if value < 1024.0 {

@@ -71,8 +71,8 @@ fn flag<'a>(alloc: Global, name: &'a str) -> Arg<'a> {
 
 /// The command line that the program takes.
 pub fn command<'a>(alloc: Global) -> Result<Command<'a>, clap::Error> {
-    const VALUED: [&str; 16] = [
-        "format", "columns", "policy", "size", "shards", "weigh", "ttl", "warmup", "jobs", "csv", "svg", "html", "title",
+    const VALUED: [&str; 15] = [
+        "format", "policy", "size", "shards", "weigh", "ttl", "warmup", "jobs", "csv", "svg", "html", "title",
         "sample", "part", "make",
     ];
     let mut command = Command::new(alloc, "foyer-trace")
@@ -86,6 +86,7 @@ pub fn command<'a>(alloc: Global) -> Result<Command<'a>, clap::Error> {
     for name in ["skip-bad", "stream", "merge", "quiet"] {
         command = command.arg(flag(alloc, name))?;
     }
+    command = command.arg(valued(alloc, "columns").allow_hyphen_values(true))?;
     command = command.arg(flag(alloc, "help").short('h'))?;
     command = command.arg(flag(alloc, "version").short('V'))?;
     let traces = Arg::new(alloc, "trace").value_name("TRACE").num_args(0..);

@@ -1,6 +1,6 @@
 //! How far the runs are.
 
-use crate::number::grouped;
+use crate::number::{float, grouped};
 use std::alloc::{AllocError, Global};
 use std::rt::Clock;
 use std::sync::atomic::{AtomicU64, Ordering};
@@ -66,11 +66,11 @@ impl<'a, R: Clock + Eprint> Progress<'a, R> {
 
     fn say(&self, done: u64, taken: Duration) -> Result<(), AllocError> {
         let seconds = taken.as_secs_f64().max(0.001);
-        let rate = done as f64 / seconds;
+        let rate = float(done as u128) / seconds;
         let count = grouped(self.alloc, done as u128)?;
         let mut text = if self.all > 0 {
             let all = grouped(self.alloc, self.all as u128)?;
-            let left = (self.all.saturating_sub(done)) as f64 / rate.max(1.0) / 60.0;
+            let left = float(self.all.saturating_sub(done) as u128) / rate.max(1.0) / 60.0;
             format!(in self.alloc; "{count} of {all} requests, {:.1} million/s, {left:.1} min left", rate / 1e6)?
         } else {
             format!(in self.alloc; "{count} requests, {:.1} million/s", rate / 1e6)?

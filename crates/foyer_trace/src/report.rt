@@ -1,10 +1,12 @@
 //! What the runs came to, for the table, the CSV file and the pictures.
 
 use crate::failure::Failure;
-use crate::number::{bytes, quotient};
+use crate::number::{bytes, float, part_of, quotient};
 use crate::plan::Plan;
 use crate::run::Measured;
+use crate::trace::Totals;
 use std::alloc::{AllocError, Global};
+use std::num::saturating_f64_to_u64;
 
 /// What one run came to.
 #[derive(Debug, Drop)]
@@ -59,6 +61,42 @@ impl Measure {
     }
 }
 
+/// How many requests a sample stands for, where the few hottest keys may be in it or not: its gets are taken to be the
+/// sample's part of all gets, and those that it lacks, or has beyond that, to be hits (SHARDS-adj, of the same paper).
+#[derive(Clone, Copy, Debug)]
+pub struct Scale {
+    /// By what the gets of the sample are multiplied, and its bytes.
+    requests: f64,
+    bytes: f64,
+}
+
+impl Scale {
+    /// Every get counts as it is.
+    pub const NONE: Scale = Scale {
+        requests: 1.0,
+        bytes: 1.0,
+    };
+
+    /// That of a sample of this rate.
+    pub fn of(totals: &Totals, rate: f64) -> Scale {
+        Scale {
+            requests: rate / quotient(totals.gets as u128, totals.read_gets as u128).max(1e-12),
+            bytes: rate / quotient(totals.bytes, totals.read_bytes).max(1e-12),
+        }
+    }
+
+    fn requests(self, number: u64) -> u64 {
+        part_of(number, self.requests)
+    }
+
+    fn bytes(self, number: u128) -> u128 {
+        if self.bytes == 1.0 {
+            return number;
+        }
+        saturating_f64_to_u64(float(number) * self.bytes + 0.5) as u128
+    }
+}
+
 /// What all runs came to.
 #[derive(Drop)]
 pub struct Report {
@@ -85,7 +123,8 @@ impl Report {
         title: String,
         plan: &Plan<'_>,
         measured: &[Measured],
-        has_sizes: bool,
+        totals: &Totals,
+        scale: Scale,
         notes: Vec<String>,
     ) -> Result<Report, Failure> {
         let mut rows = Vec::new(alloc);
@@ -94,14 +133,16 @@ impl Report {
                 break;
             };
             let counts = it.counts;
+            let requests = scale.requests(counts.hits.saturating_add(counts.misses)).max(counts.misses);
+            let bytes = scale.bytes(counts.hit_bytes.saturating_add(counts.miss_bytes)).max(counts.miss_bytes);
             rows.push(Row {
                 policy: String::from_str(alloc, policy.name)?,
                 parameters: policy.parameters.clone()?,
                 size: capacity.shown,
-                requests: counts.hits.saturating_add(counts.misses),
-                hits: counts.hits,
+                requests,
+                hits: requests.saturating_sub(counts.misses),
                 misses: counts.misses,
-                bytes: counts.hit_bytes.saturating_add(counts.miss_bytes),
+                bytes,
                 miss_bytes: counts.miss_bytes,
                 evictions: counts.evictions,
                 expired: counts.expired,
@@ -122,7 +163,7 @@ impl Report {
             sizes,
             rows,
             is_in_bytes: plan.terms.weighs_sizes,
-            has_sizes,
+            has_sizes: totals.has_sizes,
             notes,
         })
     }
@@ -158,13 +199,16 @@ impl Report {
         }
     }
 
-    /// The least ratio of a column, as it is printed.
+    /// The least ratio of a column but Belady's, as it is printed.
     pub fn least(&self, alloc: Global, measure: Measure, column: usize) -> Result<Option<String>, AllocError> {
         let mut least: Option<f64> = None;
         for policy in 0..self.policies.len() {
             let Some(row) = self.rows_of(policy).get(column) else {
                 continue;
             };
+            if row.policy.as_str() == "belady" {
+                continue;
+            }
             let ratio = measure.of(row);
             if least.is_none_or(|it| ratio < it) {
                 least = Some(ratio);

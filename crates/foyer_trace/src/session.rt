@@ -2,11 +2,11 @@
 
 use crate::belady::Future;
 use crate::failure::Failure;
-use crate::number::{bytes, grouped};
+use crate::number::{bytes, float, grouped};
 use crate::options::{Outputs, Replay};
 use crate::plan::{Plan, Size, capacities_of, has_belady, warmup_of};
 use crate::progress::Progress;
-use crate::report::Report;
+use crate::report::{Report, Scale};
 use crate::run::{Measured, run_all};
 use crate::source::{AnyReader, Footprint, Source};
 use crate::stream::stream_all;
@@ -154,17 +154,22 @@ fn report_of<R>(
 ) -> Result<Report, Failure> {
     let alloc = ground.alloc;
     let title = title_of(ground, replay, &totals)?;
+    let is_sample = replay.sample.rate < 1.0 && !replay.is_part;
+    let scale = if is_sample { Scale::of(&totals, replay.sample.rate) } else { Scale::NONE };
     let mut notes = Vec::new(alloc);
     notes.push(facts_of(alloc, plan, &totals)?)?;
+    if ground.outputs.is_quiet {
+        return Report::new(alloc, title, plan, measured.as_slice(), &totals, scale, notes);
+    }
     let runs = plan.runs();
     let jobs = jobs.min(runs).max(1);
-    let requests = (totals.records as f64) * runs as f64;
+    let requests = float(totals.records as u128) * float(runs as u128);
     let rate = requests / seconds.max(0.000001) / 1e6;
-    let part = rate / jobs as f64;
+    let part = rate / float(jobs as u128);
     notes.push(
         format!(in alloc; "{runs} runs in {seconds:.2} s, {jobs} at a time: {rate:.1} million requests a second, {part:.1} million a job")?,
     )?;
-    Report::new(alloc, title, plan, measured.as_slice(), totals.has_sizes, notes)
+    Report::new(alloc, title, plan, measured.as_slice(), &totals, scale, notes)
 }
 
 // The trace, how many requests it has, and whether a sample is replayed.

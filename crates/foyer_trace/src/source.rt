@@ -120,7 +120,7 @@ impl<B: BufRead + Drop> Source<B> {
                 }
                 Err(failure) => return Err(failure),
             };
-            self.totals.read = self.totals.read.saturating_add(1);
+            self.count_read(&record);
             let is_sampled = self.sample.has(record.key);
             if self.footprint == Footprint::All || is_sampled {
                 self.see(&record)?;
@@ -167,6 +167,14 @@ impl<B: BufRead + Drop> Source<B> {
             self.totals.key_bytes = self.totals.key_bytes.saturating_add(record.size as u128);
         }
         Ok(())
+    }
+
+    fn count_read(&mut self, record: &Record) {
+        self.totals.read = self.totals.read.saturating_add(1);
+        if record.operation == Operation::Get {
+            self.totals.read_gets = self.totals.read_gets.saturating_add(1);
+            self.totals.read_bytes = self.totals.read_bytes.saturating_add(record.size as u128);
+        }
     }
 
     fn count(&mut self, record: &Record) {

@@ -1,5 +1,6 @@
 //! The curves of a report, as SVG.
 
+use crate::number::float;
 use crate::report::{Measure, Report, Row};
 use std::alloc::{AllocError, Global};
 
@@ -42,14 +43,14 @@ const LOOKS: [Look; 6] = [
 pub fn picture_of(alloc: Global, report: &Report) -> Result<String, AllocError> {
     let mut text = String::new(alloc);
     let panels = report.measures().len();
-    let height = HEIGHT * panels as f64;
+    let height = HEIGHT * float(panels as u128);
     write!(
         text,
         "<svg xmlns=\"http://www.w3.org/2000/svg\" viewBox=\"0 0 {WIDTH:.0} {height:.0}\" width=\"{WIDTH:.0}\" height=\"{height:.0}\" font-family=\"sans-serif\" font-size=\"13\">\n"
     )?;
     write!(text, "<rect width=\"{WIDTH:.0}\" height=\"{height:.0}\" fill=\"#ffffff\"/>\n")?;
     for (at, measure) in report.measures().iter().enumerate() {
-        let offset = HEIGHT * at as f64;
+        let offset = HEIGHT * float(at as u128);
         write!(text, "<g transform=\"translate(0 {offset:.0})\">\n")?;
         push_panel(alloc, &mut text, report, *measure)?;
         text.push_str("</g>\n")?;
@@ -84,8 +85,8 @@ struct Scale {
 
 impl Scale {
     fn new(report: &Report, measure: Measure) -> Scale {
-        let least = report.sizes.first().copied().unwrap_or(1).max(1) as f64;
-        let greatest = report.sizes.last().copied().unwrap_or(1).max(1) as f64;
+        let least = float(report.sizes.first().copied().unwrap_or(1) as u128).max(1.0);
+        let greatest = float(report.sizes.last().copied().unwrap_or(1) as u128).max(1.0);
         let (mut low, mut high) = (least.log10(), greatest.log10());
         if high - low < 0.1 {
             low = low - 0.5;
@@ -209,12 +210,12 @@ fn push_line(text: &mut String, rows: &[Row], measure: Measure, scale: Scale, lo
     let (colour, dashes) = (look.colour, look.dashes);
     text.push_str("<polyline points=\"")?;
     for row in rows {
-        let (x, y) = (scale.x(row.size as f64), scale.y(measure.of(row)));
+        let (x, y) = (scale.x(float(row.size as u128)), scale.y(measure.of(row)));
         write!(text, "{x:.1},{y:.1} ")?;
     }
     write!(text, "\" fill=\"none\" stroke=\"{colour}\" stroke-width=\"1.8\" stroke-dasharray=\"{dashes}\"/>\n")?;
     for row in rows {
-        push_marker(text, scale.x(row.size as f64), scale.y(measure.of(row)), look)?;
+        push_marker(text, scale.x(float(row.size as u128)), scale.y(measure.of(row)), look)?;
     }
     Ok(())
 }
@@ -237,7 +238,7 @@ fn push_marker(text: &mut String, x: f64, y: f64, look: &Look) -> Result<(), All
 
 fn push_legend(text: &mut String, policy: usize, label: &str, look: &Look) -> Result<(), AllocError> {
     let (colour, dashes) = (look.colour, look.dashes);
-    let y = TOP + 12.0 + 24.0 * policy as f64;
+    let y = TOP + 12.0 + 24.0 * float(policy as u128);
     let (start, end) = (RIGHT + 16.0, RIGHT + 56.0);
     write!(
         text,

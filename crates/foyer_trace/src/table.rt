@@ -31,21 +31,27 @@ fn push_table(alloc: Global, text: &mut String, report: &Report, measure: Measur
         let size = report.size_text(alloc, *size)?;
         write!(text, "  {size:>9} ")?;
     }
-    text.push('\n')?;
+    end_line(text)?;
     for (policy, label) in report.policies.iter().enumerate() {
         write!(text, "{label:labels$}")?;
         for (column, row) in report.rows_of(policy).iter().enumerate() {
             let ratio = format!(in alloc; "{:.4}", measure.of(row))?;
             let is_least = report.least(alloc, measure, column)?.is_some_and(|least| least.as_str() == ratio.as_str());
-            let mark = if is_least { '*' } else { ' ' };
+            let is_marked = is_least && row.policy.as_str() != "belady";
+            let mark = if is_marked { '*' } else { ' ' };
             write!(text, "  {ratio:>9}{mark}")?;
         }
-        while text.as_bytes().last() == Some(&b' ') {
-            text.pop();
-        }
-        text.push('\n')?;
+        end_line(text)?;
     }
     Ok(())
+}
+
+// Ends a line, without spaces at its end.
+fn end_line(text: &mut String) -> Result<(), AllocError> {
+    while text.as_bytes().last() == Some(&b' ') {
+        text.pop();
+    }
+    text.push('\n')
 }
 
 /// The table of one measure as HTML.
@@ -61,7 +67,8 @@ pub fn push_html(alloc: Global, text: &mut String, report: &Report, measure: Mea
         write!(text, "<tr><th scope=\"row\">{label}</th>")?;
         for (column, row) in report.rows_of(policy).iter().enumerate() {
             let ratio = format!(in alloc; "{:.4}", measure.of(row))?;
-            if report.least(alloc, measure, column)?.is_some_and(|least| least.as_str() == ratio.as_str()) {
+            let is_least = report.least(alloc, measure, column)?.is_some_and(|least| least.as_str() == ratio.as_str());
+            if is_least && row.policy.as_str() != "belady" {
                 write!(text, "<td><b>{ratio}</b></td>")?;
             } else {
                 write!(text, "<td>{ratio}</td>")?;

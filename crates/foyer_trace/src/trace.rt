@@ -116,7 +116,7 @@ impl Part {
     /// The request of the record at a place.
     #[inline]
     pub fn request(&self, place: usize, terms: Terms) -> Request {
-        let now = self.times.at(place);
+        let time = self.times.at(place);
         let size = self.sizes.at(place);
         let ttl = match terms.ttl {
             Some(ttl) => ttl,
@@ -124,9 +124,9 @@ impl Part {
         };
         Request {
             key: self.keys.get(place).copied().unwrap_or(0),
-            now,
+            time,
             weight: if terms.weighs_sizes { size } else { 1 },
-            expiry: if ttl == EVER { None } else { Some(now.saturating_add(ttl)) },
+            expiry: if ttl == EVER { None } else { Some(time.saturating_add(ttl)) },
             size,
             operation: self.operation(place),
         }
@@ -149,13 +149,17 @@ pub struct Totals {
     pub read: u64,
     /// How many bad ones were left out.
     pub bad: u64,
-    /// How many of them are in the sample.
-    pub records: u64,
-    /// How many gets are among those.
-    pub gets: u64,
+    /// How many of those that were read are gets.
+    pub read_gets: u64,
     /// The bytes of those gets.
+    pub read_bytes: u128,
+    /// How many records are in the sample.
+    pub records: u64,
+    /// How many gets are in the sample.
+    pub gets: u64,
+    /// The bytes of the gets in the sample.
     pub bytes: u128,
-    /// How many keys they have.
+    /// How many keys the footprint has.
     pub keys: u64,
     /// The bytes of those keys, each as large as it was first.
     pub key_bytes: u128,

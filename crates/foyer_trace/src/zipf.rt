@@ -2,7 +2,7 @@
 
 use crate::failure::Failure;
 use crate::nearest::unknown;
-use crate::number::count;
+use crate::number::{count, float};
 use rand_core::{Rng, SeedableRng};
 use rand_xoshiro::Xoshiro256PlusPlus;
 use std::alloc::Global;
@@ -68,13 +68,13 @@ pub fn write_zipf<W: Write>(alloc: Global, zipf: Zipf, out: &mut W) -> Result<()
     let mut sums = Vec::with_capacity(alloc, zipf.keys as usize)?;
     let mut sum = 0.0f64;
     for rank in 0..zipf.keys {
-        sum = sum + (rank as f64 + 1.0).powf(0.0 - zipf.skew);
+        sum = sum + (float(rank as u128) + 1.0).powf(0.0 - zipf.skew);
         sums.push(sum)?;
     }
     let mut random = Xoshiro256PlusPlus::seed_from_u64(zipf.seed);
     for _op in 0..zipf.ops {
         // 53 random bits are a number from 0 to below 1.
-        let part = (random.next_u64() >> 11) as f64 / 9007199254740992.0;
+        let part = float((random.next_u64() >> 11) as u128) / 9007199254740992.0;
         let rank = sums.partition_point(|it| *it <= part * sum);
         let rank = (rank as u64).min(zipf.keys.saturating_sub(1));
         match writeln!(out, "{rank}") {

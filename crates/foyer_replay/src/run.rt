@@ -1,8 +1,13 @@
 //! A replay of requests over a core in one thread's hands.
 
+ghost use Rattle.std.specs.Prelude.{◌≡◌, IfOk, OnOk};
+ghost use Rattle.std.specs.Hash.{u64 as u64_input};
+ghost use Rattle.foyer_core.specs.Cores.{core_of, meaning_of_core};
+ghost use Rattle.foyer_replay.specs.Replay.{Counted, Serves, Stores};
+
 use crate::counts::Counts;
 use crate::request::{Operation, Outcome, Request, RequestWeighter};
-use foyer_core::{AdmitAll, CacheCore, CacheProperties, CoreEntry, InsertedOnto, Leave};
+use foyer_core::{AdmitAll, CacheCore, CacheProperties, InsertedOnto, Leave};
 use foyer_policy::{Event, Eviction, HashBuilder, Result};
 
 /// The core that a replay runs over: a record's value is its weight.
@@ -22,7 +27,10 @@ pub fn replay<E: Eviction, S: HashBuilder>(
     core: &mut ReplayCore<E, S>,
     requests: &[Request],
     departures: &mut Departures,
-) -> Result<Counts> {
+) -> Result<Counts>
+    ensures counted { IfOk result (λ counts. Counted (meaning_of_core core.old) (λ builder key. S.hash_of builder (u64_input key))
+        requests.now counts.hits counts.misses (core_of core.old) (core_of core.new)) }
+{
     let mut counts = Counts::default();
     for request in requests {
         // No `?` here and below: it would copy each answer.
@@ -31,7 +39,7 @@ pub fn replay<E: Eviction, S: HashBuilder>(
             Err(error) => return Err(error),
         }
         if !departures.is_empty() {
-            count_departures(&mut counts, departures, request.now);
+            count_departures(&mut counts, departures, request.time);
             departures.clear();
         }
     }
@@ -48,9 +56,12 @@ pub fn serve<E: Eviction, S: HashBuilder>(
     core: &mut ReplayCore<E, S>,
     request: &Request,
     departures: &mut Departures,
-) -> Result<Outcome> {
+) -> Result<Outcome>
+    ensures served { IfOk result (λ outcome. Serves (meaning_of_core core.old) (λ builder key. S.hash_of builder (u64_input key))
+        request.now outcome (core_of core.old) (core_of core.new)) }
+{
     match request.operation {
-        Operation::Get => match core.touch(request.now, &request.key) {
+        Operation::Get => match core.touch(request.time, &request.key) {
             Ok(true) => Ok(Outcome::Hit),
             Ok(false) => match store(core, request, departures) {
                 Ok(()) => Ok(Outcome::Miss),
@@ -64,7 +75,7 @@ pub fn serve<E: Eviction, S: HashBuilder>(
         },
         Operation::Remove => match core.remove(&request.key) {
             Ok(Some((entry, _left))) => {
-                end(core, entry);
+                drop(core.drop_entry(entry));
                 Ok(Outcome::Done)
             }
             Ok(None) => Ok(Outcome::Done),
@@ -79,28 +90,19 @@ fn store<E: Eviction, S: HashBuilder>(
     core: &mut ReplayCore<E, S>,
     request: &Request,
     departures: &mut Departures,
-) -> Result<()> {
+) -> Result<()>
+    ensures stored { OnOk result (Stores (meaning_of_core core.old) (λ builder key. S.hash_of builder (u64_input key))
+        request.now (core_of core.old) (core_of core.new)) }
+{
     let properties = CacheProperties::default().with_expiry(request.expiry);
-    let (now, key, weight) = (request.now, request.key, request.weight);
+    let (now, key, weight) = (request.time, request.key, request.weight);
     match core.insert_with_properties_onto(now, key, weight, properties, departures) {
         Ok(InsertedOnto { entry, answers }) => {
             core.drop_answers(answers);
-            end(core, entry);
+            drop(core.drop_entry(entry));
             Ok(())
         }
         Err(error) => Err(error),
-    }
-}
-
-// Gives an entry back.
-#[inline(always)]
-fn end<E: Eviction, S: HashBuilder>(
-    core: &mut ReplayCore<E, S>,
-    entry: CoreEntry<u64, u64, CacheProperties>,
-) {
-    match core.give_back(entry) {
-        Ok(_) => {}
-        Err(entry) => entry.discard(),
     }
 }
 
