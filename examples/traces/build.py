@@ -20,7 +20,21 @@ def main(out, source="/usr/src/googletest"):
         log = f"{folder}/opens"
         tests = ["-Dgtest_build_samples=ON", "-Dgtest_build_tests=ON", "-DCMAKE_CXX_FLAGS=-O0"]
         subprocess.run(["cmake", "-S", source, "-B", f"{folder}/build", *tests], check=True, stdout=subprocess.DEVNULL)
-        words = ["strace", "-f", "-qq", "-ttt", "-y", "-e", "trace=openat", "-o", log, "make", "-C", f"{folder}/build", "-j2"]
+        words = [
+            "strace",
+            "-f",
+            "-qq",
+            "-ttt",
+            "-y",
+            "-e",
+            "trace=openat",
+            "-o",
+            log,
+            "make",
+            "-C",
+            f"{folder}/build",
+            "-j2",
+        ]
         subprocess.run(words, check=True, stdout=subprocess.DEVNULL)
         with open(log, encoding="utf-8", errors="replace") as file:
             opened = [it for it in map(OPENED.match, file) if it and os.path.isfile(it[2])][:MOST]

@@ -48,7 +48,11 @@ def main(out):
         with open(log, encoding="utf-8", errors="replace") as file:
             lines = file.readlines()
     begin = next(at for at, line in enumerate(lines) if line.startswith("write(1") and "begin" in line)
-    reads = (re.search(r"accounts\.db>, .*, (\d+), (\d+)\) = \d+$", line) for line in lines[begin:] if line.startswith("pread64"))
+    reads = (
+        re.search(r"accounts\.db>, .*, (\d+), (\d+)\) = \d+$", line)
+        for line in lines[begin:]
+        if line.startswith("pread64")
+    )
     with open(out, "w", encoding="utf-8") as file:
         file.writelines(f"{int(it[2]) // PAGE + 1}\n" for it in reads if it and int(it[1]) == PAGE)
     print(f"{os.path.getsize(out)} bytes", file=sys.stderr)

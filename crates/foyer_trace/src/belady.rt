@@ -66,7 +66,13 @@ impl Belady {
     }
 
     /// Serves the records of a part from a place to another.
-    pub fn serve(&mut self, part: &Part, future: &[u32], from: usize, to: usize) -> Result<Counts, AllocError> {
+    pub fn serve(
+        &mut self,
+        part: &Part,
+        future: &[u32],
+        from: usize,
+        to: usize,
+    ) -> Result<Counts, AllocError> {
         let mut counts = Counts::default();
         for place in from..to {
             let is_hit = self.resident.remove(&self.number);

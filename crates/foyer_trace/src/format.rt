@@ -48,9 +48,9 @@ impl Format {
             "csv" => Ok(Format::Csv),
             "oracle" | "oracleGeneral" | "bin" => Ok(Format::Oracle),
             "arc" | "lis" => Ok(Format::Arc),
-            _ => Err(Failure::Usage(
-                format!(in alloc; "the name of {path} does not tell its format: say --format keys, csv, oracle or arc")?,
-            )),
+            _ => Err(Failure::Usage(format!(in alloc;
+                "the name of {path} does not tell its format: say --format keys, csv, oracle or arc"
+            )?)),
         }
     }
 }

@@ -53,10 +53,8 @@ pub fn page_of(alloc: Global, report: &Report, command: &[String]) -> Result<Str
 
 // A word as a shell takes it.
 fn push_word(text: &mut String, word: &str) -> Result<(), AllocError> {
-    let is_plain = word
-        .as_bytes()
-        .iter()
-        .all(|byte| byte.is_ascii_alphanumeric() || b"-_./:,=+%".as_slice().contains(byte));
+    let is_plain = word.as_bytes().iter().all(|byte| byte.is_ascii_alphanumeric()
+        || b"-_./:,=+%".as_slice().contains(byte));
     if is_plain && !word.is_empty() {
         return push_escaped(text, word);
     }

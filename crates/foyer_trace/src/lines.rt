@@ -28,7 +28,11 @@ impl<B: BufRead + Drop> Lines<B> {
             match self.reader.read_until(b'\n', &mut self.line) {
                 Ok(0) => return Ok(false),
                 Ok(_) => {}
-                Err(error) => return Err(Failure::of_io(self.alloc, "cannot read the trace", &error)),
+                Err(error) => return Err(Failure::of_io(
+                    self.alloc,
+                    "cannot read the trace",
+                    &error,
+                )),
             }
             while matches!(self.line.last(), Some(b'\n' | b'\r')) {
                 self.line.pop();

@@ -18,6 +18,7 @@ mod help;
 mod html;
 mod key;
 mod lines;
+mod look;
 mod nearest;
 mod number;
 mod options;
@@ -90,7 +91,9 @@ fn fail<R: Eprint>(rt: &R, failure: &Failure) -> ExitCode {
     // The status says it where standard error can't.
     let _ = match failure {
         Failure::Usage(why) => {
-            eprintln!(rt; "foyer-trace: {why}\nusage: foyer-trace TRACE [options]; --help says more")
+            eprintln!(rt;
+                "foyer-trace: {why}\nusage: foyer-trace TRACE [options]; --help says more"
+            )
         }
         Failure::Bad(why) | Failure::Other(why) => eprintln!(rt; "foyer-trace: {why}"),
         Failure::Memory => eprintln!(rt; "foyer-trace: out of memory"),

@@ -75,7 +75,9 @@ pub fn ratio(word: &str) -> Option<Ratio> {
     if let Some((num, den)) = word.split_once('/') {
         return Some(Ratio {
             num: u32::try_from(decimal(num.as_bytes())?).ok()?,
-            den: u32::try_from(decimal(den.as_bytes())?).ok().filter(|den| *den > 0)?,
+            den: u32::try_from(decimal(den.as_bytes())?)
+                .ok()
+                .filter(|den| *den > 0)?,
         });
     }
     let (whole, places) = word.split_once('.').unwrap_or((word, ""));
@@ -86,8 +88,14 @@ pub fn ratio(word: &str) -> Option<Ratio> {
     for _place in 0..places.len() {
         den = den.saturating_mul(10);
     }
-    let part = if places.is_empty() { 0 } else { decimal(places.as_bytes())? };
-    let num = decimal(whole.as_bytes())?.checked_mul(den)?.checked_add(part)?;
+    let part = if places.is_empty() {
+        0
+    } else {
+        decimal(places.as_bytes())?
+    };
+    let num = decimal(whole.as_bytes())?
+        .checked_mul(den)?
+        .checked_add(part)?;
     Some(Ratio {
         num: u32::try_from(num).ok()?,
         den: u32::try_from(den).ok()?,

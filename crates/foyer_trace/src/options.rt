@@ -72,8 +72,8 @@ fn flag<'a>(alloc: Global, name: &'a str) -> Arg<'a> {
 /// The command line that the program takes.
 pub fn command<'a>(alloc: Global) -> Result<Command<'a>, clap::Error> {
     const VALUED: [&str; 15] = [
-        "format", "policy", "size", "shards", "weigh", "ttl", "warmup", "jobs", "csv", "svg", "html", "title",
-        "sample", "part", "make",
+        "format", "policy", "size", "shards", "weigh", "ttl", "warmup", "jobs", "csv", "svg",
+        "html", "title", "sample", "part", "make",
     ];
     let mut command = Command::new(alloc, "foyer-trace")
         .no_binary_name(true)
@@ -118,18 +118,26 @@ pub fn task_of<'a>(alloc: Global, matches: &'a ArgMatches<'a>) -> Result<Task<'a
     let traces = matches.get_strs("trace").unwrap_or(&[]);
     if matches.get_flag("merge") {
         if traces.is_empty() {
-            return Err(Failure::Usage(format!(in alloc; "--merge takes the files that --csv wrote")?));
+            return Err(Failure::Usage(format!(in alloc;
+                "--merge takes the files that --csv wrote"
+            )?));
         }
         return Ok(Task::Merge(traces));
     }
     match traces {
         [path] => Ok(Task::Replay(replay_of(alloc, matches, path)?)),
-        [] => Err(Failure::Usage(format!(in alloc; "a trace is missing: a file, or - for standard input")?)),
+        [] => Err(Failure::Usage(format!(in alloc;
+            "a trace is missing: a file, or - for standard input"
+        )?)),
         _ => Err(Failure::Usage(format!(in alloc; "one trace is replayed at a time")?)),
     }
 }
 
-fn replay_of<'a>(alloc: Global, matches: &'a ArgMatches<'a>, path: &'a str) -> Result<Replay<'a>, Failure> {
+fn replay_of<'a>(
+    alloc: Global,
+    matches: &'a ArgMatches<'a>,
+    path: &'a str,
+) -> Result<Replay<'a>, Failure> {
     let format = match matches.get_str("format") {
         Some(name) => Format::of_name(alloc, name)?,
         None => Format::of_path(alloc, path)?,
@@ -197,7 +205,9 @@ fn counted(alloc: Global, matches: &ArgMatches<'_>, name: &str) -> Result<Option
     };
     match decimal(word.as_bytes()) {
         Some(number) if number > 0 => Ok(Some(number as usize)),
-        _ => Err(Failure::Usage(format!(in alloc; "--{name} must be a number from 1, and not '{word}'")?)),
+        _ => Err(Failure::Usage(format!(in alloc;
+            "--{name} must be a number from 1, and not '{word}'"
+        )?)),
     }
 }
 
@@ -211,7 +221,9 @@ fn terms_of(alloc: Global, matches: &ArgMatches<'_>) -> Result<Terms, Failure> {
         None => None,
         Some(word) => match count(word) {
             Some(ttl) if ttl > 0 => Some(ttl),
-            _ => return Err(Failure::Usage(format!(in alloc; "--ttl must be a number from 1, and not '{word}'")?)),
+            _ => return Err(Failure::Usage(format!(in alloc;
+                "--ttl must be a number from 1, and not '{word}'"
+            )?)),
         },
     };
     Ok(Terms { weighs_sizes, ttl })
@@ -221,9 +233,9 @@ fn warmup_of(alloc: Global, word: &str) -> Result<Warmup, Failure> {
     match (fraction(word), count(word)) {
         (Some(part), _) if part < 1.0 => Ok(Warmup::Fraction(part)),
         (None, Some(number)) => Ok(Warmup::Records(number)),
-        _ => Err(Failure::Usage(
-            format!(in alloc; "--warmup must be a number of requests or a part of them below 1, such as 0.2, and not '{word}'")?,
-        )),
+        _ => Err(Failure::Usage(format!(in alloc;
+            "--warmup must be a number of requests or a part of them below 1, such as 0.2, and not '{word}'"
+        )?)),
     }
 }
 
@@ -231,24 +243,30 @@ fn warmup_of(alloc: Global, word: &str) -> Result<Warmup, Failure> {
 fn sample_of(alloc: Global, matches: &ArgMatches<'_>) -> Result<(Sample, String, bool), Failure> {
     match (matches.get_str("sample"), matches.get_str("part")) {
         (None, None) => Ok((Sample::ALL, String::new(alloc), false)),
-        (Some(_), Some(_)) => Err(Failure::Usage(format!(in alloc; "--sample and --part do not go together")?)),
+        (Some(_), Some(_)) => Err(Failure::Usage(format!(in alloc;
+            "--sample and --part do not go together"
+        )?)),
         (Some(word), None) => match fraction(word) {
             Some(rate) if rate > 0.0 && rate <= 1.0 => {
                 let name = format!(in alloc; "a sample of {word} of the keys, sizes scaled")?;
                 Ok((Sample::first(rate), name, false))
             }
-            _ => Err(Failure::Usage(
-                format!(in alloc; "--sample must be a part above 0 such as 0.01, and not '{word}'")?,
-            )),
+            _ => Err(Failure::Usage(format!(in alloc;
+                "--sample must be a part above 0 such as 0.01, and not '{word}'"
+            )?)),
         },
         (None, Some(word)) => {
             let (part, parts) = word.split_once('/').unwrap_or((word, ""));
             match (decimal(part.as_bytes()), decimal(parts.as_bytes())) {
                 (Some(part), Some(parts)) if part > 0 && part <= parts => {
-                    let name = format!(in alloc; "part {part} of {parts} of the keys, sizes scaled")?;
+                    let name = format!(in alloc;
+                        "part {part} of {parts} of the keys, sizes scaled"
+                    )?;
                     Ok((Sample::part(part, parts), name, true))
                 }
-                _ => Err(Failure::Usage(format!(in alloc; "--part must be such as 1/4, and not '{word}'")?)),
+                _ => Err(Failure::Usage(format!(in alloc;
+                    "--part must be such as 1/4, and not '{word}'"
+                )?)),
             }
         }
     }

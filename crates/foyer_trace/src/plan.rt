@@ -23,9 +23,9 @@ pub fn sizes_of(alloc: Global, list: &str) -> Result<Vec<Size>, Failure> {
             (Some(part), _) => Size::Fraction(part),
             (None, Some(number)) => Size::Absolute(number),
             (None, None) => {
-                return Err(Failure::Usage(
-                    format!(in alloc; "a size must be a number such as 10k or 64MiB, or a fraction of the footprint such as 0.01, and not '{word}'")?,
-                ));
+                return Err(Failure::Usage(format!(in alloc;
+                    "a size must be a number such as 10k or 64MiB, or a fraction of the footprint such as 0.01, and not '{word}'"
+                )?));
             }
         };
         sizes.push(size)?;
@@ -79,7 +79,9 @@ impl<'a> Plan<'a> {
 
 /// Whether a policy is Belady's.
 pub fn has_belady(policies: &[Policy<'_>]) -> bool {
-    policies.iter().any(|policy| matches!(policy.kind, Kind::Belady))
+    policies
+        .iter()
+        .any(|policy| matches!(policy.kind, Kind::Belady))
 }
 
 /// The capacities of sizes, in ascending order and each once. Where a sample of this rate is replayed, `is_whole` says
@@ -92,16 +94,28 @@ pub fn capacities_of(
     rate: f64,
     is_whole: bool,
 ) -> Result<Vec<Capacity>, Failure> {
-    let footprint = if weighs_sizes { totals.key_bytes } else { totals.keys as u128 };
+    let footprint = if weighs_sizes {
+        totals.key_bytes
+    } else {
+        totals.keys as u128
+    };
     let footprint = u64::try_from(footprint).unwrap_or(u64::MAX);
-    let whole = if is_whole { footprint } else { part_of(footprint, 1.0 / rate) };
+    let whole = if is_whole {
+        footprint
+    } else {
+        part_of(footprint, 1.0 / rate)
+    };
     let mut capacities: Vec<Capacity> = Vec::new(alloc);
     for size in sizes {
         let shown = match size {
             Size::Absolute(number) => *number,
             Size::Fraction(part) => part_of(whole, *part).max(1),
         };
-        let scaled = if rate < 1.0 { part_of(shown, rate).max(1) } else { shown };
+        let scaled = if rate < 1.0 {
+            part_of(shown, rate).max(1)
+        } else {
+            shown
+        };
         let capacity = Capacity {
             shown,
             scaled: scaled as usize,
@@ -110,7 +124,9 @@ pub fn capacities_of(
             capacities.push(capacity)?;
         }
     }
-    capacities.as_mut_slice().sort_unstable_by_key(|it| it.shown);
+    capacities
+        .as_mut_slice()
+        .sort_unstable_by_key(|it| it.shown);
     Ok(capacities)
 }
 

@@ -29,6 +29,7 @@ pub struct Policy<'a> {
 }
 
 const NAMES: [&str; 7] = ["all", "fifo", "lru", "lfu", "s3fifo", "sieve", "belady"];
+
 const ALL: [&str; 5] = ["fifo", "lru", "lfu", "s3fifo", "sieve"];
 
 /// The policies of a list such as `lru,s3fifo:small=1/10,threshold=2,belady`, or `all` for the five. A word with `=` is
@@ -99,7 +100,9 @@ impl Policy<'_> {
             Kind::S3Fifo(config) => set_s3fifo(alloc, config, parameter, value)?,
             Kind::Fifo | Kind::Sieve | Kind::Belady => {
                 let name = self.name;
-                return Err(Failure::Usage(format!(in alloc; "{name} has no parameters, and '{word}' is given")?));
+                return Err(Failure::Usage(format!(in alloc;
+                    "{name} has no parameters, and '{word}' is given"
+                )?));
             }
         }
         if !self.parameters.is_empty() {
@@ -125,7 +128,12 @@ impl Policy<'_> {
     }
 }
 
-fn set_lru(alloc: Global, config: &mut LruConfig, parameter: &str, value: &str) -> Result<(), Failure> {
+fn set_lru(
+    alloc: Global,
+    config: &mut LruConfig,
+    parameter: &str,
+    value: &str,
+) -> Result<(), Failure> {
     match parameter {
         "high" => config.high_priority_pool_ratio = ratio_of(alloc, parameter, value)?,
         _ => return Err(unknown(alloc, "parameter of lru", parameter, &["high"])),
@@ -133,7 +141,12 @@ fn set_lru(alloc: Global, config: &mut LruConfig, parameter: &str, value: &str) 
     Ok(())
 }
 
-fn set_lfu(alloc: Global, config: &mut LfuConfig, parameter: &str, value: &str) -> Result<(), Failure> {
+fn set_lfu(
+    alloc: Global,
+    config: &mut LfuConfig,
+    parameter: &str,
+    value: &str,
+) -> Result<(), Failure> {
     match parameter {
         "window" => config.window_capacity_ratio = ratio_of(alloc, parameter, value)?,
         "protected" => config.protected_capacity_ratio = ratio_of(alloc, parameter, value)?,
@@ -151,12 +164,22 @@ fn set_lfu(alloc: Global, config: &mut LfuConfig, parameter: &str, value: &str) 
     Ok(())
 }
 
-fn set_s3fifo(alloc: Global, config: &mut S3FifoConfig, parameter: &str, value: &str) -> Result<(), Failure> {
+fn set_s3fifo(
+    alloc: Global,
+    config: &mut S3FifoConfig,
+    parameter: &str,
+    value: &str,
+) -> Result<(), Failure> {
     match parameter {
         "small" => config.small_queue_capacity_ratio = ratio_of(alloc, parameter, value)?,
         "ghost" => config.ghost_queue_capacity_ratio = ratio_of(alloc, parameter, value)?,
         "threshold" => {
-            config.small_to_main_freq_threshold = number_of(alloc, parameter, value, u8::MAX as u32)? as u8;
+            config.small_to_main_freq_threshold = number_of(
+                alloc,
+                parameter,
+                value,
+                u8::MAX as u32,
+            )? as u8;
         }
         _ => {
             let known = ["small", "ghost", "threshold"];
@@ -169,9 +192,9 @@ fn set_s3fifo(alloc: Global, config: &mut S3FifoConfig, parameter: &str, value: 
 fn ratio_of(alloc: Global, parameter: &str, value: &str) -> Result<Ratio, Failure> {
     match ratio(value) {
         Some(ratio) => Ok(ratio),
-        None => Err(Failure::Usage(
-            format!(in alloc; "{parameter} must be a share such as 1/10 or 0.1, and not '{value}'")?,
-        )),
+        None => Err(Failure::Usage(format!(in alloc;
+            "{parameter} must be a share such as 1/10 or 0.1, and not '{value}'"
+        )?)),
     }
 }
 
@@ -179,8 +202,8 @@ fn number_of(alloc: Global, parameter: &str, value: &str, most: u32) -> Result<u
     let number = decimal(value.as_bytes()).filter(|number| *number <= most as u64);
     match number.and_then(|number| u32::try_from(number).ok()) {
         Some(number) => Ok(number),
-        None => Err(Failure::Usage(
-            format!(in alloc; "{parameter} must be a number from 0 to {most}, and not '{value}'")?,
-        )),
+        None => Err(Failure::Usage(format!(in alloc;
+            "{parameter} must be a number from 0 to {most}, and not '{value}'"
+        )?)),
     }
 }

@@ -27,7 +27,11 @@ impl<'a, R: Clock + Eprint> Progress<'a, R> {
         Progress {
             rt,
             alloc,
-            start: if is_quiet { None } else { Instant::now(rt).ok() },
+            start: if is_quiet {
+                None
+            } else {
+                Instant::now(rt).ok()
+            },
             is_terminal,
             all,
             done: AtomicU64::new(0),
@@ -42,7 +46,10 @@ impl<'a, R: Clock + Eprint> Progress<'a, R> {
 
     /// So many more requests are done.
     pub fn advance(&self, requests: u64) {
-        let done = self.done.fetch_add(requests, Ordering::SeqCst).saturating_add(requests);
+        let done = self
+            .done
+            .fetch_add(requests, Ordering::SeqCst)
+            .saturating_add(requests);
         let Some(start) = self.start else {
             return;
         };
@@ -71,9 +78,12 @@ impl<'a, R: Clock + Eprint> Progress<'a, R> {
         let mut text = if self.all > 0 {
             let all = grouped(self.alloc, self.all as u128)?;
             let left = float(self.all.saturating_sub(done) as u128) / rate.max(1.0) / 60.0;
-            format!(in self.alloc; "{count} of {all} requests, {:.1} million/s, {left:.1} min left", rate / 1e6)?
+            format!(in self.alloc;
+                "{count} of {all} requests, {:.2} million a second, {left:.1} minutes left",
+                rate / 1e6
+            )?
         } else {
-            format!(in self.alloc; "{count} requests, {:.1} million/s", rate / 1e6)?
+            format!(in self.alloc; "{count} requests, {:.2} million a second", rate / 1e6)?
         };
         if self.is_terminal {
             for _column in text.len()..76 {

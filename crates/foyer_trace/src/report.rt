@@ -133,8 +133,12 @@ impl Report {
                 break;
             };
             let counts = it.counts;
-            let requests = scale.requests(counts.hits.saturating_add(counts.misses)).max(counts.misses);
-            let bytes = scale.bytes(counts.hit_bytes.saturating_add(counts.miss_bytes)).max(counts.miss_bytes);
+            let requests = scale
+                .requests(counts.hits.saturating_add(counts.misses))
+                .max(counts.misses);
+            let bytes = scale
+                .bytes(counts.hit_bytes.saturating_add(counts.miss_bytes))
+                .max(counts.miss_bytes);
             rows.push(Row {
                 policy: String::from_str(alloc, policy.name)?,
                 parameters: policy.parameters.clone()?,
@@ -200,7 +204,12 @@ impl Report {
     }
 
     /// The least ratio of a column but Belady's, as it is printed.
-    pub fn least(&self, alloc: Global, measure: Measure, column: usize) -> Result<Option<String>, AllocError> {
+    pub fn least(
+        &self,
+        alloc: Global,
+        measure: Measure,
+        column: usize,
+    ) -> Result<Option<String>, AllocError> {
         let mut least: Option<f64> = None;
         for policy in 0..self.policies.len() {
             let Some(row) = self.rows_of(policy).get(column) else {

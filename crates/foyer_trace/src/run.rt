@@ -29,7 +29,11 @@ pub fn run_all<R: Clock + Eprint + Threads + Sync>(
     jobs: usize,
     progress: &Progress<'_, R>,
 ) -> Result<Vec<Measured>, Failure> {
-    let future = if plan.has_belady { Some(Future::of(alloc, trace)?) } else { None };
+    let future = if plan.has_belady {
+        Some(Future::of(alloc, trace)?)
+    } else {
+        None
+    };
     let next = AtomicUsize::new(0);
     let threads = jobs.min(plan.runs()).max(1);
     let worked = thread::map_indices(
@@ -69,7 +73,13 @@ fn work<R: Clock + Eprint>(
             break;
         };
         let start = Instant::now(rt);
-        let mut runner = Runner::new(alloc, &policy.kind, capacity.scaled, plan.shards, plan.terms)?;
+        let mut runner = Runner::new(
+            alloc,
+            &policy.kind,
+            capacity.scaled,
+            plan.shards,
+            plan.terms,
+        )?;
         let counts = run_one(&mut runner, trace, future, plan.warmup, progress)?;
         let seconds = match start {
             Ok(start) => start.elapsed(rt).map_or(0.0, |taken| taken.as_secs_f64()),

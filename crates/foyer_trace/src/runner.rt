@@ -6,7 +6,8 @@ use crate::policy::Kind;
 use crate::trace::{Part, Terms};
 use foyer_core::RawCacheConfig;
 use foyer_policy::{
-    Eviction, Fifo, FifoConfig, Lfu, LfuConfig, Lru, LruConfig, ModHasher, S3Fifo, S3FifoConfig, Sieve, SieveConfig,
+    Eviction, Fifo, FifoConfig, Lfu, LfuConfig, Lru, LruConfig, ModHasher, S3Fifo, S3FifoConfig,
+    Sieve, SieveConfig,
 };
 use foyer_replay::{Counts, Departures, ReplayCore, Request, RequestWeighter, replay};
 use std::alloc::Global;
@@ -54,7 +55,13 @@ where
 
 impl Runner {
     /// A cache of a policy, with a capacity that so many shards share.
-    pub fn new(alloc: Global, kind: &Kind, capacity: usize, shards: usize, terms: Terms) -> Result<Runner, Failure> {
+    pub fn new(
+        alloc: Global,
+        kind: &Kind,
+        capacity: usize,
+        shards: usize,
+        terms: Terms,
+    ) -> Result<Runner, Failure> {
         let core = match kind {
             Kind::Fifo => Core::Fifo(core_of(alloc, FifoConfig {}, capacity, shards)?),
             Kind::Lru(config) => {
@@ -81,7 +88,13 @@ impl Runner {
     }
 
     /// Serves the records of a part from a place to another, whose future Belady's cache is told.
-    pub fn serve(&mut self, part: &Part, future: &[u32], from: usize, to: usize) -> Result<Counts, Failure> {
+    pub fn serve(
+        &mut self,
+        part: &Part,
+        future: &[u32],
+        from: usize,
+        to: usize,
+    ) -> Result<Counts, Failure> {
         if let Core::Belady(belady) = &mut self.core {
             return Ok(belady.serve(part, future, from, to)?);
         }

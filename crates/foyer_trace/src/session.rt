@@ -52,7 +52,11 @@ pub fn replay_trace<R: AllocGlobal + Clock + Eprint + Threads + Sync, B: BufRead
 }
 
 // What is replayed of a trace of which so much is known.
-fn plan_of<'a>(alloc: Global, replay: &'a Replay<'a>, totals: &Totals) -> Result<Plan<'a>, Failure> {
+fn plan_of<'a>(
+    alloc: Global,
+    replay: &'a Replay<'a>,
+    totals: &Totals,
+) -> Result<Plan<'a>, Failure> {
     let weighs_sizes = replay.terms.weighs_sizes;
     Ok(Plan {
         policies: replay.policies.as_slice(),
@@ -82,7 +86,13 @@ fn replay_kept<R: AllocGlobal + Clock + Eprint + Threads + Sync, B: BufRead + Dr
     check_totals(alloc, replay, &trace.totals)?;
     let plan = plan_of(alloc, replay, &trace.totals)?;
     let all = trace.totals.records.saturating_mul(plan.runs() as u64);
-    let progress = Progress::new(ground.rt, alloc, all, ground.is_terminal, ground.outputs.is_quiet);
+    let progress = Progress::new(
+        ground.rt,
+        alloc,
+        all,
+        ground.is_terminal,
+        ground.outputs.is_quiet,
+    );
     let start = Instant::now(ground.rt);
     let measured = run_all(ground.rt, alloc, &trace, &plan, jobs, &progress)?;
     progress.end();
@@ -101,7 +111,13 @@ fn replay_stream<R: AllocGlobal + Clock + Eprint + Threads + Sync, B: BufRead + 
     if plan.terms.weighs_sizes && !source.totals().has_sizes {
         return Err(no_sizes(alloc));
     }
-    let progress = Progress::new(ground.rt, alloc, 0, ground.is_terminal, ground.outputs.is_quiet);
+    let progress = Progress::new(
+        ground.rt,
+        alloc,
+        0,
+        ground.is_terminal,
+        ground.outputs.is_quiet,
+    );
     let start = Instant::now(ground.rt);
     let measured = stream_all(ground.rt, alloc, &mut source, &plan, jobs, &progress)?;
     progress.end();
@@ -129,16 +145,24 @@ fn no_sizes(alloc: Global) -> Failure {
 // Whether there is something to replay, as it is asked for.
 fn check_totals(alloc: Global, replay: &Replay<'_>, totals: &Totals) -> Result<(), Failure> {
     if totals.read == 0 {
-        return Err(Failure::Other(format!(in alloc; "{}: the trace has no requests", replay.path)?));
+        return Err(Failure::Other(format!(in alloc;
+            "{}: the trace has no requests",
+            replay.path
+        )?));
     }
     if totals.records == 0 {
-        return Err(Failure::Other(format!(in alloc; "{}: no request is in the sample", replay.path)?));
+        return Err(Failure::Other(format!(in alloc;
+            "{}: no request is in the sample",
+            replay.path
+        )?));
     }
     if replay.terms.weighs_sizes && !totals.has_sizes {
         return Err(no_sizes(alloc));
     }
     if has_belady(replay.policies.as_slice()) && totals.records >= Future::MOST {
-        return Err(Failure::Other(format!(in alloc; "belady takes at most 4,294,967,294 requests: take a --sample")?));
+        return Err(Failure::Other(format!(in alloc;
+            "belady takes at most 4,294,967,294 requests: take a --sample"
+        )?));
     }
     Ok(())
 }
@@ -155,25 +179,49 @@ fn report_of<R>(
     let alloc = ground.alloc;
     let title = title_of(ground, replay, &totals)?;
     let is_sample = replay.sample.rate < 1.0 && !replay.is_part;
-    let scale = if is_sample { Scale::of(&totals, replay.sample.rate) } else { Scale::NONE };
+    let scale = if is_sample {
+        Scale::of(&totals, replay.sample.rate)
+    } else {
+        Scale::NONE
+    };
     let mut notes = Vec::new(alloc);
     notes.push(facts_of(alloc, plan, &totals)?)?;
     if ground.outputs.is_quiet {
-        return Report::new(alloc, title, plan, measured.as_slice(), &totals, scale, notes);
+        return Report::new(
+            alloc,
+            title,
+            plan,
+            measured.as_slice(),
+            &totals,
+            scale,
+            notes,
+        );
     }
     let runs = plan.runs();
     let jobs = jobs.min(runs).max(1);
     let requests = float(totals.records as u128) * float(runs as u128);
     let rate = requests / seconds.max(0.000001) / 1e6;
     let part = rate / float(jobs as u128);
-    notes.push(
-        format!(in alloc; "{runs} runs in {seconds:.2} s, {jobs} at a time: {rate:.1} million requests a second, {part:.1} million a job")?,
-    )?;
-    Report::new(alloc, title, plan, measured.as_slice(), &totals, scale, notes)
+    notes.push(format!(in alloc;
+        "{runs} runs in {seconds:.2} s, {jobs} at a time: {rate:.2} million requests a second, {part:.2} million a job"
+    )?)?;
+    Report::new(
+        alloc,
+        title,
+        plan,
+        measured.as_slice(),
+        &totals,
+        scale,
+        notes,
+    )
 }
 
 // The trace, how many requests it has, and whether a sample is replayed.
-fn title_of<R>(ground: &Ground<'_, R>, replay: &Replay<'_>, totals: &Totals) -> Result<String, AllocError> {
+fn title_of<R>(
+    ground: &Ground<'_, R>,
+    replay: &Replay<'_>,
+    totals: &Totals,
+) -> Result<String, AllocError> {
     let alloc = ground.alloc;
     let path = replay.path;
     let name = match ground.outputs.title {
@@ -200,7 +248,11 @@ fn facts_of(alloc: Global, plan: &Plan<'_>, totals: &Totals) -> Result<String, A
         write!(text, " of {} read", grouped(alloc, totals.read as u128)?)?;
     }
     if totals.keys > 0 {
-        write!(text, ", {} distinct keys", grouped(alloc, totals.keys as u128)?)?;
+        write!(
+            text,
+            ", {} distinct keys",
+            grouped(alloc, totals.keys as u128)?
+        )?;
     }
     if totals.has_sizes {
         if totals.keys > 0 {
@@ -209,10 +261,18 @@ fn facts_of(alloc: Global, plan: &Plan<'_>, totals: &Totals) -> Result<String, A
         write!(text, ", {} requested", bytes(alloc, totals.bytes)?)?;
     }
     if totals.bad > 0 {
-        write!(text, ", {} bad records left out", grouped(alloc, totals.bad as u128)?)?;
+        write!(
+            text,
+            ", {} bad records left out",
+            grouped(alloc, totals.bad as u128)?
+        )?;
     }
     if plan.warmup > 0 {
-        write!(text, ", the first {} not counted", grouped(alloc, plan.warmup as u128)?)?;
+        write!(
+            text,
+            ", the first {} not counted",
+            grouped(alloc, plan.warmup as u128)?
+        )?;
     }
     Ok(text)
 }

@@ -17,7 +17,11 @@ pub fn sheet_of(alloc: Global, report: &Report) -> Result<String, AllocError> {
     for row in &report.rows {
         let (policy, parameters, size) = (&row.policy, &row.parameters, row.size);
         let (requests, hits, misses) = (row.requests, row.hits, row.misses);
-        write!(text, "{policy},{parameters},{size},{requests},{hits},{misses},{:.6},", row.miss_ratio())?;
+        write!(
+            text,
+            "{policy},{parameters},{size},{requests},{hits},{misses},{:.6},",
+            row.miss_ratio()
+        )?;
         if report.has_sizes {
             write!(text, "{:.6}", row.byte_miss_ratio())?;
         }
@@ -55,7 +59,9 @@ impl Merger {
 
     /// Adds the rows of a file.
     pub fn add(&mut self, path: &str, text: &[u8]) -> Result<(), Failure> {
-        let mut reader = ReaderBuilder::new().has_headers(false).from_reader(self.alloc, text);
+        let mut reader = ReaderBuilder::new()
+            .has_headers(false)
+            .from_reader(self.alloc, text);
         let mut record = StringRecord::new(self.alloc);
         let mut line = 0u64;
         for _record in 0..u64::MAX {
@@ -63,11 +69,15 @@ impl Merger {
             match reader.read_record(&mut record) {
                 Ok(true) => {}
                 Ok(false) => break,
-                Err(error) if matches!(error.kind(), ErrorKind::OutOfMemory) => return Err(Failure::Memory),
+                Err(error) if matches!(error.kind(), ErrorKind::OutOfMemory) => return Err(
+                    Failure::Memory,
+                ),
                 Err(_) => return Err(self.bad(path, line)),
             }
             if line == 1 {
-                if record.as_slice() != "policyparameterssizerequestshitsmissesmiss_ratiobyte_miss_ratioevictionsexpiredsecondsbytesmiss_bytesunit" {
+                if record.as_slice()
+                    != "policyparameterssizerequestshitsmissesmiss_ratiobyte_miss_ratioevictionsexpiredsecondsbytesmiss_bytesunit"
+                {
                     return Err(self.bad(path, line));
                 }
                 continue;
@@ -95,7 +105,11 @@ impl Merger {
         let number = |at: usize| decimal(record.get(at)?.as_bytes());
         let wide = |at: usize| {
             let word = record.get(at)?;
-            if word.is_empty() { Some(0u128) } else { word.parse::<u128>().ok() }
+            if word.is_empty() {
+                Some(0u128)
+            } else {
+                word.parse::<u128>().ok()
+            }
         };
         let (policy, parameters) = (record.get(0)?, record.get(1)?);
         self.has_sizes = self.has_sizes || !record.get(11)?.is_empty();
@@ -164,9 +178,9 @@ impl Merger {
         }
         sizes.as_mut_slice().sort_unstable();
         if self.rows.len() != policies.len().saturating_mul(sizes.len()) {
-            return Err(Failure::Other(
-                format!(in alloc; "the files have not each policy at each size")?,
-            ));
+            return Err(Failure::Other(format!(in alloc;
+                "the files have not each policy at each size"
+            )?));
         }
         let mut rows = self.rows;
         let key = |row: &Row| {
@@ -175,7 +189,8 @@ impl Merger {
             });
             (policy, row.size)
         };
-        rows.as_mut_slice().sort_unstable_by(|a, b| key(a).cmp(&key(b)));
+        rows.as_mut_slice()
+            .sort_unstable_by(|a, b| key(a).cmp(&key(b)));
         Ok(Report {
             title,
             policies,

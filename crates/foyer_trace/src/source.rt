@@ -26,7 +26,12 @@ pub enum AnyReader<B: BufRead + Drop> {
 
 impl<B: BufRead + Drop> AnyReader<B> {
     /// The reader of a format.
-    pub fn new(alloc: Global, format: Format, wanted: Option<&Wanted<'_>>, reader: B) -> Result<Self, Failure> {
+    pub fn new(
+        alloc: Global,
+        format: Format,
+        wanted: Option<&Wanted<'_>>,
+        reader: B,
+    ) -> Result<Self, Failure> {
         match format {
             Format::Keys => Ok(AnyReader::Keys(KeysReader::new(alloc, reader))),
             Format::Csv => Ok(AnyReader::Csv(CsvReader::new(alloc, reader, wanted)?)),
@@ -150,7 +155,11 @@ impl<B: BufRead + Drop> Source<B> {
 
     // Counts a bad record, or ends the run with what was expected.
     fn meet_bad(&mut self, why: String) -> Result<(), Failure> {
-        let number = self.totals.read.saturating_add(self.totals.bad).saturating_add(1);
+        let number = self
+            .totals
+            .read
+            .saturating_add(self.totals.bad)
+            .saturating_add(1);
         self.totals.bad = self.totals.bad.saturating_add(1);
         if self.skips_bad {
             return Ok(());

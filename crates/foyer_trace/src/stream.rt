@@ -55,9 +55,19 @@ pub fn stream_all<R: Clock + Eprint + Threads + Sync, B: BufRead + Drop>(
     let mut running = Vec::with_capacity(alloc, plan.runs())?;
     for number in 0..plan.runs() {
         if let Some((policy, capacity)) = plan.run(number) {
-            let runner = Runner::new(alloc, &policy.kind, capacity.scaled, plan.shards, plan.terms)?;
+            let runner = Runner::new(
+                alloc,
+                &policy.kind,
+                capacity.scaled,
+                plan.shards,
+                plan.terms,
+            )?;
             let measured = Measured::default();
-            running.push(Running { runner, measured, failure: None })?;
+            running.push(Running {
+                runner,
+                measured,
+                failure: None,
+            })?;
         }
     }
     let mut records = Vec::with_capacity(alloc, PART)?;
@@ -70,7 +80,12 @@ pub fn stream_all<R: Clock + Eprint + Threads + Sync, B: BufRead + Drop>(
         let part = Part::new(alloc, records.as_slice())?;
         let warm = usize::try_from(left).unwrap_or(usize::MAX).min(part.len());
         left = left.saturating_sub(warm as u64);
-        thread::for_each_mut(rt, running.as_mut_slice(), jobs.max(1), &|_, run| run.serve(rt, &part, warm));
+        thread::for_each_mut(
+            rt,
+            running.as_mut_slice(),
+            jobs.max(1),
+            &|_, run| run.serve(rt, &part, warm),
+        );
         progress.advance(part.len() as u64);
     }
     let mut measured = Vec::with_capacity(alloc, running.len())?;

@@ -1,54 +1,37 @@
 //! The curves of a report, as SVG.
 
+use crate::look::{Look, look_of, push_marker};
 use crate::number::float;
 use crate::report::{Measure, Report, Row};
 use std::alloc::{AllocError, Global};
 
 const WIDTH: f64 = 760.0;
+
 const HEIGHT: f64 = 430.0;
+
 const LEFT: f64 = 70.0;
+
 const RIGHT: f64 = 575.0;
+
 const TOP: f64 = 46.0;
+
 const BOTTOM: f64 = 370.0;
-
-/// How a policy's line looks: each is told from the others without its colour too.
-#[derive(Clone, Copy)]
-struct Look {
-    colour: &'static str,
-    dashes: &'static str,
-    marker: Marker,
-}
-
-#[derive(Clone, Copy)]
-enum Marker {
-    Circle,
-    Square,
-    Triangle,
-    Diamond,
-    Cross,
-    Plus,
-}
-
-// The colours are those of Okabe and Ito, which the colour-blind tell apart.
-const LOOKS: [Look; 6] = [
-    Look { colour: "#0072B2", dashes: "none", marker: Marker::Circle },
-    Look { colour: "#D55E00", dashes: "9 4", marker: Marker::Square },
-    Look { colour: "#007A57", dashes: "2 3", marker: Marker::Triangle },
-    Look { colour: "#A0447A", dashes: "10 3 2 3", marker: Marker::Diamond },
-    Look { colour: "#9A6A00", dashes: "5 3", marker: Marker::Cross },
-    Look { colour: "#000000", dashes: "1 4", marker: Marker::Plus },
-];
 
 /// A picture of all measures of a report.
 pub fn picture_of(alloc: Global, report: &Report) -> Result<String, AllocError> {
     let mut text = String::new(alloc);
     let panels = report.measures().len();
     let height = HEIGHT * float(panels as u128);
+    let width = width_of(report);
     write!(
         text,
-        "<svg xmlns=\"http://www.w3.org/2000/svg\" viewBox=\"0 0 {WIDTH:.0} {height:.0}\" width=\"{WIDTH:.0}\" height=\"{height:.0}\" font-family=\"sans-serif\" font-size=\"13\">\n"
+        "<svg xmlns=\"http://www.w3.org/2000/svg\" viewBox=\"0 0 {width:.0} {height:.0}\" \
+         width=\"{width:.0}\" height=\"{height:.0}\" font-family=\"sans-serif\" font-size=\"13\">\n"
     )?;
-    write!(text, "<rect width=\"{WIDTH:.0}\" height=\"{height:.0}\" fill=\"#ffffff\"/>\n")?;
+    write!(
+        text,
+        "<rect width=\"{width:.0}\" height=\"{height:.0}\" fill=\"#ffffff\"/>\n"
+    )?;
     for (at, measure) in report.measures().iter().enumerate() {
         let offset = HEIGHT * float(at as u128);
         write!(text, "<g transform=\"translate(0 {offset:.0})\">\n")?;
@@ -57,6 +40,12 @@ pub fn picture_of(alloc: Global, report: &Report) -> Result<String, AllocError> 
     }
     text.push_str("</svg>\n")?;
     Ok(text)
+}
+
+// The width of a picture, which has room for the longest label.
+fn width_of(report: &Report) -> f64 {
+    let longest = report.policies.iter().map(|it| it.len()).max().unwrap_or(0);
+    WIDTH.max(RIGHT + 70.0 + 7.5 * float(longest as u128))
 }
 
 /// Puts a text in with what HTML and SVG want escaped.
@@ -104,7 +93,8 @@ impl Scale {
     }
 
     fn x(self, size: f64) -> f64 {
-        LEFT + 12.0 + (RIGHT - LEFT - 24.0) * (size.max(1.0).log10() - self.low) / (self.high - self.low)
+        LEFT + 12.0
+            + (RIGHT - LEFT - 24.0) * (size.max(1.0).log10() - self.low) / (self.high - self.low)
     }
 
     fn y(self, ratio: f64) -> f64 {
@@ -127,15 +117,23 @@ fn rounded_up(ratio: f64) -> f64 {
     best
 }
 
-fn push_panel(alloc: Global, text: &mut String, report: &Report, measure: Measure) -> Result<(), AllocError> {
+fn push_panel(
+    alloc: Global,
+    text: &mut String,
+    report: &Report,
+    measure: Measure,
+) -> Result<(), AllocError> {
     let scale = Scale::new(report, measure);
-    write!(text, "<text x=\"{LEFT:.0}\" y=\"26\" font-size=\"15\" font-weight=\"bold\">")?;
+    write!(
+        text,
+        "<text x=\"{LEFT:.0}\" y=\"26\" font-size=\"15\" font-weight=\"bold\">"
+    )?;
     push_escaped(text, report.title.as_str())?;
     text.push_str("</text>\n")?;
     push_ratios(text, scale, measure)?;
     push_sizes(alloc, text, report, scale)?;
     for (policy, label) in report.policies.iter().enumerate() {
-        let look = LOOKS[policy % LOOKS.len()];
+        let look = look_of(policy);
         push_line(text, report.rows_of(policy), measure, scale, &look)?;
         push_legend(text, policy, label.as_str(), &look)?;
     }
@@ -144,24 +142,51 @@ fn push_panel(alloc: Global, text: &mut String, report: &Report, measure: Measur
 
 // The axis of ratios, with a line across for each tick.
 fn push_ratios(text: &mut String, scale: Scale, measure: Measure) -> Result<(), AllocError> {
-    let places = if scale.most > 0.3 { 1usize } else if scale.most > 0.03 { 2 } else { 4 };
-    let steps = if scale.most > 0.9 * 0.8 && scale.most < 0.9 { 4u32 } else { 5 };
+    let places = if scale.most > 0.3 {
+        1usize
+    } else if scale.most > 0.03 {
+        2
+    } else {
+        4
+    };
+    let steps = if scale.most > 0.9 * 0.8 && scale.most < 0.9 {
+        4u32
+    } else {
+        5
+    };
     for step in 0..=steps {
         let ratio = scale.most * step as f64 / steps as f64;
         let y = scale.y(ratio);
         let edge = LEFT - 8.0;
         let down = y + 4.5;
-        write!(text, "<line x1=\"{LEFT:.0}\" y1=\"{y:.1}\" x2=\"{RIGHT:.0}\" y2=\"{y:.1}\" stroke=\"#dddddd\"/>\n")?;
-        write!(text, "<text x=\"{edge:.0}\" y=\"{down:.1}\" text-anchor=\"end\">{ratio:.places$}</text>\n")?;
+        write!(
+            text,
+            "<line x1=\"{LEFT:.0}\" y1=\"{y:.1}\" x2=\"{RIGHT:.0}\" y2=\"{y:.1}\" stroke=\"#dddddd\"/>\n"
+        )?;
+        write!(
+            text,
+            "<text x=\"{edge:.0}\" y=\"{down:.1}\" text-anchor=\"end\">{ratio:.places$}</text>\n"
+        )?;
     }
     let middle = (TOP + BOTTOM) / 2.0;
     let name = measure.name();
-    write!(text, "<text transform=\"translate(20 {middle:.0}) rotate(-90)\" text-anchor=\"middle\">{name}</text>\n")?;
-    write!(text, "<path d=\"M{LEFT:.0} {TOP:.0}V{BOTTOM:.0}H{RIGHT:.0}\" fill=\"none\" stroke=\"#333333\"/>\n")
+    write!(
+        text,
+        "<text transform=\"translate(20 {middle:.0}) rotate(-90)\" text-anchor=\"middle\">{name}</text>\n"
+    )?;
+    write!(
+        text,
+        "<path d=\"M{LEFT:.0} {TOP:.0}V{BOTTOM:.0}H{RIGHT:.0}\" fill=\"none\" stroke=\"#333333\"/>\n"
+    )
 }
 
 // The axis of sizes, by powers of ten; between them by 2 and 5 where there is room.
-fn push_sizes(alloc: Global, text: &mut String, report: &Report, scale: Scale) -> Result<(), AllocError> {
+fn push_sizes(
+    alloc: Global,
+    text: &mut String,
+    report: &Report,
+    scale: Scale,
+) -> Result<(), AllocError> {
     let mut power = 1.0f64;
     let is_fine = scale.high - scale.low < 3.2;
     for _power in 0..20 {
@@ -173,11 +198,17 @@ fn push_sizes(alloc: Global, text: &mut String, report: &Report, scale: Scale) -
             }
             let x = scale.x(size);
             let end = BOTTOM + if step < 1.5 { 7.0 } else { 4.0 };
-            write!(text, "<line x1=\"{x:.1}\" y1=\"{BOTTOM:.0}\" x2=\"{x:.1}\" y2=\"{end:.0}\" stroke=\"#333333\"/>\n")?;
+            write!(
+                text,
+                "<line x1=\"{x:.1}\" y1=\"{BOTTOM:.0}\" x2=\"{x:.1}\" y2=\"{end:.0}\" stroke=\"#333333\"/>\n"
+            )?;
             if is_fine || step < 1.5 {
                 let label = short(alloc, size, report.is_in_bytes)?;
                 let down = BOTTOM + 22.0;
-                write!(text, "<text x=\"{x:.1}\" y=\"{down:.0}\" text-anchor=\"middle\">{label}</text>\n")?;
+                write!(
+                    text,
+                    "<text x=\"{x:.1}\" y=\"{down:.0}\" text-anchor=\"middle\">{label}</text>\n"
+                )?;
             }
         }
         power = power * 10.0;
@@ -185,7 +216,10 @@ fn push_sizes(alloc: Global, text: &mut String, report: &Report, scale: Scale) -
     let middle = (LEFT + RIGHT) / 2.0;
     let down = BOTTOM + 46.0;
     let unit = report.unit();
-    write!(text, "<text x=\"{middle:.0}\" y=\"{down:.0}\" text-anchor=\"middle\">cache size ({unit}, logarithmic)</text>\n")
+    write!(
+        text,
+        "<text x=\"{middle:.0}\" y=\"{down:.0}\" text-anchor=\"middle\">cache size ({unit}, logarithmic)</text>\n"
+    )
 }
 
 // A size with a decimal unit, such as `20k` or `1 MB`.
@@ -206,37 +240,40 @@ fn short(alloc: Global, size: f64, is_in_bytes: bool) -> Result<String, AllocErr
     }
 }
 
-fn push_line(text: &mut String, rows: &[Row], measure: Measure, scale: Scale, look: &Look) -> Result<(), AllocError> {
+fn push_line(
+    text: &mut String,
+    rows: &[Row],
+    measure: Measure,
+    scale: Scale,
+    look: &Look,
+) -> Result<(), AllocError> {
     let (colour, dashes) = (look.colour, look.dashes);
     text.push_str("<polyline points=\"")?;
     for row in rows {
         let (x, y) = (scale.x(float(row.size as u128)), scale.y(measure.of(row)));
         write!(text, "{x:.1},{y:.1} ")?;
     }
-    write!(text, "\" fill=\"none\" stroke=\"{colour}\" stroke-width=\"1.8\" stroke-dasharray=\"{dashes}\"/>\n")?;
+    write!(
+        text,
+        "\" fill=\"none\" stroke=\"{colour}\" stroke-width=\"1.8\" stroke-dasharray=\"{dashes}\"/>\n"
+    )?;
     for row in rows {
-        push_marker(text, scale.x(float(row.size as u128)), scale.y(measure.of(row)), look)?;
+        push_marker(
+            text,
+            scale.x(float(row.size as u128)),
+            scale.y(measure.of(row)),
+            look,
+        )?;
     }
     Ok(())
 }
 
-fn push_marker(text: &mut String, x: f64, y: f64, look: &Look) -> Result<(), AllocError> {
-    let colour = look.colour;
-    let shape = match look.marker {
-        Marker::Circle => "M-4 0a4 4 0 1 0 8 0a4 4 0 1 0 -8 0z",
-        Marker::Square => "M-4 -4h8v8h-8z",
-        Marker::Triangle => "M0 -5L5 4H-5z",
-        Marker::Diamond => "M0 -5.5L5.5 0L0 5.5L-5.5 0z",
-        Marker::Cross => "M-4 -4L4 4M-4 4L4 -4",
-        Marker::Plus => "M-5 0H5M0 -5V5",
-    };
-    write!(
-        text,
-        "<path transform=\"translate({x:.1} {y:.1})\" d=\"{shape}\" fill=\"#ffffff\" stroke=\"{colour}\" stroke-width=\"1.8\"/>\n"
-    )
-}
-
-fn push_legend(text: &mut String, policy: usize, label: &str, look: &Look) -> Result<(), AllocError> {
+fn push_legend(
+    text: &mut String,
+    policy: usize,
+    label: &str,
+    look: &Look,
+) -> Result<(), AllocError> {
     let (colour, dashes) = (look.colour, look.dashes);
     let y = TOP + 12.0 + 24.0 * float(policy as u128);
     let (start, end) = (RIGHT + 16.0, RIGHT + 56.0);

@@ -22,10 +22,23 @@ pub fn text_of(alloc: Global, report: &Report) -> Result<String, AllocError> {
 }
 
 // The table of one measure: a row for each policy and a column for each size, the least of each marked.
-fn push_table(alloc: Global, text: &mut String, report: &Report, measure: Measure) -> Result<(), AllocError> {
+fn push_table(
+    alloc: Global,
+    text: &mut String,
+    report: &Report,
+    measure: Measure,
+) -> Result<(), AllocError> {
     let (name, unit) = (measure.name(), report.unit());
-    let labels = report.policies.iter().map(|label| label.len()).max().unwrap_or(0);
-    write!(text, "{name} by cache size in {unit}; * is the least of its column\n")?;
+    let labels = report
+        .policies
+        .iter()
+        .map(|label| label.len())
+        .max()
+        .unwrap_or(0);
+    write!(
+        text,
+        "{name} by cache size in {unit}; * is the least of its column\n"
+    )?;
     write!(text, "{:labels$}", "")?;
     for size in &report.sizes {
         let size = report.size_text(alloc, *size)?;
@@ -36,7 +49,9 @@ fn push_table(alloc: Global, text: &mut String, report: &Report, measure: Measur
         write!(text, "{label:labels$}")?;
         for (column, row) in report.rows_of(policy).iter().enumerate() {
             let ratio = format!(in alloc; "{:.4}", measure.of(row))?;
-            let is_least = report.least(alloc, measure, column)?.is_some_and(|least| least.as_str() == ratio.as_str());
+            let is_least = report
+                .least(alloc, measure, column)?
+                .is_some_and(|least| least.as_str() == ratio.as_str());
             let is_marked = is_least && row.policy.as_str() != "belady";
             let mark = if is_marked { '*' } else { ' ' };
             write!(text, "  {ratio:>9}{mark}")?;
@@ -55,9 +70,17 @@ fn end_line(text: &mut String) -> Result<(), AllocError> {
 }
 
 /// The table of one measure as HTML.
-pub fn push_html(alloc: Global, text: &mut String, report: &Report, measure: Measure) -> Result<(), AllocError> {
+pub fn push_html(
+    alloc: Global,
+    text: &mut String,
+    report: &Report,
+    measure: Measure,
+) -> Result<(), AllocError> {
     let (name, unit) = (measure.name(), report.unit());
-    write!(text, "<table>\n<caption>{name} by cache size in {unit}; the least of each column in bold</caption>\n<tr><th></th>")?;
+    write!(
+        text,
+        "<table>\n<caption>{name} by cache size in {unit}; the least of each column in bold</caption>\n<tr><th></th>"
+    )?;
     for size in &report.sizes {
         let size = report.size_text(alloc, *size)?;
         write!(text, "<th scope=\"col\">{size}</th>")?;
@@ -67,7 +90,9 @@ pub fn push_html(alloc: Global, text: &mut String, report: &Report, measure: Mea
         write!(text, "<tr><th scope=\"row\">{label}</th>")?;
         for (column, row) in report.rows_of(policy).iter().enumerate() {
             let ratio = format!(in alloc; "{:.4}", measure.of(row))?;
-            let is_least = report.least(alloc, measure, column)?.is_some_and(|least| least.as_str() == ratio.as_str());
+            let is_least = report
+                .least(alloc, measure, column)?
+                .is_some_and(|least| least.as_str() == ratio.as_str());
             if is_least && row.policy.as_str() != "belady" {
                 write!(text, "<td><b>{ratio}</b></td>")?;
             } else {

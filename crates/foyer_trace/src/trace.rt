@@ -19,7 +19,11 @@ enum Column {
 }
 
 impl Column {
-    fn new<F: Fn(&Record) -> u64>(alloc: Global, records: &[Record], number: F) -> Result<Column, AllocError> {
+    fn new<F: Fn(&Record) -> u64>(
+        alloc: Global,
+        records: &[Record],
+        number: F,
+    ) -> Result<Column, AllocError> {
         let mut least = u64::MAX;
         let mut most = 0;
         for record in records {
@@ -76,7 +80,10 @@ impl Part {
         for record in records {
             keys.push(record.key)?;
         }
-        if records.iter().any(|record| record.operation != Operation::Get) {
+        if records
+            .iter()
+            .any(|record| record.operation != Operation::Get)
+        {
             operations.reserve(records.len())?;
             for record in records {
                 operations.push(record.operation)?;
@@ -104,7 +111,10 @@ impl Part {
     /// What the record at a place asks.
     #[inline]
     pub fn operation(&self, place: usize) -> Operation {
-        self.operations.get(place).copied().unwrap_or(Operation::Get)
+        self.operations
+            .get(place)
+            .copied()
+            .unwrap_or(Operation::Get)
     }
 
     /// How many bytes the record at a place has.
@@ -126,7 +136,11 @@ impl Part {
             key: self.keys.get(place).copied().unwrap_or(0),
             time,
             weight: if terms.weighs_sizes { size } else { 1 },
-            expiry: if ttl == EVER { None } else { Some(time.saturating_add(ttl)) },
+            expiry: if ttl == EVER {
+                None
+            } else {
+                Some(time.saturating_add(ttl))
+            },
             size,
             operation: self.operation(place),
         }

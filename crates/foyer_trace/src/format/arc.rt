@@ -53,9 +53,9 @@ impl<B: BufRead + Drop> RecordReader for ArcReader<B> {
             self.lines_read = self.lines_read.saturating_add(1);
             let Some((block, count)) = self.range() else {
                 let line = self.lines_read;
-                return Err(Failure::Bad(
-                    format!(in self.alloc; "expected two numbers, a first block and a count, in line {line}")?,
-                ));
+                return Err(Failure::Bad(format!(in self.alloc;
+                    "expected two numbers, a first block and a count, in line {line}"
+                )?));
             };
             self.block = block;
             self.left = count;

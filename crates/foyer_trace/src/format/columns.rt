@@ -22,6 +22,7 @@ pub enum Role {
 }
 
 const ROLES: [Role; 5] = [Role::Time, Role::Key, Role::Size, Role::Op, Role::Ttl];
+
 const NAMES: [&str; 5] = ["time", "key", "size", "op", "ttl"];
 
 impl Role {
@@ -49,7 +50,17 @@ impl Role {
     fn is_called(self, name: &[u8]) -> bool {
         let names: &[&str] = match self {
             Role::Time => &["time", "timestamp", "ts", "clock_time"],
-            Role::Key => &["key", "id", "obj_id", "object", "object_id", "obj", "page", "path", "url"],
+            Role::Key => &[
+                "key",
+                "id",
+                "obj_id",
+                "object",
+                "object_id",
+                "obj",
+                "page",
+                "path",
+                "url",
+            ],
             Role::Size => &["size", "obj_size", "object_size", "bytes", "length"],
             Role::Op => &["op", "operation", "method"],
             Role::Ttl => &["ttl"],
@@ -85,7 +96,9 @@ pub fn wanted_columns(alloc: Global, list: &str) -> Result<Wanted<'_>, Failure> 
         let place = match decimal(place.as_bytes()) {
             _ if place.is_empty() => Place::Number(at),
             Some(0) => {
-                return Err(Failure::Usage(format!(in alloc; "columns are numbered from 1, in '{word}'")?));
+                return Err(Failure::Usage(format!(in alloc;
+                    "columns are numbered from 1, in '{word}'"
+                )?));
             }
             Some(number) => Place::Number((number as usize).saturating_sub(1)),
             None => Place::Name(place),
@@ -134,7 +147,11 @@ impl Columns {
 }
 
 /// The columns by what was said of them and by the first row, and whether that is a header.
-pub fn columns_of(alloc: Global, wanted: Option<&Wanted<'_>>, first: &ByteRecord) -> Result<(Columns, bool), Failure> {
+pub fn columns_of(
+    alloc: Global,
+    wanted: Option<&Wanted<'_>>,
+    first: &ByteRecord,
+) -> Result<(Columns, bool), Failure> {
     let mut columns = Columns::default();
     let Some(wanted) = wanted else {
         return Ok(columns_by_header(first).unwrap_or((columns_by_count(first.len()), false)));

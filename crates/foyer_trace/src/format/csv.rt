@@ -50,7 +50,11 @@ impl<R: Read + Drop> CsvReader<R> {
             Ok(found) => Ok(found),
             Err(error) => match error.kind() {
                 ErrorKind::OutOfMemory => Err(Failure::Memory),
-                ErrorKind::Io(error) => Err(Failure::of_io(self.alloc, "cannot read the trace", error)),
+                ErrorKind::Io(error) => Err(Failure::of_io(
+                    self.alloc,
+                    "cannot read the trace",
+                    error,
+                )),
                 _ => Err(Failure::Bad(format!(in self.alloc; "expected a row of values")?)),
             },
         }
@@ -83,7 +87,9 @@ impl<R: Read + Drop> CsvReader<R> {
         let name = role.name();
         let shown = &found[..found.len().min(40)];
         let text = match String::from_utf8_lossy(self.alloc, shown) {
-            Ok(found) => format!(in self.alloc; "expected {expected} in the column {name}, and found '{found}'"),
+            Ok(found) => format!(in self.alloc;
+                "expected {expected} in the column {name}, and found '{found}'"
+            ),
             Err(error) => Err(error),
         };
         match text {
@@ -124,7 +130,8 @@ impl<R: Read + Drop> CsvReader<R> {
     fn operation(&self, word: &[u8]) -> Result<Operation, Failure> {
         const GETS: [&str; 4] = ["get", "gets", "read", "r"];
         const PUTS: [&str; 12] = [
-            "set", "put", "add", "replace", "cas", "append", "prepend", "incr", "decr", "write", "w", "insert",
+            "set", "put", "add", "replace", "cas", "append", "prepend", "incr", "decr", "write",
+            "w", "insert",
         ];
         const REMOVES: [&str; 5] = ["delete", "del", "remove", "invalidate", "d"];
         let is_in = |words: &[&str]| {

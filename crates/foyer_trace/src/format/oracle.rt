@@ -29,7 +29,11 @@ impl<B: Read + Drop> OracleReader<B> {
                 Ok(0) => break,
                 Ok(count) => filled = filled.saturating_add(count),
                 Err(error) if error.kind() == std::io::ErrorKind::Interrupted => {}
-                Err(error) => return Err(Failure::of_io(self.alloc, "cannot read the trace", &error)),
+                Err(error) => return Err(Failure::of_io(
+                    self.alloc,
+                    "cannot read the trace",
+                    &error,
+                )),
             }
         }
         Ok(filled)
@@ -52,9 +56,9 @@ impl<B: Read + Drop> RecordReader for OracleReader<B> {
             return Ok(None);
         }
         if filled < LENGTH {
-            return Err(Failure::Bad(
-                format!(in self.alloc; "expected 24 bytes, and the file ends after {filled}")?,
-            ));
+            return Err(Failure::Bad(format!(in self.alloc;
+                "expected 24 bytes, and the file ends after {filled}"
+            )?));
         }
         Ok(Some(Record {
             key: key_of_number(number(&record[4..12])),
