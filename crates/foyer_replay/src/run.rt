@@ -1,7 +1,8 @@
 //! A replay of requests over a core in one thread's hands.
 
-ghost use Rattle.std.specs.Prelude.{◌≡◌, IfOk, OnOk};
+ghost use Rattle.std.specs.Prelude.{◌≡◌, IfOk, None, OnOk};
 ghost use Rattle.std.specs.Hash.{u64 as u64_input};
+ghost use Rattle.foyer_policy.specs.declared.types.Hint.TheVariants.{Normal};
 ghost use Rattle.foyer_core.specs.Cores.{core_of, meaning_of_core};
 ghost use Rattle.foyer_replay.specs.Replay.{Counted, Serves, Stores};
 
@@ -11,8 +12,7 @@ use foyer_core::{AdmitAll, CacheCore, CacheProperties, InsertedOnto, Leave};
 use foyer_policy::{Event, Eviction, HashBuilder, Result};
 
 /// The core that a replay runs over: a record's value is its weight.
-pub type ReplayCore<E, S> =
-    CacheCore<E, u64, u64, CacheProperties, S, RequestWeighter, AdmitAll>;
+pub type ReplayCore<E, S> = CacheCore<E, u64, u64, CacheProperties, S, RequestWeighter, AdmitAll>;
 
 /// What left the core at an insert, in order.
 pub type Departures = Vec<Leave<u64, u64, CacheProperties>>;
@@ -94,7 +94,7 @@ fn store<E: Eviction, S: HashBuilder>(
     ensures stored { OnOk result (Stores (meaning_of_core core.old) (λ builder key. S.hash_of builder (u64_input key))
         request.now (core_of core.old) (core_of core.new)) }
 {
-    let properties = CacheProperties::default().with_expiry(request.expiry);
+    let properties = plain_properties(request.expiry);
     let (now, key, weight) = (request.time, request.key, request.weight);
     match core.insert_with_properties_onto(now, key, weight, properties, departures) {
         Ok(InsertedOnto { entry, answers }) => {
@@ -106,13 +106,25 @@ fn store<E: Eviction, S: HashBuilder>(
     }
 }
 
+// The properties of a record that expires then, or never.
+#[inline]
+fn plain_properties(expiry: Option<u64>) -> CacheProperties
+    ensures { result ≡ record { phantom = None; hint = Normal; expires = expiry } }
+{
+    CacheProperties::default().with_expiry(expiry)
+}
+
 // Counts the evictions, and the records that had expired, among what left at a moment.
 fn count_departures(counts: &mut Counts, departures: &Departures, now: u64) {
     for (event, left) in departures {
         if *event == Event::Evict {
             counts.evictions = counts.evictions.saturating_add(1);
         }
-        if left.properties().expiry().is_some_and(|moment| moment <= now) {
+        if left
+            .properties()
+            .expiry()
+            .is_some_and(|moment| moment <= now)
+        {
             counts.expired = counts.expired.saturating_add(1);
         }
     }
