@@ -1,0 +1,96 @@
+//! The least possible misses, by L. A. Belady, "A study of replacement algorithms for a virtual-storage computer" (1966).
+
+use crate::trace::{Part, Trace};
+use foyer_replay::{Counts, Operation, Outcome};
+use std::alloc::{AllocError, Global};
+use std::collections::{BTreeSet, HashMap};
+
+// Stands for no further get.
+const NEVER: u32 = u32::MAX;
+
+/// When each record's key is next got: the number of that record, by part.
+#[derive(Drop)]
+pub struct Future {
+    parts: Vec<Vec<u32>>,
+}
+
+impl Future {
+    /// The most records that a trace may have.
+    pub const MOST: u64 = NEVER as u64;
+
+    /// The future of a trace. A key that is put or removed is of no use until then.
+    pub fn of(alloc: Global, trace: &Trace) -> Result<Future, AllocError> {
+        let mut parts = Vec::new(alloc);
+        let mut next: HashMap<u64, u32> = HashMap::new(alloc);
+        let mut number = trace.totals.records;
+        for part in trace.parts.iter().rev() {
+            let mut future = Vec::with_capacity(alloc, part.len())?;
+            for (place, key) in part.keys().iter().enumerate().rev() {
+                number = number.saturating_sub(1);
+                let uses = match part.operation(place) {
+                    Operation::Get => u32::try_from(number).unwrap_or(NEVER),
+                    Operation::Put | Operation::Remove => NEVER,
+                };
+                future.push(next.insert(*key, uses)?.unwrap_or(NEVER))?;
+            }
+            future.as_mut_slice().reverse();
+            parts.push(future)?;
+        }
+        parts.as_mut_slice().reverse();
+        Ok(Future { parts })
+    }
+
+    /// The future of the records of a part.
+    pub fn part(&self, place: usize) -> &[u32] {
+        self.parts.get(place).map_or(&[], |part| part.as_slice())
+    }
+}
+
+/// A cache that knows the future. It keeps those keys that are got the soonest, and a new key only if it is among them,
+/// as any cache might.
+#[derive(Drop)]
+pub struct Belady {
+    capacity: usize,
+    // When each resident key is next got.
+    resident: BTreeSet<u32>,
+    number: u32,
+}
+
+impl Belady {
+    pub fn new(alloc: Global, capacity: usize) -> Belady {
+        Belady {
+            capacity,
+            resident: BTreeSet::new(alloc),
+            number: 0,
+        }
+    }
+
+    /// Serves the records of a part from a place to another.
+    pub fn serve(
+        &mut self,
+        part: &Part,
+        future: &[u32],
+        from: usize,
+        to: usize,
+    ) -> Result<Counts, AllocError> {
+        let mut counts = Counts::default();
+        for place in from..to {
+            let is_hit = self.resident.remove(&self.number);
+            self.number = self.number.saturating_add(1);
+            let operation = part.operation(place);
+            if operation == Operation::Get {
+                let outcome = if is_hit { Outcome::Hit } else { Outcome::Miss };
+                counts.add_outcome(outcome, part.size(place));
+            }
+            let next = future.get(place).copied().unwrap_or(NEVER);
+            if operation != Operation::Remove && next != NEVER {
+                self.resident.insert(next)?;
+                if self.resident.len() > self.capacity {
+                    self.resident.pop_last();
+                    counts.evictions = counts.evictions.saturating_add(1);
+                }
+            }
+        }
+        Ok(counts)
+    }
+}

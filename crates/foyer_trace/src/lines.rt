@@ -1,0 +1,51 @@
+//! The lines of a reader.
+
+use crate::failure::Failure;
+use std::alloc::Global;
+use std::io::BufRead;
+
+/// The lines of a reader, without what ends them: a line feed, and carriage returns before it.
+#[derive(Drop)]
+pub struct Lines<B: Drop> {
+    reader: B,
+    line: Vec<u8>,
+    alloc: Global,
+}
+
+impl<B: BufRead + Drop> Lines<B> {
+    pub fn new(alloc: Global, reader: B) -> Self {
+        Lines {
+            reader,
+            line: Vec::new(alloc),
+            alloc,
+        }
+    }
+
+    /// Goes on to the next line that is not empty, and returns whether there is one.
+    pub fn advance(&mut self) -> Result<bool, Failure> {
+        for _line in 0..u64::MAX {
+            self.line.clear();
+            match self.reader.read_until(b'\n', &mut self.line) {
+                Ok(0) => return Ok(false),
+                Ok(_) => {}
+                Err(error) => return Err(Failure::of_io(
+                    self.alloc,
+                    "cannot read the trace",
+                    &error,
+                )),
+            }
+            while matches!(self.line.last(), Some(b'\n' | b'\r')) {
+                self.line.pop();
+            }
+            if !self.line.is_empty() {
+                return Ok(true);
+            }
+        }
+        Ok(false)
+    }
+
+    /// The line.
+    pub fn line(&self) -> &[u8] {
+        self.line.as_slice()
+    }
+}

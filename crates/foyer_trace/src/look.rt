@@ -1,0 +1,92 @@
+//! How the lines of policies look.
+
+use std::alloc::AllocError;
+
+/// How a policy's line looks: each is told from the others without its colour too.
+#[derive(Clone, Copy)]
+pub struct Look {
+    pub colour: &'static str,
+    pub dashes: &'static str,
+    inside: &'static str,
+    marker: Marker,
+}
+
+#[derive(Clone, Copy)]
+enum Marker {
+    Circle,
+    Square,
+    Triangle,
+    Diamond,
+    Cross,
+    Plus,
+}
+
+// The colours are those of Okabe and Ito, which the colour-blind tell apart.
+const LOOKS: [Look; 6] = [
+    Look {
+        colour: "#0072B2",
+        dashes: "none",
+        inside: "#ffffff",
+        marker: Marker::Circle,
+    },
+    Look {
+        colour: "#D55E00",
+        dashes: "9 4",
+        inside: "#ffffff",
+        marker: Marker::Square,
+    },
+    Look {
+        colour: "#007A57",
+        dashes: "2 3",
+        inside: "#ffffff",
+        marker: Marker::Triangle,
+    },
+    Look {
+        colour: "#A0447A",
+        dashes: "10 3 2 3",
+        inside: "#ffffff",
+        marker: Marker::Diamond,
+    },
+    Look {
+        colour: "#9A6A00",
+        dashes: "5 3",
+        inside: "#ffffff",
+        marker: Marker::Cross,
+    },
+    Look {
+        colour: "#000000",
+        dashes: "1 4",
+        inside: "#ffffff",
+        marker: Marker::Plus,
+    },
+];
+
+/// The look of the line of this number. From the seventh on the markers are filled.
+pub fn look_of(policy: usize) -> Look {
+    let look = LOOKS[policy % LOOKS.len()];
+    Look {
+        inside: if policy < LOOKS.len() {
+            "#ffffff"
+        } else {
+            look.colour
+        },
+        ..look
+    }
+}
+
+/// Puts the marker of a line in.
+pub fn push_marker(text: &mut String, x: f64, y: f64, look: &Look) -> Result<(), AllocError> {
+    let (colour, inside) = (look.colour, look.inside);
+    let shape = match look.marker {
+        Marker::Circle => "M-4 0a4 4 0 1 0 8 0a4 4 0 1 0 -8 0z",
+        Marker::Square => "M-4 -4h8v8h-8z",
+        Marker::Triangle => "M0 -5L5 4H-5z",
+        Marker::Diamond => "M0 -5.5L5.5 0L0 5.5L-5.5 0z",
+        Marker::Cross => "M-4 -4L4 4M-4 4L4 -4",
+        Marker::Plus => "M-5 0H5M0 -5V5",
+    };
+    write!(
+        text,
+        "<path transform=\"translate({x:.1} {y:.1})\" d=\"{shape}\" fill=\"{inside}\" stroke=\"{colour}\" stroke-width=\"1.8\"/>\n"
+    )
+}

@@ -1,0 +1,209 @@
+//! `foyer-trace` replays the requests of a trace over caches of each policy and size, and prints and draws their miss ratios.
+#![tactic(auto)]
+
+use clap::ArgMatches;
+use std::alloc::Global;
+use std::env::{self, Env};
+use std::fs::{self, Files};
+use std::io::{self, BufRead, BufReader, BufWriter, ErrorKind, IsTerminal};
+use std::process::ExitCode;
+use std::rt::Clock;
+use std::thread::{self, Threads};
+use std::time::Instant;
+
+mod belady;
+mod failure;
+mod format;
+mod help;
+mod html;
+mod key;
+mod lines;
+mod look;
+mod nearest;
+mod number;
+mod options;
+mod plan;
+mod policy;
+mod progress;
+mod record;
+mod report;
+mod run;
+mod runner;
+mod session;
+mod sheet;
+mod source;
+mod stream;
+mod svg;
+mod table;
+mod trace;
+mod zipf;
+
+use failure::Failure;
+use help::{HELP, VERSION};
+use options::{Outputs, Replay, Task, command, outputs_of, task_of};
+use report::Report;
+use session::{Ground, replay_trace};
+use sheet::{Merger, sheet_of};
+use svg::picture_of;
+use table::text_of;
+use zipf::{write_zipf, zipf_of};
+
+fn main(rt: HostRuntime) -> ExitCode {
+    let is_terminal = rt.stderr().is_terminal();
+    let alloc = rt.alloc();
+    let words = match words_of(&rt, alloc) {
+        Ok(words) => words,
+        Err(failure) => return fail(&rt, &failure),
+    };
+    let parsed = match command(alloc) {
+        Ok(command) => command.try_get_matches_from(words.as_slice()),
+        Err(error) => Err(error),
+    };
+    let done = match &parsed {
+        Ok(matches) => answer(&rt, alloc, words.as_slice(), matches, is_terminal),
+        Err(error) => {
+            let _ = eprint!(rt; "foyer-trace: {error}");
+            return ExitCode::from(2);
+        }
+    };
+    match done {
+        Ok(()) => ExitCode::SUCCESS,
+        Err(failure) => fail(&rt, &failure),
+    }
+}
+
+// The words that the program was started with, without its name.
+fn words_of<R: Env + AllocGlobal>(rt: &R, alloc: Global) -> Result<Vec<String>, Failure> {
+    let args = match env::args(rt) {
+        Ok(args) => args,
+        Err(error) if error.kind() == ErrorKind::OutOfMemory => return Err(Failure::Memory),
+        Err(_) => return Err(Failure::Usage(format!(in alloc; "the arguments are not UTF-8")?)),
+    };
+    let mut words = Vec::new(alloc);
+    for word in args.skip(1) {
+        words.push(word)?;
+    }
+    Ok(words)
+}
+
+// Says on standard error why the program ends.
+fn fail<R: Eprint>(rt: &R, failure: &Failure) -> ExitCode {
+    // The status says it where standard error can't.
+    let _ = match failure {
+        Failure::Usage(why) => {
+            eprintln!(rt;
+                "foyer-trace: {why}\nusage: foyer-trace TRACE [options]; --help says more"
+            )
+        }
+        Failure::Bad(why) | Failure::Other(why) => eprintln!(rt; "foyer-trace: {why}"),
+        Failure::Memory => eprintln!(rt; "foyer-trace: out of memory"),
+        Failure::Closed => Ok(()),
+    };
+    ExitCode::from(failure.status())
+}
+
+// Does what the words ask for.
+fn answer<R: AllocGlobal + Clock + Eprint + Files + Input + Print + Threads + Sync>(
+    rt: &R,
+    alloc: Global,
+    words: &[String],
+    matches: &ArgMatches<'_>,
+    is_terminal: bool,
+) -> Result<(), Failure> {
+    let outputs = outputs_of(matches);
+    match task_of(alloc, matches)? {
+        Task::Help => say(rt, alloc, HELP),
+        Task::Version => say(rt, alloc, VERSION),
+        Task::Make(word) => {
+            let zipf = zipf_of(alloc, word)?;
+            let mut out = match BufWriter::new(alloc, io::writer(rt)) {
+                Ok(out) => out,
+                Err(_) => return Err(Failure::Memory),
+            };
+            write_zipf(alloc, zipf, &mut out)
+        }
+        Task::Merge(paths) => {
+            let mut merger = Merger::new(alloc);
+            for path in paths {
+                match fs::read(rt, *path) {
+                    Ok(text) => merger.add(path, text.as_slice())?,
+                    Err(error) => return Err(Failure::of_io(alloc, path, &error)),
+                }
+            }
+            let title = outputs.title.unwrap_or("merged parts");
+            let report = merger.report(String::from_str(alloc, title)?)?;
+            write_report(rt, alloc, &report, words, outputs)
+        }
+        Task::Replay(replay) => {
+            let report = open_and_replay(rt, alloc, &replay, outputs, is_terminal)?;
+            write_report(rt, alloc, &report, words, outputs)
+        }
+    }
+}
+
+// Prints a text.
+fn say<R: Print>(rt: &R, alloc: Global, text: &str) -> Result<(), Failure> {
+    match rt.print(text) {
+        Ok(()) => Ok(()),
+        Err(error) => Err(Failure::of_output(alloc, &error)),
+    }
+}
+
+// How much of a trace is read at a time.
+const BUFFER: usize = 1 << 18;
+
+fn open_and_replay<R: AllocGlobal + Clock + Eprint + Files + Input + Threads + Sync>(
+    rt: &R,
+    alloc: Global,
+    replay: &Replay<'_>,
+    outputs: Outputs<'_>,
+    is_terminal: bool,
+) -> Result<Report, Failure> {
+    let ground = Ground {
+        rt,
+        alloc,
+        is_terminal,
+        outputs,
+    };
+    if replay.path == "-" {
+        return match BufReader::with_capacity(alloc, BUFFER, rt.reader()) {
+            Ok(reader) => replay_trace(&ground, replay, reader),
+            Err(_) => Err(Failure::Memory),
+        };
+    }
+    let file = match fs::open(rt, replay.path) {
+        Ok(file) => file,
+        Err(error) => return Err(Failure::of_io(alloc, replay.path, &error)),
+    };
+    match BufReader::with_capacity(alloc, BUFFER, file) {
+        Ok(reader) => replay_trace(&ground, replay, reader),
+        Err(_) => Err(Failure::Memory),
+    }
+}
+
+// Writes the files that were asked for, and prints the table.
+fn write_report<R: AllocGlobal + Files + Print>(
+    rt: &R,
+    alloc: Global,
+    report: &Report,
+    words: &[String],
+    outputs: Outputs<'_>,
+) -> Result<(), Failure> {
+    if let Some(path) = outputs.csv {
+        write_file(rt, alloc, path, sheet_of(alloc, report)?)?;
+    }
+    if let Some(path) = outputs.svg {
+        write_file(rt, alloc, path, picture_of(alloc, report)?)?;
+    }
+    if let Some(path) = outputs.html {
+        write_file(rt, alloc, path, html::page_of(alloc, report, words)?)?;
+    }
+    say(rt, alloc, text_of(alloc, report)?.as_str())
+}
+
+fn write_file<R: Files>(rt: &R, alloc: Global, path: &str, text: String) -> Result<(), Failure> {
+    match fs::write(rt, path, text) {
+        Ok(()) => Ok(()),
+        Err(error) => Err(Failure::of_io(alloc, path, &error)),
+    }
+}

@@ -1,0 +1,209 @@
+//! The policies that are replayed, and their parameters.
+
+use crate::failure::Failure;
+use crate::nearest::unknown;
+use crate::number::{decimal, ratio};
+use foyer_policy::{Eviction, Lfu, LfuConfig, Lru, LruConfig, Ratio, S3Fifo, S3FifoConfig};
+use std::alloc::Global;
+
+/// A policy with its configuration.
+#[derive(Debug, Drop)]
+pub enum Kind {
+    Fifo,
+    Lru(LruConfig),
+    Lfu(LfuConfig),
+    S3Fifo(S3FifoConfig),
+    Sieve,
+    /// The least possible misses, by Belady.
+    Belady,
+}
+
+/// A policy as it was asked for.
+#[derive(Debug, Drop)]
+pub struct Policy<'a> {
+    pub kind: Kind,
+    /// Its name.
+    pub name: &'a str,
+    /// The parameters that were given, as they were written.
+    pub parameters: String,
+}
+
+const NAMES: [&str; 7] = ["all", "fifo", "lru", "lfu", "s3fifo", "sieve", "belady"];
+
+const ALL: [&str; 5] = ["fifo", "lru", "lfu", "s3fifo", "sieve"];
+
+/// The policies of a list such as `lru,s3fifo:small=1/10,threshold=2,belady`, or `all` for the five. A word with `=` is
+/// a parameter of the policy before it.
+pub fn policies_of<'a>(alloc: Global, list: &'a str) -> Result<Vec<Policy<'a>>, Failure> {
+    let mut policies: Vec<Policy<'a>> = Vec::new(alloc);
+    for word in list.split(',') {
+        let (name, parameter) = match word.split_once(':') {
+            Some(parts) => parts,
+            None if word.contains('=') => ("", word),
+            None => (word, ""),
+        };
+        if name == "all" {
+            for name in ALL {
+                policies.push(plain(alloc, name)?)?;
+            }
+        } else if !name.is_empty() {
+            policies.push(plain(alloc, name)?)?;
+        }
+        if !parameter.is_empty() {
+            let Some(policy) = policies.last_mut() else {
+                return Err(Failure::Usage(format!(in alloc; "'{word}' is no policy's parameter")?));
+            };
+            policy.set(alloc, parameter)?;
+        }
+    }
+    for policy in &policies {
+        policy.check(alloc)?;
+    }
+    Ok(policies)
+}
+
+// A policy in its default configuration.
+fn plain<'a>(alloc: Global, name: &'a str) -> Result<Policy<'a>, Failure> {
+    let kind = match name {
+        "fifo" => Kind::Fifo,
+        "lru" => Kind::Lru(LruConfig::default()),
+        "lfu" => Kind::Lfu(LfuConfig::default()),
+        "s3fifo" => Kind::S3Fifo(S3FifoConfig::default()),
+        "sieve" => Kind::Sieve,
+        "belady" => Kind::Belady,
+        _ => return Err(unknown(alloc, "policy", name, NAMES.as_slice())),
+    };
+    Ok(Policy {
+        kind,
+        name,
+        parameters: String::new(alloc),
+    })
+}
+
+impl Policy<'_> {
+    /// The policy's name, with its parameters if it has some.
+    pub fn label(&self, alloc: Global) -> Result<String, Failure> {
+        let name = self.name;
+        let parameters = self.parameters.as_str();
+        if parameters.is_empty() {
+            return Ok(String::from_str(alloc, name)?);
+        }
+        Ok(format!(in alloc; "{name} ({parameters})")?)
+    }
+
+    // Sets a parameter, as `small=1/10`.
+    fn set(&mut self, alloc: Global, word: &str) -> Result<(), Failure> {
+        let (parameter, value) = word.split_once('=').unwrap_or((word, ""));
+        match &mut self.kind {
+            Kind::Lru(config) => set_lru(alloc, config, parameter, value)?,
+            Kind::Lfu(config) => set_lfu(alloc, config, parameter, value)?,
+            Kind::S3Fifo(config) => set_s3fifo(alloc, config, parameter, value)?,
+            Kind::Fifo | Kind::Sieve | Kind::Belady => {
+                let name = self.name;
+                return Err(Failure::Usage(format!(in alloc;
+                    "{name} has no parameters, and '{word}' is given"
+                )?));
+            }
+        }
+        if !self.parameters.is_empty() {
+            self.parameters.push(' ')?;
+        }
+        self.parameters.push_str(word)?;
+        Ok(())
+    }
+
+    // Whether the policy takes its configuration.
+    fn check(&self, alloc: Global) -> Result<(), Failure> {
+        let checked = match &self.kind {
+            Kind::Lru(config) => Lru::check(config),
+            Kind::Lfu(config) => Lfu::check(config),
+            Kind::S3Fifo(config) => S3Fifo::check(config),
+            Kind::Fifo | Kind::Sieve | Kind::Belady => Ok(()),
+        };
+        let Err(error) = checked else {
+            return Ok(());
+        };
+        let (name, parameters) = (self.name, self.parameters.as_str());
+        Err(Failure::Usage(format!(in alloc; "{name}:{parameters}: {error}")?))
+    }
+}
+
+fn set_lru(
+    alloc: Global,
+    config: &mut LruConfig,
+    parameter: &str,
+    value: &str,
+) -> Result<(), Failure> {
+    match parameter {
+        "high" => config.high_priority_pool_ratio = ratio_of(alloc, parameter, value)?,
+        _ => return Err(unknown(alloc, "parameter of lru", parameter, &["high"])),
+    }
+    Ok(())
+}
+
+fn set_lfu(
+    alloc: Global,
+    config: &mut LfuConfig,
+    parameter: &str,
+    value: &str,
+) -> Result<(), Failure> {
+    match parameter {
+        "window" => config.window_capacity_ratio = ratio_of(alloc, parameter, value)?,
+        "protected" => config.protected_capacity_ratio = ratio_of(alloc, parameter, value)?,
+        "buckets" => {
+            config.cmsketch_buckets = number_of(alloc, parameter, value, u32::MAX)?;
+        }
+        "hashes" => {
+            config.cmsketch_hashes = number_of(alloc, parameter, value, u8::MAX as u32)? as u8;
+        }
+        _ => {
+            let known = ["window", "protected", "buckets", "hashes"];
+            return Err(unknown(alloc, "parameter of lfu", parameter, known.as_slice()));
+        }
+    }
+    Ok(())
+}
+
+fn set_s3fifo(
+    alloc: Global,
+    config: &mut S3FifoConfig,
+    parameter: &str,
+    value: &str,
+) -> Result<(), Failure> {
+    match parameter {
+        "small" => config.small_queue_capacity_ratio = ratio_of(alloc, parameter, value)?,
+        "ghost" => config.ghost_queue_capacity_ratio = ratio_of(alloc, parameter, value)?,
+        "threshold" => {
+            config.small_to_main_freq_threshold = number_of(
+                alloc,
+                parameter,
+                value,
+                u8::MAX as u32,
+            )? as u8;
+        }
+        _ => {
+            let known = ["small", "ghost", "threshold"];
+            return Err(unknown(alloc, "parameter of s3fifo", parameter, known.as_slice()));
+        }
+    }
+    Ok(())
+}
+
+fn ratio_of(alloc: Global, parameter: &str, value: &str) -> Result<Ratio, Failure> {
+    match ratio(value) {
+        Some(ratio) => Ok(ratio),
+        None => Err(Failure::Usage(format!(in alloc;
+            "{parameter} must be a share such as 1/10 or 0.1, and not '{value}'"
+        )?)),
+    }
+}
+
+fn number_of(alloc: Global, parameter: &str, value: &str, most: u32) -> Result<u32, Failure> {
+    let number = decimal(value.as_bytes()).filter(|number| *number <= most as u64);
+    match number.and_then(|number| u32::try_from(number).ok()) {
+        Some(number) => Ok(number),
+        None => Err(Failure::Usage(format!(in alloc;
+            "{parameter} must be a number from 0 to {most}, and not '{value}'"
+        )?)),
+    }
+}

@@ -1,0 +1,213 @@
+//! The CSV file of a report: a row for each run, written and read back.
+
+use crate::failure::Failure;
+use crate::number::decimal;
+use crate::report::{Report, Row};
+use csv::{ErrorKind, ReaderBuilder, StringRecord};
+use std::alloc::{AllocError, Global};
+
+const HEADER: &str =
+    "policy,parameters,size,requests,hits,misses,miss_ratio,byte_miss_ratio,evictions,expired,seconds,bytes,miss_bytes,unit";
+
+/// The CSV text of a report. Without sizes the columns of bytes are empty.
+pub fn sheet_of(alloc: Global, report: &Report) -> Result<String, AllocError> {
+    let mut text = String::from_str(alloc, HEADER)?;
+    text.push('\n')?;
+    let unit = report.unit();
+    for row in &report.rows {
+        let (policy, parameters, size) = (&row.policy, &row.parameters, row.size);
+        let (requests, hits, misses) = (row.requests, row.hits, row.misses);
+        write!(
+            text,
+            "{policy},{parameters},{size},{requests},{hits},{misses},{:.6},",
+            row.miss_ratio()
+        )?;
+        if report.has_sizes {
+            write!(text, "{:.6}", row.byte_miss_ratio())?;
+        }
+        let (evictions, expired, seconds) = (row.evictions, row.expired, row.seconds);
+        write!(text, ",{evictions},{expired},{seconds:.3},")?;
+        if report.has_sizes {
+            let (bytes, miss_bytes) = (row.bytes, row.miss_bytes);
+            write!(text, "{bytes},{miss_bytes}")?;
+        } else {
+            text.push(',')?;
+        }
+        write!(text, ",{unit}\n")?;
+    }
+    Ok(text)
+}
+
+/// Adds the rows of CSV texts up, where policy, parameters and size are the same.
+#[derive(Drop)]
+pub struct Merger {
+    rows: Vec<Row>,
+    is_in_bytes: bool,
+    has_sizes: bool,
+    alloc: Global,
+}
+
+impl Merger {
+    pub fn new(alloc: Global) -> Merger {
+        Merger {
+            rows: Vec::new(alloc),
+            is_in_bytes: false,
+            has_sizes: false,
+            alloc,
+        }
+    }
+
+    /// Adds the rows of a file.
+    pub fn add(&mut self, path: &str, text: &[u8]) -> Result<(), Failure> {
+        let mut reader = ReaderBuilder::new()
+            .has_headers(false)
+            .from_reader(self.alloc, text);
+        let mut record = StringRecord::new(self.alloc);
+        let mut line = 0u64;
+        for _record in 0..u64::MAX {
+            line = line.saturating_add(1);
+            match reader.read_record(&mut record) {
+                Ok(true) => {}
+                Ok(false) => break,
+                Err(error) if matches!(error.kind(), ErrorKind::OutOfMemory) => return Err(
+                    Failure::Memory,
+                ),
+                Err(_) => return Err(self.bad(path, line)),
+            }
+            if line == 1 {
+                if record.as_slice()
+                    != "policyparameterssizerequestshitsmissesmiss_ratiobyte_miss_ratioevictionsexpiredsecondsbytesmiss_bytesunit"
+                {
+                    return Err(self.bad(path, line));
+                }
+                continue;
+            }
+            match self.row_of(&record) {
+                Some(row) => self.add_row(row?)?,
+                None => return Err(self.bad(path, line)),
+            }
+        }
+        if line <= 1 {
+            return Err(self.bad(path, line));
+        }
+        Ok(())
+    }
+
+    fn bad(&self, path: &str, line: u64) -> Failure {
+        match format!(in self.alloc; "{path}: line {line}: expected a row as --csv writes it") {
+            Ok(text) => Failure::Bad(text),
+            Err(_) => Failure::Memory,
+        }
+    }
+
+    // The row of a record, if it is one.
+    fn row_of(&mut self, record: &StringRecord) -> Option<Result<Row, AllocError>> {
+        let number = |at: usize| decimal(record.get(at)?.as_bytes());
+        let wide = |at: usize| {
+            let word = record.get(at)?;
+            if word.is_empty() {
+                Some(0u128)
+            } else {
+                word.parse::<u128>().ok()
+            }
+        };
+        let (policy, parameters) = (record.get(0)?, record.get(1)?);
+        self.has_sizes = self.has_sizes || !record.get(11)?.is_empty();
+        self.is_in_bytes = self.is_in_bytes || record.get(13)? == "bytes";
+        let (size, requests, hits, misses) = (number(2)?, number(3)?, number(4)?, number(5)?);
+        let (evictions, expired) = (number(8)?, number(9)?);
+        let seconds = record.get(10)?.parse::<f64>().ok()?;
+        let (bytes, miss_bytes) = (wide(11)?, wide(12)?);
+        let policy = match String::from_str(self.alloc, policy) {
+            Ok(policy) => policy,
+            Err(error) => return Some(Err(error)),
+        };
+        let parameters = match String::from_str(self.alloc, parameters) {
+            Ok(parameters) => parameters,
+            Err(error) => return Some(Err(error)),
+        };
+        Some(Ok(Row {
+            policy,
+            parameters,
+            size,
+            requests,
+            hits,
+            misses,
+            bytes,
+            miss_bytes,
+            evictions,
+            expired,
+            seconds,
+        }))
+    }
+
+    fn add_row(&mut self, row: Row) -> Result<(), Failure> {
+        for it in self.rows.iter_mut() {
+            let is_same = it.policy.as_str() == row.policy.as_str()
+                && it.parameters.as_str() == row.parameters.as_str()
+                && it.size == row.size;
+            if is_same {
+                it.requests = it.requests.saturating_add(row.requests);
+                it.hits = it.hits.saturating_add(row.hits);
+                it.misses = it.misses.saturating_add(row.misses);
+                it.bytes = it.bytes.saturating_add(row.bytes);
+                it.miss_bytes = it.miss_bytes.saturating_add(row.miss_bytes);
+                it.evictions = it.evictions.saturating_add(row.evictions);
+                it.expired = it.expired.saturating_add(row.expired);
+                it.seconds = it.seconds + row.seconds;
+                return Ok(());
+            }
+        }
+        self.rows.push(row)?;
+        Ok(())
+    }
+
+    /// The report of all rows: policies in the order in which they came, each at each size.
+    pub fn report(self, title: String) -> Result<Report, Failure> {
+        let alloc = self.alloc;
+        let mut policies: Vec<String> = Vec::new(alloc);
+        let mut sizes: Vec<u64> = Vec::new(alloc);
+        for row in &self.rows {
+            let label = label_of(alloc, row)?;
+            if !policies.iter().any(|it| it.as_str() == label.as_str()) {
+                policies.push(label)?;
+            }
+            if !sizes.contains(&row.size) {
+                sizes.push(row.size)?;
+            }
+        }
+        sizes.as_mut_slice().sort_unstable();
+        if self.rows.len() != policies.len().saturating_mul(sizes.len()) {
+            return Err(Failure::Other(format!(in alloc;
+                "the files have not each policy at each size"
+            )?));
+        }
+        let mut rows = self.rows;
+        let key = |row: &Row| {
+            let policy = policies.iter().position(|it| {
+                label_of(alloc, row).is_ok_and(|label| label.as_str() == it.as_str())
+            });
+            (policy, row.size)
+        };
+        rows.as_mut_slice()
+            .sort_unstable_by(|a, b| key(a).cmp(&key(b)));
+        Ok(Report {
+            title,
+            policies,
+            sizes,
+            rows,
+            is_in_bytes: self.is_in_bytes,
+            has_sizes: self.has_sizes,
+            notes: Vec::new(alloc),
+        })
+    }
+}
+
+fn label_of(alloc: Global, row: &Row) -> Result<String, AllocError> {
+    let (policy, parameters) = (&row.policy, &row.parameters);
+    if parameters.is_empty() {
+        policy.clone()
+    } else {
+        format!(in alloc; "{policy} ({parameters})")
+    }
+}

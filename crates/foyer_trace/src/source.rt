@@ -1,0 +1,196 @@
+//! Reads a trace: records in the sample, in parts.
+
+use crate::failure::Failure;
+use crate::format::Format;
+use crate::format::arc::ArcReader;
+use crate::format::columns::Wanted;
+use crate::format::csv::CsvReader;
+use crate::format::keys::KeysReader;
+use crate::format::oracle::OracleReader;
+use crate::key::Sample;
+use crate::record::{Record, RecordReader};
+use crate::trace::{PART, Part, Totals, Trace};
+use foyer_replay::Operation;
+use std::alloc::Global;
+use std::collections::HashSet;
+use std::io::BufRead;
+
+/// A reader of any of the formats.
+#[derive(Drop)]
+pub enum AnyReader<B: BufRead + Drop> {
+    Keys(KeysReader<B>),
+    Csv(CsvReader<B>),
+    Oracle(OracleReader<B>),
+    Arc(ArcReader<B>),
+}
+
+impl<B: BufRead + Drop> AnyReader<B> {
+    /// The reader of a format.
+    pub fn new(
+        alloc: Global,
+        format: Format,
+        wanted: Option<&Wanted<'_>>,
+        reader: B,
+    ) -> Result<Self, Failure> {
+        match format {
+            Format::Keys => Ok(AnyReader::Keys(KeysReader::new(alloc, reader))),
+            Format::Csv => Ok(AnyReader::Csv(CsvReader::new(alloc, reader, wanted)?)),
+            Format::Oracle => Ok(AnyReader::Oracle(OracleReader::new(alloc, reader))),
+            Format::Arc => Ok(AnyReader::Arc(ArcReader::new(alloc, reader))),
+        }
+    }
+}
+
+impl<B: BufRead + Drop> RecordReader for AnyReader<B> {
+    fn next_record(&mut self) -> Result<Option<Record>, Failure> {
+        match self {
+            AnyReader::Keys(reader) => reader.next_record(),
+            AnyReader::Csv(reader) => reader.next_record(),
+            AnyReader::Oracle(reader) => reader.next_record(),
+            AnyReader::Arc(reader) => reader.next_record(),
+        }
+    }
+
+    fn has_sizes(&self) -> bool {
+        match self {
+            AnyReader::Keys(reader) => reader.has_sizes(),
+            AnyReader::Csv(reader) => reader.has_sizes(),
+            AnyReader::Oracle(reader) => reader.has_sizes(),
+            AnyReader::Arc(reader) => reader.has_sizes(),
+        }
+    }
+}
+
+/// Which keys the footprint is of.
+#[derive(Clone, Copy, Debug, PartialEq, Eq)]
+pub enum Footprint {
+    /// It is not counted.
+    Unknown,
+    /// Of the sample's.
+    Sampled,
+    /// Of all that were read.
+    All,
+}
+
+/// Reads the records of a trace that are in a sample.
+#[derive(Drop)]
+pub struct Source<B: BufRead + Drop> {
+    reader: AnyReader<B>,
+    sample: Sample,
+    skips_bad: bool,
+    footprint: Footprint,
+    seen: HashSet<u64>,
+    totals: Totals,
+    alloc: Global,
+}
+
+impl<B: BufRead + Drop> Source<B> {
+    pub fn new(
+        alloc: Global,
+        reader: AnyReader<B>,
+        sample: Sample,
+        skips_bad: bool,
+        footprint: Footprint,
+    ) -> Self {
+        let totals = Totals {
+            has_sizes: reader.has_sizes(),
+            ..Totals::default()
+        };
+        Source {
+            reader,
+            sample,
+            skips_bad,
+            footprint,
+            seen: HashSet::new(alloc),
+            totals,
+            alloc,
+        }
+    }
+
+    /// What is known of the records that were read.
+    pub fn totals(&self) -> Totals {
+        self.totals
+    }
+
+    /// Puts the next records of the sample, at most a part, in the place of those in the list.
+    pub fn read_part(&mut self, records: &mut Vec<Record>) -> Result<(), Failure> {
+        records.clear();
+        while records.len() < PART {
+            let record = match self.reader.next_record() {
+                Ok(Some(record)) => record,
+                Ok(None) => break,
+                Err(Failure::Bad(why)) => {
+                    self.meet_bad(why)?;
+                    continue;
+                }
+                Err(failure) => return Err(failure),
+            };
+            self.count_read(&record);
+            let is_sampled = self.sample.has(record.key);
+            if self.footprint == Footprint::All || is_sampled {
+                self.see(&record)?;
+            }
+            if is_sampled {
+                self.count(&record);
+                records.push(record)?;
+            }
+        }
+        Ok(())
+    }
+
+    /// Reads the whole trace.
+    pub fn read_all(mut self) -> Result<Trace, Failure> {
+        let mut parts = Vec::new(self.alloc);
+        let mut records = Vec::with_capacity(self.alloc, PART)?;
+        for _part in 0..u64::MAX {
+            self.read_part(&mut records)?;
+            if records.is_empty() {
+                break;
+            }
+            parts.push(Part::new(self.alloc, records.as_slice())?)?;
+        }
+        let totals = self.totals;
+        Ok(Trace { parts, totals })
+    }
+
+    // Counts a bad record, or ends the run with what was expected.
+    fn meet_bad(&mut self, why: String) -> Result<(), Failure> {
+        let number = self
+            .totals
+            .read
+            .saturating_add(self.totals.bad)
+            .saturating_add(1);
+        self.totals.bad = self.totals.bad.saturating_add(1);
+        if self.skips_bad {
+            return Ok(());
+        }
+        Err(Failure::Bad(format!(in self.alloc; "record {number}: {why}")?))
+    }
+
+    fn see(&mut self, record: &Record) -> Result<(), Failure> {
+        if self.footprint == Footprint::Unknown || record.operation == Operation::Remove {
+            return Ok(());
+        }
+        if self.seen.insert(record.key)? {
+            self.totals.keys = self.totals.keys.saturating_add(1);
+            self.totals.key_bytes = self.totals.key_bytes.saturating_add(record.size as u128);
+        }
+        Ok(())
+    }
+
+    fn count_read(&mut self, record: &Record) {
+        self.totals.read = self.totals.read.saturating_add(1);
+        if record.operation == Operation::Get {
+            self.totals.read_gets = self.totals.read_gets.saturating_add(1);
+            self.totals.read_bytes = self.totals.read_bytes.saturating_add(record.size as u128);
+        }
+    }
+
+    fn count(&mut self, record: &Record) {
+        self.totals.records = self.totals.records.saturating_add(1);
+        if record.operation == Operation::Get {
+            self.totals.gets = self.totals.gets.saturating_add(1);
+            self.totals.bytes = self.totals.bytes.saturating_add(record.size as u128);
+        }
+    }
+}

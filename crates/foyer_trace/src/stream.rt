@@ -1,0 +1,99 @@
+//! Runs all policies at all sizes side by side over a trace that is read once and not kept.
+
+use crate::failure::Failure;
+use crate::plan::Plan;
+use crate::progress::Progress;
+use crate::run::Measured;
+use crate::runner::Runner;
+use crate::source::Source;
+use crate::trace::{PART, Part};
+use std::alloc::Global;
+use std::io::BufRead;
+use std::rt::Clock;
+use std::thread::{self, Threads};
+use std::time::Instant;
+
+// A run in the middle of the stream.
+#[derive(Drop)]
+struct Running {
+    runner: Runner,
+    measured: Measured,
+    failure: Option<Failure>,
+}
+
+impl Running {
+    // Serves a part, of which the first requests are warmup.
+    fn serve<R: Clock>(&mut self, rt: &R, part: &Part, warm: usize) {
+        if self.failure.is_some() {
+            return;
+        }
+        let start = Instant::now(rt);
+        let served = match self.runner.serve(part, &[], 0, warm) {
+            Ok(_) => self.runner.serve(part, &[], warm, part.len()),
+            Err(failure) => Err(failure),
+        };
+        match served {
+            Ok(counts) => self.measured.counts = self.measured.counts.plus(counts),
+            Err(failure) => self.failure = Some(failure),
+        }
+        if let Ok(start) = start {
+            let taken = start.elapsed(rt).map_or(0.0, |taken| taken.as_secs_f64());
+            self.measured.seconds = self.measured.seconds + taken;
+        }
+    }
+}
+
+/// Runs all of a plan over what a source reads, with at most so many threads, and returns what each came to.
+pub fn stream_all<R: Clock + Eprint + Threads + Sync, B: BufRead + Drop>(
+    rt: &R,
+    alloc: Global,
+    source: &mut Source<B>,
+    plan: &Plan<'_>,
+    jobs: usize,
+    progress: &Progress<'_, R>,
+) -> Result<Vec<Measured>, Failure> {
+    let mut running = Vec::with_capacity(alloc, plan.runs())?;
+    for number in 0..plan.runs() {
+        if let Some((policy, capacity)) = plan.run(number) {
+            let runner = Runner::new(
+                alloc,
+                &policy.kind,
+                capacity.scaled,
+                plan.shards,
+                plan.terms,
+            )?;
+            let measured = Measured::default();
+            running.push(Running {
+                runner,
+                measured,
+                failure: None,
+            })?;
+        }
+    }
+    let mut records = Vec::with_capacity(alloc, PART)?;
+    let mut left = plan.warmup;
+    for _part in 0..u64::MAX {
+        source.read_part(&mut records)?;
+        if records.is_empty() {
+            break;
+        }
+        let part = Part::new(alloc, records.as_slice())?;
+        let warm = usize::try_from(left).unwrap_or(usize::MAX).min(part.len());
+        left = left.saturating_sub(warm as u64);
+        thread::for_each_mut(
+            rt,
+            running.as_mut_slice(),
+            jobs.max(1),
+            &|_, run| run.serve(rt, &part, warm),
+        );
+        progress.advance(part.len() as u64);
+    }
+    let mut measured = Vec::with_capacity(alloc, running.len())?;
+    for run in running {
+        if let Some(failure) = run.failure {
+            return Err(failure);
+        }
+        measured.push(run.measured)?;
+    }
+    Ok(measured)
+}
