@@ -4,9 +4,9 @@
 mod squares;
 
 use foyer_memory::CacheBuilder;
-use foyer_raw::ListSpawner;
+use foyer_raw::{AllTasks, ListSpawner};
 use futures::executor::block_on;
-use squares::{AllTasks, Counter, NOW, Service, Squares, THREADS, fetch, found_by, square};
+use squares::{Counter, NOW, Service, Squares, THREADS, fetch, found_by, square};
 use std::thread::map_indices;
 
 fn main(rt: HostRuntime) -> anyhow::Result<()> {
@@ -28,7 +28,7 @@ fn main(rt: HostRuntime) -> anyhow::Result<()> {
     let (ann, ben) = (fetch(9, &fetched)?, fetch(9, &fetched)?);
     let ann = squares.get_or_fetch(NOW, &9, || ann, &mut tasks)?;
     let ben = squares.get_or_fetch(NOW, &9, || ben, &mut tasks)?;
-    block_on(&rt, AllTasks { tasks })?;
+    block_on(&rt, AllTasks::new(tasks))?;
     let (ann, ben) = (block_on(&rt, ann)??, block_on(&rt, ben)??);
     println!(rt; "Ann gets {}, Ben gets {}", *ann, *ben)?;
     println!(rt; "{} fetched, {} left", fetched.count(), gone.count())?;

@@ -2,10 +2,9 @@
 
 ghost use Rattle.std.specs.Prelude.{◌≡◌, ◌*◌, ◌<◌, IfOk};
 
-use foyer_core::{AdmitAll, UnitWeighter};
-use foyer_memory::{Cache, CacheProperties, FetchTarget};
-use foyer_policy::{DefaultHasher, Event, EventListener, Fault, Result};
-use foyer_raw::{Direct, ListSpawner, NoopPipe};
+use foyer_core::UnitWeighter;
+use foyer_memory::{CacheProperties, FetchCache, FetchTarget};
+use foyer_policy::{Event, EventListener, Fault, Result};
 use futures::Future;
 use futures::task::{Context, Poll};
 use std::alloc::{AllocError, Global};
@@ -22,18 +21,7 @@ pub const THREADS: usize = 4;
 const EACH: u32 = 100;
 
 /// A cache of squares. It counts what leaves, and fetches what is missing.
-pub type Squares<H> = Cache<
-    H,
-    u32,
-    u64,
-    DefaultHasher,
-    CacheProperties,
-    UnitWeighter,
-    AdmitAll,
-    Counter,
-    NoopPipe<u32, u64>,
-    Direct<SquareFetch>,
->;
+pub type Squares<H> = FetchCache<H, u32, u64, SquareFetch, UnitWeighter, Counter>;
 
 /// What a program keeps: a cache in a struct of the program's own, which threads share by `&`.
 #[derive(Drop)]
@@ -113,24 +101,6 @@ pub fn fetch(number: u32, fetched: &Counter) -> std::result::Result<SquareFetch,
         number,
         fetched: fetched.share()?,
     })
-}
-
-/// Polls the tasks until each has ended.
-#[derive(Drop)]
-pub struct AllTasks<X: Future<Output = ()>> {
-    /// The tasks.
-    pub tasks: ListSpawner<X>,
-}
-
-impl<X: Future<Output = ()>> Future for AllTasks<X> {
-    type Output = ();
-
-    fn poll(&mut self, cx: &mut Context<'_>) -> Poll<()> {
-        if self.tasks.poll_all(cx) > 0 {
-            return cx.yield_now();
-        }
-        Poll::Ready(())
-    }
 }
 
 /// The square of a number.
