@@ -4,7 +4,6 @@
 pub mod builder;
 pub mod bytes;
 pub mod cache;
-pub mod closures;
 pub mod entry;
 pub mod fetch;
 pub mod kind;
@@ -15,7 +14,6 @@ pub mod types;
 pub use builder::CacheBuilder;
 pub use bytes::{ByteLen, Bytes};
 pub use cache::Cache;
-pub use closures::{AdmitBy, ListenBy, WeighBy};
 pub use entry::CacheEntry;
 pub use fetch::{FetchTask, GetOrFetch};
 pub use foyer_core::{CacheProperties, FetchTarget, Filter, Piece, Stats, Weighter};
