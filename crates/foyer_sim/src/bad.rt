@@ -170,8 +170,9 @@ impl<'a, W: Write + Drop> Write for Replies<'a, W> {
 
     fn write(&mut self, buf: &[u8]) -> io::Result<usize> {
         let written = self.inner.write(buf);
-        if let Ok(1..) = &written {
-            if buf == REPLY {
+        // Most calls have another length.
+        if buf.len() == REPLY.len() && buf == REPLY {
+            if let Ok(1..) = &written {
                 self.bad.note();
             }
         }
