@@ -1,4 +1,4 @@
--- What counts come to.
+-- The counts after each call of `Stats`.
 use Rattle.std.specs.Prelude.{ℕ, List, [], ◌∷◌, ◌+◌, ◌%◌, ◌^◌, Bool, true, false, if◌then◌else◌}
 use Rattle.foyer_policy.specs.declared.types.Event.{Event}
 use Rattle.foyer_policy.specs.declared.types.Event.TheVariants.{Evict, Replace, Remove, Clear}
@@ -6,7 +6,7 @@ use Rattle.foyer_core.specs.declared.stats.Stats.{Stats}
 use Rattle.foyer_core.specs.declared.stats.Counted.{Counted}
 use Rattle.foyer_core.specs.declared.stats.Counted.TheVariants.{Hit, Miss, Fetch, Wait, Insert, Refused}
 
--- counts go on from 0 behind 2^64 - 1
+-- a count wraps to 0 after 2^64 - 1
 abbrev pub wrapped : ℕ → ℕ
 wrapped n = n % 2 ^ 64
 

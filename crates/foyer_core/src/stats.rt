@@ -1,4 +1,4 @@
-//! Counts of what the calls of a cache came to.
+//! Hits, misses and what else the calls of a cache did, as counts.
 
 ghost use Rattle.std.specs.Prelude.{◌≡◌, map};
 ghost use Rattle.foyer_policy.specs.Moments.{is_expired};
@@ -9,51 +9,51 @@ use crate::entry::Left;
 use crate::properties::is_expired;
 use foyer_policy::{Event, Properties};
 
-/// How often each thing happened. A count that passes 2^64 - 1 goes on from 0.
+/// How often a cache hit, missed, inserted, evicted and so on. A count wraps to 0 after 2^64 - 1.
 ///
-/// A cache behind locks counts by itself. The steps of a core, a shard or a session know nothing of counts: their
-/// caller keeps a `Stats` and tells it, after each call, what that returned ([`Stats::count`],
-/// [`Stats::count_insert`]) and each record that left ([`Stats::count_left`]). Phantom records are not counted.
+/// A cache behind locks keeps its own. A core, a shard and a session keep none: the caller has a `Stats`, and after each
+/// call counts what it returned ([`Stats::count`], [`Stats::count_insert`]) and each removal that it reported
+/// ([`Stats::count_left`]). Phantom records are not counted.
 #[derive(Clone, Copy, Debug, Default, PartialEq, Eq)]
 pub struct Stats {
-    /// Look-ups, touches among them, that found a record.
+    /// Look-ups that found a record, by `get`, `touch` or with a fetch.
     pub hits: u64,
-    /// Look-ups, touches among them, that found none.
+    /// Look-ups that found none.
     pub misses: u64,
-    /// Records that were inserted, by a fetch too.
+    /// Records that were inserted, by a completed fetch too.
     pub inserts: u64,
     /// Records that were evicted.
     pub evictions: u64,
-    /// Of the evicted records, those that were expired by then.
+    /// Of these, the records that had expired.
     pub expired: u64,
-    /// Records whose key a newer record took.
+    /// Records that were replaced by a newer one of their key.
     pub replaced: u64,
-    /// Records that were removed by their key, or by a predicate.
+    /// Records that were removed.
     pub removed: u64,
-    /// Records that left with a clear.
+    /// Records that were cleared.
     pub cleared: u64,
-    /// Misses that began a fetch.
+    /// Misses that opened a fetch.
     pub fetches: u64,
-    /// Misses that wait for the fetch of another.
+    /// Misses that waited for a fetch that was open.
     pub waits: u64,
-    /// Inserts that were refused, those of fetches too.
+    /// Inserts that failed, by a completed fetch too.
     pub refused: u64,
 }
 
-/// What a call came to.
+/// What a call did.
 #[derive(Clone, Copy, Debug, PartialEq, Eq)]
 pub enum Counted {
     /// A look-up found a record.
     Hit,
-    /// A look-up found none, and no fetch follows.
+    /// A look-up found none, and opened no fetch.
     Miss,
-    /// A look-up found none, and its caller fetches: a miss too.
+    /// A look-up found none, and opened a fetch. It is a miss too.
     Fetch,
-    /// A look-up found none, and its caller waits for the fetch of another: a miss too.
+    /// A look-up found none, and waits for the open fetch. It is a miss too.
     Wait,
-    /// A record was inserted that is not a phantom.
+    /// A record was inserted, not a phantom.
     Insert,
-    /// An insert was refused.
+    /// An insert failed.
     Refused,
 }
 
@@ -91,7 +91,7 @@ impl Stats {
         }
     }
 
-    /// Counts a record that left at a moment, unless it is a phantom.
+    /// Counts a record that left at a time, unless it is a phantom. An evicted record counts as expired if it was by then.
     pub fn count_left<K, V, P: Properties>(&mut self, now: u64, event: Event, left: &Left<K, V, P>)
         ensures { self.new ≡ left_counted (is_phantom (P.phantom_of left.now.kept.properties))
             (is_expired now (P.expiry_of left.now.kept.properties)) event self.old }

@@ -1,4 +1,4 @@
-//! How a session's caller counts what its commands came to.
+//! How a session's caller counts its commands and their replies.
 
 ghost use Rattle.std.specs.Prelude.{◌≡◌};
 ghost use Rattle.foyer_session.specs.Counting.{answer_counted, counting_of, insert_answered, leaves_counted, look_up_counted, refusal_counted, step_counted};
