@@ -3,7 +3,8 @@
 //! Nothing here locks. C makes one call at a time for a shard, and overlaps no buffers that it lends to a call.
 #![tactic(auto)]
 
-ghost use Rattle.std.specs.Prelude.{◌≡◌, ℕ, ◌+◌, ◌-◌, ◌*◌, ◌^◌, ◌<◌, ◌≤◌, length, is_some, IfNone, IfSome, IsSome, Some, None, true, ◌≢◌};
+ghost use Rattle.std.specs.Prelude.{◌≡◌, ◌≢◌, ℕ, ◌+◌, ◌-◌, ◌*◌, ◌^◌, ◌<◌, ◌≤◌, length, true};
+ghost use Rattle.std.specs.Prelude.{is_some, IfNone, IfSome, IsSome, None, Some};
 ghost use Rattle.luffapricot_c.specs.Policies.{config_of};
 
 use address::Address;
