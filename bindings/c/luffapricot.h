@@ -115,7 +115,8 @@ typedef struct luffa_terms {
 enum {
     LUFFA_EXPIRES = 1,
     LUFFA_LOW_PRIORITY = 2, /* LRU: the record is among the first to be evicted */
-    LUFFA_PHANTOM = 4       /* no lookup finds the record: it leaves with its last entry */
+    LUFFA_PHANTOM = 4 /* no lookup finds the record: it is told as LUFFA_REMOVE when it is inserted, and as LUFFA_EVICT
+                         when it leaves with its last entry */
 };
 
 /* What the callback of luffa_get_or_insert makes. */

@@ -203,6 +203,26 @@ class References(unittest.TestCase):
         cache.clear()
         self.assertEqual(len(cache), 0)
 
+    def test_keys_whose_comparison_closes(self) -> None:
+        class Closing:
+            def __hash__(self) -> int:
+                return 1
+
+            def __eq__(self, other: object) -> bool:
+                cache.close()
+                return False
+
+        calls = ["cache.get(key)", "cache.pop(key, 0)", "key in cache", "cache.get_or_insert(key, id)", "cache.insert(key, 1)"]
+        for call in calls:
+            cache = Cache(10)
+            cache[Closing()] = 1
+            try:
+                eval(call, {"cache": cache, "key": Closing(), "id": id})
+            except ValueError:
+                pass
+            with self.assertRaises(ValueError):
+                len(cache)
+
     def test_memory_does_not_grow(self) -> None:
         cache, sizes = Cache(1000), []
         for turn in range(6):
@@ -259,6 +279,13 @@ class Making(unittest.TestCase):
         for it in threads:
             it.join()
         self.assertEqual(sorted(found), ["failed"] * 2 + ["made"] * 4)
+
+    def test_closing_waits_for_nobody(self) -> None:
+        cache = Cache(10)
+        with self.assertRaises(RuntimeError):
+            cache.get_or_insert("a", lambda _: cache.close())
+        self.assertEqual(cache.get_or_insert("a", lambda _: 1), 1)
+        cache.close()
 
     def test_threads(self) -> None:
         cache, wrong = Cache(50, "lru", 2), []

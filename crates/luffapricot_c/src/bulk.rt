@@ -1,5 +1,9 @@
 //! Calls for all records of a shard.
 
+ghost use Rattle.std.specs.Prelude.{◌≡◌, IfSome, None};
+ghost use Rattle.foyer_core.specs.CoreBulk.{IsEmptied};
+ghost use Rattle.foyer_core.specs.Cores.{core_of, meaning_of_core};
+
 use crate::policy::LuffaPolicy;
 use crate::record::LuffaRecord;
 use crate::{LuffaShard, status};
@@ -43,7 +47,11 @@ pub extern "C" fn luffa_shard_evict_all(shard: &mut LuffaShard, alloc: Global, n
 
 /// Removes all. 0, NOT_OPEN, UNTOLD, or 7 for F7, and then nothing has changed.
 #[unsafe(no_mangle)]
-pub extern "C" fn luffa_shard_clear(shard: &mut LuffaShard, alloc: Global) -> u32 {
+pub extern "C" fn luffa_shard_clear(shard: &mut LuffaShard, alloc: Global) -> u32
+    ensures emptied { result ≡ 0 → IfSome shard.new.address.held
+        (λ cache. IsEmptied (meaning_of_core cache.core) (core_of cache.core)) }
+    ensures closed { shard.old.address.held ≡ None → result ≡ 107 }
+{
     let Some(mut cache) = shard.take(alloc) else {
         return status::NOT_OPEN;
     };

@@ -1,5 +1,10 @@
 //! The cache behind the address that C holds: of bytes by bytes, of one shard, of any of the five policies.
 
+ghost use Rattle.std.specs.Prelude.{◌≡◌, IfErr, IfOk, OnOk, is_some};
+ghost use Rattle.foyer_core.specs.Core.{entries_of_core, hit_in, usage_of_core};
+ghost use Rattle.foyer_core.specs.Cores.{core_of, hashes_of, meaning_of_core};
+ghost use Rattle.foyer_policy.specs.declared.error.Reason.TheVariants.{NoMemory};
+
 use crate::hold::{Entry, Gone, Hold};
 use crate::key::{Key, copied};
 use crate::record::LuffaRecord;
@@ -232,7 +237,13 @@ impl ByteCache {
     }
 
     /// Whether a lookup would find the key.
-    pub(crate) fn contains(&mut self, now: u64, hash: u64, key: &[u8]) -> Result<bool> {
+    pub(crate) fn contains(&mut self, now: u64, hash: u64, key: &[u8]) -> Result<bool>
+        ensures asked { OnOk result ((self.new.asked.hash ≡ hash) × ((self.new.asked.bytes).items ≡ key.now)) }
+        ensures found { IfOk result (λ found. found ≡ is_some (hit_in (meaning_of_core self.new.core) now (core_of self.new.core)
+            (hashes_of self.new.core self.new.asked, self.new.asked))) }
+        ensures core { self.new.core ≡ self.old.core }
+        ensures refused { IfErr result (λ e. e ≡ NoMemory) }
+    {
         self.asked.set(hash, key)?;
         Ok(self.core.contains(now, &self.asked))
     }
@@ -243,11 +254,15 @@ impl ByteCache {
         self.core.touch(now, &self.asked)
     }
 
-    pub(crate) fn usage(&self) -> u128 {
+    pub(crate) fn usage(&self) -> u128
+        ensures { result ≡ usage_of_core (meaning_of_core self.now.core) (core_of self.now.core) }
+    {
         self.core.usage()
     }
 
-    pub(crate) fn entries(&self) -> u128 {
+    pub(crate) fn entries(&self) -> u128
+        ensures { result ≡ entries_of_core (meaning_of_core self.now.core) (core_of self.now.core) }
+    {
         self.core.entries()
     }
 }

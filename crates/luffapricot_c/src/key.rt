@@ -1,6 +1,6 @@
 //! Keys of bytes, with the hash that the caller gives them.
 
-ghost use Rattle.std.specs.Prelude.{◌≡◌, IfOk, IfErr};
+ghost use Rattle.std.specs.Prelude.{◌≡◌, IfOk, IfErr, OnOk};
 ghost use Rattle.foyer_policy.specs.declared.error.Reason.TheVariants.{NoMemory};
 
 use foyer_policy::{Error, Reason, Result};
@@ -56,7 +56,11 @@ impl Key {
 
     /// Becomes the key of these bytes, in the room of the last one's.
     #[inline(always)]
-    pub(crate) fn set(&mut self, hash: u64, bytes: &[u8]) -> Result<()> {
+    pub(crate) fn set(&mut self, hash: u64, bytes: &[u8]) -> Result<()>
+        ensures hash { self.new.hash ≡ hash }
+        ensures bytes { OnOk result ((self.new.bytes).items ≡ bytes.now) }
+        ensures refused { IfErr result (λ e. e ≡ NoMemory) }
+    {
         self.hash = hash;
         self.bytes.clear();
         self.bytes.extend_from_slice(bytes)?;

@@ -3,7 +3,9 @@
 //! Nothing here locks. C makes one call at a time for a shard, and overlaps no buffers that it lends to a call.
 #![tactic(auto)]
 
-ghost use Rattle.std.specs.Prelude.{◌≡◌, ℕ, ◌+◌, ◌-◌, ◌*◌, ◌^◌, ◌<◌, ◌≤◌, length, is_some, IfNone, IfSome, Some, None, true};
+ghost use Rattle.std.specs.Prelude.{◌≡◌, ◌≢◌, ℕ, ◌+◌, ◌-◌, ◌*◌, ◌^◌, ◌<◌, ◌≤◌, length, true};
+ghost use Rattle.std.specs.Prelude.{is_some, IfNone, IfSome, IsSome, None, Some};
+ghost use Rattle.luffapricot_c.specs.Policies.{config_of};
 
 use address::Address;
 use cache::ByteCache;
@@ -93,7 +95,12 @@ pub extern "C" fn luffa_shard_create(
     policy: &LuffaPolicy,
     capacity: usize,
     has_listener: bool,
-) -> u32 {
+) -> u32
+    ensures exists { IsSome shard.old.address.held → result ≡ 106 }
+    ensures policy { (shard.old.address.held ≡ None) × (config_of policy.now ≡ None) → result ≡ 105 }
+    ensures opened { result ≡ 0 → IsSome shard.new.address.held }
+    ensures refused { (shard.old.address.held ≡ None) × (result ≢ 0) → shard.new.address.held ≡ None }
+{
     if shard.is_open {
         return status::IS_OPEN;
     }

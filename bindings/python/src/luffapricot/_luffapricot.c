@@ -31,6 +31,7 @@ typedef struct {
     uint64_t ttl; /* nanoseconds, or 0 */
     uint64_t hits;
     uint64_t misses;
+    size_t running;  /* calls that let other threads run meanwhile */
     char has_expiry; /* a record may expire, so the time matters */
 } cache_object;
 
@@ -194,6 +195,10 @@ static node *use_node(cache_object *self, PyObject *key) {
         }
     }
     it->uses++;
+    if (is_closed(self)) { /* by the comparison of a key */
+        done_with(self, it);
+        return NULL;
+    }
     return it;
 }
 
@@ -335,6 +340,8 @@ static int take_out(cache_object *self, PyObject *key, PyObject **value) {
     node *it = (node *)PyDict_GetItemWithError(self->nodes, key);
     if (it == NULL)
         return PyErr_Occurred() ? -1 : 0;
+    if (is_closed(self))
+        return -1;
     struct id id = id_of(it);
     int is_there = luffa_contains(self->cache, now_of(self), &id, sizeof id) == LUFFA_OK && it->value != NULL;
     Py_INCREF(it);
@@ -369,6 +376,8 @@ static int cache_contains(cache_object *self, PyObject *key) {
     node *it = (node *)PyDict_GetItemWithError(self->nodes, key);
     if (it == NULL || it->value == NULL)
         return PyErr_Occurred() ? -1 : 0;
+    if (is_closed(self))
+        return -1;
     struct id id = id_of(it);
     return luffa_contains(self->cache, now_of(self), &id, sizeof id) == LUFFA_OK;
 }
@@ -453,9 +462,11 @@ static PyObject *cache_get_or_insert(cache_object *self, PyObject *const *args, 
     do { /* whoever waited for a call that failed tries by itself */
         making.has_run = making.has_failed = 0;
         uint64_t now = now_of(self);
+        self->running++; /* so that nobody closes the cache */
         making.thread = PyEval_SaveThread();
         status = luffa_get_or_insert(cache, now, &id, sizeof id, make_value, &making, NULL);
         PyEval_RestoreThread(making.thread);
+        self->running--;
     } while (status == LUFFA_CANCELLED && !making.has_run);
     if (making.has_run && !making.has_failed && status != LUFFA_OK)
         it->records--;
@@ -553,6 +564,10 @@ static PyObject *cache_reset_counts(cache_object *self, PyObject *unused) {
 
 static PyObject *cache_close(cache_object *self, PyObject *unused) {
     (void)unused;
+    if (self->running > 0) {
+        PyErr_SetString(PyExc_RuntimeError, "get_or_insert() is running");
+        return NULL;
+    }
     cache_clear_all(self);
     Py_RETURN_NONE;
 }

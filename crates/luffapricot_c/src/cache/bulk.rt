@@ -1,5 +1,9 @@
 //! What a cache does with all of its records.
 
+ghost use Rattle.std.specs.Prelude.{◌≡◌};
+ghost use Rattle.foyer_core.specs.CoreBulk.{IsEmptied};
+ghost use Rattle.foyer_core.specs.Cores.{core_of, meaning_of_core};
+
 use super::ByteCache;
 use crate::status;
 use foyer_core::Refused;
@@ -38,7 +42,9 @@ impl ByteCache {
         }
     }
 
-    pub(crate) fn clear(&mut self) -> u32 {
+    pub(crate) fn clear(&mut self) -> u32
+        ensures emptied { result ≡ 0 → IsEmptied (meaning_of_core self.new.core) (core_of self.new.core) }
+    {
         if !self.left.is_empty() {
             return status::UNTOLD;
         }
