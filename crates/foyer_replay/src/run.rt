@@ -17,6 +17,32 @@ pub type ReplayCore<E, S> = CacheCore<E, u64, u64, CacheProperties, S, RequestWe
 /// What left the core at an insert, in order.
 pub type Departures = Vec<Leave<u64, u64, CacheProperties>>;
 
+// How many records were evicted, and how many had expired when they left.
+#[derive(Clone, Copy, Debug, Default)]
+struct Departed {
+    evictions: u64,
+    expired: u64,
+}
+
+impl Departed {
+    // Adds what left at a time.
+    #[inline]
+    fn add(&mut self, departures: &Departures, time: u64) {
+        for (event, left) in departures {
+            if *event == Event::Evict {
+                self.evictions = self.evictions.saturating_add(1);
+            }
+            if left
+                .properties()
+                .expiry()
+                .is_some_and(|moment| moment <= time)
+            {
+                self.expired = self.expired.saturating_add(1);
+            }
+        }
+    }
+}
+
 /// Serves the requests in order, and returns what it counted.
 ///
 /// `departures` is scratch space, which is empty again afterwards.
@@ -32,18 +58,21 @@ pub fn replay<E: Eviction, S: HashBuilder>(
         requests.now counts.hits counts.misses (core_of core.old) (core_of core.new)) }
 {
     let mut counts = Counts::default();
+    let mut departed = Departed::default();
     for request in requests {
         // No `?` here and below: it would copy each answer.
         match serve(core, request, departures) {
             Ok(outcome) => counts.add_outcome(outcome, request.size),
             Err(error) => return Err(error),
         }
-        if !departures.is_empty() {
-            count_departures(&mut counts, departures, request.time);
-            departures.clear();
-        }
+        departed.add(departures, request.time);
+        departures.clear();
     }
-    Ok(counts)
+    Ok(Counts {
+        evictions: departed.evictions,
+        expired: departed.expired,
+        ..counts
+    })
 }
 
 /// Serves one request: a get that finds no record inserts one. Every entry is given back at once. What leaves the core
@@ -112,20 +141,4 @@ fn plain_properties(expiry: Option<u64>) -> CacheProperties
     ensures { result ≡ record { phantom = None; hint = Normal; expires = expiry } }
 {
     CacheProperties::default().with_expiry(expiry)
-}
-
-// Counts the evictions, and the records that had expired, among what left at a moment.
-fn count_departures(counts: &mut Counts, departures: &Departures, now: u64) {
-    for (event, left) in departures {
-        if *event == Event::Evict {
-            counts.evictions = counts.evictions.saturating_add(1);
-        }
-        if left
-            .properties()
-            .expiry()
-            .is_some_and(|moment| moment <= now)
-        {
-            counts.expired = counts.expired.saturating_add(1);
-        }
-    }
 }

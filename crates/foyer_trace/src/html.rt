@@ -19,7 +19,7 @@ table { border-collapse: collapse; margin: 1.5em 0; font-variant-numeric: tabula
 caption { text-align: left; padding-bottom: 0.4em; }
 th, td { padding: 0.25em 0.8em; border-bottom: 1px solid #ddd; text-align: right; }
 th[scope=row] { text-align: left; }
-pre { background: #f4f4f4; padding: 0.8em; overflow-x: auto; }
+pre { background: #f4f4f4; padding: 0.8em; white-space: pre-wrap; }
 svg { max-width: 100%; height: auto; }
 </style>
 </head>
