@@ -1,6 +1,6 @@
 //! How a session's caller counts its commands and their replies.
 
-ghost use Rattle.std.specs.Prelude.{◌≡◌};
+ghost use Rattle.std.specs.Prelude.{◌≡◌, Ok};
 ghost use Rattle.foyer_session.specs.Counting.{answer_counted, counting_of, insert_answered, leaves_counted, look_up_counted, refusal_counted, step_counted};
 
 use crate::command::{Answer, Command, Reply};
@@ -42,12 +42,22 @@ impl Counting {
         ensures { stats.new ≡ step_counted P.phantom_of P.expiry_of self now stepped.now stats.old }
     {
         match stepped {
-            Ok(reply) => {
-                self.count_answer(stats, &reply.answer);
-                count_leaves(stats, now, reply.leaves.as_slice());
-            }
+            Ok(reply) => self.count_reply(stats, now, reply),
             Err(_) => self.count_refusal(stats),
         }
+    }
+
+    // Counts a reply.
+    pub(crate) fn count_reply<K, V, P: Properties>(
+        self,
+        stats: &mut Stats,
+        now: u64,
+        reply: &Reply<K, V, P>,
+    )
+        ensures { stats.new ≡ step_counted P.phantom_of P.expiry_of self now (Ok reply.now) stats.old }
+    {
+        self.count_answer(stats, &reply.answer);
+        count_leaves(stats, now, reply.leaves.as_slice());
     }
 
     // Counts an answer.
@@ -62,7 +72,7 @@ impl Counting {
     }
 
     // Counts a refusal.
-    fn count_refusal(self, stats: &mut Stats)
+    pub(crate) fn count_refusal(self, stats: &mut Stats)
         ensures { stats.new ≡ refusal_counted self stats.old }
     {
         if self == Counting::Insert {

@@ -151,12 +151,17 @@ fn tell_command<W: Write, S: HashBuilder, I: Finder<u64>>(
 {
     let counting = Counting::of(&command);
     let stepped = session.step(command);
-    counting.count(stats, now, &stepped);
     let usage = session.usage();
     let entries = session.entries();
     match stepped {
-        Ok(reply) => tell_reply(writer, &reply, usage, entries),
-        Err(error) => tell_refusal(writer, &error, usage, entries),
+        Ok(reply) => {
+            counting.count_reply(stats, now, &reply);
+            tell_reply(writer, &reply, usage, entries)
+        }
+        Err(error) => {
+            counting.count_refusal(stats);
+            tell_refusal(writer, &error, usage, entries)
+        }
     }
 }
 
