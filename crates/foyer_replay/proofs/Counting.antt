@@ -1,5 +1,5 @@
 -- What one more request adds to the counts of a replay.
-use Rattle.std.proofs.Common.{◌≡◌, ◌∙◌, ◌+◌, ◌≤◌, ℕ, Bool, false, List, [], ◌∷◌, arith, refl, subst, sym, zero-add}
+use Rattle.std.proofs.Common.{◌≡◌, ◌∙◌, ◌+◌, ◌≤◌, ℕ, false, List, [], ◌∷◌, arith, refl, subst, sym, zero-add}
 use Rattle.foyer_core.specs.Core.{Core}
 use Rattle.foyer_core.specs.State.{Meaning}
 use Rattle.foyer_core.specs.Values.{Answered}

@@ -29,8 +29,8 @@ loop-request-preserved g c =
     let lone = misses_one o in
     let nothing : Request = record { key = 0; time = 0; weight = 0; expiry = None; size = 0; operation = Get } in
     let rests : List Request → Type 0 = λ xs. Completes (meaning_of_core c.args.core.now)
-        (λ builder key. g.S.HashBuilder.hash_of builder (u64_input key)) all xs c.loop-request.counts.hits
-        c.loop-request.counts.misses (core_of c.args.core.now) (core_of c.loop-request.core) in
+    (λ builder key. g.S.HashBuilder.hash_of builder (u64_input key)) all xs c.loop-request.counts.hits
+    c.loop-request.counts.misses (core_of c.args.core.now) (core_of c.loop-request.core) in
     record {
       rest = completes_more (meaning_of_core c.args.core.now)
           (λ builder key. g.S.HashBuilder.hash_of builder (u64_input key)) all (drop (i + 1) all) _ o
