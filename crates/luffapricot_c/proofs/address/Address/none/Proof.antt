@@ -33,9 +33,12 @@ none_spec 𝓤 𝓛 𝓜 𝓡 wired =
     let H = 𝓛.H in let 𝓣 = tables 𝓤 H 𝓜 𝓡 𝓡.env in let En = ended in let c = clauses 𝓛 𝓜.mem 𝓡.returns in let fn = code.function in
     let hs : Stays En.signature.params En.kept = (stay_dropped (plain (λ _. RawPtr)) En.kept.0, (stay_dropped (plain (λ _. Z)) En.kept.1.0, tt)) in
     proved_at 𝓛 En hs c 𝓜 𝓡 (Goes-blank 𝓛 0 (plain (λ _. RawPtr)) En.kept.0 (λ κs x f. tt), (Goes-blank 𝓛 0 (plain (λ _. Z)) En.kept.1.0 (λ κs x f. tt), tt)) #self fn (code.unfolded 𝓤 H 𝓜 𝓡 wired) (λ z are.
-    let p = z.0.3.0 in let a = z.0.3.1.0 in let ws = z.0.4.0 in let us = z.0.4.1.0 in let Post : Val → SProp 𝓤 = (walk_of 𝓛 En hs c).post z in let Run : List Val → SProp 𝓤 = λ ws. WpFn 𝓤 H 𝓣.C 𝓣.Λ fn ws Post in
+    let p = z.0.3.0 in let a = z.0.3.1.0 in let ws = z.0.4.0 in let us = z.0.4.1.0 in
+    let Post : Val → SProp 𝓤 = (walk_of 𝓛 En hs c).post z in
+    let Run : List Val → SProp 𝓤 = λ ws. WpFn 𝓤 H 𝓣.C 𝓣.Λ fn ws Post in
     qed 𝓛 ((raw (alive 𝓛 En.signature z.0.0 z.0.1) ⊛ ‵ (owns (types_at En.signature.params z.0.0) z.0.3 z.0.4)) ∷ ‵ ftrue ∷ []) ∵ move ! (1 ∷ []) $ drop ! $ split ! $ move ! (1 ∷ []) $
-    fsplit ! $ move ! (1 ∷ []) $ fsplit ! $ move ! (1 ∷ []) $ drop ! $ handle_tells (al R Z the_row_laws ghosts) ! a us (λ h ea fits. move ! (1 ∷ []) $ feq_l ! (λ ep.
+    fsplit ! $ move ! (1 ∷ []) $ fsplit ! $ move ! (1 ∷ []) $ drop ! $
+    handle_tells (al R Z the_row_laws ghosts) ! a us (λ h ea fits. move ! (1 ∷ []) $ feq_l ! (λ ep.
     let none : Option R.Denot = None in let w : List Val = ptr_val p ∷ h ∷ [] in let good = held_good p h fits in
     suffices ! (Run w) (subst (λ (xs : List Val). ent 𝓤 (Run w) (Run xs)) (sym (λ i. ep i ++ (ea i ++ []))) (id⊢ 𝓤 (Run w))) $
     enter ! 𝓣.C 𝓣.Λ fn w Post $ alloc_all ! (λ l. pass_all ! refl (ptr_good p, (fits, tt)) $
