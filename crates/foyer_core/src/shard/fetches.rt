@@ -172,7 +172,9 @@ impl<E: Eviction, K: Key, V: Value, P: Properties, N: Drop, R: Drop, I: Finder<K
             room: 1,
         };
         let mut leaves = Vec::new(alloc);
-        let came = self.store.emplace_data(alloc, now, kept, source, further, &mut leaves);
+        let came = self
+            .store
+            .emplace_data(alloc, now, kept, source, further, &mut leaves);
         Ended::found(waiters, came, leaves)
     }
 

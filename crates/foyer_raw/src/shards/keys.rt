@@ -154,13 +154,7 @@ where
     // there is, or F7.
     #[cold]
     #[inline(never)]
-    pub(crate) fn refuse_insert(
-        &self,
-        hash: u64,
-        key: &K,
-        properties: &P,
-        weight: usize,
-    ) -> Error {
+    pub(crate) fn refuse_insert(&self, hash: u64, key: &K, properties: &P, weight: usize) -> Error {
         let mut locked = self.lock(hash);
         locked.stats.count(Counted::Refused);
         let refusal = locked.shard.refuses_insert(hash, key, properties, weight);

@@ -13,31 +13,29 @@ returns-then-handles-self-clause-gets g c =
     let x = c.in-Some.found.now in
     let there : slot_in s.records c.in-Some.slot ≡ Some x = c.in-Some.ensures.there in
     let led = c.in-Some.ensures.led in
-    let live = c.in-Some.ensures.hits in
-    (
-        x.id,
-        rec_of x,
-        live,
-        found (meaning_of s) g.met.K.Eq.laws g.met.E.Eviction.lawful (holding s) (c.args.hash, c.args.key.now)
-            c.in-Some.slot led x there,
-        omega (arith, c.handles.ensures, c.if-handles-self.true),
-        refl,
-      )
+    let live = c.in-Some.ensures.hits in (
+      x.id,
+      rec_of x,
+      live,
+      found (meaning_of s) g.met.K.Eq.laws g.met.E.Eviction.lawful (holding s) (c.args.hash, c.args.key.now)
+          c.in-Some.slot led x there,
+      omega (arith, c.handles.ensures, c.if-handles-self.true),
+      refl,
+    )
 
 pub returns-in_default-entry-clause-gets : goal.returns-in_default-entry-clause-gets
 returns-in_default-entry-clause-gets g c =
     let s = c.args.self.now in
     let x = c.in-Some.found.now in
-    let there : slot_in s.records c.in-Some.slot ≡ Some x = c.in-Some.ensures.there in
-    (
-        x.id,
-        rec_of x,
-        c.in-Some.ensures.hits,
-        found (meaning_of s) g.met.K.Eq.laws g.met.E.Eviction.lawful (holding s) (c.args.hash, c.args.key.now)
-            c.in-Some.slot c.in-Some.ensures.led x there,
-        omega (arith, c.handles.ensures, c.if-handles-self.false),
-        refl,
-      )
+    let there : slot_in s.records c.in-Some.slot ≡ Some x = c.in-Some.ensures.there in (
+      x.id,
+      rec_of x,
+      c.in-Some.ensures.hits,
+      found (meaning_of s) g.met.K.Eq.laws g.met.E.Eviction.lawful (holding s) (c.args.hash, c.args.key.now)
+          c.in-Some.slot c.in-Some.ensures.led x there,
+      omega (arith, c.handles.ensures, c.if-handles-self.false),
+      refl,
+    )
 
 pub look_ahead-requires : goal.look_ahead-requires
 look_ahead-requires g c =
@@ -105,11 +103,11 @@ returns-clause-gets g c =
     rw at at c.acquire.ensures.view in
     let write = c.add_handle.ensures.slots x there in
     rw c.in-Some-entry.ensures (
-        rec_of x,
-        live,
-        found m laws lawful (holding s) (c.args.hash, c.args.key.now) c.in-Some.slot led x there,
-        omega (arith, c.handles.ensures, c.if-handles-self.false),
-        refl,
-        got_after m laws lawful (holding s) (c.args.hash, c.args.key.now) c.in-Some.slot led x there
-            c.add_handle.new.self (g.E.Eviction.view c.acquire.new.self) viewed write c.add_handle.ensures.ids,
-      )
+      rec_of x,
+      live,
+      found m laws lawful (holding s) (c.args.hash, c.args.key.now) c.in-Some.slot led x there,
+      omega (arith, c.handles.ensures, c.if-handles-self.false),
+      refl,
+      got_after m laws lawful (holding s) (c.args.hash, c.args.key.now) c.in-Some.slot led x there
+          c.add_handle.new.self (g.E.Eviction.view c.acquire.new.self) viewed write c.add_handle.ensures.ids,
+    )
