@@ -2,7 +2,7 @@
 
 ghost use Rattle.std.specs.Prelude.{◌≡◌, IfOk, IfSome, false, true};
 ghost use Rattle.foyer_policy.specs.Moments.{is_expired};
-ghost use Rattle.foyer_core.specs.Looks.{IfHit};
+ghost use Rattle.foyer_core.specs.declared.outcome.Got.TheVariants.{Hit};
 
 use super::RawCache;
 use crate::entry::RawCacheEntry;
@@ -74,20 +74,19 @@ where
         hash: u64,
         found: Got<K, V, P>,
     ) -> Result<Option<RawCacheEntry<H, E, K, V, S, P, W, A, L, Q, T::Required, I>>>
-        ensures { IfOk result (λ entry. IfSome entry (λ e. IfHit found (λ core. e ≡ core))) }
+        ensures { IfOk result (λ entry. IfSome entry (λ e. found ≡ Hit e)) }
     {
-        let core = match found {
-            Got::Hit(core) => core,
-            Got::Miss => return Ok(None),
-            Got::Full => return Err(Error::new(Reason::Handles)),
-            Got::OutOfMemory => return Err(Error::new(Reason::NoMemory)),
-        };
-        match self.shares_of(hash) {
-            Ok(shares) => Ok(Some(shares.entry(core))),
-            Err(refused) => {
-                self.shares.give_back(core);
-                Err(refused)
-            }
+        match found {
+            Got::Hit(core) => match self.shares_of(hash) {
+                Ok(shares) => Ok(Some(shares.entry(core))),
+                Err(refused) => {
+                    self.shares.give_back(core);
+                    Err(refused)
+                }
+            },
+            Got::Miss => Ok(None),
+            Got::Full => Err(Error::new(Reason::Handles)),
+            Got::OutOfMemory => Err(Error::new(Reason::NoMemory)),
         }
     }
 
