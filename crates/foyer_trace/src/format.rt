@@ -6,9 +6,9 @@ use std::alloc::Global;
 
 pub mod arc;
 pub mod columns;
-pub mod csv;
 pub mod keys;
 pub mod oracle;
+pub mod rows;
 
 /// The format of a trace.
 #[derive(Clone, Copy, Debug, PartialEq, Eq)]

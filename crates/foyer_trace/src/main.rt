@@ -50,26 +50,38 @@ use zipf::{write_zipf, zipf_of};
 
 fn main(rt: HostRuntime) -> ExitCode {
     let is_terminal = rt.stderr().is_terminal();
-    let alloc = rt.alloc();
-    let words = match words_of(&rt, alloc) {
-        Ok(words) => words,
-        Err(failure) => return fail(&rt, &failure),
-    };
-    let parsed = match command(alloc) {
-        Ok(command) => command.try_get_matches_from(words.as_slice()),
-        Err(error) => Err(error),
-    };
-    let done = match &parsed {
-        Ok(matches) => answer(&rt, alloc, words.as_slice(), matches, is_terminal),
-        Err(error) => {
-            let _ = eprint!(rt; "foyer-trace: {error}");
-            return ExitCode::from(2);
-        }
-    };
-    match done {
-        Ok(()) => ExitCode::SUCCESS,
+    match words_of(&rt, rt.alloc()) {
+        Ok(words) => serve_words(&rt, rt.alloc(), words.as_slice(), is_terminal),
         Err(failure) => fail(&rt, &failure),
     }
+}
+
+// Does what the words ask for, and says why where that fails.
+fn serve_words<R: AllocGlobal + Clock + Eprint + Files + Input + Print + Threads + Sync>(
+    rt: &R,
+    alloc: Global,
+    words: &[String],
+    is_terminal: bool,
+) -> ExitCode {
+    let command = match command(alloc) {
+        Ok(command) => command,
+        Err(error) => return refuse(rt, &error),
+    };
+    let matches = match command.try_get_matches_from(words) {
+        Ok(matches) => matches,
+        Err(error) => return refuse(rt, &error),
+    };
+    match answer(rt, alloc, words, &matches, is_terminal) {
+        Ok(()) => ExitCode::SUCCESS,
+        Err(failure) => fail(rt, &failure),
+    }
+}
+
+// Says on standard error what is wrong with the arguments.
+fn refuse<R: Eprint>(rt: &R, error: &clap::Error) -> ExitCode {
+    // The status says it where standard error can't.
+    let _ = eprint!(rt; "foyer-trace: {error}");
+    ExitCode::from(2)
 }
 
 // The words that the program was started with, without its name.

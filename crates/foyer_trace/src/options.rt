@@ -16,7 +16,7 @@ const SIZES: &str = "0.001,0.003,0.01,0.03,0.1,0.3";
 
 /// What is to be done.
 #[derive(Drop)]
-pub enum Task<'a> {
+pub enum Task<'m, 'a> {
     /// Print the help.
     Help,
     /// Print the version.
@@ -24,7 +24,7 @@ pub enum Task<'a> {
     /// Replay a trace.
     Replay(Replay<'a>),
     /// Add the CSV files of parts up.
-    Merge(&'a [&'a str]),
+    Merge(&'m [&'a str]),
     /// Write a synthetic trace.
     Make(&'a str),
 }
@@ -105,7 +105,10 @@ pub fn outputs_of<'a>(matches: &ArgMatches<'a>) -> Outputs<'a> {
 }
 
 /// What the words ask for.
-pub fn task_of<'a>(alloc: Global, matches: &'a ArgMatches<'a>) -> Result<Task<'a>, Failure> {
+pub fn task_of<'m, 'a>(
+    alloc: Global,
+    matches: &'m ArgMatches<'a>,
+) -> Result<Task<'m, 'a>, Failure> {
     if matches.get_flag("help") {
         return Ok(Task::Help);
     }
@@ -135,7 +138,7 @@ pub fn task_of<'a>(alloc: Global, matches: &'a ArgMatches<'a>) -> Result<Task<'a
 
 fn replay_of<'a>(
     alloc: Global,
-    matches: &'a ArgMatches<'a>,
+    matches: &ArgMatches<'a>,
     path: &'a str,
 ) -> Result<Replay<'a>, Failure> {
     let format = match matches.get_str("format") {

@@ -1,7 +1,10 @@
 //! A trace in memory, in parts whose columns are as narrow as their numbers allow.
 
+ghost use Rattle.std.specs.Prelude.{◌≡◌, length};
+ghost use Rattle.foyer_trace.specs.Trace.{number_at, operation_at, request_at};
+
 use crate::record::Record;
-use foyer_replay::{Operation, Request};
+use foyer_replay::{Operation, Request, Requests};
 use std::alloc::{AllocError, Global};
 
 /// How many records a part has, but the last.
@@ -48,7 +51,9 @@ impl Column {
     }
 
     #[inline]
-    fn at(&self, place: usize) -> u64 {
+    fn at(&self, place: usize) -> u64
+        ensures { result ≡ number_at self.now place }
+    {
         match self {
             Column::Same(number) => *number,
             Column::Narrow(base, more) => {
@@ -99,7 +104,9 @@ impl Part {
     }
 
     /// How many records there are.
-    pub fn len(&self) -> usize {
+    pub fn len(&self) -> usize
+        ensures { result ≡ length self.now.keys.items }
+    {
         self.keys.len()
     }
 
@@ -110,7 +117,9 @@ impl Part {
 
     /// What the record at a place asks.
     #[inline]
-    pub fn operation(&self, place: usize) -> Operation {
+    pub fn operation(&self, place: usize) -> Operation
+        ensures { result ≡ operation_at self.now place }
+    {
         self.operations
             .get(place)
             .copied()
@@ -119,13 +128,17 @@ impl Part {
 
     /// How many bytes the record at a place has.
     #[inline]
-    pub fn size(&self, place: usize) -> u64 {
+    pub fn size(&self, place: usize) -> u64
+        ensures { result ≡ number_at self.now.sizes place }
+    {
         self.sizes.at(place)
     }
 
     /// The request of the record at a place.
     #[inline]
-    pub fn request(&self, place: usize, terms: Terms) -> Request {
+    pub fn request(&self, place: usize, terms: Terms) -> Request
+        ensures { result ≡ request_at self.now terms place }
+    {
         let time = self.times.at(place);
         let size = self.sizes.at(place);
         let ttl = match terms.ttl {
@@ -154,6 +167,32 @@ pub struct Terms {
     pub weighs_sizes: bool,
     /// How long each record lives, if not as its column says.
     pub ttl: Option<u64>,
+}
+
+/// The requests that the records of a part become.
+#[derive(Clone, Copy)]
+pub struct PartRequests<'a> {
+    pub part: &'a Part,
+    pub terms: Terms,
+}
+
+impl Requests for PartRequests<'_> {
+    ghost use Rattle.std.specs.Prelude.{length};
+    ghost use Rattle.foyer_trace.specs.Trace.{request_at};
+
+    ghost nth = { λ v place. request_at v.part.now v.terms place };
+
+    ghost count = { λ v. length v.part.now.keys.items };
+
+    #[inline]
+    fn len(&self) -> usize {
+        self.part.len()
+    }
+
+    #[inline]
+    fn request(&self, place: usize) -> Request {
+        self.part.request(place, self.terms)
+    }
 }
 
 /// What is known of all records of a trace.
