@@ -63,6 +63,20 @@ def weights_and_lives(program):
 
 
 @case
+def numbers_past_32_bits(program):
+    """Times, sizes and lives whose differences have more than 32 bits, in memory and in a stream."""
+    rng = random.Random(5)
+    times = sorted(rng.randrange(2**41, 2**42) for _ in range(3000))
+    requests = [(time, key, 1 + key * 2**31) for time, key in zip(times, some_keys(3000, 60))]
+    name = program.put("l.csv", "time,key,size\n" + "".join(f"{t},{k},{s}\n" for t, k, s in requests))
+    for ttl in (None, 2**36):
+        words = ["--policy", "fifo", "--weigh", "size", "--size", str(2**37), *(["--ttl", ttl] if ttl else [])]
+        wanted = weighed_model(requests, 2**37, ttl)
+        assert wanted > 100
+        assert program.hits(name, *words) == program.hits(name, "--stream", *words) == {("fifo", 2**37): wanted}, ttl
+
+
+@case
 def operations(program):
     rows = ["get,a", "set,a", "get,a", "delete,a", "get,a", "GETS,a", "remove,b", "add,b", "read,b"]
     name = program.put("o.csv", "op,key\n" + "\n".join(rows))
@@ -126,28 +140,21 @@ def sample(program):
 @case
 def parts_and_merge(program):
     keys = some_keys(20_000, 3000)
-    name = program.put("r.keys", lines(keys))
-    words = [name, "--policy", "lru,sieve,lru:high=0.5"]
+    name = program.put("r.csv", "key,size\n" + "".join(f"{key},{1 + key % 9}\n" for key in keys))
+    words = [name, "--policy", "lru,sieve,lru:high=0.5", "--ttl", "5000"]
     exact = program.rows(*words)
     for part in range(1, 5):
         program.call(*words, "--part", f"{part}/4", "--csv", f"part{part}.csv")
     parts = [f"part{part}.csv" for part in range(1, 5)]
+    rows = [it for part in parts for it in csv.DictReader(io.StringIO((program.folder / part).read_text()))]
     merged = program.rows("--merge", *parts)
-    assert sum(int(it["requests"]) for it in merged) == len(keys) * 18
+    assert sum(int(it["requests"]) for it in merged) == len(keys) * 18 and len(merged) == len(exact) == 18
     for a, b in zip(exact, merged):
-        assert (a["policy"], a["parameters"], a["size"], a["requests"]) == (
-            b["policy"],
-            b["parameters"],
-            b["size"],
-            b["requests"],
-        )
-        hits = sum(
-            int(row["hits"])
-            for it in parts
-            for row in csv.DictReader(io.StringIO((program.folder / it).read_text()))
-            if (row["policy"], row["parameters"], row["size"]) == (a["policy"], a["parameters"], a["size"])
-        )
-        assert int(b["hits"]) == hits
+        assert all(a[it] == b[it] for it in ("policy", "parameters", "size", "requests", "bytes")), (a, b)
+        same = [it for it in rows if all(it[name] == a[name] for name in ("policy", "parameters", "size"))]
+        for count in ("hits", "misses", "miss_bytes", "evictions", "expired"):
+            assert int(b[count]) == sum(int(it[count]) for it in same), (count, b)
+    assert all(sum(int(it[count]) for it in merged) for count in ("evictions", "expired"))
     one = program.call(*words, "--csv", "one.csv")[1].split("\n\n")[1]
     assert program.call("--merge", "one.csv")[1].split("\n\n")[1].rstrip() == one.rstrip()
     program.fails(1, "bad.csv: line 1: expected a row as --csv writes it", "--merge", program.put("bad.csv", "a,b\n"))

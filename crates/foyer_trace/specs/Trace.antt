@@ -20,8 +20,8 @@ abbrev pub operation_at : Part → ℕ → Operation
 operation_at part place = slice_index_or part.operations.items place Get
 
 -- when a record of this time and life expires
-abbrev pub expiry_of : ℕ → ℕ → Option ℕ
-expiry_of time ttl = if ttl == 2 ^ 64 - 1 then None else Some (min (time + ttl) (2 ^ 64 - 1))
+abbrev pub expiry_at : ℕ → ℕ → Option ℕ
+expiry_at time ttl = if ttl == 2 ^ 64 - 1 then None else Some (min (time + ttl) (2 ^ 64 - 1))
 
 -- how long the record at a place lives
 abbrev pub life_at : Part → Option ℕ → ℕ → ℕ
@@ -39,7 +39,7 @@ request_at part terms place = record {
   key = slice_index part.keys.items place;
   time = number_at part.times place;
   weight = weight_at part terms.weighs_sizes place;
-  expiry = expiry_of (number_at part.times place) (life_at part terms.ttl place);
+  expiry = expiry_at (number_at part.times place) (life_at part terms.ttl place);
   size = number_at part.sizes place;
   operation = operation_at part place;
 }

@@ -11,7 +11,7 @@ pub mod oracle;
 pub mod rows;
 
 /// The format of a trace.
-#[derive(Clone, Copy, Debug, PartialEq, Eq)]
+#[derive(Clone, Copy, PartialEq, Eq)]
 pub enum Format {
     /// A key a line.
     Keys,

@@ -134,16 +134,8 @@ fn answer<R: AllocGlobal + Clock + Eprint + Files + Input + Print + Threads + Sy
             };
             write_zipf(alloc, zipf, &mut out)
         }
-        Task::Merge(paths) => {
-            let mut merger = Merger::new(alloc);
-            for path in paths {
-                match fs::read(rt, *path) {
-                    Ok(text) => merger.add(path, text.as_slice())?,
-                    Err(error) => return Err(Failure::of_io(alloc, path, &error)),
-                }
-            }
-            let title = outputs.title.unwrap_or("merged parts");
-            let report = merger.report(String::from_str(alloc, title)?)?;
+        Task::Merge => {
+            let report = merge(rt, alloc, matches, outputs.title.unwrap_or("merged parts"))?;
             write_report(rt, alloc, &report, words, outputs)
         }
         Task::Replay(replay) => {
@@ -151,6 +143,25 @@ fn answer<R: AllocGlobal + Clock + Eprint + Files + Input + Print + Threads + Sy
             write_report(rt, alloc, &report, words, outputs)
         }
     }
+}
+
+// Adds up the files that the words name.
+fn merge<R: AllocGlobal + Files>(
+    rt: &R,
+    alloc: Global,
+    matches: &ArgMatches<'_>,
+    title: &str,
+) -> Result<Report, Failure> {
+    let mut merger = Merger::new(alloc);
+    if let Some(paths) = matches.get_strs("trace") {
+        for path in paths {
+            match fs::read(rt, *path) {
+                Ok(text) => merger.add(path, text.as_slice())?,
+                Err(error) => return Err(Failure::of_io(alloc, path, &error)),
+            }
+        }
+    }
+    merger.report(String::from_str(alloc, title)?)
 }
 
 // Prints a text.

@@ -16,15 +16,15 @@ const SIZES: &str = "0.001,0.003,0.01,0.03,0.1,0.3";
 
 /// What is to be done.
 #[derive(Drop)]
-pub enum Task<'m, 'a> {
+pub enum Task<'a> {
     /// Print the help.
     Help,
     /// Print the version.
     Version,
     /// Replay a trace.
     Replay(Replay<'a>),
-    /// Add the CSV files of parts up.
-    Merge(&'m [&'a str]),
+    /// Add up the CSV files of parts, which stand in the place of a trace.
+    Merge,
     /// Write a synthetic trace.
     Make(&'a str),
 }
@@ -50,7 +50,7 @@ pub struct Replay<'a> {
 }
 
 /// The files that a report is written to.
-#[derive(Clone, Copy, Debug, Default)]
+#[derive(Clone, Copy)]
 pub struct Outputs<'a> {
     pub csv: Option<&'a str>,
     pub svg: Option<&'a str>,
@@ -105,10 +105,7 @@ pub fn outputs_of<'a>(matches: &ArgMatches<'a>) -> Outputs<'a> {
 }
 
 /// What the words ask for.
-pub fn task_of<'m, 'a>(
-    alloc: Global,
-    matches: &'m ArgMatches<'a>,
-) -> Result<Task<'m, 'a>, Failure> {
+pub fn task_of<'a>(alloc: Global, matches: &ArgMatches<'a>) -> Result<Task<'a>, Failure> {
     if matches.get_flag("help") {
         return Ok(Task::Help);
     }
@@ -125,7 +122,7 @@ pub fn task_of<'m, 'a>(
                 "--merge takes the files that --csv wrote"
             )?));
         }
-        return Ok(Task::Merge(traces));
+        return Ok(Task::Merge);
     }
     match traces {
         [path] => Ok(Task::Replay(replay_of(alloc, matches, path)?)),

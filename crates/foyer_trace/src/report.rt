@@ -12,7 +12,7 @@ use std::alloc::{AllocError, Global};
 use std::num::saturating_f64_to_u64;
 
 /// What one run came to.
-#[derive(Debug, Drop)]
+#[derive(Drop)]
 pub struct Row {
     pub policy: String,
     pub parameters: String,
@@ -76,7 +76,7 @@ impl Row {
 }
 
 /// Which ratio of a run is shown.
-#[derive(Clone, Copy, Debug, PartialEq, Eq)]
+#[derive(Clone, Copy)]
 pub enum Measure {
     Requests,
     Bytes,
@@ -102,7 +102,7 @@ impl Measure {
 
 /// How many requests a sample stands for, where the few hottest keys may be in it or not: its gets are taken to be the
 /// sample's part of all gets, and those that it lacks, or has beyond that, to be hits (SHARDS-adj, of the same paper).
-#[derive(Clone, Copy, Debug)]
+#[derive(Clone, Copy)]
 pub struct Scale {
     /// By what the gets of the sample are multiplied, and its bytes.
     requests: f64,

@@ -18,7 +18,7 @@ use std::thread::{self, Threads};
 use std::time::Instant;
 
 /// What a run came to.
-#[derive(Clone, Copy, Debug, Default)]
+#[derive(Clone, Copy, Default)]
 pub struct Measured {
     pub counts: Counts,
     pub seconds: f64,
@@ -108,10 +108,11 @@ fn run_one<R: Clock + Eprint>(
 {
     let mut counts = Counts::default();
     let mut left = warmup as usize;
-    for (at, part) in trace.parts.iter().enumerate() {
-        let future = future.map_or(&[][..], |future| future.part(at));
+    for (number, part) in trace.parts.iter().enumerate() {
+        let future = future.map_or(&[][..], |future| future.part(number));
         let more = runner.serve(part, future, left)?;
-        counts = sum_of(alloc, counts, more)?;
+        let sum = sum_of(alloc, counts, more)?;
+        counts = sum;
         left = left.saturating_sub(part.len());
         progress.advance(part.len() as u64);
     }

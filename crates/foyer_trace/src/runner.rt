@@ -88,12 +88,7 @@ impl Runner {
 
     /// Serves the records of a part, and returns what it counted of those after the first `skipped`. Belady's cache
     /// needs the part's future.
-    pub fn serve(
-        &mut self,
-        part: &Part,
-        future: &[u32],
-        skipped: usize,
-    ) -> Result<Counts, Failure>
+    pub fn serve(&mut self, part: &Part, future: &[u32], skipped: usize) -> Result<Counts, Failure>
         ensures terms { self.new.terms ≡ self.old.terms }
         ensures counted { IfOk result (λ counts. Serves self.old.core skipped (requests_of_part self.old.terms part.now)
             counts.hits counts.misses self.new.core) }
@@ -101,14 +96,13 @@ impl Runner {
         let terms = self.terms;
         let requests = PartRequests { part, terms };
         let departures = &mut self.departures;
-        let counts = match &mut self.core {
-            Core::Fifo(core) => replay(core, &requests, skipped, departures)?,
-            Core::Lru(core) => replay(core, &requests, skipped, departures)?,
-            Core::Lfu(core) => replay(core, &requests, skipped, departures)?,
-            Core::S3Fifo(core) => replay(core, &requests, skipped, departures)?,
-            Core::Sieve(core) => replay(core, &requests, skipped, departures)?,
-            Core::Belady(belady) => belady.serve(part, future, skipped)?,
-        };
-        Ok(counts)
+        match &mut self.core {
+            Core::Fifo(core) => Ok(replay(core, &requests, skipped, departures)?),
+            Core::Lru(core) => Ok(replay(core, &requests, skipped, departures)?),
+            Core::Lfu(core) => Ok(replay(core, &requests, skipped, departures)?),
+            Core::S3Fifo(core) => Ok(replay(core, &requests, skipped, departures)?),
+            Core::Sieve(core) => Ok(replay(core, &requests, skipped, departures)?),
+            Core::Belady(belady) => Ok(belady.serve(part, future, skipped)?),
+        }
     }
 }

@@ -62,7 +62,7 @@ impl<B: BufRead + Drop> RecordReader for AnyReader<B> {
 }
 
 /// Which keys the footprint is of.
-#[derive(Clone, Copy, Debug, PartialEq, Eq)]
+#[derive(Clone, Copy, PartialEq, Eq)]
 pub enum Footprint {
     /// It is not counted.
     Unknown,

@@ -172,16 +172,19 @@ fn push_ratios(text: &mut String, scale: Scale, measure: Measure) -> Result<(), 
 
 // The line across at a ratio, and its label.
 fn push_ratio(text: &mut String, ratio: f64, y: f64, places: usize) -> Result<(), AllocError> {
+    let (start, end) = (LEFT, RIGHT);
     let edge = LEFT - 8.0;
     let down = y + 4.5;
     write!(
         text,
-        "<line x1=\"{LEFT:.0}\" y1=\"{y:.1}\" x2=\"{RIGHT:.0}\" y2=\"{y:.1}\" stroke=\"#dddddd\"/>\n"
+        "<line x1=\"{start:.0}\" y1=\"{y:.1}\" x2=\"{end:.0}\" y2=\"{y:.1}\" stroke=\"#dddddd\"/>\n"
     )?;
     write!(
         text,
-        "<text x=\"{edge:.0}\" y=\"{down:.1}\" text-anchor=\"end\">{ratio:.places$}</text>\n"
-    )
+        "<text x=\"{edge:.0}\" y=\"{down:.1}\" text-anchor=\"end\">"
+    )?;
+    write!(text, "{ratio:.places$}")?;
+    text.push_str("</text>\n")
 }
 
 // The axis of sizes, by powers of ten; between them by 2 and 5 where there is room.
