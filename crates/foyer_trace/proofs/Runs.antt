@@ -1,9 +1,14 @@
 -- What one more part of a trace adds to a run.
-use Rattle.std.proofs.Common.{◌≡◌, ◌+◌, ◌-◌, ℕ, List, [], ◌++◌, length, arith, refl, subst, tt}
+use Rattle.std.proofs.Common.{◌≡◌, ◌∙◌, ◌+◌, ◌-◌, ◌<◌, ℕ, List, [], ◌∷◌, ◌++◌, drop, length, ap, arith, refl, subst, sym}
+use Rattle.std.proofs.lemmas.List.{drop_more}
+use Rattle.std.specs.Prelude.{slice_index_or}
 use Rattle.foyer_replay.proofs.Counting.{counted_joined, counted_none}
 use Rattle.foyer_replay.specs.Replay.{serves_of}
 use Rattle.foyer_replay.specs.declared.request.Request.{Request}
 use Rattle.foyer_trace.specs.Runs.{Serves}
+use Rattle.foyer_trace.specs.Trace.{requests_of, requests_of_part}
+use Rattle.foyer_trace.specs.declared.trace.Part.{Part}
+use Rattle.foyer_trace.specs.declared.trace.Terms.{Terms}
 use Rattle.foyer_trace.specs.declared.runner.Core.{Core}
 use Rattle.foyer_trace.specs.declared.runner.Core.TheVariants.{Fifo, Lru, Lfu, S3Fifo, Sieve, Belady}
 
@@ -21,20 +26,20 @@ pub serves_joined : (skipped : ℕ) (xs ys : List Request) (hits misses hits' mi
     Serves old skipped xs hits misses mid → Serves mid (skipped - length xs) ys hits' misses' new →
     Serves old skipped (xs ++ ys) (hits + hits') (misses + misses') new
 serves_joined skipped xs ys hits misses hits' misses' (Fifo old) mid new (next, is, first) second =
-    let then = subst (λ m. Serves m (skipped - length xs) ys hits' misses' new) is second in
-    (then.0, then.1, counted_joined (serves_of old) skipped xs ys hits misses hits' misses' _ _ _ first then.2)
+    let more = subst (λ m. Serves m (skipped - length xs) ys hits' misses' new) is second in
+    (more.0, more.1, counted_joined (serves_of old) skipped xs ys hits misses hits' misses' _ _ _ first more.2)
 serves_joined skipped xs ys hits misses hits' misses' (Lru old) mid new (next, is, first) second =
-    let then = subst (λ m. Serves m (skipped - length xs) ys hits' misses' new) is second in
-    (then.0, then.1, counted_joined (serves_of old) skipped xs ys hits misses hits' misses' _ _ _ first then.2)
+    let more = subst (λ m. Serves m (skipped - length xs) ys hits' misses' new) is second in
+    (more.0, more.1, counted_joined (serves_of old) skipped xs ys hits misses hits' misses' _ _ _ first more.2)
 serves_joined skipped xs ys hits misses hits' misses' (Lfu old) mid new (next, is, first) second =
-    let then = subst (λ m. Serves m (skipped - length xs) ys hits' misses' new) is second in
-    (then.0, then.1, counted_joined (serves_of old) skipped xs ys hits misses hits' misses' _ _ _ first then.2)
+    let more = subst (λ m. Serves m (skipped - length xs) ys hits' misses' new) is second in
+    (more.0, more.1, counted_joined (serves_of old) skipped xs ys hits misses hits' misses' _ _ _ first more.2)
 serves_joined skipped xs ys hits misses hits' misses' (S3Fifo old) mid new (next, is, first) second =
-    let then = subst (λ m. Serves m (skipped - length xs) ys hits' misses' new) is second in
-    (then.0, then.1, counted_joined (serves_of old) skipped xs ys hits misses hits' misses' _ _ _ first then.2)
+    let more = subst (λ m. Serves m (skipped - length xs) ys hits' misses' new) is second in
+    (more.0, more.1, counted_joined (serves_of old) skipped xs ys hits misses hits' misses' _ _ _ first more.2)
 serves_joined skipped xs ys hits misses hits' misses' (Sieve old) mid new (next, is, first) second =
-    let then = subst (λ m. Serves m (skipped - length xs) ys hits' misses' new) is second in
-    (then.0, then.1, counted_joined (serves_of old) skipped xs ys hits misses hits' misses' _ _ _ first then.2)
+    let more = subst (λ m. Serves m (skipped - length xs) ys hits' misses' new) is second in
+    (more.0, more.1, counted_joined (serves_of old) skipped xs ys hits misses hits' misses' _ _ _ first more.2)
 serves_joined skipped xs ys hits misses hits' misses' (Belady old) mid new first second = tt
 
 -- with what the rest of the requests comes to, these counts are those of all
@@ -46,10 +51,13 @@ Completes skipped all left rest hits misses start now = (h n : ℕ) (end : Core)
 pub completes_start : (skipped : ℕ) (all : List Request) (left : ℕ) (rest : List Request) (hits misses : ℕ)
     (start now : Core) → left ≡ skipped → rest ≡ all → hits ≡ 0 → misses ≡ 0 → now ≡ start →
     Completes skipped all left rest hits misses start now
-completes_start skipped all left rest hits misses start now same whole none empty at h n end served =
+completes_start skipped all left rest hits misses start now same whole none empty begun h n end served =
     let hs : hits + h ≡ h = omega (arith, none) in
     let ns : misses + n ≡ n = omega (arith, empty) in
-    rw (hs, ns, ← same, ← whole) (subst (λ s. Serves s left rest h n end) at served)
+    subst (λ x. Serves start x all (hits + h) (misses + n) end) same
+    (subst (λ xs. Serves start left xs (hits + h) (misses + n) end) whole
+    (subst (λ x. Serves start left rest x (misses + n) end) (sym hs)
+    (subst (λ x. Serves start left rest h x end) (sym ns) (subst (λ s. Serves s left rest h n end) begun served))))
 
 -- one more part is served
 pub completes_more : (skipped : ℕ) (all : List Request) (left : ℕ) (part rest : List Request)
@@ -61,8 +69,9 @@ completes_more skipped all left part rest hits misses hits' misses' more less st
     counted =
     let hs : hits' + h ≡ hits + (more + h) = omega (arith, hit) in
     let ns : misses' + n ≡ misses + (less + n) = omega (arith, miss) in
-    rw (hs, ns) (before (more + h) (less + n) end
-    (serves_joined left part rest more less h n now next end served counted))
+    subst (λ x. Serves start skipped all x (misses' + n) end) (sym hs)
+    (subst (λ x. Serves start skipped all (hits + (more + h)) x end) (sym ns)
+    (before (more + h) (less + n) end (serves_joined left part rest more less h n now next end served counted)))
 
 -- all are served
 pub completes_end : (skipped : ℕ) (all : List Request) (left : ℕ) (rest : List Request) (hits misses : ℕ)
@@ -71,4 +80,13 @@ pub completes_end : (skipped : ℕ) (all : List Request) (left : ℕ) (rest : Li
 completes_end skipped all left rest hits misses start now none complete =
     let hs : hits + 0 ≡ hits = omega arith in
     let ns : misses + 0 ≡ misses = omega arith in
-    rw (hs, ns) at (complete 0 0 now (rw none (serves_none left now)))
+    subst (λ x. Serves start skipped all x misses now) hs
+    (subst (λ x. Serves start skipped all (hits + 0) x now) ns
+    (complete 0 0 now (subst (λ xs. Serves now left xs 0 0 now) (sym none) (serves_none left now))))
+
+-- the parts from a place on begin with the one there
+pub requests_more : (terms : Terms) (parts : List Part) (n : ℕ) (part : Part) → n < length parts →
+    part ≡ slice_index_or parts n part →
+    requests_of terms (drop n parts) ≡ requests_of_part terms part ++ requests_of terms (drop (n + 1) parts)
+requests_more terms parts n part less read =
+    ap (requests_of terms) (drop_more parts n part less ∙ ap (λ (p : Part). p ∷ drop (n + 1) parts) (sym read))
