@@ -1,4 +1,4 @@
-//! A new cache behind locks, its end, and an insert behind a refused resize.
+//! A new cache behind locks, its end, and inserts: behind a refused resize, and without an id.
 
 use super::Runtime;
 use super::caches::{Locked, Shared, empty, look, prepared};
@@ -7,7 +7,9 @@ use super::notes::{Note, Notes};
 use crate::cores::weighing;
 use crate::kept::{Filled, SHARDED};
 use crate::word::Shown;
-use foyer_policy::{Event, Result};
+use foyer_core::{AdmitAll, Limits, RawCacheConfig, UnitWeighter};
+use foyer_policy::{Event, Fifo, FifoConfig, ModHasher, Result};
+use foyer_raw::{NoListener, RawCache};
 
 /// Shows the call of this name, where it is one of these.
 pub fn shown<H: Runtime>(rt: H, policy: &str, name: &str) -> Option<Shown> {
@@ -16,6 +18,7 @@ pub fn shown<H: Runtime>(rt: H, policy: &str, name: &str) -> Option<Shown> {
         "locked_new_4" => Some(opened(rt, policy, 4)),
         "locked_resize_then_insert" => Some(resized(rt, policy)),
         "locked_drop" => Some(dropped(rt, policy)),
+        "locked_insert_without_ids" => Some(without_ids(rt)),
         _ => None,
     }
 }
@@ -108,4 +111,23 @@ fn dropped<H: Runtime>(rt: H, policy: &str) -> Shown {
         return Shown::Done.or_behind(rt.alloc());
     }
     Shown::Wrong("who is told")
+}
+
+// An insert for which no id is left is refused for that, also where there is no memory for its record.
+fn without_ids<H: Runtime>(rt: H) -> Shown {
+    let config: RawCacheConfig<FifoConfig, ModHasher, UnitWeighter, AdmitAll> = RawCacheConfig {
+        limits: Limits {
+            ids: 0,
+            ..Limits::default()
+        },
+        ..RawCacheConfig::new(4)
+    };
+    let made = RawCache::new(rt, rt.alloc(), config, NoListener::new());
+    let Ok(cache): Result<RawCache<H, Fifo, u64, u64, ModHasher>> = made else {
+        return Shown::Early;
+    };
+    match cache.insert(0, 1, 10) {
+        Err(error) if error.number() == 10 => Shown::Done,
+        _ => Shown::Wrong("the refusal of an insert without an id"),
+    }
 }
