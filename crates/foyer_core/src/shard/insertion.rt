@@ -54,8 +54,10 @@ impl<E: Eviction, K: Key, V: Value, P: Properties, N: Drop, R: Drop, I: Finder<K
     ) -> Result<InsertedOnto<K, V, P, N>>
         requires clones { (k c : K) → K.is_clone k c → K.eq c k ≡ true }
         ensures inserted { let handles = 1 + waiting_for (opens_of self.old) (key_of kept) in GoesOn leaves.old.items leaves.new.items (λ ls. MatchResult result
-            (λ made. Inserts (at_moment now (meaning_of self.old)) source (state_of self.old) (newcomer (state_of self.old) kept handles) ls made.entry (state_of self.new))
-            (λ error. RefusesInsert (at_moment now (meaning_of self.old)) (state_of self.old) (newcomer (state_of self.old) kept handles) error ls (state_of self.new))) }
+            (λ made. Inserts (at_moment now (meaning_of self.old)) source (state_of self.old)
+            (newcomer (state_of self.old) kept handles) ls made.entry (state_of self.new))
+            (λ error. RefusesInsert (at_moment now (meaning_of self.old)) (state_of self.old)
+            (newcomer (state_of self.old) kept handles) error ls (state_of self.new))) }
         ensures given { IfOk result (λ made. made.entry.kept ≡ kept) }
         ensures answers { IfOk result (λ made. AnswersEach (waiters_of ((opens_of self.old).by_key (key_of made.entry.kept))) made.entry made.answers) }
         ensures closed { IfOk result (λ made. opens_of self.new ≡ closed K.eq (opens_of self.old) (key_of made.entry.kept)) }
@@ -103,8 +105,10 @@ impl<E: Eviction, K: Key, V: Value, P: Properties, N: Drop, R: Drop, I: Finder<K
     ) -> Result<InsertedOnto<K, V, P, N>>
         requires clones { (k c : K) → K.is_clone k c → K.eq c k ≡ true }
         ensures inserted { let handles = 1 + waiting_for (opens_of self.old) (key_of kept) in GoesOn leaves.old.items leaves.new.items (λ ls. MatchResult result
-            (λ made. Inserts (at_moment now (meaning_of self.old)) source (state_of self.old) (newcomer (state_of self.old) kept handles) ls made.entry (state_of self.new))
-            (λ error. RefusesInsert (at_moment now (meaning_of self.old)) (state_of self.old) (newcomer (state_of self.old) kept handles) error ls (state_of self.new))) }
+            (λ made. Inserts (at_moment now (meaning_of self.old)) source (state_of self.old)
+            (newcomer (state_of self.old) kept handles) ls made.entry (state_of self.new))
+            (λ error. RefusesInsert (at_moment now (meaning_of self.old)) (state_of self.old)
+            (newcomer (state_of self.old) kept handles) error ls (state_of self.new))) }
         ensures given { IfOk result (λ made. made.entry.kept ≡ kept) }
         ensures answers { IfOk result (λ made. AnswersEach (waiters_of ((opens_of self.old).by_key (key_of made.entry.kept))) made.entry made.answers) }
         ensures closed { IfOk result (λ made. opens_of self.new ≡ closed K.eq (opens_of self.old) (key_of made.entry.kept)) }
@@ -154,8 +158,10 @@ impl<E: Eviction, K: Key, V: Value, P: Properties, N: Drop, R: Drop, I: Finder<K
         requires alone { (k : ℕ × K) → (opens_of self.old).by_key k ≡ None }
         requires of { entry.old.kept ≡ kept }
         ensures inserted { GoesOn leaves.old.items leaves.new.items (λ ls. MatchResult result
-            (λ _. Inserts (at_moment now (meaning_of self.old)) entry.old.source (state_of self.old) (newcomer (state_of self.old) kept 1) ls (whole entry.new) (state_of self.new))
-            (λ error. RefusesInsert (at_moment now (meaning_of self.old)) (state_of self.old) (newcomer (state_of self.old) kept 1) error ls (state_of self.new))) }
+            (λ _. Inserts (at_moment now (meaning_of self.old)) entry.old.source (state_of self.old)
+            (newcomer (state_of self.old) kept 1) ls (whole entry.new) (state_of self.new))
+            (λ error. RefusesInsert (at_moment now (meaning_of self.old)) (state_of self.old)
+            (newcomer (state_of self.old) kept 1) error ls (state_of self.new))) }
         ensures stays { entry.new ≡ record entry.old { number = entry.new.number; id = entry.new.id } }
         ensures opens { opens_of self.new ≡ opens_of self.old }
     {
@@ -175,8 +181,10 @@ impl<E: Eviction, K: Key, V: Value, P: Properties, N: Drop, R: Drop, I: Finder<K
     ) -> Result<InsertedOnto<K, V, P, N>>
         requires clones { (k c : K) → K.is_clone k c → K.eq c k ≡ true }
         ensures inserted { let handles = 1 + waiting_for (opens_of self.old) (key_of kept) in GoesOn leaves.old.items leaves.new.items (λ ls. MatchResult result
-            (λ made. Inserts (at_moment now (meaning_of self.old)) source (state_of self.old) (newcomer (state_of self.old) kept handles) ls made.entry (state_of self.new))
-            (λ error. RefusesInsert (at_moment now (meaning_of self.old)) (state_of self.old) (newcomer (state_of self.old) kept handles) error ls (state_of self.new))) }
+            (λ made. Inserts (at_moment now (meaning_of self.old)) source (state_of self.old)
+            (newcomer (state_of self.old) kept handles) ls made.entry (state_of self.new))
+            (λ error. RefusesInsert (at_moment now (meaning_of self.old)) (state_of self.old)
+            (newcomer (state_of self.old) kept handles) error ls (state_of self.new))) }
         ensures given { IfOk result (λ made. made.entry.kept ≡ kept) }
         ensures answers { IfOk result (λ made. AnswersEach (waiters_of ((opens_of self.old).by_key (key_of made.entry.kept))) made.entry made.answers) }
         ensures closed { IfOk result (λ made. opens_of self.new ≡ closed K.eq (opens_of self.old) (key_of made.entry.kept)) }

@@ -97,8 +97,10 @@ impl<E: Eviction, K: Key, V: Value, P: Properties, I: Finder<K>> Store<E, K, V, 
         requires clones { (k c : K) → K.is_clone k c → K.eq c k ≡ true }
         requires of { entry.old.kept ≡ kept }
         ensures inserted { GoesOn leaves.old.items leaves.new.items (λ ls. MatchResult result
-            (λ _. Inserts (at_moment now (meaning_of self.old)) entry.old.source (state_of self.old) (newcomer (state_of self.old) kept 1) ls (whole entry.new) (state_of self.new))
-            (λ error. RefusesInsert (at_moment now (meaning_of self.old)) (state_of self.old) (newcomer (state_of self.old) kept 1) error ls (state_of self.new))) }
+            (λ _. Inserts (at_moment now (meaning_of self.old)) entry.old.source (state_of self.old)
+            (newcomer (state_of self.old) kept 1) ls (whole entry.new) (state_of self.new))
+            (λ error. RefusesInsert (at_moment now (meaning_of self.old)) (state_of self.old)
+            (newcomer (state_of self.old) kept 1) error ls (state_of self.new))) }
         ensures stays { entry.new ≡ record entry.old { number = entry.new.number; id = entry.new.id } }
     {
         if let Some(reason) = self.share_refusal(&kept, 0) {

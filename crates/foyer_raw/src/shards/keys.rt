@@ -150,8 +150,8 @@ where
         self.lock(hash).shard.refuses_get(now, hash, key)
     }
 
-    // Counts an insert that is refused for want of memory, and returns its error: why it would be refused now, whatever memory
-    // there is, or F7.
+    // Counts an insert that is refused because memory ran out, and returns its error: F10, F9 or F8 if it has one of these now,
+    // or else F7.
     #[cold]
     #[inline(never)]
     pub(crate) fn refuse_insert(&self, hash: u64, key: &K, properties: &P, weight: usize) -> Error {
