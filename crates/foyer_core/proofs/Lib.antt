@@ -26,6 +26,7 @@ pub mod FetchesOver
 pub mod FindLemmas
 pub mod Forgetting
 pub mod Found
+pub mod LookLemmas
 pub mod GaveLemmas
 pub mod GivingBack
 pub mod Handles

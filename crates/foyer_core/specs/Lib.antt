@@ -6,6 +6,7 @@ pub mod Dropping
 pub mod Fetching
 pub mod FetchLaws
 pub mod Flags
+pub mod Looks
 pub mod Chains
 pub mod Entries
 pub mod Idle

@@ -7,7 +7,7 @@ ghost use Rattle.foyer_core.specs.Values.{body_of};
 
 use crate::piece::Piece;
 use crate::share::{Body, Share};
-use foyer_policy::{Event, Result, Source};
+use foyer_policy::{Error, Event, Reason, Result, Source};
 use std::alloc::Global;
 use std::marker::Model;
 use std::sync::Arc;
@@ -126,26 +126,38 @@ impl<K, V, P> Model for CoreEntry<K, V, P> {
 }
 
 impl<K: Drop, V: Drop, P: Drop> CoreEntry<K, V, P> {
+    /// Returns an entry of a record that is to be inserted with this share of its data. It is nobody's until then.
+    ///
+    /// If `told`, it gets a share for `left`. Returns nothing if the reference count is full.
+    #[inline(always)]
+    pub fn of_share(kept: &Share<K, V, P>, source: Source, told: bool) -> Option<Self>
+        ensures { IfSome result (λ e. (e.kept ≡ kept.now) × ((e.source ≡ source) × (e.left ≡ told))) }
+    {
+        CoreEntry::new(0, 0, 0, kept, source, told)
+    }
+
+    // Returns an entry of the record with this share of its data, not yet counted. If `told`, it gets a share for `left`.
+    // Returns nothing if the reference count is full.
     #[inline(always)]
     pub(crate) fn new(
         number: u64,
         id: u64,
         slot: usize,
-        kept: Share<K, V, P>,
-        left: Arc<Body<K, V, P>, Global>,
+        kept: &Share<K, V, P>,
         source: Source,
-    ) -> Self
-        requires { arc_value left ≡ body_of kept }
-        ensures { result ≡ record { number = number; id = id; kept = kept; source = source; left = true } }
+        told: bool,
+    ) -> Option<Self>
+        ensures { IfSome result (λ e. e ≡ record { number = number; id = id; kept = kept.now; source = source; left = told }) }
     {
-        CoreEntry {
+        let left = if told { Some(kept.body()?) } else { None };
+        Some(CoreEntry {
             number,
             id,
             slot,
-            kept,
-            left: Some(left),
+            kept: kept.another()?,
+            left,
             source,
-        }
+        })
     }
 
     // The number of the core that made the entry.
@@ -169,6 +181,16 @@ impl<K: Drop, V: Drop, P: Drop> CoreEntry<K, V, P> {
     pub(crate) fn set_slot(&mut self, slot: usize)
         ensures { self.new ≡ self.old }
     {
+        self.slot = slot;
+    }
+
+    // Sets where the record stands: the number of the core, the record's id and its slot.
+    #[inline(always)]
+    pub(crate) fn set_place(&mut self, number: u64, id: u64, slot: usize)
+        ensures { self.new ≡ record self.old { number = number; id = id } }
+    {
+        self.number = number;
+        self.id = id;
         self.slot = slot;
     }
 
@@ -260,9 +282,10 @@ impl<K: Drop, V: Drop, P: Drop> CoreEntry<K, V, P> {
         ensures entry { IfOk result (λ e. e ≡ record self.now { left = true }) }
         ensures refused { IfErr result (λ e. e ≡ NoMemory) }
     {
-        let kept = self.kept.try_clone()?;
-        let left = self.kept.body()?;
-        Ok(CoreEntry::new(self.number, self.id, slot, kept, left, self.source))
+        match CoreEntry::new(self.number, self.id, slot, &self.kept, self.source, true) {
+            Some(entry) => Ok(entry),
+            None => Err(Error::new(Reason::NoMemory)),
+        }
     }
 
     /// Discards an entry whose core is gone. No core changes.

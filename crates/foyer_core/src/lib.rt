@@ -31,13 +31,15 @@ pub use finder::{Finder, Indexed, TagFinder};
 pub use indexer::{HashTableIndexer, Indexer, Sentry};
 pub use inflight::{Enqueue, FetchOrTake, InflightManager};
 pub use outcome::{
-    Answers, Ended, FetchTarget, Inserted, InsertedOnto, Lookup, Outcome, Refused, Waiting,
+    Answers, Ended, FetchTarget, Foreign, Got, Inserted, InsertedOnto, Lookup, Outcome, Refused,
+    Waiting,
 };
 pub use piece::Piece;
 pub use properties::{CacheProperties, marked};
 pub use record::{Data, Flags, Limits, Record};
 pub use rules::Rules;
 pub use shard::Shard;
+pub use share::Share;
 pub use stats::{Counted, Stats};
 pub use tags::Tags;
 pub use weighter::{UnitWeighter, Weighter};

@@ -1,6 +1,7 @@
 //! What inserts, look-ups and ends of fetches return.
 
 ghost use Rattle.std.specs.Prelude.{◌≡◌, ◌+◌, ◌≤◌, [], Err, IfOk, MatchResult, Ok, Some, true, vec_len, vec_capacity};
+ghost use Rattle.foyer_core.specs.Looks.{look_of};
 ghost use Rattle.foyer_core.specs.Onto.{shared_out};
 ghost use Rattle.foyer_core.specs.Waited.{ending_of, entries_in, got_of, handed_out, lost};
 
@@ -135,6 +136,37 @@ impl<K, V, P, N> Answers<K, V, P, N> {
             Outcome::Fault(error) => Err(error),
         };
         (waiters, got)
+    }
+}
+
+/// An entry that isn't the shard's.
+#[derive(Clone, Copy)]
+pub struct Foreign;
+
+/// What a look-up finds.
+pub enum Got<K, V, P> {
+    /// An entry of the key's record.
+    Hit(CoreEntry<K, V, P>),
+    /// Nothing.
+    Miss,
+    /// A record that has as many handles as it may: F9.
+    Full,
+    /// A record, but a reference count is full: F7.
+    OutOfMemory,
+}
+
+impl<K, V, P> Got<K, V, P> {
+    /// Returns the entry, if there is one, or the refusal.
+    #[inline(always)]
+    pub fn into_result(self) -> Result<Option<CoreEntry<K, V, P>>, Error>
+        ensures { result ≡ look_of self }
+    {
+        match self {
+            Got::Hit(entry) => Ok(Some(entry)),
+            Got::Miss => Ok(None),
+            Got::Full => Err(Error::new(Reason::Handles)),
+            Got::OutOfMemory => Err(Error::new(Reason::NoMemory)),
+        }
     }
 }
 

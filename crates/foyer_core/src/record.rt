@@ -91,7 +91,10 @@ impl<K: Drop, V: Drop, P: Drop> Record<K, V, P> {
         ensures made { IfOk result (λ r. (r.kept ≡ kept) × (r.place ≡ None) × (r.handles ≡ 0) × (bits_of r.flags ≡ 0)) }
         ensures refused { IfErr result (λ e. e ≡ NoMemory) }
     {
-        Ok(Record::of_share(Share::new(alloc, kept)?, 0))
+        match Share::new(alloc, kept) {
+            Ok(share) => Ok(Record::of_share(share, 0)),
+            Err(_) => Err(Error::new(Reason::NoMemory)),
+        }
     }
 
     // A record with this share of its data, so many handles and no flags.

@@ -1,6 +1,6 @@
 //! Shares of the data of records.
 
-ghost use Rattle.std.specs.Prelude.{◌≡◌, IfOk, IfErr};
+ghost use Rattle.std.specs.Prelude.{◌≡◌, IfOk, IfErr, IfSome};
 ghost use Rattle.std.specs.Arc.{arc_value};
 ghost use Rattle.foyer_policy.specs.declared.error.Reason.TheVariants.{NoMemory};
 ghost use Rattle.foyer_core.specs.Values.{body_of, kept_of};
@@ -39,18 +39,15 @@ impl<K, V, P> Model for Share<K, V, P> {
 }
 
 impl<K, V, P> Share<K, V, P> {
-    /// Creates the first share of these data.
-    ///
-    /// # Errors
-    /// F7 if memory runs out.
+    /// Creates the first share of these data. If memory runs out, they come back as `Err`.
     #[inline(always)]
-    pub fn new(alloc: Global, kept: Data<K, V, P>) -> Result<Self>
+    pub fn new(alloc: Global, kept: Data<K, V, P>) -> std::result::Result<Self, Data<K, V, P>>
     where
         K: Drop,
         V: Drop,
         P: Drop,
         ensures made { IfOk result (λ s. s ≡ kept) }
-        ensures refused { IfErr result (λ e. e ≡ NoMemory) }
+        ensures returned { IfErr result (λ e. e ≡ kept) }
     {
         let Data {
             key,
@@ -68,7 +65,20 @@ impl<K, V, P> Share<K, V, P> {
             },
         ) {
             Ok(body) => Ok(Share { body, hash, weight }),
-            Err(_) => Err(Error::new(Reason::NoMemory)),
+            Err(failed) => {
+                let Body {
+                    key,
+                    value,
+                    properties,
+                } = failed.value;
+                Err(Data {
+                    key,
+                    value,
+                    properties,
+                    hash,
+                    weight,
+                })
+            }
         }
     }
 
@@ -88,19 +98,24 @@ impl<K, V, P> Share<K, V, P> {
         Share { body, hash, weight }
     }
 
-    /// Returns one more reference to the body.
-    ///
-    /// # Errors
-    /// F7 if the reference count is full.
+    /// Returns one more reference to the body, or nothing if the reference count is full.
     #[inline(always)]
-    pub fn body(&self) -> Result<Arc<Body<K, V, P>, Global>>
-        ensures body { IfOk result (λ body. arc_value body ≡ body_of self.now) }
-        ensures refused { IfErr result (λ e. e ≡ NoMemory) }
+    pub fn body(&self) -> Option<Arc<Body<K, V, P>, Global>>
+        ensures { IfSome result (λ body. arc_value body ≡ body_of self.now) }
     {
-        match Arc::try_clone(&self.body) {
-            Ok(body) => Ok(body),
-            Err(_) => Err(Error::new(Reason::NoMemory)),
-        }
+        Arc::try_clone(&self.body).ok()
+    }
+
+    /// Returns one more share, or nothing if the reference count is full.
+    #[inline(always)]
+    pub fn another(&self) -> Option<Self>
+        ensures { IfSome result (λ s. s ≡ self.now) }
+    {
+        Some(Share {
+            body: self.body()?,
+            hash: self.hash,
+            weight: self.weight,
+        })
     }
 
     /// Returns one more share.
@@ -112,11 +127,10 @@ impl<K, V, P> Share<K, V, P> {
         ensures share { IfOk result (λ s. s ≡ self.now) }
         ensures refused { IfErr result (λ e. e ≡ NoMemory) }
     {
-        Ok(Share {
-            body: self.body()?,
-            hash: self.hash,
-            weight: self.weight,
-        })
+        match self.another() {
+            Some(share) => Ok(share),
+            None => Err(Error::new(Reason::NoMemory)),
+        }
     }
 
     #[inline(always)]

@@ -1,6 +1,6 @@
 //! Slots: where a shard keeps its records.
 
-ghost use Rattle.std.specs.Prelude.{◌≡◌, ◌+◌, ◌-◌, ◌<◌, ◌≤◌, ◌^◌, IfOk, IfErr, OnErr, OnOk, true, false, IsTrue, Some, None, replicate, vec_len, vec_capacity};
+ghost use Rattle.std.specs.Prelude.{◌≡◌, ◌+◌, ◌-◌, ◌<◌, ◌≤◌, ◌^◌, IfOk, IfErr, IfSome, OnErr, OnOk, true, false, IsTrue, Some, None, replicate, vec_len, vec_capacity};
 ghost use Rattle.foyer_policy.specs.declared.error.Reason.TheVariants.{NoMemory};
 
 use crate::entry::{CoreEntry, Left, discard_all};
@@ -57,7 +57,9 @@ impl<K: Drop, V: Drop, P: Drop> Slot<K, V, P> {
         ensures came { OnOk result (self.new ≡ record self.old { resident = true }) }
         ensures refused { IfErr result (λ e. e ≡ NoMemory) }
     {
-        let body = self.kept.body()?;
+        let Some(body) = self.kept.body() else {
+            return Err(Error::new(Reason::NoMemory));
+        };
         self.leave = Some(body);
         Ok(())
     }
@@ -143,18 +145,19 @@ impl<K: Drop, V: Drop, P: Drop> Slot<K, V, P> {
         self.leave.is_some()
     }
 
-    /// Returns an entry of the record, not yet counted.
-    ///
-    /// # Errors
-    /// F7 if the reference count is full.
+    /// Returns an entry of the record, not yet counted, or nothing if the reference count is full. If `told`, it gets a share
+    /// for `left`.
     #[inline(always)]
-    pub fn entry(&self, number: u64, slot: usize, source: Source) -> Result<CoreEntry<K, V, P>>
-        ensures entry { IfOk result (λ e. e ≡ record { number = number; id = self.now.id; kept = self.now.kept; source = source; left = true }) }
-        ensures refused { IfErr result (λ e. e ≡ NoMemory) }
+    pub fn entry(
+        &self,
+        number: u64,
+        slot: usize,
+        source: Source,
+        told: bool,
+    ) -> Option<CoreEntry<K, V, P>>
+        ensures { IfSome result (λ e. e ≡ record { number = number; id = self.now.id; kept = self.now.kept; source = source; left = told }) }
     {
-        let share = self.kept.try_clone()?;
-        let left = self.kept.body()?;
-        Ok(CoreEntry::new(number, self.id, slot, share, left, source))
+        CoreEntry::new(number, self.id, slot, &self.kept, source, told)
     }
 
     /// Returns entries of the record, not yet counted, in a list with spare room, both as `further` says.
@@ -179,11 +182,11 @@ impl<K: Drop, V: Drop, P: Drop> Slot<K, V, P> {
             return Err(Error::new(Reason::NoMemory));
         };
         for _made in 0..further.count {
-            match self.entry(number, 0, source) {
-                Ok(entry) => entries.push_reserved(entry),
-                Err(error) => {
+            match self.entry(number, 0, source, true) {
+                Some(entry) => entries.push_reserved(entry),
+                None => {
                     discard_all(entries);
-                    return Err(error);
+                    return Err(Error::new(Reason::NoMemory));
                 }
             }
         }

@@ -1,6 +1,6 @@
 //! The futures of flushes.
 
-ghost use Rattle.std.specs.Prelude.{◌≡◌, IfSome, IsSomeAnd, MatchOption, Ok, Err};
+ghost use Rattle.std.specs.Prelude.{◌≡◌, IfSome, IsSomeAnd, MatchOption, MatchResult, None, Some, Ok, Err};
 
 use foyer_policy::{Error, Result};
 use futures::Future;
@@ -23,6 +23,7 @@ impl<F: Future<Output = ()>> Flush<F> {
     pub(crate) fn new(inner: Option<F>, done: Result<()>) -> Self
         requires { IfSome inner F.can_poll }
         ensures inner { result.inner ≡ inner }
+        ensures refused { MatchResult done (λ _. result.refused ≡ None) (λ e. result.refused ≡ Some e) }
     {
         Flush {
             inner,

@@ -7,6 +7,7 @@ pub mod entry;
 mod expiry;
 pub mod fetch;
 pub mod flush;
+mod leaves;
 pub mod listener;
 pub mod pipe;
 pub mod runtime;

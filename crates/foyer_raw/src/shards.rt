@@ -88,7 +88,7 @@ where
     pub(crate) fn finish<L: EventListener<Key = K, Value = V>>(self, listener: &L) {
         let Shards { all, .. } = self;
         for shard in all {
-            let Counting { shard, stats: _ } = shard.into_inner();
+            let shard = shard.into_inner().into_shard();
             shard.finish(&|key: &K, value: &V| listener.on_leave(Event::Clear, key, value));
         }
     }
@@ -150,7 +150,7 @@ fn locked<E: Eviction, K: Key, V: Value, P: Properties, R: Drop, I: Finder<K>>(
 {
     let mut all = Vec::new(alloc);
     for shard in made {
-        all.push(Mutex::new(Counting::new(shard)))?;
+        all.push(Mutex::new(Counting::new(alloc, shard)))?;
     }
     Ok(all)
 }

@@ -4,6 +4,7 @@ ghost use Rattle.std.specs.Prelude.{◌≡◌, IfSome};
 
 use crate::entry::RawCacheEntry;
 use crate::flush::Flush;
+use crate::leaves::Leaves;
 use crate::listener::tell;
 use crate::pipe::Pipe;
 use crate::shards::RawEnded;
@@ -107,6 +108,23 @@ where
         for leave in leaves {
             self.tell(leave);
         }
+    }
+
+    // Tells what left with a call, in order.
+    #[inline(always)]
+    pub(crate) fn tell_leaves(&self, leaves: Leaves<K, V, P>) {
+        let Leaves {
+            first,
+            second,
+            more,
+        } = leaves;
+        if let Some(leave) = first {
+            self.tell(leave);
+        }
+        if let Some(leave) = second {
+            self.tell(leave);
+        }
+        self.tell_all(more);
     }
 
     // Takes a handle back under its shard's lock, and then tells what left with it.

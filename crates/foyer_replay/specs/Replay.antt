@@ -1,9 +1,21 @@
--- What a replay makes of a core: the outcome of each request by the core's model, and how many of a kind there are.
-use Rattle.std.specs.Prelude.{◌≡◌, ℕ, ◌+◌, Bool, true, false, List, [], ◌∷◌, Option, None, Some, Ok}
+-- What a request makes of a core, and its outcome, by the core's model.
+use Rattle.std.specs.Prelude.{◌≡◌, ℕ, Bool, true, false, List, Option, None, Some, Ok}
+use Rattle.std.specs.declared.cmp.PartialEq.{Ghosts as EqGhosts}
+use Rattle.std.specs.declared.hash.Hash.{Ghosts as HashGhosts}
+use Rattle.std.specs.declared.clone.Clone.{Ghosts as CloneGhosts}
+use Rattle.std.specs.declared.default.Default.{Ghosts as DefaultGhosts}
+use Rattle.foyer_policy.specs.declared.eviction.Eviction.{Ghosts as EvictionGhosts}
+use Rattle.foyer_policy.specs.declared.hash.HashBuilder.{Ghosts as HashBuilderGhosts}
+use Rattle.foyer_policy.specs.declared.properties.Properties.{Ghosts as PropertiesGhosts}
 use Rattle.foyer_policy.specs.declared.types.Event.{Event}
 use Rattle.foyer_policy.specs.declared.types.Hint.TheVariants.{Normal}
 use Rattle.foyer_policy.specs.declared.types.Source.TheVariants.{Outer}
+use Rattle.foyer_core.specs.declared.cache_core.CacheCore.{CacheCore}
+use Rattle.foyer_core.specs.declared.filter.Filter.{Ghosts as FilterGhosts}
+use Rattle.foyer_core.specs.declared.finder.Finder.{Ghosts as FinderGhosts}
+use Rattle.foyer_core.specs.declared.weighter.Weighter.{Ghosts as WeighterGhosts}
 use Rattle.foyer_core.specs.Core.{AtShard, Core, InsertsWeighed}
+use Rattle.foyer_core.specs.Cores.{meaning_of_core}
 use Rattle.foyer_core.specs.Dropping.{Drops, EndsEntry}
 use Rattle.foyer_core.specs.State.{Meaning, at_moment, coming_in}
 use Rattle.foyer_core.specs.Steps.{Removes, Touches}
@@ -13,20 +25,6 @@ use Rattle.foyer_replay.specs.declared.request.Operation.TheVariants.{Get, Put, 
 use Rattle.foyer_replay.specs.declared.request.Outcome.{Outcome}
 use Rattle.foyer_replay.specs.declared.request.Outcome.TheVariants.{Hit, Miss, Done}
 use Rattle.foyer_replay.specs.declared.request.Request.{Request}
-
--- how many of these are hits
-abbrev pub hits_in : List Outcome → ℕ
-hits_in [] = 0
-hits_in (Hit ∷ outcomes) = 1 + hits_in outcomes
-hits_in (Miss ∷ outcomes) = hits_in outcomes
-hits_in (Done ∷ outcomes) = hits_in outcomes
-
--- how many of these are misses
-abbrev pub misses_in : List Outcome → ℕ
-misses_in [] = 0
-misses_in (Hit ∷ outcomes) = misses_in outcomes
-misses_in (Miss ∷ outcomes) = 1 + misses_in outcomes
-misses_in (Done ∷ outcomes) = misses_in outcomes
 
 -- the properties of a request's record, with what the filter answered
 abbrev pub properties_of : Request → Bool → Answered
@@ -85,17 +83,10 @@ module _ {View C S W A : Type 0} (m : Meaning ℕ Answered View C) (hash : S →
   abbrev pub Serves : Request → Outcome → Core ℕ ℕ Answered View S W A → Core ℕ ℕ Answered View S W A → Type 0
   Serves r outcome old new = ServesAs r.operation outcome r old new
 
-  -- each request has its outcome, and is served by the core that the requests before it left
-  abbrev pub Replays : Core ℕ ℕ Answered View S W A → List Request → List Outcome → Core ℕ ℕ Answered View S W A → Type 0
-  Replays old [] [] new = new ≡ old
-  Replays old (r ∷ requests) (outcome ∷ outcomes) new =
-      (mid : Core ℕ ℕ Answered View S W A) × Serves r outcome old mid × Replays mid requests outcomes new
-  Replays old [] (outcome ∷ outcomes) new = ⊥
-  Replays old (r ∷ requests) [] new = ⊥
-
-  -- so many of the requests hit and so many miss
-  pub record Counted (requests : List Request) (hits misses : ℕ) (old new : Core ℕ ℕ Answered View S W A) : Type 0 where
-    pub outcomes : List Outcome
-    pub replayed : Replays old requests outcomes new
-    pub hits_are : hits ≡ hits_in outcomes
-    pub misses_are : misses ≡ misses_in outcomes
+module _ {E S W A N R I C : Type 0} {e : EvictionGhosts E C} {q : EqGhosts ℕ} {h : HashGhosts ℕ} {c : CloneGhosts ℕ}
+    {p : PropertiesGhosts Answered} {d : DefaultGhosts Answered} {b : HashBuilderGhosts S} {w : WeighterGhosts W ℕ ℕ}
+    {f : FilterGhosts A ℕ ℕ} {i : FinderGhosts I ℕ} where
+  -- how a core serves a request, by its model
+  abbrev pub serves_of : CacheCore E ℕ ℕ Answered S W A N R I C e q h c p d b w f i → Request → Outcome →
+      Core ℕ ℕ Answered e.View S W A → Core ℕ ℕ Answered e.View S W A → Type 0
+  serves_of s = Serves (meaning_of_core s) (λ builder key. b.hash_of builder (h.hash_input key))

@@ -1,7 +1,7 @@
 //! What a replay counts.
 
-ghost use Rattle.std.specs.Prelude.{◌≡◌, ◌+◌, ◌<◌, ◌^◌, [], ◌∷◌};
-ghost use Rattle.foyer_replay.specs.Replay.{hits_in, misses_in};
+ghost use Rattle.std.specs.Prelude.{◌≡◌, ◌+◌, ◌<◌, ◌^◌, IfSome, [], ◌∷◌};
+ghost use Rattle.foyer_replay.specs.Counting.{hits_in, misses_in};
 
 use crate::request::Outcome;
 
@@ -44,15 +44,20 @@ impl Counts {
         }
     }
 
-    /// The sums of these counts and of others, each of which saturates.
-    pub fn plus(self, other: Counts) -> Counts {
-        Counts {
-            hits: self.hits.saturating_add(other.hits),
-            misses: self.misses.saturating_add(other.misses),
+    /// The sums of these counts and of others, or `None` if there are 2^64 hits or misses. The others saturate.
+    pub fn plus(self, other: Counts) -> Option<Counts>
+        ensures hits { IfSome result (λ sum. sum.hits ≡ self.hits + other.hits) }
+        ensures misses { IfSome result (λ sum. sum.misses ≡ self.misses + other.misses) }
+    {
+        let hits = self.hits.checked_add(other.hits)?;
+        let misses = self.misses.checked_add(other.misses)?;
+        Some(Counts {
+            hits,
+            misses,
             hit_bytes: self.hit_bytes.saturating_add(other.hit_bytes),
             miss_bytes: self.miss_bytes.saturating_add(other.miss_bytes),
             evictions: self.evictions.saturating_add(other.evictions),
             expired: self.expired.saturating_add(other.expired),
-        }
+        })
     }
 }

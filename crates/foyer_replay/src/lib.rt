@@ -6,5 +6,5 @@ pub mod request;
 pub mod run;
 
 pub use counts::Counts;
-pub use request::{Operation, Outcome, Request, RequestWeighter};
+pub use request::{Operation, Outcome, Request, RequestWeighter, Requests};
 pub use run::{Departures, ReplayCore, replay, serve};

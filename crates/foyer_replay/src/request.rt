@@ -42,6 +42,26 @@ pub enum Outcome {
     Done,
 }
 
+/// Requests in a row.
+pub trait Requests {
+    ghost use Rattle.std.specs.Prelude.{◌≡◌, ℕ};
+    ghost use Rattle.foyer_replay.specs.declared.request.Request.{Request};
+
+    // the request at a place
+    ghost nth: { Self → ℕ → Request };
+
+    // how many there are
+    ghost count: { Self → ℕ };
+
+    /// Returns how many requests there are.
+    fn len(&self) -> usize
+        ensures { result ≡ count self.now };
+
+    /// Returns the request at a place. Behind the last one it may be any.
+    fn request(&self, place: usize) -> Request
+        ensures { result ≡ nth self.now place };
+}
+
 /// Gives a record the weight that its request has.
 #[derive(Clone, Copy, Debug, Default)]
 pub struct RequestWeighter;

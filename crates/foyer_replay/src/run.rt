@@ -4,10 +4,11 @@ ghost use Rattle.std.specs.Prelude.{◌≡◌, IfOk, None, OnOk};
 ghost use Rattle.std.specs.Hash.{u64 as u64_input};
 ghost use Rattle.foyer_policy.specs.declared.types.Hint.TheVariants.{Normal};
 ghost use Rattle.foyer_core.specs.Cores.{core_of, meaning_of_core};
-ghost use Rattle.foyer_replay.specs.Replay.{Counted, Serves, Stores};
+ghost use Rattle.foyer_replay.specs.Counting.{Counted, listed};
+ghost use Rattle.foyer_replay.specs.Replay.{Stores, serves_of};
 
 use crate::counts::Counts;
-use crate::request::{Operation, Outcome, Request, RequestWeighter};
+use crate::request::{Operation, Outcome, Request, RequestWeighter, Requests};
 use foyer_core::{AdmitAll, CacheCore, CacheProperties, InsertedOnto, Leave};
 use foyer_policy::{Event, Eviction, HashBuilder, Result};
 
@@ -43,29 +44,35 @@ impl Departed {
     }
 }
 
-/// Serves the requests in order, and returns what it counted.
+/// Serves the requests in order, and returns what it counted of those after the first `skipped`.
 ///
 /// `departures` is scratch space, which is empty again afterwards.
 ///
 /// # Errors
 /// F7 if memory runs out: that request and those after it are not served.
-pub fn replay<E: Eviction, S: HashBuilder>(
+pub fn replay<E: Eviction, S: HashBuilder, Q: Requests>(
     core: &mut ReplayCore<E, S>,
-    requests: &[Request],
+    requests: &Q,
+    skipped: usize,
     departures: &mut Departures,
 ) -> Result<Counts>
-    ensures counted { IfOk result (λ counts. Counted (meaning_of_core core.old) (λ builder key. S.hash_of builder (u64_input key))
-        requests.now counts.hits counts.misses (core_of core.old) (core_of core.new)) }
+    ensures counted { IfOk result (λ counts. Counted (serves_of core.old) skipped
+        (listed (Q.nth requests.now) 0 (Q.count requests.now)) counts.hits counts.misses
+        (core_of core.old) (core_of core.new)) }
 {
     let mut counts = Counts::default();
     let mut departed = Departed::default();
-    for request in requests {
+    for place in 0..requests.len() {
+        let request = requests.request(place);
         // No `?` here and below: it would copy each answer.
-        match serve(core, request, departures) {
-            Ok(outcome) => counts.add_outcome(outcome, request.size),
+        let outcome = match serve(core, &request, departures) {
+            Ok(outcome) => outcome,
             Err(error) => return Err(error),
+        };
+        if place >= skipped {
+            counts.add_outcome(outcome, request.size);
+            departed.add(departures, request.time);
         }
-        departed.add(departures, request.time);
         departures.clear();
     }
     Ok(Counts {
@@ -86,8 +93,7 @@ pub fn serve<E: Eviction, S: HashBuilder>(
     request: &Request,
     departures: &mut Departures,
 ) -> Result<Outcome>
-    ensures served { IfOk result (λ outcome. Serves (meaning_of_core core.old) (λ builder key. S.hash_of builder (u64_input key))
-        request.now outcome (core_of core.old) (core_of core.new)) }
+    ensures served { IfOk result (λ outcome. serves_of core.old request.now outcome (core_of core.old) (core_of core.new)) }
 {
     match request.operation {
         Operation::Get => match core.touch(request.time, &request.key) {

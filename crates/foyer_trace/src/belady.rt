@@ -1,7 +1,7 @@
 //! The least possible misses, by L. A. Belady, "A study of replacement algorithms for a virtual-storage computer" (1966).
 
 use crate::trace::{Part, Trace};
-use foyer_replay::{Counts, Operation, Outcome};
+use foyer_replay::{Counts, Operation};
 use std::alloc::{AllocError, Global};
 use std::collections::{BTreeSet, HashMap};
 
@@ -65,32 +65,48 @@ impl Belady {
         }
     }
 
-    /// Serves the records of a part from a place to another.
+    /// Serves the records of a part, and returns what it counted of those after the first `skipped`.
     pub fn serve(
         &mut self,
         part: &Part,
         future: &[u32],
-        from: usize,
-        to: usize,
+        skipped: usize,
     ) -> Result<Counts, AllocError> {
         let mut counts = Counts::default();
-        for place in from..to {
-            let is_hit = self.resident.remove(&self.number);
-            self.number = self.number.saturating_add(1);
-            let operation = part.operation(place);
-            if operation == Operation::Get {
-                let outcome = if is_hit { Outcome::Hit } else { Outcome::Miss };
-                counts.add_outcome(outcome, part.size(place));
-            }
+        for place in 0..part.len() {
             let next = future.get(place).copied().unwrap_or(NEVER);
-            if operation != Operation::Remove && next != NEVER {
-                self.resident.insert(next)?;
-                if self.resident.len() > self.capacity {
-                    self.resident.pop_last();
-                    counts.evictions = counts.evictions.saturating_add(1);
-                }
+            let operation = part.operation(place);
+            let (is_hit, evicts) = self.meet(operation, next)?;
+            if place < skipped {
+                continue;
+            }
+            let size = part.size(place) as u128;
+            if operation == Operation::Get && is_hit {
+                counts.hits = counts.hits.saturating_add(1);
+                counts.hit_bytes = counts.hit_bytes.saturating_add(size);
+            } else if operation == Operation::Get {
+                counts.misses = counts.misses.saturating_add(1);
+                counts.miss_bytes = counts.miss_bytes.saturating_add(size);
+            }
+            if evicts {
+                counts.evictions = counts.evictions.saturating_add(1);
             }
         }
         Ok(counts)
+    }
+
+    // Serves a record whose key is next got then, and returns whether it was resident and whether another one was evicted.
+    fn meet(&mut self, operation: Operation, next: u32) -> Result<(bool, bool), AllocError> {
+        let is_hit = self.resident.remove(&self.number);
+        self.number = self.number.saturating_add(1);
+        if operation == Operation::Remove || next == NEVER {
+            return Ok((is_hit, false));
+        }
+        self.resident.insert(next)?;
+        if self.resident.len() <= self.capacity {
+            return Ok((is_hit, false));
+        }
+        self.resident.pop_last();
+        Ok((is_hit, true))
     }
 }

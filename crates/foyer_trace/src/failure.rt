@@ -4,7 +4,7 @@ use std::alloc::{AllocError, AllocFailed, Global};
 use std::io;
 
 /// Why the program ends before it is done.
-#[derive(Debug, Drop)]
+#[derive(Drop)]
 pub enum Failure {
     /// The arguments are bad, and why.
     Usage(String),

@@ -6,12 +6,12 @@ use std::alloc::Global;
 
 pub mod arc;
 pub mod columns;
-pub mod csv;
 pub mod keys;
 pub mod oracle;
+pub mod rows;
 
 /// The format of a trace.
-#[derive(Clone, Copy, Debug, PartialEq, Eq)]
+#[derive(Clone, Copy, PartialEq, Eq)]
 pub enum Format {
     /// A key a line.
     Keys,

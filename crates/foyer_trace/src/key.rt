@@ -37,7 +37,7 @@ fn fnv(text: &[u8]) -> u64 {
 }
 
 /// Which keys are replayed: those whose place in the order of a second hash is within a range.
-#[derive(Clone, Copy, Debug, PartialEq)]
+#[derive(Clone, Copy)]
 pub struct Sample {
     /// The first place, of 2^64.
     pub first: u64,

@@ -50,26 +50,38 @@ use zipf::{write_zipf, zipf_of};
 
 fn main(rt: HostRuntime) -> ExitCode {
     let is_terminal = rt.stderr().is_terminal();
-    let alloc = rt.alloc();
-    let words = match words_of(&rt, alloc) {
-        Ok(words) => words,
-        Err(failure) => return fail(&rt, &failure),
-    };
-    let parsed = match command(alloc) {
-        Ok(command) => command.try_get_matches_from(words.as_slice()),
-        Err(error) => Err(error),
-    };
-    let done = match &parsed {
-        Ok(matches) => answer(&rt, alloc, words.as_slice(), matches, is_terminal),
-        Err(error) => {
-            let _ = eprint!(rt; "foyer-trace: {error}");
-            return ExitCode::from(2);
-        }
-    };
-    match done {
-        Ok(()) => ExitCode::SUCCESS,
+    match words_of(&rt, rt.alloc()) {
+        Ok(words) => serve_words(&rt, rt.alloc(), words.as_slice(), is_terminal),
         Err(failure) => fail(&rt, &failure),
     }
+}
+
+// Does what the words ask for, and says why where that fails.
+fn serve_words<R: AllocGlobal + Clock + Eprint + Files + Input + Print + Threads + Sync>(
+    rt: &R,
+    alloc: Global,
+    words: &[String],
+    is_terminal: bool,
+) -> ExitCode {
+    let command = match command(alloc) {
+        Ok(command) => command,
+        Err(error) => return refuse(rt, &error),
+    };
+    let matches = match command.try_get_matches_from(words) {
+        Ok(matches) => matches,
+        Err(error) => return refuse(rt, &error),
+    };
+    match answer(rt, alloc, words, &matches, is_terminal) {
+        Ok(()) => ExitCode::SUCCESS,
+        Err(failure) => fail(rt, &failure),
+    }
+}
+
+// Says on standard error what is wrong with the arguments.
+fn refuse<R: Eprint>(rt: &R, error: &clap::Error) -> ExitCode {
+    // The status says it where standard error can't.
+    let _ = eprint!(rt; "foyer-trace: {error}");
+    ExitCode::from(2)
 }
 
 // The words that the program was started with, without its name.
@@ -122,16 +134,8 @@ fn answer<R: AllocGlobal + Clock + Eprint + Files + Input + Print + Threads + Sy
             };
             write_zipf(alloc, zipf, &mut out)
         }
-        Task::Merge(paths) => {
-            let mut merger = Merger::new(alloc);
-            for path in paths {
-                match fs::read(rt, *path) {
-                    Ok(text) => merger.add(path, text.as_slice())?,
-                    Err(error) => return Err(Failure::of_io(alloc, path, &error)),
-                }
-            }
-            let title = outputs.title.unwrap_or("merged parts");
-            let report = merger.report(String::from_str(alloc, title)?)?;
+        Task::Merge => {
+            let report = merge(rt, alloc, matches, outputs.title.unwrap_or("merged parts"))?;
             write_report(rt, alloc, &report, words, outputs)
         }
         Task::Replay(replay) => {
@@ -139,6 +143,25 @@ fn answer<R: AllocGlobal + Clock + Eprint + Files + Input + Print + Threads + Sy
             write_report(rt, alloc, &report, words, outputs)
         }
     }
+}
+
+// Adds up the files that the words name.
+fn merge<R: AllocGlobal + Files>(
+    rt: &R,
+    alloc: Global,
+    matches: &ArgMatches<'_>,
+    title: &str,
+) -> Result<Report, Failure> {
+    let mut merger = Merger::new(alloc);
+    if let Some(paths) = matches.get_strs("trace") {
+        for path in paths {
+            match fs::read(rt, *path) {
+                Ok(text) => merger.add(path, text.as_slice())?,
+                Err(error) => return Err(Failure::of_io(alloc, path, &error)),
+            }
+        }
+    }
+    merger.report(String::from_str(alloc, title)?)
 }
 
 // Prints a text.

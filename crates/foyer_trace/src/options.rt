@@ -23,8 +23,8 @@ pub enum Task<'a> {
     Version,
     /// Replay a trace.
     Replay(Replay<'a>),
-    /// Add the CSV files of parts up.
-    Merge(&'a [&'a str]),
+    /// Add up the CSV files of parts, which stand in the place of a trace.
+    Merge,
     /// Write a synthetic trace.
     Make(&'a str),
 }
@@ -50,7 +50,7 @@ pub struct Replay<'a> {
 }
 
 /// The files that a report is written to.
-#[derive(Clone, Copy, Debug, Default)]
+#[derive(Clone, Copy)]
 pub struct Outputs<'a> {
     pub csv: Option<&'a str>,
     pub svg: Option<&'a str>,
@@ -105,7 +105,7 @@ pub fn outputs_of<'a>(matches: &ArgMatches<'a>) -> Outputs<'a> {
 }
 
 /// What the words ask for.
-pub fn task_of<'a>(alloc: Global, matches: &'a ArgMatches<'a>) -> Result<Task<'a>, Failure> {
+pub fn task_of<'a>(alloc: Global, matches: &ArgMatches<'a>) -> Result<Task<'a>, Failure> {
     if matches.get_flag("help") {
         return Ok(Task::Help);
     }
@@ -122,7 +122,7 @@ pub fn task_of<'a>(alloc: Global, matches: &'a ArgMatches<'a>) -> Result<Task<'a
                 "--merge takes the files that --csv wrote"
             )?));
         }
-        return Ok(Task::Merge(traces));
+        return Ok(Task::Merge);
     }
     match traces {
         [path] => Ok(Task::Replay(replay_of(alloc, matches, path)?)),
@@ -135,7 +135,7 @@ pub fn task_of<'a>(alloc: Global, matches: &'a ArgMatches<'a>) -> Result<Task<'a
 
 fn replay_of<'a>(
     alloc: Global,
-    matches: &'a ArgMatches<'a>,
+    matches: &ArgMatches<'a>,
     path: &'a str,
 ) -> Result<Replay<'a>, Failure> {
     let format = match matches.get_str("format") {

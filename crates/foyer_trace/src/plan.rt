@@ -7,7 +7,7 @@ use crate::trace::{Terms, Totals};
 use std::alloc::Global;
 
 /// The size of a cache as it was asked for.
-#[derive(Clone, Copy, Debug, PartialEq)]
+#[derive(Clone, Copy)]
 pub enum Size {
     /// So many records, or bytes.
     Absolute(u64),
@@ -34,14 +34,14 @@ pub fn sizes_of(alloc: Global, list: &str) -> Result<Vec<Size>, Failure> {
 }
 
 /// A cache's size: as it is shown, and as the cache has it, which is less where a sample is replayed.
-#[derive(Clone, Copy, Debug, PartialEq, Eq)]
+#[derive(Clone, Copy)]
 pub struct Capacity {
     pub shown: u64,
     pub scaled: usize,
 }
 
 /// How long the cache is warmed up before anything is counted.
-#[derive(Clone, Copy, Debug, PartialEq)]
+#[derive(Clone, Copy)]
 pub enum Warmup {
     /// So many records.
     Records(u64),

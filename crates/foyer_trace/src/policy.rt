@@ -7,7 +7,7 @@ use foyer_policy::{Eviction, Lfu, LfuConfig, Lru, LruConfig, Ratio, S3Fifo, S3Fi
 use std::alloc::Global;
 
 /// A policy with its configuration.
-#[derive(Debug, Drop)]
+#[derive(Drop)]
 pub enum Kind {
     Fifo,
     Lru(LruConfig),
@@ -19,7 +19,7 @@ pub enum Kind {
 }
 
 /// A policy as it was asked for.
-#[derive(Debug, Drop)]
+#[derive(Drop)]
 pub struct Policy<'a> {
     pub kind: Kind,
     /// Its name.
@@ -154,7 +154,7 @@ fn set_lfu(
             config.cmsketch_buckets = number_of(alloc, parameter, value, u32::MAX)?;
         }
         "hashes" => {
-            config.cmsketch_hashes = number_of(alloc, parameter, value, u8::MAX as u32)? as u8;
+            config.cmsketch_hashes = byte_of(alloc, parameter, value)?;
         }
         _ => {
             let known = ["window", "protected", "buckets", "hashes"];
@@ -174,12 +174,7 @@ fn set_s3fifo(
         "small" => config.small_queue_capacity_ratio = ratio_of(alloc, parameter, value)?,
         "ghost" => config.ghost_queue_capacity_ratio = ratio_of(alloc, parameter, value)?,
         "threshold" => {
-            config.small_to_main_freq_threshold = number_of(
-                alloc,
-                parameter,
-                value,
-                u8::MAX as u32,
-            )? as u8;
+            config.small_to_main_freq_threshold = byte_of(alloc, parameter, value)?;
         }
         _ => {
             let known = ["small", "ghost", "threshold"];
@@ -206,4 +201,9 @@ fn number_of(alloc: Global, parameter: &str, value: &str, most: u32) -> Result<u
             "{parameter} must be a number from 0 to {most}, and not '{value}'"
         )?)),
     }
+}
+
+fn byte_of(alloc: Global, parameter: &str, value: &str) -> Result<u8, Failure> {
+    let number = number_of(alloc, parameter, value, u8::MAX as u32)?;
+    Ok(u8::try_from(number).unwrap_or(u8::MAX))
 }

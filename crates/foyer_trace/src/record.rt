@@ -4,7 +4,7 @@ use crate::failure::Failure;
 use foyer_replay::Operation;
 
 /// One record of a trace.
-#[derive(Clone, Copy, Debug, Default, PartialEq, Eq)]
+#[derive(Clone, Copy, Default)]
 pub struct Record {
     /// The key, mixed.
     pub key: u64,

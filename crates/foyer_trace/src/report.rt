@@ -1,15 +1,18 @@
 //! What the runs came to, for the table, the CSV file and the pictures.
 
+ghost use Rattle.std.specs.Prelude.{◌≡◌, IfOk, None};
+
 use crate::failure::Failure;
 use crate::number::{bytes, float, part_of, quotient};
 use crate::plan::Plan;
+use crate::policy::Policy;
 use crate::run::Measured;
 use crate::trace::Totals;
 use std::alloc::{AllocError, Global};
 use std::num::saturating_f64_to_u64;
 
 /// What one run came to.
-#[derive(Debug, Drop)]
+#[derive(Drop)]
 pub struct Row {
     pub policy: String,
     pub parameters: String,
@@ -25,6 +28,42 @@ pub struct Row {
 }
 
 impl Row {
+    // What a run of a policy came to, of which a sample's scale makes an estimate.
+    fn new(
+        policy: &Policy<'_>,
+        alloc: Global,
+        size: u64,
+        measured: &Measured,
+        scale: Option<Scale>,
+    ) -> Result<Row, AllocError>
+        ensures misses { IfOk result (λ row. row.misses ≡ measured.now.counts.misses) }
+        ensures hits { scale ≡ None → IfOk result (λ row. row.hits ≡ measured.now.counts.hits) }
+    {
+        let counts = measured.counts;
+        let gets = counts.hits.saturating_add(counts.misses);
+        let read = counts.hit_bytes.saturating_add(counts.miss_bytes);
+        let (hits, bytes) = match scale {
+            Some(scale) => (
+                scale.requests(gets).saturating_sub(counts.misses),
+                scale.bytes(read).max(counts.miss_bytes),
+            ),
+            None => (counts.hits, read),
+        };
+        Ok(Row {
+            policy: String::from_str(alloc, policy.name)?,
+            parameters: policy.parameters.clone()?,
+            size,
+            requests: hits.saturating_add(counts.misses),
+            hits,
+            misses: counts.misses,
+            bytes,
+            miss_bytes: counts.miss_bytes,
+            evictions: counts.evictions,
+            expired: counts.expired,
+            seconds: measured.seconds,
+        })
+    }
+
     /// The part of the requests that missed.
     pub fn miss_ratio(&self) -> f64 {
         quotient(self.misses as u128, self.requests as u128)
@@ -37,7 +76,7 @@ impl Row {
 }
 
 /// Which ratio of a run is shown.
-#[derive(Clone, Copy, Debug, PartialEq, Eq)]
+#[derive(Clone, Copy)]
 pub enum Measure {
     Requests,
     Bytes,
@@ -63,7 +102,7 @@ impl Measure {
 
 /// How many requests a sample stands for, where the few hottest keys may be in it or not: its gets are taken to be the
 /// sample's part of all gets, and those that it lacks, or has beyond that, to be hits (SHARDS-adj, of the same paper).
-#[derive(Clone, Copy, Debug)]
+#[derive(Clone, Copy)]
 pub struct Scale {
     /// By what the gets of the sample are multiplied, and its bytes.
     requests: f64,
@@ -71,12 +110,6 @@ pub struct Scale {
 }
 
 impl Scale {
-    /// Every get counts as it is.
-    pub const NONE: Scale = Scale {
-        requests: 1.0,
-        bytes: 1.0,
-    };
-
     /// That of a sample of this rate.
     pub fn of(totals: &Totals, rate: f64) -> Scale {
         Scale {
@@ -90,9 +123,6 @@ impl Scale {
     }
 
     fn bytes(self, number: u128) -> u128 {
-        if self.bytes == 1.0 {
-            return number;
-        }
         saturating_f64_to_u64(float(number) * self.bytes + 0.5) as u128
     }
 }
@@ -124,7 +154,7 @@ impl Report {
         plan: &Plan<'_>,
         measured: &[Measured],
         totals: &Totals,
-        scale: Scale,
+        scale: Option<Scale>,
         notes: Vec<String>,
     ) -> Result<Report, Failure> {
         let mut rows = Vec::new(alloc);
@@ -132,26 +162,7 @@ impl Report {
             let Some((policy, capacity)) = plan.run(number) else {
                 break;
             };
-            let counts = it.counts;
-            let requests = scale
-                .requests(counts.hits.saturating_add(counts.misses))
-                .max(counts.misses);
-            let bytes = scale
-                .bytes(counts.hit_bytes.saturating_add(counts.miss_bytes))
-                .max(counts.miss_bytes);
-            rows.push(Row {
-                policy: String::from_str(alloc, policy.name)?,
-                parameters: policy.parameters.clone()?,
-                size: capacity.shown,
-                requests,
-                hits: requests.saturating_sub(counts.misses),
-                misses: counts.misses,
-                bytes,
-                miss_bytes: counts.miss_bytes,
-                evictions: counts.evictions,
-                expired: counts.expired,
-                seconds: it.seconds,
-            })?;
+            rows.push(Row::new(policy, alloc, capacity.shown, it, scale)?)?;
         }
         let mut policies = Vec::new(alloc);
         for policy in plan.policies {

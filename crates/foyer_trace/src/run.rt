@@ -1,5 +1,9 @@
 //! Runs each policy at each size over a trace in memory, in threads.
 
+ghost use Rattle.std.specs.Prelude.{◌≡◌, ◌+◌, IfOk};
+ghost use Rattle.foyer_trace.specs.Runs.{Serves};
+ghost use Rattle.foyer_trace.specs.Trace.{requests_of};
+
 use crate::belady::Future;
 use crate::failure::Failure;
 use crate::plan::Plan;
@@ -14,7 +18,7 @@ use std::thread::{self, Threads};
 use std::time::Instant;
 
 /// What a run came to.
-#[derive(Clone, Copy, Debug, Default)]
+#[derive(Clone, Copy, Default)]
 pub struct Measured {
     pub counts: Counts,
     pub seconds: f64,
@@ -80,7 +84,7 @@ fn work<R: Clock + Eprint>(
             plan.shards,
             plan.terms,
         )?;
-        let counts = run_one(&mut runner, trace, future, plan.warmup, progress)?;
+        let counts = run_one(alloc, &mut runner, trace, future, plan.warmup, progress)?;
         let seconds = match start {
             Ok(start) => start.elapsed(rt).map_or(0.0, |taken| taken.as_secs_f64()),
             Err(_) => 0.0,
@@ -92,21 +96,36 @@ fn work<R: Clock + Eprint>(
 
 // Runs over the whole trace, and counts what is behind the warmup.
 fn run_one<R: Clock + Eprint>(
+    alloc: Global,
     runner: &mut Runner,
     trace: &Trace,
     future: Option<&Future>,
     warmup: u64,
     progress: &Progress<'_, R>,
-) -> Result<Counts, Failure> {
+) -> Result<Counts, Failure>
+    ensures counted { IfOk result (λ counts. Serves runner.old.core warmup
+        (requests_of runner.old.terms trace.now.parts.items) counts.hits counts.misses runner.new.core) }
+{
     let mut counts = Counts::default();
-    let mut left = warmup;
-    for (at, part) in trace.parts.iter().enumerate() {
-        let future = future.map_or(&[][..], |future| future.part(at));
-        let warm = usize::try_from(left).unwrap_or(usize::MAX).min(part.len());
-        runner.serve(part, future, 0, warm)?;
-        counts = counts.plus(runner.serve(part, future, warm, part.len())?);
-        left = left.saturating_sub(warm as u64);
+    let mut left = warmup as usize;
+    for (number, part) in trace.parts.iter().enumerate() {
+        let future = future.map_or(&[][..], |future| future.part(number));
+        let more = runner.serve(part, future, left)?;
+        let sum = sum_of(alloc, counts, more)?;
+        counts = sum;
+        left = left.saturating_sub(part.len());
         progress.advance(part.len() as u64);
     }
     Ok(counts)
+}
+
+/// What was counted together.
+pub fn sum_of(alloc: Global, counts: Counts, more: Counts) -> Result<Counts, Failure>
+    ensures hits { IfOk result (λ sum. sum.hits ≡ counts.hits + more.hits) }
+    ensures misses { IfOk result (λ sum. sum.misses ≡ counts.misses + more.misses) }
+{
+    match counts.plus(more) {
+        Some(sum) => Ok(sum),
+        None => Err(Failure::Other(String::from_str(alloc, "2^64 gets are too many")?)),
+    }
 }

@@ -1,19 +1,20 @@
 //! A cache of any policy that is replayed.
 
+ghost use Rattle.std.specs.Prelude.{◌≡◌, IfOk};
+ghost use Rattle.foyer_trace.specs.Runs.{Serves};
+ghost use Rattle.foyer_trace.specs.Trace.{requests_of_part};
+
 use crate::belady::Belady;
 use crate::failure::Failure;
 use crate::policy::Kind;
-use crate::trace::{Part, Terms};
+use crate::trace::{Part, PartRequests, Terms};
 use foyer_core::RawCacheConfig;
 use foyer_policy::{
     Eviction, Fifo, FifoConfig, Lfu, LfuConfig, Lru, LruConfig, ModHasher, S3Fifo, S3FifoConfig,
     Sieve, SieveConfig,
 };
-use foyer_replay::{Counts, Departures, ReplayCore, Request, RequestWeighter, replay};
+use foyer_replay::{Counts, Departures, ReplayCore, RequestWeighter, replay};
 use std::alloc::Global;
-
-/// How many requests are made of records at a time, so that they stay in the processor's cache.
-const BLOCK: usize = 512;
 
 /// A core of any policy, or Belady's cache.
 #[derive(Drop)]
@@ -31,7 +32,6 @@ enum Core {
 pub struct Runner {
     core: Core,
     terms: Terms,
-    requests: Vec<Request>,
     departures: Departures,
 }
 
@@ -82,47 +82,27 @@ impl Runner {
         Ok(Runner {
             core,
             terms,
-            requests: Vec::with_capacity(alloc, BLOCK)?,
             departures: Vec::new(alloc),
         })
     }
 
-    /// Serves the records of a part from a place to another, whose future Belady's cache is told.
-    pub fn serve(
-        &mut self,
-        part: &Part,
-        future: &[u32],
-        from: usize,
-        to: usize,
-    ) -> Result<Counts, Failure> {
-        if let Core::Belady(belady) = &mut self.core {
-            return Ok(belady.serve(part, future, from, to)?);
-        }
-        let mut counts = Counts::default();
-        let mut start = from;
-        while start < to {
-            let end = start.saturating_add(BLOCK).min(to);
-            self.requests.clear();
-            for place in start..end {
-                self.requests.push(part.request(place, self.terms))?;
-            }
-            counts = counts.plus(self.serve_block()?);
-            start = end;
-        }
-        Ok(counts)
-    }
-
-    fn serve_block(&mut self) -> Result<Counts, Failure> {
-        let requests = self.requests.as_slice();
+    /// Serves the records of a part, and returns what it counted of those after the first `skipped`. Belady's cache
+    /// needs the part's future.
+    pub fn serve(&mut self, part: &Part, future: &[u32], skipped: usize) -> Result<Counts, Failure>
+        ensures terms { self.new.terms ≡ self.old.terms }
+        ensures counted { IfOk result (λ counts. Serves self.old.core skipped (requests_of_part self.old.terms part.now)
+            counts.hits counts.misses self.new.core) }
+    {
+        let terms = self.terms;
+        let requests = PartRequests { part, terms };
         let departures = &mut self.departures;
-        let counts = match &mut self.core {
-            Core::Fifo(core) => replay(core, requests, departures)?,
-            Core::Lru(core) => replay(core, requests, departures)?,
-            Core::Lfu(core) => replay(core, requests, departures)?,
-            Core::S3Fifo(core) => replay(core, requests, departures)?,
-            Core::Sieve(core) => replay(core, requests, departures)?,
-            Core::Belady(_) => Counts::default(),
-        };
-        Ok(counts)
+        match &mut self.core {
+            Core::Fifo(core) => Ok(replay(core, &requests, skipped, departures)?),
+            Core::Lru(core) => Ok(replay(core, &requests, skipped, departures)?),
+            Core::Lfu(core) => Ok(replay(core, &requests, skipped, departures)?),
+            Core::S3Fifo(core) => Ok(replay(core, &requests, skipped, departures)?),
+            Core::Sieve(core) => Ok(replay(core, &requests, skipped, departures)?),
+            Core::Belady(belady) => Ok(belady.serve(part, future, skipped)?),
+        }
     }
 }

@@ -180,9 +180,9 @@ fn report_of<R>(
     let title = title_of(ground, replay, &totals)?;
     let is_sample = replay.sample.rate < 1.0 && !replay.is_part;
     let scale = if is_sample {
-        Scale::of(&totals, replay.sample.rate)
+        Some(Scale::of(&totals, replay.sample.rate))
     } else {
-        Scale::NONE
+        None
     };
     let mut notes = Vec::new(alloc);
     notes.push(facts_of(alloc, plan, &totals)?)?;

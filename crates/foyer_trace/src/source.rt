@@ -4,9 +4,9 @@ use crate::failure::Failure;
 use crate::format::Format;
 use crate::format::arc::ArcReader;
 use crate::format::columns::Wanted;
-use crate::format::csv::CsvReader;
 use crate::format::keys::KeysReader;
 use crate::format::oracle::OracleReader;
+use crate::format::rows::CsvReader;
 use crate::key::Sample;
 use crate::record::{Record, RecordReader};
 use crate::trace::{PART, Part, Totals, Trace};
@@ -62,7 +62,7 @@ impl<B: BufRead + Drop> RecordReader for AnyReader<B> {
 }
 
 /// Which keys the footprint is of.
-#[derive(Clone, Copy, Debug, PartialEq, Eq)]
+#[derive(Clone, Copy, PartialEq, Eq)]
 pub enum Footprint {
     /// It is not counted.
     Unknown,

@@ -3,7 +3,7 @@
 use crate::failure::Failure;
 use crate::plan::Plan;
 use crate::progress::Progress;
-use crate::run::Measured;
+use crate::run::{Measured, sum_of};
 use crate::runner::Runner;
 use crate::source::Source;
 use crate::trace::{PART, Part};
@@ -23,17 +23,17 @@ struct Running {
 
 impl Running {
     // Serves a part, of which the first requests are warmup.
-    fn serve<R: Clock>(&mut self, rt: &R, part: &Part, warm: usize) {
+    fn serve<R: Clock>(&mut self, rt: &R, alloc: Global, part: &Part, warm: usize) {
         if self.failure.is_some() {
             return;
         }
         let start = Instant::now(rt);
-        let served = match self.runner.serve(part, &[], 0, warm) {
-            Ok(_) => self.runner.serve(part, &[], warm, part.len()),
+        let served = match self.runner.serve(part, &[], warm) {
+            Ok(more) => sum_of(alloc, self.measured.counts, more),
             Err(failure) => Err(failure),
         };
         match served {
-            Ok(counts) => self.measured.counts = self.measured.counts.plus(counts),
+            Ok(counts) => self.measured.counts = counts,
             Err(failure) => self.failure = Some(failure),
         }
         if let Ok(start) = start {
@@ -71,29 +71,33 @@ pub fn stream_all<R: Clock + Eprint + Threads + Sync, B: BufRead + Drop>(
         }
     }
     let mut records = Vec::with_capacity(alloc, PART)?;
-    let mut left = plan.warmup;
+    let mut left = plan.warmup as usize;
     for _part in 0..u64::MAX {
         source.read_part(&mut records)?;
         if records.is_empty() {
             break;
         }
         let part = Part::new(alloc, records.as_slice())?;
-        let warm = usize::try_from(left).unwrap_or(usize::MAX).min(part.len());
-        left = left.saturating_sub(warm as u64);
         thread::for_each_mut(
             rt,
             running.as_mut_slice(),
             jobs.max(1),
-            &|_, run| run.serve(rt, &part, warm),
+            &|_, run| run.serve(rt, alloc, &part, left),
         );
+        left = left.saturating_sub(part.len());
         progress.advance(part.len() as u64);
     }
     let mut measured = Vec::with_capacity(alloc, running.len())?;
     for run in running {
-        if let Some(failure) = run.failure {
+        let Running {
+            runner: _runner,
+            measured: it,
+            failure,
+        } = run;
+        if let Some(failure) = failure {
             return Err(failure);
         }
-        measured.push(run.measured)?;
+        measured.push(it)?;
     }
     Ok(measured)
 }

@@ -156,17 +156,7 @@ fn push_ratios(text: &mut String, scale: Scale, measure: Measure) -> Result<(), 
     };
     for step in 0..=steps {
         let ratio = scale.most * step as f64 / steps as f64;
-        let y = scale.y(ratio);
-        let edge = LEFT - 8.0;
-        let down = y + 4.5;
-        write!(
-            text,
-            "<line x1=\"{LEFT:.0}\" y1=\"{y:.1}\" x2=\"{RIGHT:.0}\" y2=\"{y:.1}\" stroke=\"#dddddd\"/>\n"
-        )?;
-        write!(
-            text,
-            "<text x=\"{edge:.0}\" y=\"{down:.1}\" text-anchor=\"end\">{ratio:.places$}</text>\n"
-        )?;
+        push_ratio(text, ratio, scale.y(ratio), places)?;
     }
     let middle = (TOP + BOTTOM) / 2.0;
     let name = measure.name();
@@ -178,6 +168,23 @@ fn push_ratios(text: &mut String, scale: Scale, measure: Measure) -> Result<(), 
         text,
         "<path d=\"M{LEFT:.0} {TOP:.0}V{BOTTOM:.0}H{RIGHT:.0}\" fill=\"none\" stroke=\"#333333\"/>\n"
     )
+}
+
+// The line across at a ratio, and its label.
+fn push_ratio(text: &mut String, ratio: f64, y: f64, places: usize) -> Result<(), AllocError> {
+    let (start, end) = (LEFT, RIGHT);
+    let edge = LEFT - 8.0;
+    let down = y + 4.5;
+    write!(
+        text,
+        "<line x1=\"{start:.0}\" y1=\"{y:.1}\" x2=\"{end:.0}\" y2=\"{y:.1}\" stroke=\"#dddddd\"/>\n"
+    )?;
+    write!(
+        text,
+        "<text x=\"{edge:.0}\" y=\"{down:.1}\" text-anchor=\"end\">"
+    )?;
+    write!(text, "{ratio:.places$}")?;
+    text.push_str("</text>\n")
 }
 
 // The axis of sizes, by powers of ten; between them by 2 and 5 where there is room.

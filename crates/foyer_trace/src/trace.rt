@@ -1,7 +1,10 @@
 //! A trace in memory, in parts whose columns are as narrow as their numbers allow.
 
+ghost use Rattle.std.specs.Prelude.{◌≡◌, length, slice_index};
+ghost use Rattle.foyer_trace.specs.Trace.{expiry_at, life_at, number_at, operation_at, request_at, weight_at};
+
 use crate::record::Record;
-use foyer_replay::{Operation, Request};
+use foyer_replay::{Operation, Request, Requests};
 use std::alloc::{AllocError, Global};
 
 /// How many records a part has, but the last.
@@ -19,42 +22,37 @@ enum Column {
 }
 
 impl Column {
-    fn new<F: Fn(&Record) -> u64>(
-        alloc: Global,
-        records: &[Record],
-        number: F,
-    ) -> Result<Column, AllocError> {
+    // The column of these numbers.
+    fn of(alloc: Global, numbers: Vec<u64>) -> Result<Column, AllocError> {
         let mut least = u64::MAX;
         let mut most = 0;
-        for record in records {
-            least = least.min(number(record));
-            most = most.max(number(record));
+        for number in &numbers {
+            least = least.min(*number);
+            most = most.max(*number);
         }
         if least >= most {
             return Ok(Column::Same(most));
         }
-        let Ok(_) = u32::try_from(most.wrapping_sub(least)) else {
-            let mut column = Vec::with_capacity(alloc, records.len())?;
-            for record in records {
-                column.push(number(record))?;
-            }
-            return Ok(Column::Wide(column));
-        };
-        let mut column = Vec::with_capacity(alloc, records.len())?;
-        for record in records {
-            column.push(u32::try_from(number(record).wrapping_sub(least)).unwrap_or(0))?;
+        if most.wrapping_sub(least) > u32::MAX as u64 {
+            return Ok(Column::Wide(numbers));
+        }
+        let mut column = Vec::with_capacity(alloc, numbers.len())?;
+        for number in &numbers {
+            column.push(u32::try_from(number.wrapping_sub(least)).unwrap_or(0))?;
         }
         Ok(Column::Narrow(least, column))
     }
 
     #[inline]
-    fn at(&self, place: usize) -> u64 {
+    fn at(&self, place: usize) -> u64
+        ensures { result ≡ number_at self.now place }
+    {
         match self {
             Column::Same(number) => *number,
             Column::Narrow(base, more) => {
-                base.wrapping_add(more.get(place).copied().unwrap_or(0) as u64)
+                base.wrapping_add(small_in(more.as_slice(), place) as u64)
             }
-            Column::Wide(numbers) => numbers.get(place).copied().unwrap_or(0),
+            Column::Wide(numbers) => number_in(numbers.as_slice(), place),
         }
     }
 }
@@ -76,30 +74,28 @@ impl Part {
     /// The part of these records.
     pub fn new(alloc: Global, records: &[Record]) -> Result<Part, AllocError> {
         let mut keys = Vec::with_capacity(alloc, records.len())?;
-        let mut operations = Vec::new(alloc);
+        let mut times = Vec::with_capacity(alloc, records.len())?;
+        let mut sizes = Vec::with_capacity(alloc, records.len())?;
+        let mut ttls = Vec::with_capacity(alloc, records.len())?;
         for record in records {
             keys.push(record.key)?;
-        }
-        if records
-            .iter()
-            .any(|record| record.operation != Operation::Get)
-        {
-            operations.reserve(records.len())?;
-            for record in records {
-                operations.push(record.operation)?;
-            }
+            times.push(record.time)?;
+            sizes.push(record.size)?;
+            ttls.push(record.ttl.unwrap_or(EVER))?;
         }
         Ok(Part {
             keys,
-            times: Column::new(alloc, records, |record| record.time)?,
-            sizes: Column::new(alloc, records, |record| record.size)?,
-            ttls: Column::new(alloc, records, |record| record.ttl.unwrap_or(EVER))?,
-            operations,
+            times: Column::of(alloc, times)?,
+            sizes: Column::of(alloc, sizes)?,
+            ttls: Column::of(alloc, ttls)?,
+            operations: operations_of(alloc, records)?,
         })
     }
 
     /// How many records there are.
-    pub fn len(&self) -> usize {
+    pub fn len(&self) -> usize
+        ensures { result ≡ length self.now.keys.items }
+    {
         self.keys.len()
     }
 
@@ -110,45 +106,66 @@ impl Part {
 
     /// What the record at a place asks.
     #[inline]
-    pub fn operation(&self, place: usize) -> Operation {
-        self.operations
-            .get(place)
-            .copied()
-            .unwrap_or(Operation::Get)
+    pub fn operation(&self, place: usize) -> Operation
+        ensures { result ≡ operation_at self.now place }
+    {
+        match self.operations.get(place) {
+            Some(operation) => *operation,
+            None => Operation::Get,
+        }
     }
 
     /// How many bytes the record at a place has.
     #[inline]
-    pub fn size(&self, place: usize) -> u64 {
+    pub fn size(&self, place: usize) -> u64
+        ensures { result ≡ number_at self.now.sizes place }
+    {
         self.sizes.at(place)
     }
 
     /// The request of the record at a place.
     #[inline]
-    pub fn request(&self, place: usize, terms: Terms) -> Request {
+    pub fn request(&self, place: usize, terms: Terms) -> Request
+        ensures { result ≡ request_at self.now terms place }
+    {
         let time = self.times.at(place);
-        let size = self.sizes.at(place);
-        let ttl = match terms.ttl {
+        let ttl = self.life(place, terms.ttl);
+        Request {
+            key: number_in(self.keys.as_slice(), place),
+            time,
+            weight: self.weight(place, terms.weighs_sizes),
+            expiry: expiry_of(time, ttl),
+            size: self.sizes.at(place),
+            operation: self.operation(place),
+        }
+    }
+
+    // How long the record at a place lives, if not as is said of all.
+    #[inline]
+    fn life(&self, place: usize, all: Option<u64>) -> u64
+        ensures { result ≡ life_at self.now all place }
+    {
+        match all {
             Some(ttl) => ttl,
             None => self.ttls.at(place),
-        };
-        Request {
-            key: self.keys.get(place).copied().unwrap_or(0),
-            time,
-            weight: if terms.weighs_sizes { size } else { 1 },
-            expiry: if ttl == EVER {
-                None
-            } else {
-                Some(time.saturating_add(ttl))
-            },
-            size,
-            operation: self.operation(place),
+        }
+    }
+
+    // What the record at a place weighs.
+    #[inline]
+    fn weight(&self, place: usize, weighs_sizes: bool) -> u64
+        ensures { result ≡ weight_at self.now weighs_sizes place }
+    {
+        if weighs_sizes {
+            self.sizes.at(place)
+        } else {
+            1
         }
     }
 }
 
 /// How records become requests.
-#[derive(Clone, Copy, Debug, Default)]
+#[derive(Clone, Copy)]
 pub struct Terms {
     /// Whether a record weighs its size, and not 1.
     pub weighs_sizes: bool,
@@ -156,8 +173,83 @@ pub struct Terms {
     pub ttl: Option<u64>,
 }
 
+// When a record of this time and life expires.
+#[inline]
+fn expiry_of(time: u64, ttl: u64) -> Option<u64>
+    ensures { result ≡ expiry_at time ttl }
+{
+    if ttl == EVER {
+        return None;
+    }
+    Some(time.saturating_add(ttl))
+}
+
+// The number at a place.
+#[inline]
+fn number_in(numbers: &[u64], place: usize) -> u64
+    ensures { result ≡ slice_index numbers.now place }
+{
+    match numbers.get(place) {
+        Some(number) => *number,
+        None => 0,
+    }
+}
+
+// The small number at a place.
+#[inline]
+fn small_in(numbers: &[u32], place: usize) -> u32
+    ensures { result ≡ slice_index numbers.now place }
+{
+    match numbers.get(place) {
+        Some(number) => *number,
+        None => 0,
+    }
+}
+
+// What the records ask, or nothing if all are gets.
+fn operations_of(alloc: Global, records: &[Record]) -> Result<Vec<Operation>, AllocError> {
+    let mut operations = Vec::new(alloc);
+    if records
+        .iter()
+        .all(|record| record.operation == Operation::Get)
+    {
+        return Ok(operations);
+    }
+    operations.reserve(records.len())?;
+    for record in records {
+        operations.push(record.operation)?;
+    }
+    Ok(operations)
+}
+
+/// The requests that the records of a part become.
+#[derive(Clone, Copy)]
+pub struct PartRequests<'a> {
+    pub part: &'a Part,
+    pub terms: Terms,
+}
+
+impl Requests for PartRequests<'_> {
+    ghost use Rattle.std.specs.Prelude.{length};
+    ghost use Rattle.foyer_trace.specs.Trace.{request_at};
+
+    ghost nth = { λ v place. request_at v.part.now v.terms place };
+
+    ghost count = { λ v. length v.part.now.keys.items };
+
+    #[inline]
+    fn len(&self) -> usize {
+        self.part.len()
+    }
+
+    #[inline]
+    fn request(&self, place: usize) -> Request {
+        self.part.request(place, self.terms)
+    }
+}
+
 /// What is known of all records of a trace.
-#[derive(Clone, Copy, Debug, Default)]
+#[derive(Clone, Copy, Default)]
 pub struct Totals {
     /// How many records were read, and replayed if they are in the sample.
     pub read: u64,

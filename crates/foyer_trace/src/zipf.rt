@@ -9,7 +9,7 @@ use std::alloc::Global;
 use std::io::Write;
 
 /// Zipf's law: the key of rank r, from 1 on, is as likely as 1 / r^skew.
-#[derive(Clone, Copy, Debug, PartialEq)]
+#[derive(Clone, Copy)]
 pub struct Zipf {
     /// How many requests there are.
     pub ops: u64,

@@ -1,10 +1,12 @@
 //! Calls on a shard's entries, and `get`.
 
 ghost use Rattle.std.specs.Prelude.{◌≡◌, ◌≢◌, ◌<◌, ◌↔◌, ◌⊎◌, OnErr, IfOk, IfErr, IfSome, IsTrue, true};
+ghost use Rattle.foyer_core.specs.Looks.{IfHit, look_whole};
 
 use super::Shard;
 use crate::entry::{CoreEntry, Leave};
 use crate::finder::Finder;
+use crate::outcome::{Foreign, Got};
 use foyer_policy::{Eviction, Key, Properties, Result, Value};
 
 impl<E: Eviction, K: Key, V: Value, P: Properties, N: Drop, R: Drop, I: Finder<K>> Shard<
@@ -32,14 +34,39 @@ impl<E: Eviction, K: Key, V: Value, P: Properties, N: Drop, R: Drop, I: Finder<K
         ensures asked { IfOk result (λ found. IfSome found (λ entry. K.eq key.now entry.kept.key ≡ true)) }
         ensures opens { opens_of self.new ≡ opens_of self.old }
     {
-        self.store.get(now, hash, key)
+        self.look_up(now, hash, key, true).into_result()
     }
 
-    /// Gives an entry back and returns what left with it.
+    /// Looks a key up as `get` does. Unless `told`, the entry has no share for `left`, which saves counting one.
+    #[inline(always)]
+    pub fn look_up(&mut self, now: u64, hash: u64, key: &K, told: bool) -> Got<K, V, P>
+        ensures gets { Gets (meaning_of self.old) now (state_of self.old) (hash, key.now) (look_whole result) (state_of self.new) }
+        ensures asked { IfHit result (λ entry. K.eq key.now entry.kept.key ≡ true) }
+        ensures told { IfHit result (λ entry. entry.left ≡ told) }
+        ensures opens { opens_of self.new ≡ opens_of self.old }
+    {
+        self.store.look_up(now, hash, key, told)
+    }
+
+    /// Takes an entry's handle back and returns what left with it. Then the entry must be discarded.
     ///
-    /// With its last handle a resident record is released, a phantom one leaves, and any other is forgotten. An entry
-    /// with another core's number, or whose id has no handle here, comes back as `Err`, and nothing has changed.
-    /// Takes no memory.
+    /// With its last handle a resident record is released, a phantom one leaves, and any other is forgotten. If the entry
+    /// has another core's number, or its id has no handle here, it is `Foreign`, and nothing has changed. Takes no memory.
+    #[inline(always)]
+    pub fn take_back(
+        &mut self,
+        entry: &CoreEntry<K, V, P>,
+    ) -> std::result::Result<Option<Leave<K, V, P>>, Foreign>
+        ensures taken { IfOk result (λ leave. (entry.now.number ≡ (state_of self.old).number)
+            × GivesBack (meaning_of self.old) (state_of self.old) entry.now.id leave (state_of self.new)) }
+        ensures foreign { OnErr result ((entry.now.number ≢ (state_of self.old).number) ⊎ (handles_in (state_of self.old) entry.now.id ≡ 0)) }
+        ensures err { OnErr result (state_of self.new ≡ state_of self.old) }
+        ensures opens { opens_of self.new ≡ opens_of self.old }
+    {
+        self.store.take_back(entry)
+    }
+
+    /// Gives an entry back and returns what left with it, as `take_back` does. A foreign entry comes back as `Err`.
     #[inline(always)]
     pub fn give_back(
         &mut self,
@@ -52,7 +79,13 @@ impl<E: Eviction, K: Key, V: Value, P: Properties, N: Drop, R: Drop, I: Finder<K
         ensures err { OnErr result (state_of self.new ≡ state_of self.old) }
         ensures opens { opens_of self.new ≡ opens_of self.old }
     {
-        self.store.give_back(entry)
+        match self.take_back(&entry) {
+            Ok(leave) => {
+                entry.discard();
+                Ok(leave)
+            }
+            Err(_) => Err(entry),
+        }
     }
 
     /// Returns one more entry of the same record, with the same source. It counts as a handle and not as a use.

@@ -174,7 +174,7 @@ impl<E: Eviction, K: Key, V: Value, P: Properties, N: Drop, R: Drop, I: Finder<K
         let mut leaves = Vec::new(alloc);
         let came = self
             .store
-            .emplace(alloc, now, kept, source, further, &mut leaves);
+            .emplace_data(alloc, now, kept, source, further, &mut leaves);
         Ended::found(waiters, came, leaves)
     }
 
@@ -253,10 +253,9 @@ impl<E: Eviction, K: Key, V: Value, P: Properties, N: Drop, R: Drop, I: Finder<K
             return Ended::lost(alloc);
         };
         let further = waiters.len() - 1;
-        let refusal = self
+        let error = self
             .store
-            .new_refusal(hash, key, properties, weight, further);
-        let reason = refusal.unwrap_or(Reason::NoMemory);
-        Ended::found(waiters, Err(Error::new(reason)), Vec::new(alloc))
+            .out_of_memory(hash, key, properties, weight, further);
+        Ended::found(waiters, Err(error), Vec::new(alloc))
     }
 }

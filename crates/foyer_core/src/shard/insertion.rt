@@ -1,17 +1,19 @@
 //! Inserts into a shard.
 
-ghost use Rattle.std.specs.Prelude.{◌≡◌, ◌+◌, ◌<◌, ◌^◌, IfOk, MatchResult, OnErr, true};
+ghost use Rattle.std.specs.Prelude.{◌≡◌, ◌+◌, ℕ, [], ◌<◌, ◌^◌, None, IfOk, MatchResult, OnErr, true, false};
+ghost use Rattle.foyer_core.specs.Looks.{whole};
 ghost use Rattle.foyer_core.specs.Inflight.{closed, waiters_of};
 ghost use Rattle.foyer_core.specs.Onto.{insertion_onto};
 ghost use Rattle.foyer_core.specs.Waited.{AnswersEach, waiting_for};
 
 use super::Shard;
-use crate::entry::Leave;
+use crate::entry::{CoreEntry, Leave};
 use crate::finder::Finder;
 use crate::outcome::{Answers, Further, Handles, InsertedOnto};
 use crate::piece::Piece;
 use crate::record::Data;
-use foyer_policy::{Eviction, Key, Properties, Result, Source, Value};
+use crate::share::Share;
+use foyer_policy::{Error, Eviction, Key, Properties, Result, Source, Value};
 use std::alloc::Global;
 
 impl<E: Eviction, K: Key, V: Value, P: Properties, N: Drop, R: Drop, I: Finder<K>> Shard<
@@ -59,26 +61,43 @@ impl<E: Eviction, K: Key, V: Value, P: Properties, N: Drop, R: Drop, I: Finder<K
         ensures closed { IfOk result (λ made. opens_of self.new ≡ closed K.eq (opens_of self.old) (key_of made.entry.kept)) }
         ensures opens { OnErr result (opens_of self.new ≡ opens_of self.old) }
     {
-        if !self.inflights.is_empty() {
-            return self.emplace_answering(alloc, now, kept, source, leaves);
-        }
-        match self.store.emplace_one(alloc, now, kept, source, leaves) {
-            Ok(entry) => Ok(InsertedOnto {
-                entry,
-                answers: Answers::nobody(alloc),
-            }),
-            Err(error) => Err(error),
+        match Share::new(alloc, kept) {
+            Ok(kept) => self.emplace_share(alloc, now, kept, source, leaves),
+            Err(kept) => {
+                Err(self.out_of_memory(kept.hash, &kept.key, &kept.properties, kept.weight))
+            }
         }
     }
 
-    // Inserts as `emplace` does, if there are open fetches.
+    // The error of an insert of a new record with these parts for which memory runs out: F10, F9 or F8 if it has one of
+    // these, with a handle for each waiter, else F7.
     #[cold]
-    #[inline(never)]
-    fn emplace_answering(
+    fn out_of_memory(&self, hash: u64, key: &K, properties: &P, weight: usize) -> Error
+        ensures { (now : ℕ) (value : V) → RefusesInsert (at_moment now (meaning_of self.now)) (state_of self.now)
+            (newcomer (state_of self.now) (record {
+              key = key.now;
+              value = value;
+              properties = properties.now;
+              hash =
+                  hash;
+              weight = weight;
+            }) (1 + waiting_for (opens_of self.now) (hash, key.now))) result [] (state_of self.now) }
+    {
+        let further = self.further(hash, key);
+        self.store
+            .out_of_memory(hash, key, properties, weight, further.count)
+    }
+
+    /// Inserts a record with this share of its data, as `emplace` does.
+    ///
+    /// # Errors
+    /// Those of `emplace`.
+    #[inline(always)]
+    pub fn emplace_share(
         &mut self,
         alloc: Global,
         now: u64,
-        kept: Data<K, V, P>,
+        kept: Share<K, V, P>,
         source: Source,
         leaves: &mut Vec<Leave<K, V, P>>,
     ) -> Result<InsertedOnto<K, V, P, N>>
@@ -91,7 +110,79 @@ impl<E: Eviction, K: Key, V: Value, P: Properties, N: Drop, R: Drop, I: Finder<K
         ensures closed { IfOk result (λ made. opens_of self.new ≡ closed K.eq (opens_of self.old) (key_of made.entry.kept)) }
         ensures opens { OnErr result (opens_of self.new ≡ opens_of self.old) }
     {
-        let further = self.further(kept.hash, &kept.key);
+        if self.has_fetches() {
+            return self.emplace_answering(alloc, now, kept, source, leaves);
+        }
+        let Some(mut entry) = CoreEntry::of_share(&kept, source, true) else {
+            let (key, properties) = (kept.key(), kept.properties());
+            return Err(self.out_of_memory(kept.hash(), key, properties, kept.weight()));
+        };
+        match self.place(now, kept, &mut entry, leaves) {
+            Ok(()) => Ok(InsertedOnto {
+                entry,
+                answers: Answers::nobody(alloc),
+            }),
+            Err(error) => {
+                entry.discard();
+                Err(error)
+            }
+        }
+    }
+
+    /// Returns whether a fetch is open.
+    #[inline(always)]
+    pub fn has_fetches(&self) -> bool
+        ensures { result ≡ false → (k : ℕ × K) → (opens_of self.now).by_key k ≡ None }
+    {
+        !self.inflights.is_empty()
+    }
+
+    /// Inserts a record with this share of its data as `emplace` does, while no fetch is open, and says in an entry that was made
+    /// of the share where the record stands. After an error the entry must be discarded.
+    ///
+    /// # Errors
+    /// Those of `emplace`.
+    #[inline(always)]
+    pub fn place(
+        &mut self,
+        now: u64,
+        kept: Share<K, V, P>,
+        entry: &mut CoreEntry<K, V, P>,
+        leaves: &mut Vec<Leave<K, V, P>>,
+    ) -> Result<()>
+        requires clones { (k c : K) → K.is_clone k c → K.eq c k ≡ true }
+        requires alone { (k : ℕ × K) → (opens_of self.old).by_key k ≡ None }
+        requires of { entry.old.kept ≡ kept }
+        ensures inserted { GoesOn leaves.old.items leaves.new.items (λ ls. MatchResult result
+            (λ _. Inserts (at_moment now (meaning_of self.old)) entry.old.source (state_of self.old) (newcomer (state_of self.old) kept 1) ls (whole entry.new) (state_of self.new))
+            (λ error. RefusesInsert (at_moment now (meaning_of self.old)) (state_of self.old) (newcomer (state_of self.old) kept 1) error ls (state_of self.new))) }
+        ensures stays { entry.new ≡ record entry.old { number = entry.new.number; id = entry.new.id } }
+        ensures opens { opens_of self.new ≡ opens_of self.old }
+    {
+        self.store.place(now, kept, entry, leaves)
+    }
+
+    // Inserts as `emplace` does, if there are open fetches.
+    #[cold]
+    #[inline(never)]
+    fn emplace_answering(
+        &mut self,
+        alloc: Global,
+        now: u64,
+        kept: Share<K, V, P>,
+        source: Source,
+        leaves: &mut Vec<Leave<K, V, P>>,
+    ) -> Result<InsertedOnto<K, V, P, N>>
+        requires clones { (k c : K) → K.is_clone k c → K.eq c k ≡ true }
+        ensures inserted { let handles = 1 + waiting_for (opens_of self.old) (key_of kept) in GoesOn leaves.old.items leaves.new.items (λ ls. MatchResult result
+            (λ made. Inserts (at_moment now (meaning_of self.old)) source (state_of self.old) (newcomer (state_of self.old) kept handles) ls made.entry (state_of self.new))
+            (λ error. RefusesInsert (at_moment now (meaning_of self.old)) (state_of self.old) (newcomer (state_of self.old) kept handles) error ls (state_of self.new))) }
+        ensures given { IfOk result (λ made. made.entry.kept ≡ kept) }
+        ensures answers { IfOk result (λ made. AnswersEach (waiters_of ((opens_of self.old).by_key (key_of made.entry.kept))) made.entry made.answers) }
+        ensures closed { IfOk result (λ made. opens_of self.new ≡ closed K.eq (opens_of self.old) (key_of made.entry.kept)) }
+        ensures opens { OnErr result (opens_of self.new ≡ opens_of self.old) }
+    {
+        let further = self.further(kept.hash(), kept.key());
         match self
             .store
             .emplace(alloc, now, kept, source, further, leaves)

@@ -1,6 +1,6 @@
 //! How a record is entered in index and policy, once there is room.
 
-ghost use Rattle.std.specs.Prelude.{◌≡◌, ℕ, ◌+◌, ◌<◌, ◌≤◌, ◌^◌, Some, None, OnErr, IfOk, IsSome, IsSomeAnd, max, nat_eq, true, false};
+ghost use Rattle.std.specs.Prelude.{◌≡◌, ℕ, ◌+◌, ◌<◌, ◌≤◌, ◌^◌, Some, None, IfSome, IfNone, IsSome, IsSomeAnd, max, nat_eq, true, false};
 ghost use Rattle.std.specs.Option.{ForSome};
 ghost use Rattle.std.specs.Map.{update};
 ghost use Rattle.foyer_policy.specs.Policy.{without};
@@ -16,7 +16,7 @@ use crate::entry::Left;
 use crate::finder::Finder;
 use crate::records::Records;
 use crate::slot::Slot;
-use foyer_policy::{Eviction, Hint, Item, Key, Place, Properties, Result, Value};
+use foyer_policy::{Eviction, Hint, Item, Key, Place, Properties, Value};
 
 impl<E: Eviction, K: Key, V: Value, P: Properties, I: Finder<K>> Store<E, K, V, P, I> {
     ghost use Rattle.foyer_core.specs.Stores.{state_of, meaning_of, HasPlaces};
@@ -24,13 +24,13 @@ impl<E: Eviction, K: Key, V: Value, P: Properties, I: Finder<K>> Store<E, K, V, 
     ghost use Rattle.foyer_core.specs.Steps.{GivesWay, Admits, HasId};
 
     // Enters a record, for which there is room, in place of what is held under its id, and removes its key's record.
-    // Fails if the index has no room; nothing has changed.
+    // Returns nothing if the index has no room; nothing has changed.
     #[inline(always)]
     pub(super) fn admit(
         &mut self,
         key: K,
         slot: Slot<K, V, P>,
-    ) -> Result<(usize, Option<Left<K, V, P>>)>
+    ) -> Option<(usize, Option<Left<K, V, P>>)>
         requires room { HasRoom self.old.records }
         requires places { HasPlaces self.old }
         requires same { K.eq key slot.kept.key ≡ true }
@@ -43,8 +43,8 @@ impl<E: Eviction, K: Key, V: Value, P: Properties, I: Finder<K>> Store<E, K, V, 
         requires fits { (b : _) (last : _) → GivesWay (meaning_of self.old)
             ((state_of self.old).index (key_of slot.kept)) (state_of self.old) b last
             → usage_of (meaning_of self.old) last + slot.kept.weight < 2 ^ 64 }
-        ensures admitted { IfOk result (λ made. Admits (meaning_of self.old) (state_of self.old) (incoming_of slot) made.1 (state_of self.new)) }
-        ensures err { OnErr result (state_of self.new ≡ state_of self.old) }
+        ensures admitted { IfSome result (λ made. Admits (meaning_of self.old) (state_of self.old) (incoming_of slot) made.1 (state_of self.new)) }
+        ensures none { IfNone result (state_of self.new ≡ state_of self.old) }
     {
         let hash = slot.hash();
         let weight = slot.weight();
@@ -54,7 +54,9 @@ impl<E: Eviction, K: Key, V: Value, P: Properties, I: Finder<K>> Store<E, K, V, 
         let was = self.slot_under(hash, &key);
         let stands = self.stands(id);
         let number = self.records.slot_for(stands);
-        self.index.put(hash, key, was, number)?;
+        let Ok(()) = self.index.put(hash, key, was, number) else {
+            return None;
+        };
         let _ = self.records.put(slot, stands);
         let (gone, replaced) = give_way(&mut self.eviction, &mut self.records, self.number, was);
         self.usage -= gone;
@@ -70,7 +72,7 @@ impl<E: Eviction, K: Key, V: Value, P: Properties, I: Finder<K>> Store<E, K, V, 
         self.usage += weight;
         self.entries += 1;
         self.next = above(self.next, id);
-        Ok((number, replaced))
+        Some((number, replaced))
     }
 
     // The slot of an id. An id that wasn't given has none.

@@ -1,6 +1,7 @@
-//! Handles of records: `get` and `give_back`.
+//! Handles of records: `look_up` and `take_back`.
 
-ghost use Rattle.std.specs.Prelude.{◌≡◌, ◌≢◌, ◌⊎◌, Some, OnErr, IfOk, IfErr, IsSomeAnd, false, option_copied, option_map};
+ghost use Rattle.std.specs.Prelude.{◌≡◌, ◌≢◌, ◌⊎◌, Some, OnErr, IfOk, IsSomeAnd, false, option_copied, option_map};
+ghost use Rattle.foyer_core.specs.Looks.{IfHit, look_whole};
 ghost use Rattle.foyer_core.specs.Values.{Kept};
 ghost use Rattle.foyer_core.specs.Records.{slot_in};
 ghost use Rattle.foyer_core.specs.Table.{rec_of};
@@ -8,64 +9,66 @@ ghost use Rattle.foyer_core.specs.Table.{rec_of};
 use super::Store;
 use crate::entry::{CoreEntry, Leave};
 use crate::finder::Finder;
+use crate::outcome::{Foreign, Got};
 use crate::slot::Slot;
-use foyer_policy::{Error, Event, Eviction, Key, Place, Properties, Reason, Result, Source, Value};
+use foyer_policy::{Event, Eviction, Key, Place, Properties, Source, Value};
 
 impl<E: Eviction, K: Key, V: Value, P: Properties, I: Finder<K>> Store<E, K, V, P, I> {
     ghost use Rattle.foyer_core.specs.Stores.{state_of, meaning_of};
     ghost use Rattle.foyer_core.specs.State.{handles_in};
     ghost use Rattle.foyer_core.specs.Steps.{Gets, GivesBack};
 
-    /// Returns an entry of the key's record, as `Shard::get` does. Allocates nothing.
+    /// Returns an entry of the key's record, as `Shard::look_up` does. Allocates nothing.
     #[inline(always)]
-    pub fn get(&mut self, now: u64, hash: u64, key: &K) -> Result<Option<CoreEntry<K, V, P>>>
-        ensures gets { Gets (meaning_of self.old) now (state_of self.old) (hash, key.now) result (state_of self.new) }
+    pub fn look_up(&mut self, now: u64, hash: u64, key: &K, told: bool) -> Got<K, V, P>
+        ensures gets { Gets (meaning_of self.old) now (state_of self.old) (hash, key.now) (look_whole result) (state_of self.new) }
+        ensures told { IfHit result (λ e. e.left ≡ told) }
     {
         let Some((slot, found)) = self.live_under(now, hash, key) else {
-            return Ok(None);
+            return Got::Miss;
         };
         if found.handles() >= self.limits.handles {
-            return Err(Error::new(Reason::Handles));
+            return Got::Full;
         }
         let place = Place::at(slot);
         // It always returns true, and the arm is never reached. It is called so that the item's node and its
         // neighbors are read before shares are counted (store/ahead.rt). An `unreachable!()` would let the compiler
         // drop these reads.
         if !self.eviction.look_ahead(place) {
-            return Ok(None);
+            return Got::Miss;
         }
-        let entry = found.entry(self.number, slot, Source::Memory)?;
+        let Some(entry) = found.entry(self.number, slot, Source::Memory, told) else {
+            return Got::OutOfMemory;
+        };
         self.records.add_handle(slot);
         self.eviction.acquire(place);
-        Ok(Some(entry))
+        Got::Hit(entry)
     }
 
-    /// Gives an entry back and returns what left with it, as `Shard::give_back` does. Takes no memory.
+    /// Takes an entry's handle back and returns what left with it, as `Shard::take_back` does. Takes no memory.
     #[inline(always)]
-    pub fn give_back(
+    pub fn take_back(
         &mut self,
-        entry: CoreEntry<K, V, P>,
-    ) -> std::result::Result<Option<Leave<K, V, P>>, CoreEntry<K, V, P>>
-        ensures taken { IfOk result (λ leave. (entry.number ≡ (state_of self.old).number)
-            × GivesBack (meaning_of self.old) (state_of self.old) entry.id leave (state_of self.new)) }
-        ensures returned { IfErr result (λ e. e ≡ entry) }
-        ensures foreign { OnErr result ((entry.number ≢ (state_of self.old).number) ⊎ (handles_in (state_of self.old) entry.id ≡ 0)) }
+        entry: &CoreEntry<K, V, P>,
+    ) -> std::result::Result<Option<Leave<K, V, P>>, Foreign>
+        ensures taken { IfOk result (λ leave. (entry.now.number ≡ (state_of self.old).number)
+            × GivesBack (meaning_of self.old) (state_of self.old) entry.now.id leave (state_of self.new)) }
+        ensures foreign { OnErr result ((entry.now.number ≢ (state_of self.old).number) ⊎ (handles_in (state_of self.old) entry.now.id ≡ 0)) }
         ensures err { OnErr result (state_of self.new ≡ state_of self.old) }
     {
         if entry.number() != self.number {
-            return Err(entry);
+            return Err(Foreign);
         }
         let Some(slot) = self.records.find(entry.id(), entry.slot()) else {
-            return Err(entry);
+            return Err(Foreign);
         };
         let Some(found) = self.records.get(slot) else {
             unreachable!();
         };
         let handles = found.handles();
         if handles == 0 {
-            return Err(entry);
+            return Err(Foreign);
         }
-        entry.discard();
         if handles > 1 {
             self.records.take_handle(slot);
             return Ok(None);

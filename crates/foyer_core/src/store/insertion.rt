@@ -1,8 +1,10 @@
 //! Inserts of new records.
 
-ghost use Rattle.std.specs.Prelude.{◌≡◌, ◌+◌, ◌<◌, ◌≤◌, ◌^◌, Some, None, OnOk, IfOk, MatchResult, replicate, true, false, vec_len, vec_capacity};
+ghost use Rattle.std.specs.Prelude.{◌≡◌, ◌+◌, ◌<◌, ◌≤◌, ◌^◌, Some, None, OnOk, IfOk, MatchOption, MatchResult, replicate, true, false, vec_len, vec_capacity};
 ghost use Rattle.foyer_policy.specs.Properties.{is_phantom};
 ghost use Rattle.foyer_policy.specs.declared.types.Source.{Source};
+ghost use Rattle.foyer_policy.specs.declared.error.Reason.TheVariants.{NoMemory};
+ghost use Rattle.foyer_core.specs.Looks.{whole};
 ghost use Rattle.foyer_core.specs.Values.{Rec, incoming_of};
 ghost use Rattle.foyer_core.specs.Records.{HasRoom};
 
@@ -29,6 +31,33 @@ impl<E: Eviction, K: Key, V: Value, P: Properties, I: Finder<K>> Store<E, K, V, 
         &mut self,
         alloc: Global,
         now: u64,
+        kept: Share<K, V, P>,
+        source: Source,
+        further: Further,
+        leaves: &mut Vec<Leave<K, V, P>>,
+    ) -> Result<Handles<K, V, P>>
+        requires clones { (k c : K) → K.is_clone k c → K.eq c k ≡ true }
+        requires listed { further.count + further.room < 2 ^ 64 }
+        ensures inserted { GoesOn leaves.old.items leaves.new.items (λ ls. MatchResult result
+            (λ made. Inserts (at_moment now (meaning_of self.old)) source (state_of self.old)
+            (newcomer (state_of self.old) kept (1 + further.count)) ls made.entry (state_of self.new))
+            (λ error. RefusesInsert (at_moment now (meaning_of self.old)) (state_of self.old)
+            (newcomer (state_of self.old) kept (1 + further.count)) error ls (state_of self.new))) }
+        ensures others { IfOk result (λ made. made.others.items ≡ replicate further.count made.entry) }
+        ensures room { IfOk result (λ made. vec_len made.others + further.room ≤ vec_capacity made.others) }
+    {
+        if let Some(reason) = self.share_refusal(&kept, further.count) {
+            return Err(Error::new(reason));
+        }
+        let slot = Slot::outside(kept, self.next, 1 + further.count);
+        self.emplace_slot(alloc, now, slot, source, further, leaves)
+    }
+
+    /// Inserts a record of these data as `emplace` does.
+    pub(crate) fn emplace_data(
+        &mut self,
+        alloc: Global,
+        now: u64,
         kept: Data<K, V, P>,
         source: Source,
         further: Further,
@@ -44,46 +73,48 @@ impl<E: Eviction, K: Key, V: Value, P: Properties, I: Finder<K>> Store<E, K, V, 
         ensures others { IfOk result (λ made. made.others.items ≡ replicate further.count made.entry) }
         ensures room { IfOk result (λ made. vec_len made.others + further.room ≤ vec_capacity made.others) }
     {
-        if let Some(reason) = self.data_refusal(&kept, further.count) {
-            return Err(Error::new(reason));
+        match Share::new(alloc, kept) {
+            Ok(kept) => self.emplace(alloc, now, kept, source, further, leaves),
+            Err(kept) => Err(self.out_of_memory(
+                kept.hash,
+                &kept.key,
+                &kept.properties,
+                kept.weight,
+                further.count,
+            )),
         }
-        let id = self.next;
-        let Ok(share) = Share::new(alloc, kept) else {
-            return Err(Error::new(Reason::NoMemory));
-        };
-        let slot = Slot::outside(share, id, 1 + further.count);
-        self.come(alloc, now, slot, source, further, leaves)
     }
 
-    /// Inserts a record as `emplace` does, but returns a single handle and allocates no list for more.
+    /// Inserts the record of an entry as `Shard::place` does.
     #[inline(always)]
-    pub(crate) fn emplace_one(
+    pub(crate) fn place(
         &mut self,
-        alloc: Global,
         now: u64,
-        kept: Data<K, V, P>,
-        source: Source,
+        kept: Share<K, V, P>,
+        entry: &mut CoreEntry<K, V, P>,
         leaves: &mut Vec<Leave<K, V, P>>,
-    ) -> Result<CoreEntry<K, V, P>>
+    ) -> Result<()>
         requires clones { (k c : K) → K.is_clone k c → K.eq c k ≡ true }
+        requires of { entry.old.kept ≡ kept }
         ensures inserted { GoesOn leaves.old.items leaves.new.items (λ ls. MatchResult result
-            (λ entry. Inserts (at_moment now (meaning_of self.old)) source (state_of self.old) (newcomer (state_of self.old) kept 1) ls entry (state_of self.new))
+            (λ _. Inserts (at_moment now (meaning_of self.old)) entry.old.source (state_of self.old) (newcomer (state_of self.old) kept 1) ls (whole entry.new) (state_of self.new))
             (λ error. RefusesInsert (at_moment now (meaning_of self.old)) (state_of self.old) (newcomer (state_of self.old) kept 1) error ls (state_of self.new))) }
+        ensures stays { entry.new ≡ record entry.old { number = entry.new.number; id = entry.new.id } }
     {
-        if let Some(reason) = self.data_refusal(&kept, 0) {
+        if let Some(reason) = self.share_refusal(&kept, 0) {
             return Err(Error::new(reason));
         }
-        let id = self.next;
-        let Ok(share) = Share::new(alloc, kept) else {
+        let (number, id) = (self.number, self.next);
+        let Some(slot) = self.insert_slot(now, Slot::outside(kept, id, 1), leaves) else {
             return Err(Error::new(Reason::NoMemory));
         };
-        let slot = Slot::outside(share, id, 1);
-        self.arrive(now, slot, source, leaves)
+        entry.set_place(number, id, slot);
+        Ok(())
     }
 
     // Inserts a record that only F7 can refuse, and makes handles of it. Appends what leaves.
     #[inline(always)]
-    pub(super) fn come(
+    pub(super) fn emplace_slot(
         &mut self,
         alloc: Global,
         now: u64,
@@ -108,72 +139,46 @@ impl<E: Eviction, K: Key, V: Value, P: Properties, I: Finder<K>> Store<E, K, V, 
         let Ok(others) = slot.entries(alloc, self.number, source, further) else {
             return Err(Error::new(Reason::NoMemory));
         };
-        match self.arrive(now, slot, source, leaves) {
-            Ok(entry) => Ok(Handles { entry, others }),
-            Err(error) => {
-                discard_all(others);
-                Err(error)
-            }
-        }
-    }
-
-    // Inserts as `come` does, with a single entry.
-    #[inline(always)]
-    fn arrive(
-        &mut self,
-        now: u64,
-        slot: Slot<K, V, P>,
-        source: Source,
-        leaves: &mut Vec<Leave<K, V, P>>,
-    ) -> Result<CoreEntry<K, V, P>>
-        requires clones { (k c : K) → K.is_clone k c → K.eq c k ≡ true }
-        requires apart { slot ≡ record slot { resident = false } }
-        requires out { (r : Rec K V P) → (state_of self.old).records slot.id ≡ Some r → r.resident ≡ false }
-        requires number { slot.id + 1 < 2 ^ 64 }
-        requires held { 0 < slot.handles }
-        requires may { MayBy (meaning_of self.old) (is_phantom_record (meaning_of self.old) slot.kept) (state_of self.old) (incoming_of slot) }
-        ensures inserted { GoesOn leaves.old.items leaves.new.items (λ ls. MatchResult result
-            (λ entry. Inserts (at_moment now (meaning_of self.old)) source (state_of self.old) (incoming_of slot) ls entry (state_of self.new))
-            (λ error. RefusesInsert (at_moment now (meaning_of self.old)) (state_of self.old) (incoming_of slot) error ls (state_of self.new))) }
-    {
-        let Ok(mut entry) = slot.entry(self.number, 0, source) else {
+        let Some(mut entry) = slot.entry(self.number, 0, source, true) else {
+            discard_all(others);
             return Err(Error::new(Reason::NoMemory));
         };
-        match self.settle(now, slot, leaves) {
-            Ok(place) => {
-                entry.set_slot(place);
-                Ok(entry)
+        match self.insert_slot(now, slot, leaves) {
+            Some(slot) => {
+                entry.set_slot(slot);
+                Ok(Handles { entry, others })
             }
-            Err(error) => {
+            None => {
                 entry.discard();
-                Err(error)
+                discard_all(others);
+                Err(Error::new(Reason::NoMemory))
             }
         }
     }
 
-    // Inserts as `arrive` does, with no entry, and returns the record's slot. An entry with any source would be of
-    // it.
+    // Inserts as `emplace_slot` does, with no entry, and returns the record's slot, or nothing if memory runs out. An entry with any
+    // source would be of it.
     #[inline(always)]
-    fn settle(
+    fn insert_slot(
         &mut self,
         now: u64,
         slot: Slot<K, V, P>,
         leaves: &mut Vec<Leave<K, V, P>>,
-    ) -> Result<usize>
+    ) -> Option<usize>
         requires clones { (k c : K) → K.is_clone k c → K.eq c k ≡ true }
         requires apart { slot ≡ record slot { resident = false } }
         requires out { (r : Rec K V P) → (state_of self.old).records slot.id ≡ Some r → r.resident ≡ false }
         requires number { slot.id + 1 < 2 ^ 64 }
         requires held { 0 < slot.handles }
         requires may { MayBy (meaning_of self.old) (is_phantom_record (meaning_of self.old) slot.kept) (state_of self.old) (incoming_of slot) }
-        ensures inserted { (source : Source) → GoesOn leaves.old.items leaves.new.items (λ ls. MatchResult result
-            (λ _. Settles (at_moment now (meaning_of self.old)) source (state_of self.old) (incoming_of slot) ls (state_of self.new))
-            (λ error. RefusesInsert (at_moment now (meaning_of self.old)) (state_of self.old) (incoming_of slot) error ls (state_of self.new))) }
+        ensures inserted { (source : Source) → GoesOn leaves.old.items leaves.new.items (λ ls. MatchOption result
+            (RefusesInsert (at_moment now (meaning_of self.old)) (state_of self.old) (incoming_of slot) NoMemory ls (state_of self.new))
+            (λ _. Settles (at_moment now (meaning_of self.old)) source (state_of self.old) (incoming_of slot) ls (state_of self.new))) }
     {
         if slot.properties().phantom().unwrap_or(false) {
-            return self.hold_in(slot, leaves);
+            return self.insert_phantom(slot, leaves);
         }
-        self.bring_in(now, slot, leaves)
+        self.insert_plain(now, slot, leaves)
     }
 
     // Inserts a plain record that only F7 can refuse: one with a new id, or one that comes back under its own.
@@ -181,37 +186,37 @@ impl<E: Eviction, K: Key, V: Value, P: Properties, I: Finder<K>> Store<E, K, V, 
     // Never inlined, at a place where little is handed over: inlined with all around it, the caller would be too
     // large.
     #[inline(never)]
-    fn bring_in(
+    fn insert_plain(
         &mut self,
         now: u64,
         mut slot: Slot<K, V, P>,
         leaves: &mut Vec<Leave<K, V, P>>,
-    ) -> Result<usize>
+    ) -> Option<usize>
         requires clones { (k c : K) → K.is_clone k c → K.eq c k ≡ true }
         requires plain { is_phantom (P.phantom_of slot.kept.properties) ≡ false }
         requires apart { slot ≡ record slot { resident = false } }
         requires out { (r : Rec K V P) → (state_of self.old).records slot.id ≡ Some r → r.resident ≡ false }
         requires held { 0 < slot.handles }
         requires may { MayInsert (meaning_of self.old) (state_of self.old) (incoming_of slot) }
-        ensures inserted { (source : Source) → GoesOn leaves.old.items leaves.new.items (λ ls. MatchResult result
-            (λ _. SettlesPlain (at_moment now (meaning_of self.old)) source (state_of self.old) (incoming_of slot) ls (state_of self.new))
-            (λ error. RefusesPlain (at_moment now (meaning_of self.old)) (state_of self.old) (incoming_of slot) error ls (state_of self.new))) }
+        ensures inserted { (source : Source) → GoesOn leaves.old.items leaves.new.items (λ ls. MatchOption result
+            (RefusesPlain (at_moment now (meaning_of self.old)) (state_of self.old) (incoming_of slot) NoMemory ls (state_of self.new))
+            (λ _. SettlesPlain (at_moment now (meaning_of self.old)) source (state_of self.old) (incoming_of slot) ls (state_of self.new))) }
     {
         let target = self.capacity.saturating_sub(slot.weight());
         let Ok(key) = self.prepare(&mut slot, leaves) else {
-            return Err(Error::new(Reason::NoMemory));
+            return None;
         };
         let Ok(()) = self.evict_onto(now, leaves, target) else {
-            return Err(Error::new(Reason::NoMemory));
+            return None;
         };
         match self.admit(key, slot) {
-            Ok((place, replaced)) => {
+            Some((place, replaced)) => {
                 if let Some(left) = replaced {
                     leaves.push_reserved((Event::Replace, left));
                 }
-                Ok(place)
+                Some(place)
             }
-            Err(_) => Err(Error::new(Reason::NoMemory)),
+            None => None,
         }
     }
 

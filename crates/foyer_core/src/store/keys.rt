@@ -48,7 +48,9 @@ impl<E: Eviction, K: Key, V: Value, P: Properties, I: Finder<K>> Store<E, K, V, 
         if found.handles() >= self.limits.handles {
             return Err(Error::new(Reason::Handles));
         }
-        let entry = found.entry(self.number, slot, Source::Memory)?;
+        let Some(entry) = found.entry(self.number, slot, Source::Memory, true) else {
+            return Err(Error::new(Reason::NoMemory));
+        };
         self.index.take(hash, key, slot);
         let item = self.eviction.remove(Place::at(slot));
         self.usage -= item.weight;

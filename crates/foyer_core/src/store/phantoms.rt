@@ -1,7 +1,8 @@
 //! Inserts of phantom records, which are never in the index.
 
-ghost use Rattle.std.specs.Prelude.{◌≡◌, ℕ, ◌+◌, ◌<◌, ◌≤◌, ◌^◌, Some, None, OnOk, IfOk, MatchResult, false, vec_len, vec_capacity};
+ghost use Rattle.std.specs.Prelude.{◌≡◌, ℕ, ◌+◌, ◌<◌, ◌≤◌, ◌^◌, Some, None, OnOk, IfOk, MatchOption, false, vec_len, vec_capacity};
 ghost use Rattle.foyer_policy.specs.declared.types.Source.{Source};
+ghost use Rattle.foyer_policy.specs.declared.error.Reason.TheVariants.{NoMemory};
 ghost use Rattle.foyer_core.specs.Records.{HasRoom};
 ghost use Rattle.foyer_core.specs.Values.{Rec, incoming_of};
 
@@ -10,7 +11,7 @@ use super::admission::above;
 use crate::entry::{Leave, Left};
 use crate::finder::Finder;
 use crate::slot::Slot;
-use foyer_policy::{Error, Event, Eviction, Key, Properties, Reason, Result, Value};
+use foyer_policy::{Event, Eviction, Key, Properties, Result, Value};
 
 impl<E: Eviction, K: Key, V: Value, P: Properties, I: Finder<K>> Store<E, K, V, P, I> {
     ghost use Rattle.foyer_core.specs.Stores.{state_of, meaning_of};
@@ -23,28 +24,28 @@ impl<E: Eviction, K: Key, V: Value, P: Properties, I: Finder<K>> Store<E, K, V, 
     // It has a new id, or comes back under its own.
     #[cold]
     #[inline(never)]
-    pub(super) fn hold_in(
+    pub(super) fn insert_phantom(
         &mut self,
         slot: Slot<K, V, P>,
         leaves: &mut Vec<Leave<K, V, P>>,
-    ) -> Result<usize>
+    ) -> Option<usize>
         requires apart { slot ≡ record slot { resident = false } }
         requires out { (r : Rec K V P) → (state_of self.old).records slot.id ≡ Some r → r.resident ≡ false }
         requires number { slot.id + 1 < 2 ^ 64 }
         requires held { 0 < slot.handles }
         requires may { MayHold (meaning_of self.old) (state_of self.old) (incoming_of slot) }
-        ensures inserted { (now : ℕ) (source : Source) → GoesOn leaves.old.items leaves.new.items (λ ls. MatchResult result
-            (λ _. SettlesPhantom (at_moment now (meaning_of self.old)) source (state_of self.old) (incoming_of slot) ls (state_of self.new))
-            (λ error. RefusesPhantom (at_moment now (meaning_of self.old)) (state_of self.old) (incoming_of slot) error ls (state_of self.new))) }
+        ensures inserted { (now : ℕ) (source : Source) → GoesOn leaves.old.items leaves.new.items (λ ls. MatchOption result
+            (RefusesPhantom (at_moment now (meaning_of self.old)) (state_of self.old) (incoming_of slot) NoMemory ls (state_of self.new))
+            (λ _. SettlesPhantom (at_moment now (meaning_of self.old)) source (state_of self.old) (incoming_of slot) ls (state_of self.new))) }
     {
         let Ok(gone) = self.prepare_phantom(&slot, leaves) else {
-            return Err(Error::new(Reason::NoMemory));
+            return None;
         };
         if let Some(left) = self.make_way(slot.hash(), slot.key()) {
             leaves.push_reserved((Event::Replace, left));
         }
         leaves.push_reserved((Event::Remove, gone));
-        Ok(self.hold(slot))
+        Some(self.hold(slot))
     }
 
     // Makes room for one record that isn't indexed and for two that leave, and returns what it is reported with.

@@ -66,20 +66,20 @@ impl<E: Eviction, K: Key, V: Value, P: Properties, I: Finder<K>> Store<E, K, V, 
     {
         if !self.knows(hash, &piece) {
             let slot = Slot::outside(piece.into_share().with(hash, weight), self.next, 1);
-            return self.come_in(alloc, now, slot, further, leaves);
+            return self.emplace_new(alloc, now, slot, further, leaves);
         }
         let id = piece.id();
         match self.records.find(id, piece.slot()) {
-            Some(slot) => self.come_back(alloc, now, slot, further, leaves),
+            Some(slot) => self.emplace_known(alloc, now, slot, further, leaves),
             None => {
                 let slot = Slot::outside(piece.into_share(), id, 1);
-                self.come_in(alloc, now, slot, further, leaves)
+                self.emplace_new(alloc, now, slot, further, leaves)
             }
         }
     }
 
     // Gives more handles to the record of a slot, and inserts it if it isn't resident.
-    fn come_back(
+    fn emplace_known(
         &mut self,
         alloc: Global,
         now: u64,
@@ -103,7 +103,7 @@ impl<E: Eviction, K: Key, V: Value, P: Properties, I: Finder<K>> Store<E, K, V, 
         if found.is_resident() {
             return self.hand_out(alloc, slot, further);
         }
-        self.come_again(alloc, now, slot, further, leaves)
+        self.emplace_held(alloc, now, slot, further, leaves)
     }
 
     // Gives more handles to a resident record.
@@ -122,7 +122,7 @@ impl<E: Eviction, K: Key, V: Value, P: Properties, I: Finder<K>> Store<E, K, V, 
         if self.passes_limit(found.handles(), further.count) {
             return Err(Error::new(Reason::Handles));
         }
-        let Ok(entry) = found.entry(self.number, slot, Source::Memory) else {
+        let Some(entry) = found.entry(self.number, slot, Source::Memory, true) else {
             return Err(Error::new(Reason::NoMemory));
         };
         let Ok(others) = found.entries(alloc, self.number, Source::Memory, further) else {
@@ -134,7 +134,7 @@ impl<E: Eviction, K: Key, V: Value, P: Properties, I: Finder<K>> Store<E, K, V, 
     }
 
     // Inserts the record of a slot that isn't resident, or refuses it.
-    fn come_again(
+    fn emplace_held(
         &mut self,
         alloc: Global,
         now: u64,
@@ -166,11 +166,11 @@ impl<E: Eviction, K: Key, V: Value, P: Properties, I: Finder<K>> Store<E, K, V, 
         };
         let id = found.id();
         let slot = Slot::outside(share, id, handles + 1 + further.count);
-        self.come(alloc, now, slot, Source::Memory, further, leaves)
+        self.emplace_slot(alloc, now, slot, Source::Memory, further, leaves)
     }
 
     // Inserts a record that the store doesn't hold, or refuses it.
-    fn come_in(
+    fn emplace_new(
         &mut self,
         alloc: Global,
         now: u64,
@@ -194,6 +194,6 @@ impl<E: Eviction, K: Key, V: Value, P: Properties, I: Finder<K>> Store<E, K, V, 
             return Err(Error::new(reason));
         }
         slot.add_handles(further.count);
-        self.come(alloc, now, slot, Source::Memory, further, leaves)
+        self.emplace_slot(alloc, now, slot, Source::Memory, further, leaves)
     }
 }

@@ -1,6 +1,6 @@
 //! Why an insert fails whatever memory there is: F10, F9 and F8.
 
-ghost use Rattle.std.specs.Prelude.{◌≡◌, [], ◌⊎◌, ◌↔◌, ◌+◌, ◌<◌, ◌≤◌, ◌^◌, false, Some, IfSome, IfNone, IsTrue};
+ghost use Rattle.std.specs.Prelude.{◌≡◌, ℕ, [], ◌⊎◌, ◌↔◌, ◌+◌, ◌<◌, ◌≤◌, ◌^◌, false, Some, IfSome, IfNone, IsTrue};
 ghost use Rattle.foyer_policy.specs.declared.error.Reason.TheVariants.{Ids, Handles, Weight};
 ghost use Rattle.foyer_policy.specs.Items.{weight_of};
 ghost use Rattle.foyer_policy.specs.Properties.{is_phantom};
@@ -8,18 +8,18 @@ ghost use Rattle.foyer_core.specs.Values.{incoming_of};
 
 use super::Store;
 use crate::finder::Finder;
-use crate::record::Data;
+use crate::share::Share;
 use crate::slot::Slot;
-use foyer_policy::{Eviction, Key, Place, Properties, Reason, Value};
+use foyer_policy::{Error, Eviction, Key, Place, Properties, Reason, Value};
 
 impl<E: Eviction, K: Key, V: Value, P: Properties, I: Finder<K>> Store<E, K, V, P, I> {
     ghost use Rattle.foyer_core.specs.Stores.{state_of, meaning_of};
-    ghost use Rattle.foyer_core.specs.State.{is_phantom_record, pinned_beside};
+    ghost use Rattle.foyer_core.specs.State.{at_moment, is_phantom_record, pinned_beside};
     ghost use Rattle.foyer_core.specs.Steps.{HasId, LacksId, MayBy, RefusesInsert, newcomer};
 
     // Why a new record can't be inserted, with so many handles beside the first, whatever memory there is.
     #[inline(always)]
-    pub(super) fn data_refusal(&self, kept: &Data<K, V, P>, further: usize) -> Option<Reason>
+    pub(super) fn share_refusal(&self, kept: &Share<K, V, P>, further: usize) -> Option<Reason>
         ensures some { IfSome result (λ reason. RefusesInsert (meaning_of self.now) (state_of self.now)
             (newcomer (state_of self.now) kept.now (1 + further)) reason [] (state_of self.now)) }
         ensures none { IfNone result (MayBy (meaning_of self.now) (is_phantom_record (meaning_of self.now) kept.now)
@@ -27,7 +27,13 @@ impl<E: Eviction, K: Key, V: Value, P: Properties, I: Finder<K>> Store<E, K, V, 
         ensures number { IfNone result (self.now.next + 1 < 2 ^ 64) }
         ensures count { IfNone result (1 + further < 2 ^ 64) }
     {
-        self.new_refusal(kept.hash, &kept.key, &kept.properties, kept.weight, further)
+        self.new_refusal(
+            kept.hash(),
+            kept.key(),
+            kept.properties(),
+            kept.weight(),
+            further,
+        )
     }
 
     // Why a new record with these parts can't be inserted, whatever its value is.
@@ -60,6 +66,31 @@ impl<E: Eviction, K: Key, V: Value, P: Properties, I: Finder<K>> Store<E, K, V, 
         } else {
             self.refusal(self.next, 0, further, hash, key, weight)
         }
+    }
+
+    // The error of an insert of a new record with these parts for which memory runs out: F10, F9 or F8 if it has one of
+    // these, else F7.
+    #[cold]
+    pub(crate) fn out_of_memory(
+        &self,
+        hash: u64,
+        key: &K,
+        properties: &P,
+        weight: usize,
+        further: usize,
+    ) -> Error
+        ensures { (now : ℕ) (value : V) → RefusesInsert (at_moment now (meaning_of self.now)) (state_of self.now)
+            (newcomer (state_of self.now) (record {
+              key = key.now;
+              value = value;
+              properties = properties.now;
+              hash =
+                  hash;
+              weight = weight;
+            }) (1 + further)) result [] (state_of self.now) }
+    {
+        let refusal = self.new_refusal(hash, key, properties, weight, further);
+        Error::new(refusal.unwrap_or(Reason::NoMemory))
     }
 
     // Why the record of a slot can't be inserted, with one handle more than these and so many further ones, whatever

@@ -30,7 +30,7 @@ where
     ///
     /// # Errors
     /// F11 with the fault, for all who wait, if the closure fails. F9, F7 as `get`; F10, F7 on a miss; what the insert is
-    /// refused with (F7 to F10).
+    /// refused with (F7 to F10); F14 if the runtime can't block this thread.
     pub fn get_or_insert_with<F>(
         &self,
         now: u64,
@@ -70,7 +70,7 @@ where
     ///
     /// # Errors
     /// F11 with the fault if the fetch fails. F9, F7 as `get`; F10, F7 on a miss; what the insert is refused with (F7 to F10,
-    /// F12).
+    /// F12); F14 if the runtime can't block this thread.
     pub fn get_or_fetch_blocking(
         &self,
         now: u64,

@@ -16,6 +16,7 @@ use foyer_policy::{
 };
 use futures::Future;
 use futures::executor::block_on;
+use std::io::{self, ErrorKind};
 
 impl<H, E, K, V, S, P, W, A, L, Q, T, I> RawCache<H, E, K, V, S, P, W, A, L, Q, T, I>
 where
@@ -40,7 +41,7 @@ where
     ///
     /// # Errors
     /// F11 with the fault, for all who wait, if the closure fails. F9, F7 as `get`; F10, F7 on a miss; what the insert is
-    /// refused with (F7 to F10).
+    /// refused with (F7 to F10); F14 if the runtime can't block this thread.
     pub fn get_or_insert_with<F>(
         &self,
         now: u64,
@@ -110,7 +111,7 @@ where
     ///
     /// # Errors
     /// F11 with the fault if the fetch fails. F9, F7 as `get`; F10, F7 on a miss; what the insert is refused with (F7 to F10,
-    /// F12).
+    /// F12); F14 if the runtime can't block this thread.
     pub fn get_or_fetch_blocking(
         &self,
         now: u64,
@@ -123,10 +124,10 @@ where
         let shards = &self.shares.shared.shards;
         let mut tasks = ListSpawner::new(shards.alloc);
         let look = self.get_or_fetch(now, key, || fetch, &mut tasks)?;
-        if block_on(&shards.rt, AllTasks::new(tasks)).is_err() {
-            return Err(Error::new(Reason::NoMemory));
+        match block_on(&shards.rt, AllTasks::new(tasks)) {
+            Ok(()) => waited(&shards.rt, look),
+            Err(error) => Err(unblocked(&error)),
         }
-        waited(&shards.rt, look)
     }
 }
 
@@ -137,11 +138,19 @@ where
     F: Future<Output = Result<Option<X>>>,
     requires { F.can_poll wait }
 {
-    let Ok(answer) = block_on(rt, wait) else {
-        return Err(Error::new(Reason::NoMemory));
-    };
-    match answer? {
-        Some(entry) => Ok(entry),
-        None => Err(Error::new(Reason::NoValue)),
+    match block_on(rt, wait) {
+        Ok(Ok(Some(entry))) => Ok(entry),
+        Ok(Ok(None)) => Err(Error::new(Reason::NoValue)),
+        Ok(Err(error)) => Err(error),
+        Err(error) => Err(unblocked(&error)),
     }
+}
+
+// Why this thread could not block: memory ran out (F7), or the runtime gave its executor no name, and no answer can come
+// (F14).
+fn unblocked(error: &io::Error) -> Error {
+    if error.kind() == ErrorKind::OutOfMemory {
+        return Error::new(Reason::NoMemory);
+    }
+    Error::new(Reason::ChannelClosed)
 }

@@ -6,10 +6,11 @@ use super::RawCache;
 use crate::entry::RawCacheEntry;
 use crate::expiry::expiring;
 use crate::fetch::FetchTypes;
+use crate::leaves::Leaves;
 use crate::pipe::Pipe;
 use crate::shards::RawInserted;
 use crate::shares::Shares;
-use foyer_core::{Filter, Finder, InsertedOnto, Leave, Piece, Weighter};
+use foyer_core::{CoreEntry, Filter, Finder, InsertedOnto, Leave, Piece, Share, Weighter};
 use foyer_policy::{
     Error, EventListener, Eviction, HashBuilder, Key, Properties, Reason, Result, Source, Value,
 };
@@ -66,19 +67,66 @@ where
         ensures { IfOk result (λ e. (e.kept.key ≡ key) × (e.kept.value ≡ value)) }
     {
         let hash = self.hash(&key);
-        let shares = self.shares_of(hash);
         let properties = expiring(properties, now, self.time_to_live);
         let kept = self.shares.shared.data(hash, key, value, properties);
-        let shares = match shares {
-            Ok(shares) => shares,
-            Err(refused) => return Err(first_of(
-                self.shares.shared.shards.refuse_insert(&kept),
-                refused,
-            )),
+        let shards = &self.shares.shared.shards;
+        match Share::new(shards.alloc, kept) {
+            Ok(kept) => self.insert_share(now, hash, kept),
+            Err(kept) => Err(shards.refuse_insert(hash, &kept.key, &kept.properties, kept.weight)),
+        }
+    }
+
+    // Inserts a record with this share of its data, whose key has this hash. All that it needs is made before the lock.
+    #[inline(always)]
+    fn insert_share(
+        &self,
+        now: u64,
+        hash: u64,
+        kept: Share<K, V, P>,
+    ) -> Result<RawCacheEntry<H, E, K, V, S, P, W, A, L, Q, T::Required, I>>
+        requires clones { (k c : K) → K.is_clone k c → K.eq c k ≡ true }
+        ensures { IfOk result (λ e. e.kept ≡ kept) }
+    {
+        let shards = &self.shares.shared.shards;
+        let Ok(shares) = self.shares_of(hash) else {
+            let (key, properties) = (kept.key(), kept.properties());
+            return Err(shards.refuse_insert(hash, key, properties, kept.weight()));
         };
+        let Some(mut entry) = CoreEntry::of_share(&kept, Source::Outer, false) else {
+            let (key, properties) = (kept.key(), kept.properties());
+            return Err(shards.refuse_insert(hash, key, properties, kept.weight()));
+        };
+        let (mut leaves, mut later) = (Leaves::new(shards.alloc), None);
+        let placed = shards.place(now, kept, &mut entry, &mut leaves, &mut later);
+        if let Some(kept) = later {
+            entry.discard();
+            return self.insert_answering(now, shares, kept);
+        }
+        self.shares.tell_leaves(leaves);
+        match placed {
+            Ok(()) => Ok(shares.entry(entry)),
+            Err(error) => {
+                entry.discard();
+                Err(error)
+            }
+        }
+    }
+
+    // Inserts a record with this share of its data while fetches are open.
+    #[cold]
+    #[inline(never)]
+    fn insert_answering(
+        &self,
+        now: u64,
+        shares: Shares<H, E, K, V, S, P, W, A, L, Q, T::Required, I>,
+        kept: Share<K, V, P>,
+    ) -> Result<RawCacheEntry<H, E, K, V, S, P, W, A, L, Q, T::Required, I>>
+        requires clones { (k c : K) → K.is_clone k c → K.eq c k ≡ true }
+        ensures { IfOk result (λ e. e.kept ≡ kept) }
+    {
         let shards = &self.shares.shared.shards;
         let mut leaves = Vec::new(shards.alloc);
-        match shards.emplace(now, kept, Source::Outer, &mut leaves) {
+        match shards.emplace(now, kept, &mut leaves) {
             Ok(made) => Ok(self.came_in(shares, made, leaves)),
             Err(error) => Err(self.refused(error, leaves)),
         }

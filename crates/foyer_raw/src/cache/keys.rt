@@ -2,6 +2,7 @@
 
 ghost use Rattle.std.specs.Prelude.{◌≡◌, IfOk, IfSome, false, true};
 ghost use Rattle.foyer_policy.specs.Moments.{is_expired};
+ghost use Rattle.foyer_core.specs.declared.outcome.Got.TheVariants.{Hit};
 
 use super::RawCache;
 use crate::entry::RawCacheEntry;
@@ -9,9 +10,9 @@ use crate::fetch::FetchTypes;
 use crate::pipe::Pipe;
 use crate::shards::FIRST;
 use crate::shares::Shares;
-use foyer_core::{CoreEntry, Finder};
+use foyer_core::{Finder, Got};
 use foyer_policy::{
-    Error, Event, EventListener, Eviction, HashBuilder, Key, Properties, Result, Value,
+    Error, Event, EventListener, Eviction, HashBuilder, Key, Properties, Reason, Result, Value,
 };
 use std::sync::Wait;
 
@@ -50,10 +51,7 @@ where
         ensures live { IfOk result (λ found. IfSome found (λ e. is_expired now (P.expiry_of e.kept.properties) ≡ false)) }
     {
         let hash = self.hash(key);
-        match self.shares.shared.shards.get(now, hash, key)? {
-            Some(core) => Ok(Some(self.entry_of(hash, core)?)),
-            None => Ok(None),
-        }
+        self.entry_found(hash, self.shares.shared.shards.get(now, hash, key))
     }
 
     // An entry as `get` returns it. A miss is not counted, since another look-up follows it.
@@ -66,27 +64,29 @@ where
         ensures key { IfOk result (λ found. IfSome found (λ e. K.eq key.now e.kept.key ≡ true)) }
         ensures live { IfOk result (λ found. IfSome found (λ e. is_expired now (P.expiry_of e.kept.properties) ≡ false)) }
     {
-        match self.shares.shared.shards.get_first(now, hash, key)? {
-            Some(core) => Ok(Some(self.entry_of(hash, core)?)),
-            None => Ok(None),
-        }
+        self.entry_found(hash, self.shares.shared.shards.get_first(now, hash, key))
     }
 
-    // The entry of a handle of a key with this hash. The handle is given back if the cache can't be shared once more (F7).
+    // The entry of what was found of a key with this hash. The handle is given back if the cache can't be shared once more (F7).
     #[inline(always)]
-    fn entry_of(
+    fn entry_found(
         &self,
         hash: u64,
-        core: CoreEntry<K, V, P>,
-    ) -> Result<RawCacheEntry<H, E, K, V, S, P, W, A, L, Q, T::Required, I>>
-        ensures { IfOk result (λ e. e ≡ core) }
+        found: Got<K, V, P>,
+    ) -> Result<Option<RawCacheEntry<H, E, K, V, S, P, W, A, L, Q, T::Required, I>>>
+        ensures { IfOk result (λ entry. IfSome entry (λ e. found ≡ Hit e)) }
     {
-        match self.shares_of(hash) {
-            Ok(shares) => Ok(shares.entry(core)),
-            Err(refused) => {
-                self.shares.give_back(core);
-                Err(refused)
-            }
+        match found {
+            Got::Hit(core) => match self.shares_of(hash) {
+                Ok(shares) => Ok(Some(shares.entry(core))),
+                Err(refused) => {
+                    self.shares.give_back(core);
+                    Err(refused)
+                }
+            },
+            Got::Miss => Ok(None),
+            Got::Full => Err(Error::new(Reason::Handles)),
+            Got::OutOfMemory => Err(Error::new(Reason::NoMemory)),
         }
     }
 

@@ -1,8 +1,13 @@
 //! Counts of what a shard's calls did.
 
+ghost use Rattle.std.specs.Prelude.{◌≡◌, ℕ, None, true};
+ghost use Rattle.foyer_core.specs.Shards.{opens_of};
+
 use super::{RawEnded, RawInserted, RawShard};
-use foyer_core::{Counted, Finder, Leave, Lookup, Outcome, Stats};
+use crate::leaves::Leaves;
+use foyer_core::{CoreEntry, Counted, Finder, Leave, Lookup, Outcome, Share, Stats};
 use foyer_policy::{Eviction, Key, Properties, Result, Value};
+use std::alloc::Global;
 
 /// A shard, and the counts of what its calls did, under one lock.
 #[derive(Drop)]
@@ -11,6 +16,8 @@ pub(crate) struct Counting<E: Eviction, K: Key, V: Value, P: Properties, R: Drop
     pub(crate) shard: RawShard<E, K, V, P, R, I>,
     /// The counts.
     pub(crate) stats: Stats,
+    // Where an insert puts what leaves, so that its room is used again. It is empty between the calls.
+    left: Vec<Leave<K, V, P>>,
 }
 
 impl<E: Eviction, K: Key, V: Value, P: Properties, R: Drop, I: Finder<K>> Counting<
@@ -22,11 +29,44 @@ impl<E: Eviction, K: Key, V: Value, P: Properties, R: Drop, I: Finder<K>> Counti
     I,
 > {
     // A shard of which nothing was counted yet.
-    pub(crate) fn new(shard: RawShard<E, K, V, P, R, I>) -> Self {
+    pub(crate) fn new(alloc: Global, shard: RawShard<E, K, V, P, R, I>) -> Self {
         Counting {
             shard,
             stats: Stats::default(),
+            left: Vec::new(alloc),
         }
+    }
+
+    // Inserts a record while no fetch is open, and counts it and what left for it.
+    #[inline(always)]
+    pub(crate) fn place(
+        &mut self,
+        now: u64,
+        kept: Share<K, V, P>,
+        entry: &mut CoreEntry<K, V, P>,
+        leaves: &mut Leaves<K, V, P>,
+    ) -> Result<()>
+        requires clones { (k c : K) → K.is_clone k c → K.eq c k ≡ true }
+        requires alone { (k : ℕ × K) → (opens_of self.old.shard).by_key k ≡ None }
+        requires of { entry.old.kept ≡ kept }
+        ensures stays { entry.new.kept ≡ entry.old.kept }
+    {
+        let placed = self.shard.place(now, kept, entry, &mut self.left);
+        match &placed {
+            Ok(()) => self.stats.count_insert(entry.properties()),
+            Err(_) => self.stats.count(Counted::Refused),
+        }
+        for (event, left) in &self.left {
+            self.stats.count_left(now, *event, left);
+        }
+        leaves.take(&mut self.left);
+        placed
+    }
+
+    // The shard.
+    pub(crate) fn into_shard(self) -> RawShard<E, K, V, P, R, I> {
+        let Counting { shard, .. } = self;
+        shard
     }
 
     // Counts a look-up that may begin a fetch.

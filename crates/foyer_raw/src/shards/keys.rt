@@ -1,11 +1,13 @@
 //! Steps of one shard under its lock. Each locks, makes one step, and unlocks.
 
-ghost use Rattle.std.specs.Prelude.{◌≡◌, IfOk, IfSome, false, true};
+ghost use Rattle.std.specs.Prelude.{◌≡◌, None, IfOk, IfSome, false, true};
 ghost use Rattle.foyer_policy.specs.Moments.{is_expired};
+ghost use Rattle.foyer_core.specs.Looks.{IfHit};
 
 use super::{FIRST, Shards};
+use crate::leaves::Leaves;
 use crate::ticket::{Answer, Notifier};
-use foyer_core::{CoreEntry, Counted, Data, Finder, InsertedOnto, Leave, Left, Piece};
+use foyer_core::{CoreEntry, Counted, Finder, Got, InsertedOnto, Leave, Left, Piece, Share};
 use foyer_policy::{Error, Event, Eviction, Key, Properties, Reason, Result, Source, Value};
 use std::sync::Wait;
 
@@ -23,33 +25,29 @@ where
     I: Finder<K>,
 {
     #[inline(always)]
-    pub(crate) fn get(&self, now: u64, hash: u64, key: &K) -> Result<Option<CoreEntry<K, V, P>>>
-        ensures key { IfOk result (λ found. IfSome found (λ e. K.eq key.now e.kept.key ≡ true)) }
-        ensures live { IfOk result (λ found. IfSome found (λ e. is_expired now (P.expiry_of e.kept.properties) ≡ false)) }
+    pub(crate) fn get(&self, now: u64, hash: u64, key: &K) -> Got<K, V, P>
+        ensures key { IfHit result (λ e. K.eq key.now e.kept.key ≡ true) }
+        ensures live { IfHit result (λ e. is_expired now (P.expiry_of e.kept.properties) ≡ false) }
     {
         let mut locked = self.lock(hash);
-        let found = locked.shard.get(now, hash, key);
+        let found = locked.shard.look_up(now, hash, key, false);
         match &found {
-            Ok(Some(_)) => locked.stats.count(Counted::Hit),
-            Ok(None) => locked.stats.count(Counted::Miss),
-            Err(_) => {}
+            Got::Hit(_) => locked.stats.count(Counted::Hit),
+            Got::Miss => locked.stats.count(Counted::Miss),
+            Got::Full => {}
+            Got::OutOfMemory => {}
         }
         found
     }
 
     // A `get` whose miss is not counted, since another look-up follows it.
-    pub(crate) fn get_first(
-        &self,
-        now: u64,
-        hash: u64,
-        key: &K,
-    ) -> Result<Option<CoreEntry<K, V, P>>>
-        ensures key { IfOk result (λ found. IfSome found (λ e. K.eq key.now e.kept.key ≡ true)) }
-        ensures live { IfOk result (λ found. IfSome found (λ e. is_expired now (P.expiry_of e.kept.properties) ≡ false)) }
+    pub(crate) fn get_first(&self, now: u64, hash: u64, key: &K) -> Got<K, V, P>
+        ensures key { IfHit result (λ e. K.eq key.now e.kept.key ≡ true) }
+        ensures live { IfHit result (λ e. is_expired now (P.expiry_of e.kept.properties) ≡ false) }
     {
         let mut locked = self.lock(hash);
-        let found = locked.shard.get(now, hash, key);
-        if let Ok(Some(_)) = &found {
+        let found = locked.shard.look_up(now, hash, key, false);
+        if let Got::Hit(_) = &found {
             locked.stats.count(Counted::Hit);
         }
         found
@@ -83,21 +81,47 @@ where
         self.lock(hash).shard.contains(now, hash, key)
     }
 
-    // Takes a record in at a moment, and appends what leaves.
+    // Inserts a record at a moment with this share of its data, and says in its entry where it stands. If a fetch is open,
+    // nothing happens, and the share comes back in `later`.
     #[inline(always)]
+    pub(crate) fn place(
+        &self,
+        now: u64,
+        kept: Share<K, V, P>,
+        entry: &mut CoreEntry<K, V, P>,
+        leaves: &mut Leaves<K, V, P>,
+        later: &mut Option<Share<K, V, P>>,
+    ) -> Result<()>
+        requires clones { (k c : K) → K.is_clone k c → K.eq c k ≡ true }
+        requires of { entry.old.kept ≡ kept }
+        requires none { later.old ≡ None }
+        ensures stays { entry.new.kept ≡ entry.old.kept }
+        ensures later { IfSome later.new (λ share. share ≡ kept) }
+    {
+        let mut locked = self.lock(kept.hash());
+        if locked.shard.has_fetches() {
+            *later = Some(kept);
+            return Ok(());
+        }
+        locked.place(now, kept, entry, leaves)
+    }
+
+    // Inserts a record at a moment with this share of its data, also while fetches are open, and appends what leaves.
+    #[cold]
+    #[inline(never)]
     pub(crate) fn emplace(
         &self,
         now: u64,
-        kept: Data<K, V, P>,
-        source: Source,
+        kept: Share<K, V, P>,
         leaves: &mut Vec<Leave<K, V, P>>,
     ) -> Result<RawInserted<K, V, P>>
         requires clones { (k c : K) → K.is_clone k c → K.eq c k ≡ true }
         ensures { IfOk result (λ made. made.entry.kept ≡ kept) }
     {
-        let hash = kept.hash;
-        let mut locked = self.lock(hash);
-        let made = locked.shard.emplace(self.alloc, now, kept, source, leaves);
+        let mut locked = self.lock(kept.hash());
+        let made = locked
+            .shard
+            .emplace_share(self.alloc, now, kept, Source::Outer, leaves);
         locked.count_insert(now, &made, leaves);
         made
     }
@@ -126,13 +150,15 @@ where
         self.lock(hash).shard.refuses_get(now, hash, key)
     }
 
-    // Counts an insert that is refused, and returns why it would be now, whatever memory there is.
-    pub(crate) fn refuse_insert(&self, kept: &Data<K, V, P>) -> Option<Reason> {
-        let mut locked = self.lock(kept.hash);
+    // Counts an insert that is refused for want of memory, and returns its error: why it would be refused now, whatever memory
+    // there is, or F7.
+    #[cold]
+    #[inline(never)]
+    pub(crate) fn refuse_insert(&self, hash: u64, key: &K, properties: &P, weight: usize) -> Error {
+        let mut locked = self.lock(hash);
         locked.stats.count(Counted::Refused);
-        locked
-            .shard
-            .refuses_insert(kept.hash, &kept.key, &kept.properties, kept.weight)
+        let refusal = locked.shard.refuses_insert(hash, key, properties, weight);
+        Error::new(refusal.unwrap_or(Reason::NoMemory))
     }
 
     // Counts a piece that is refused, and returns why it would be now, whatever memory there is, as `emplace_piece` takes it. Of
@@ -155,14 +181,11 @@ where
     // Takes a handle back, and answers what leaves with it. A handle that the shard does not know is discarded.
     #[inline(always)]
     pub(crate) fn give_back(&self, core: CoreEntry<K, V, P>) -> Option<Leave<K, V, P>> {
-        let hash = core.hash();
-        let answer = self.lock(hash).shard.give_back(core);
-        match answer {
+        let taken = self.lock(core.hash()).shard.take_back(&core);
+        core.discard();
+        match taken {
             Ok(leave) => leave,
-            Err(core) => {
-                core.discard();
-                None
-            }
+            Err(_) => None,
         }
     }
 

@@ -7,7 +7,7 @@ use csv::ByteRecord;
 use std::alloc::{AllocError, Global};
 
 /// What a column holds.
-#[derive(Clone, Copy, Debug, PartialEq, Eq)]
+#[derive(Clone, Copy, PartialEq, Eq)]
 pub enum Role {
     /// When the request was made.
     Time,
@@ -72,7 +72,7 @@ impl Role {
 }
 
 /// Where a column stands.
-#[derive(Clone, Copy, Debug, PartialEq, Eq)]
+#[derive(Clone, Copy)]
 pub enum Place<'a> {
     /// At this number, from 0.
     Number(usize),
@@ -112,7 +112,7 @@ pub fn wanted_columns(alloc: Global, list: &str) -> Result<Wanted<'_>, Failure> 
 }
 
 /// The places of a trace's columns.
-#[derive(Clone, Copy, Debug, Default, PartialEq, Eq)]
+#[derive(Clone, Copy, Default)]
 pub struct Columns {
     pub key: usize,
     pub time: Option<usize>,

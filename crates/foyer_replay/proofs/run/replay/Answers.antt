@@ -1,55 +1,57 @@
-use Rattle.std.proofs.Common.{◌≡◌, ◌+◌, None, List, rules, arith, refl, drop, subst}
-use Rattle.std.proofs.lemmas.List.{drop_all, drop_more}
-use Rattle.std.specs.Hash.{u64 as u64_input}
-use Rattle.foyer_core.specs.Cores.{core_of, meaning_of_core}
-use Rattle.foyer_replay.proofs.Counting.{Completes, completes_end, completes_more, completes_start, hits_one, misses_one}
-use Rattle.foyer_replay.specs.declared.request.Operation.TheVariants.{Get}
-use Rattle.foyer_replay.specs.declared.request.Request.{Request}
+use Rattle.std.proofs.Common.{◌≡◌, ◌+◌, ◌-◌, ◌<◌, ◌≤◌, suc, ◌∷◌, [], arith, subst}
+use Rattle.foyer_replay.specs.Counting.{listed, hits_in, misses_in}
+use Rattle.foyer_core.specs.Cores.{core_of}
+use Rattle.foyer_replay.specs.Replay.{serves_of}
+use Rattle.foyer_replay.proofs.Counting.{completes_end, completes_more, completes_skip, hits_one, misses_one, listed_more, listed_none}
 use Rattle.foyer_replay.proofs.run.replay.Goals as goal
+use Rattle.foyer_replay.proofs.run.replay.Goals.{then-place-skipped, else-place-skipped}
 
-pub loop-request-init : goal.loop-request-init
-loop-request-init g c =
-    let none : c.default-counts.result.hits ≡ 0 = search rules in
-    let no : c.default-counts.result.misses ≡ 0 = search rules in
-    record {
-      rest = completes_start (meaning_of_core c.args.core.now)
-          (λ builder key. g.S.HashBuilder.hash_of builder (u64_input key)) c.args.requests.now c.args.requests.now
-          c.default-counts.result.hits c.default-counts.result.misses (core_of c.args.core.now) refl none no;
-      hits = omega (arith, none);
-      misses = omega (arith, no);
-    }
-
-pub loop-request-preserved : goal.loop-request-preserved
-loop-request-preserved g c =
-    let inv = c.loop-request.invariant in
-    let all = c.args.requests.now in
-    let i = c.loop-request.request-index in
+pub loop-place-preserved : goal.loop-place-preserved
+loop-place-preserved g c =
+    let inv = c.loop-place.invariant in
+    let nth = g.Q.Requests.nth c.args.requests.now in
+    let count = g.Q.Requests.count c.args.requests.now in
+    let place = c.loop-place.place in
+    let skipped = c.args.skipped in
     let o = c.in-Ok.outcome in
-    let one = hits_one o in
-    let lone = misses_one o in
-    let nothing : Request = record { key = 0; time = 0; weight = 0; expiry = None; size = 0; operation = Get } in
-    let rests : List Request → Type 0 = λ xs. Completes (meaning_of_core c.args.core.now)
-    (λ builder key. g.S.HashBuilder.hash_of builder (u64_input key)) all xs c.loop-request.counts.hits
-    c.loop-request.counts.misses (core_of c.args.core.now) (core_of c.loop-request.core) in
-    record {
-      rest = completes_more (meaning_of_core c.args.core.now)
-          (λ builder key. g.S.HashBuilder.hash_of builder (u64_input key)) all (drop (i + 1) all) _ o
-          c.loop-request.counts.hits c.loop-request.counts.misses c.add_outcome.new.self.hits
-          c.add_outcome.new.self.misses (core_of c.args.core.now) (core_of c.loop-request.core)
-          (core_of c.serve.new.core) c.in-Ok.ensures.served c.add_outcome.ensures.hits c.add_outcome.ensures.misses
-          (subst rests (drop_more all i nothing c.loop-request-test.true) inv.rest);
-      hits = omega (arith, inv.hits, one, c.add_outcome.ensures.hits);
-      misses = omega (arith, inv.misses, lone, c.add_outcome.ensures.misses);
-    }
+    let was = c.loop-place.counts in
+    let is = c.if-place-skipped.counts in
+    let more = listed_more nth place count (omega arith) in
+    let served = subst (λ r. serves_of c.args.core.now r o (core_of c.loop-place.core) (core_of c.serve.new.core)) c.request-request.ensures
+    c.in-Ok.ensures.served in
+    elim c.if-place-skipped.branch [
+      | then-place-skipped w ↦
+          let gone : skipped - place ≡ 0 = omega arith in
+          let none : skipped - (place + 1) ≡ 0 = omega arith in
+          let hs : is.hits ≡ was.hits + hits_in (o ∷ []) = cc in
+          let ms : is.misses ≡ was.misses + misses_in (o ∷ []) = cc in
+          record {
+            rest = rw none (completes_more (serves_of c.args.core.now) skipped (listed nth 0 count) (nth place)
+                (listed nth (place + 1) (count - (place + 1))) o was.hits was.misses is.hits is.misses
+                (core_of c.args.core.now) (core_of c.loop-place.core) (core_of c.serve.new.core) served hs ms (rw (gone, more) at inv.rest));
+            hits = omega (arith, hits_one o);
+            misses = omega (arith, misses_one o);
+          }
+      | else-place-skipped w ↦
+          let one : skipped - place ≡ suc (skipped - (place + 1)) = omega arith in
+          let hs : is.hits ≡ was.hits = cc in
+          let ms : is.misses ≡ was.misses = cc in
+          record {
+            rest = rw (hs, ms) (completes_skip (serves_of c.args.core.now) skipped (listed nth 0 count) (skipped - (place + 1)) (nth place)
+                (listed nth (place + 1) (count - (place + 1))) o was.hits was.misses
+                (core_of c.args.core.now) (core_of c.loop-place.core) (core_of c.serve.new.core) served (rw (one, more) at inv.rest));
+            hits = omega arith;
+            misses = omega arith;
+          }
+    ]
 
 pub returns : goal.returns
 returns g c =
-    let inv = c.loop-request.invariant in
-    let all = c.args.requests.now in
-    let i = c.loop-request.request-index in
+    let nth = g.Q.Requests.nth c.args.requests.now in
+    let count = g.Q.Requests.count c.args.requests.now in
+    let place = c.loop-place.place in
     record {
-      counted = completes_end (meaning_of_core c.args.core.now)
-          (λ builder key. g.S.HashBuilder.hash_of builder (u64_input key)) all (drop i all) c.loop-request.counts.hits
-          c.loop-request.counts.misses (core_of c.args.core.now) (core_of c.loop-request.core)
-          (drop_all i all (omega (arith, c.loop-request-test.false))) inv.rest;
+      counted = completes_end (serves_of c.args.core.now) c.args.skipped (listed nth 0 count) (c.args.skipped - place)
+          (listed nth place (count - place)) c.loop-place.counts.hits c.loop-place.counts.misses (core_of c.args.core.now)
+          (core_of c.loop-place.core) (listed_none nth place count (omega arith)) c.loop-place.invariant.rest;
     }

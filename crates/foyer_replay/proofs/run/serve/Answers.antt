@@ -1,7 +1,7 @@
 use Rattle.std.proofs.Common.{Some, None, refl}
 use Rattle.std.specs.Hash.{u64 as u64_input}
 use Rattle.foyer_core.specs.Cores.{core_of, meaning_of_core}
-use Rattle.foyer_replay.proofs.Counting.{serves_miss}
+use Rattle.foyer_replay.proofs.Serving.{serves_miss}
 use Rattle.foyer_replay.proofs.run.serve.Goals as goal
 
 pub returns-in-Ok-true : goal.returns-in-Ok-true

@@ -33,15 +33,15 @@ invariant_of-self-2 g c =
     let m = at_moment c.args.now (meaning_of s.store) in
     let f = opens_of s.inflights in
     let old = state_of s.store in
-    let new = state_of c.emplace-came.new.self in
+    let new = state_of c.emplace_data-came.new.self in
     let k : ℕ × g.row.K.Denot = (c.args.kept.hash, c.args.kept.key) in
     let i = newcomer old c.args.kept (1 + (c.len.result - 1)) in
-    let went = c.emplace-came.ensures.inserted in
+    let went = c.emplace_data-came.ensures.inserted in
     let sound = ∥∥₁_map s.store.sound (kept_at (meaning_of s.store) c.args.now old) in
     record {
       apart = subst (λ (x : Opens g.row.K.Denot g.row.N.Denot g.row.R.Denot). Apart m.expires new x)
           (sym c.in-Some.ensures.opens)
-          (either_way c.emplace-came.result went.so
+          (either_way c.emplace_data-came.result went.so
           (λ made h. inserts_apart m f old sound i (new_apart m f old c.args.kept (1 + (c.len.result - 1))) c.args.source
           went.more made.entry new h s.apart)
           (λ error h. closed_apart m.expires new f g.K.PartialEq.eq k
@@ -54,7 +54,7 @@ returns g c =
     let m = at_moment c.args.now (meaning_of s.store) in
     let f = opens_of s.inflights in
     let old = state_of s.store in
-    let new = state_of c.emplace-came.new.self in
+    let new = state_of c.emplace_data-came.new.self in
     let k : ℕ × g.row.K.Denot = (c.args.kept.hash, c.args.kept.key) in
     let count = c.len.result - 1 in
     let i = newcomer old c.args.kept (1 + count) in
@@ -63,10 +63,10 @@ returns g c =
     record {
       completed = came_ends m c.args.source old new f (opens_of c.take.new.self) k c.args.kept c.in-Some.ensures.opens
           (asked (Some c.args.fetch) (f.by_key k)) c.in-Some.waiters.items c.in-Some.ensures.taken
-          c.emplace-came.result c.emplace-came.new.leaves.items count many c.emplace-came.ensures.others
-          (goes_all c.emplace-came.new.leaves.items
-          (λ ls. MatchResult c.emplace-came.result (λ made. Inserts m c.args.source old i ls made.entry new)
+          c.emplace_data-came.result c.emplace_data-came.new.leaves.items count many c.emplace_data-came.ensures.others
+          (goes_all c.emplace_data-came.new.leaves.items
+          (λ ls. MatchResult c.emplace_data-came.result (λ made. Inserts m c.args.source old i ls made.entry new)
           (λ error. RefusesInsert m old i error ls new))
-          (rw c.new-leaves.ensures.items at c.emplace-came.ensures.inserted)) (ending_of c.found.result)
+          (rw c.new-leaves.ensures.items at c.emplace_data-came.ensures.inserted)) (ending_of c.found.result)
           c.found.ensures;
     }

@@ -53,10 +53,16 @@ pub returns-in-Ok-clause-answers : goal.returns-in-Ok-clause-answers
 returns-in-Ok-clause-answers g c =
     let f = opens_of c.args.self.now.inflights in
     let many : c.further-further.result.count ≡ length (waiters_of (f.by_key (key_of c.in-Ok.made.entry.kept))) =
-    c.further-further.ensures.count
+    (rw (c.hash.ensures, c.key.ensures) at c.further-further.ensures.count)
     ∙ ap (λ (d : Data g.row.K.Denot g.row.V.Denot g.row.P.Denot). length (waiters_of (f.by_key (key_of d))))
     (sym (returns-in-Ok-clause-given g c)) in (
       c.answers-answers.ensures.waiters,
       c.answers-answers.ensures.entries
           ∙ ap Some (c.in-Ok.ensures.others ∙ ap (λ (n : ℕ). replicate n c.in-Ok.made.entry) many),
     )
+
+pub returns-in-Ok-clause-inserted : goal.returns-in-Ok-clause-inserted
+returns-in-Ok-clause-inserted g c = rw (c.further-further.ensures.count, c.hash.ensures, c.key.ensures) at c.in-Ok.ensures.inserted
+
+pub returns-in-Err-clause-inserted : goal.returns-in-Err-clause-inserted
+returns-in-Err-clause-inserted g c = rw (c.further-further.ensures.count, c.hash.ensures, c.key.ensures) at c.in-Err.ensures.inserted

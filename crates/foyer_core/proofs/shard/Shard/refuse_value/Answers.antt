@@ -1,17 +1,12 @@
 use Rattle.std.proofs.Common.{◌≡◌, ℕ, ◌+◌, ◌-◌, [], true, Some, Err, length, ◌∙◌, arith}
-use Rattle.std.specs.Prelude.{unwrap_or}
-use Rattle.foyer_policy.specs.declared.error.Reason.{Reason}
-use Rattle.foyer_policy.specs.declared.error.Reason.TheVariants.{NoMemory}
 use Rattle.foyer_core.specs.declared.record.Data.{Data}
 use Rattle.foyer_core.specs.Inflight.{asked, closed}
 use Rattle.foyer_core.specs.Inflights.{opens_of}
 use Rattle.foyer_core.specs.State.{at_moment}
-use Rattle.foyer_core.specs.Steps.{newcomer}
 use Rattle.foyer_core.specs.Stores.{meaning_of, state_of}
 use Rattle.foyer_core.specs.Waited.{Ending, ending_of}
 use Rattle.foyer_core.proofs.ApartLemmas.{closed_apart, step_apart}
-use Rattle.foyer_core.proofs.Completing.{refusal_is, refused_ends}
-use Rattle.foyer_core.proofs.Moments.{refuses_at}
+use Rattle.foyer_core.proofs.Completing.{refused_ends}
 use Rattle.foyer_core.proofs.shard.Shard.refuse_value.Goals as goal
 
 pub invariant_of-self : goal.invariant_of-self
@@ -46,21 +41,17 @@ returns-clause-completed g c now source value =
     let count = c.len-further.result - 1 in
     let many : length c.in-Some.waiters.items ≡ 1 + count =
     omega (arith, c.len-further.ensures, c.in-Some.ensures.waited, c.in-Some.waiters.ok.0) in
-    let reason : Reason = unwrap_or c.new_refusal-refusal.result NoMemory in
-    let why : c.new.result ≡ reason = c.new.ensures ∙ c.unwrap_or-reason.ensures in
     let ended : Ending g.row.K.Denot g.row.V.Denot g.row.P.Denot g.row.N.Denot =
-    record { found = true; waiters = c.in-Some.waiters.items; outcome = Err reason; leaves = [] } in
+    record { found = true; waiters = c.in-Some.waiters.items; outcome = Err c.out_of_memory-error.result; leaves = [] } in
     let is : ending_of c.found.result ≡ ended = c.found.ensures
     ∙ (λ j. record {
       found = true;
       waiters = c.in-Some.waiters.items;
-      outcome = Err (why j);
+      outcome = Err c.out_of_memory-error.result;
       leaves =
-          c.new-2.ensures.items j;
+          c.new.ensures.items j;
     }) in
     refused_ends m source old old f (opens_of c.take.new.self) k (of value) c.in-Some.ensures.opens
     (asked (Some c.args.fetch) (f.by_key k)) c.in-Some.waiters.items c.in-Some.ensures.taken
-    (1 + count) many reason [] (ending_of c.found.result) is
-    (refuses_at (meaning_of s.store) now old (newcomer old (of value) (1 + count)) reason
-    (refusal_is (meaning_of s.store) old (λ v. newcomer old (of v) (1 + count)) c.new_refusal-refusal.result
-    c.new_refusal-refusal.ensures.some c.new_refusal-refusal.ensures.none value))
+    (1 + count) many c.out_of_memory-error.result [] (ending_of c.found.result) is
+    (c.out_of_memory-error.ensures now value)

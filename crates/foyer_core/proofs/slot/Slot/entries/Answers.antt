@@ -33,7 +33,7 @@ loop-made-preserved g c =
       left = true;
     } in
     record {
-      made = rw (c.push_reserved.ensures.items, c.in-Ok-entry.ensures.entry, c.loop-made.invariant.made)
+      made = rw (c.push_reserved.ensures.items, c.in-Some.ensures, c.loop-made.invariant.made)
           (replicate_more c.loop-made._made entry);
       room = omega (arith, c.push_reserved.ensures.capacity, c.loop-made.invariant.room);
     }

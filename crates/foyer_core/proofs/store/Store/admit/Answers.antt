@@ -1,7 +1,6 @@
 use Rattle.std.proofs.Common.{◌≡◌, ◌+◌, ◌-◌, ℕ, Some, cond, max, nat_eq, refl, sym, ◌∙◌, ap, subst, arith, rules}
 use Rattle.std.proofs.Math.Logic.{∥∥₁_elim}
 use Rattle.std.proofs.Props.{props}
-use Rattle.std.proofs.lemmas.Result.{err_from_is_err_and}
 use Rattle.std.specs.Prelude.{is_some}
 use Rattle.std.specs.Map.{update}
 use Rattle.foyer_policy.specs.declared.types.Item.{Item}
@@ -32,7 +31,7 @@ pub invariant_of-self : goal.invariant_of-self
 invariant_of-self g c =
     let s = c.args.self.now in
     let back = reindexed (meaning_of s) g.met.K.Eq.laws g.met.E.Eviction.lawful (holding s)
-    (g.I.Finder.view c.put.new.self) c.in_err-put.ensures.err in
+    (g.I.Finder.view c.put.new.self) c.in_default.ensures.err in
     record {
       sound = back.kept0;
       stored = back.stored0;
@@ -41,13 +40,12 @@ invariant_of-self g c =
       numbered = s.numbered;
     }
 
-pub returns-in_err-put-clause-err : goal.returns-in_err-put-clause-err
-returns-in_err-put-clause-err g c =
+pub returns-in_default-clause-none : goal.returns-in_default-clause-none
+returns-in_default-clause-none g c =
     let s = c.args.self.now in
     let back = reindexed (meaning_of s) g.met.K.Eq.laws g.met.E.Eviction.lawful (holding s)
-    (g.I.Finder.view c.put.new.self) c.in_err-put.ensures.err in
-    let failed = err_from_is_err_and c.from_residual.result c.from_residual.ensures.1 in
-    rw failed.1 back.same0
+    (g.I.Finder.view c.put.new.self) c.in_default.ensures.err in
+    back.same0
 
 pub give_way-gone-requires : goal.give_way-gone-requires
 give_way-gone-requires g c =
@@ -308,7 +306,7 @@ overflow_add-self-2 g c =
     update_alike (same_key g.K.PartialEq.eq) (same_key_laws g.K.PartialEq.eq laws) (g.I.Finder.view s.index)
     (g.I.Finder.view c.put.new.self) (inc.kept.hash, c.args.key) (key_of inc.kept) (Some n)
     (alike_key g.K.PartialEq.eq inc.kept.hash c.args.key inc.kept.key c.requires.same)
-    (λ q. c.in_ok-put.ensures.view q ∙ ap (λ (h : ℕ). update (same_key g.K.PartialEq.eq) (g.I.Finder.view s.index)
+    (λ q. c.in-Ok.ensures.view q ∙ ap (λ (h : ℕ). update (same_key g.K.PartialEq.eq) (g.I.Finder.view s.index)
     (h, c.args.key) (Some n) q) hash) in
     let item : (let i : Item = record {
       id = c.id-id.result;
@@ -385,7 +383,7 @@ invariant_of-self-2 g c =
     update_alike (same_key g.K.PartialEq.eq) (same_key_laws g.K.PartialEq.eq laws) (g.I.Finder.view s.index)
     (g.I.Finder.view c.put.new.self) (inc.kept.hash, c.args.key) (key_of inc.kept) (Some n)
     (alike_key g.K.PartialEq.eq inc.kept.hash c.args.key inc.kept.key c.requires.same)
-    (λ q. c.in_ok-put.ensures.view q ∙ ap (λ (h : ℕ). update (same_key g.K.PartialEq.eq) (g.I.Finder.view s.index)
+    (λ q. c.in-Ok.ensures.view q ∙ ap (λ (h : ℕ). update (same_key g.K.PartialEq.eq) (g.I.Finder.view s.index)
     (h, c.args.key) (Some n) q) hash) in
     let item : (let i : Item = record {
       id = c.id-id.result;
@@ -466,7 +464,7 @@ returns-clause-admitted g c =
     update_alike (same_key g.K.PartialEq.eq) (same_key_laws g.K.PartialEq.eq laws) (g.I.Finder.view s.index)
     (g.I.Finder.view c.put.new.self) (inc.kept.hash, c.args.key) (key_of inc.kept) (Some n)
     (alike_key g.K.PartialEq.eq inc.kept.hash c.args.key inc.kept.key c.requires.same)
-    (λ q. c.in_ok-put.ensures.view q ∙ ap (λ (h : ℕ). update (same_key g.K.PartialEq.eq) (g.I.Finder.view s.index)
+    (λ q. c.in-Ok.ensures.view q ∙ ap (λ (h : ℕ). update (same_key g.K.PartialEq.eq) (g.I.Finder.view s.index)
     (h, c.args.key) (Some n) q) hash) in
     let item : (let i : Item = record {
       id = c.id-id.result;

@@ -17,15 +17,15 @@ use Rattle.foyer_core.proofs.TableLemmas.{named_is}
 use Rattle.foyer_core.proofs.Told.{goes_so}
 use Rattle.foyer_core.proofs.store.Store.emplace_piece.Goals as goal
 
-pub come_in-requires-clause-out : goal.come_in-requires-clause-out
-come_in-requires-clause-out g c κs within =
+pub emplace_new-requires-clause-out : goal.emplace_new-requires-clause-out
+emplace_new-requires-clause-out g c κs within =
     let id : c.outside-slot.result.id ≡ c.args.self.now.next =
     ap (λ (x : Kept g.row.K.Denot g.row.V.Denot g.row.P.Denot). x.id) c.outside-slot.ensures in
     new_out (meaning_of c.args.self.now) g.met.K.Eq.laws g.met.E.Eviction.lawful (holding c.args.self.now)
     c.outside-slot.result.id (omega arith)
 
-pub come_back-requires-clause-there : goal.come_back-requires-clause-there
-come_back-requires-clause-there g c κs within =
+pub emplace_known-requires-clause-there : goal.emplace_known-requires-clause-there
+emplace_known-requires-clause-there g c κs within =
     let s = c.args.self.now in
     let t = s.records in
     let known : is_known (state_of s) c.args.hash c.args.piece ≡ true = sym c.knows.ensures ∙ c.if-not-knows.false in
@@ -40,7 +40,7 @@ returns-then-not-knows-clause-inserted g c =
     let s = c.args.self.now in
     let m = at_moment c.args.now (meaning_of s) in
     let old = state_of s in
-    let call = c.come_in in
+    let call = c.emplace_new in
     let new = state_of call.new.self in
     let piece = c.args.piece in
     let known : is_known old c.args.hash piece ≡ false = sym c.knows.ensures ∙ c.if-not-knows.true in
@@ -60,20 +60,20 @@ returns-in-Some-clause-inserted g c =
     let m = at_moment c.args.now (meaning_of s) in
     let old = state_of s in
     let t = s.records in
-    let new = state_of c.come_back.new.self in
+    let new = state_of c.emplace_known.new.self in
     let piece = c.args.piece in
     let known : is_known old c.args.hash piece ≡ true = sym c.knows.ensures ∙ c.if-not-knows.false in
     let led : number_of t piece.id ≡ Some c.in-Some.slot =
     rw c.id-id.ensures at (sym c.find.ensures ∙ c.in-Some.is) in
     let x = named_is (slot_in t c.in-Some.slot) piece.id (t.agree.named piece.id c.in-Some.slot led) in
-    goes_so c.args.leaves.now.items c.come_back.new.leaves.items
-    (λ ls. MatchResult c.come_back.result (λ made. Returns m old piece (1 + c.args.further.count) ls made.entry new)
+    goes_so c.args.leaves.now.items c.emplace_known.new.leaves.items
+    (λ ls. MatchResult c.emplace_known.result (λ made. Returns m old piece (1 + c.args.further.count) ls made.entry new)
     (λ error. RefusesReturn m old piece (1 + c.args.further.count) error ls new))
     (λ ls. InsertsPiece m (λ w. w ≡ c.args.weight) c.args.hash piece (1 + c.args.further.count)
-    (handles_onto c.come_back.result ls) old new)
-    (λ ls h. known_comes m old new c.args.hash piece (1 + c.args.further.count) c.come_back.result ls
+    (handles_onto c.emplace_known.result ls) old new)
+    (λ ls h. known_comes m old new c.args.hash piece (1 + c.args.further.count) c.emplace_known.result ls
     (λ w. w ≡ c.args.weight) known h)
-    (c.come_back.ensures.returned x.0 x.1 piece (sym x.2))
+    (c.emplace_known.ensures.returned x.0 x.1 piece (sym x.2))
 
 pub returns-in-None-clause-inserted : goal.returns-in-None-clause-inserted
 returns-in-None-clause-inserted g c =
@@ -81,7 +81,7 @@ returns-in-None-clause-inserted g c =
     let m = at_moment c.args.now (meaning_of s) in
     let old = state_of s in
     let t = s.records in
-    let call = c.come_in-in-None in
+    let call = c.emplace_new-in-None in
     let new = state_of call.new.self in
     let piece = c.args.piece in
     let more = 1 + c.args.further.count in

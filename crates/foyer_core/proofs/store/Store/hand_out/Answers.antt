@@ -84,6 +84,6 @@ returns-clause-handed g c y is =
       there = rec;
       may = omega (arith, c.handles.ensures, c.passes_limit.ensures.within c.if-passes_limit.false);
       leaves = refl;
-      entry_is = c.in-Ok.ensures.entry;
+      entry_is = c.in-Some-entry.ensures;
       after = after;
     }

@@ -4,10 +4,9 @@ use Rattle.foyer_policy.specs.Policy.{without}
 use Rattle.foyer_policy.specs.declared.types.Item.{Item}
 use Rattle.foyer_core.specs.Values.{Kept}
 use Rattle.foyer_core.specs.Stores.{meaning_of, state_of}
-use Rattle.foyer_core.specs.Steps.{Removes}
 use Rattle.foyer_core.specs.Table.{rec_of}
 use Rattle.foyer_core.specs.Records.{slot_in}
-use Rattle.foyer_core.proofs.StoredLemmas.{none_not, err_is}
+use Rattle.foyer_core.proofs.StoredLemmas.{none_not}
 use Rattle.foyer_core.proofs.Holdings.{holding}
 use Rattle.foyer_core.proofs.ShardLemmas.{hits, found, resident, placed}
 use Rattle.foyer_core.proofs.Removed.{some_item, more_there, removed_lighter, removed_usage, removed_entries, removed_kept, removed_stored, removes}
@@ -42,8 +41,8 @@ returns-then-handles-self g c =
       );
     }
 
-pub returns-in_err-entry : goal.returns-in_err-entry
-returns-in_err-entry g c =
+pub returns-in_default-entry : goal.returns-in_default-entry
+returns-in_default-entry g c =
     let s = c.args.self.now in
     let lawful = g.met.E.Eviction.lawful in
     let laws = g.met.K.Eq.laws in
@@ -51,20 +50,18 @@ returns-in_err-entry g c =
     let x = c.in-Some-get.found.now in
     let there : slot_in s.records c.in-Some.slot ≡ Some x = sym (rw c.in-Some-get.is at c.get.ensures) in
     let led = sym c.slot_under.ensures ∙ c.in-Some.is in
-    record {
-      removes = err_is c.from_residual.result c.in_err-entry.field-0.0
-          (λ r. Removes (meaning_of s) (state_of s) k r (state_of s)) c.from_residual.ensures.1
-          (rw c.in_err-entry.ensures.refused (
-            x.id,
-            hits (meaning_of s) laws lawful (holding s) k c.in-Some.slot led x there,
-            (
-              rec_of x,
-              found (meaning_of s) laws lawful (holding s) k c.in-Some.slot led x there,
-              omega
-                  (arith, c.handles.ensures, c.if-handles-self.false),
-              refl,
-            ),
-          ));
+    rw c.new-in_default-entry.ensures record {
+      removes = (
+        x.id,
+        hits (meaning_of s) laws lawful (holding s) k c.in-Some.slot led x there,
+        (
+          rec_of x,
+          found (meaning_of s) laws lawful (holding s) k c.in-Some.slot led x there,
+          omega
+              (arith, c.handles.ensures, c.if-handles-self.false),
+          refl,
+        ),
+      );
     }
 
 pub remove-item-requires : goal.remove-item-requires
@@ -161,7 +158,7 @@ returns g c =
     let write1 = c.add_handle.ensures.slots x there in
     let there1 = more_there s.records c.add_handle.new.self c.in-Some.slot x write1 in
     let room : x.handles < s.limits.handles = omega (arith, c.handles.ensures, c.if-handles-self.false) in
-    rw (c.in_ok-entry.ensures.entry, c.leave.ensures.left _ there1) record {
+    rw (c.in-Some-entry.ensures, c.leave.ensures.left _ there1) record {
       removes = removes m laws lawful (holding s) k c.in-Some.slot led x there room c.add_handle.new.self
           c.leave.new.self write1 c.add_handle.ensures.ids (c.leave.ensures.slots _ there1)
           (c.leave.ensures.records _ there1) (g.I.Finder.view c.take.new.self) c.take.ensures

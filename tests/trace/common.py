@@ -1,0 +1,106 @@
+"""What the cases of tests/trace share: the program under test, requests, and plain models of caches."""
+import collections
+import csv
+import io
+import pathlib
+import random
+import subprocess
+
+HERE = pathlib.Path(__file__).resolve().parent
+ROOT = HERE.parents[1]
+TRACES = ROOT / "examples/traces"
+CASES = []
+
+
+def case(function):
+    CASES.append(function)
+    return function
+
+
+class Program:
+    """The program under test, in a folder of its own."""
+
+    def __init__(self, path, folder):
+        self.path, self.folder = path, pathlib.Path(folder)
+
+    def call(self, *words, data=b""):
+        words = [self.path, *map(str, words)]
+        ended = subprocess.run(words, input=data, capture_output=True, cwd=self.folder, timeout=300, check=False)
+        return ended.returncode, ended.stdout.decode(), ended.stderr.decode()
+
+    def rows(self, *words, data=b""):
+        """The rows of the CSV file of a run, which has to end well."""
+        status, _, said = self.call(*words, "--csv", "rows.csv", "--quiet", data=data)
+        assert status == 0, (words, said)
+        return list(csv.DictReader(io.StringIO((self.folder / "rows.csv").read_text())))
+
+    def hits(self, *words, data=b""):
+        return {(it["policy"], int(it["size"])): int(it["hits"]) for it in self.rows(*words, data=data)}
+
+    def put(self, name, data):
+        data = data if isinstance(data, bytes) else data.encode()
+        (self.folder / name).write_bytes(data)
+        return name
+
+    def fails(self, status, said, *words, data=b""):
+        """The program ends with this status, says this on standard error, and prints nothing."""
+        found = self.call(*words, data=data)
+        assert found[0] == status and said in found[2] and found[1] == "", (words, found)
+
+
+def keys_of(name, most=None):
+    return [int(it) for it in (TRACES / name).read_text().split()[:most]]
+
+
+def some_keys(count=4000, keys=300, seed=1):
+    rng = random.Random(seed)
+    return [min(int(rng.paretovariate(0.6)), keys) for _ in range(count)]
+
+
+def lines(keys):
+    return "".join(f"{key}\n" for key in keys)
+
+
+def model(keys, capacity, is_lru):
+    """The hits of LRU or FIFO."""
+    cache, hits = collections.OrderedDict(), 0
+    for key in keys:
+        if key in cache:
+            hits += 1
+            if is_lru:
+                cache.move_to_end(key)
+        else:
+            cache[key] = True
+            if len(cache) > capacity:
+                cache.popitem(last=False)
+    return hits
+
+
+def weighed_model(requests, capacity, ttl=None):
+    """The hits of FIFO with weights and lives: what has expired leaves first, the soonest first."""
+    cache, used, hits = collections.OrderedDict(), 0, 0
+    for now, key, size in requests:
+        if key in cache and (ttl is None or now < cache[key][1]):
+            hits += 1
+            continue
+        while cache and used - (cache[key][0] if key in cache else 0) + size > capacity:
+            due = min(cache, key=lambda it: cache[it][1]) if ttl else None
+            victim = due if ttl and cache[due][1] <= now else next(iter(cache))
+            used -= cache.pop(victim)[0]
+        if key in cache:
+            used -= cache.pop(key)[0]
+        cache[key] = (size, now + (ttl or 0))
+        used += size
+    return hits
+
+
+def belady_model(keys, capacity):
+    """The hits of a cache that looks through all later requests at each, and may leave a new key out."""
+    cache, hits = set(), 0
+    for at, key in enumerate(keys):
+        hits += key in cache
+        cache.add(key)
+        if len(cache) > capacity:
+            later = keys[at + 1 :]
+            cache.remove(max(cache, key=lambda it: later.index(it) if it in later else len(keys)))
+    return hits

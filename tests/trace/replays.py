@@ -1,0 +1,212 @@
+"""The replays: hits against other caches and plain models, options, samples, streams and parts."""
+import collections
+import csv
+import io
+import random
+import shutil
+import subprocess
+import sys
+
+from common import HERE, ROOT, TRACES, belady_model, case, keys_of, lines, model, some_keys, weighed_model
+
+
+@case
+def hits_are_upstreams(program):
+    """Five policies, six sizes, 1 and 4 shards, on each trace."""
+    wanted = collections.defaultdict(dict)
+    for row in csv.DictReader(io.StringIO((HERE / "upstream.csv").read_text())):
+        wanted[row["trace"], row["weigh"], row["shards"]][row["policy"], int(row["size"])] = int(row["hits"])
+    assert len(wanted) == 6 and all(len(it) == 30 for it in wanted.values())
+    for (trace, weigh, shards), hits in wanted.items():
+        assert program.hits(TRACES / trace, "--weigh", weigh, "--shards", shards) == hits, (trace, weigh, shards)
+
+
+@case
+def hits_are_those_of_plain_models(program):
+    for keys in (some_keys(), keys_of("sqlite.keys", 20_000)):
+        sizes = [1, 7, 50, 200]
+        words = ["--policy", "fifo,lru:high=1.0", "--size", ",".join(map(str, sizes))]
+        hits = program.hits("-", *words, data=lines(keys).encode())
+        for size in sizes:
+            assert hits["fifo", size] == model(keys, size, False), size
+            assert hits["lru", size] == model(keys, size, True), size
+
+
+@case
+def belady_is_the_least(program):
+    for keys in (some_keys(2000, 120), keys_of("sqlite.keys", 1500)):
+        hits = program.hits("-", "--policy", "all,belady", "--size", "1,5,40", data=lines(keys).encode())
+        for size in (1, 5, 40):
+            assert hits["belady", size] == belady_model(keys, size), size
+            assert all(
+                hits["belady", size] >= hits[policy, size] for policy in ("fifo", "lru", "lfu", "s3fifo", "sieve")
+            )
+
+
+@case
+def weights_and_lives(program):
+    requests = [(at // 3, key, 1 + key % 40) for at, key in enumerate(some_keys(3000, 200))]
+    name = program.put("w.csv", "time,key,size\n" + "".join(f"{t},{k},{s}\n" for t, k, s in requests))
+    words = ["--policy", "fifo", "--weigh", "size", "--size", "60,500"]
+    hits = program.hits(name, *words)
+    assert {size: hits["fifo", size] for size in (60, 500)} == {
+        size: weighed_model(requests, size) for size in (60, 500)
+    }
+    rows = program.rows(name, *words, "--ttl", "30")
+    found = {int(it["size"]): int(it["hits"]) for it in rows}
+    assert found == {size: weighed_model(requests, size, 30) for size in (60, 500)}
+    assert int(rows[1]["expired"]) > 0
+    column = program.put("t.csv", "".join(f"{t},{k},{s},get,30\n" for t, k, s in requests))
+    assert program.hits(column, *words) == {("fifo", size): count for size, count in found.items()}
+    misses = sum(size for _, _, size in requests)
+    assert int(program.rows(name, *words)[0]["bytes"]) == misses
+
+
+@case
+def numbers_past_32_bits(program):
+    """Times, sizes and lives whose differences have more than 32 bits, in memory and in a stream."""
+    rng = random.Random(5)
+    times = sorted(rng.randrange(2**41, 2**42) for _ in range(3000))
+    requests = [(time, key, 1 + key * 2**31) for time, key in zip(times, some_keys(3000, 60))]
+    name = program.put("l.csv", "time,key,size\n" + "".join(f"{t},{k},{s}\n" for t, k, s in requests))
+    for ttl in (None, 2**36):
+        words = ["--policy", "fifo", "--weigh", "size", "--size", str(2**37), *(["--ttl", ttl] if ttl else [])]
+        wanted = weighed_model(requests, 2**37, ttl)
+        assert wanted > 100
+        assert program.hits(name, *words) == program.hits(name, "--stream", *words) == {("fifo", 2**37): wanted}, ttl
+
+
+@case
+def operations(program):
+    rows = ["get,a", "set,a", "get,a", "delete,a", "get,a", "GETS,a", "remove,b", "add,b", "read,b"]
+    name = program.put("o.csv", "op,key\n" + "\n".join(rows))
+    row = program.rows(name, "--policy", "lru", "--size", "10")[0]
+    assert (row["requests"], row["hits"], row["misses"]) == ("5", "3", "2"), row
+    bad = program.put("p.csv", "op,key\nget,a\nfetch,a\n")
+    program.fails(1, "record 2: expected get, set, delete or the like in the column op, and found 'fetch'", bad)
+
+
+@case
+def jobs_and_shards(program):
+    name = program.put("j.keys", lines(some_keys(9000, 5000)))
+    rows = [program.rows(name, "--policy", "all,belady", "--shards", "2", "--jobs", jobs) for jobs in (1, 3, 50)]
+    for it in rows:
+        for row in it:
+            row.pop("seconds")
+    assert rows[0] == rows[1] == rows[2] and len(rows[0]) == 30
+
+
+@case
+def warmup(program):
+    keys = some_keys()
+    name = program.put("u.keys", lines(keys))
+    words = [name, "--policy", "fifo", "--size", "20"]
+    whole = program.rows(*words)[0]
+    for word in ("0.5", "50%", "2000"):
+        row = program.rows(*words, "--warmup", word)[0]
+        assert int(row["requests"]) == 2000
+        assert int(row["hits"]) == int(whole["hits"]) - model(keys[:2000], 20, False), row
+    assert program.rows(*words, "--warmup", "5000")[0]["requests"] == "0"
+
+
+@case
+def stream_is_the_same(program):
+    keys = some_keys(150_000, 2000)
+    name = program.put("s.keys", lines(keys))
+    for words in ([], ["--warmup", "70000"], ["--shards", "3"], ["--sample", "0.5"]):
+        words = [*words, "--size", "10,300", "--jobs", "2"]
+        kept, streamed = program.rows(name, *words), program.rows("-", "--stream", *words, data=lines(keys).encode())
+        for row in kept + streamed:
+            row.pop("seconds")
+        assert kept == streamed, words
+
+
+@case
+def sample(program):
+    """A sample of everything is everything, and a tenth is near."""
+    rng = random.Random(3)
+    keys = [int(rng.paretovariate(0.35)) % 20_000 for _ in range(200_000)]
+    name = program.put("m.keys", lines(keys))
+    words = [name, "--policy", "lru,s3fifo", "--size", "1000,4000"]
+    assert program.hits(*words, "--sample", "1.0") == program.hits(*words)
+    exact, sampled = program.rows(*words), program.rows(*words, "--sample", "0.1")
+    for a, b in zip(exact, sampled):
+        assert abs(float(a["miss_ratio"]) - float(b["miss_ratio"])) < 0.05, (a, b)
+        assert int(b["requests"]) == 20_000
+    assert "a sample of 0.1 of the keys, sizes scaled" in program.call(*words, "--sample", "0.1", "--svg", "m.svg")[1]
+    assert "a sample of 0.1 of the keys, sizes scaled" in (program.folder / "m.svg").read_text()
+
+
+@case
+def parts_and_merge(program):
+    keys = some_keys(20_000, 3000)
+    name = program.put("r.csv", "key,size\n" + "".join(f"{key},{1 + key % 9}\n" for key in keys))
+    words = [name, "--policy", "lru,sieve,lru:high=0.5", "--ttl", "5000"]
+    exact = program.rows(*words)
+    for part in range(1, 5):
+        program.call(*words, "--part", f"{part}/4", "--csv", f"part{part}.csv")
+    parts = [f"part{part}.csv" for part in range(1, 5)]
+    rows = [it for part in parts for it in csv.DictReader(io.StringIO((program.folder / part).read_text()))]
+    merged = program.rows("--merge", *parts)
+    assert sum(int(it["requests"]) for it in merged) == len(keys) * 18 and len(merged) == len(exact) == 18
+    for a, b in zip(exact, merged):
+        assert all(a[it] == b[it] for it in ("policy", "parameters", "size", "requests", "bytes")), (a, b)
+        same = [it for it in rows if all(it[name] == a[name] for name in ("policy", "parameters", "size"))]
+        for count in ("hits", "misses", "miss_bytes", "evictions", "expired"):
+            assert int(b[count]) == sum(int(it[count]) for it in same), (count, b)
+    assert all(sum(int(it[count]) for it in merged) for count in ("evictions", "expired"))
+    one = program.call(*words, "--csv", "one.csv")[1].split("\n\n")[1]
+    assert program.call("--merge", "one.csv")[1].split("\n\n")[1].rstrip() == one.rstrip()
+    program.fails(1, "bad.csv: line 1: expected a row as --csv writes it", "--merge", program.put("bad.csv", "a,b\n"))
+    program.fails(
+        1,
+        "cut.csv: line 3",
+        "--merge",
+        program.put("cut.csv", "\n".join((program.folder / "one.csv").read_text().split("\n")[:2]) + "\nlru,,x\n"),
+    )
+    program.fails(1, "nowhere.csv", "--merge", "nowhere.csv")
+
+
+@case
+def dask(program):
+    """Two workers on this machine make the table of one process; skipped where Dask isn't installed."""
+    python = next(
+        (
+            it
+            for it in ("/usr/bin/python3", sys.executable)
+            if shutil.which(it)
+            and not subprocess.run([it, "-c", "import distributed"], capture_output=True, check=False).returncode
+        ),
+        None,
+    )
+    if python is None:
+        print("trace: dask: skipped, since python3-dask and python3-distributed are not installed")
+        return
+    script, trace = ROOT / "examples/traces/over_dask.py", TRACES / "sqlite.keys"
+    table = program.call(trace, "--policy", "lru,sieve", "--size", "10,100", "--quiet")[1].split("\n\n")[1]
+    words = [
+        python,
+        script,
+        "--program",
+        program.path,
+        "--workers",
+        "2",
+        trace,
+        "--policy",
+        "lru,sieve",
+        "--size",
+        "10,100",
+    ]
+    ended = subprocess.run(list(map(str, words)), capture_output=True, text=True, timeout=200, check=False)
+    assert ended.returncode == 0 and table.strip() in ended.stdout, (ended, table)
+    parts = subprocess.run(
+        list(map(str, [*words[:6], "--parts", "3", *words[6:]])),
+        capture_output=True,
+        text=True,
+        timeout=200,
+        check=False,
+    )
+    for part in (1, 2, 3):
+        program.call(*words[6:], "--part", f"{part}/3", "--csv", f"d{part}.csv")
+    wanted = program.call("--merge", "d1.csv", "d2.csv", "d3.csv")[1].split("\n\n")[1]
+    assert parts.returncode == 0 and wanted.strip() in parts.stdout, (parts, wanted)

@@ -1,0 +1,206 @@
+"""What the program reads and writes: formats, bad input, options, pictures, tables and synthetic traces."""
+import collections
+import re
+import struct
+import subprocess
+import xml.etree.ElementTree as xml
+
+from common import ROOT, TRACES, case, lines, some_keys
+
+
+@case
+def formats_agree(program):
+    keys = some_keys()
+    words = ["--policy", "lru,s3fifo", "--size", "5,40"]
+    wanted = program.hits("-", *words, data=lines(keys).encode())
+    named = [
+        program.put("a.keys", lines(keys)),
+        program.put("b.txt", "\r\n".join(map(str, keys))),
+        program.put("c.csv", "key\n" + lines(keys)),
+        program.put("d.csv", "".join(f"{at},{key},1\n" for at, key in enumerate(keys))),
+        program.put("e.oracleGeneral", b"".join(struct.pack("<IQIq", at, key, 1, -1) for at, key in enumerate(keys))),
+        program.put("f.arc", "".join(f"{key} 1 0 {at}\n" for at, key in enumerate(keys))),
+    ]
+    for name in named:
+        assert program.hits(name, *words) == wanted, name
+    quoted = program.put("g.csv", "when,what\r\n" + "".join(f'{at},"{key}"\r\n' for at, key in enumerate(keys)))
+    for columns in ("time=when,key=what", "time=1,key=2", "time,key", "-,key"):
+        assert program.hits(quoted, "--columns", columns, *words) == wanted, columns
+    ranges = program.put("h.lis", "10 3 0 0\n11 2 0 0\n\n")
+    assert int(program.rows(ranges, "--policy", "lru", "--size", "10")[0]["hits"]) == 2
+
+
+@case
+def keys_are_text(program):
+    """Numbers are told from texts, and texts may have a megabyte."""
+    texts = ["7", "007", "seven", "7 ", "18446744073709551616", "\u00e9", "x" * 1_000_000, "x" * 999_999 + "y"]
+    rows = program.rows("-", "--policy", "lru", "--size", "100", data="\n".join(texts * 2).encode())
+    assert (rows[0]["hits"], rows[0]["misses"]) == ("8", "8"), rows
+
+
+@case
+def bad_input(program):
+    empty = program.put("empty.keys", "")
+    program.fails(1, "empty.keys: the trace has no requests", empty)
+    program.fails(1, "blank.keys: the trace has no requests", program.put("blank.keys", "\n\r\n\n"))
+    program.fails(1, "header.csv: the trace has no requests", program.put("header.csv", "time,key,size\n"))
+    whole = struct.pack("<IQIq", 1, 2, 3, 4)
+    cut = program.put("cut.oracle", whole + whole[:10])
+    program.fails(1, "record 2: expected 24 bytes, and the file ends after 10", cut)
+    assert "1 bad record" in program.call(cut, "--skip-bad")[1]
+    assert program.rows(cut, "--skip-bad", "--policy", "lru")[0]["requests"] == "1"
+    program.fails(
+        1,
+        "record 2: expected two numbers, a first block and a count, in line 2",
+        program.put("x.arc", "1 1 0 0\nfour\n"),
+    )
+    program.fails(
+        1, "record 1: expected a number below 2^64 in the column size, and found '-1'", program.put("n.csv", "1,2,-1\n")
+    )
+    past = "18446744073709551616"
+    program.fails(1, f"column size, and found '{past}'", program.put("q.csv", f"1,2,{past}\n"))
+    program.fails(1, "expected a value in the column size", program.put("s.csv", "time,key,size\n1,2\n"))
+    program.fails(1, "nowhere.keys: No such file", "nowhere.keys")
+    program.fails(1, "cannot read the trace", program.folder, "--format", "keys")
+
+
+@case
+def extreme_sizes(program):
+    name = program.put("big.csv", "key,size\n" + "a,18446744073709551615\nb,0\na,18446744073709551615\nb,0\nc,5\n" * 2)
+    for words in (
+        [],
+        ["--weigh", "size"],
+        ["--weigh", "size", "--size", "0,1,18446744073709551615"],
+        ["--size", "0,0.5"],
+    ):
+        rows = program.rows(name, "--policy", "all", *words)
+        assert all(int(it["hits"]) + int(it["misses"]) == 10 for it in rows)
+        assert all(int(it["bytes"]) == 4 * (2**64 - 1) + 10 for it in rows)
+        status, _, said = program.call(name, *words, "--svg", "big.svg", "--html", "big.html")
+        assert status == 0, said
+    hits = program.hits(name, "--policy", "fifo", "--weigh", "size", "--size", "18446744073709551615")
+    assert hits["fifo", 2**64 - 1] == 4, hits
+
+
+@case
+def bad_words(program):
+    trace = program.put("k.keys", "1\n2\n")
+    for said, *words in [
+        ("unknown policy 'lur': did you mean 'lru'?", "--policy", "lur"),
+        ("unknown parameter of s3fifo 'smal': did you mean 'small'?", "--policy", "s3fifo:smal=1/10"),
+        ("small must be a share such as 1/10 or 0.1", "--policy", "s3fifo:small=x"),
+        ("fifo has no parameters", "--policy", "fifo:x=1"),
+        ("unknown format 'key': did you mean 'keys'?", "--format", "key"),
+        ("a size must be a number such as 10k", "--size", "10x"),
+        ("unexpected argument '-1' found", "--size", "-1"),
+        ("--shards must be a number from 1", "--shards", "0"),
+        ("unknown weight 'sizes': did you mean 'size'?", "--weigh", "sizes"),
+        ("--weigh size wants a trace with sizes", "--weigh", "size"),
+        ("--sample must be a part above 0", "--sample", "2.0"),
+        ("--part must be such as 1/4", "--part", "5/4"),
+        ("--sample and --part do not go together", "--part", "1/4", "--sample", "0.1"),
+        ("--stream does not know the footprint", "--stream"),
+        ("--warmup must be a number of requests", "--warmup", "1.5"),
+        ("--columns is for --format csv", "--columns", "key"),
+        ("belady knows no lives", "--policy", "belady", "--ttl", "5"),
+        ("a similar argument exists: '--shards'", "--shard", "5"),
+    ]:
+        program.fails(2, said, trace, *words)
+    program.fails(2, "lfu:window=9/10: the ratios of window and protected", trace, "--policy", "lfu:window=9/10")
+    program.fails(2, "a trace is missing")
+    program.fails(2, "one trace is replayed at a time", trace, trace)
+    program.fails(2, "the name of k does not tell its format", program.put("k", "1\n"))
+    table = program.put("k.csv", "when,what\n1,2\n")
+    program.fails(2, "the header has no column 'whom' (it has when, what)", table, "--columns", "time=when,key=whom")
+    program.fails(2, "unknown column 'kye': did you mean 'key'?", table, "--columns", "kye")
+    program.fails(2, "no column is the key", table, "--columns", "time")
+    program.fails(2, "unknown kind of trace 'zip': did you mean 'zipf'?", "--make", "zip:ops=1")
+    program.fails(2, "unknown parameter of zipf 'key': did you mean 'keys'?", "--make", "zipf:key=1")
+    program.fails(2, "--merge takes the files", "--merge")
+
+
+@case
+def help_is_kept(program):
+    status, said, _ = program.call("--help")
+    assert status == 0 and said == (ROOT / "crates/foyer_trace/help.txt").read_text()
+    assert set(re.findall(r"--[a-z-]+", said)) >= {"--skip-bad", "--merge", "--stream", "--title"}
+    assert program.call("--version")[1].startswith("foyer-trace ")
+
+
+@case
+def pictures(program):
+    name = TRACES / "build.csv"
+    words = [
+        name,
+        "--policy",
+        "all,belady,s3fifo:small=1/4",
+        "--svg",
+        "p.svg",
+        "--html",
+        "p.html",
+        "--title",
+        'a <b> & "c"',
+    ]
+    status, said, _ = program.call(*words)
+    assert status == 0 and said.startswith('a <b> & "c": ')
+    picture = xml.parse(program.folder / "p.svg").getroot()
+    assert picture.tag.endswith("svg") and len(picture.findall(".//{*}polyline")) == 14
+    assert {"miss ratio", "byte miss ratio", "s3fifo (small=1/4)"} <= {it.text for it in picture.findall(".//{*}text")}
+    page = (program.folder / "p.html").read_text()
+    assert page.count("<table>") == 2 and "--title" in page and "<polyline" in page
+    assert not re.search(r"(src|href)=|@import|url\(", page)
+    assert "http" not in page.replace("http://www.w3.org/2000/svg", "")
+
+
+@case
+def table_marks_the_least(program):
+    said = program.call(TRACES / "sqlite.keys", "--policy", "all,belady", "--quiet")[1]
+    rows = {it.split()[0]: it.split()[1:] for it in said.split("\n\n")[1].splitlines()[2:]}
+    assert set(rows) == {"fifo", "lru", "lfu", "s3fifo", "sieve", "belady"}
+    for column in range(6):
+        ratios = {name: row[column] for name, row in rows.items() if name != "belady"}
+        least = min(float(it.rstrip("*")) for it in ratios.values())
+        assert all(it.endswith("*") == (float(it.rstrip("*")) == least) for it in ratios.values()), ratios
+    assert "seconds" not in said and " a second" not in said
+    assert "million requests a second" in program.call(TRACES / "sqlite.keys", "--policy", "fifo")[1]
+
+
+@case
+def make(program):
+    word = "zipf:ops=50k,keys=1k,skew=1.0,seed=7"
+    first, second = program.call("--make", word)[1], program.call("--make", word)[1]
+    counts = collections.Counter(map(int, first.split()))
+    assert first == second and sum(counts.values()) == 50_000 and max(counts) < 1000
+    harmonic = sum(1 / rank for rank in range(1, 1001))
+    for rank in (1, 2, 10):
+        assert abs(counts[rank - 1] / 50_000 - 1 / rank / harmonic) < 0.01, rank
+    assert program.call("--make", word.replace("seed=7", "seed=8"))[1] != first
+    flat = collections.Counter(program.call("--make", "zipf:ops=20k,keys=10,skew=0")[1].split())
+    assert len(flat) == 10 and min(flat.values()) > 1800
+
+
+@case
+def closed_pipe(program):
+    """A reader that goes away ends the program quietly."""
+    for words in (["--make", "zipf:ops=1M,keys=100"], [TRACES / "sqlite.keys", "--quiet"]):
+        with subprocess.Popen([program.path, *map(str, words)], stdout=subprocess.PIPE, stderr=subprocess.PIPE) as ran:
+            ran.stdout.close()
+            said = ran.stderr.read().decode()
+            assert ran.wait(60) == 0 and said == "", (words, said)
+
+
+@case
+def files_that_cannot_be_written(program):
+    program.fails(
+        1, "/nowhere/x.csv: No such file", TRACES / "sqlite.keys", "--policy", "fifo", "--csv", "/nowhere/x.csv"
+    )
+    with open("/dev/full", "wb") as full:
+        words = [program.path, TRACES / "sqlite.keys", "--policy", "fifo", "--quiet"]
+        ended = subprocess.run(words, stdout=full, stderr=subprocess.PIPE, check=False)
+    assert ended.returncode == 1 and b"cannot write to standard output" in ended.stderr
+
+
+@case
+def traces_are_small(program):
+    files = [it for it in TRACES.iterdir() if it.suffix in (".keys", ".csv")]
+    assert len(files) == 2 and sum(it.stat().st_size for it in files) < 2_000_000, program.path
