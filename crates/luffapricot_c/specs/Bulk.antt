@@ -1,5 +1,5 @@
 -- What the calls for all records of a cache of bytes make of it, by the steps of its core.
-use Rattle.std.specs.Prelude.{◌≡◌, ℕ, ◌⊎◌, List, Option, None, Some, Result, Ok, Err}
+use Rattle.std.specs.Prelude.{◌≡◌, ℕ, ◌⊎◌, List, Option, None, Some}
 use Rattle.foyer_policy.specs.Errors.{number_of}
 use Rattle.foyer_policy.specs.declared.error.Reason.{Reason}
 use Rattle.foyer_policy.specs.declared.eviction_config.EvictionConfig.{EvictionConfig}

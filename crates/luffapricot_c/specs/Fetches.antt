@@ -1,5 +1,5 @@
 -- What the calls for fetches make of a cache of bytes, by the steps of its core.
-use Rattle.std.specs.Prelude.{◌≡◌, ℕ, ◌⊎◌, Bool, true, false, List, Option, None, Some, Result, Ok, Err}
+use Rattle.std.specs.Prelude.{◌≡◌, ℕ, ◌⊎◌, Bool, true, List, None, Some, Result, Ok, Err}
 use Rattle.slab.specs.Slab.{Updates}
 use Rattle.foyer_policy.specs.Errors.{number_of}
 use Rattle.foyer_policy.specs.declared.error.Reason.{Reason}
@@ -14,7 +14,7 @@ use Rattle.foyer_core.specs.Cores.{core_of, fetches_of, hashes_of, meaning_of_co
 use Rattle.foyer_core.specs.Fetching.{LooksUp}
 use Rattle.foyer_core.specs.Inflight.{asked}
 use Rattle.foyer_core.specs.State.{at_moment}
-use Rattle.foyer_core.specs.Values.{Answered, Held}
+use Rattle.foyer_core.specs.Values.{Answered}
 use Rattle.foyer_core.specs.Waited.{ending_of}
 use Rattle.luffapricot_c.specs.declared.cache.ByteCache.{ByteCache}
 use Rattle.luffapricot_c.specs.declared.cache.LuffaTerms.{LuffaTerms}

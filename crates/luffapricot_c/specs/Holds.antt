@@ -1,5 +1,5 @@
 -- What C holds by numbers, and what it becomes once those who wait are answered.
-use Rattle.std.specs.Prelude.{ℕ, List, [], ◌∷◌, if◌then◌else◌, is_some, reverse, Some}
+use Rattle.std.specs.Prelude.{ℕ, List, [], ◌∷◌, if◌then◌else◌, is_some, reverse}
 use Rattle.slab.specs.Slab.{Slab, get, with_value}
 use Rattle.foyer_policy.specs.Errors.{number_of}
 use Rattle.foyer_core.specs.declared.outcome.Answers.{Answers}

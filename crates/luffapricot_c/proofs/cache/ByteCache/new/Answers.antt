@@ -1,4 +1,3 @@
-use Rattle.std.proofs.Common.{refl}
 use Rattle.foyer_policy.specs.Any.{any}
 use Rattle.luffapricot_c.proofs.OpenLemmas.{refused_number}
 use Rattle.luffapricot_c.proofs.cache.ByteCache.new.Goals as goal
