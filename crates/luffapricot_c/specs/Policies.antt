@@ -1,5 +1,5 @@
 -- The policies by the numbers that C gives them.
-use Rattle.std.specs.Prelude.{ℕ, ◌==◌, Option, Some, None, if◌then◌else◌}
+use Rattle.std.specs.Prelude.{◌==◌, Option, Some, None, if◌then◌else◌}
 use Rattle.foyer_policy.specs.declared.types.Ratio.{Ratio}
 use Rattle.foyer_policy.specs.declared.eviction_config.EvictionConfig.{EvictionConfig}
 use Rattle.foyer_policy.specs.declared.eviction_config.EvictionConfig.TheVariants.{Fifo, Lru, Lfu, S3Fifo, Sieve}

@@ -1,8 +1,11 @@
 //! Calls for all records of a shard.
 
-ghost use Rattle.std.specs.Prelude.{◌≡◌, IfSome, None};
-ghost use Rattle.foyer_core.specs.CoreBulk.{IsEmptied};
+ghost use Rattle.std.specs.Prelude.{◌≡◌, ◌%◌, ◌/◌, ◌^◌, None, Some, MatchOption};
+ghost use Rattle.foyer_core.specs.Core.{entries_of_core, usage_of_core};
 ghost use Rattle.foyer_core.specs.Cores.{core_of, meaning_of_core};
+ghost use Rattle.luffapricot_c.specs.Bulk.{ClearsAll, EvictsAll, Reconfigures, ResizesTo};
+ghost use Rattle.luffapricot_c.specs.Calls.{IfTaken, OnHeld};
+ghost use Rattle.luffapricot_c.specs.Policies.{config_of};
 
 use crate::policy::LuffaPolicy;
 use crate::record::LuffaRecord;
@@ -25,7 +28,10 @@ pub extern "C" fn luffa_shard_resize(
     alloc: Global,
     now: u64,
     capacity: usize,
-) -> u32 {
+) -> u32
+    ensures { OnHeld (λ old status new. IfTaken old.left.items status old new (ResizesTo now capacity status old new))
+        shard.old.address.held result shard.new.address.held }
+{
     let Some(mut cache) = shard.take(alloc) else {
         return status::NOT_OPEN;
     };
@@ -36,7 +42,10 @@ pub extern "C" fn luffa_shard_resize(
 
 /// Evicts all that is not pinned. 0, NOT_OPEN, UNTOLD, or 7 for F7.
 #[unsafe(no_mangle)]
-pub extern "C" fn luffa_shard_evict_all(shard: &mut LuffaShard, alloc: Global, now: u64) -> u32 {
+pub extern "C" fn luffa_shard_evict_all(shard: &mut LuffaShard, alloc: Global, now: u64) -> u32
+    ensures { OnHeld (λ old status new. IfTaken old.left.items status old new (EvictsAll now status old new))
+        shard.old.address.held result shard.new.address.held }
+{
     let Some(mut cache) = shard.take(alloc) else {
         return status::NOT_OPEN;
     };
@@ -48,9 +57,8 @@ pub extern "C" fn luffa_shard_evict_all(shard: &mut LuffaShard, alloc: Global, n
 /// Removes all. 0, NOT_OPEN, UNTOLD, or 7 for F7, and then nothing has changed.
 #[unsafe(no_mangle)]
 pub extern "C" fn luffa_shard_clear(shard: &mut LuffaShard, alloc: Global) -> u32
-    ensures emptied { result ≡ 0 → IfSome shard.new.address.held
-        (λ cache. IsEmptied (meaning_of_core cache.core) (core_of cache.core)) }
-    ensures closed { shard.old.address.held ≡ None → result ≡ 107 }
+    ensures { OnHeld (λ old status new. IfTaken old.left.items status old new (ClearsAll status old new))
+        shard.old.address.held result shard.new.address.held }
 {
     let Some(mut cache) = shard.take(alloc) else {
         return status::NOT_OPEN;
@@ -66,7 +74,10 @@ pub extern "C" fn luffa_shard_reconfigure(
     shard: &mut LuffaShard,
     alloc: Global,
     policy: &LuffaPolicy,
-) -> u32 {
+) -> u32
+    ensures { MatchOption (config_of policy.now) ((result ≡ 105) × (shard.new.address.held ≡ shard.old.address.held))
+        (λ config. OnHeld (λ old status new. Reconfigures config status old new) shard.old.address.held result shard.new.address.held) }
+{
     let Some(config) = policy.config() else {
         return status::NO_POLICY;
     };
@@ -84,7 +95,13 @@ pub extern "C" fn luffa_shard_load(
     shard: &mut LuffaShard,
     alloc: Global,
     load: &mut LuffaLoad,
-) -> u32 {
+) -> u32
+    ensures { OnHeld (λ old status new. (status ≡ 0) × (new ≡ old)
+        × (load.new.usage ≡ usage_of_core (meaning_of_core old.core) (core_of old.core) % 2 ^ 64)
+        × (load.new.usage_high ≡ usage_of_core (meaning_of_core old.core) (core_of old.core) / 2 ^ 64)
+        × (load.new.entries ≡ entries_of_core (meaning_of_core old.core) (core_of old.core) % 2 ^ 64))
+        shard.old.address.held result shard.new.address.held }
+{
     let Some(cache) = shard.take(alloc) else {
         return status::NOT_OPEN;
     };
@@ -120,12 +137,12 @@ pub extern "C" fn luffa_shard_show_left(
     alloc: Global,
     number: usize,
     index: usize,
-    record: &mut LuffaRecord,
+    shown: &mut LuffaRecord,
 ) -> u32 {
     let Some(cache) = shard.take(alloc) else {
         return status::NOT_OPEN;
     };
-    let status = if cache.show_left(number, index, record) {
+    let status = if cache.show_left(number, index, shown) {
         status::OK
     } else {
         status::MISSING

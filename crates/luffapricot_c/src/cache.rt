@@ -1,9 +1,13 @@
 //! The cache behind the address that C holds: of bytes by bytes, of one shard, of any of the five policies.
 
-ghost use Rattle.std.specs.Prelude.{◌≡◌, IfErr, IfOk, OnOk, is_some};
-ghost use Rattle.foyer_core.specs.Core.{entries_of_core, hit_in, usage_of_core};
-ghost use Rattle.foyer_core.specs.Cores.{core_of, hashes_of, meaning_of_core};
-ghost use Rattle.foyer_policy.specs.declared.error.Reason.TheVariants.{NoMemory};
+ghost use Rattle.std.specs.Prelude.{◌≡◌, [], IfErr, IfOk, None, length};
+ghost use Rattle.foyer_policy.specs.Any.{any};
+ghost use Rattle.foyer_policy.specs.Errors.{number_of};
+ghost use Rattle.luffapricot_c.specs.Bytes.{copied_into, expiry_of, plain, properties_of};
+ghost use Rattle.foyer_core.specs.Core.{entries_of_core, usage_of_core};
+ghost use Rattle.foyer_core.specs.Cores.{core_of, meaning_of_core};
+ghost use Rattle.luffapricot_c.specs.Opening.{IsOpened, refused_with};
+ghost use Rattle.luffapricot_c.specs.Calls.{FindsKey, GetsCopy, GetsEntry, Inserts, InsertsBytes, InsertsEntry, RemovesEntry, TouchesKey};
 
 use crate::hold::{Entry, Gone, Hold};
 use crate::key::{Key, copied};
@@ -18,6 +22,8 @@ mod bulk;
 mod fetches;
 mod holds;
 
+use holds::{answer, forget_left, hold};
+
 type Core = CacheCore<
     AnyEviction,
     Key,
@@ -29,6 +35,8 @@ type Core = CacheCore<
     usize,
     (),
 >;
+
+type Made = InsertedOnto<Key, Value, CacheProperties, usize>;
 
 /// How a record is inserted.
 #[repr(C)]
@@ -63,7 +71,9 @@ pub struct ByteCache {
 }
 
 impl LuffaTerms {
-    fn properties(&self) -> CacheProperties {
+    fn properties(&self) -> CacheProperties
+        ensures { result ≡ properties_of self.now }
+    {
         let expiry = if self.flags & EXPIRES != 0 {
             Some(self.expires)
         } else {
@@ -91,8 +101,11 @@ impl ByteCache {
         config: EvictionConfig,
         capacity: usize,
         has_listener: bool,
-    ) -> Result<ByteCache> {
-        let core = CacheCore::new(
+    ) -> Result<ByteCache>
+        ensures opened { IfOk result (λ cache. (any.fault config ≡ None) × IsOpened config capacity has_listener cache) }
+        ensures refused { IfErr result (λ reason. number_of reason ≡ refused_with (any.fault config)) }
+    {
+        let made = CacheCore::new(
             alloc,
             RawCacheConfig {
                 capacity,
@@ -104,15 +117,18 @@ impl ByteCache {
                 number: 0,
                 limits: Limits::default(),
             },
-        )?;
-        Ok(ByteCache {
-            core,
-            asked: Key::empty(alloc),
-            holds: Slab::new(alloc),
-            left: Vec::new(alloc),
-            has_listener,
-            alloc,
-        })
+        );
+        match made {
+            Ok(core) => Ok(ByteCache {
+                core,
+                asked: Key::empty(alloc),
+                holds: Slab::new(alloc),
+                left: Vec::new(alloc),
+                has_listener,
+                alloc,
+            }),
+            Err(error) => Err(error),
+        }
     }
 
     /// Inserts a record. It never expires if `expires` is 0.
@@ -124,13 +140,18 @@ impl ByteCache {
         bytes: &[u8],
         weight: usize,
         expires: u64,
-    ) -> Result<()> {
-        let expiry = if expires == 0 { None } else { Some(expires) };
-        let properties = CacheProperties::default().with_expiry(expiry);
-        let entry = self.insert_with(now, hash, key, bytes, weight, properties)?;
-        // A record that is not phantom stays when its handle is dropped.
-        drop(self.core.drop_entry(entry));
-        Ok(())
+    ) -> Result<()>
+        ensures { Inserts now hash key.now bytes.now weight (plain (expiry_of expires)) result self.old self.new }
+    {
+        match self.insert_with(now, hash, key, bytes, weight, plain_properties(expires)) {
+            Ok(InsertedOnto { entry, answers }) => {
+                answer(&mut self.holds, answers);
+                // A record that is not phantom stays when its handle is dropped.
+                drop(self.core.drop_entry(entry));
+                Ok(())
+            }
+            Err(error) => Err(error),
+        }
     }
 
     /// Inserts a record and holds a handle to it.
@@ -141,12 +162,19 @@ impl ByteCache {
         key: &[u8],
         bytes: &[u8],
         terms: &LuffaTerms,
-        record: &mut LuffaRecord,
-    ) -> Result<()> {
+        shown: &mut LuffaRecord,
+    ) -> Result<()>
+        ensures { InsertsEntry now hash key.now bytes.now terms.now.weight (properties_of terms.now) result shown.new self.old self.new }
+    {
         self.holds.reserve(1)?;
-        let entry = self.insert_with(now, hash, key, bytes, terms.weight, terms.properties())?;
-        self.hold(entry, record);
-        Ok(())
+        match self.insert_with(now, hash, key, bytes, terms.weight, terms.properties()) {
+            Ok(InsertedOnto { entry, answers }) => {
+                hold(&mut self.holds, entry, shown);
+                answer(&mut self.holds, answers);
+                Ok(())
+            }
+            Err(error) => Err(error),
+        }
     }
 
     #[inline(always)]
@@ -158,19 +186,21 @@ impl ByteCache {
         bytes: &[u8],
         weight: usize,
         properties: CacheProperties,
-    ) -> Result<Entry> {
+    ) -> Result<Made>
+        ensures inserted { InsertsBytes now hash key.now bytes.now weight properties result self.old self.new }
+        ensures rest { self.new ≡ record self.old { core = self.new.core; left = self.new.left } }
+    {
         let key = Key::new(self.alloc, hash, key)?;
+        let copy = copied(self.alloc, bytes)?;
         let value = Value {
-            bytes: copied(self.alloc, bytes)?,
+            bytes: copy,
             weight,
         };
         let made = self
             .core
             .insert_with_properties_onto(now, key, value, properties, &mut self.left);
-        self.forget_left();
-        let InsertedOnto { entry, answers } = made?;
-        self.answer(answers);
-        Ok(entry)
+        forget_left(&mut self.left, self.has_listener);
+        made
     }
 
     /// Looks a record up and copies its value, or the part of it that fits. The length of the value, if there is one.
@@ -181,17 +211,18 @@ impl ByteCache {
         hash: u64,
         key: &[u8],
         out: &mut [u8],
-    ) -> Result<Option<usize>> {
+    ) -> Result<Option<usize>>
+        ensures { GetsCopy now hash key.now out.old result out.new self.old self.new }
+    {
         self.asked.set(hash, key)?;
-        match self.core.get(now, &self.asked)? {
-            Some(entry) => {
-                let bytes = entry.value().bytes.as_slice();
-                let len = bytes.len();
-                copy_part(bytes, out);
+        match self.core.get(now, &self.asked) {
+            Ok(Some(entry)) => {
+                let len = copy_value(&entry, out);
                 drop(self.core.drop_entry(entry));
                 Ok(Some(len))
             }
-            None => Ok(None),
+            Ok(None) => Ok(None),
+            Err(error) => Err(error),
         }
     }
 
@@ -202,54 +233,53 @@ impl ByteCache {
         now: u64,
         hash: u64,
         key: &[u8],
-        record: &mut LuffaRecord,
-    ) -> Result<bool> {
+        shown: &mut LuffaRecord,
+    ) -> Result<bool>
+        ensures { GetsEntry now hash key.now result shown.new self.old self.new }
+    {
         self.holds.reserve(1)?;
         self.asked.set(hash, key)?;
-        match self.core.get(now, &self.asked)? {
-            Some(entry) => {
-                self.hold(entry, record);
+        match self.core.get(now, &self.asked) {
+            Ok(Some(entry)) => {
+                hold(&mut self.holds, entry, shown);
                 Ok(true)
             }
-            None => Ok(false),
+            Ok(None) => Ok(false),
+            Err(error) => Err(error),
         }
     }
 
     /// Removes a record and holds a handle to it. Whether there was one.
-    pub(crate) fn remove(
-        &mut self,
-        hash: u64,
-        key: &[u8],
-        record: &mut LuffaRecord,
-    ) -> Result<bool> {
+    pub(crate) fn remove(&mut self, hash: u64, key: &[u8], shown: &mut LuffaRecord) -> Result<bool>
+        ensures { RemovesEntry hash key.now result shown.new self.old self.new }
+    {
         self.holds.reserve(1)?;
         self.left.reserve(1)?;
         self.asked.set(hash, key)?;
-        match self.core.remove(&self.asked)? {
-            Some((entry, left)) => {
+        match self.core.remove(&self.asked) {
+            Ok(Some((entry, left))) => {
                 self.left.push_reserved((Event::Remove, left));
-                self.forget_left();
-                self.hold(entry, record);
+                forget_left(&mut self.left, self.has_listener);
+                hold(&mut self.holds, entry, shown);
                 Ok(true)
             }
-            None => Ok(false),
+            Ok(None) => Ok(false),
+            Err(error) => Err(error),
         }
     }
 
     /// Whether a lookup would find the key.
     pub(crate) fn contains(&mut self, now: u64, hash: u64, key: &[u8]) -> Result<bool>
-        ensures asked { OnOk result ((self.new.asked.hash ≡ hash) × ((self.new.asked.bytes).items ≡ key.now)) }
-        ensures found { IfOk result (λ found. found ≡ is_some (hit_in (meaning_of_core self.new.core) now (core_of self.new.core)
-            (hashes_of self.new.core self.new.asked, self.new.asked))) }
-        ensures core { self.new.core ≡ self.old.core }
-        ensures refused { IfErr result (λ e. e ≡ NoMemory) }
+        ensures { FindsKey now hash key.now result self.old self.new }
     {
         self.asked.set(hash, key)?;
         Ok(self.core.contains(now, &self.asked))
     }
 
     /// Counts as a use of the key's record. Whether there is one.
-    pub(crate) fn touch(&mut self, now: u64, hash: u64, key: &[u8]) -> Result<bool> {
+    pub(crate) fn touch(&mut self, now: u64, hash: u64, key: &[u8]) -> Result<bool>
+        ensures { TouchesKey now hash key.now result self.old self.new }
+    {
         self.asked.set(hash, key)?;
         self.core.touch(now, &self.asked)
     }
@@ -267,9 +297,31 @@ impl ByteCache {
     }
 }
 
+// The properties of a record that expires then, or never if that is 0.
+#[inline(always)]
+fn plain_properties(expires: u64) -> CacheProperties
+    ensures { result ≡ plain (expiry_of expires) }
+{
+    let expiry = if expires == 0 { None } else { Some(expires) };
+    CacheProperties::default().with_expiry(expiry)
+}
+
+// Copies the value of an entry, or the part of it that fits. Returns the length of the value.
+#[inline(always)]
+fn copy_value(entry: &Entry, out: &mut [u8]) -> usize
+    ensures len { result ≡ length (entry.now.kept.value.bytes).items }
+    ensures copied { out.new ≡ copied_into (entry.now.kept.value.bytes).items out.old }
+{
+    let bytes = entry.value().bytes.as_slice();
+    copy_part(bytes, out);
+    bytes.len()
+}
+
 // Copies bytes, or the first ones that fit.
 #[inline(always)]
-fn copy_part(bytes: &[u8], out: &mut [u8]) {
+fn copy_part(bytes: &[u8], out: &mut [u8])
+    ensures { out.new ≡ copied_into bytes.now out.old }
+{
     if bytes.len() <= out.len() {
         out[..bytes.len()].copy_from_slice(bytes);
     } else {

@@ -1,5 +1,9 @@
 //! Calls for the fetches of a shard.
 
+ghost use Rattle.luffapricot_c.specs.Calls.{IfTaken, OnHeld};
+ghost use Rattle.luffapricot_c.specs.Fetches.{Cancels, CompletesOr, Fetches};
+ghost use Rattle.luffapricot_c.specs.Statuses.{Tells, found_of, told_of};
+
 use crate::cache::LuffaTerms;
 use crate::record::LuffaRecord;
 use crate::{LuffaShard, status};
@@ -24,13 +28,16 @@ pub extern "C" fn luffa_shard_fetch(
     now: u64,
     hash: u64,
     key: &[u8],
-    record: &mut LuffaRecord,
+    shown: &mut LuffaRecord,
     fetch: &mut LuffaFetch,
-) -> u32 {
+) -> u32
+    ensures { OnHeld (λ old status new. Tells told_of (λ answer. Fetches now hash key.now answer shown.new fetch.new old new) status)
+        shard.old.address.held result shard.new.address.held }
+{
     let Some(mut cache) = shard.take(alloc) else {
         return status::NOT_OPEN;
     };
-    let status = status::told(cache.fetch(now, hash, key, record, fetch));
+    let status = status::told(cache.fetch(now, hash, key, shown, fetch));
     *shard = LuffaShard::of(cache);
     status
 }
@@ -46,7 +53,11 @@ pub extern "C" fn luffa_shard_complete(
     fetch: u64,
     value: &[u8],
     terms: &LuffaTerms,
-) -> u32 {
+) -> u32
+    ensures { OnHeld (λ old status new. Tells told_of (λ answer. IfTaken old.left.items status old new
+        (CompletesOr now hash key.now fetch value.now terms.now answer old new)) status)
+        shard.old.address.held result shard.new.address.held }
+{
     let Some(mut cache) = shard.take(alloc) else {
         return status::NOT_OPEN;
     };
@@ -64,7 +75,10 @@ pub extern "C" fn luffa_shard_cancel(
     hash: u64,
     key: &[u8],
     fetch: u64,
-) -> u32 {
+) -> u32
+    ensures { OnHeld (λ old status new. Tells found_of (λ answer. Cancels hash key.now fetch answer old new) status)
+        shard.old.address.held result shard.new.address.held }
+{
     let Some(mut cache) = shard.take(alloc) else {
         return status::NOT_OPEN;
     };
@@ -79,12 +93,12 @@ pub extern "C" fn luffa_shard_answered(
     shard: &mut LuffaShard,
     alloc: Global,
     number: usize,
-    record: &mut LuffaRecord,
+    shown: &mut LuffaRecord,
 ) -> u32 {
     let Some(cache) = shard.take(alloc) else {
         return status::NOT_OPEN;
     };
-    let status = cache.answered(number, record);
+    let status = cache.answered(number, shown);
     *shard = LuffaShard::of(cache);
     status
 }

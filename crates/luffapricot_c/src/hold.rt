@@ -1,5 +1,7 @@
 //! What C holds by a number.
 
+ghost use Rattle.std.specs.Prelude.{◌≡◌};
+
 use crate::key::Key;
 use crate::record::LuffaRecord;
 use crate::value::Value;
@@ -42,18 +44,24 @@ impl Drop for Hold {
 
 impl Hold {
     #[inline(always)]
-    pub(crate) fn new(held: Held) -> Hold {
+    pub(crate) fn new(held: Held) -> Hold
+        ensures { result.held ≡ held }
+    {
         Hold { held }
     }
 
     #[inline(always)]
-    pub(crate) fn into_held(self) -> Held {
+    pub(crate) fn into_held(self) -> Held
+        ensures { result ≡ self.held }
+    {
         let Hold { held } = self;
         held
     }
 
     #[inline(always)]
-    pub(crate) fn held(&self) -> &Held {
+    pub(crate) fn held(&self) -> &Held
+        ensures { result.now ≡ self.now.held }
+    {
         &self.held
     }
 }

@@ -3,9 +3,13 @@
 //! Nothing here locks. C makes one call at a time for a shard, and overlaps no buffers that it lends to a call.
 #![tactic(auto)]
 
-ghost use Rattle.std.specs.Prelude.{◌≡◌, ◌≢◌, ℕ, ◌+◌, ◌-◌, ◌*◌, ◌^◌, ◌<◌, ◌≤◌, length, true};
-ghost use Rattle.std.specs.Prelude.{is_some, IfNone, IfSome, IsSome, None, Some};
+ghost use Rattle.std.specs.Prelude.{◌≡◌, ◌≢◌, true};
+ghost use Rattle.std.specs.Prelude.{is_some, IfNone, IfSome, IsSome, None, Some, if◌then◌else◌, is_some};
+ghost use Rattle.luffapricot_c.specs.Bytes.{expiry_of, plain, properties_of};
+ghost use Rattle.luffapricot_c.specs.Calls.{FindsKey, GetsCopy, GetsEntry, Inserts, InsertsEntry, OnHeld, RemovesEntry, TouchesKey};
+ghost use Rattle.luffapricot_c.specs.Opening.{Creates};
 ghost use Rattle.luffapricot_c.specs.Policies.{config_of};
+ghost use Rattle.luffapricot_c.specs.Statuses.{Tells, copied_of, done_of, found_of, len_of};
 
 use address::Address;
 use cache::ByteCache;
@@ -96,10 +100,7 @@ pub extern "C" fn luffa_shard_create(
     capacity: usize,
     has_listener: bool,
 ) -> u32
-    ensures exists { IsSome shard.old.address.held → result ≡ 106 }
-    ensures policy { (shard.old.address.held ≡ None) × (config_of policy.now ≡ None) → result ≡ 105 }
-    ensures opened { result ≡ 0 → IsSome shard.new.address.held }
-    ensures refused { (shard.old.address.held ≡ None) × (result ≢ 0) → shard.new.address.held ≡ None }
+    ensures { Creates shard.old.address.held (config_of policy.now) capacity has_listener result shard.new.address.held }
 {
     if shard.is_open {
         return status::IS_OPEN;
@@ -123,6 +124,7 @@ pub extern "C" fn luffa_shard_create(
 #[unsafe(no_mangle)]
 pub extern "C" fn luffa_shard_destroy(shard: &mut LuffaShard, alloc: Global) -> u32
     ensures closed { shard.new.address.held ≡ None }
+    ensures status { result ≡ (if is_some shard.old.address.held then 0 else 107) }
 {
     match shard.take(alloc) {
         Some(_cache) => status::OK,
@@ -141,7 +143,10 @@ pub extern "C" fn luffa_shard_insert(
     value: &[u8],
     weight: usize,
     expires: u64,
-) -> u32 {
+) -> u32
+    ensures { OnHeld (λ old status new. Tells done_of (λ answer. Inserts {A = Unit {0}} now hash key.now value.now weight (plain (expiry_of expires)) answer old new) status)
+        shard.old.address.held result shard.new.address.held }
+{
     let Some(mut cache) = shard.take(alloc) else {
         return status::NOT_OPEN;
     };
@@ -160,12 +165,15 @@ pub extern "C" fn luffa_shard_insert_entry(
     key: &[u8],
     value: &[u8],
     terms: &LuffaTerms,
-    record: &mut LuffaRecord,
-) -> u32 {
+    shown: &mut LuffaRecord,
+) -> u32
+    ensures { OnHeld (λ old status new. Tells done_of (λ answer. InsertsEntry {A = Unit {0}} now hash key.now value.now terms.now.weight (properties_of terms.now) answer shown.new old new) status)
+        shard.old.address.held result shard.new.address.held }
+{
     let Some(mut cache) = shard.take(alloc) else {
         return status::NOT_OPEN;
     };
-    let status = status::done(cache.insert_entry(now, hash, key, value, terms, record));
+    let status = status::done(cache.insert_entry(now, hash, key, value, terms, shown));
     *shard = LuffaShard::of(cache);
     status
 }
@@ -180,18 +188,14 @@ pub extern "C" fn luffa_shard_get(
     key: &[u8],
     out: &mut [u8],
     len: &mut usize,
-) -> u32 {
+) -> u32
+    ensures { OnHeld (λ old status new. Tells copied_of (λ answer. GetsCopy now hash key.now out.old answer out.new old new × (len.new ≡ len_of answer len.old)) status)
+        shard.old.address.held result shard.new.address.held }
+{
     let Some(mut cache) = shard.take(alloc) else {
         return status::NOT_OPEN;
     };
-    let status = match cache.get(now, hash, key, out) {
-        Ok(Some(found)) => {
-            *len = found;
-            status::OK
-        }
-        Ok(None) => status::MISSING,
-        Err(error) => status::refusal(error),
-    };
+    let status = status::copied(cache.get(now, hash, key, out), len);
     *shard = LuffaShard::of(cache);
     status
 }
@@ -204,12 +208,15 @@ pub extern "C" fn luffa_shard_get_entry(
     now: u64,
     hash: u64,
     key: &[u8],
-    record: &mut LuffaRecord,
-) -> u32 {
+    shown: &mut LuffaRecord,
+) -> u32
+    ensures { OnHeld (λ old status new. Tells found_of (λ answer. GetsEntry now hash key.now answer shown.new old new) status)
+        shard.old.address.held result shard.new.address.held }
+{
     let Some(mut cache) = shard.take(alloc) else {
         return status::NOT_OPEN;
     };
-    let status = status::found(cache.get_entry(now, hash, key, record));
+    let status = status::found(cache.get_entry(now, hash, key, shown));
     *shard = LuffaShard::of(cache);
     status
 }
@@ -221,12 +228,15 @@ pub extern "C" fn luffa_shard_remove(
     alloc: Global,
     hash: u64,
     key: &[u8],
-    record: &mut LuffaRecord,
-) -> u32 {
+    shown: &mut LuffaRecord,
+) -> u32
+    ensures { OnHeld (λ old status new. Tells found_of (λ answer. RemovesEntry hash key.now answer shown.new old new) status)
+        shard.old.address.held result shard.new.address.held }
+{
     let Some(mut cache) = shard.take(alloc) else {
         return status::NOT_OPEN;
     };
-    let status = status::found(cache.remove(hash, key, record));
+    let status = status::found(cache.remove(hash, key, shown));
     *shard = LuffaShard::of(cache);
     status
 }
@@ -239,7 +249,10 @@ pub extern "C" fn luffa_shard_contains(
     now: u64,
     hash: u64,
     key: &[u8],
-) -> u32 {
+) -> u32
+    ensures { OnHeld (λ old status new. Tells found_of (λ answer. FindsKey now hash key.now answer old new) status)
+        shard.old.address.held result shard.new.address.held }
+{
     let Some(mut cache) = shard.take(alloc) else {
         return status::NOT_OPEN;
     };
@@ -256,7 +269,10 @@ pub extern "C" fn luffa_shard_touch(
     now: u64,
     hash: u64,
     key: &[u8],
-) -> u32 {
+) -> u32
+    ensures { OnHeld (λ old status new. Tells found_of (λ answer. TouchesKey now hash key.now answer old new) status)
+        shard.old.address.held result shard.new.address.held }
+{
     let Some(mut cache) = shard.take(alloc) else {
         return status::NOT_OPEN;
     };

@@ -2,7 +2,7 @@
 
 ghost use Rattle.std.specs.Prelude.{◌≡◌};
 ghost use Rattle.foyer_policy.specs.Errors.{number_of};
-ghost use Rattle.luffapricot_c.specs.Statuses.{done_of, found_of};
+ghost use Rattle.luffapricot_c.specs.Statuses.{copied_of, done_of, found_of, len_of, open_status, told_of};
 
 use foyer_policy::{Error, Event, Result};
 
@@ -64,8 +64,33 @@ pub(crate) fn found(answer: Result<bool>) -> u32
     }
 }
 
+/// The number of a result that is a length, which is written.
+#[inline(always)]
+pub(crate) fn copied(answer: Result<Option<usize>>, len: &mut usize) -> u32
+    ensures status { result ≡ copied_of answer }
+    ensures len { len.new ≡ len_of answer len.old }
+{
+    match answer {
+        Ok(Some(found)) => {
+            *len = found;
+            OK
+        }
+        Ok(None) => MISSING,
+        Err(error) => refusal(error),
+    }
+}
+
+/// The number of whether a fetch was open.
+pub(crate) fn of_open(found: bool) -> u32
+    ensures { result ≡ open_status found }
+{
+    if found { OK } else { MISSING }
+}
+
 /// The number of a result that is a number.
-pub(crate) fn told(answer: Result<u32>) -> u32 {
+pub(crate) fn told(answer: Result<u32>) -> u32
+    ensures { result ≡ told_of answer }
+{
     match answer {
         Ok(status) => status,
         Err(error) => refusal(error),

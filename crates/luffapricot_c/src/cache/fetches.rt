@@ -1,5 +1,10 @@
 //! Fetches of keys that a cache does not hold.
 
+ghost use Rattle.luffapricot_c.specs.Calls.{IfTaken};
+ghost use Rattle.luffapricot_c.specs.Fetches.{Cancels, CompletesOr, Fetches};
+ghost use Rattle.luffapricot_c.specs.Statuses.{told_of};
+
+use super::holds::{answer, hold, keep};
 use super::{ByteCache, LuffaTerms};
 use crate::fetches::LuffaFetch;
 use crate::hold::{Held, Hold};
@@ -17,32 +22,37 @@ impl ByteCache {
         now: u64,
         hash: u64,
         key: &[u8],
-        record: &mut LuffaRecord,
+        shown: &mut LuffaRecord,
         fetch: &mut LuffaFetch,
-    ) -> Result<u32> {
+    ) -> Result<u32>
+        ensures { Fetches now hash key.now result shown.new fetch.new self.old self.new }
+    {
         self.holds.reserve(1)?;
         self.asked.set(hash, key)?;
         let number = self.holds.vacant_key();
-        match self.core.get_or_enqueue(now, &self.asked, None, number)? {
-            Lookup::Hit(entry) => {
-                self.hold(entry, record);
+        match self.core.get_or_enqueue(now, &self.asked, None, number) {
+            Ok(Lookup::Hit(entry)) => {
+                hold(&mut self.holds, entry, shown);
                 Ok(status::OK)
             }
-            Lookup::Lead {
-                fetch: id,
-                token,
-                required: _,
-            } => {
+            Ok(
+                Lookup::Lead {
+                    fetch: id,
+                    token,
+                    required: _,
+                },
+            ) => {
                 fetch.fetch = id;
                 fetch.token = token;
-                record.number = self.holds.insert_reserved(Hold::new(Held::Waiting));
+                shown.number = self.holds.insert_reserved(Hold::new(Held::Waiting));
                 Ok(status::LEAD)
             }
-            Lookup::Wait { token } => {
+            Ok(Lookup::Wait { token }) => {
                 fetch.token = token;
-                record.number = self.holds.insert_reserved(Hold::new(Held::Waiting));
+                shown.number = self.holds.insert_reserved(Hold::new(Held::Waiting));
                 Ok(status::WAIT)
             }
+            Err(error) => Err(error),
         }
     }
 
@@ -55,13 +65,17 @@ impl ByteCache {
         fetch: u64,
         bytes: &[u8],
         terms: &LuffaTerms,
-    ) -> Result<u32> {
+    ) -> Result<u32>
+        ensures { IfTaken self.old.left.items (told_of result) self.old self.new
+            (CompletesOr now hash key.now fetch bytes.now terms.now result self.old self.new) }
+    {
         if !self.left.is_empty() {
             return Ok(status::UNTOLD);
         }
         self.asked.set(hash, key)?;
+        let copy = copied(self.alloc, bytes)?;
         let value = Value {
-            bytes: copied(self.alloc, bytes)?,
+            bytes: copy,
             weight: terms.weight,
         };
         let target = FetchTarget::Entry {
@@ -75,20 +89,22 @@ impl ByteCache {
         } = self
             .core
             .complete(now, &self.asked, fetch, target, Source::Outer);
-        self.keep(leaves);
-        self.answer(answers);
-        Ok(if found { status::OK } else { status::MISSING })
+        keep(&mut self.left, self.has_listener, leaves);
+        answer(&mut self.holds, answers);
+        Ok(status::of_open(found))
     }
 
     /// Ends a fetch without a value (F15 for all who wait). Whether it was open.
-    pub(crate) fn cancel(&mut self, hash: u64, key: &[u8], fetch: u64) -> Result<bool> {
+    pub(crate) fn cancel(&mut self, hash: u64, key: &[u8], fetch: u64) -> Result<bool>
+        ensures { Cancels hash key.now fetch result self.old self.new }
+    {
         self.asked.set(hash, key)?;
         let Ended {
             found,
             answers,
             leaves: _,
         } = self.core.cancel(&self.asked, fetch);
-        self.answer(answers);
+        answer(&mut self.holds, answers);
         Ok(found)
     }
 }

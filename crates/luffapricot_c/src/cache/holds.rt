@@ -1,5 +1,10 @@
 //! What C holds of a cache.
 
+ghost use Rattle.std.specs.Prelude.{◌≡◌, [], if◌then◌else◌, reverse};
+ghost use Rattle.slab.specs.Slab.{HasRoomFor};
+ghost use Rattle.luffapricot_c.specs.Calls.{HoldsEntry};
+ghost use Rattle.luffapricot_c.specs.Holds.{given, given_all, given_each, settled};
+
 use super::ByteCache;
 use crate::hold::{Entry, Gone, Held, Hold};
 use crate::key::Key;
@@ -8,60 +13,92 @@ use crate::status;
 use crate::value::Value;
 use foyer_core::{Answers, CacheProperties, Outcome, Waiting};
 use foyer_policy::Result;
+use slab::Slab;
 use std::mem;
 
+// Holds a handle under a new number, for which there is room, and shows its record.
+#[inline(always)]
+pub(super) fn hold(holds: &mut Slab<Hold>, entry: Entry, shown: &mut LuffaRecord)
+    requires room { HasRoomFor holds.old 1 }
+    ensures { HoldsEntry entry shown.new holds.old holds.new }
+{
+    shown.show(&entry);
+    shown.number = holds.insert_reserved(Hold::new(Held::Entry(entry)));
+}
+
+// Gives each who waited what there is for it.
+#[inline(always)]
+pub(super) fn answer(holds: &mut Slab<Hold>, answers: Answers<Key, Value, CacheProperties, usize>)
+    ensures { holds.new ≡ given answers holds.old }
+{
+    let Answers { waiters, outcome } = answers;
+    match outcome {
+        Outcome::Entries(entries) => answer_entries(holds, waiters, entries),
+        Outcome::Fault(error) => answer_refusal(holds, waiters, status::refusal(error)),
+        Outcome::None => answer_refusal(holds, waiters, status::MISSING),
+    }
+}
+
+// As many wait as there are entries.
+fn answer_entries(holds: &mut Slab<Hold>, mut waiters: Vec<Waiting<usize>>, mut entries: Vec<Entry>)
+    ensures { holds.new ≡ given_each (reverse waiters.items) (reverse entries.items) holds.old }
+{
+    while let Some(entry) = entries.pop() {
+        match waiters.pop() {
+            Some(waiting) => settle(holds, waiting.waiter, Held::Entry(entry)),
+            None => entry.discard(),
+        }
+    }
+    entries.destroy_empty();
+}
+
+fn answer_refusal(holds: &mut Slab<Hold>, mut waiters: Vec<Waiting<usize>>, status: u32)
+    ensures { holds.new ≡ given_all (reverse waiters.items) status holds.old }
+{
+    while let Some(waiting) = waiters.pop() {
+        settle(holds, waiting.waiter, Held::Refused(status));
+    }
+}
+
+// A number that waited names this from now on.
+fn settle(holds: &mut Slab<Hold>, number: usize, held: Held)
+    ensures { holds.new ≡ settled holds.old number held }
+{
+    let settled = Hold::new(held);
+    if let Some(hold) = holds.get_mut(number) {
+        *hold = settled;
+    } else {
+        drop(settled);
+    }
+}
+
+// What left is forgotten if nobody is told of it.
+#[inline(always)]
+pub(super) fn forget_left(left: &mut Vec<Gone>, has_listener: bool)
+    ensures { left.new.items ≡ (if has_listener then left.old.items else []) }
+{
+    if !has_listener {
+        left.clear();
+    }
+}
+
+// What left is told, if there is a listener.
+pub(super) fn keep(kept: &mut Vec<Gone>, has_listener: bool, left: Vec<Gone>)
+    ensures { kept.new.items ≡ (if has_listener then left.items else kept.old.items) }
+{
+    if has_listener {
+        *kept = left;
+    }
+}
+
 impl ByteCache {
-    // Holds a handle under a new number, for which there is room, and shows its record.
-    #[inline(always)]
-    pub(super) fn hold(&mut self, entry: Entry, record: &mut LuffaRecord) {
-        record.show(&entry);
-        record.number = self.holds.insert_reserved(Hold::new(Held::Entry(entry)));
-    }
-
-    // Gives each who waited what there is for it.
-    #[inline(always)]
-    pub(super) fn answer(&mut self, answers: Answers<Key, Value, CacheProperties, usize>) {
-        let Answers { waiters, outcome } = answers;
-        match outcome {
-            Outcome::Entries(entries) => self.answer_entries(waiters, entries),
-            Outcome::Fault(error) => self.answer_refusal(waiters, status::refusal(error)),
-            Outcome::None => self.answer_refusal(waiters, status::MISSING),
-        }
-    }
-
-    fn answer_entries(&mut self, mut waiters: Vec<Waiting<usize>>, mut entries: Vec<Entry>) {
-        while let Some(entry) = entries.pop() {
-            let Some(waiting) = waiters.pop() else {
-                drop(self.core.drop_entry(entry));
-                continue;
-            };
-            self.settle(waiting.waiter, Held::Entry(entry));
-        }
-        entries.destroy_empty();
-    }
-
-    fn answer_refusal(&mut self, mut waiters: Vec<Waiting<usize>>, status: u32) {
-        while let Some(waiting) = waiters.pop() {
-            self.settle(waiting.waiter, Held::Refused(status));
-        }
-    }
-
-    // A number that waited names this from now on.
-    fn settle(&mut self, number: usize, held: Held) {
-        if let Some(hold) = self.holds.get_mut(number) {
-            *hold = Hold::new(held);
-        } else {
-            drop(Hold::new(held));
-        }
-    }
-
     /// What a number that waits was answered: 0 for a record, which it shows, the number of a refusal, or WAIT.
-    pub(crate) fn answered(&self, number: usize, record: &mut LuffaRecord) -> u32 {
+    pub(crate) fn answered(&self, number: usize, shown: &mut LuffaRecord) -> u32 {
         match self.holds.get(number) {
             Some(hold) => match hold.held() {
                 Held::Entry(entry) => {
-                    record.show(entry);
-                    record.number = number;
+                    shown.show(entry);
+                    shown.number = number;
                     status::OK
                 }
                 Held::Waiting => status::WAIT,
@@ -102,21 +139,6 @@ impl ByteCache {
         }
     }
 
-    // Nobody is told of what left.
-    #[inline(always)]
-    pub(super) fn forget_left(&mut self) {
-        if !self.has_listener {
-            self.left.clear();
-        }
-    }
-
-    // What left is told, if there is a listener.
-    pub(super) fn keep(&mut self, left: Vec<Gone>) {
-        if self.has_listener {
-            self.left = left;
-        }
-    }
-
     /// Moves what left under a number, and says how many records it names. Whether any left.
     pub(crate) fn take_left(&mut self, number: &mut usize, count: &mut usize) -> Result<bool> {
         if self.left.is_empty() {
@@ -130,18 +152,18 @@ impl ByteCache {
     }
 
     /// Shows a record that left, of those that a number names. Whether there is one.
-    pub(crate) fn show_left(&self, number: usize, index: usize, record: &mut LuffaRecord) -> bool {
+    pub(crate) fn show_left(&self, number: usize, index: usize, shown: &mut LuffaRecord) -> bool {
         let Some(hold) = self.holds.get(number) else {
             return false;
         };
         match hold.held() {
             Held::Gone(gone) => {
-                record.show_gone(gone);
+                shown.show_gone(gone);
                 true
             }
             Held::Left(left) => match left.get(index) {
                 Some(gone) => {
-                    record.show_gone(gone);
+                    shown.show_gone(gone);
                     true
                 }
                 None => false,

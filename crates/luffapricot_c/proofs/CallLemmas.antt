@@ -1,0 +1,65 @@
+-- What the calls of a cache of bytes make of it, where parts of it stay.
+use Rattle.std.proofs.Common.{◌≡◌, ◌∙◌, ◌++◌, ◌∷◌, ℕ, List, [], None, Result, Ok, Err, Bool, true, false, ap, if◌then◌else◌, inl, inr, sym}
+use Rattle.std.specs.Prelude.{slice_index_or}
+use Rattle.slab.specs.Slab.{Slab}
+use Rattle.foyer_policy.specs.declared.error.Reason.{Reason}
+use Rattle.foyer_core.specs.declared.outcome.InsertedOnto.{InsertedOnto}
+use Rattle.foyer_core.specs.Values.{Answered, Held}
+use Rattle.luffapricot_c.specs.declared.cache.ByteCache.{ByteCache}
+use Rattle.luffapricot_c.specs.declared.hold.Hold.{Hold}
+use Rattle.luffapricot_c.specs.declared.key.Key.{Key}
+use Rattle.luffapricot_c.specs.declared.record.LuffaRecord.{LuffaRecord}
+use Rattle.luffapricot_c.specs.declared.value.Value.{Value}
+use Rattle.luffapricot_c.specs.Calls.{CoreInserts, HoldsEntry, IfTaken, InsertsBytes}
+
+-- an insert with the core's answer
+pub inserts_bytes : (now hash : ℕ) (key bytes : List ℕ) (weight : ℕ) (p : Answered)
+    (result : Result (InsertedOnto Key Value Answered ℕ) Reason) (old new : ByteCache) →
+    CoreInserts now hash key bytes weight p result old new → InsertsBytes now hash key bytes weight p result old new
+inserts_bytes now hash key bytes weight p (Ok made) old new i = i
+inserts_bytes now hash key bytes weight p (Err reason) old new i = inr i
+
+-- room for more changes nothing that is held
+pub holds_same : (entry : Held Key Value Answered) (shown : LuffaRecord) (old before new : Slab Hold) →
+    before.slots ≡ old.slots → HoldsEntry entry shown before new → HoldsEntry entry shown old new
+holds_same entry shown old before new same h = record {
+  held = record {
+    changed = h.held.changed;
+    others = λ k other. h.held.others k other ∙ ap (λ slots. slice_index_or slots k None) same;
+  };
+  shows = h.shows;
+}
+
+-- an insert that failed over more room for what is held
+pub failed_same : (now hash : ℕ) (key bytes : List ℕ) (weight : ℕ) (p : Answered) (reason : Reason)
+    (old new : ByteCache) (holds : Slab Hold) →
+    InsertsBytes now hash key bytes weight p (Err reason) (record old { holds = holds }) new →
+    InsertsBytes now hash key bytes weight p (Err reason) old new
+failed_same now hash key bytes weight p reason old new holds (inl lacks) = inl lacks
+failed_same now hash key bytes weight p reason old new holds (inr i) = inr (record {
+  own = i.own;
+  own_is = i.own_is;
+  value = i.value;
+  value_is = i.value_is;
+  leaves = i.leaves;
+  inserts = i.inserts;
+  told = i.told;
+})
+
+-- what left before was taken
+pub taken_is : {L : Type 0} (ls : List L) (status : ℕ) (old new : ByteCache) (step : Type 0) → ls ≡ [] → step →
+    IfTaken ls status old new step
+taken_is [] status old new step none did = did
+taken_is (x ∷ ls) status old new step none did = absurd cc
+
+-- what is kept of what left is told
+pub kept_told : {L : Type 0} (has_listener : Bool) (before leaves after : List L) → before ≡ [] →
+    after ≡ (if has_listener then leaves else before) → after ≡ (if has_listener then before ++ leaves else [])
+kept_told true before leaves after none is = is ∙ ap (λ b. b ++ leaves) (sym none)
+kept_told false before leaves after none is = is ∙ none
+
+-- what an insert appends is told, or all is forgotten
+pub told_more : {L : Type 0} (has_listener : Bool) (before more mid after : List L) → mid ≡ before ++ more →
+    after ≡ (if has_listener then mid else []) → after ≡ (if has_listener then before ++ more else [])
+told_more true before more mid after went is = is ∙ went
+told_more false before more mid after went is = is

@@ -1,0 +1,25 @@
+use Rattle.std.proofs.Common.{◌≡◌, ◌∙◌, [], ap, arith, inl, inr, refl}
+use Rattle.std.proofs.lemmas.Grind.{common_steps}
+use Rattle.foyer_policy.specs.Errors.{number_of}
+use Rattle.luffapricot_c.proofs.CallLemmas.{kept_told, taken_is}
+use Rattle.luffapricot_c.proofs.cache.ByteCache.evict_all.Goals as goal
+
+pub returns-in-Ok : goal.returns-in-Ok
+returns-in-Ok c =
+    let none : c.args.self.now.left.items ≡ [] = grind (arith, common_steps, c.is_empty.ensures, c.if-not-is_empty.false) in
+    taken_is c.args.self.now.left.items _ _ _ _ none (
+      c.in-Ok.left.items,
+      kept_told c.args.self.now.has_listener c.args.self.now.left.items c.in-Ok.left.items c.keep.new.kept.items none
+          c.keep.ensures,
+      inl (refl, c.in-Ok.ensures.evicts),
+    )
+
+pub returns-in-Err : goal.returns-in-Err
+returns-in-Err c =
+    let none : c.args.self.now.left.items ≡ [] = grind (arith, common_steps, c.is_empty.ensures, c.if-not-is_empty.false) in
+    taken_is c.args.self.now.left.items _ _ _ _ none (
+      c.in-Err.field-0.leaves.items,
+      kept_told c.args.self.now.has_listener c.args.self.now.left.items c.in-Err.field-0.leaves.items
+          c.keep-in-Err.new.kept.items none c.keep-in-Err.ensures,
+      inr (c.refusal.ensures ∙ ap number_of c.in-Err.ensures.evicts.0, c.in-Err.ensures.evicts.1),
+    )

@@ -1,0 +1,46 @@
+-- Keys and values of bytes, and what C gives with them.
+use Rattle.std.specs.Prelude.{◌≡◌, ℕ, ◌==◌, ◌++◌, Bool, true, List, Option, None, Some, bit_and, drop, if◌then◌else◌, length, take}
+use Rattle.foyer_policy.specs.declared.types.Hint.TheVariants.{Low, Normal}
+use Rattle.foyer_core.specs.State.{coming_in}
+use Rattle.foyer_core.specs.Values.{Answered, Held}
+use Rattle.luffapricot_c.specs.declared.cache.LuffaTerms.{LuffaTerms}
+use Rattle.luffapricot_c.specs.declared.key.Key.{Key}
+use Rattle.luffapricot_c.specs.declared.record.LuffaRecord.{LuffaRecord}
+use Rattle.luffapricot_c.specs.declared.value.Value.{Value}
+
+-- a key of these bytes, with the hash that the caller gives them
+abbrev pub IsKey : ℕ → List ℕ → Key → Type 0
+IsKey hash bytes key = (key.hash ≡ hash) × (key.bytes.items ≡ bytes)
+
+-- a value of these bytes, with the weight that the caller gives them
+abbrev pub IsValue : List ℕ → ℕ → Value → Type 0
+IsValue bytes weight value = (value.bytes.items ≡ bytes) × (value.weight ≡ weight)
+
+-- when a record expires, where 0 is never
+abbrev pub expiry_of : ℕ → Option ℕ
+expiry_of expires = if expires == 0 then None else Some expires
+
+-- the properties of a record that only expires
+abbrev pub plain : Option ℕ → Answered
+plain expires = record { phantom = None; hint = Normal; expires = expires }
+
+-- the properties by the flags that C gives: 1 expires, 2 is of low priority, 4 is phantom
+abbrev pub properties_of : LuffaTerms → Answered
+properties_of t = record {
+  phantom = if bit_and t.flags 4 == 0 then None else Some true;
+  hint = if bit_and t.flags 2 == 0 then Normal else Low;
+  expires = if bit_and t.flags 1 == 0 then None else Some t.expires;
+}
+
+-- the properties with which a record comes in, by what the filter answered
+abbrev pub admitted_with : Answered → Bool → Answered
+admitted_with p admitted = coming_in (λ _. None) (λ q phantom. record q { phantom = Some phantom }) admitted p
+
+-- the bytes of a buffer after a copy of these into it, of which what fits is copied
+abbrev pub copied_into : List ℕ → List ℕ → List ℕ
+copied_into bytes out = take (length out) bytes ++ drop (length bytes) out
+
+-- a record that is shown to C
+abbrev pub Shows : LuffaRecord → Held Key Value Answered → Type 0
+Shows shown entry = (shown.key_len ≡ length entry.kept.key.bytes.items)
+    × (shown.value_len ≡ length entry.kept.value.bytes.items) × (shown.weight ≡ entry.kept.weight)

@@ -1,0 +1,182 @@
+-- What the calls of a cache of bytes make of it, by the steps of its core.
+use Rattle.std.specs.Prelude.{◌≡◌, ℕ, ◌+◌, ◌++◌, ◌⊎◌, Bool, true, false, List, [], ◌∷◌, Option, Some, None, Result, Ok, Err, if◌then◌else◌, is_some, length}
+use Rattle.slab.specs.Slab.{Slab, Updates}
+use Rattle.foyer_policy.specs.declared.error.Reason.{Reason}
+use Rattle.foyer_policy.specs.declared.error.Reason.TheVariants.{NoMemory}
+use Rattle.foyer_policy.specs.declared.types.Event.{Event}
+use Rattle.foyer_policy.specs.declared.types.Event.TheVariants.{Remove}
+use Rattle.foyer_policy.specs.declared.types.Source.TheVariants.{Outer}
+use Rattle.foyer_core.specs.declared.outcome.InsertedOnto.{InsertedOnto}
+use Rattle.foyer_core.specs.Core.{AtShard, InsertsWeighed, hit_in}
+use Rattle.foyer_core.specs.CoreFetches.{open_in}
+use Rattle.foyer_core.specs.Cores.{core_of, fetches_of, hashes_of, meaning_of_core}
+use Rattle.foyer_core.specs.Dropping.{EndsEntry}
+use Rattle.foyer_core.specs.Inflight.{waiters_of}
+use Rattle.foyer_core.specs.Onto.{insertion_onto}
+use Rattle.foyer_core.specs.State.{at_moment}
+use Rattle.foyer_core.specs.Steps.{Gets, Removes, Touches}
+use Rattle.foyer_core.specs.Values.{Answered, Gone, Held}
+use Rattle.luffapricot_c.specs.declared.cache.ByteCache.{ByteCache}
+use Rattle.luffapricot_c.specs.declared.hold.Held.TheVariants.{Entry}
+use Rattle.luffapricot_c.specs.declared.hold.Hold.{Hold}
+use Rattle.luffapricot_c.specs.declared.key.Key.{Key}
+use Rattle.luffapricot_c.specs.declared.record.LuffaRecord.{LuffaRecord}
+use Rattle.luffapricot_c.specs.declared.value.Value.{Value}
+use Rattle.luffapricot_c.specs.Holds.{given}
+use Rattle.luffapricot_c.specs.Bytes.{IsKey, IsValue, Shows, admitted_with, copied_into}
+
+-- A call on what an address holds, and its status: with nothing there, 107, and still nothing is there; else what is there
+-- makes a step.
+unfoldable pub OnHeld : (ByteCache → ℕ → ByteCache → Type 0) → Option ByteCache → ℕ → Option ByteCache → Type 0
+OnHeld step None status held = (status ≡ 107) × (held ≡ None)
+OnHeld step (Some old) status None = ⊥
+OnHeld step (Some old) status (Some new) = step old status new
+
+-- memory was refused before the core was asked, which is as it was
+abbrev pub Lacks : Reason → ByteCache → ByteCache → Type 0
+Lacks reason old new = (reason ≡ NoMemory) × (core_of new.core ≡ core_of old.core)
+
+-- a get of a key by the core
+abbrev pub CoreGets : ℕ → Key → Result (Option (Held Key Value Answered)) Reason → ByteCache → ByteCache → Type 0
+CoreGets now k answer old new =
+    AtShard (λ s t. Gets (meaning_of_core old.core) now s (hashes_of old.core k, k) answer t) (hashes_of old.core k)
+    (core_of old.core) (core_of new.core)
+
+-- a touch of a key by the core
+abbrev pub CoreTouches : ℕ → Key → Result Bool Reason → ByteCache → ByteCache → Type 0
+CoreTouches now k answer old new =
+    AtShard (λ s t. Touches (meaning_of_core old.core) now s (hashes_of old.core k, k) answer t) (hashes_of old.core k)
+    (core_of old.core) (core_of new.core)
+
+-- a removal of a key by the core
+abbrev pub CoreRemoves : Key → Result (Option (Held Key Value Answered × Gone Key Value Answered)) Reason → ByteCache →
+    ByteCache → Type 0
+CoreRemoves k answer old new =
+    AtShard (λ s t. Removes (meaning_of_core old.core) s (hashes_of old.core k, k) answer t) (hashes_of old.core k)
+    (core_of old.core) (core_of new.core)
+
+-- an entry ends, and what leaves with it
+abbrev pub Ends : Held Key Value Answered → ByteCache → ByteCache → Type 0
+Ends entry old new = (leave : Option (Event × Gone Key Value Answered))
+    × EndsEntry (meaning_of_core old.core) entry leave (core_of old.core) (core_of new.core)
+
+-- what left is told, if there is a listener
+abbrev pub IsToldOf : List (Event × Gone Key Value Answered) → ByteCache → ByteCache → Type 0
+IsToldOf leaves old new = new.left.items ≡ (if old.has_listener then old.left.items ++ leaves else [])
+
+-- an entry is held by the number of a record that shows it
+pub record HoldsEntry (entry : Held Key Value Answered) (shown : LuffaRecord) (old new : Slab Hold) : Type 0 where
+  pub held : Updates old new shown.number (Some (record { held = Entry entry }))
+  pub shows : Shows shown entry
+
+-- the core's insert of a record of these bytes, weight and properties
+pub record CoreInserts (now hash : ℕ) (key bytes : List ℕ) (weight : ℕ) (p : Answered)
+    (result : Result (InsertedOnto Key Value Answered ℕ) Reason) (old new : ByteCache) : Type 0 where
+  pub own : Key
+  pub own_is : IsKey hash key own
+  pub value : Value
+  pub value_is : IsValue bytes weight value
+  pub leaves : List (Event × Gone Key Value Answered)
+  pub inserts : InsertsWeighed (at_moment now (meaning_of_core old.core)) Outer (λ w. w ≡ value.weight)
+      (λ admitted. admitted ≡ true) (hashes_of old.core own) own value (admitted_with p)
+      (1 + length (waiters_of (open_in (fetches_of old.core) (hashes_of old.core own, own))))
+      (insertion_onto result leaves) (core_of old.core) (core_of new.core)
+  pub told : IsToldOf leaves old new
+
+-- an insert, with what the core answers, or for want of memory before that
+abbrev pub InsertsBytes : ℕ → ℕ → List ℕ → List ℕ → ℕ → Answered → Result (InsertedOnto Key Value Answered ℕ) Reason →
+    ByteCache → ByteCache → Type 0
+InsertsBytes now hash key bytes weight p (Ok made) old new = CoreInserts now hash key bytes weight p (Ok made) old new
+InsertsBytes now hash key bytes weight p (Err reason) old new =
+    Lacks reason old new ⊎ CoreInserts now hash key bytes weight p (Err reason) old new
+
+-- an insert whose entry ends at once
+abbrev pub Inserts : {A : Type 0} → ℕ → ℕ → List ℕ → List ℕ → ℕ → Answered → Result A Reason → ByteCache → ByteCache →
+    Type 0
+Inserts now hash key bytes weight p (Ok _) old new = (made : InsertedOnto Key Value Answered ℕ) × (mid : ByteCache)
+    × CoreInserts now hash key bytes weight p (Ok made) old mid × Ends made.entry mid new
+    × (new.holds ≡ given made.answers old.holds)
+Inserts now hash key bytes weight p (Err reason) old new = InsertsBytes now hash key bytes weight p (Err reason) old new
+
+-- an insert whose entry is held
+abbrev pub InsertsEntry : {A : Type 0} → ℕ → ℕ → List ℕ → List ℕ → ℕ → Answered → Result A Reason → LuffaRecord →
+    ByteCache → ByteCache → Type 0
+InsertsEntry now hash key bytes weight p (Ok _) shown old new = (made : InsertedOnto Key Value Answered ℕ)
+    × (mid : Slab Hold) × CoreInserts now hash key bytes weight p (Ok made) old new
+    × HoldsEntry made.entry shown old.holds mid × (new.holds ≡ given made.answers mid)
+InsertsEntry now hash key bytes weight p (Err reason) shown old new =
+    InsertsBytes now hash key bytes weight p (Err reason) old new
+
+-- a get that finds an entry, whose value is copied, and which ends at once
+pub record Copies (now hash : ℕ) (key out : List ℕ) (len : ℕ) (filled : List ℕ) (old new : ByteCache) : Type 0 where
+  pub own : Key
+  pub own_is : IsKey hash key own
+  pub entry : Held Key Value Answered
+  pub mid : ByteCache
+  pub gets : CoreGets now own (Ok (Some entry)) old mid
+  pub ends : Ends entry mid new
+  pub len_is : len ≡ length entry.kept.value.bytes.items
+  pub filled_is : filled ≡ copied_into entry.kept.value.bytes.items out
+
+-- a get that finds nothing, or fails
+abbrev pub GetsNone : ℕ → ℕ → List ℕ → Result (Option (Held Key Value Answered)) Reason → ByteCache → ByteCache → Type 0
+GetsNone now hash key answer old new = (own : Key) × IsKey hash key own × CoreGets now own answer old new
+
+-- a get that copies the value of what it finds
+abbrev pub GetsCopy : ℕ → ℕ → List ℕ → List ℕ → Result (Option ℕ) Reason → List ℕ → ByteCache → ByteCache → Type 0
+GetsCopy now hash key out (Ok (Some len)) filled old new = Copies now hash key out len filled old new
+GetsCopy now hash key out (Ok None) filled old new = (filled ≡ out) × GetsNone now hash key (Ok None) old new
+GetsCopy now hash key out (Err reason) filled old new = (filled ≡ out)
+    × (Lacks reason old new ⊎ GetsNone now hash key (Err reason) old new)
+
+-- a get that finds an entry, which is held
+pub record GetsHeld (now hash : ℕ) (key : List ℕ) (shown : LuffaRecord) (old new : ByteCache) : Type 0 where
+  pub own : Key
+  pub own_is : IsKey hash key own
+  pub entry : Held Key Value Answered
+  pub gets : CoreGets now own (Ok (Some entry)) old new
+  pub holds : HoldsEntry entry shown old.holds new.holds
+
+-- a get that holds what it finds
+abbrev pub GetsEntry : ℕ → ℕ → List ℕ → Result Bool Reason → LuffaRecord → ByteCache → ByteCache → Type 0
+GetsEntry now hash key (Ok true) shown old new = GetsHeld now hash key shown old new
+GetsEntry now hash key (Ok false) shown old new = GetsNone now hash key (Ok None) old new
+GetsEntry now hash key (Err reason) shown old new =
+    Lacks reason old new ⊎ GetsNone now hash key (Err reason) old new
+
+-- a removal of a record, of which an entry is held
+pub record RemovesHeld (hash : ℕ) (key : List ℕ) (shown : LuffaRecord) (old new : ByteCache) : Type 0 where
+  pub own : Key
+  pub own_is : IsKey hash key own
+  pub out : Held Key Value Answered × Gone Key Value Answered
+  pub removes : CoreRemoves own (Ok (Some out)) old new
+  pub holds : HoldsEntry out.0 shown old.holds new.holds
+  pub told : IsToldOf ((Remove, out.1) ∷ []) old new
+
+-- a removal that finds nothing, or fails
+abbrev pub RemovesNone : ℕ → List ℕ → Result (Option (Held Key Value Answered × Gone Key Value Answered)) Reason →
+    ByteCache → ByteCache → Type 0
+RemovesNone hash key answer old new = (own : Key) × IsKey hash key own × CoreRemoves own answer old new
+
+-- a removal that holds what it finds
+abbrev pub RemovesEntry : ℕ → List ℕ → Result Bool Reason → LuffaRecord → ByteCache → ByteCache → Type 0
+RemovesEntry hash key (Ok true) shown old new = RemovesHeld hash key shown old new
+RemovesEntry hash key (Ok false) shown old new = RemovesNone hash key (Ok None) old new
+RemovesEntry hash key (Err reason) shown old new = Lacks reason old new ⊎ RemovesNone hash key (Err reason) old new
+
+-- whether a get would find a key, which changes nothing
+abbrev pub FindsKey : ℕ → ℕ → List ℕ → Result Bool Reason → ByteCache → ByteCache → Type 0
+FindsKey now hash key (Ok found) old new = (own : Key) × IsKey hash key own × (new.core ≡ old.core)
+    × (found ≡ is_some (hit_in (meaning_of_core old.core) now (core_of old.core) (hashes_of old.core own, own)))
+FindsKey now hash key (Err reason) old new = Lacks reason old new
+
+-- a touch of a key
+abbrev pub TouchesKey : ℕ → ℕ → List ℕ → Result Bool Reason → ByteCache → ByteCache → Type 0
+TouchesKey now hash key (Ok found) old new = (own : Key) × IsKey hash key own × CoreTouches now own (Ok found) old new
+TouchesKey now hash key (Err reason) old new = Lacks reason old new
+    ⊎ ((own : Key) × IsKey hash key own × CoreTouches now own (Err reason) old new)
+
+-- A call that is made only if what left before was taken: if it was not, its status is 108, and nothing changes.
+abbrev pub IfTaken : {L : Type 0} → List L → ℕ → ByteCache → ByteCache → Type 0 → Type 0
+IfTaken [] status old new step = step
+IfTaken (_ ∷ _) status old new step = (status ≡ 108) × (new ≡ old)
