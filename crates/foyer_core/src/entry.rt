@@ -133,7 +133,7 @@ impl<K: Drop, V: Drop, P: Drop> CoreEntry<K, V, P> {
     pub fn of_share(kept: &Share<K, V, P>, source: Source, told: bool) -> Option<Self>
         ensures { IfSome result (λ e. (e.kept ≡ kept.now) × ((e.source ≡ source) × (e.left ≡ told))) }
     {
-        CoreEntry::new(0, 0, 0, kept, source, told)
+        CoreEntry::new(0, 0, 0, kept.another()?, source, told)
     }
 
     // Returns an entry of the record with this share of its data, not yet counted. If `told`, it gets a share for `left`.
@@ -143,18 +143,18 @@ impl<K: Drop, V: Drop, P: Drop> CoreEntry<K, V, P> {
         number: u64,
         id: u64,
         slot: usize,
-        kept: &Share<K, V, P>,
+        kept: Share<K, V, P>,
         source: Source,
         told: bool,
     ) -> Option<Self>
-        ensures { IfSome result (λ e. e ≡ record { number = number; id = id; kept = kept.now; source = source; left = told }) }
+        ensures { IfSome result (λ e. e ≡ record { number = number; id = id; kept = kept; source = source; left = told }) }
     {
         let left = if told { Some(kept.body()?) } else { None };
         Some(CoreEntry {
             number,
             id,
             slot,
-            kept: kept.another()?,
+            kept,
             left,
             source,
         })
@@ -282,7 +282,8 @@ impl<K: Drop, V: Drop, P: Drop> CoreEntry<K, V, P> {
         ensures entry { IfOk result (λ e. e ≡ record self.now { left = true }) }
         ensures refused { IfErr result (λ e. e ≡ NoMemory) }
     {
-        match CoreEntry::new(self.number, self.id, slot, &self.kept, self.source, true) {
+        let kept = self.kept.try_clone()?;
+        match CoreEntry::new(self.number, self.id, slot, kept, self.source, true) {
             Some(entry) => Ok(entry),
             None => Err(Error::new(Reason::NoMemory)),
         }

@@ -10,6 +10,7 @@ pub mod indexer;
 pub mod inflight;
 pub mod outcome;
 pub mod piece;
+mod prefetch;
 pub mod properties;
 pub mod record;
 mod records;

@@ -14,9 +14,9 @@ use std::sync::Arc;
 /// What all shares of a record have in common.
 #[derive(Drop)]
 pub struct Body<K, V, P> {
-    key: K,
-    value: V,
-    properties: P,
+    pub(crate) key: K,
+    pub(crate) value: V,
+    pub(crate) properties: P,
 }
 
 /// A counted reference to a body. Hash and weight are beside it, since a record of another core may have the same
@@ -88,6 +88,15 @@ impl<K, V, P> Share<K, V, P> {
         ensures { result ≡ kept_of (arc_value body) hash weight }
     {
         Share { body, hash, weight }
+    }
+
+    /// Returns the body, and the hash and the weight that are beside it.
+    #[inline(always)]
+    pub fn into_parts(self) -> (Arc<Body<K, V, P>, Global>, u64, usize)
+        ensures { kept_of (arc_value result.0) result.1 result.2 ≡ self }
+    {
+        let Share { body, hash, weight } = self;
+        (body, hash, weight)
     }
 
     /// Returns the same body with another hash and weight.

@@ -13,25 +13,35 @@ use std::sync::Arc;
 
 /// A record with its id. A resident record has one more share of its body, with which it leaves. Its place in the
 /// policy has the number of its slot.
+///
+/// The fields stand in the order of their use. An allocator puts a large block 16 bytes behind the beginning of a cache
+/// line, so the first 48 bytes of a cell are one line of memory, and a drop needs no more.
 #[derive(Drop)]
 pub struct Slot<K, V, P> {
     id: u64,
-    kept: Share<K, V, P>,
+    body: Arc<Body<K, V, P>, Global>,
+    hash: u64,
     handles: usize,
     leave: Option<Arc<Body<K, V, P>, Global>>,
+    weight: usize,
 }
 
 impl<K, V, P> Model for Slot<K, V, P> {
     ghost use Rattle.std.specs.Prelude.{◌≡◌, is_some};
     ghost use Rattle.std.specs.Option.{ForSome};
     ghost use Rattle.std.specs.Arc.{arc_value};
-    ghost use Rattle.foyer_core.specs.Values.{Kept, body_of};
+    ghost use Rattle.foyer_core.specs.Values.{Kept, kept_of};
 
     ghost Value = { Kept K V P };
 
-    ghost view = { λ s. record { id = s.id; kept = s.kept; handles = s.handles; resident = is_some s.leave } };
+    ghost view = { λ s. record {
+      id = s.id;
+      kept = kept_of (arc_value s.body) s.hash s.weight;
+      handles = s.handles;
+      resident = is_some s.leave;
+    } };
 
-    ghost invariant = { λ s. ForSome s.leave (λ body. arc_value body ≡ body_of s.kept) };
+    ghost invariant = { λ s. ForSome s.leave (λ body. arc_value body ≡ arc_value s.body) };
 }
 
 impl<K: Drop, V: Drop, P: Drop> Slot<K, V, P> {
@@ -40,11 +50,14 @@ impl<K: Drop, V: Drop, P: Drop> Slot<K, V, P> {
     pub fn outside(kept: Share<K, V, P>, id: u64, handles: usize) -> Self
         ensures { result ≡ record { id = id; kept = kept; handles = handles; resident = false } }
     {
+        let (body, hash, weight) = kept.into_parts();
         Slot {
             id,
-            kept,
+            body,
+            hash,
             handles,
             leave: None,
+            weight,
         }
     }
 
@@ -57,11 +70,20 @@ impl<K: Drop, V: Drop, P: Drop> Slot<K, V, P> {
         ensures came { OnOk result (self.new ≡ record self.old { resident = true }) }
         ensures refused { IfErr result (λ e. e ≡ NoMemory) }
     {
-        let Some(body) = self.kept.body() else {
+        let Ok(body) = Arc::try_clone(&self.body) else {
             return Err(Error::new(Reason::NoMemory));
         };
         self.leave = Some(body);
         Ok(())
+    }
+
+    // One more share of the record's data, or nothing if the reference count is full.
+    #[inline(always)]
+    fn another(&self) -> Option<Share<K, V, P>>
+        ensures { IfSome result (λ share. share ≡ self.now.kept) }
+    {
+        let body = Arc::try_clone(&self.body).ok()?;
+        Some(Share::of_body(body, self.hash, self.weight))
     }
 
     /// Returns one more share of the record's data.
@@ -73,7 +95,10 @@ impl<K: Drop, V: Drop, P: Drop> Slot<K, V, P> {
         ensures share { IfOk result (λ share. share ≡ self.now.kept) }
         ensures refused { IfErr result (λ e. e ≡ NoMemory) }
     {
-        self.kept.try_clone()
+        match self.another() {
+            Some(share) => Ok(share),
+            None => Err(Error::new(Reason::NoMemory)),
+        }
     }
 
     /// Returns what the record leaves with, in the core of this number.
@@ -85,7 +110,7 @@ impl<K: Drop, V: Drop, P: Drop> Slot<K, V, P> {
         ensures left { IfOk result (λ l. l ≡ record { number = number; id = self.now.id; kept = self.now.kept }) }
         ensures refused { IfErr result (λ e. e ≡ NoMemory) }
     {
-        let share = self.kept.try_clone()?;
+        let share = self.share()?;
         Ok(Left::new(number, self.id, share))
     }
 
@@ -100,35 +125,35 @@ impl<K: Drop, V: Drop, P: Drop> Slot<K, V, P> {
     pub fn hash(&self) -> u64
         ensures { result ≡ self.now.kept.hash }
     {
-        self.kept.hash()
+        self.hash
     }
 
     #[inline(always)]
     pub fn key(&self) -> &K
         ensures { result.now ≡ self.now.kept.key }
     {
-        self.kept.key()
+        &self.body.key
     }
 
     #[inline(always)]
     pub fn value(&self) -> &V
         ensures { result.now ≡ self.now.kept.value }
     {
-        self.kept.value()
+        &self.body.value
     }
 
     #[inline(always)]
     pub fn properties(&self) -> &P
         ensures { result.now ≡ self.now.kept.properties }
     {
-        self.kept.properties()
+        &self.body.properties
     }
 
     #[inline(always)]
     pub fn weight(&self) -> usize
         ensures { result ≡ self.now.kept.weight }
     {
-        self.kept.weight()
+        self.weight
     }
 
     #[inline(always)]
@@ -157,7 +182,7 @@ impl<K: Drop, V: Drop, P: Drop> Slot<K, V, P> {
     ) -> Option<CoreEntry<K, V, P>>
         ensures { IfSome result (λ e. e ≡ record { number = number; id = self.now.id; kept = self.now.kept; source = source; left = told }) }
     {
-        CoreEntry::new(number, self.id, slot, &self.kept, source, told)
+        CoreEntry::new(number, self.id, slot, self.another()?, source, told)
     }
 
     /// Returns entries of the record, not yet counted, in a list with spare room, both as `further` says.
@@ -224,7 +249,7 @@ impl<K: Drop, V: Drop, P: Drop> Slot<K, V, P> {
             Some(body) => Left::new(
                 number,
                 self.id,
-                Share::of_body(body, self.kept.hash(), self.kept.weight()),
+                Share::of_body(body, self.hash, self.weight),
             ),
             None => unreachable!(),
         }
@@ -235,7 +260,13 @@ impl<K: Drop, V: Drop, P: Drop> Slot<K, V, P> {
     pub fn into_left(self, number: u64) -> Left<K, V, P>
         ensures { result ≡ record { number = number; id = self.id; kept = self.kept } }
     {
-        let Slot { id, kept, .. } = self;
-        Left::new(number, id, kept)
+        let Slot {
+            id,
+            body,
+            hash,
+            weight,
+            ..
+        } = self;
+        Left::new(number, id, Share::of_body(body, hash, weight))
     }
 }

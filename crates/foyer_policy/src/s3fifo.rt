@@ -19,7 +19,7 @@ use crate::lists::Place;
 use crate::queued::{Queued, append_items};
 use crate::types::{Item, Ratio};
 pub use queues::S3FifoState;
-use queues::{MAIN, MOST, Node, SMALL, count, pop_victim};
+use queues::{MAIN, MOST, Node, SMALL, count, next_victim, pop_victim};
 use serde::{Deserialize, Serialize};
 use std::alloc::Global;
 use std::marker::Model;
@@ -296,12 +296,15 @@ impl Eviction for S3Fifo {
 
     #[inline(always)]
     fn ahead(&self) -> (Option<Place>, Option<Place>) {
-        let queue = if self.small_weight > self.limit {
-            SMALL
+        let victim = if self.small_weight > self.limit {
+            next_victim(&self.queues, SMALL, self.threshold)
         } else {
-            MAIN
+            next_victim(&self.queues, MAIN, 1)
         };
-        self.queues.first_two(queue)
+        match victim {
+            Some(place) => (victim, self.queues.next(place)),
+            None => (None, None),
+        }
     }
 
     #[inline(always)]

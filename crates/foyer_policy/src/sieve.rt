@@ -129,6 +129,28 @@ fn take_victim(queue: &mut DatedLists<Node, 1>, start: Place) -> Victim
     }
 }
 
+// How many records `next_victim` reads.
+const FEW: usize = 8;
+
+// The first unvisited of the next few records from a place on, or the last of them.
+#[inline(always)]
+fn next_victim(queue: &DatedLists<Node, 1>, start: Place) -> Place
+    requires { IsSome (find start queue.now.lists) }
+    ensures { IsSome (find result queue.now.lists) }
+{
+    let mut place = start;
+    for _read in 0..FEW {
+        if !queue.get(place).state().visited {
+            break;
+        }
+        match queue.next(place) {
+            Some(next) => place = next,
+            None => break,
+        }
+    }
+    place
+}
+
 // The hand after the node at this place is removed.
 fn hand_beside(hand: Option<Place>, place: Place) -> Option<Place>
     ensures { result ≡ hand_without place hand }
@@ -286,10 +308,11 @@ impl Eviction for Sieve {
 
     #[inline(always)]
     fn ahead(&self) -> (Option<Place>, Option<Place>) {
-        match self.hand {
-            Some(hand) => (Some(hand), self.queue.next(hand)),
-            None => self.queue.first_two(0),
-        }
+        let Some(front) = self.queue.front(0) else {
+            return (None, None);
+        };
+        let victim = next_victim(&self.queue, self.hand.unwrap_or(front));
+        (Some(victim), self.queue.next(victim))
     }
 
     #[inline(always)]

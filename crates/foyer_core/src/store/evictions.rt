@@ -28,10 +28,7 @@ impl<E: Eviction, K: Key, V: Value, P: Properties, I: Finder<K>> Store<E, K, V, 
         ensures places { HasPlaces self.old → HasPlaces self.new }
     {
         if let Some(place) = self.eviction.expired(now) {
-            // It always returns true, as in `pop_one`. All that changes when the record leaves is read here, at once.
-            if !self.is_all_at(place) {
-                return Err(Error::new(Reason::NoMemory));
-            }
+            self.read_all_at(place);
             return Ok(Some(self.leave_due(place)));
         }
         self.pop_one()
@@ -60,11 +57,7 @@ impl<E: Eviction, K: Key, V: Value, P: Properties, I: Finder<K>> Store<E, K, V, 
         ensures room { HasRoom self.old.records → HasRoom self.new.records }
         ensures places { HasPlaces self.old → HasPlaces self.new }
     {
-        // It always returns true, and the arm is never reached. It is called so that the victim, and the record
-        // behind it, are read before shares are counted (store/ahead.rt).
-        if !self.looks_ahead() {
-            return Err(Error::new(Reason::NoMemory));
-        }
+        self.read_ahead();
         let Some(victim) = self.eviction.pop_at()? else {
             return Ok(None);
         };

@@ -10,6 +10,7 @@ use super::Store;
 use crate::entry::{CoreEntry, Leave};
 use crate::finder::Finder;
 use crate::outcome::{Foreign, Got};
+use crate::prefetch;
 use crate::slot::Slot;
 use foyer_policy::{Event, Eviction, Key, Place, Properties, Source, Value};
 
@@ -31,12 +32,8 @@ impl<E: Eviction, K: Key, V: Value, P: Properties, I: Finder<K>> Store<E, K, V, 
             return Got::Full;
         }
         let place = Place::at(slot);
-        // It always returns true, and the arm is never reached. It is called so that the item's node and its
-        // neighbors are read before shares are counted (store/ahead.rt). An `unreachable!()` would let the compiler
-        // drop these reads.
-        if !self.eviction.look_ahead(place) {
-            return Got::Miss;
-        }
+        // The item's node and its neighbors are read before shares are counted (store/ahead.rt).
+        prefetch::keep(self.eviction.look_ahead(place));
         let Some(entry) = found.entry(self.number, slot, Source::Memory, told) else {
             return Got::OutOfMemory;
         };

@@ -197,6 +197,32 @@ pub(super) fn pop_victim(
     }
 }
 
+// How many records `next_victim` reads.
+const FEW: usize = 8;
+
+// The first of a queue's next few records whose frequency is below this, or the last of them.
+#[inline(always)]
+pub(super) fn next_victim(
+    queues: &DatedLists<Node, 2>,
+    list: usize,
+    threshold: u8,
+) -> Option<Place>
+    requires { list < 2 }
+    ensures { IfSome result (λ p. IsSome (find p queues.now.lists)) }
+{
+    let mut at = queues.front(list)?;
+    for _read in 0..FEW {
+        if queues.get(at).state().frequency < threshold {
+            break;
+        }
+        match queues.next(at) {
+            Some(next) => at = next,
+            None => break,
+        }
+    }
+    Some(at)
+}
+
 // The number of records in a queue.
 pub(super) fn count(queues: &DatedLists<Node, 2>, list: usize) -> usize
     requires { list < 2 }

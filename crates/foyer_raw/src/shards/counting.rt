@@ -18,6 +18,8 @@ pub(crate) struct Counting<E: Eviction, K: Key, V: Value, P: Properties, R: Drop
     pub(crate) stats: Stats,
     // Where an insert puts what leaves, so that its room is used again. It is empty between the calls.
     left: Vec<Leave<K, V, P>>,
+    // Padding, so that what an insert writes never shares a cache line, or a pair of lines, with the next shard's lock.
+    apart: [u64; 16],
 }
 
 impl<E: Eviction, K: Key, V: Value, P: Properties, R: Drop, I: Finder<K>> Counting<
@@ -34,6 +36,7 @@ impl<E: Eviction, K: Key, V: Value, P: Properties, R: Drop, I: Finder<K>> Counti
             shard,
             stats: Stats::default(),
             left: Vec::new(alloc),
+            apart: [0; 16],
         }
     }
 

@@ -1,0 +1,12 @@
+//! Reads ahead of their use.
+
+use std::hint::spin_loop;
+
+/// Keeps reads whose results nothing else needs: the compiler would drop them if `are_done`, which they make true, decided
+/// nothing.
+#[inline(always)]
+pub fn keep(are_done: bool) {
+    if !are_done {
+        spin_loop();
+    }
+}
