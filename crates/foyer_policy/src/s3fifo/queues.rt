@@ -81,7 +81,7 @@ pub(super) fn take_small(
 }
 
 // Reads the frequency of the node at a place, lowers it by 1 if it is above 0, and returns whether it was. This is
-// the only reading of a frequency in the main queue, and it counts as one look.
+// the only reading of a frequency in the main queue that a pop makes, and it counts as one look.
 fn lower(queues: &mut DatedLists<Node, 2>, place: Place, looks: &mut u128) -> bool
     requires there { IsSome (find place queues.old.lists) }
     requires few { looks.old < 2 ^ 127 }
