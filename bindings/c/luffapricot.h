@@ -101,8 +101,9 @@ typedef struct luffa_entry {
     const void *value;
     size_t value_len;
     size_t weight;
-    void *shard;   /* private */
-    size_t number; /* private */
+    size_t number; /* private, as what follows */
+    uint32_t event;
+    void *shard;
 } luffa_entry;
 
 /* How a record is inserted. */

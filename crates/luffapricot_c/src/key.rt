@@ -62,6 +62,10 @@ impl Key {
         ensures refused { IfErr result (λ e. e ≡ NoMemory) }
     {
         self.hash = hash;
+        if self.bytes.len() == bytes.len() {
+            self.bytes.as_mut_slice().copy_from_slice(bytes);
+            return Ok(());
+        }
         self.bytes.clear();
         self.bytes.extend_from_slice(bytes)?;
         Ok(())
