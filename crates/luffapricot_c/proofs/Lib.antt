@@ -5,3 +5,4 @@ pub mod HeldLemmas
 pub mod HoldLemmas
 pub mod CallLemmas
 pub mod OpenLemmas
+pub mod ReleaseLemmas
