@@ -56,6 +56,8 @@ pub releases : (named : Option Hold) (hold : Hold) (entry : EntryOf Key Value An
     Names old.has_listener leave number status old.holds new.holds → new.left ≡ old.left →
     Releases named number status old new
 releases named hold entry leave number status old new is held ends names left =
-    subst (λ n. Releases n number status old new) (sym is)
-    (subst (λ h. ReleasesHeld h number status old new) (sym held)
-    (record { leave = leave; ends = ends; names = names.0; status_is = names.1 }), left)
+    subst (λ n. Releases n number status old new) (sym is) (
+      subst (λ h. ReleasesHeld h number status old new) (sym held)
+          (record { leave = leave; ends = ends; names = names.0; status_is = names.1 }),
+      left,
+    )

@@ -1,6 +1,6 @@
 -- What the calls for a number that C holds make of a cache of bytes.
-use Rattle.std.specs.Prelude.{◌≡◌, ◌≢◌, ℕ, Bool, true, false, List, [], Option, None, Some, Result, Ok, Err, if◌then◌else◌, is_some, length, option_map, slice_get}
-use Rattle.slab.specs.Slab.{Slab, Updates, get}
+use Rattle.std.specs.Prelude.{◌≡◌, ◌≢◌, ℕ, Bool, true, false, [], Option, None, Some, Result, Ok, Err, if◌then◌else◌, is_some, length, option_map, slice_get}
+use Rattle.slab.specs.Slab.{Updates, get}
 use Rattle.foyer_policy.specs.declared.error.Reason.{Reason}
 use Rattle.foyer_policy.specs.declared.error.Reason.TheVariants.{NoMemory}
 use Rattle.foyer_policy.specs.declared.types.Event.{Event}
