@@ -120,17 +120,17 @@ static inline uint32_t half_at(const uint8_t *bytes) {
  * collide. Each byte is read at least once, and some twice. */
 static inline uint64_t default_hash(const luffa_cache *cache, const uint8_t *key, size_t len) {
     uint64_t state = cache->seeds[0] ^ len, first = 0, second = 0;
-    const uint8_t *end = key + len;
     if (len >= 8) {
+        const uint8_t *end = key + len;
         for (; end - key > 16; key += 16)
             state = folded(word_at(key) ^ state, word_at(key + 8) ^ cache->seeds[1]);
         first = word_at(len > 16 ? end - 16 : key);
         second = word_at(end - 8);
     } else if (len >= 4) {
         first = half_at(key);
-        second = half_at(end - 4);
+        second = half_at(key + len - 4);
     } else if (len > 0) {
-        first = key[0] | (uint64_t)key[len / 2] << 8 | (uint64_t)end[-1] << 16;
+        first = key[0] | (uint64_t)key[len / 2] << 8 | (uint64_t)key[len - 1] << 16;
     }
     state = folded(first ^ state, second ^ cache->seeds[1]);
     return folded(state, 0x9E3779B97F4A7C15u);
@@ -321,7 +321,8 @@ luffa_status luffa_get_entry(luffa_cache *cache, uint64_t now, const void *key, 
     struct slot *slot = slot_of(cache, hash);
     lock(slot);
     luffa_status status = luffa_shard_get_entry(&slot->shard, now, hash, key, key_len, entry);
-    entry->shard = slot;
+    if (status == LUFFA_OK)
+        entry->shard = slot;
     count(slot, status);
     unlock(slot);
     return status;
