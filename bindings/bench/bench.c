@@ -11,7 +11,8 @@
 #include <string.h>
 #include <time.h>
 
-enum { LONGEST = 1024 };
+/* A trace has this many keys at least, so that counts of instructions differ by the operations alone. */
+enum { LONGEST = 1024, SHORTEST_TRACE = 100000 };
 
 static luffa_cache *cache;
 static uint64_t *trace;
@@ -99,7 +100,7 @@ int main(int argc, char **argv) {
     value_len = numbers[2];
     if (key_len > LONGEST || value_len > LONGEST || key_len < 8 || value_len < 8)
         return 2;
-    make_trace(ops, numbers[4]);
+    make_trace(ops < SHORTEST_TRACE ? SHORTEST_TRACE : ops, numbers[4]);
     luffa_config config = luffa_config_default(policy);
     config.capacity = numbers[5];
     config.shards = numbers[6];

@@ -6,6 +6,8 @@ use std::time::Instant;
 
 type Bytes = Vec<u8>;
 
+const SHORTEST_TRACE: usize = 100000;
+
 fn trace(ops: usize, keys: usize) -> Vec<u64> {
     let mut sums = Vec::with_capacity(keys);
     let mut sum = 0.0;
@@ -75,15 +77,15 @@ fn main() {
     }
     let [threads, key_len, value_len, ops, keys, capacity, shards] = numbers;
     let ops = ops / threads * threads;
-    let trace = trace(ops, keys);
+    let trace = trace(ops.max(SHORTEST_TRACE), keys);
     let cache: Cache<Bytes, Bytes> =
         CacheBuilder::new(capacity).with_shards(shards).with_eviction_config(config).build();
     let begin = Instant::now();
     let ends: Vec<(u64, u64)> = if threads == 1 {
-        vec![work(&cache, &trace, key_len, value_len, is_copied)]
+        vec![work(&cache, &trace[..ops], key_len, value_len, is_copied)]
     } else {
         std::thread::scope(|scope| {
-            let parts: Vec<_> = trace
+            let parts: Vec<_> = trace[..ops]
                 .chunks(ops / threads)
                 .map(|part| scope.spawn(|| work(&cache, part, key_len, value_len, is_copied)))
                 .collect();

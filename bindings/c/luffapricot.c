@@ -71,17 +71,23 @@ luffa_config luffa_config_default(uint32_t policy) {
     return config;
 }
 
-static void lock(struct slot *slot) {
+static __attribute__((noinline, cold)) void wait_for_lock(struct slot *slot) {
     unsigned turns = 0;
-    while (atomic_exchange_explicit(&slot->is_locked, 1, memory_order_acquire) != 0)
+    do
         while (atomic_load_explicit(&slot->is_locked, memory_order_relaxed) != 0)
             if (++turns % SPINS == 0)
                 sched_yield();
             else
                 __builtin_ia32_pause();
+    while (atomic_exchange_explicit(&slot->is_locked, 1, memory_order_acquire) != 0);
 }
 
-static void unlock(struct slot *slot) { atomic_store_explicit(&slot->is_locked, 0, memory_order_release); }
+static inline void lock(struct slot *slot) {
+    if (atomic_exchange_explicit(&slot->is_locked, 1, memory_order_acquire) != 0)
+        wait_for_lock(slot);
+}
+
+static inline void unlock(struct slot *slot) { atomic_store_explicit(&slot->is_locked, 0, memory_order_release); }
 
 /* Wakes the callers that wait for a fetch. The lock is held. */
 static void wake(struct slot *slot) {
@@ -98,25 +104,33 @@ static inline uint64_t folded(uint64_t a, uint64_t b) {
     return (uint64_t)product ^ (uint64_t)(product >> 64);
 }
 
-static inline uint64_t word_at(const uint8_t *bytes, size_t len) {
-    uint64_t word = 0;
-    memcpy(&word, bytes, len);
+static inline uint64_t word_at(const uint8_t *bytes) {
+    uint64_t word;
+    memcpy(&word, bytes, sizeof word);
     return word;
 }
 
+static inline uint32_t half_at(const uint8_t *bytes) {
+    uint32_t half;
+    memcpy(&half, bytes, sizeof half);
+    return half;
+}
+
 /* A hash by folded products of 64 bits, as foldhash and wyhash have. Whoever doesn't know the seeds can't make keys
- * collide. */
+ * collide. Each byte is read at least once, and some twice. */
 static inline uint64_t default_hash(const luffa_cache *cache, const uint8_t *key, size_t len) {
-    uint64_t state = cache->seeds[0] ^ len;
-    size_t at = 0;
-    for (; len - at > 16; at += 16)
-        state = folded(word_at(key + at, 8) ^ state, word_at(key + at + 8, 8) ^ cache->seeds[1]);
-    uint64_t first = 0, second = 0;
-    if (len - at >= 8) {
-        first = word_at(key + at, 8);
-        second = word_at(key + len - 8, 8);
-    } else if (len - at > 0) {
-        first = word_at(key + at, len - at);
+    uint64_t state = cache->seeds[0] ^ len, first = 0, second = 0;
+    if (len >= 8) {
+        const uint8_t *end = key + len;
+        for (; end - key > 16; key += 16)
+            state = folded(word_at(key) ^ state, word_at(key + 8) ^ cache->seeds[1]);
+        first = word_at(len > 16 ? end - 16 : key);
+        second = word_at(end - 8);
+    } else if (len >= 4) {
+        first = half_at(key);
+        second = half_at(key + len - 4);
+    } else if (len > 0) {
+        first = key[0] | (uint64_t)key[len / 2] << 8 | (uint64_t)key[len - 1] << 16;
     }
     state = folded(first ^ state, second ^ cache->seeds[1]);
     return folded(state, 0x9E3779B97F4A7C15u);
@@ -204,16 +218,21 @@ static void tell_record(const luffa_cache *cache, const luffa_record *record) {
                     record->value_len);
 }
 
-/* Ends what a number names. The lock is held when it begins and when it returns. */
-static void release(struct slot *slot, size_t number) {
+/* Tells the record that left with its last handle, which a number names, and ends that. The lock is held when it begins
+ * and when it returns. */
+static __attribute__((noinline, cold)) void tell_last(struct slot *slot, size_t number) {
     luffa_record record;
-    if (luffa_shard_release(&slot->shard, number) != LUFFA_LEFT)
-        return;
     luffa_shard_show_left(&slot->shard, number, 0, &record);
     unlock(slot);
     tell_record(slot->cache, &record);
     lock(slot);
     luffa_shard_release(&slot->shard, number);
+}
+
+/* Ends what a number names. The lock is held when it begins and when it returns. */
+static inline void release(struct slot *slot, size_t number) {
+    if (luffa_shard_release(&slot->shard, number) == LUFFA_LEFT)
+        tell_last(slot, number);
 }
 
 /*
@@ -247,8 +266,8 @@ static void give(struct slot *slot, const luffa_record *record, luffa_entry *ent
         release(slot, record->number);
         return;
     }
-    *entry = (luffa_entry){record->key, record->key_len, record->value, record->value_len, record->weight,
-                           slot,        record->number};
+    *entry = *record;
+    entry->shard = slot;
 }
 
 /* Ends an insert. The lock is held when it begins. */
@@ -298,14 +317,13 @@ luffa_status luffa_get(luffa_cache *cache, uint64_t now, const void *key, size_t
 }
 
 luffa_status luffa_get_entry(luffa_cache *cache, uint64_t now, const void *key, size_t key_len, luffa_entry *entry) {
-    luffa_record record;
     uint64_t hash = hash_of(cache, key, key_len);
     struct slot *slot = slot_of(cache, hash);
     lock(slot);
-    luffa_status status = luffa_shard_get_entry(&slot->shard, now, hash, key, key_len, &record);
-    count(slot, status);
+    luffa_status status = luffa_shard_get_entry(&slot->shard, now, hash, key, key_len, entry);
     if (status == LUFFA_OK)
-        give(slot, &record, entry);
+        entry->shard = slot;
+    count(slot, status);
     unlock(slot);
     return status;
 }

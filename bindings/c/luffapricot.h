@@ -101,8 +101,9 @@ typedef struct luffa_entry {
     const void *value;
     size_t value_len;
     size_t weight;
-    void *shard;   /* private */
-    size_t number; /* private */
+    size_t number; /* private, as what follows */
+    uint32_t event;
+    void *shard;
 } luffa_entry;
 
 /* How a record is inserted. */
@@ -167,7 +168,7 @@ luffa_status luffa_insert_entry(luffa_cache *cache, uint64_t now, const void *ke
 luffa_status luffa_get(luffa_cache *cache, uint64_t now, const void *key, size_t key_len, void *buffer,
                        size_t buffer_len, size_t *value_len);
 
-/* Returns an entry of the key's record. LUFFA_MISSING, F7 or F9. */
+/* Returns an entry of the key's record. LUFFA_MISSING, F7 or F9, and then the entry is as it was. */
 luffa_status luffa_get_entry(luffa_cache *cache, uint64_t now, const void *key, size_t key_len, luffa_entry *entry);
 
 /* Releases an entry and zeroes it. An entry of zeros is allowed. */

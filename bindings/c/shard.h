@@ -15,15 +15,8 @@ typedef struct luffa_shard {
     bool is_open;
 } luffa_shard;
 
-typedef struct luffa_record {
-    const uint8_t *key;
-    size_t key_len;
-    const uint8_t *value;
-    size_t value_len;
-    size_t weight;
-    size_t number;
-    uint32_t event;
-} luffa_record;
+/* A record as a call shows it: an entry but for its shard, which luffapricot.c adds. */
+typedef luffa_entry luffa_record;
 
 typedef struct luffa_fetch {
     uint64_t fetch;

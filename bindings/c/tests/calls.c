@@ -109,10 +109,12 @@ static void expiry(luffa_cache *cache) {
 
 static void entries(uint32_t policy) {
     luffa_cache *cache = created(policy, 2, 1);
-    luffa_entry held, again, phantom;
+    luffa_entry held, again, phantom, none = {0};
     luffa_terms terms = {.weight = 1, .flags = LUFFA_PHANTOM};
     CHECK(put(cache, "a", "held") == LUFFA_OK);
     CHECK(luffa_get_entry(cache, 0, "a", 1, &held) == LUFFA_OK);
+    CHECK(luffa_get_entry(cache, 0, "none", 4, &none) == LUFFA_MISSING && none.shard == NULL);
+    luffa_release(&none);
     for (int i = 0; i < 100; i++)
         CHECK(put(cache, (char[]){(char)('b' + i % 20), 0}, "other") == LUFFA_OK);
     CHECK(held.value_len == 4 && memcmp(held.value, "held", 4) == 0 && memcmp(held.key, "a", 1) == 0);

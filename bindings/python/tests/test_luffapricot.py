@@ -15,6 +15,11 @@ import weakref
 import luffapricot
 from luffapricot import Cache, cached
 
+try:
+    import cachetools
+except ImportError:
+    cachetools = None
+
 POLICIES = ["fifo", "lru", "lfu", "s3fifo", "sieve"]
 
 
@@ -309,6 +314,62 @@ class Making(unittest.TestCase):
             it.join()
         self.assertEqual(wrong, [])
         self.assertLessEqual(len(cache), 50)
+
+
+@unittest.skipIf(cachetools is None, "cachetools is not installed")
+class AsCachetools(unittest.TestCase):
+    def test_calls(self) -> None:
+        random.seed(3)
+        ours, theirs = Cache(64, "lru"), cachetools.LRUCache(64)
+        # A key that is there is removed first: cachetools makes no room for the value that replaces one of its size.
+        calls = [
+            lambda it, key: it[key] if key in it else None,
+            lambda it, key: (it.pop(key, "missing"), it.__setitem__(key, -key)),
+            lambda it, key: it.get(key, "missing"),
+            lambda it, key: it.pop(key, "missing") if key % 5 == 0 else None,
+            lambda it, key: it.setdefault(key, str(key)),
+            lambda it, key: (key in it, len(it)),
+            lambda it, key: set(it),
+        ]
+        for _ in range(20000):
+            call, key = random.choice(calls), random.randrange(100)
+            self.assertEqual(call(ours, key), call(theirs, key))
+        self.assertEqual(dict(ours.items()), dict(theirs.items()))
+        for it in (ours, theirs):
+            with self.assertRaises(KeyError):
+                it[1000]
+            with self.assertRaises(KeyError):
+                it.pop(1000)
+            with self.assertRaises(KeyError):
+                del it[1000]
+            it.clear()
+            self.assertEqual(len(it), 0)
+
+    def test_weights(self) -> None:
+        random.seed(4)
+        ours, theirs = Cache(100, "lru"), cachetools.LRUCache(100, getsizeof=len)
+        for _ in range(20000):
+            key = random.randrange(60)
+            value = "x" * (key % 11)
+            self.assertEqual(ours.get(key), theirs.get(key))
+            self.assertEqual(ours.pop(key, None), theirs.pop(key, None))
+            ours.insert(key, value, weight=len(value))
+            theirs[key] = value
+            self.assertEqual(ours.stats().usage, theirs.currsize)
+            self.assertEqual(set(ours), set(theirs))
+
+    def test_decorator(self) -> None:
+        random.seed(5)
+        made: list = [[], []]
+        ours = cached(64, policy="lru")(lambda *args, **words: made[0].append((args, words)))
+        theirs = cachetools.cached(cachetools.LRUCache(64))(lambda *args, **words: made[1].append((args, words)))
+        for _ in range(20000):
+            args = random.choices(range(10), k=random.randrange(3))
+            words = {name: random.randrange(3) for name in random.sample("xyz", random.randrange(2))}
+            ours(*args, **words)
+            theirs(*args, **words)
+            self.assertEqual(made[0], made[1])
+            made = [[], []]
 
 
 class Decorator(unittest.TestCase):

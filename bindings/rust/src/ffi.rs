@@ -49,8 +49,9 @@ pub struct luffa_entry {
     pub value: *const c_void,
     pub value_len: usize,
     pub weight: usize,
-    pub shard: *mut c_void,
     pub number: usize,
+    pub event: u32,
+    pub shard: *mut c_void,
 }
 
 #[repr(C)]

@@ -490,7 +490,16 @@ unsafe impl Sync for Entry<'_> {}
 impl Entry<'_> {
     fn empty() -> Self {
         let (key, value) = (std::ptr::null(), std::ptr::null());
-        let raw = ffi::luffa_entry { key, key_len: 0, value, value_len: 0, weight: 0, shard: null_mut(), number: 0 };
+        let raw = ffi::luffa_entry {
+            key,
+            key_len: 0,
+            value,
+            value_len: 0,
+            weight: 0,
+            number: 0,
+            event: 0,
+            shard: null_mut(),
+        };
         Entry { raw, cache: PhantomData }
     }
 

@@ -47,6 +47,17 @@ fn an_entry_outlives_its_eviction() {
 }
 
 #[test]
+fn a_miss_ends_no_entry() {
+    let cache = made(Policy::Lru, 1, 1);
+    cache.insert("held", "value").unwrap();
+    let entry = cache.get("held").unwrap();
+    assert!(cache.get("none").is_none());
+    cache.insert("other", "value").unwrap();
+    assert!(cache.contains("held"));
+    drop(entry);
+}
+
+#[test]
 fn what_left_is_told() {
     let told: Arc<Mutex<Vec<Told>>> = Arc::default();
     let heard = told.clone();

@@ -1,7 +1,11 @@
 pub mod Values
 pub mod Addresses
 pub mod Clones
+pub mod CoreCrosses
+pub mod Crosses
+pub mod PoliciesCross
 pub mod HeldLemmas
 pub mod HoldLemmas
 pub mod CallLemmas
 pub mod OpenLemmas
+pub mod ReleaseLemmas

@@ -8,7 +8,7 @@ ghost use Rattle.luffapricot_c.specs.contracts.cache.ByteCache.{the_row};
 use crate::cache::ByteCache;
 use crate::loose::Loose;
 use std::alloc::Global;
-use std::marker::Model;
+use std::marker::{Model, Send};
 
 /// The address of a box, or any address and no box. Dropping it leaks the box.
 #[repr(C)]
@@ -26,6 +26,9 @@ impl Model for Address {
 
     ghost also_owns = { λ l. held_owns (ghosts.dealloc_token l.alloc) the_row l.at l.held };
 }
+
+// Any thread may use what is behind it, one at a time.
+unsafe impl Send for Address {}
 
 impl Address {
     pub(crate) fn of(loose: Loose<ByteCache, Global>) -> Address

@@ -1,11 +1,14 @@
 //! Calls for all records of a shard.
 
-ghost use Rattle.std.specs.Prelude.{◌≡◌, ◌%◌, ◌/◌, ◌^◌, None, Some, MatchOption};
+ghost use Rattle.std.specs.Prelude.{◌≡◌, ◌%◌, ◌/◌, ◌^◌, None, Some, MatchOption, is_some};
+ghost use Rattle.slab.specs.Slab.{get};
 ghost use Rattle.foyer_core.specs.Core.{entries_of_core, usage_of_core};
 ghost use Rattle.foyer_core.specs.Cores.{core_of, meaning_of_core};
 ghost use Rattle.luffapricot_c.specs.Bulk.{ClearsAll, EvictsAll, Reconfigures, ResizesTo};
 ghost use Rattle.luffapricot_c.specs.Calls.{IfTaken, OnHeld};
 ghost use Rattle.luffapricot_c.specs.Policies.{config_of};
+ghost use Rattle.luffapricot_c.specs.Releases.{ShowsLeft, TakesLeft, left_at};
+ghost use Rattle.luffapricot_c.specs.Statuses.{Tells, found_of, open_status};
 
 use crate::policy::LuffaPolicy;
 use crate::record::LuffaRecord;
@@ -121,7 +124,10 @@ pub extern "C" fn luffa_shard_take_left(
     alloc: Global,
     number: &mut usize,
     count: &mut usize,
-) -> u32 {
+) -> u32
+    ensures { OnHeld (λ old status new. Tells found_of (λ answer. TakesLeft answer number.new count.new old new) status)
+        shard.old.address.held result shard.new.address.held }
+{
     let Some(mut cache) = shard.take(alloc) else {
         return status::NOT_OPEN;
     };
@@ -138,15 +144,15 @@ pub extern "C" fn luffa_shard_show_left(
     number: usize,
     index: usize,
     shown: &mut LuffaRecord,
-) -> u32 {
+) -> u32
+    ensures { OnHeld (λ old status new. (new ≡ old) × (status ≡ open_status (is_some (left_at (get old.holds number) index)))
+        × ShowsLeft (left_at (get old.holds number) index) shown.new)
+        shard.old.address.held result shard.new.address.held }
+{
     let Some(cache) = shard.take(alloc) else {
         return status::NOT_OPEN;
     };
-    let status = if cache.show_left(number, index, shown) {
-        status::OK
-    } else {
-        status::MISSING
-    };
+    let status = status::of_open(cache.show_left(number, index, shown));
     *shard = LuffaShard::of(cache);
     status
 }

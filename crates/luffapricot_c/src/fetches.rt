@@ -1,7 +1,10 @@
 //! Calls for the fetches of a shard.
 
 ghost use Rattle.luffapricot_c.specs.Calls.{IfTaken, OnHeld};
+ghost use Rattle.std.specs.Prelude.{◌≡◌};
+ghost use Rattle.slab.specs.Slab.{get};
 ghost use Rattle.luffapricot_c.specs.Fetches.{Cancels, CompletesOr, Fetches};
+ghost use Rattle.luffapricot_c.specs.Releases.{NumberAnswers};
 ghost use Rattle.luffapricot_c.specs.Statuses.{Tells, found_of, told_of};
 
 use crate::cache::LuffaTerms;
@@ -94,7 +97,10 @@ pub extern "C" fn luffa_shard_answered(
     alloc: Global,
     number: usize,
     shown: &mut LuffaRecord,
-) -> u32 {
+) -> u32
+    ensures { OnHeld (λ old status new. NumberAnswers (get old.holds number) number status shown.new × (new ≡ old))
+        shard.old.address.held result shard.new.address.held }
+{
     let Some(cache) = shard.take(alloc) else {
         return status::NOT_OPEN;
     };

@@ -8,14 +8,17 @@ use smallvec::SmallVec;
 use std::alloc::Global;
 use std::hash::{Hash, Hasher};
 
-/// How many bytes a key may have that allocates nothing.
+/// How many bytes a key or a value may have that allocates nothing.
 const IN_PLACE: usize = 22;
+
+/// Bytes, which are kept in place if they are few.
+pub(crate) type Bytes = SmallVec<u8, IN_PLACE>;
 
 /// A key. Equal keys have equal bytes and equal hashes, so the caller gives equal bytes the same hash.
 #[derive(Clone, Drop, PartialEq, Eq)]
 pub struct Key {
     pub(crate) hash: u64,
-    pub(crate) bytes: SmallVec<u8, IN_PLACE>,
+    pub(crate) bytes: Bytes,
 }
 
 impl Hash for Key {
@@ -50,7 +53,7 @@ impl Key {
     {
         Ok(Key {
             hash,
-            bytes: SmallVec::from_slice(alloc, bytes)?,
+            bytes: copied(alloc, bytes)?,
         })
     }
 
@@ -62,6 +65,10 @@ impl Key {
         ensures refused { IfErr result (λ e. e ≡ NoMemory) }
     {
         self.hash = hash;
+        if self.bytes.len() == bytes.len() {
+            self.bytes.as_mut_slice().copy_from_slice(bytes);
+            return Ok(());
+        }
         self.bytes.clear();
         self.bytes.extend_from_slice(bytes)?;
         Ok(())
@@ -69,13 +76,17 @@ impl Key {
 }
 
 /// A copy of bytes.
-pub(crate) fn copied(alloc: Global, bytes: &[u8]) -> Result<Vec<u8>>
+#[inline]
+pub(crate) fn copied(alloc: Global, bytes: &[u8]) -> Result<Bytes>
     ensures bytes { IfOk result (λ copy. copy.items ≡ bytes.now) }
     ensures refused { IfErr result (λ e. e ≡ NoMemory) }
 {
+    if bytes.len() <= IN_PLACE {
+        return Ok(SmallVec::from_slice(alloc, bytes)?);
+    }
     let Ok(mut copy) = Vec::with_capacity(alloc, bytes.len()) else {
         return Err(Error::new(Reason::NoMemory));
     };
     copy.extend_from_slice(bytes)?;
-    Ok(copy)
+    Ok(SmallVec::from_vec(copy))
 }

@@ -4,11 +4,13 @@
 #![tactic(auto)]
 
 ghost use Rattle.std.specs.Prelude.{◌≡◌, ◌≢◌, true};
+ghost use Rattle.slab.specs.Slab.{get};
 ghost use Rattle.std.specs.Prelude.{is_some, IfNone, IfSome, IsSome, None, Some, if◌then◌else◌, is_some};
 ghost use Rattle.luffapricot_c.specs.Bytes.{expiry_of, plain, properties_of};
 ghost use Rattle.luffapricot_c.specs.Calls.{FindsKey, GetsCopy, GetsEntry, Inserts, InsertsEntry, OnHeld, RemovesEntry, TouchesKey};
 ghost use Rattle.luffapricot_c.specs.Opening.{Creates};
 ghost use Rattle.luffapricot_c.specs.Policies.{config_of};
+ghost use Rattle.luffapricot_c.specs.Releases.{Releases};
 ghost use Rattle.luffapricot_c.specs.Statuses.{Tells, copied_of, done_of, found_of, len_of};
 
 use address::Address;
@@ -284,7 +286,10 @@ pub extern "C" fn luffa_shard_touch(
 /// Ends what a number names. 0; LEFT if a record left with it, which the number names now; MISSING; WAIT, and the
 /// number still waits; or NOT_OPEN.
 #[unsafe(no_mangle)]
-pub extern "C" fn luffa_shard_release(shard: &mut LuffaShard, alloc: Global, number: usize) -> u32 {
+pub extern "C" fn luffa_shard_release(shard: &mut LuffaShard, alloc: Global, number: usize) -> u32
+    ensures { OnHeld (λ old status new. Releases (get old.holds number) number status old new)
+        shard.old.address.held result shard.new.address.held }
+{
     let Some(mut cache) = shard.take(alloc) else {
         return status::NOT_OPEN;
     };

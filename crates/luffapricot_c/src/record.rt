@@ -1,6 +1,7 @@
 //! Records as C reads them.
 
 ghost use Rattle.std.specs.Prelude.{◌≡◌, length, vec_len};
+ghost use Rattle.luffapricot_c.specs.Releases.{ShowsGone};
 
 use crate::hold::{Entry, Gone};
 use crate::status;
@@ -46,7 +47,9 @@ impl LuffaRecord {
     }
 
     /// Shows a record that left.
-    pub(crate) fn show_gone(&mut self, gone: &Gone) {
+    pub(crate) fn show_gone(&mut self, gone: &Gone)
+        ensures { ShowsGone self.new gone.now }
+    {
         let (event, left) = gone;
         let key = left.key().bytes.as_slice();
         let value = left.value().bytes.as_slice();

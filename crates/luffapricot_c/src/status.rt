@@ -2,6 +2,7 @@
 
 ghost use Rattle.std.specs.Prelude.{◌≡◌};
 ghost use Rattle.foyer_policy.specs.Errors.{number_of};
+ghost use Rattle.luffapricot_c.specs.Releases.{event_of};
 ghost use Rattle.luffapricot_c.specs.Statuses.{copied_of, done_of, found_of, len_of, open_status, told_of};
 
 use foyer_policy::{Error, Event, Result};
@@ -34,7 +35,9 @@ pub(crate) fn refusal(error: Error) -> u32
 }
 
 /// The number of a reason to leave.
-pub(crate) fn event(event: Event) -> u32 {
+pub(crate) fn event(event: Event) -> u32
+    ensures { result ≡ event_of event }
+{
     match event {
         Event::Evict => 0,
         Event::Replace => 1,
@@ -80,7 +83,7 @@ pub(crate) fn copied(answer: Result<Option<usize>>, len: &mut usize) -> u32
     }
 }
 
-/// The number of whether a fetch was open.
+/// The number of whether something was there.
 pub(crate) fn of_open(found: bool) -> u32
     ensures { result ≡ open_status found }
 {

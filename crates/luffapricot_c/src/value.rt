@@ -1,11 +1,12 @@
 //! Values of bytes, with the weight that the caller gives them.
 
+use crate::key::Bytes;
 use foyer_core::Weighter;
 
 /// A value, and what it counts against the capacity.
 #[derive(Drop)]
 pub struct Value {
-    pub(crate) bytes: Vec<u8>,
+    pub(crate) bytes: Bytes,
     pub(crate) weight: usize,
 }
 

@@ -42,8 +42,9 @@ class CacheInfo(NamedTuple):
 class Cache(_Cache, MutableMapping):
     """A mapping that holds at most ``capacity``, of values that weigh 1 unless ``insert`` says otherwise.
 
-    ``policy`` decides what is evicted: "fifo", "lru", "lfu" (w-TinyLFU), "s3fifo" or "sieve". A value expires ``ttl``
-    seconds after it was inserted, or never. Keys need a hash, as in a dict. Any thread may use a cache. Each of several
+    ``policy`` decides what is evicted: "fifo", "lru", "lfu" (w-TinyLFU), "s3fifo" or "sieve". Room for a value is made
+    before it replaces that of its key, so in a full cache another key may leave. A value expires ``ttl`` seconds after it
+    was inserted, or never. Keys need a hash, as in a dict. Any thread may use a cache. Each of several
     ``shards`` gets its part of the capacity; under the interpreter's lock more than one gains nothing.
     """
 

@@ -1,9 +1,10 @@
 //! What C holds of a cache.
 
-ghost use Rattle.std.specs.Prelude.{◌≡◌, [], if◌then◌else◌, reverse};
-ghost use Rattle.slab.specs.Slab.{HasRoomFor};
+ghost use Rattle.std.specs.Prelude.{◌≡◌, [], if◌then◌else◌, is_some, reverse};
+ghost use Rattle.slab.specs.Slab.{HasRoomFor, get};
 ghost use Rattle.luffapricot_c.specs.Calls.{HoldsEntry};
 ghost use Rattle.luffapricot_c.specs.Holds.{given, given_all, given_each, settled};
+ghost use Rattle.luffapricot_c.specs.Releases.{NumberAnswers, Releases, ShowsLeft, TakesLeft, left_at};
 
 use super::ByteCache;
 use crate::hold::{Entry, Gone, Held, Hold};
@@ -93,7 +94,9 @@ pub(super) fn keep(kept: &mut Vec<Gone>, has_listener: bool, left: Vec<Gone>)
 
 impl ByteCache {
     /// What a number that waits was answered: 0 for a record, which it shows, the number of a refusal, or WAIT.
-    pub(crate) fn answered(&self, number: usize, shown: &mut LuffaRecord) -> u32 {
+    pub(crate) fn answered(&self, number: usize, shown: &mut LuffaRecord) -> u32
+        ensures { NumberAnswers (get self.now.holds number) number result shown.new }
+    {
         match self.holds.get(number) {
             Some(hold) => match hold.held() {
                 Held::Entry(entry) => {
@@ -111,18 +114,26 @@ impl ByteCache {
 
     /// Ends what a number names. A handle goes back to the core.
     #[inline(always)]
-    pub(crate) fn release(&mut self, number: usize) -> u32 {
+    pub(crate) fn release(&mut self, number: usize) -> u32
+        ensures { Releases (get self.old.holds number) number result self.old self.new }
+    {
         let Some(hold) = self.holds.try_remove(number) else {
             return status::MISSING;
         };
         match hold.into_held() {
-            Held::Entry(entry) => match self.core.drop_entry(entry) {
-                Some(gone) if self.has_listener => {
-                    self.holds.insert_reserved(Hold::new(Held::Gone(gone)));
-                    status::LEFT
+            Held::Entry(entry) => {
+                let leave = self.core.drop_entry(entry);
+                if !self.has_listener {
+                    return status::OK;
                 }
-                _ => status::OK,
-            },
+                match leave {
+                    Some(gone) => {
+                        self.holds.insert_reserved(Hold::new(Held::Gone(gone)));
+                        status::LEFT
+                    }
+                    None => status::OK,
+                }
+            }
             Held::Waiting => {
                 self.holds.insert_reserved(Hold::new(Held::Waiting));
                 status::WAIT
@@ -140,7 +151,9 @@ impl ByteCache {
     }
 
     /// Moves what left under a number, and says how many records it names. Whether any left.
-    pub(crate) fn take_left(&mut self, number: &mut usize, count: &mut usize) -> Result<bool> {
+    pub(crate) fn take_left(&mut self, number: &mut usize, count: &mut usize) -> Result<bool>
+        ensures { TakesLeft result number.new count.new self.old self.new }
+    {
         if self.left.is_empty() {
             return Ok(false);
         }
@@ -152,7 +165,10 @@ impl ByteCache {
     }
 
     /// Shows a record that left, of those that a number names. Whether there is one.
-    pub(crate) fn show_left(&self, number: usize, index: usize, shown: &mut LuffaRecord) -> bool {
+    pub(crate) fn show_left(&self, number: usize, index: usize, shown: &mut LuffaRecord) -> bool
+        ensures found { result ≡ is_some (left_at (get self.now.holds number) index) }
+        ensures shown { ShowsLeft (left_at (get self.now.holds number) index) shown.new }
+    {
         let Some(hold) = self.holds.get(number) else {
             return false;
         };

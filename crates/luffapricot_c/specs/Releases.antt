@@ -1,0 +1,98 @@
+-- What the calls for a number that C holds make of a cache of bytes.
+use Rattle.std.specs.Prelude.{◌≡◌, ◌≢◌, ℕ, Bool, true, false, [], Option, None, Some, Result, Ok, Err, if◌then◌else◌, is_some, length, option_map, slice_get}
+use Rattle.slab.specs.Slab.{Updates, get}
+use Rattle.foyer_policy.specs.declared.error.Reason.{Reason}
+use Rattle.foyer_policy.specs.declared.error.Reason.TheVariants.{NoMemory}
+use Rattle.foyer_policy.specs.declared.types.Event.{Event}
+use Rattle.foyer_policy.specs.declared.types.Event.TheVariants.{Clear, Evict, Remove, Replace}
+use Rattle.foyer_core.specs.Cores.{core_of, meaning_of_core}
+use Rattle.foyer_core.specs.Dropping.{EndsEntry}
+use Rattle.foyer_core.specs.Values.{Answered, Gone as GoneOf, Held as EntryOf}
+use Rattle.luffapricot_c.specs.declared.cache.ByteCache.{ByteCache}
+use Rattle.luffapricot_c.specs.declared.hold.Held.{Held}
+use Rattle.luffapricot_c.specs.declared.hold.Held.TheVariants.{Entry, Gone, Left, Refused, Waiting}
+use Rattle.luffapricot_c.specs.declared.hold.Hold.{Hold}
+use Rattle.luffapricot_c.specs.declared.key.Key.{Key}
+use Rattle.luffapricot_c.specs.declared.record.LuffaRecord.{LuffaRecord}
+use Rattle.luffapricot_c.specs.declared.value.Value.{Value}
+use Rattle.luffapricot_c.specs.Bytes.{Shows}
+
+-- the number of a reason to leave
+abbrev pub event_of : Event → ℕ
+event_of Evict = 0
+event_of Replace = 1
+event_of Remove = 2
+event_of Clear = 3
+
+-- a record that left is shown to C
+abbrev pub ShowsGone : LuffaRecord → Event × GoneOf Key Value Answered → Type 0
+ShowsGone shown gone = (shown.key_len ≡ length gone.1.kept.key.bytes.items)
+    × (shown.value_len ≡ length gone.1.kept.value.bytes.items) × (shown.weight ≡ gone.1.kept.weight)
+    × (shown.event ≡ event_of gone.0)
+
+-- what a number names once its entry has ended: what left with that, if there is a listener
+abbrev pub last_of : Bool → Option (Event × GoneOf Key Value Answered) → Option Hold
+last_of has_listener leave = if has_listener then option_map (λ gone. record { held = Gone gone }) leave else None
+
+-- an entry's handle goes back to the core, with status 104 if its number still names something
+pub record ReleasesEntry (entry : EntryOf Key Value Answered) (number status : ℕ) (old new : ByteCache) : Type 0 where
+  pub leave : Option (Event × GoneOf Key Value Answered)
+  pub ends : EndsEntry (meaning_of_core old.core) entry leave (core_of old.core) (core_of new.core)
+  pub names : Updates old.holds new.holds number (last_of old.has_listener leave)
+  pub status_is : status ≡ (if is_some (last_of old.has_listener leave) then 104 else 0)
+
+-- what a number names ends, but a wait goes on
+abbrev pub ReleasesHeld : Held → ℕ → ℕ → ByteCache → ByteCache → Type 0
+ReleasesHeld (Entry entry) number status old new = ReleasesEntry entry number status old new
+ReleasesHeld Waiting number status old new = (status ≡ 103) × (new.core ≡ old.core)
+    × Updates old.holds new.holds number (Some (record { held = Waiting }))
+ReleasesHeld (Refused _) number status old new = (status ≡ 0) × (new.core ≡ old.core)
+    × Updates old.holds new.holds number None
+ReleasesHeld (Gone _) number status old new = (status ≡ 0) × (new.core ≡ old.core)
+    × Updates old.holds new.holds number None
+ReleasesHeld (Left _) number status old new = (status ≡ 0) × (new.core ≡ old.core)
+    × Updates old.holds new.holds number None
+
+-- a number is released, or names nothing
+abbrev pub Releases : Option Hold → ℕ → ℕ → ByteCache → ByteCache → Type 0
+Releases None number status old new = (status ≡ 101) × (new ≡ old)
+Releases (Some hold) number status old new = ReleasesHeld hold.held number status old new × (new.left ≡ old.left)
+
+-- what a number that waited was answered
+abbrev pub HeldAnswers : Held → ℕ → ℕ → LuffaRecord → Type 0
+HeldAnswers (Entry entry) number status shown = (status ≡ 0) × (shown.number ≡ number) × Shows shown entry
+HeldAnswers Waiting number status shown = status ≡ 103
+HeldAnswers (Refused refusal) number status shown = status ≡ refusal
+HeldAnswers (Gone _) number status shown = status ≡ 101
+HeldAnswers (Left _) number status shown = status ≡ 101
+
+-- so of a number, which may name nothing
+abbrev pub NumberAnswers : Option Hold → ℕ → ℕ → LuffaRecord → Type 0
+NumberAnswers None number status shown = status ≡ 101
+NumberAnswers (Some hold) number status shown = HeldAnswers hold.held number status shown
+
+-- what left goes under a number that named nothing; without memory it stays
+abbrev pub TakesLeft : Result Bool Reason → ℕ → ℕ → ByteCache → ByteCache → Type 0
+TakesLeft (Ok true) number count old new = (old.left.items ≢ []) × (count ≡ length old.left.items)
+    × (new.left.items ≡ []) × (new.core ≡ old.core) × (get old.holds number ≡ None)
+    × Updates old.holds new.holds number (Some (record { held = Left old.left }))
+TakesLeft (Ok false) number count old new = (old.left.items ≡ []) × (new ≡ old)
+TakesLeft (Err reason) number count old new = (reason ≡ NoMemory) × (new.left ≡ old.left) × (new.core ≡ old.core)
+    × (new.holds.slots ≡ old.holds.slots)
+
+-- the record that left at a place among those that a number names
+abbrev pub left_in : Held → ℕ → Option (Event × GoneOf Key Value Answered)
+left_in (Entry _) index = None
+left_in Waiting index = None
+left_in (Refused _) index = None
+left_in (Gone gone) index = Some gone
+left_in (Left leaves) index = slice_get leaves.items index
+
+abbrev pub left_at : Option Hold → ℕ → Option (Event × GoneOf Key Value Answered)
+left_at None index = None
+left_at (Some hold) index = left_in hold.held index
+
+-- a record that left is shown, if there is one
+abbrev pub ShowsLeft : Option (Event × GoneOf Key Value Answered) → LuffaRecord → Type 0
+ShowsLeft None shown = Unit {0}
+ShowsLeft (Some gone) shown = ShowsGone shown gone
