@@ -44,6 +44,18 @@ def belady_is_the_least(program):
 
 
 @case
+def belady_is_the_least_of_full_shards(program):
+    """Where a shard's capacity is 0, it keeps a record all the same."""
+    data = lines(some_keys(2000, 20)).encode()
+    for shards in (1, 4):
+        hits = program.hits("-", "--policy", "all,belady", "--size", "0,1,2,5", "--shards", shards, data=data)
+        for size in (0, 1, 2, 5):
+            found = {policy: hits[policy, size] for policy in ("fifo", "lru", "lfu", "s3fifo", "sieve", "belady")}
+            assert max(found.values()) == found["belady"], (shards, size, found)
+            assert found["belady"] == belady_model(some_keys(2000, 20), max(size, shards)), (shards, size)
+
+
+@case
 def weights_and_lives(program):
     requests = [(at // 3, key, 1 + key % 40) for at, key in enumerate(some_keys(3000, 200))]
     name = program.put("w.csv", "time,key,size\n" + "".join(f"{t},{k},{s}\n" for t, k, s in requests))
@@ -87,6 +99,13 @@ def operations(program):
 
 
 @case
+def each_policy_is_run_once(program):
+    rows = program.rows("-", "--policy", "lru,all,lru:high=0.5,lru:high=0.5", "--size", "7,9,7", data=b"1\n2\n1\n")
+    assert [(it["policy"], it["parameters"], it["size"]) for it in rows[:2]] == [("lru", "", "7"), ("lru", "", "9")]
+    assert len({(it["policy"], it["parameters"], it["size"]) for it in rows}) == len(rows) == 12, rows
+
+
+@case
 def jobs_and_shards(program):
     name = program.put("j.keys", lines(some_keys(9000, 5000)))
     rows = [program.rows(name, "--policy", "all,belady", "--shards", "2", "--jobs", jobs) for jobs in (1, 3, 50)]
@@ -107,6 +126,9 @@ def warmup(program):
         assert int(row["requests"]) == 2000
         assert int(row["hits"]) == int(whole["hits"]) - model(keys[:2000], 20, False), row
     assert program.rows(*words, "--warmup", "5000")[0]["requests"] == "0"
+    for warmup, wanted in (("1000", 3000), ("0.25", 3000), ("0", 4000)):
+        rows = [program.rows(*words, "--warmup", warmup, "--part", f"{part}/4")[0] for part in range(1, 5)]
+        assert abs(sum(int(it["requests"]) for it in rows) - wanted) <= 2, (warmup, rows)
 
 
 @case

@@ -130,10 +130,10 @@ pub fn capacities_of(
     Ok(capacities)
 }
 
-/// How many records the warmup is.
-pub fn warmup_of(warmup: Warmup, totals: &Totals) -> u64 {
+/// How many records the warmup is, of a sample of this rate.
+pub fn warmup_of(warmup: Warmup, totals: &Totals, rate: f64) -> u64 {
     match warmup {
-        Warmup::Records(number) => number,
+        Warmup::Records(number) => part_of(number, rate),
         Warmup::Fraction(part) => part_of(totals.records, part),
     }
 }

@@ -70,7 +70,7 @@ fn plan_of<'a>(
         )?,
         shards: replay.shards,
         terms: replay.terms,
-        warmup: warmup_of(replay.warmup, totals),
+        warmup: warmup_of(replay.warmup, totals, replay.sample.rate),
         has_belady: has_belady(replay.policies.as_slice()),
     })
 }
