@@ -7,7 +7,9 @@ import shutil
 import subprocess
 import sys
 
-from common import HERE, ROOT, TRACES, belady_model, case, keys_of, lines, model, some_keys, weighed_model
+from common import HERE, ROOT, TRACES, belady_by_heap, belady_model, case, keys_of, lines, model, some_keys, weighed_model
+
+COUNTED = ("requests", "hits", "misses", "bytes", "miss_bytes", "evictions", "expired")
 
 
 @case
@@ -34,6 +36,9 @@ def hits_are_those_of_plain_models(program):
 
 @case
 def belady_is_the_least(program):
+    keys = some_keys(150_000, 9000)
+    hits = program.hits("-", "--policy", "belady", "--size", "20,900", data=lines(keys).encode())
+    assert hits == {("belady", size): belady_by_heap(keys, size) for size in (20, 900)}, hits
     for keys in (some_keys(2000, 120), keys_of("sqlite.keys", 1500)):
         hits = program.hits("-", "--policy", "all,belady", "--size", "1,5,40", data=lines(keys).encode())
         for size in (1, 5, 40):
@@ -41,6 +46,18 @@ def belady_is_the_least(program):
             assert all(
                 hits["belady", size] >= hits[policy, size] for policy in ("fifo", "lru", "lfu", "s3fifo", "sieve")
             )
+
+
+@case
+def belady_of_puts_and_removes(program):
+    keys = some_keys(1500, 80)
+    rng = random.Random(7)
+    operations = [rng.choice(("get", "get", "get", "set", "delete")) for _ in keys]
+    name = program.put("o.csv", "op,key\n" + "".join(f"{op},{key}\n" for op, key in zip(operations, keys)))
+    hits = program.hits(name, "--policy", "all,belady", "--size", "3,30")
+    for size in (3, 30):
+        assert hits["belady", size] == belady_model(keys, size, operations), size
+        assert hits["belady", size] == max(hits[policy, at] for policy, at in hits if at == size), (size, hits)
 
 
 @case
@@ -60,18 +77,13 @@ def weights_and_lives(program):
     requests = [(at // 3, key, 1 + key % 40) for at, key in enumerate(some_keys(3000, 200))]
     name = program.put("w.csv", "time,key,size\n" + "".join(f"{t},{k},{s}\n" for t, k, s in requests))
     words = ["--policy", "fifo", "--weigh", "size", "--size", "60,500"]
-    hits = program.hits(name, *words)
-    assert {size: hits["fifo", size] for size in (60, 500)} == {
-        size: weighed_model(requests, size) for size in (60, 500)
-    }
-    rows = program.rows(name, *words, "--ttl", "30")
-    found = {int(it["size"]): int(it["hits"]) for it in rows}
-    assert found == {size: weighed_model(requests, size, 30) for size in (60, 500)}
-    assert int(rows[1]["expired"]) > 0
-    column = program.put("t.csv", "".join(f"{t},{k},{s},get,30\n" for t, k, s in requests))
-    assert program.hits(column, *words) == {("fifo", size): count for size, count in found.items()}
-    misses = sum(size for _, _, size in requests)
-    assert int(program.rows(name, *words)[0]["bytes"]) == misses
+    column = program.put("t.csv", "".join(f"{t}.9,{k},{s},get,30\n" for t, k, s in requests))
+    for ttl, more in ((None, [name]), (30, [name, "--ttl", "30"]), (30, [column])):
+        for row in program.rows(*more, *words):
+            wanted = weighed_model(requests, int(row["size"]), ttl)
+            assert {it: int(row[it]) for it in COUNTED} == {it: wanted[it] for it in COUNTED}, (ttl, row, wanted)
+            assert row["byte_miss_ratio"] == f"{wanted['miss_bytes'] / wanted['bytes']:.6f}", row
+            assert (wanted["expired"] > 600) == (ttl == 30 and row["size"] == "500")
 
 
 @case
@@ -83,7 +95,7 @@ def numbers_past_32_bits(program):
     name = program.put("l.csv", "time,key,size\n" + "".join(f"{t},{k},{s}\n" for t, k, s in requests))
     for ttl in (None, 2**36):
         words = ["--policy", "fifo", "--weigh", "size", "--size", str(2**37), *(["--ttl", ttl] if ttl else [])]
-        wanted = weighed_model(requests, 2**37, ttl)
+        wanted = weighed_model(requests, 2**37, ttl)["hits"]
         assert wanted > 100
         assert program.hits(name, *words) == program.hits(name, "--stream", *words) == {("fifo", 2**37): wanted}, ttl
 
