@@ -94,7 +94,7 @@ def points_are_the_rows(program):
     (left, x1), (right, x2) = scale_of(root, "middle", "x")
     (bottom, y1), (top, y2) = scale_of(root, "end", "y")
     points = [tuple(map(float, it.split(","))) for line in root.findall(".//{*}polyline") for it in line.get("points").split()]
-    assert len(points) == len(rows) == 24
+    assert len(points) == len(rows) == 24 and x1 < x2 and y1 > y2
     for (x, y), row in zip(points, rows):
         part = (math.log(int(row["size"])) - math.log(left)) / (math.log(right) - math.log(left))
         assert abs(x - (x1 + part * (x2 - x1))) < 0.5, (x, row)

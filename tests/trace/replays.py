@@ -216,30 +216,15 @@ def dask(program):
     if python is None:
         print("trace: dask: skipped, since python3-dask and python3-distributed are not installed")
         return
-    script, trace = ROOT / "examples/traces/over_dask.py", TRACES / "sqlite.keys"
-    table = program.call(trace, "--policy", "lru,sieve", "--size", "10,100", "--quiet")[1].split("\n\n")[1]
-    words = [
-        python,
-        script,
-        "--program",
-        program.path,
-        "--workers",
-        "2",
-        trace,
-        "--policy",
-        "lru,sieve",
-        "--size",
-        "10,100",
-    ]
-    ended = subprocess.run(list(map(str, words)), capture_output=True, text=True, timeout=200, check=False)
+    script, trace = ROOT / "examples/traces/over_dask.py", TRACES / "build.csv"
+    words = [python, script, "--program", program.path, "--workers", "2", trace, "--policy", "lru,sieve,lru", "--size", "10,100"]
+    table = program.call(*words[6:], "--quiet")[1].split("\n\n")[1]
+    called = {"capture_output": True, "text": True, "timeout": 200, "check": False}
+    ended = subprocess.run([*map(str, words), "--csv", program.folder / "dask.csv"], **called)
     assert ended.returncode == 0 and table.strip() in ended.stdout, (ended, table)
-    parts = subprocess.run(
-        list(map(str, [*words[:6], "--parts", "3", *words[6:]])),
-        capture_output=True,
-        text=True,
-        timeout=200,
-        check=False,
-    )
+    spread, alone = csv.DictReader(io.StringIO((program.folder / "dask.csv").read_text())), program.rows(*words[6:])
+    assert [{**row, "seconds": ""} for row in spread] == [{**row, "seconds": ""} for row in alone]
+    parts = subprocess.run([*map(str, words[:6]), "--parts", "3", *map(str, words[6:])], **called)
     for part in (1, 2, 3):
         program.call(*words[6:], "--part", f"{part}/3", "--csv", f"d{part}.csv")
     wanted = program.call("--merge", "d1.csv", "d2.csv", "d3.csv")[1].split("\n\n")[1]
