@@ -11,6 +11,7 @@ HERE = pathlib.Path(__file__).resolve().parent
 ROOT = HERE.parents[1]
 TRACES = ROOT / "examples/traces"
 CASES = []
+COUNTED = ("requests", "hits", "misses", "bytes", "miss_bytes", "evictions", "expired")
 
 
 def case(function):

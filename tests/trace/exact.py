@@ -1,14 +1,15 @@
-"""What must be exact: numbers of each width in each format, sums, points of the pictures, and what is said of progress."""
+"""What must be exact: numbers of each width in each format, sums, memory, points of the pictures, progress."""
 import math
 import os
 import pty
 import re
 import struct
 import subprocess
+import sys
 import time
 import xml.etree.ElementTree as xml
 
-from common import TRACES, case, lines, some_keys, weighed_model
+from common import COUNTED, TRACES, case, lines, some_keys, weighed_model
 
 
 @case
@@ -29,7 +30,18 @@ def wide_numbers(program):
     for ttl in (None, 2**29):
         words = ["--policy", "fifo", "--weigh", "size", "--size", str(2**33), *(["--ttl", ttl] if ttl else [])]
         wanted, row = weighed_model(requests, 2**33, ttl), program.rows(name, *words)[0]
-        assert [int(row[it]) for it in ("hits", "miss_bytes")] == [wanted[it] for it in ("hits", "miss_bytes")], (row, wanted)
+        assert {it: int(row[it]) for it in COUNTED} == {it: wanted[it] for it in COUNTED}, (row, wanted)
+
+
+@case
+def counts_of_many_requests(program):
+    """What more than one part of a trace comes to, in memory and in a stream."""
+    requests = [(at, key, 1 + key % 700) for at, key in enumerate(some_keys(150_000, 3000))]
+    name = program.put("y.csv", "time,key,size\n" + "".join(f"{t},{k},{s}\n" for t, k, s in requests))
+    wanted = weighed_model(requests, 50_000)
+    for words in ([], ["--stream"]):
+        row = program.rows(name, "--policy", "fifo", "--weigh", "size", "--size", "50k", *words)[0]
+        assert {it: int(row[it]) for it in COUNTED} == {it: wanted[it] for it in COUNTED}, (row, wanted)
 
 
 @case
@@ -54,13 +66,39 @@ def footprints(program):
     assert all(abs(size - whole * part) <= 0.5 for size, part in zip(found, parts)), (found, whole)
     text = program.call(name, "--policy", "fifo", "--weigh", "size", "--quiet")[1]
     assert "75 requests, 25 distinct keys of 200 GiB, 600 GiB requested" in text, text
+    grown = program.put("g.csv", "key,op,size\n1,get,1\n2,delete,101\n1,set,201\n2,get,301\n")
+    text = program.call(grown, "--policy", "fifo", "--quiet")[1]
+    assert "4 requests (2 gets), 2 distinct keys of 302 B, 302 B requested" in text, text
+
+
+MEASURED = """import resource, subprocess, sys
+subprocess.run(sys.argv[1:], stdout=subprocess.DEVNULL, check=True)
+print(resource.getrusage(resource.RUSAGE_CHILDREN).ru_maxrss)"""
+
+
+def memory_of(program, *words):
+    """The bytes that a run has at its most."""
+    words = [sys.executable, "-c", MEASURED, program.path, *words, "--policy", "fifo", "--size", "10", "--quiet"]
+    said = subprocess.run(words, capture_output=True, text=True, cwd=program.folder, check=True).stdout
+    return int(said) * 1024
+
+
+@case
+def memory(program):
+    """A request takes at most 16 bytes, or 24 with a size, also where all keys are distinct, and none in a stream."""
+    count = 1_500_000
+    name = program.put("m.keys", lines(range(count)))
+    sized = program.put("m.csv", "".join(f"{at // 100},{at * 7919},{at % 100_000}\n" for at in range(count)))
+    for words, least, most in (([name], 12, 16), ([sized], 16, 24), ([name, "--stream"], 0, 0)):
+        found = memory_of(program, *words)
+        assert least * count <= found <= most * count + 16_000_000, (words, found)  # Python's own, and buffers
 
 
 @case
 def sums_past_32_bits(program):
     """Merged counts are sums of any size."""
-    header = program.rows("-", "--policy", "lru", "--size", "9", data=b"1\n") and (program.folder / "rows.csv").read_text()
-    names = header.split("\n")[0].split(",")
+    program.rows("-", "--policy", "lru", "--size", "9", data=b"1\n")
+    names = (program.folder / "rows.csv").read_text().split("\n")[0].split(",")
     counts = {"requests": 5, "hits": 2, "misses": 3, "evictions": 4, "expired": 6, "bytes": 9, "miss_bytes": 8}
     for at in (1, 2):
         row = {"policy": "lru", "size": "9", "seconds": "1.5", "unit": "records"}
@@ -93,7 +131,8 @@ def points_are_the_rows(program):
     root = xml.parse(program.folder / "a.svg").getroot()
     (left, x1), (right, x2) = scale_of(root, "middle", "x")
     (bottom, y1), (top, y2) = scale_of(root, "end", "y")
-    points = [tuple(map(float, it.split(","))) for line in root.findall(".//{*}polyline") for it in line.get("points").split()]
+    words = [it for line in root.findall(".//{*}polyline") for it in line.get("points").split()]
+    points = [tuple(map(float, it.split(","))) for it in words]
     assert len(points) == len(rows) == 24 and x1 < x2 and y1 > y2
     for (x, y), row in zip(points, rows):
         part = (math.log(int(row["size"])) - math.log(left)) / (math.log(right) - math.log(left))

@@ -7,9 +7,20 @@ import shutil
 import subprocess
 import sys
 
-from common import HERE, ROOT, TRACES, belady_by_heap, belady_model, case, keys_of, lines, model, some_keys, weighed_model
-
-COUNTED = ("requests", "hits", "misses", "bytes", "miss_bytes", "evictions", "expired")
+from common import (
+    COUNTED,
+    HERE,
+    ROOT,
+    TRACES,
+    belady_by_heap,
+    belady_model,
+    case,
+    keys_of,
+    lines,
+    model,
+    some_keys,
+    weighed_model,
+)
 
 
 @case
@@ -217,7 +228,8 @@ def dask(program):
         print("trace: dask: skipped, since python3-dask and python3-distributed are not installed")
         return
     script, trace = ROOT / "examples/traces/over_dask.py", TRACES / "build.csv"
-    words = [python, script, "--program", program.path, "--workers", "2", trace, "--policy", "lru,sieve,lru", "--size", "10,100"]
+    words = [python, script, "--program", program.path, "--workers", "2"]
+    words += [trace, "--policy", "lru,sieve,lru", "--size", "10,100"]
     table = program.call(*words[6:], "--quiet")[1].split("\n\n")[1]
     called = {"capture_output": True, "text": True, "timeout": 200, "check": False}
     ended = subprocess.run([*map(str, words), "--csv", program.folder / "dask.csv"], **called)

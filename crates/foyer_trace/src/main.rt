@@ -13,6 +13,7 @@ use std::time::Instant;
 
 mod belady;
 mod failure;
+mod footprint;
 mod format;
 mod help;
 mod html;
