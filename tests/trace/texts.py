@@ -192,6 +192,18 @@ def pictures_have_room(program):
 
 
 @case
+def documents_are_of_today(program):
+    """The picture and the tables that the documents show."""
+    said = program.call(TRACES / "sqlite.keys", "--policy", "all,belady", "--svg", "d.svg", "--quiet")[1]
+    assert (program.folder / "d.svg").read_text() == (ROOT / "docs/traces-sqlite.svg").read_text()
+    table = said.split("\n\n")[1]
+    assert table in (ROOT / "docs/TRACES.md").read_text()
+    rows = re.findall(r"^(lru|s3fifo|belady) +(0\..*)$", (ROOT / "README.md").read_text(), re.M)
+    whole = {it.split()[0]: it.replace("*", "").split() for it in table.splitlines()[2:]}
+    assert len(rows) == 3 and all(set(ratios.split()) <= set(whole[name]) for name, ratios in rows), rows
+
+
+@case
 def names_are_escaped(program):
     """A name that a merged file has is text in the page and the picture."""
     program.call("-", "--policy", "lru", "--size", "9", "--csv", "e.csv", data=b"1\n")
