@@ -58,7 +58,7 @@ pub struct Plan<'a> {
     pub terms: Terms,
     /// How many records are served before anything is counted.
     pub warmup: u64,
-    /// Whether the footprint and the sizes are in bytes.
+    /// Whether Belady's cache is among the policies.
     pub has_belady: bool,
 }
 

@@ -56,15 +56,20 @@ pub fn policies_of<'a>(alloc: Global, list: &'a str) -> Result<Vec<Policy<'a>>, 
             policy.set(alloc, parameter)?;
         }
     }
+    if policies.is_empty() {
+        return Err(Failure::Usage(format!(in alloc; "'{list}' names no policy")?));
+    }
+    distinct(alloc, policies)
+}
+
+// Each of these once, if it takes its configuration.
+fn distinct<'a>(alloc: Global, policies: Vec<Policy<'a>>) -> Result<Vec<Policy<'a>>, Failure> {
     let mut distinct: Vec<Policy<'a>> = Vec::new(alloc);
     for policy in policies {
         policy.check(alloc)?;
         if !distinct.iter().any(|it| it.is_same(&policy)) {
             distinct.push(policy)?;
         }
-    }
-    if distinct.is_empty() {
-        return Err(Failure::Usage(format!(in alloc; "'{list}' names no policy")?));
     }
     Ok(distinct)
 }
