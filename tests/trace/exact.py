@@ -89,9 +89,9 @@ def memory(program):
     count = 1_500_000
     name = program.put("m.keys", lines(range(count)))
     sized = program.put("m.csv", "".join(f"{at // 100},{at * 7919},{at % 100_000}\n" for at in range(count)))
-    for words, least, most in (([name], 12, 16), ([sized], 16, 24), ([name, "--stream"], 0, 0)):
+    for words, most in (([name], 16), ([sized], 24), ([name, "--stream"], 0)):
         found = memory_of(program, *words)
-        assert least * count <= found <= most * count + 16_000_000, (words, found)  # Python's own, and buffers
+        assert found <= most * count + 16_000_000, (words, found)  # Python's own, and buffers
 
 
 @case
