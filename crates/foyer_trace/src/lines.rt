@@ -34,7 +34,10 @@ impl<B: BufRead + Drop> Lines<B> {
                     &error,
                 )),
             }
-            while matches!(self.line.last(), Some(b'\n' | b'\r')) {
+            for _end in 0..self.line.len() {
+                if !matches!(self.line.last(), Some(b'\n' | b'\r')) {
+                    break;
+                }
                 self.line.pop();
             }
             if !self.line.is_empty() {

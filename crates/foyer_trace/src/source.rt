@@ -109,7 +109,10 @@ impl<B: BufRead + Drop> Source<B> {
     /// Puts the next records of the sample, at most a part, in the place of those in the list.
     pub fn read_part(&mut self, records: &mut Vec<Record>) -> Result<(), Failure> {
         records.clear();
-        while records.len() < PART {
+        for _record in 0..u64::MAX {
+            if records.len() >= PART {
+                break;
+            }
             let record = match self.reader.next_record() {
                 Ok(Some(record)) => record,
                 Ok(None) => break,

@@ -64,7 +64,10 @@ fn push_table(
 
 // Ends a line, without spaces at its end.
 fn end_line(text: &mut String) -> Result<(), AllocError> {
-    while text.as_bytes().last() == Some(&b' ') {
+    for _space in 0..text.len() {
+        if text.as_bytes().last() != Some(&b' ') {
+            break;
+        }
         text.pop();
     }
     text.push('\n')

@@ -46,7 +46,10 @@ impl<B: BufRead + Drop> ArcReader<B> {
 
 impl<B: BufRead + Drop> RecordReader for ArcReader<B> {
     fn next_record(&mut self) -> Result<Option<Record>, Failure> {
-        while self.left == 0 {
+        for _range in 0..u64::MAX {
+            if self.left > 0 {
+                break;
+            }
             let lines = self.lines.advance()?;
             if lines == 0 {
                 return Ok(None);
