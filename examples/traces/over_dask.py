@@ -44,7 +44,7 @@ def policies_of(words):
             found[-1] += f",{word}"
         else:
             found.append(word)
-    return found
+    return [*dict.fromkeys(found)]
 
 
 def tasks_of(options, others):
@@ -52,7 +52,7 @@ def tasks_of(options, others):
     if options.parts:
         words = [options.trace, "--policy", options.policy, "--size", options.size, "--jobs", "1", *others]
         return [[*words, "--part", f"{part}/{options.parts}"] for part in range(1, options.parts + 1)]
-    sizes = options.size.split(",")
+    sizes = [*dict.fromkeys(options.size.split(","))]
     return [
         [options.trace, "--policy", policy, "--size", size, "--jobs", "1", *others]
         for policy in policies_of(options.policy)

@@ -1,6 +1,7 @@
 """What the cases of tests/trace share: the program under test, requests, and plain models of caches."""
 import collections
 import csv
+import heapq
 import io
 import pathlib
 import random
@@ -10,6 +11,7 @@ HERE = pathlib.Path(__file__).resolve().parent
 ROOT = HERE.parents[1]
 TRACES = ROOT / "examples/traces"
 CASES = []
+COUNTED = ("requests", "hits", "misses", "bytes", "miss_bytes", "evictions", "expired")
 
 
 def case(function):
@@ -77,30 +79,61 @@ def model(keys, capacity, is_lru):
 
 
 def weighed_model(requests, capacity, ttl=None):
-    """The hits of FIFO with weights and lives: what has expired leaves first, the soonest first."""
-    cache, used, hits = collections.OrderedDict(), 0, 0
+    """What FIFO with weights and lives counts: what has expired leaves first, the soonest first."""
+    cache, used, counts = collections.OrderedDict(), 0, collections.Counter()
     for now, key, size in requests:
+        counts["requests"] += 1
+        counts["bytes"] += size
         if key in cache and (ttl is None or now < cache[key][1]):
-            hits += 1
+            counts["hits"] += 1
             continue
-        while cache and used - (cache[key][0] if key in cache else 0) + size > capacity:
+        counts["misses"] += 1
+        counts["miss_bytes"] += size
+        while cache and used + size > capacity:
             due = min(cache, key=lambda it: cache[it][1]) if ttl else None
             victim = due if ttl and cache[due][1] <= now else next(iter(cache))
+            counts["evictions"] += 1
+            counts["expired"] += bool(ttl and cache[victim][1] <= now)
             used -= cache.pop(victim)[0]
         if key in cache:
+            counts["expired"] += cache[key][1] <= now
             used -= cache.pop(key)[0]
         cache[key] = (size, now + (ttl or 0))
         used += size
+    return counts
+
+
+def belady_model(keys, capacity, operations=None):
+    """The hits of a cache that looks through all later requests at each, and may leave a new key out. It keeps no key
+    that is put or removed before it is got again."""
+    cache, hits = set(), 0
+    operations = operations or ["get"] * len(keys)
+    for at, (key, operation) in enumerate(zip(keys, operations)):
+        hits += operation == "get" and key in cache
+        cache.add(key)
+        if operation == "delete":
+            cache.remove(key)
+        if len(cache) > capacity:
+            later = keys[at + 1 :]
+            nexts = {it: later.index(it) if it in later else len(keys) for it in cache}
+            used = {it: place for it, place in nexts.items() if operations[min(at + 1 + place, len(keys) - 1)] == "get"}
+            cache.remove(max(cache, key=lambda it: used.get(it, len(keys))))
     return hits
 
 
-def belady_model(keys, capacity):
-    """The hits of a cache that looks through all later requests at each, and may leave a new key out."""
-    cache, hits = set(), 0
+def belady_by_heap(keys, capacity):
+    """The same hits of gets alone, in less time."""
+    nexts, last = [0] * len(keys), {}
+    for at in range(len(keys) - 1, -1, -1):
+        nexts[at] = last.get(keys[at], len(keys))
+        last[keys[at]] = at
+    cache, heap, hits = {}, [], 0
     for at, key in enumerate(keys):
         hits += key in cache
-        cache.add(key)
-        if len(cache) > capacity:
-            later = keys[at + 1 :]
-            cache.remove(max(cache, key=lambda it: later.index(it) if it in later else len(keys)))
+        cache[key] = nexts[at]
+        heapq.heappush(heap, (-nexts[at], key))
+        while len(cache) > capacity:
+            place, victim = heapq.heappop(heap)
+            if cache.get(victim) == -place:
+                del cache[victim]
     return hits

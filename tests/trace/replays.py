@@ -7,7 +7,20 @@ import shutil
 import subprocess
 import sys
 
-from common import HERE, ROOT, TRACES, belady_model, case, keys_of, lines, model, some_keys, weighed_model
+from common import (
+    COUNTED,
+    HERE,
+    ROOT,
+    TRACES,
+    belady_by_heap,
+    belady_model,
+    case,
+    keys_of,
+    lines,
+    model,
+    some_keys,
+    weighed_model,
+)
 
 
 @case
@@ -34,6 +47,9 @@ def hits_are_those_of_plain_models(program):
 
 @case
 def belady_is_the_least(program):
+    keys = some_keys(150_000, 9000)
+    hits = program.hits("-", "--policy", "belady", "--size", "20,900", data=lines(keys).encode())
+    assert hits == {("belady", size): belady_by_heap(keys, size) for size in (20, 900)}, hits
     for keys in (some_keys(2000, 120), keys_of("sqlite.keys", 1500)):
         hits = program.hits("-", "--policy", "all,belady", "--size", "1,5,40", data=lines(keys).encode())
         for size in (1, 5, 40):
@@ -44,22 +60,41 @@ def belady_is_the_least(program):
 
 
 @case
+def belady_of_puts_and_removes(program):
+    keys = some_keys(1500, 80)
+    rng = random.Random(7)
+    operations = [rng.choice(("get", "get", "get", "set", "delete")) for _ in keys]
+    name = program.put("o.csv", "op,key\n" + "".join(f"{op},{key}\n" for op, key in zip(operations, keys)))
+    hits = program.hits(name, "--policy", "all,belady", "--size", "3,30")
+    for size in (3, 30):
+        assert hits["belady", size] == belady_model(keys, size, operations), size
+        assert hits["belady", size] == max(hits[policy, at] for policy, at in hits if at == size), (size, hits)
+
+
+@case
+def belady_is_the_least_of_full_shards(program):
+    """Where a shard's capacity is 0, it keeps a record all the same."""
+    data = lines(some_keys(2000, 20)).encode()
+    for shards in (1, 4):
+        hits = program.hits("-", "--policy", "all,belady", "--size", "0,1,2,5", "--shards", shards, data=data)
+        for size in (0, 1, 2, 5):
+            found = {policy: hits[policy, size] for policy in ("fifo", "lru", "lfu", "s3fifo", "sieve", "belady")}
+            assert max(found.values()) == found["belady"], (shards, size, found)
+            assert found["belady"] == belady_model(some_keys(2000, 20), max(size, shards)), (shards, size)
+
+
+@case
 def weights_and_lives(program):
     requests = [(at // 3, key, 1 + key % 40) for at, key in enumerate(some_keys(3000, 200))]
     name = program.put("w.csv", "time,key,size\n" + "".join(f"{t},{k},{s}\n" for t, k, s in requests))
     words = ["--policy", "fifo", "--weigh", "size", "--size", "60,500"]
-    hits = program.hits(name, *words)
-    assert {size: hits["fifo", size] for size in (60, 500)} == {
-        size: weighed_model(requests, size) for size in (60, 500)
-    }
-    rows = program.rows(name, *words, "--ttl", "30")
-    found = {int(it["size"]): int(it["hits"]) for it in rows}
-    assert found == {size: weighed_model(requests, size, 30) for size in (60, 500)}
-    assert int(rows[1]["expired"]) > 0
-    column = program.put("t.csv", "".join(f"{t},{k},{s},get,30\n" for t, k, s in requests))
-    assert program.hits(column, *words) == {("fifo", size): count for size, count in found.items()}
-    misses = sum(size for _, _, size in requests)
-    assert int(program.rows(name, *words)[0]["bytes"]) == misses
+    column = program.put("t.csv", "".join(f"{t}.9,{k},{s},get,30\n" for t, k, s in requests))
+    for ttl, more in ((None, [name]), (30, [name, "--ttl", "30"]), (30, [column])):
+        for row in program.rows(*more, *words):
+            wanted = weighed_model(requests, int(row["size"]), ttl)
+            assert {it: int(row[it]) for it in COUNTED} == {it: wanted[it] for it in COUNTED}, (ttl, row, wanted)
+            assert row["byte_miss_ratio"] == f"{wanted['miss_bytes'] / wanted['bytes']:.6f}", row
+            assert (wanted["expired"] > 600) == (ttl == 30 and row["size"] == "500")
 
 
 @case
@@ -71,7 +106,7 @@ def numbers_past_32_bits(program):
     name = program.put("l.csv", "time,key,size\n" + "".join(f"{t},{k},{s}\n" for t, k, s in requests))
     for ttl in (None, 2**36):
         words = ["--policy", "fifo", "--weigh", "size", "--size", str(2**37), *(["--ttl", ttl] if ttl else [])]
-        wanted = weighed_model(requests, 2**37, ttl)
+        wanted = weighed_model(requests, 2**37, ttl)["hits"]
         assert wanted > 100
         assert program.hits(name, *words) == program.hits(name, "--stream", *words) == {("fifo", 2**37): wanted}, ttl
 
@@ -84,6 +119,13 @@ def operations(program):
     assert (row["requests"], row["hits"], row["misses"]) == ("5", "3", "2"), row
     bad = program.put("p.csv", "op,key\nget,a\nfetch,a\n")
     program.fails(1, "record 2: expected get, set, delete or the like in the column op, and found 'fetch'", bad)
+
+
+@case
+def each_policy_is_run_once(program):
+    rows = program.rows("-", "--policy", "lru,all,lru:high=0.5,lru:high=0.5", "--size", "7,9,7", data=b"1\n2\n1\n")
+    assert [(it["policy"], it["parameters"], it["size"]) for it in rows[:2]] == [("lru", "", "7"), ("lru", "", "9")]
+    assert len({(it["policy"], it["parameters"], it["size"]) for it in rows}) == len(rows) == 12, rows
 
 
 @case
@@ -107,6 +149,9 @@ def warmup(program):
         assert int(row["requests"]) == 2000
         assert int(row["hits"]) == int(whole["hits"]) - model(keys[:2000], 20, False), row
     assert program.rows(*words, "--warmup", "5000")[0]["requests"] == "0"
+    for warmup, wanted in (("1000", 3000), ("0.25", 3000), ("0", 4000)):
+        rows = [program.rows(*words, "--warmup", warmup, "--part", f"{part}/4")[0] for part in range(1, 5)]
+        assert abs(sum(int(it["requests"]) for it in rows) - wanted) <= 2, (warmup, rows)
 
 
 @case
@@ -182,30 +227,16 @@ def dask(program):
     if python is None:
         print("trace: dask: skipped, since python3-dask and python3-distributed are not installed")
         return
-    script, trace = ROOT / "examples/traces/over_dask.py", TRACES / "sqlite.keys"
-    table = program.call(trace, "--policy", "lru,sieve", "--size", "10,100", "--quiet")[1].split("\n\n")[1]
-    words = [
-        python,
-        script,
-        "--program",
-        program.path,
-        "--workers",
-        "2",
-        trace,
-        "--policy",
-        "lru,sieve",
-        "--size",
-        "10,100",
-    ]
-    ended = subprocess.run(list(map(str, words)), capture_output=True, text=True, timeout=200, check=False)
+    script, trace = ROOT / "examples/traces/over_dask.py", TRACES / "build.csv"
+    words = [python, script, "--program", program.path, "--workers", "2"]
+    words += [trace, "--policy", "lru,sieve,lru", "--size", "10,100"]
+    table = program.call(*words[6:], "--quiet")[1].split("\n\n")[1]
+    called = {"capture_output": True, "text": True, "timeout": 200, "check": False}
+    ended = subprocess.run([*map(str, words), "--csv", program.folder / "dask.csv"], **called)
     assert ended.returncode == 0 and table.strip() in ended.stdout, (ended, table)
-    parts = subprocess.run(
-        list(map(str, [*words[:6], "--parts", "3", *words[6:]])),
-        capture_output=True,
-        text=True,
-        timeout=200,
-        check=False,
-    )
+    spread, alone = csv.DictReader(io.StringIO((program.folder / "dask.csv").read_text())), program.rows(*words[6:])
+    assert [{**row, "seconds": ""} for row in spread] == [{**row, "seconds": ""} for row in alone]
+    parts = subprocess.run([*map(str, words[:6]), "--parts", "3", *map(str, words[6:])], **called)
     for part in (1, 2, 3):
         program.call(*words[6:], "--part", f"{part}/3", "--csv", f"d{part}.csv")
     wanted = program.call("--merge", "d1.csv", "d2.csv", "d3.csv")[1].split("\n\n")[1]

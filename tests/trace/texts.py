@@ -31,6 +31,23 @@ def formats_agree(program):
 
 
 @case
+def headers(program):
+    """Which row is a header, and which column it calls what."""
+    rows = {
+        "time,key,size\n1,7,5\n2,7,5\n": [],
+        "\ufeffsize , Key, time\n5, 7,1\n5, 7,2\n": [],
+        "url,timestamp,key,bytes,size\nx,1,7,9,5\ny,2,7,9,5\n": [],
+        "when,what,much\n1,7,5\n2,7,5\n": ["--columns", "time,key,size"],
+        "method,obj_id,ts,size\nget,7,1,5\nGET ,7,2,5\n": ["--columns", "op=1,key=2,size=4"],
+    }
+    for text, words in rows.items():
+        found = program.rows(program.put("h.csv", text), "--policy", "lru", "--size", "10", *words)[0]
+        assert (found["requests"], found["hits"], found["bytes"]) == ("2", "1", "10"), (text, found)
+    signed = program.put("i.csv", "1,7,-5\n2,7,5\n")
+    program.fails(1, "record 1: expected a number below 2^64", signed, "--columns", "time,key,size")
+
+
+@case
 def keys_are_text(program):
     """Numbers are told from texts, and texts may have a megabyte."""
     texts = ["7", "007", "seven", "7 ", "18446744073709551616", "\u00e9", "x" * 1_000_000, "x" * 999_999 + "y"]
@@ -54,6 +71,7 @@ def bad_input(program):
         "record 2: expected two numbers, a first block and a count, in line 2",
         program.put("x.arc", "1 1 0 0\nfour\n"),
     )
+    program.fails(1, "in line 4", program.put("y.arc", "\n1 1 0 0\r\n\nfour\n"))
     program.fails(
         1, "record 1: expected a number below 2^64 in the column size, and found '-1'", program.put("n.csv", "1,2,-1\n")
     )
@@ -87,6 +105,7 @@ def bad_words(program):
     trace = program.put("k.keys", "1\n2\n")
     for said, *words in [
         ("unknown policy 'lur': did you mean 'lru'?", "--policy", "lur"),
+        ("',' names no policy", "--policy", ","),
         ("unknown parameter of s3fifo 'smal': did you mean 'small'?", "--policy", "s3fifo:smal=1/10"),
         ("small must be a share such as 1/10 or 0.1", "--policy", "s3fifo:small=x"),
         ("fifo has no parameters", "--policy", "fifo:x=1"),
@@ -153,6 +172,48 @@ def pictures(program):
 
 
 @case
+def pictures_have_room(program):
+    """Ticks between any two sizes, a line of its own for each of many policies, and whole titles."""
+    many = ",".join(f"s3fifo:small=1/{den}" for den in range(2, 26))
+    words = [program.put("v.keys", lines(some_keys())), "--policy", many, "--svg", "v.svg", "--html", "v.html"]
+    for size in ("100,137", "60,63,64", "7"):
+        program.call(*words, "--size", size, "--title", "a long title, " * 8)
+        root = xml.parse(program.folder / "v.svg").getroot()
+        ticks = [it for it in root.iter() if it.get("y1") == "370" and it.get("y2") != "370"]
+        assert len(ticks) >= 2, size
+        looks = [(it.get("stroke"), it.get("stroke-dasharray")) for it in root.findall(".//{*}polyline")]
+        legend = [it for it in root.findall(".//{*}text") if it.text.startswith("s3fifo")]
+        assert len(looks) == len(legend) == 24
+        assert float(legend[-1].get("y")) < float(root.get("height")) - 4
+        markers = [it.get("d") for it in root.findall(".//{*}path") if it.get("transform")]
+        markers = markers[:: len(markers) // 24]
+        assert len(set(zip(looks, markers))) == 24
+        assert float(root.get("width")) > 100 + 112 * 8
+
+
+@case
+def documents_are_of_today(program):
+    """The picture and the tables that the documents show."""
+    said = program.call(TRACES / "sqlite.keys", "--policy", "all,belady", "--svg", "d.svg", "--quiet")[1]
+    assert (program.folder / "d.svg").read_text() == (ROOT / "docs/traces-sqlite.svg").read_text()
+    table = said.split("\n\n")[1]
+    assert table in (ROOT / "docs/TRACES.md").read_text()
+    rows = re.findall(r"^(lru|s3fifo|belady) +(0\..*)$", (ROOT / "README.md").read_text(), re.M)
+    whole = {it.split()[0]: it.replace("*", "").split() for it in table.splitlines()[2:]}
+    assert len(rows) == 3 and all(set(ratios.split()) <= set(whole[name]) for name, ratios in rows), rows
+
+
+@case
+def names_are_escaped(program):
+    """A name that a merged file has is text in the page and the picture."""
+    program.call("-", "--policy", "lru", "--size", "9", "--csv", "e.csv", data=b"1\n")
+    sheet = (program.folder / "e.csv").read_text().replace("\nlru,", "\na<b & c,")
+    program.call("--merge", program.put("f.csv", sheet), "--html", "f.html", "--svg", "f.svg")
+    assert "a<b" not in (program.folder / "f.html").read_text()
+    assert "a<b & c" in {it.text for it in xml.parse(program.folder / "f.svg").getroot().findall(".//{*}text")}
+
+
+@case
 def table_marks_the_least(program):
     said = program.call(TRACES / "sqlite.keys", "--policy", "all,belady", "--quiet")[1]
     rows = {it.split()[0]: it.split()[1:] for it in said.split("\n\n")[1].splitlines()[2:]}
@@ -191,9 +252,8 @@ def closed_pipe(program):
 
 @case
 def files_that_cannot_be_written(program):
-    program.fails(
-        1, "/nowhere/x.csv: No such file", TRACES / "sqlite.keys", "--policy", "fifo", "--csv", "/nowhere/x.csv"
-    )
+    found = program.call(TRACES / "sqlite.keys", "--policy", "fifo", "--csv", "/nowhere/x.csv", "--quiet")
+    assert found[0] == 1 and "/nowhere/x.csv: No such file" in found[2] and "\nfifo " in found[1], found
     with open("/dev/full", "wb") as full:
         words = [program.path, TRACES / "sqlite.keys", "--policy", "fifo", "--quiet"]
         ended = subprocess.run(words, stdout=full, stderr=subprocess.PIPE, check=False)

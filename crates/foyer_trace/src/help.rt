@@ -52,6 +52,6 @@ failed or a record is bad, and 2 for bad arguments.
 /// The version, and what of the program is proved.
 pub const VERSION: &str = "\
 foyer-trace 0.1.0
-The caches and the counting of hits and misses (foyer_policy, foyer_core, foyer_replay) are proved; the reading of traces,
-Belady's cache, the tables and the pictures (foyer_trace) are tested.
+./prove foyer_trace proves that it is safe, and that the hits and misses that it counts are those of the caches' model. The
+reading of traces, Belady's cache, the tables and the pictures are tested.
 ";

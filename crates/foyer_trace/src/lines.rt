@@ -21,12 +21,12 @@ impl<B: BufRead + Drop> Lines<B> {
         }
     }
 
-    /// Goes on to the next line that is not empty, and returns whether there is one.
-    pub fn advance(&mut self) -> Result<bool, Failure> {
-        for _line in 0..u64::MAX {
+    /// Goes on to the next line that is not empty, and returns how many lines on that is, or 0 at the end.
+    pub fn advance(&mut self) -> Result<u64, Failure> {
+        for skipped in 0..u64::MAX {
             self.line.clear();
             match self.reader.read_until(b'\n', &mut self.line) {
-                Ok(0) => return Ok(false),
+                Ok(0) => return Ok(0),
                 Ok(_) => {}
                 Err(error) => return Err(Failure::of_io(
                     self.alloc,
@@ -34,14 +34,17 @@ impl<B: BufRead + Drop> Lines<B> {
                     &error,
                 )),
             }
-            while matches!(self.line.last(), Some(b'\n' | b'\r')) {
+            for _end in 0..self.line.len() {
+                if !matches!(self.line.last(), Some(b'\n' | b'\r')) {
+                    break;
+                }
                 self.line.pop();
             }
             if !self.line.is_empty() {
-                return Ok(true);
+                return Ok(skipped.saturating_add(1));
             }
         }
-        Ok(false)
+        Ok(0)
     }
 
     /// The line.

@@ -7,7 +7,6 @@ use std::alloc::AllocError;
 pub struct Look {
     pub colour: &'static str,
     pub dashes: &'static str,
-    inside: &'static str,
     marker: Marker,
 }
 
@@ -26,57 +25,47 @@ const LOOKS: [Look; 6] = [
     Look {
         colour: "#0072B2",
         dashes: "none",
-        inside: "#ffffff",
         marker: Marker::Circle,
     },
     Look {
         colour: "#D55E00",
         dashes: "9 4",
-        inside: "#ffffff",
         marker: Marker::Square,
     },
     Look {
         colour: "#007A57",
         dashes: "2 3",
-        inside: "#ffffff",
         marker: Marker::Triangle,
     },
     Look {
         colour: "#A0447A",
         dashes: "10 3 2 3",
-        inside: "#ffffff",
         marker: Marker::Diamond,
     },
     Look {
         colour: "#9A6A00",
         dashes: "5 3",
-        inside: "#ffffff",
         marker: Marker::Cross,
     },
     Look {
         colour: "#000000",
         dashes: "1 4",
-        inside: "#ffffff",
         marker: Marker::Plus,
     },
 ];
 
-/// The look of the line of this number. From the seventh on the markers are filled.
+/// The look of the line of this number. From the seventh on the same colours and dashes have other markers.
 pub fn look_of(policy: usize) -> Look {
-    let look = LOOKS[policy % LOOKS.len()];
+    let round = policy / LOOKS.len();
     Look {
-        inside: if policy < LOOKS.len() {
-            "#ffffff"
-        } else {
-            look.colour
-        },
-        ..look
+        marker: LOOKS[policy.wrapping_add(round) % LOOKS.len()].marker,
+        ..LOOKS[policy % LOOKS.len()]
     }
 }
 
 /// Puts the marker of a line in.
 pub fn push_marker(text: &mut String, x: f64, y: f64, look: &Look) -> Result<(), AllocError> {
-    let (colour, inside) = (look.colour, look.inside);
+    let colour = look.colour;
     let shape = match look.marker {
         Marker::Circle => "M-4 0a4 4 0 1 0 8 0a4 4 0 1 0 -8 0z",
         Marker::Square => "M-4 -4h8v8h-8z",
@@ -87,6 +76,6 @@ pub fn push_marker(text: &mut String, x: f64, y: f64, look: &Look) -> Result<(),
     };
     write!(
         text,
-        "<path transform=\"translate({x:.1} {y:.1})\" d=\"{shape}\" fill=\"{inside}\" stroke=\"{colour}\" stroke-width=\"1.8\"/>\n"
+        "<path transform=\"translate({x:.1} {y:.1})\" d=\"{shape}\" fill=\"#ffffff\" stroke=\"{colour}\" stroke-width=\"1.8\"/>\n"
     )
 }

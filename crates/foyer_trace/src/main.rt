@@ -13,6 +13,7 @@ use std::time::Instant;
 
 mod belady;
 mod failure;
+mod footprint;
 mod format;
 mod help;
 mod html;
@@ -204,8 +205,21 @@ fn open_and_replay<R: AllocGlobal + Clock + Eprint + Files + Input + Threads + S
     }
 }
 
-// Writes the files that were asked for, and prints the table.
+// Writes the files that were asked for, and prints the table, also where a file can't be written.
 fn write_report<R: AllocGlobal + Files + Print>(
+    rt: &R,
+    alloc: Global,
+    report: &Report,
+    words: &[String],
+    outputs: Outputs<'_>,
+) -> Result<(), Failure> {
+    let written = write_files(rt, alloc, report, words, outputs);
+    let said = say(rt, alloc, text_of(alloc, report)?.as_str());
+    written?;
+    said
+}
+
+fn write_files<R: AllocGlobal + Files>(
     rt: &R,
     alloc: Global,
     report: &Report,
@@ -221,7 +235,7 @@ fn write_report<R: AllocGlobal + Files + Print>(
     if let Some(path) = outputs.html {
         write_file(rt, alloc, path, html::page_of(alloc, report, words)?)?;
     }
-    say(rt, alloc, text_of(alloc, report)?.as_str())
+    Ok(())
 }
 
 fn write_file<R: Files>(rt: &R, alloc: Global, path: &str, text: String) -> Result<(), Failure> {

@@ -174,14 +174,13 @@ impl Replay<'_> {
     // Whether the options go together.
     fn check(&self, alloc: Global) -> Result<(), Failure> {
         let has_belady = has_belady(self.policies.as_slice());
-        let is_relative = self.sizes.iter().any(|it| matches!(it, Size::Fraction(_)));
         let why = if has_belady && self.terms.weighs_sizes {
             "belady is the least only where each record weighs 1: leave --weigh size out"
         } else if has_belady && self.terms.ttl.is_some() {
             "belady knows no lives: leave --ttl out"
         } else if has_belady && self.is_stream {
             "belady knows the future, and a stream has none: leave --stream out"
-        } else if is_relative && self.is_stream {
+        } else if self.has_relative_sizes() && self.is_stream {
             "--stream does not know the footprint: say each --size as a number of records or bytes"
         } else if self.is_stream && matches!(self.warmup, Warmup::Fraction(_)) {
             "--stream does not know the length: say --warmup as a number of records"
@@ -191,6 +190,11 @@ impl Replay<'_> {
             return Ok(());
         };
         Err(Failure::Usage(String::from_str(alloc, why)?))
+    }
+
+    /// Whether a size is a part of the footprint.
+    pub fn has_relative_sizes(&self) -> bool {
+        self.sizes.iter().any(|it| matches!(it, Size::Fraction(_)))
     }
 
     fn may_have_sizes(&self) -> bool {

@@ -58,7 +58,7 @@ pub struct Plan<'a> {
     pub terms: Terms,
     /// How many records are served before anything is counted.
     pub warmup: u64,
-    /// Whether the footprint and the sizes are in bytes.
+    /// Whether Belady's cache is among the policies.
     pub has_belady: bool,
 }
 
@@ -130,10 +130,10 @@ pub fn capacities_of(
     Ok(capacities)
 }
 
-/// How many records the warmup is.
-pub fn warmup_of(warmup: Warmup, totals: &Totals) -> u64 {
+/// How many records the warmup is, of a sample of this rate.
+pub fn warmup_of(warmup: Warmup, totals: &Totals, rate: f64) -> u64 {
     match warmup {
-        Warmup::Records(number) => number,
+        Warmup::Records(number) => part_of(number, rate),
         Warmup::Fraction(part) => part_of(totals.records, part),
     }
 }

@@ -33,7 +33,7 @@ const NAMES: [&str; 7] = ["all", "fifo", "lru", "lfu", "s3fifo", "sieve", "belad
 const ALL: [&str; 5] = ["fifo", "lru", "lfu", "s3fifo", "sieve"];
 
 /// The policies of a list such as `lru,s3fifo:small=1/10,threshold=2,belady`, or `all` for the five. A word with `=` is
-/// a parameter of the policy before it.
+/// a parameter of the policy before it. Each policy is taken once.
 pub fn policies_of<'a>(alloc: Global, list: &'a str) -> Result<Vec<Policy<'a>>, Failure> {
     let mut policies: Vec<Policy<'a>> = Vec::new(alloc);
     for word in list.split(',') {
@@ -56,10 +56,22 @@ pub fn policies_of<'a>(alloc: Global, list: &'a str) -> Result<Vec<Policy<'a>>, 
             policy.set(alloc, parameter)?;
         }
     }
-    for policy in &policies {
-        policy.check(alloc)?;
+    if policies.is_empty() {
+        return Err(Failure::Usage(format!(in alloc; "'{list}' names no policy")?));
     }
-    Ok(policies)
+    distinct(alloc, policies)
+}
+
+// Each of these once, if it takes its configuration.
+fn distinct<'a>(alloc: Global, policies: Vec<Policy<'a>>) -> Result<Vec<Policy<'a>>, Failure> {
+    let mut distinct: Vec<Policy<'a>> = Vec::new(alloc);
+    for policy in policies {
+        policy.check(alloc)?;
+        if !distinct.iter().any(|it| it.is_same(&policy)) {
+            distinct.push(policy)?;
+        }
+    }
+    Ok(distinct)
 }
 
 // A policy in its default configuration.
@@ -89,6 +101,11 @@ impl Policy<'_> {
             return Ok(String::from_str(alloc, name)?);
         }
         Ok(format!(in alloc; "{name} ({parameters})")?)
+    }
+
+    // Whether another one has the same name and parameters.
+    fn is_same(&self, other: &Policy<'_>) -> bool {
+        self.name == other.name && self.parameters.as_str() == other.parameters.as_str()
     }
 
     // Sets a parameter, as `small=1/10`.

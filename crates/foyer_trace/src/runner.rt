@@ -77,7 +77,8 @@ impl Runner {
                 Core::S3Fifo(core_of(alloc, config, capacity, shards)?)
             }
             Kind::Sieve => Core::Sieve(core_of(alloc, SieveConfig, capacity, shards)?),
-            Kind::Belady => Core::Belady(Belady::new(alloc, capacity)),
+            // A shard keeps a record even if it has no capacity.
+            Kind::Belady => Core::Belady(Belady::new(alloc, capacity.max(shards))),
         };
         Ok(Runner {
             core,

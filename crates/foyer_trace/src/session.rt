@@ -8,7 +8,7 @@ use crate::plan::{Plan, Size, capacities_of, has_belady, warmup_of};
 use crate::progress::Progress;
 use crate::report::{Report, Scale};
 use crate::run::{Measured, run_all};
-use crate::source::{AnyReader, Footprint, Source};
+use crate::source::{AnyReader, Source};
 use crate::stream::stream_all;
 use crate::trace::Totals;
 use std::alloc::{AllocError, Global};
@@ -34,12 +34,8 @@ pub fn replay_trace<R: AllocGlobal + Clock + Eprint + Threads + Sync, B: BufRead
 ) -> Result<Report, Failure> {
     let alloc = ground.alloc;
     let reader = AnyReader::new(alloc, replay.format, replay.columns.as_ref(), reader)?;
-    let footprint = match (replay.is_stream, replay.is_part) {
-        (true, _) => Footprint::Unknown,
-        (false, true) => Footprint::All,
-        (false, false) => Footprint::Sampled,
-    };
-    let source = Source::new(alloc, reader, replay.sample, replay.skips_bad, footprint);
+    let sees_all = replay.is_part && replay.has_relative_sizes();
+    let source = Source::new(alloc, reader, replay.sample, replay.skips_bad, sees_all);
     let jobs = match replay.jobs {
         Some(jobs) => jobs,
         None => thread::available_parallelism(ground.rt).map_or(1, |found| found.get()),
@@ -70,7 +66,7 @@ fn plan_of<'a>(
         )?,
         shards: replay.shards,
         terms: replay.terms,
-        warmup: warmup_of(replay.warmup, totals),
+        warmup: warmup_of(replay.warmup, totals, replay.sample.rate),
         has_belady: has_belady(replay.policies.as_slice()),
     })
 }

@@ -1,6 +1,7 @@
 //! Reads a trace: records in the sample, in parts.
 
 use crate::failure::Failure;
+use crate::footprint::Footprint;
 use crate::format::Format;
 use crate::format::arc::ArcReader;
 use crate::format::columns::Wanted;
@@ -61,36 +62,26 @@ impl<B: BufRead + Drop> RecordReader for AnyReader<B> {
     }
 }
 
-/// Which keys the footprint is of.
-#[derive(Clone, Copy, PartialEq, Eq)]
-pub enum Footprint {
-    /// It is not counted.
-    Unknown,
-    /// Of the sample's.
-    Sampled,
-    /// Of all that were read.
-    All,
-}
-
 /// Reads the records of a trace that are in a sample.
 #[derive(Drop)]
 pub struct Source<B: BufRead + Drop> {
     reader: AnyReader<B>,
     sample: Sample,
     skips_bad: bool,
-    footprint: Footprint,
-    seen: HashSet<u64>,
+    // The keys that were read, where the footprint is theirs and not the sample's.
+    seen: Option<HashSet<u64>>,
     totals: Totals,
     alloc: Global,
 }
 
 impl<B: BufRead + Drop> Source<B> {
+    /// What reads a trace. If `sees_all` the footprint is of all keys that are read, and else of those in the sample.
     pub fn new(
         alloc: Global,
         reader: AnyReader<B>,
         sample: Sample,
         skips_bad: bool,
-        footprint: Footprint,
+        sees_all: bool,
     ) -> Self {
         let totals = Totals {
             has_sizes: reader.has_sizes(),
@@ -100,8 +91,11 @@ impl<B: BufRead + Drop> Source<B> {
             reader,
             sample,
             skips_bad,
-            footprint,
-            seen: HashSet::new(alloc),
+            seen: if sees_all {
+                Some(HashSet::new(alloc))
+            } else {
+                None
+            },
             totals,
             alloc,
         }
@@ -115,7 +109,10 @@ impl<B: BufRead + Drop> Source<B> {
     /// Puts the next records of the sample, at most a part, in the place of those in the list.
     pub fn read_part(&mut self, records: &mut Vec<Record>) -> Result<(), Failure> {
         records.clear();
-        while records.len() < PART {
+        for _record in 0..u64::MAX {
+            if records.len() >= PART {
+                break;
+            }
             let record = match self.reader.next_record() {
                 Ok(Some(record)) => record,
                 Ok(None) => break,
@@ -126,11 +123,8 @@ impl<B: BufRead + Drop> Source<B> {
                 Err(failure) => return Err(failure),
             };
             self.count_read(&record);
-            let is_sampled = self.sample.has(record.key);
-            if self.footprint == Footprint::All || is_sampled {
-                self.see(&record)?;
-            }
-            if is_sampled {
+            self.see(&record)?;
+            if self.sample.has(record.key) {
                 self.count(&record);
                 records.push(record)?;
             }
@@ -149,7 +143,12 @@ impl<B: BufRead + Drop> Source<B> {
             }
             parts.push(Part::new(self.alloc, records.as_slice())?)?;
         }
-        let totals = self.totals;
+        let mut totals = self.totals;
+        if self.seen.is_none() {
+            let footprint = Footprint::of(self.alloc, parts.as_slice())?;
+            totals.keys = footprint.keys;
+            totals.key_bytes = footprint.bytes;
+        }
         Ok(Trace { parts, totals })
     }
 
@@ -168,10 +167,10 @@ impl<B: BufRead + Drop> Source<B> {
     }
 
     fn see(&mut self, record: &Record) -> Result<(), Failure> {
-        if self.footprint == Footprint::Unknown || record.operation == Operation::Remove {
+        let Some(seen) = &mut self.seen else {
             return Ok(());
-        }
-        if self.seen.insert(record.key)? {
+        };
+        if record.operation != Operation::Remove && seen.insert(record.key)? {
             self.totals.keys = self.totals.keys.saturating_add(1);
             self.totals.key_bytes = self.totals.key_bytes.saturating_add(record.size as u128);
         }

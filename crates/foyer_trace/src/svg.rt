@@ -17,11 +17,14 @@ const TOP: f64 = 46.0;
 
 const BOTTOM: f64 = 370.0;
 
+// The height of a line of the legend.
+const LEGEND: f64 = 24.0;
+
 /// A picture of all measures of a report.
 pub fn picture_of(alloc: Global, report: &Report) -> Result<String, AllocError> {
     let mut text = String::new(alloc);
-    let panels = report.measures().len();
-    let height = HEIGHT * float(panels as u128);
+    let panel = height_of(report);
+    let height = panel * float(report.measures().len() as u128);
     let width = width_of(report);
     write!(
         text,
@@ -33,7 +36,7 @@ pub fn picture_of(alloc: Global, report: &Report) -> Result<String, AllocError> 
         "<rect width=\"{width:.0}\" height=\"{height:.0}\" fill=\"#ffffff\"/>\n"
     )?;
     for (at, measure) in report.measures().iter().enumerate() {
-        let offset = HEIGHT * float(at as u128);
+        let offset = panel * float(at as u128);
         write!(text, "<g transform=\"translate(0 {offset:.0})\">\n")?;
         push_panel(alloc, &mut text, report, *measure)?;
         text.push_str("</g>\n")?;
@@ -42,10 +45,17 @@ pub fn picture_of(alloc: Global, report: &Report) -> Result<String, AllocError> 
     Ok(text)
 }
 
-// The width of a picture, which has room for the longest label.
+// The width of a picture, which has room for the title and the longest label.
 fn width_of(report: &Report) -> f64 {
     let longest = report.policies.iter().map(|it| it.len()).max().unwrap_or(0);
-    WIDTH.max(RIGHT + 70.0 + 7.5 * float(longest as u128))
+    WIDTH
+        .max(RIGHT + 70.0 + 7.5 * float(longest as u128))
+        .max(LEFT + 20.0 + 9.5 * float(report.title.len() as u128))
+}
+
+// The height of a panel, which has room for the legend.
+fn height_of(report: &Report) -> f64 {
+    HEIGHT.max(TOP + LEGEND * float(report.policies.len() as u128))
 }
 
 /// Puts a text in with what HTML and SVG want escaped.
@@ -77,10 +87,10 @@ impl Scale {
         let least = float(report.sizes.first().copied().unwrap_or(1) as u128).max(1.0);
         let greatest = float(report.sizes.last().copied().unwrap_or(1) as u128).max(1.0);
         let (mut low, mut high) = (least.log10(), greatest.log10());
-        if high - low < 0.1 {
-            low = low - 0.5;
-            high = high + 0.5;
-        }
+        // So much has a tick.
+        let missing = (0.5 - (high - low)).max(0.0);
+        low = low - missing / 2.0;
+        high = high + missing / 2.0;
         let mut most = 0.0f64;
         for row in &report.rows {
             most = most.max(measure.of(row));
@@ -187,7 +197,7 @@ fn push_ratio(text: &mut String, ratio: f64, y: f64, places: usize) -> Result<()
     text.push_str("</text>\n")
 }
 
-// The axis of sizes, by powers of ten; between them by 2 and 5 where there is room.
+// The axis of sizes, by powers of ten; between them by 2 and 5, or by 2, 3, 5 and 7, where there is room.
 fn push_sizes(
     alloc: Global,
     text: &mut String,
@@ -196,8 +206,14 @@ fn push_sizes(
 ) -> Result<(), AllocError> {
     let mut power = 1.0f64;
     let is_fine = scale.high - scale.low < 3.2;
+    let steps = if scale.high - scale.low < 1.0 {
+        &[1.0, 2.0, 3.0, 5.0, 7.0][..]
+    } else {
+        &[1.0, 2.0, 5.0]
+    };
     for _power in 0..20 {
-        for step in [1.0, 2.0, 5.0] {
+        for step in steps {
+            let step = *step;
             let size = power * step;
             let at = size.log10();
             if at < scale.low - 0.001 || at > scale.high + 0.001 {
@@ -282,7 +298,7 @@ fn push_legend(
     look: &Look,
 ) -> Result<(), AllocError> {
     let (colour, dashes) = (look.colour, look.dashes);
-    let y = TOP + 12.0 + 24.0 * float(policy as u128);
+    let y = TOP + 12.0 + LEGEND * float(policy as u128);
     let (start, end) = (RIGHT + 16.0, RIGHT + 56.0);
     write!(
         text,

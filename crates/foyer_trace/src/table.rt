@@ -1,6 +1,7 @@
 //! The table of a report, as text and as HTML.
 
 use crate::report::{Measure, Report};
+use crate::svg::push_escaped;
 use std::alloc::{AllocError, Global};
 
 /// The whole report as text.
@@ -63,7 +64,10 @@ fn push_table(
 
 // Ends a line, without spaces at its end.
 fn end_line(text: &mut String) -> Result<(), AllocError> {
-    while text.as_bytes().last() == Some(&b' ') {
+    for _space in 0..text.len() {
+        if text.as_bytes().last() != Some(&b' ') {
+            break;
+        }
         text.pop();
     }
     text.push('\n')
@@ -87,7 +91,9 @@ pub fn push_html(
     }
     text.push_str("</tr>\n")?;
     for (policy, label) in report.policies.iter().enumerate() {
-        write!(text, "<tr><th scope=\"row\">{label}</th>")?;
+        text.push_str("<tr><th scope=\"row\">")?;
+        push_escaped(text, label.as_str())?;
+        text.push_str("</th>")?;
         for (column, row) in report.rows_of(policy).iter().enumerate() {
             let ratio = format!(in alloc; "{:.4}", measure.of(row))?;
             let is_least = report

@@ -46,11 +46,15 @@ impl<B: BufRead + Drop> ArcReader<B> {
 
 impl<B: BufRead + Drop> RecordReader for ArcReader<B> {
     fn next_record(&mut self) -> Result<Option<Record>, Failure> {
-        while self.left == 0 {
-            if !self.lines.advance()? {
+        for _range in 0..u64::MAX {
+            if self.left > 0 {
+                break;
+            }
+            let lines = self.lines.advance()?;
+            if lines == 0 {
                 return Ok(None);
             }
-            self.lines_read = self.lines_read.saturating_add(1);
+            self.lines_read = self.lines_read.saturating_add(lines);
             let Some((block, count)) = self.range() else {
                 let line = self.lines_read;
                 return Err(Failure::Bad(format!(in self.alloc;

@@ -46,8 +46,8 @@ impl Role {
         Err(unknown(alloc, "column", name, NAMES.as_slice()))
     }
 
-    // Whether a header calls its column so.
-    fn is_called(self, name: &[u8]) -> bool {
+    // The place of a header's name among those of this role; the first says it best.
+    fn rank(self, name: &[u8]) -> Option<usize> {
         let names: &[&str] = match self {
             Role::Time => &["time", "timestamp", "ts", "clock_time"],
             Role::Key => &[
@@ -67,7 +67,7 @@ impl Role {
         };
         names
             .iter()
-            .any(|it| it.as_bytes().eq_ignore_ascii_case(name))
+            .position(|it| it.as_bytes().eq_ignore_ascii_case(name.trim_ascii()))
     }
 }
 
@@ -132,18 +132,30 @@ impl Columns {
         }
     }
 
-    // Whether a row is a header: a column of numbers has a text there, or the key's has one of its names.
+    // Whether a row is a header: a column of numbers has a word there, or that of keys or operations has one of its names.
     fn are_headed_by(&self, row: &ByteRecord) -> bool {
         let is_word = |place: Option<usize>| {
             place
                 .and_then(|at| row.get(at))
-                .is_some_and(|field| !field.is_empty() && !field[0].is_ascii_digit())
+                .is_some_and(|field| is_no_number(field))
         };
-        let is_named = row
-            .get(self.key)
-            .is_some_and(|field| Role::Key.is_called(field));
-        is_named || is_word(self.time) || is_word(self.size) || is_word(self.ttl)
+        let is_named = |role: Role, place: Option<usize>| {
+            place
+                .and_then(|at| row.get(at))
+                .is_some_and(|field| role.rank(field).is_some())
+        };
+        is_named(Role::Key, Some(self.key))
+            || is_named(Role::Op, self.op)
+            || is_word(self.time)
+            || is_word(self.size)
+            || is_word(self.ttl)
     }
+}
+
+// Whether a field does not begin as a number.
+fn is_no_number(field: &[u8]) -> bool {
+    field.trim_ascii().first().is_some_and(|first| !first.is_ascii_digit()
+        && !matches!(first, b'-' | b'+' | b'.'))
 }
 
 /// The columns by what was said of them and by the first row, and whether that is a header.
@@ -169,13 +181,16 @@ pub fn columns_of(
     Ok((columns, has_names || columns.are_headed_by(first)))
 }
 
-// The columns that a header names, if the row is one.
+// The columns that a header names, if the row is one. Where several have names of one role, the best name is taken.
 fn columns_by_header(row: &ByteRecord) -> Option<(Columns, bool)> {
     let mut columns = Columns::default();
     let mut has_key = false;
-    for (at, field) in row.iter().enumerate() {
-        for role in ROLES {
-            if role.is_called(field) {
+    for role in ROLES {
+        let mut best = usize::MAX;
+        for (at, field) in row.iter().enumerate() {
+            let rank = role.rank(field).unwrap_or(usize::MAX);
+            if rank < best {
+                best = rank;
                 has_key = has_key || role == Role::Key;
                 columns.put(role, at);
             }
@@ -200,7 +215,7 @@ fn columns_by_count(count: usize) -> Columns {
 // The place of a name in a header.
 fn place_of(alloc: Global, header: &ByteRecord, name: &str) -> Result<usize, Failure> {
     for (at, field) in header.iter().enumerate() {
-        if field == name.as_bytes() {
+        if field.trim_ascii() == name.as_bytes().trim_ascii() {
             return Ok(at);
         }
     }

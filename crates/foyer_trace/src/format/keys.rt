@@ -25,7 +25,7 @@ impl<B: BufRead + Drop> KeysReader<B> {
 
 impl<B: BufRead + Drop> RecordReader for KeysReader<B> {
     fn next_record(&mut self) -> Result<Option<Record>, Failure> {
-        if !self.lines.advance()? {
+        if self.lines.advance()? == 0 {
             return Ok(None);
         }
         let time = self.time;

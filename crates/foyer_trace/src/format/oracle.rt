@@ -24,7 +24,10 @@ impl<B: Read + Drop> OracleReader<B> {
     // Fills the record as far as the reader goes, and returns how far that is.
     fn fill(&mut self, record: &mut [u8; LENGTH]) -> Result<usize, Failure> {
         let mut filled = 0;
-        while filled < LENGTH {
+        for _read in 0..u64::MAX {
+            if filled >= LENGTH {
+                break;
+            }
             match self.reader.read(&mut record[filled..]) {
                 Ok(0) => break,
                 Ok(count) => filled = filled.saturating_add(count),

@@ -111,7 +111,7 @@ impl<R: Read + Drop> CsvReader<R> {
             None => 1,
         };
         let operation = match columns.op {
-            Some(place) => self.operation(self.field(Role::Op, place)?)?,
+            Some(place) => self.operation(self.field(Role::Op, place)?.trim_ascii())?,
             None => Operation::Get,
         };
         let ttl = match columns.ttl {
