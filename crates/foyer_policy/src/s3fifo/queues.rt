@@ -202,11 +202,7 @@ const FEW: usize = 8;
 
 // The first of a queue's next few records whose frequency is below this, or the last of them.
 #[inline(always)]
-pub(super) fn next_victim(
-    queues: &DatedLists<Node, 2>,
-    list: usize,
-    threshold: u8,
-) -> Option<Place>
+pub(super) fn next_victim(queues: &DatedLists<Node, 2>, list: usize, threshold: u8) -> Option<Place>
     requires { list < 2 }
     ensures { IfSome result (λ p. IsSome (find p queues.now.lists)) }
 {
