@@ -2,15 +2,20 @@
 
 from __future__ import annotations
 
+import copy
+import dataclasses
 import functools
 import gc
+import pickle
 import random
 import resource
+import subprocess
 import sys
 import threading
 import time
 import unittest
 import weakref
+from typing import Callable
 
 import luffapricot
 from luffapricot import Cache, cached
@@ -25,6 +30,27 @@ POLICIES = ["fifo", "lru", "lfu", "s3fifo", "sieve"]
 
 class Value:
     """An object that can be watched."""
+
+
+@dataclasses.dataclass(frozen=True)
+class Key:
+    """A key whose hash and comparison are Python code, in which other threads may run."""
+
+    number: int
+
+
+@cached
+def named(number: int) -> int:
+    """A function that a pickle finds."""
+    return number
+
+
+def in_threads(*calls: Callable[[], object]) -> None:
+    threads = [threading.Thread(target=it) for it in calls]
+    for it in threads:
+        it.start()
+    for it in threads:
+        it.join()
 
 
 class Mapping(unittest.TestCase):
@@ -51,6 +77,37 @@ class Mapping(unittest.TestCase):
             self.assertEqual(sorted(cache), ["b", "d"])
             cache.clear()
             self.assertEqual((len(cache), list(cache)), (0, []))
+
+    def test_iteration(self) -> None:
+        cache: Cache[int, int] = Cache(10, "lru")
+        for key in range(10):
+            cache[key] = -key
+        seen = []
+        for key, value in cache.items():  # what leaves meanwhile is still seen
+            seen.append((key, value))
+            cache[key + 100] = 0
+        self.assertEqual(seen, [(key, -key) for key in range(10)])
+        self.assertEqual((list(cache), list(cache.values())), (list(range(100, 110)), [0] * 10))
+        self.assertTrue(0 in cache.values() and 1 not in cache.values() and (100, 0) in cache.items())
+        cache[1] = 1
+        self.assertNotIn(101, cache)  # the look of the items was a use of 100 alone
+        self.assertIn(100, cache)
+
+    def test_missing_keys_are_told(self) -> None:
+        cache = Cache(10)
+        for key in ("a", (1, 2), ()):
+            for call in (lambda: cache[key], lambda: cache.pop(key), lambda: cache.__delitem__(key)):
+                with self.assertRaises(KeyError) as raised:
+                    call()
+                self.assertEqual(raised.exception.args, (key,))
+
+    def test_large_numbers(self) -> None:
+        cache = Cache(2**64 - 1, "lru")
+        cache.insert("a", 1, weight=2**64 - 1, ttl=float("inf"))
+        self.assertEqual((cache["a"], cache.stats()), (1, (1, 0, 2**64 - 1, 1, 2**64 - 1)))
+        for call in (lambda: Cache(2**64), lambda: cache.insert("b", 1, weight=2**64), lambda: cache.resize(-1)):
+            with self.assertRaises(OverflowError):
+                call()
 
     def test_keys_are_compared_as_in_a_dict(self) -> None:
         cache = Cache(10)
@@ -228,6 +285,99 @@ class References(unittest.TestCase):
             with self.assertRaises(ValueError):
                 len(cache)
 
+    def test_keys_that_use_the_cache(self) -> None:
+        calls = [
+            lambda: cache.__setitem__(key, Value()),
+            lambda: cache.pop(key, None),
+            lambda: cache.get_or_insert(key, lambda _: Value()),
+            lambda: cache.clear(),
+            lambda: cache.resize(0),
+        ]
+
+        class Inserting:
+            number = 0
+            turn = 0
+
+            def __hash__(self) -> int:
+                Inserting.number += 1
+                if Inserting.number == Inserting.turn:
+                    inside()
+                return 1
+
+            def __eq__(self, other: object) -> bool:
+                return self is other
+
+        for inside in calls:
+            for call in calls:
+                for Inserting.turn in range(1, 9):
+                    cache, key = Cache(10, "lru"), Inserting()
+                    cache[key], Inserting.number = Value(), 0
+                    call()
+                    self.assertEqual(len(cache), len(list(cache)))
+                    watched = [weakref.ref(it) for it in cache.values()]
+                    cache.resize(2)
+                    for other in range(3):
+                        cache[other] = Value()
+                    cache.clear()
+                    self.assertEqual((len(cache), list(cache), [it() for it in watched if it()]), (0, [], []))
+
+    def test_keys_of_python_code_in_threads(self) -> None:
+        cache: Cache[Key, Value] = Cache(5, "lru")
+        watched: weakref.WeakSet = weakref.WeakSet()
+
+        def work() -> None:
+            for number in random.choices(range(12), k=6000):
+                value = Value()
+                watched.add(value)
+                if number % 3 == 0:
+                    cache.get_or_insert(Key(number), lambda _: value)
+                elif cache.get(Key(number)) is None:
+                    cache[Key(number)] = value
+
+        interval = sys.getswitchinterval()
+        sys.setswitchinterval(1e-6)
+        try:
+            in_threads(*[work] * 6)
+        finally:
+            sys.setswitchinterval(interval)
+        self.assertEqual(len(cache), len(list(cache)))
+        cache.clear()
+        self.assertEqual((len(cache), list(cache), len(watched)), (0, [], 0))
+
+    def test_cycles_are_collected_in_any_order(self) -> None:
+        cache, value = Cache(1000), Value()
+        for _ in range(3):
+            gc.collect()
+        value.cache = cache
+        watched = weakref.ref(value)
+        cache["a"] = value
+        for key in range(500):
+            cache[Key(key)] = Value()
+        gc.freeze()  # the dict comes before the cache now
+        gc.unfreeze()
+        del value, cache
+        gc.collect()
+        self.assertIsNone(watched())
+
+    def test_closing_by_the_collector(self) -> None:
+        threshold = gc.get_threshold()
+        for requests in range(1, 30):
+            cache = Cache(100)
+            cache.update(zip(range(9), range(9)))
+            unused = [([], (number, number)) for number in range(300)]  # so that each list and pair needs memory
+            gc.collect(0)
+            gc.callbacks.append(lambda *_: cache.close())
+            gc.set_threshold(requests, 1000, 1000)
+            try:
+                cache._item_list()
+                cache["new"] = 1
+            except ValueError:
+                pass
+            finally:
+                gc.set_threshold(*threshold)
+                gc.callbacks.pop()
+            del unused
+
     def test_memory_does_not_grow(self) -> None:
         cache, sizes = Cache(1000), []
         for turn in range(6):
@@ -248,11 +398,7 @@ class Making(unittest.TestCase):
             return key * 2
 
         found: list = []
-        threads = [threading.Thread(target=lambda: found.append(cache.get_or_insert(7, make))) for _ in range(8)]
-        for it in threads:
-            it.start()
-        for it in threads:
-            it.join()
+        in_threads(*[lambda: found.append(cache.get_or_insert(7, make))] * 8)
         self.assertEqual((runs, found), ([7], [14] * 8))
         self.assertEqual(cache.stats().hits, 7)
 
@@ -278,12 +424,55 @@ class Making(unittest.TestCase):
             except LookupError:
                 found.append("failed")
 
-        threads = [threading.Thread(target=ask) for _ in range(6)]
-        for it in threads:
-            it.start()
-        for it in threads:
-            it.join()
+        in_threads(*[ask] * 6)
         self.assertEqual(sorted(found), ["failed"] * 2 + ["made"] * 4)
+
+    def test_inserts_while_it_makes(self) -> None:
+        cache = Cache(10)
+        inserted, made = Value(), Value()
+        watched = weakref.ref(inserted), weakref.ref(made)
+
+        def make(key: str, *_: object) -> Value:
+            cache[key] = inserted
+            return made
+
+        self.assertIs(cache.get_or_insert("a", make), made)
+        self.assertIs(cache["a"], made)
+        with self.assertRaises(ZeroDivisionError):
+            cache.get_or_insert("b", lambda key: make(key, 1 // 0))
+        with self.assertRaises(ZeroDivisionError):
+            cache.get_or_insert("c", lambda key: (make(key), 1 // 0))
+        self.assertIs(cache["c"], inserted)
+        del inserted, made, make
+        cache.clear()
+        self.assertEqual((watched[0](), watched[1](), len(cache)), (None, None, 0))
+
+    def test_its_own_key(self) -> None:
+        cache = Cache(10)
+        with self.assertRaises(RuntimeError):
+            cache.get_or_insert("a", lambda key: cache.get_or_insert(key, id))
+        self.assertEqual(cache.get_or_insert("a", lambda _: cache.get_or_insert("b", lambda _: 2)), 2)
+
+    def run_alone(self, text: str) -> str:
+        done = subprocess.run([sys.executable, "-c", text], capture_output=True, text=True, timeout=60, check=True)
+        return done.stdout
+
+    @unittest.skipIf(sys.version_info >= (3, 12), "a module of one phase is for the main interpreter")
+    def test_subinterpreters(self) -> None:
+        inner = "from luffapricot import Cache; cache = Cache(5); cache.update(zip(range(99), range(99)))"
+        inner += "; print(len(cache), cache.get_or_insert('a', ord))"
+        text = f"import _xxsubinterpreters as them; them.run_string(them.create(), {inner!r})"
+        self.assertEqual(self.run_alone(text), "5 97\n")
+
+    def test_threads_that_wait_at_the_end(self) -> None:
+        lines = [
+            "import threading, time, luffapricot",
+            "cache, begun = luffapricot.Cache(5), threading.Event()",
+            "make = lambda _: (begun.set(), time.sleep(9))",
+            "for _ in range(3): threading.Thread(target=cache.get_or_insert, args=(1, make), daemon=True).start()",
+            "begun.wait(); print('ends')",
+        ]
+        self.assertEqual(self.run_alone("\n".join(lines)), "ends\n")
 
     def test_closing_waits_for_nobody(self) -> None:
         cache = Cache(10)
@@ -307,11 +496,7 @@ class Making(unittest.TestCase):
                 if value != [key]:
                     wrong.append((key, value))
 
-        threads = [threading.Thread(target=work, args=(seed,)) for seed in range(8)]
-        for it in threads:
-            it.start()
-        for it in threads:
-            it.join()
+        in_threads(*[functools.partial(work, seed) for seed in range(8)])
         self.assertEqual(wrong, [])
         self.assertLessEqual(len(cache), 50)
 
@@ -398,6 +583,20 @@ class Decorator(unittest.TestCase):
         self.assertEqual(function.cache_parameters()["maxsize"], 128)
         with self.assertRaises(TypeError):
             function([])
+
+        @cached(maxsize=None, policy="lfu")
+        def unlimited(number: int) -> int:
+            return number
+
+        for number in range(5000):
+            unlimited(number)
+        self.assertEqual(unlimited.cache_info(), (0, 5000, None, 5000))
+
+    def test_copies(self) -> None:
+        self.assertEqual([pickle.loads(pickle.dumps(named)), copy.copy(named), copy.deepcopy([named])[0]], [named] * 3)
+        for call in (pickle.dumps, copy.copy, copy.deepcopy):
+            with self.assertRaises(TypeError):
+                call(Cache(1))
 
     def test_methods_and_exceptions(self) -> None:
         class Counter:
