@@ -35,6 +35,9 @@ static void creating(void) {
     luffa_entry nothing = {0};
     luffa_release(&nothing);
     CHECK(strstr(luffa_version(), "proved") != NULL);
+    CHECK(strcmp(luffa_strerror(LUFFA_NO_MEMORY), "out of memory") == 0);
+    for (luffa_status status = 0; status < 300; status++)
+        CHECK(*luffa_strerror(status) != 0);
 }
 
 static void one_record(luffa_cache *cache) {
@@ -185,12 +188,14 @@ static void bulk(uint32_t policy) {
 struct heard {
     luffa_cache *cache;
     size_t counts[4];
+    int last;
     size_t wrong;
 };
 
 static void hear(void *context, int event, const void *key, size_t key_len, const void *value, size_t value_len) {
     struct heard *heard = context;
     heard->counts[event]++;
+    heard->last = event;
     heard->wrong += key_len != 4 || value_len != 4 || memcmp(key, value, 4) != 0;
     if (heard->cache != NULL) /* no lock is held */
         heard->wrong += luffa_contains(heard->cache, 0, "?", 1) != LUFFA_MISSING;
@@ -218,6 +223,8 @@ static void listening(uint32_t policy) {
     evicted = heard.counts[LUFFA_EVICT];
     luffa_release(&entry);
     CHECK(heard.counts[LUFFA_EVICT] == evicted + 1);
+    CHECK(luffa_insert_entry(heard.cache, 0, &last, 4, &last, 4, &phantom, NULL) == LUFFA_OK);
+    CHECK(heard.counts[LUFFA_EVICT] == evicted + 2 && heard.last == LUFFA_EVICT);
     luffa_cache *cache = heard.cache;
     heard.cache = NULL;
     luffa_destroy(cache);
@@ -232,6 +239,25 @@ static int make(void *context, const void *key, size_t key_len, luffa_made *made
     made->value_len = key_len;
     made->free_value = free;
     made->expires = 50;
+    return 0;
+}
+
+static void count_call(void *context) { ++*(int *)context; }
+
+/* Makes an empty value, or none, whose address is the context. */
+static int make_nothing(void *context, const void *key, size_t key_len, luffa_made *made) {
+    (void)key_len;
+    made->value = context;
+    made->free_value = count_call;
+    return *(const char *)key == 'f';
+}
+
+/* Makes a value that weighs 2. */
+static int make_heavy(void *context, const void *key, size_t key_len, luffa_made *made) {
+    (void)context;
+    made->value = key;
+    made->value_len = key_len;
+    made->weight = 2;
     return 0;
 }
 
@@ -255,7 +281,15 @@ static void making(luffa_cache *cache) {
     CHECK(luffa_get_or_insert(cache, 0, "both", 4, make_and_insert, cache, &entry) == LUFFA_OK);
     CHECK(entry.value_len == 8 && memcmp(entry.value, "inserted", 8) == 0); /* the insert ended the fetch */
     luffa_release(&entry);
+    runs = 0;
+    CHECK(luffa_get_or_insert(cache, 0, "empty", 5, make_nothing, &runs, &entry) == LUFFA_OK && runs == 1);
+    CHECK(entry.value_len == 0 && entry.weight == 1);
+    luffa_release(&entry);
+    CHECK(luffa_get_or_insert(cache, 0, "fails", 5, make_nothing, &runs, NULL) == LUFFA_CANCELLED && runs == 2);
     CHECK(luffa_clear(cache) == LUFFA_OK);
+    CHECK(luffa_get_or_insert(cache, 0, "heavy", 5, make_heavy, NULL, &entry) == LUFFA_OK && entry.weight == 2);
+    luffa_release(&entry);
+    CHECK(luffa_usage(cache) == 2 && luffa_clear(cache) == LUFFA_OK);
 }
 
 static uint64_t one(void *context, const void *key, size_t key_len) {

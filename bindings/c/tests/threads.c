@@ -110,11 +110,12 @@ static void *work(void *context) {
                 hold(&held[noise % HELD], entry, key);
         } else if (call < 900) {
             key &= ~1u;
-            luffa_status status = luffa_get_or_insert(cache, 0, &key, sizeof key, make, &value, &entry);
-            if (status == LUFFA_OK)
+            luffa_entry *wanted = noise % 4 == 0 ? NULL : &entry;
+            luffa_status status = luffa_get_or_insert(cache, 0, &key, sizeof key, make, &value, wanted);
+            if (status == LUFFA_OK && wanted != NULL)
                 hold(&held[noise % HELD], entry, key);
             else
-                wrong += status != LUFFA_CANCELLED;
+                wrong += status != LUFFA_OK && status != LUFFA_CANCELLED;
         } else if (call < 960) {
             luffa_remove(cache, &key, sizeof key);
         } else if (call < 990) {

@@ -185,7 +185,7 @@ static void done_with(cache_object *self, node *it) {
 static PyObject *refused(luffa_status status) {
     if (status == LUFFA_NO_MEMORY)
         return PyErr_NoMemory();
-    return PyErr_Format(refusal, "the cache refused the call: F%u", (unsigned)status);
+    return PyErr_Format(refusal, "%s (F%u)", luffa_strerror(status), (unsigned)status);
 }
 
 static int is_closed(const cache_object *self) {
