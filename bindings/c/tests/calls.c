@@ -292,6 +292,87 @@ static void making(luffa_cache *cache) {
     CHECK(luffa_usage(cache) == 2 && luffa_clear(cache) == LUFFA_OK);
 }
 
+/* Makes a value when it is 100. */
+static int make_late(void *context, const void *key, size_t key_len, luffa_made *made) {
+    (void)context;
+    made->value = key;
+    made->value_len = key_len;
+    made->now = 100;
+    return 0;
+}
+
+/* What is expired when the value is made leaves first. */
+static void making_late(uint32_t policy) {
+    luffa_cache *cache = created(policy, 2, 1);
+    CHECK(put(cache, "old", "x") == LUFFA_OK);
+    CHECK(luffa_insert(cache, 0, "expires", 7, "x", 1, 1, 60) == LUFFA_OK);
+    CHECK(luffa_get_or_insert(cache, 0, "late", 4, make_late, NULL, NULL) == LUFFA_OK);
+    CHECK(luffa_contains(cache, 0, "expires", 7) == LUFFA_MISSING && has(cache, "old", "x") &&
+          has(cache, "late", "late"));
+    luffa_destroy(cache);
+}
+
+/* Inserts a record for each that leaves, up to a number. */
+struct echo {
+    luffa_cache *cache;
+    uint32_t inserted;
+    uint32_t told;
+};
+
+static void echo(void *context, int event, const void *key, size_t key_len, const void *value, size_t value_len) {
+    struct echo *echo = context;
+    uint32_t bytes;
+    memcpy(&bytes, key, 4);
+    CHECK(event == LUFFA_EVICT && key_len == 4 && value_len == 4 && memcmp(value, &bytes, 4) == 0);
+    echo->told++;
+    if (echo->inserted < 1000) {
+        bytes = echo->inserted++;
+        CHECK(luffa_insert(echo->cache, 0, &bytes, 4, &bytes, 4, 1, 0) == LUFFA_OK);
+    }
+}
+
+/* The listener calls the cache, which tells it again, one call in the other; and of more than one batch. */
+static void echoing(uint32_t policy) {
+    struct echo heard = {.inserted = 500};
+    luffa_config config = luffa_config_default(policy);
+    config.capacity = 100;
+    config.shards = 2;
+    config.listener = echo;
+    config.listener_context = &heard;
+    CHECK(luffa_create(&config, &heard.cache) == LUFFA_OK);
+    for (uint32_t i = 0; i < 500; i++)
+        CHECK(luffa_insert(heard.cache, 0, &i, 4, &i, 4, 1, 0) == LUFFA_OK);
+    CHECK(luffa_resize(heard.cache, 0, 10) == LUFFA_OK && luffa_evict_all(heard.cache, 0) == LUFFA_OK);
+    CHECK(heard.inserted == 1000 && heard.told + luffa_entries(heard.cache) == 1000 && luffa_usage(heard.cache) <= 10);
+    CHECK(luffa_evict_all(heard.cache, 0) == LUFFA_OK && heard.told == 1000);
+    luffa_destroy(heard.cache);
+}
+
+/* The hash without a callback: each byte of a key counts, so the keys don't crowd a shard, and each cache has its own.
+ */
+static void hashing(void) {
+    unsigned char key[40];
+    for (size_t len = 1; len <= sizeof key; len += len < 18 ? 1 : 5)
+        for (size_t at = 0; at < len; at++) {
+            luffa_cache *cache = created(LUFFA_FIFO, 128, 8);
+            memset(key, 'k', sizeof key);
+            for (key[at] = 0; key[at] < 64; key[at]++)
+                CHECK(luffa_insert(cache, 0, key, len, NULL, 0, 1, 0) == LUFFA_OK);
+            CHECK(luffa_entries(cache) > 48);
+            luffa_destroy(cache);
+        }
+    luffa_cache *caches[] = {created(LUFFA_FIFO, 100, 8), created(LUFFA_FIFO, 100, 8)};
+    size_t differ = 0;
+    for (uint32_t i = 0; i < 1000; i++)
+        for (int which = 0; which < 2; which++)
+            CHECK(luffa_insert(caches[which], 0, &i, 4, NULL, 0, 1, 0) == LUFFA_OK);
+    for (uint32_t i = 0; i < 1000; i++)
+        differ += luffa_contains(caches[0], 0, &i, 4) != luffa_contains(caches[1], 0, &i, 4);
+    CHECK(differ > 0);
+    luffa_destroy(caches[0]);
+    luffa_destroy(caches[1]);
+}
+
 static uint64_t one(void *context, const void *key, size_t key_len) {
     (void)key;
     (void)key_len;
@@ -320,6 +401,7 @@ static void colliding(uint32_t policy) {
 
 int main(void) {
     creating();
+    hashing();
     for (uint32_t policy = LUFFA_FIFO; policy <= LUFFA_SIEVE; policy++) {
         for (size_t shards = 1; shards <= 3; shards++) {
             luffa_cache *cache = created(policy, 300, shards);
@@ -334,6 +416,8 @@ int main(void) {
         weights(policy);
         bulk(policy);
         listening(policy);
+        echoing(policy);
+        making_late(policy);
         colliding(policy);
         if (failures != 0) {
             fprintf(stderr, "with %s\n", POLICIES[policy]);
