@@ -1,6 +1,7 @@
 /*
  * Each request for memory is refused in turn: build it with -Wl,--wrap=malloc,--wrap=realloc,--wrap=calloc,
- * --wrap=aligned_alloc. Every call then returns what it may, nothing is lost, and the cache goes on.
+ * --wrap=aligned_alloc,--wrap=free. Every call then returns what it may, nothing is lost, and the cache goes on. And
+ * the same calls again and again keep no more memory.
  */
 #include "check.h"
 
@@ -8,11 +9,13 @@ void *__real_malloc(size_t size);
 void *__real_calloc(size_t count, size_t size);
 void *__real_realloc(void *block, size_t size);
 void *__real_aligned_alloc(size_t align, size_t size);
+void __real_free(void *block);
 
 /* How many requests are granted before all are refused, or -1; and whether only one is refused. */
 static long granted = -1;
 static int only_one;
 static long refusals;
+static long blocks; /* that are in use */
 
 static int is_refused(void) {
     if (granted < 0)
@@ -27,11 +30,24 @@ static int is_refused(void) {
     return 1;
 }
 
-void *__wrap_malloc(size_t size) { return is_refused() ? NULL : __real_malloc(size); }
-void *__wrap_calloc(size_t count, size_t size) { return is_refused() ? NULL : __real_calloc(count, size); }
-void *__wrap_realloc(void *block, size_t size) { return is_refused() ? NULL : __real_realloc(block, size); }
+static void *counted(void *block) {
+    blocks += block != NULL;
+    return block;
+}
+
+void *__wrap_malloc(size_t size) { return is_refused() ? NULL : counted(__real_malloc(size)); }
+void *__wrap_calloc(size_t count, size_t size) { return is_refused() ? NULL : counted(__real_calloc(count, size)); }
+void *__wrap_realloc(void *block, size_t size) {
+    if (is_refused())
+        return NULL;
+    return block == NULL ? counted(__real_malloc(size)) : __real_realloc(block, size);
+}
 void *__wrap_aligned_alloc(size_t align, size_t size) {
-    return is_refused() ? NULL : __real_aligned_alloc(align, size);
+    return is_refused() ? NULL : counted(__real_aligned_alloc(align, size));
+}
+void __wrap_free(void *block) {
+    blocks -= block != NULL;
+    __real_free(block);
 }
 
 enum { KEYS = 60 };
@@ -49,7 +65,10 @@ static void hear(void *context, int event, const void *key, size_t key_len, cons
     told++;
 }
 
+/* Makes the key as its value, or nothing without a context. */
 static int make(void *context, const void *key, size_t key_len, luffa_made *made) {
+    if (context == NULL)
+        return 1;
     *(int *)context = 1;
     made->value = key;
     made->value_len = key_len;
@@ -83,6 +102,8 @@ static void calls(luffa_cache *cache) {
         }
         status = luffa_remove(cache, &key, 8);
         CHECK(is_fine(status) || status == LUFFA_MISSING);
+        status = luffa_get_or_insert(cache, KEYS, &key, 8, make, NULL, NULL);
+        CHECK(is_fine(status) || status == LUFFA_CANCELLED);
     }
     uint64_t last = KEYS;
     are_in[last] += 2; /* a phantom is told twice: when it is inserted and when it leaves */
@@ -90,9 +111,12 @@ static void calls(luffa_cache *cache) {
         luffa_release(&entry);
     else
         are_in[last] -= 2;
-    CHECK(is_fine(luffa_resize(cache, KEYS, 10)));
-    CHECK(is_fine(luffa_evict_all(cache, KEYS)));
-    CHECK(is_fine(luffa_clear(cache)));
+    luffa_status status = luffa_resize(cache, KEYS, 10);
+    CHECK(status == LUFFA_OK ? luffa_usage(cache) <= 10 : status == LUFFA_NO_MEMORY);
+    status = luffa_evict_all(cache, KEYS);
+    CHECK(status == LUFFA_OK ? luffa_entries(cache) == 0 : status == LUFFA_NO_MEMORY);
+    status = luffa_clear(cache);
+    CHECK(status == LUFFA_OK ? luffa_entries(cache) == 0 : status == LUFFA_NO_MEMORY);
 }
 
 static void run(uint32_t policy, long fail, int is_heard) {
@@ -124,7 +148,27 @@ static void run(uint32_t policy, long fail, int is_heard) {
     luffa_destroy(cache);
 }
 
+/* Whether the calls keep blocks. */
+static void repeat(uint32_t policy) {
+    luffa_config config = luffa_config_default(policy);
+    luffa_cache *cache;
+    long before = blocks, first = 0;
+    config.capacity = 20;
+    config.listener = hear;
+    CHECK(luffa_create(&config, &cache) == LUFFA_OK);
+    for (int turn = 0; turn < 50; turn++) {
+        calls(cache);
+        if (turn == 9)
+            first = blocks;
+    }
+    CHECK(blocks <= first);
+    luffa_destroy(cache);
+    CHECK(blocks == before);
+}
+
 int main(void) {
+    for (uint32_t policy = LUFFA_FIFO; policy <= LUFFA_SIEVE; policy++)
+        repeat(policy);
     for (uint32_t policy = LUFFA_FIFO; policy <= LUFFA_SIEVE; policy++)
         for (int how = 0; how < 4; how++)
             for (long fail = 0; fail < 400 && failures == 0; fail++) {
