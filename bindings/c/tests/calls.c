@@ -157,6 +157,11 @@ static void weights(uint32_t policy) {
         luffa_release(&held);
     }
     luffa_destroy(cache);
+    cache = created(policy, 10, 4);
+    for (uint32_t i = 0; i < 40; i++) /* each shard has one, whose sum is too much */
+        CHECK(luffa_insert(cache, 0, &i, 4, NULL, 0, SIZE_MAX / 2, 0) == LUFFA_OK);
+    CHECK(luffa_usage(cache) == UINT64_MAX && luffa_entries(cache) == 4);
+    luffa_destroy(cache);
 }
 
 static void bulk(uint32_t policy) {
@@ -182,6 +187,46 @@ static void bulk(uint32_t policy) {
         CHECK(luffa_insert(cache, 0, &i, sizeof i, &i, sizeof i, 1, 0) == LUFFA_OK);
     CHECK(luffa_evict_all(cache, 0) == LUFFA_OK && luffa_entries(cache) == 0);
     luffa_destroy(cache);
+}
+
+static uint64_t number_of(void *context, const void *key, size_t key_len) {
+    uint32_t number;
+    (void)context;
+    memcpy(&number, key, key_len);
+    return number;
+}
+
+/* A cache that was created with one configuration and got another, after gets and inserts. */
+static luffa_cache *used(const luffa_policy *first, const luffa_policy *then) {
+    luffa_config config = {.policy = *first, .capacity = 80, .shards = 4, .hash = number_of};
+    luffa_cache *cache;
+    uint32_t state = 1;
+    CHECK(luffa_create(&config, &cache) == LUFFA_OK && luffa_reconfigure(cache, then) == LUFFA_OK);
+    for (int i = 0; i < 5000; i++) {
+        uint32_t key = (state >> 8) % 200;
+        size_t len;
+        key = (state >> 16) % (key + 1);
+        state = state * 1664525 + 1013904223;
+        if (luffa_get(cache, 0, &key, 4, NULL, 0, &len) == LUFFA_MISSING)
+            CHECK(luffa_insert(cache, 0, &key, 4, &key, 4, 1, 0) == LUFFA_OK);
+    }
+    return cache;
+}
+
+/* Each shard gets the configuration. */
+static void reconfiguring(void) {
+    luffa_policy small = luffa_config_default(LUFFA_S3FIFO).policy, large = small;
+    large.small_queue = (luffa_ratio){9, 10};
+    luffa_cache *caches[] = {used(&small, &small), used(&large, &small), used(&large, &large)};
+    size_t differ = 0, other = 0;
+    for (uint32_t key = 0; key < 200; key++) {
+        luffa_status wanted = luffa_contains(caches[0], 0, &key, 4);
+        differ += luffa_contains(caches[1], 0, &key, 4) != wanted;
+        other += luffa_contains(caches[2], 0, &key, 4) != wanted;
+    }
+    CHECK(differ == 0 && other > 0);
+    for (int i = 0; i < 3; i++)
+        luffa_destroy(caches[i]);
 }
 
 /* What left, by event, and whether each left with its own value. */
@@ -269,12 +314,15 @@ static int make_and_insert(void *context, const void *key, size_t key_len, luffa
 
 static void making(luffa_cache *cache) {
     luffa_entry entry;
+    luffa_stats before = luffa_get_stats(cache);
     int runs = 0;
     CHECK(luffa_get_or_insert(cache, 0, "key", 3, make, &runs, &entry) == LUFFA_OK && runs == 1);
     CHECK(entry.value_len == 3 && memcmp(entry.value, "key", 3) == 0);
     luffa_release(&entry);
     CHECK(luffa_get_or_insert(cache, 49, "key", 3, make, &runs, &entry) == LUFFA_OK && runs == 1);
     luffa_release(&entry);
+    luffa_stats after = luffa_get_stats(cache);
+    CHECK(after.hits == before.hits + 1 && after.misses == before.misses + 1);
     CHECK(luffa_get_or_insert(cache, 50, "key", 3, make, &runs, NULL) == LUFFA_OK && runs == 2);
     CHECK(luffa_get_or_insert(cache, 0, "none", 4, make, &runs, &entry) == LUFFA_CANCELLED && runs == 3);
     CHECK(luffa_contains(cache, 0, "none", 4) == LUFFA_MISSING);
@@ -402,6 +450,7 @@ static void colliding(uint32_t policy) {
 int main(void) {
     creating();
     hashing();
+    reconfiguring();
     for (uint32_t policy = LUFFA_FIFO; policy <= LUFFA_SIEVE; policy++) {
         for (size_t shards = 1; shards <= 3; shards++) {
             luffa_cache *cache = created(policy, 300, shards);

@@ -4,6 +4,7 @@
  * the same calls again and again keep no more memory.
  */
 #include "check.h"
+#include <malloc.h>
 
 void *__real_malloc(size_t size);
 void *__real_calloc(size_t count, size_t size);
@@ -15,7 +16,7 @@ void __real_free(void *block);
 static long granted = -1;
 static int only_one;
 static long refusals;
-static long blocks; /* that are in use */
+static size_t bytes; /* that are in use */
 
 static int is_refused(void) {
     if (granted < 0)
@@ -31,22 +32,23 @@ static int is_refused(void) {
 }
 
 static void *counted(void *block) {
-    blocks += block != NULL;
+    bytes += malloc_usable_size(block);
     return block;
 }
 
 void *__wrap_malloc(size_t size) { return is_refused() ? NULL : counted(__real_malloc(size)); }
 void *__wrap_calloc(size_t count, size_t size) { return is_refused() ? NULL : counted(__real_calloc(count, size)); }
-void *__wrap_realloc(void *block, size_t size) {
-    if (is_refused())
-        return NULL;
-    return block == NULL ? counted(__real_malloc(size)) : __real_realloc(block, size);
-}
 void *__wrap_aligned_alloc(size_t align, size_t size) {
     return is_refused() ? NULL : counted(__real_aligned_alloc(align, size));
 }
+void *__wrap_realloc(void *block, size_t size) {
+    size_t old = malloc_usable_size(block);
+    void *moved = is_refused() ? NULL : counted(__real_realloc(block, size));
+    bytes -= moved != NULL ? old : 0;
+    return moved;
+}
 void __wrap_free(void *block) {
-    blocks -= block != NULL;
+    bytes -= malloc_usable_size(block);
     __real_free(block);
 }
 
@@ -148,22 +150,22 @@ static void run(uint32_t policy, long fail, int is_heard) {
     luffa_destroy(cache);
 }
 
-/* Whether the calls keep blocks. */
+/* Whether the calls keep memory. */
 static void repeat(uint32_t policy) {
     luffa_config config = luffa_config_default(policy);
     luffa_cache *cache;
-    long before = blocks, first = 0;
+    size_t before = bytes, first = 0;
     config.capacity = 20;
     config.listener = hear;
     CHECK(luffa_create(&config, &cache) == LUFFA_OK);
     for (int turn = 0; turn < 50; turn++) {
         calls(cache);
         if (turn == 9)
-            first = blocks;
+            first = bytes;
     }
-    CHECK(blocks <= first);
+    CHECK(bytes <= first);
     luffa_destroy(cache);
-    CHECK(blocks == before);
+    CHECK(bytes == before);
 }
 
 int main(void) {
