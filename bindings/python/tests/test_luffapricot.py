@@ -46,11 +46,17 @@ def named(number: int) -> int:
 
 
 def in_threads(*calls: Callable[[], object]) -> None:
+    """Runs the calls in a thread each, which take turns as often as they can."""
     threads = [threading.Thread(target=it) for it in calls]
-    for it in threads:
-        it.start()
-    for it in threads:
-        it.join()
+    interval = sys.getswitchinterval()
+    sys.setswitchinterval(1e-6)
+    try:
+        for it in threads:
+            it.start()
+        for it in threads:
+            it.join()
+    finally:
+        sys.setswitchinterval(interval)
 
 
 class Mapping(unittest.TestCase):
@@ -164,10 +170,12 @@ class Mapping(unittest.TestCase):
     def test_time_to_live(self) -> None:
         cache = Cache(10, ttl=0.05)
         cache["a"] = 1
-        cache.insert("b", 2, ttl=1000)
+        cache.insert("b", 2, ttl=20)
+        cache["c"] = 3
         self.assertEqual((cache["a"], cache["b"]), (1, 2))
         time.sleep(0.06)
         self.assertEqual((cache.get("a"), "a" in cache, cache["b"], list(cache)), (None, False, 2, ["b"]))
+        self.assertEqual((cache.pop("c", None), cache.pop("b")), (None, 2))
         cache["a"] = 3
         self.assertEqual(cache["a"], 3)
 
@@ -334,15 +342,56 @@ class References(unittest.TestCase):
                 elif cache.get(Key(number)) is None:
                     cache[Key(number)] = value
 
-        interval = sys.getswitchinterval()
-        sys.setswitchinterval(1e-6)
-        try:
-            in_threads(*[work] * 6)
-        finally:
-            sys.setswitchinterval(interval)
+        in_threads(*[work] * 6)
         self.assertEqual(len(cache), len(list(cache)))
         cache.clear()
         self.assertEqual((len(cache), list(cache), len(watched)), (0, [], 0))
+
+    def test_keys_that_are_made_while_they_leave(self) -> None:
+        class Starting:
+            countdown = 0
+
+            def __hash__(self) -> int:
+                Starting.countdown -= 1
+                if Starting.countdown == 0:
+                    thread.start()
+                    begun.wait(5)
+                return 1
+
+        for turn in range(1, 5):
+            cache, key, begun, may_end = Cache(10), Starting(), threading.Event(), threading.Event()
+
+            def ask() -> None:
+                cache.get_or_insert(key, lambda _: (begun.set(), may_end.wait(5)))
+                begun.set()
+
+            thread = threading.Thread(target=ask)
+            cache[key] = 1
+            Starting.countdown = turn
+            cache.pop(key, None)
+            may_end.set()
+            if thread.ident:
+                thread.join()
+            self.assertEqual(len(cache), len(list(cache)))
+
+    def test_what_leaves_in_threads(self) -> None:
+        cache: Cache[object, Value] = Cache(3, "fifo")
+        watched: weakref.WeakSet = weakref.WeakSet()
+
+        def make(_: object) -> Value:
+            value = Value()
+            watched.add(value)
+            return value
+
+        def work(seed: int) -> None:
+            for number in range(4000):
+                cache.get_or_insert((seed, number % 50), make)
+                cache[seed] = make(seed)
+
+        in_threads(*[functools.partial(work, seed) for seed in range(4)])
+        self.assertLessEqual(len(watched), 3)
+        cache.clear()
+        self.assertEqual(len(watched), 0)
 
     def test_cycles_are_collected_in_any_order(self) -> None:
         cache, value = Cache(1000), Value()
@@ -560,15 +609,16 @@ class AsCachetools(unittest.TestCase):
 class Decorator(unittest.TestCase):
     def test_as_lru_cache(self) -> None:
         random.seed(2)
+        values: list = [0, 1, 1.0, True, "1", None, (1, 2)]
         for typed in (False, True):
-            ours = cached(64, policy="lru", typed=typed)(lambda *args, **words: (args, tuple(words.items())))
-            theirs = functools.lru_cache(64, typed)(lambda *args, **words: (args, tuple(words.items())))
-            values: list = [*range(40), *map(str, range(20)), 1.0, True, None, (1, 2)]
+            ours = cached(64, policy="lru", typed=typed)(lambda *args, **words: repr((args, words)))
+            theirs = functools.lru_cache(64, typed)(lambda *args, **words: repr((args, words)))
             for _ in range(20000):
                 args = random.choices(values, k=random.randrange(3))
-                words = {name: random.choice(values) for name in random.sample("xyz", random.randrange(2))}
+                words = {name: random.choice(values) for name in random.sample("xy", random.randrange(3))}
                 self.assertEqual(ours(*args, **words), theirs(*args, **words))
                 self.assertEqual(ours.cache_info(), theirs.cache_info())
+            self.assertNotEqual(ours(1, x=2), ours(1, None, "x", 2))
             ours.cache_clear()
             self.assertEqual(ours.cache_info(), (0, 0, 64, 0))
 

@@ -125,6 +125,7 @@ static void hear(void *context, int event, const void *key, size_t key_len, cons
     (void)value_len;
     if (is_released)
         run_alone();
+    assert(PyGILState_Check());
     memcpy(&id, key, sizeof id);
     end_record(context, id.node);
     if (is_released)
@@ -542,7 +543,6 @@ static PyObject *cache_get_or_insert(cache_object *self, PyObject *const *args, 
     luffa_cache *cache = self->cache;
     luffa_status status;
     do { /* whoever waited for a call that failed tries by itself */
-        making.has_run = making.has_failed = 0;
         uint64_t now = now_of(self);
         self->running++; /* so that nobody closes the cache */
         let_others_run();
