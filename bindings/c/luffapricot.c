@@ -411,7 +411,7 @@ static luffa_status lead(struct slot *slot, uint64_t now, uint64_t hash, const v
         status =
             luffa_shard_complete(&slot->shard, made.now, hash, key, key_len, fetch, made.value, made.value_len, &terms);
     }
-    if (status != LUFFA_OK && status != LUFFA_MISSING)
+    if (status != LUFFA_OK && status != LUFFA_MISSING) /* the shard has room for the key since the fetch began */
         luffa_shard_cancel(&slot->shard, hash, key, key_len, fetch);
     wake(slot);
     status = take_answer(slot, number, entry);

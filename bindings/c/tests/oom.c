@@ -52,28 +52,40 @@ void __wrap_free(void *block) {
     __real_free(block);
 }
 
-enum { KEYS = 60 };
+enum { KEYS = 60, LONG = 40 };
+
+/* How long keys are: 8 needs no memory, LONG does. */
+static size_t key_len = 8;
+
+static const unsigned char *spelled(uint64_t number) {
+    static unsigned char bytes[LONG];
+    memcpy(bytes, &number, 8);
+    return bytes;
+}
 
 /* How many records of each key were inserted and not told to have left. */
 static int are_in[KEYS + 1];
 static long told;
 
-static void hear(void *context, int event, const void *key, size_t key_len, const void *value, size_t value_len) {
+static void hear(void *context, int event, const void *key, size_t len, const void *value, size_t value_len) {
     uint64_t number;
     (void)context;
-    CHECK(key_len == 8 && value_len == 8 && memcmp(key, value, 8) == 0);
+    CHECK(len == key_len && value_len == 8 && memcmp(key, value, 8) == 0);
     memcpy(&number, key, 8);
     CHECK(event <= LUFFA_CLEAR && are_in[number]-- > 0);
     told++;
 }
 
-/* Makes the key as its value, or nothing without a context. */
-static int make(void *context, const void *key, size_t key_len, luffa_made *made) {
+static luffa_cache *current;
+
+/* Makes the key as its value, or nothing without a context. The shard is asked for a shorter key meanwhile. */
+static int make(void *context, const void *key, size_t len, luffa_made *made) {
+    CHECK(luffa_contains(current, 0, "?", 1) == LUFFA_MISSING);
     if (context == NULL)
         return 1;
     *(int *)context = 1;
     made->value = key;
-    made->value_len = key_len;
+    made->value_len = len < 8 ? len : 8;
     return 0;
 }
 
@@ -81,35 +93,36 @@ static int is_fine(luffa_status status) { return status == LUFFA_OK || status ==
 
 /* Inserts, lookups and bulk calls over KEYS keys. */
 static void calls(luffa_cache *cache) {
+    current = cache;
     luffa_entry entry;
     luffa_terms phantom = {.weight = 1, .flags = LUFFA_PHANTOM};
     for (uint64_t key = 0; key < KEYS; key++) {
         uint64_t found = 0, asked = key / 2;
         size_t len;
-        luffa_status status = luffa_insert(cache, key, &key, 8, &key, 8, 1, key % 3 == 0 ? key + 5 : 0);
+        luffa_status status = luffa_insert(cache, key, spelled(key), key_len, &key, 8, 1, key % 3 == 0 ? key + 5 : 0);
         CHECK(is_fine(status));
         if (status == LUFFA_OK)
             are_in[key]++;
-        status = luffa_get(cache, key, &asked, 8, &found, 8, &len);
+        status = luffa_get(cache, key, spelled(asked), key_len, &found, 8, &len);
         CHECK(is_fine(status) || status == LUFFA_MISSING);
         CHECK(status != LUFFA_OK || (len == 8 && found == asked));
     }
     for (uint64_t key = 0; key < KEYS; key += 7) {
         int is_made = 0;
-        luffa_status status = luffa_get_or_insert(cache, KEYS, &key, 8, make, &is_made, &entry);
+        luffa_status status = luffa_get_or_insert(cache, KEYS, spelled(key), key_len, make, &is_made, &entry);
         CHECK(is_fine(status) || status == LUFFA_CANCELLED);
         if (status == LUFFA_OK) {
             are_in[key] += is_made;
             luffa_release(&entry);
         }
-        status = luffa_remove(cache, &key, 8);
+        status = luffa_remove(cache, spelled(key), key_len);
         CHECK(is_fine(status) || status == LUFFA_MISSING);
-        status = luffa_get_or_insert(cache, KEYS, &key, 8, make, NULL, NULL);
+        status = luffa_get_or_insert(cache, KEYS, spelled(key), key_len, make, NULL, NULL);
         CHECK(is_fine(status) || status == LUFFA_CANCELLED);
     }
     uint64_t last = KEYS;
     are_in[last] += 2; /* a phantom is told twice: when it is inserted and when it leaves */
-    if (luffa_insert_entry(cache, 0, &last, 8, &last, 8, &phantom, &entry) == LUFFA_OK)
+    if (luffa_insert_entry(cache, 0, spelled(last), key_len, &last, 8, &phantom, &entry) == LUFFA_OK)
         luffa_release(&entry);
     else
         are_in[last] -= 2;
@@ -140,9 +153,9 @@ static void run(uint32_t policy, long fail, int is_heard) {
     calls(cache);
     granted = -1; /* from here on there is memory */
     uint64_t key = 7, found = 0;
-    CHECK(luffa_insert(cache, 0, &key, 8, &key, 8, 1, 0) == LUFFA_OK);
+    CHECK(luffa_insert(cache, 0, spelled(key), key_len, &key, 8, 1, 0) == LUFFA_OK);
     are_in[key]++;
-    CHECK(luffa_get(cache, 0, &key, 8, &found, 8, &len) == LUFFA_OK && found == key);
+    CHECK(luffa_get(cache, 0, spelled(key), key_len, &found, 8, &len) == LUFFA_OK && found == key);
     CHECK(luffa_resize(cache, 0, 10) == LUFFA_OK && luffa_clear(cache) == LUFFA_OK);
     CHECK(luffa_usage(cache) == 0 && luffa_entries(cache) == 0);
     for (size_t i = 0; is_heard && i <= KEYS; i++)
@@ -169,14 +182,16 @@ static void repeat(uint32_t policy) {
 }
 
 int main(void) {
-    for (uint32_t policy = LUFFA_FIFO; policy <= LUFFA_SIEVE; policy++)
+    for (uint32_t policy = LUFFA_FIFO; policy <= LUFFA_SIEVE; policy++) {
+        key_len = policy % 2 == 0 ? 8 : LONG;
         repeat(policy);
-    for (uint32_t policy = LUFFA_FIFO; policy <= LUFFA_SIEVE; policy++)
         for (int how = 0; how < 4; how++)
-            for (long fail = 0; fail < 400 && failures == 0; fail++) {
+            for (long fail = 0, before = -1; refusals != before && failures == 0; fail++) {
+                before = refusals;
                 only_one = how & 1;
                 run(policy, fail, how & 2);
             }
+    }
     printf("%ld requests refused, %ld records told\n", refusals, told);
     return ended("oom");
 }

@@ -657,15 +657,21 @@ static PyObject *cache_close(cache_object *self, PyObject *unused) {
 }
 
 static PyMethodDef cache_methods[] = {
-    {"get", (PyCFunction)(void (*)(void))cache_get, METH_FASTCALL, "The value of a key, or a default."},
+    {"get", (PyCFunction)(void (*)(void))cache_get, METH_FASTCALL,
+     "get($self, key, default=None, /)\n--\n\nThe value of a key, or a default."},
     {"insert", (PyCFunction)(void (*)(void))cache_insert, METH_VARARGS | METH_KEYWORDS,
-     "Inserts a value with a weight and a time to live."},
+     "insert($self, key, value, weight=1, ttl=None)\n--\n\nInserts a value with a weight and a time to live in "
+     "seconds; "
+     "None is that of the cache, and float('inf') never ends."},
     {"get_or_insert", (PyCFunction)(void (*)(void))cache_get_or_insert, METH_FASTCALL,
-     "The value of a key, which make(key) makes if it is missing; one thread makes it and the others wait."},
+     "get_or_insert($self, key, make, /)\n--\n\nThe value of a key, which make(key) makes if it is missing. Of several "
+     "threads one makes it and the others wait; if it fails, the next one tries."},
     {"pop", (PyCFunction)(void (*)(void))cache_pop, METH_FASTCALL, "Removes a key and returns its value."},
-    {"clear", (PyCFunction)cache_clear, METH_NOARGS, "Removes all keys."},
-    {"resize", (PyCFunction)cache_resize, METH_O, "Sets the capacity and evicts down to it."},
-    {"close", (PyCFunction)cache_close, METH_NOARGS, "Frees the cache. Later calls raise ValueError."},
+    {"clear", (PyCFunction)cache_clear, METH_NOARGS, "clear($self)\n--\n\nRemoves all keys."},
+    {"resize", (PyCFunction)cache_resize, METH_O,
+     "resize($self, capacity, /)\n--\n\nSets the capacity and evicts down to it."},
+    {"close", (PyCFunction)cache_close, METH_NOARGS,
+     "close($self)\n--\n\nFrees the cache. Later calls raise ValueError."},
     {"_item_list", (PyCFunction)cache_item_list, METH_NOARGS, NULL},
     {"_counts", (PyCFunction)cache_counts, METH_NOARGS, NULL},
     {"_reset_counts", (PyCFunction)cache_reset_counts, METH_NOARGS, NULL},
