@@ -6,6 +6,7 @@ import copy
 import dataclasses
 import functools
 import gc
+import os
 import pickle
 import random
 import resource
@@ -282,7 +283,8 @@ class References(unittest.TestCase):
                 cache.close()
                 return False
 
-        calls = ["cache.get(key)", "cache.pop(key, 0)", "key in cache", "cache.get_or_insert(key, id)", "cache.insert(key, 1)"]
+        calls = ["cache.get(key)", "cache.pop(key, 0)", "key in cache"]
+        calls += ["cache.get_or_insert(key, id)", "cache.insert(key, 1)"]
         for call in calls:
             cache = Cache(10)
             cache[Closing()] = 1
@@ -427,6 +429,7 @@ class References(unittest.TestCase):
                 gc.callbacks.pop()
             del unused
 
+    @unittest.skipIf("ASAN_OPTIONS" in os.environ, "the sanitizer keeps what is freed")
     def test_memory_does_not_grow(self) -> None:
         cache, sizes = Cache(1000), []
         for turn in range(6):
@@ -628,7 +631,8 @@ class Decorator(unittest.TestCase):
             """Doubles a number."""
             return 2 * number
 
-        self.assertEqual((function(4), function(4), function.__name__, function.__doc__), (8, 8, "function", "Doubles a number."))
+        self.assertEqual((function(4), function(4)), (8, 8))
+        self.assertEqual((function.__name__, function.__doc__), ("function", "Doubles a number."))
         self.assertEqual((function.__wrapped__(5), function.cache_info().hits), (10, 1))
         self.assertEqual(function.cache_parameters()["maxsize"], 128)
         with self.assertRaises(TypeError):

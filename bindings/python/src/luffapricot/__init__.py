@@ -59,11 +59,12 @@ class Cache(_Cache, MutableMapping[K, V]):
     """A mapping that holds at most ``capacity``, of values that weigh 1 unless ``insert`` says otherwise.
 
     ``policy`` decides what is evicted: "fifo", "lru", "lfu" (w-TinyLFU), "s3fifo" or "sieve". Room for a value is made
-    before it replaces that of its key, so in a full cache another key may leave. A value expires ``ttl`` seconds after it
-    was inserted, or never. Keys need a hash, as in a dict. Any thread may use a cache. Each of several
-    ``shards`` gets its part of the capacity; under the interpreter's lock more than one gains nothing.
+    before it replaces that of its key, so in a full cache another key may leave. A value expires ``ttl`` seconds after
+    it was inserted, or never. Each of several ``shards`` gets its part of the capacity; under the interpreter's lock
+    more than one gains nothing.
 
-    An iteration goes over the keys that were there when it began, and counts as no use of them.
+    Keys need a hash, as in a dict. An iteration goes over the keys that were there when it began, and counts as no use
+    of them. Any thread may use a cache. A child of a fork may use one that no other thread was using.
     """
 
     def __init__(self, capacity: int, policy: str = "s3fifo", shards: int = 1, ttl: float | None = None) -> None:
