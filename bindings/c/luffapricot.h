@@ -146,7 +146,7 @@ typedef int (*luffa_make)(void *context, const void *key, size_t key_len, luffa_
 
 typedef struct luffa_stats {
     uint64_t usage;   /* the sum of the weights, or UINT64_MAX if it is more */
-    uint64_t entries; /* how many records there are */
+    uint64_t entries; /* how many records there are, also expired ones that have not left */
     uint64_t hits;    /* lookups that found their key */
     uint64_t misses;
 } luffa_stats;
@@ -198,10 +198,10 @@ void luffa_release(luffa_entry *entry);
 luffa_status luffa_get_or_insert(luffa_cache *cache, uint64_t now, const void *key, size_t key_len, luffa_make make,
                                  void *context, luffa_entry *entry);
 
-/* Removes the key's record. LUFFA_MISSING, F7 or F9. */
+/* Removes the key's record, even if it is expired. LUFFA_MISSING, F7 or F9. */
 luffa_status luffa_remove(luffa_cache *cache, const void *key, size_t key_len);
 
-/* Removes the key's record and returns an entry of it, unless `entry` is NULL. LUFFA_MISSING, F7 or F9. */
+/* Like luffa_remove, and returns an entry of the record, unless `entry` is NULL. */
 luffa_status luffa_remove_entry(luffa_cache *cache, const void *key, size_t key_len, luffa_entry *entry);
 
 /* LUFFA_OK if a lookup would find the key. It doesn't count as a use. LUFFA_MISSING or F7. */

@@ -107,6 +107,10 @@ static void expiry(luffa_cache *cache) {
     CHECK(luffa_insert(cache, 1u << 31, "e", 1, "x", 1, 1, (uint64_t)1 << 40) == LUFFA_OK);
     CHECK(luffa_get(cache, ((uint64_t)1 << 40) - 1, "e", 1, NULL, 0, &len) == LUFFA_OK);
     CHECK(luffa_get(cache, (uint64_t)1 << 40, "e", 1, NULL, 0, &len) == LUFFA_MISSING);
+    CHECK(luffa_entries(cache) == 2 && luffa_remove(cache, "e", 1) == LUFFA_OK && luffa_entries(cache) == 1);
+    CHECK(luffa_insert(cache, UINT64_MAX - 1, "e", 1, "x", 1, 1, UINT64_MAX) == LUFFA_OK);
+    CHECK(luffa_contains(cache, UINT64_MAX - 1, "e", 1) == LUFFA_OK);
+    CHECK(luffa_contains(cache, UINT64_MAX, "e", 1) == LUFFA_MISSING);
     CHECK(luffa_clear(cache) == LUFFA_OK && luffa_entries(cache) == 0 && luffa_usage(cache) == 0);
 }
 

@@ -176,7 +176,7 @@ class Mapping(unittest.TestCase):
         self.assertEqual((cache["a"], cache["b"]), (1, 2))
         time.sleep(0.06)
         self.assertEqual((cache.get("a"), "a" in cache, cache["b"], list(cache)), (None, False, 2, ["b"]))
-        self.assertEqual((cache.pop("c", None), cache.pop("b")), (None, 2))
+        self.assertEqual((len(cache), cache.pop("c", None), cache.pop("b"), len(cache)), (3, None, 2, 1))
         cache["a"] = 3
         self.assertEqual(cache["a"], 3)
 

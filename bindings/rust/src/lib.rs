@@ -436,7 +436,7 @@ impl Cache {
         }
     }
 
-    /// Removes a key, and returns an entry of its record, if there was one.
+    /// Removes a key, and returns an entry of its record, if there was one, even if it is expired.
     ///
     /// # Errors
     /// F7 or F9.
@@ -522,7 +522,7 @@ impl fmt::Debug for Cache {
 pub struct Stats {
     /// The sum of the weights.
     pub usage: u64,
-    /// How many records there are.
+    /// How many records there are, also expired ones that have not left.
     pub entries: u64,
     /// Lookups that found their key.
     pub hits: u64,

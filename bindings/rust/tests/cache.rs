@@ -95,6 +95,8 @@ fn records_expire() {
     assert!(cache.contains("soon"));
     std::thread::sleep(Duration::from_millis(40));
     assert!(cache.get("soon").is_none() && cache.get("never").is_some());
+    assert_eq!(cache.stats().entries, 2);
+    assert_eq!(&*cache.remove("soon").unwrap().unwrap(), b"x");
 }
 
 #[test]

@@ -60,8 +60,8 @@ class Cache(_Cache, MutableMapping[K, V]):
 
     ``policy`` decides what is evicted: "fifo", "lru", "lfu" (w-TinyLFU), "s3fifo" or "sieve". Room for a value is made
     before it replaces that of its key, so in a full cache another key may leave. A value expires ``ttl`` seconds after
-    it was inserted, or never. Each of several ``shards`` gets its part of the capacity; under the interpreter's lock
-    more than one gains nothing.
+    it was inserted, or never; it is found no more, but counts in ``len`` until it leaves. Each of several ``shards``
+    gets its part of the capacity; under the interpreter's lock more than one gains nothing.
 
     Keys need a hash, as in a dict. An iteration goes over the keys that were there when it began, and counts as no use
     of them. Any thread may use a cache. A child of a fork may use one that no other thread was using.
