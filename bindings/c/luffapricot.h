@@ -9,7 +9,8 @@
  *
  * Weights. A record counts its weight against the capacity: 1, the bytes of its value, or any other number.
  *
- * Keys and values. Any bytes of any length, 0 included; a pointer may be NULL if its length is 0. Both are copied.
+ * Keys and values. Any bytes of any length, 0 included. Both are copied. A pointer may be NULL if its length is 0, also
+ * one that the cache gives; no other may, unless its call says so.
  *
  * Threads. Any thread may make any call at any time, except luffa_destroy, which must be the last call for a cache.
  *
