@@ -141,6 +141,29 @@ class Mapping(unittest.TestCase):
             cache.insert("heavy", 1, weight=3)
             self.assertEqual((list(cache), cache.stats().usage), (["heavy"], 3))
 
+    def test_weigher(self) -> None:
+        asked: list = []
+
+        def weigher(key: str, value: str) -> int:
+            asked.append((key, value))
+            return len(value) if value else cache.close()
+
+        before = sys.getrefcount(weigher)
+        cache = Cache(10, "lru", weigher=weigher)
+        cache["a"] = "xxx"
+        self.assertEqual((cache.get_or_insert("b", lambda _: "xxxxx"), cache.stats().usage), ("xxxxx", 8))
+        cache.insert("c", "", weight=1)
+        self.assertEqual((cache.stats().usage, asked), (9, [("a", "xxx"), ("b", "xxxxx")]))
+        cache["d"] = "xxxxxx"
+        self.assertEqual(list(cache), ["c", "d"])
+        for call in (lambda: cache.get_or_insert("e", lambda _: ""), lambda: cache.__setitem__("e", "")):
+            with self.assertRaises((RuntimeError, TypeError)):
+                call()  # a weigher that closes the cache, and returns no number
+        with self.assertRaises(TypeError):
+            Cache(1, weigher=3)
+        del cache
+        self.assertEqual(sys.getrefcount(weigher), before)
+
     def test_bad_arguments(self) -> None:
         for words in ((-1,), ("x",), (1, "unknown"), (1, "lru", 0), (1, "lru", 1, 0), (1, "lru", 1, float("nan"))):
             with self.assertRaises((ValueError, TypeError, OverflowError)):
@@ -584,14 +607,14 @@ class AsCachetools(unittest.TestCase):
 
     def test_weights(self) -> None:
         random.seed(4)
-        ours, theirs = Cache(100, "lru"), cachetools.LRUCache(100, getsizeof=len)
+        ours = Cache(100, "lru", weigher=lambda _, value: len(value))
+        theirs = cachetools.LRUCache(100, getsizeof=len)
         for _ in range(20000):
             key = random.randrange(60)
             value = "x" * (key % 11)
             self.assertEqual(ours.get(key), theirs.get(key))
             self.assertEqual(ours.pop(key, None), theirs.pop(key, None))
-            ours.insert(key, value, weight=len(value))
-            theirs[key] = value
+            ours[key] = theirs[key] = value
             self.assertEqual(ours.stats().usage, theirs.currsize)
             self.assertEqual(set(ours), set(theirs))
 

@@ -56,7 +56,7 @@ class _Values(ValuesView):
 
 
 class Cache(_Cache, MutableMapping[K, V]):
-    """A mapping that holds at most ``capacity``, of values that weigh 1 unless ``insert`` says otherwise.
+    """A mapping that holds at most ``capacity``, of values that weigh 1, ``weigher(key, value)`` or what ``insert`` says.
 
     ``policy`` decides what is evicted: "fifo", "lru", "lfu" (w-TinyLFU), "s3fifo" or "sieve". Room for a value is made
     before it replaces that of its key, so in a full cache another key may leave. A value expires ``ttl`` seconds after
@@ -67,8 +67,15 @@ class Cache(_Cache, MutableMapping[K, V]):
     of them. Any thread may use a cache. A child of a fork may use one that no other thread was using.
     """
 
-    def __init__(self, capacity: int, policy: str = "s3fifo", shards: int = 1, ttl: float | None = None) -> None:
-        super().__init__(capacity, policy, shards, ttl)
+    def __init__(
+        self,
+        capacity: int,
+        policy: str = "s3fifo",
+        shards: int = 1,
+        ttl: float | None = None,
+        weigher: Callable[[Any, Any], int] | None = None,
+    ) -> None:
+        super().__init__(capacity, policy, shards, ttl, weigher)
 
     def __iter__(self) -> Iterator[Any]:
         return iter([key for key, _ in self._item_list()])

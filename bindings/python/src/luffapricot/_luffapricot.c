@@ -32,7 +32,8 @@ typedef struct {
     PyObject_HEAD PyObject *nodes; /* dict: key to node */
     luffa_cache *cache;
     node *leaving;
-    uint64_t ttl; /* nanoseconds, or 0 */
+    PyObject *weigher; /* or NULL */
+    uint64_t ttl;      /* nanoseconds, or 0 */
     uint64_t hits;
     uint64_t misses;
     size_t running;  /* calls that let other threads run meanwhile */
@@ -262,6 +263,11 @@ static node *use_node(cache_object *self, PyObject *key) {
     return it;
 }
 
+static int read_size(PyObject *number, size_t *size) {
+    *size = PyLong_AsSize_t(number);
+    return *size == (size_t)-1 && PyErr_Occurred() ? -1 : 0;
+}
+
 /* The time from which on a record is expired. 0, never, without a time to live. */
 static uint64_t expiry_of(cache_object *self, uint64_t ttl) {
     if (ttl == 0)
@@ -271,8 +277,24 @@ static uint64_t expiry_of(cache_object *self, uint64_t ttl) {
     return ttl > UINT64_MAX - now ? UINT64_MAX : now + ttl;
 }
 
-/* Inserts a value. Returns 0, or -1 and an exception. */
-static int insert(cache_object *self, PyObject *key, PyObject *value, size_t weight, uint64_t ttl) {
+/* What a value counts. Returns 0, or -1 and an exception. It may run Python code. */
+static int weigh(const cache_object *self, PyObject *key, PyObject *value, size_t *weight) {
+    *weight = 1;
+    if (self->weigher == NULL)
+        return 0;
+    PyObject *number = PyObject_CallFunctionObjArgs(self->weigher, key, value, NULL);
+    int status = number == NULL ? -1 : read_size(number, weight);
+    Py_XDECREF(number);
+    return status;
+}
+
+/* Inserts a value, with this weight if there is one. Returns 0, or -1 and an exception. */
+static int insert(cache_object *self, PyObject *key, PyObject *value, const size_t *given, uint64_t ttl) {
+    size_t weight = 1;
+    if (given != NULL)
+        weight = *given;
+    else if (weigh(self, key, value, &weight) < 0)
+        return -1;
     node *it = use_node(self, key);
     if (it == NULL)
         return -1;
@@ -311,11 +333,6 @@ static int read_ttl(PyObject *seconds, uint64_t *ttl) {
     return 0;
 }
 
-static int read_size(PyObject *number, size_t *size) {
-    *size = PyLong_AsSize_t(number);
-    return *size == (size_t)-1 && PyErr_Occurred() ? -1 : 0;
-}
-
 static PyObject *cache_new(PyTypeObject *type, PyObject *args, PyObject *words) {
     (void)args;
     (void)words;
@@ -326,14 +343,20 @@ static PyObject *cache_new(PyTypeObject *type, PyObject *args, PyObject *words) 
 }
 
 static int cache_init(cache_object *self, PyObject *args, PyObject *words) {
-    static char *names[] = {"capacity", "policy", "shards", "ttl", NULL};
+    static char *names[] = {"capacity", "policy", "shards", "ttl", "weigher", NULL};
     static const char *const POLICIES[] = {"fifo", "lru", "lfu", "s3fifo", "sieve"};
-    PyObject *capacity, *shards = NULL, *ttl = NULL;
+    PyObject *capacity, *shards = NULL, *ttl = NULL, *weigher = NULL;
     const char *policy = "s3fifo";
-    if (!PyArg_ParseTupleAndKeywords(args, words, "O|sOO", names, &capacity, &policy, &shards, &ttl))
+    if (!PyArg_ParseTupleAndKeywords(args, words, "O|sOOO", names, &capacity, &policy, &shards, &ttl, &weigher))
         return -1;
     if (self->cache != NULL) {
         PyErr_SetString(PyExc_RuntimeError, "the cache was made before");
+        return -1;
+    }
+    if (weigher == Py_None)
+        weigher = NULL;
+    if (weigher != NULL && !PyCallable_Check(weigher)) {
+        PyErr_SetString(PyExc_TypeError, "the weigher must be callable");
         return -1;
     }
     uint32_t kind = 0;
@@ -357,12 +380,17 @@ static int cache_init(cache_object *self, PyObject *args, PyObject *words) {
         PyErr_SetString(PyExc_ValueError, "the number of shards must be at least 1");
     else if (status != LUFFA_OK)
         refused(status);
-    return status == LUFFA_OK ? 0 : -1;
+    if (status != LUFFA_OK)
+        return -1;
+    Py_XINCREF(weigher);
+    Py_XSETREF(self->weigher, weigher);
+    return 0;
 }
 
 static int cache_traverse(cache_object *self, visitproc visit, void *arg) {
     PyObject *key, *it;
     Py_ssize_t at = 0;
+    Py_VISIT(self->weigher);
     Py_VISIT(self->nodes);
     while (self->nodes != NULL && PyDict_Next(self->nodes, &at, &key, &it))
         if (((node *)it)->records > 0 || ((node *)it)->is_leaving)
@@ -382,6 +410,7 @@ static int cache_clear_all(cache_object *self) {
 static int cache_gc_clear(cache_object *self) {
     cache_clear_all(self);
     Py_CLEAR(self->nodes);
+    Py_CLEAR(self->weigher);
     return 0;
 }
 
@@ -436,7 +465,7 @@ static int cache_ass_subscript(cache_object *self, PyObject *key, PyObject *valu
     if (is_closed(self))
         return -1;
     if (value != NULL)
-        return insert(self, key, value, 1, self->ttl);
+        return insert(self, key, value, NULL, self->ttl);
     int found = take_out(self, key, NULL);
     if (found == 0)
         set_missing(key);
@@ -477,13 +506,16 @@ static PyObject *cache_get(cache_object *self, PyObject *const *args, Py_ssize_t
 static PyObject *cache_insert(cache_object *self, PyObject *args, PyObject *words) {
     static char *names[] = {"key", "value", "weight", "ttl", NULL};
     PyObject *key, *value, *weight = NULL, *seconds = NULL;
-    size_t size = 1;
+    size_t size;
     uint64_t ttl;
     if (!PyArg_ParseTupleAndKeywords(args, words, "OO|OO", names, &key, &value, &weight, &seconds) || is_closed(self))
         return NULL;
+    if (weight == Py_None)
+        weight = NULL;
     if ((weight != NULL && read_size(weight, &size) < 0) || read_ttl(seconds, &ttl) < 0)
         return NULL;
-    if (insert(self, key, value, size, seconds == NULL || seconds == Py_None ? self->ttl : ttl) < 0)
+    if (insert(self, key, value, weight == NULL ? NULL : &size,
+               seconds == NULL || seconds == Py_None ? self->ttl : ttl) < 0)
         return NULL;
     Py_RETURN_NONE;
 }
@@ -506,6 +538,8 @@ static int make_value(void *context, const void *key, size_t key_len, luffa_made
     making->has_run = 1;
     it->maker = PyThread_get_thread_ident();
     PyObject *value = PyObject_CallFunctionObjArgs(making->make, it->key, NULL);
+    if (value != NULL && weigh(making->self, it->key, value, &made->weight) < 0)
+        Py_CLEAR(value);
     it->maker = 0;
     making->has_failed = value == NULL;
     if (value != NULL) {
@@ -660,9 +694,8 @@ static PyMethodDef cache_methods[] = {
     {"get", (PyCFunction)(void (*)(void))cache_get, METH_FASTCALL,
      "get($self, key, default=None, /)\n--\n\nThe value of a key, or a default."},
     {"insert", (PyCFunction)(void (*)(void))cache_insert, METH_VARARGS | METH_KEYWORDS,
-     "insert($self, key, value, weight=1, ttl=None)\n--\n\nInserts a value with a weight and a time to live in "
-     "seconds; "
-     "None is that of the cache, and float('inf') never ends."},
+     "insert($self, key, value, weight=None, ttl=None)\n--\n\nInserts a value with a weight and a time to live in "
+     "seconds. None: as the cache has them; float('inf') never ends."},
     {"get_or_insert", (PyCFunction)(void (*)(void))cache_get_or_insert, METH_FASTCALL,
      "get_or_insert($self, key, make, /)\n--\n\nThe value of a key, which make(key) makes if it is missing. Of several "
      "threads one makes it and the others wait; if it fails, the next one tries."},
@@ -748,7 +781,7 @@ static PyObject *cached_call(PyObject *callable, PyObject *const *args, size_t f
     PyObject *value = is_closed(self->cache) ? NULL : look_up(self->cache, key);
     if (value == NULL && !PyErr_Occurred()) {
         value = PyObject_Vectorcall(self->function, args, flags, names);
-        if (value != NULL && self->cache->cache != NULL && insert(self->cache, key, value, 1, self->cache->ttl) < 0)
+        if (value != NULL && self->cache->cache != NULL && insert(self->cache, key, value, NULL, self->cache->ttl) < 0)
             Py_CLEAR(value);
     }
     Py_DECREF(key);
