@@ -192,12 +192,12 @@ class Mapping(unittest.TestCase):
                 del model[next(iter(model))]
 
     def test_time_to_live(self) -> None:
-        cache = Cache(10, ttl=0.05)
+        cache = Cache(10, ttl=0.3)
         cache["a"] = 1
         cache.insert("b", 2, ttl=20)
         cache["c"] = 3
         self.assertEqual((cache["a"], cache["b"]), (1, 2))
-        time.sleep(0.06)
+        time.sleep(0.35)
         self.assertEqual((cache.get("a"), "a" in cache, cache["b"], list(cache)), (None, False, 2, ["b"]))
         self.assertEqual((len(cache), cache.pop("c", None), cache.pop("b"), len(cache)), (3, None, 2, 1))
         cache["a"] = 3

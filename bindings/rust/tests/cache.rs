@@ -89,11 +89,11 @@ fn what_left_is_told() {
 #[test]
 fn records_expire() {
     let cache = made(Policy::Lru, 10, 1);
-    let ttl = Options { ttl: Some(Duration::from_millis(30)), ..Options::default() };
+    let ttl = Options { ttl: Some(Duration::from_millis(300)), ..Options::default() };
     drop(cache.insert_with("soon", "x", &ttl).unwrap());
     cache.insert("never", "y").unwrap();
     assert!(cache.contains("soon"));
-    std::thread::sleep(Duration::from_millis(40));
+    std::thread::sleep(Duration::from_millis(350));
     assert!(cache.get("soon").is_none() && cache.get("never").is_some());
     assert_eq!(cache.stats().entries, 2);
     assert_eq!(&*cache.remove("soon").unwrap().unwrap(), b"x");
