@@ -87,8 +87,7 @@ module _ (K V P : RattleType) (k : IsSend K) (v : IsSend V) (p : IsSend P) (ks :
       search (sendable, crosses) depth 20
 
   pub entry : IsSend (CoreEntry.the_field K V P).row
-  entry = let t = as_row_send (Tail.the_field K V P) tail in
-      let s = as_row_send (Share.the_field K V P) share in search (sendable, crosses) depth 20
+  entry = let t = tail in let s = as_row_send (Share.the_field K V P) share in search (sendable, crosses) depth 20
 
   pub gone : IsSend (Left.the_field K V P).row
   gone = let s = as_row_send (Share.the_field K V P) share in search (sendable, crosses) depth 20
