@@ -121,15 +121,15 @@ def belady_model(keys, capacity, operations=None):
     return hits
 
 
-def belady_by_heap(keys, capacity):
-    """The same hits of gets alone, in less time."""
+def belady_by_heap(keys, capacity, skipped=0):
+    """The same hits of gets alone, in less time, of those after the first `skipped`."""
     nexts, last = [0] * len(keys), {}
     for at in range(len(keys) - 1, -1, -1):
         nexts[at] = last.get(keys[at], len(keys))
         last[keys[at]] = at
     cache, heap, hits = {}, [], 0
     for at, key in enumerate(keys):
-        hits += key in cache
+        hits += at >= skipped and key in cache
         cache[key] = nexts[at]
         heapq.heappush(heap, (-nexts[at], key))
         while len(cache) > capacity:

@@ -98,6 +98,20 @@ def weights_and_lives(program):
 
 
 @case
+def lives_of_numbered_requests(program):
+    """Where a trace has no times, a record lives for so many requests; a life of 0 is for ever."""
+    keys = some_keys(3000, 200)
+    requests = [(at, key, 1) for at, key in enumerate(keys)]
+    names = [program.put("n.keys", lines(keys)), program.put("n.csv", "key\n" + lines(keys))]
+    wanted = weighed_model(requests, 100, 30)
+    for name in names:
+        row = program.rows(name, "--policy", "fifo", "--size", "100", "--ttl", "30")[0]
+        assert all(int(row[it]) == wanted[it] for it in ("hits", "misses", "evictions", "expired")), (name, row, wanted)
+    name = program.put("e.csv", "time,key,ttl\n" + "".join(f"{at},{key},0\n" for at, key in enumerate(keys)))
+    assert program.hits(name, "--policy", "fifo", "--size", "100") == {("fifo", 100): weighed_model(requests, 100)["hits"]}
+
+
+@case
 def numbers_past_32_bits(program):
     """Times, sizes and lives whose differences have more than 32 bits, in memory and in a stream."""
     rng = random.Random(5)
@@ -144,11 +158,17 @@ def warmup(program):
     name = program.put("u.keys", lines(keys))
     words = [name, "--policy", "fifo", "--size", "20"]
     whole = program.rows(*words)[0]
+    row = program.rows(name, "--policy", "belady", "--size", "20", "--warmup", "2000")[0]
+    assert (row["requests"], int(row["hits"])) == ("2000", belady_by_heap(keys, 20, 2000)), row
     for word in ("0.5", "50%", "2000"):
         row = program.rows(*words, "--warmup", word)[0]
         assert int(row["requests"]) == 2000
         assert int(row["hits"]) == int(whole["hits"]) - model(keys[:2000], 20, False), row
-    assert program.rows(*words, "--warmup", "5000")[0]["requests"] == "0"
+    for more in ([], ["--stream"]):
+        said = "the warmup leaves none of the 4,000 requests to be counted"
+        program.fails(1, said, *words, "--warmup", "4000", *more)
+        assert program.rows(*words, "--warmup", "3999", *more)[0]["requests"] == "1"
+    assert program.rows(*words, "--warmup", "9000", "--part", "1/2")[0]["requests"] == "0"
     for warmup, wanted in (("1000", 3000), ("0.25", 3000), ("0", 4000)):
         rows = [program.rows(*words, "--warmup", warmup, "--part", f"{part}/4")[0] for part in range(1, 5)]
         assert abs(sum(int(it["requests"]) for it in rows) - wanted) <= 2, (warmup, rows)
@@ -164,6 +184,15 @@ def stream_is_the_same(program):
         for row in kept + streamed:
             row.pop("seconds")
         assert kept == streamed, words
+
+
+@case
+def seconds_of_a_stream(program):
+    """The seconds of a stream's run are those of all its parts, ten here, and so about those of the trace in memory."""
+    name = program.put("s.keys", lines(some_keys(7000, 300) * 100))
+    words = [name, "--policy", "lfu", "--size", "50"]
+    kept = min(float(program.rows(*words)[0]["seconds"]) for _ in range(2))
+    assert float(program.rows(*words, "--stream")[0]["seconds"]) > kept / 4
 
 
 @case
@@ -213,6 +242,35 @@ def parts_and_merge(program):
 
 
 @case
+def merged_files_fit(program):
+    """Files that lack a policy or a size, or have other units, are not added up; a size may come in any order."""
+    program.put("k.keys", lines(some_keys()))
+    for name, *words in (
+        ["one.csv", "k.keys", "--policy", "lru,fifo", "--size", "9,40"],
+        ["lru.csv", "k.keys", "--policy", "lru", "--size", "9,40"],
+        ["other.csv", "k.keys", "--policy", "fifo,lru", "--size", "40"],
+        ["large.csv", "k.keys", "--policy", "fifo,lru", "--size", "40"],
+        ["small.csv", "k.keys", "--policy", "fifo,lru", "--size", "9"],
+        ["sized.csv", TRACES / "build.csv", "--policy", "fifo,lru", "--size", "9"],
+        ["bytes.csv", TRACES / "build.csv", "--policy", "fifo,lru", "--size", "9", "--weigh", "size"],
+    ):
+        assert program.call(*words, "--csv", name)[0] == 0, name
+    header = (program.folder / "one.csv").read_text().split("\n")[0]
+    uneven = "the files have not each policy at each size equally often"
+    program.fails(1, uneven, "--merge", "one.csv", "lru.csv")
+    program.fails(1, uneven, "--merge", "one.csv", "large.csv")
+    program.fails(1, uneven, "--merge", "lru.csv", "large.csv")
+    before = "line 2: expected the unit and the columns of the rows before it"
+    program.fails(1, f"sized.csv: {before}", "--merge", "small.csv", "sized.csv")
+    program.fails(1, f"bytes.csv: {before}", "--merge", "sized.csv", "bytes.csv")
+    program.fails(1, "no.csv: line 2: expected a row", "--merge", "one.csv", program.put("no.csv", header + "\n"))
+    assert "by cache size in bytes" in program.call("--merge", "bytes.csv", "bytes.csv")[1]
+    table = program.call("--merge", "large.csv", "small.csv")[1]
+    assert table.split("\n\n")[1] == program.call("k.keys", "--policy", "fifo,lru", "--size", "9,40")[1].split("\n\n")[1]
+    assert program.call("--merge", "one.csv", "one.csv")[1].endswith("\n8,000 gets in 2 files\n")
+
+
+@case
 def dask(program):
     """Two workers on this machine make the table of one process; skipped where Dask isn't installed."""
     python = next(
@@ -229,7 +287,7 @@ def dask(program):
         return
     script, trace = ROOT / "examples/traces/over_dask.py", TRACES / "build.csv"
     words = [python, script, "--program", program.path, "--workers", "2"]
-    words += [trace, "--policy", "lru,sieve,lru", "--size", "10,100"]
+    words += [trace, "--policy", "lru,sieve,lru", "--size", "10,0.001,100,0.0001"]
     table = program.call(*words[6:], "--quiet")[1].split("\n\n")[1]
     called = {"capture_output": True, "text": True, "timeout": 200, "check": False}
     ended = subprocess.run([*map(str, words), "--csv", program.folder / "dask.csv"], **called)
