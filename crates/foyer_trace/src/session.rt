@@ -148,7 +148,8 @@ fn check_totals(alloc: Global, replay: &Replay<'_>, totals: &Totals) -> Result<(
             replay.path
         )?));
     }
-    if totals.records == 0 {
+    // A part may have no keys, and is added to the others all the same.
+    if totals.records == 0 && !replay.is_part {
         return Err(Failure::Other(format!(in alloc;
             "{}: no request is in the sample",
             replay.path
