@@ -242,6 +242,19 @@ def parts_and_merge(program):
 
 
 @case
+def parts_of_few_keys(program):
+    """A part that no key falls into is a part, too."""
+    name = program.put("two.keys", lines([1, 2] * 50))
+    parts = [f"p{part}.csv" for part in range(1, 9)]
+    for words in (["--size", "16"], ["--size", "8.0"], ["--size", "16", "--stream"]):
+        for part, out in enumerate(parts, 1):
+            status, _, said = program.call(name, "--policy", "fifo", *words, "--part", f"{part}/8", "--csv", out)
+            assert status == 0, said
+        assert program.hits("--merge", *parts) == {("fifo", 16): 98}
+    program.fails(1, "no request is in the sample", name, "--sample", "0.000001")
+
+
+@case
 def merged_files_fit(program):
     """Files that lack a policy or a size, or have other units, are not added up; a size may come in any order."""
     program.put("k.keys", lines(some_keys()))
