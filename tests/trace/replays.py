@@ -18,6 +18,7 @@ from common import (
     keys_of,
     lines,
     model,
+    place,
     some_keys,
     weighed_model,
 )
@@ -209,6 +210,22 @@ def sample(program):
         assert int(b["requests"]) == 20_000
     assert "a sample of 0.1 of the keys, sizes scaled" in program.call(*words, "--sample", "0.1", "--svg", "m.svg")[1]
     assert "a sample of 0.1 of the keys, sizes scaled" in (program.folder / "m.svg").read_text()
+
+
+@case
+def samples_are_smaller_caches(program):
+    """A part, or a sample, of the keys over a part of the capacity, by a plain model of FIFO."""
+    requests = [(at, key, 1 + key % 90) for at, key in enumerate(some_keys(20_000, 3000))]
+    name = program.put("s.csv", "key,size\n" + "".join(f"{key},{size}\n" for _, key, size in requests))
+    words = [name, "--policy", "fifo", "--weigh", "size", "--size", "8000"]
+    for part in (1, 2, 3, 4):
+        sampled = [it for it in requests if part - 1 <= 4 * place(it[1]) < part]
+        wanted, row = weighed_model(sampled, 2000), program.rows(*words, "--part", f"{part}/4")[0]
+        assert sampled and all(int(row[it]) == wanted[it] for it in COUNTED), (part, row, wanted)
+    sampled = [it for it in requests if place(it[1]) < 0.1]
+    wanted, row = weighed_model(sampled, 800), program.rows(*words, "--sample", "0.1")[0]
+    assert all(int(row[it]) == wanted[it] for it in ("misses", "miss_bytes", "evictions")), (row, wanted)
+    assert int(row["requests"]) == 2000 and abs(int(row["bytes"]) - sum(size for *_, size in requests) / 10) <= 1, row
 
 
 @case
