@@ -51,6 +51,9 @@ def belady_is_the_least(program):
     keys = some_keys(150_000, 9000)
     hits = program.hits("-", "--policy", "belady", "--size", "20,900", data=lines(keys).encode())
     assert hits == {("belady", size): belady_by_heap(keys, size) for size in (20, 900)}, hits
+    # What is kept until its next get is hit then, or evicted before.
+    row = program.rows("-", "--policy", "belady", "--size", "20", data=lines(keys).encode())[0]
+    assert int(row["evictions"]) == len(keys) - len(set(keys)) - int(row["hits"]), row
     for keys in (some_keys(2000, 120), keys_of("sqlite.keys", 1500)):
         hits = program.hits("-", "--policy", "all,belady", "--size", "1,5,40", data=lines(keys).encode())
         for size in (1, 5, 40):

@@ -1,6 +1,8 @@
 """What the program reads and writes: formats, bad input, options, pictures, tables and synthetic traces."""
 import collections
+import html
 import re
+import shlex
 import struct
 import subprocess
 import xml.etree.ElementTree as xml
@@ -212,15 +214,17 @@ def pictures(program):
         "--html",
         "p.html",
         "--title",
-        'a <b> & "c"',
+        "a <b> & \"c\" 'd'",
     ]
     status, said, _ = program.call(*words)
-    assert status == 0 and said.startswith('a <b> & "c": ')
+    assert status == 0 and said.startswith("a <b> & \"c\" 'd': ")
     picture = xml.parse(program.folder / "p.svg").getroot()
     assert picture.tag.endswith("svg") and len(picture.findall(".//{*}polyline")) == 14
     assert {"miss ratio", "byte miss ratio", "s3fifo (small=1/4)"} <= {it.text for it in picture.findall(".//{*}text")}
     page = (program.folder / "p.html").read_text()
-    assert page.count("<table>") == 2 and "--title" in page and "<polyline" in page
+    assert page.count("<table>") == 2 and "<polyline" in page
+    command = html.unescape(re.search("<pre>foyer-trace (.*)</pre>", page, re.S)[1])
+    assert shlex.split(command) == [str(it) for it in words], command
     assert not re.search(r"(src|href)=|@import|url\(", page)
     assert "http" not in page.replace("http://www.w3.org/2000/svg", "")
 
