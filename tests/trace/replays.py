@@ -168,7 +168,11 @@ def warmup(program):
         row = program.rows(*words, "--warmup", word)[0]
         assert int(row["requests"]) == 2000
         assert int(row["hits"]) == int(whole["hits"]) - model(keys[:2000], 20, False), row
-    assert program.rows(*words, "--warmup", "5000")[0]["requests"] == "0"
+    for more in ([], ["--stream"]):
+        said = "the warmup leaves none of the 4,000 requests to be counted"
+        program.fails(1, said, *words, "--warmup", "4000", *more)
+        assert program.rows(*words, "--warmup", "3999", *more)[0]["requests"] == "1"
+    assert program.rows(*words, "--warmup", "9000", "--part", "1/2")[0]["requests"] == "0"
     for warmup, wanted in (("1000", 3000), ("0.25", 3000), ("0", 4000)):
         rows = [program.rows(*words, "--warmup", warmup, "--part", f"{part}/4")[0] for part in range(1, 5)]
         assert abs(sum(int(it["requests"]) for it in rows) - wanted) <= 2, (warmup, rows)
@@ -258,19 +262,45 @@ def parts_and_merge(program):
 
 
 @case
-def merged_sizes_and_units(program):
-    """Sizes may come in any order, and bytes stay bytes."""
+def parts_of_few_keys(program):
+    """A part that no key falls into is a part, too."""
+    name = program.put("two.keys", lines([1, 2] * 50))
+    parts = [f"p{part}.csv" for part in range(1, 9)]
+    for words in (["--size", "16"], ["--size", "8.0"], ["--size", "16", "--stream"]):
+        for part, out in enumerate(parts, 1):
+            status, _, said = program.call(name, "--policy", "fifo", *words, "--part", f"{part}/8", "--csv", out)
+            assert status == 0, said
+        assert program.hits("--merge", *parts) == {("fifo", 16): 98}
+    program.fails(1, "no request is in the sample", name, "--sample", "0.000001")
+
+
+@case
+def merged_files_fit(program):
+    """Files that lack a policy or a size, or have other units, are not added up; a size may come in any order."""
     program.put("k.keys", lines(some_keys()))
     for name, *words in (
+        ["one.csv", "k.keys", "--policy", "lru,fifo", "--size", "9,40"],
+        ["lru.csv", "k.keys", "--policy", "lru", "--size", "9,40"],
+        ["other.csv", "k.keys", "--policy", "fifo,lru", "--size", "40"],
         ["large.csv", "k.keys", "--policy", "fifo,lru", "--size", "40"],
         ["small.csv", "k.keys", "--policy", "fifo,lru", "--size", "9"],
+        ["sized.csv", TRACES / "build.csv", "--policy", "fifo,lru", "--size", "9"],
         ["bytes.csv", TRACES / "build.csv", "--policy", "fifo,lru", "--size", "9", "--weigh", "size"],
     ):
         assert program.call(*words, "--csv", name)[0] == 0, name
+    header = (program.folder / "one.csv").read_text().split("\n")[0]
+    uneven = "the files have not each policy at each size equally often"
+    program.fails(1, uneven, "--merge", "one.csv", "lru.csv")
+    program.fails(1, uneven, "--merge", "one.csv", "large.csv")
+    program.fails(1, uneven, "--merge", "lru.csv", "large.csv")
+    before = "line 2: expected the unit and the columns of the rows before it"
+    program.fails(1, f"sized.csv: {before}", "--merge", "small.csv", "sized.csv")
+    program.fails(1, f"bytes.csv: {before}", "--merge", "sized.csv", "bytes.csv")
+    program.fails(1, "no.csv: line 2: expected a row", "--merge", "one.csv", program.put("no.csv", header + "\n"))
     assert "by cache size in bytes" in program.call("--merge", "bytes.csv", "bytes.csv")[1]
     table = program.call("--merge", "large.csv", "small.csv")[1]
-    whole = program.call("k.keys", "--policy", "fifo,lru", "--size", "9,40")[1]
-    assert table.split("\n\n")[1].strip() == whole.split("\n\n")[1].strip()
+    assert table.split("\n\n")[1] == program.call("k.keys", "--policy", "fifo,lru", "--size", "9,40")[1].split("\n\n")[1]
+    assert program.call("--merge", "one.csv", "one.csv")[1].endswith("\n8,000 gets in 2 files\n")
 
 
 @case

@@ -77,6 +77,11 @@ def bad_input(program):
     program.fails(
         1, "record 1: expected a number below 2^64 in the column size, and found '-1'", program.put("n.csv", "1,2,-1\n")
     )
+    program.fails(
+        1,
+        "record 1: expected a number below 2^64 in the column time, and found 'when'; --columns says which column is what",
+        program.put("w.csv", "when,what\n1,2\n"),
+    )
     program.fails(1, "record 2: expected a value in the column key, and found ''\n", program.put("v.csv", "1,2\n3\n"))
     past = "18446744073709551616"
     program.fails(1, f"column size, and found '{past}'", program.put("q.csv", f"1,2,{past}\n"))
@@ -108,6 +113,8 @@ def bad_words(program):
     trace = program.put("k.keys", "1\n2\n")
     for said, *words in [
         ("unknown policy 'lur': did you mean 'lru'?", "--policy", "lur"),
+        ("unknown policy 'S3FIFO': did you mean 's3fifo'?", "--policy", "S3FIFO"),
+        ("unknown policy 'LRU': did you mean 'lru'?", "--policy", "LRU"),
         ("',' names no policy", "--policy", ","),
         ("unknown parameter of s3fifo 'smal': did you mean 'small'?", "--policy", "s3fifo:smal=1/10"),
         ("small must be a share such as 1/10 or 0.1", "--policy", "s3fifo:small=x"),
@@ -136,6 +143,15 @@ def bad_words(program):
     program.fails(2, "the header has no column 'whom' (it has when, what)", table, "--columns", "time=when,key=whom")
     program.fails(2, "unknown column 'kye': did you mean 'key'?", table, "--columns", "kye")
     program.fails(2, "no column is the key", table, "--columns", "time")
+    program.fails(2, "two columns are the key, in 'time,key,key=1'", table, "--columns", "time,key,key=1")
+    for text in ("time;key\n1;2\n", "1\t2\n3\t4\n"):
+        table = program.put("k.csv", text)
+        program.fails(2, "the first row has no comma", table)
+        assert program.rows(table, "--columns", "key", "--policy", "lru", "--size", "9")[0]["requests"] == "2"
+    for ending, reader in (("zst", "zstdcat"), ("gz", "zcat"), ("xz", "xzcat"), ("bz2", "bzcat")):
+        said = f"t.keys.{ending} is compressed: say {reader} t.keys.{ending} | foyer-trace -"
+        for words in ([], ["--format", "keys"]):
+            program.fails(2, said, program.put(f"t.keys.{ending}", "1\n"), *words)
     program.fails(2, "unknown kind of trace 'zip': did you mean 'zipf'?", "--make", "zip:ops=1")
     program.fails(2, "unknown parameter of zipf 'key': did you mean 'keys'?", "--make", "zipf:key=1")
     program.fails(2, "--merge takes the files", "--merge")
@@ -266,6 +282,16 @@ def table_marks_the_least(program):
         assert all(it.endswith("*") == (float(it.rstrip("*")) == least) for it in ratios.values()), ratios
     assert "seconds" not in said and " a second" not in said
     assert "million requests a second" in program.call(TRACES / "sqlite.keys", "--policy", "fifo")[1]
+
+
+@case
+def columns_line_up(program):
+    """A size of any length stands above its ratios."""
+    words = ["--policy", "fifo,lru:high=0.5", "--size", "1,10000000000,18446744073709551615", "--quiet"]
+    table = program.call(TRACES / "sqlite.keys", *words)[1].split("\n\n")[1].splitlines()[1:]
+    ends = [[it.end() for it in re.finditer(r"(?<= )[0-9]+(\.[0-9]{4})?", line)] for line in table]
+    assert len(ends) == 3 and len(ends[0]) == 3 and ends[0] == ends[1] == ends[2], table
+    assert "16.0 EiB" in program.call(TRACES / "build.csv", "--weigh", "size", *words)[1]
 
 
 @case

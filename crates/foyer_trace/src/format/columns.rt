@@ -103,6 +103,11 @@ pub fn wanted_columns(alloc: Global, list: &str) -> Result<Wanted<'_>, Failure> 
             Some(number) => Place::Number((number as usize).saturating_sub(1)),
             None => Place::Name(place),
         };
+        if wanted.iter().any(|it: &(Role, Place<'_>)| it.0 == role) {
+            return Err(Failure::Usage(format!(in alloc;
+                "two columns are the {name}, in '{list}'"
+            )?));
+        }
         wanted.push((role, place))?;
     }
     if !wanted.iter().any(|it| it.0 == Role::Key) {
@@ -166,6 +171,7 @@ pub fn columns_of(
 ) -> Result<(Columns, bool), Failure> {
     let mut columns = Columns::default();
     let Some(wanted) = wanted else {
+        check_commas(alloc, first)?;
         return Ok(columns_by_header(first).unwrap_or((columns_by_count(first.len()), false)));
     };
     let mut has_names = false;
@@ -179,6 +185,17 @@ pub fn columns_of(
         }
     }
     Ok((columns, has_names || columns.are_headed_by(first)))
+}
+
+// Whether a row seems to have commas between its columns, and not something else.
+fn check_commas(alloc: Global, row: &ByteRecord) -> Result<(), Failure> {
+    let field = row.get(0).unwrap_or(&[]);
+    if row.len() > 1 || !field.iter().any(|byte| matches!(byte, b';' | b'\t')) {
+        return Ok(());
+    }
+    Err(Failure::Usage(format!(in alloc;
+        "the first row has no comma: put commas between columns, or say --columns key"
+    )?))
 }
 
 // The columns that a header names, if the row is one. Where several have names of one role, the best name is taken.
